@@ -1,0 +1,35 @@
+//! What an entry asks for: one arm for each opcode of the profile.
+
+/// Where a READ or a WRITE is to begin. Both mean the same at a pipe, which has no place to seek to (pipe(7)).
+#[derive(Clone, Copy, PartialEq, Eq, Debug)]
+pub enum Offset {
+    /// The value 0.
+    Zero,
+    /// The value 2^64 - 1, as io_uring_enter(2) writes "the current position".
+    Current,
+}
+
+/// The operation of an entry, with the fields that its row of the table of opcodes leaves free.
+#[derive(Clone, Copy, PartialEq, Eq, Debug)]
+pub enum Op {
+    /// Does nothing, and answers 0.
+    Nop,
+    /// Waits until an end of a pipe is ready for one of the events of `mask` (bits 1, 4, 8 and 16 of poll(2)).
+    PollAdd { fd: i32, mask: u32 },
+    /// Answers -62 once `ticks` have passed since it was armed. With `etime_success` that is no failure.
+    Timeout { ticks: u32, etime_success: bool },
+    /// Takes the timer whose user_data is `user_data` back.
+    TimeoutRemove { user_data: u64 },
+    /// Cancels the request whose user_data is `user_data`.
+    AsyncCancel { user_data: u64 },
+    /// Cancels the entry before it in its chain once `ticks` have passed since it was armed.
+    LinkTimeout { ticks: u32 },
+    /// Closes an end of a pipe.
+    Close { fd: i32 },
+    /// Reads at most `len` bytes from the read end of a pipe.
+    Read { fd: i32, offset: Offset, len: u32 },
+    /// Writes `len` bytes to the write end of a pipe.
+    Write { fd: i32, offset: Offset, len: u32 },
+    /// An entry that is none of the profile's, which answers -22.
+    Invalid,
+}
