@@ -1,0 +1,5 @@
+pub mod Answers
+pub mod Chains
+pub mod History
+pub mod Legal
+pub mod Pipes
