@@ -1,11 +1,11 @@
 -- The table of answers: what each operation replies, and when it has no answer yet.
-use Rattle.std.specs.Prelude.{◌≡◌, ℕ, ◌+◌, ◌-◌, ◌<◌, ◌==◌, ◌&&◌, ◌||◌, not, nat_lt, nat_le, min, take, length, slice_index, bit_and, bit_or, Bool, true, false, cond, ℤ, pos, negsuc, List, [], ◌∷◌, Some}
+use Rattle.std.specs.Prelude.{◌≡◌, ℕ, ◌+◌, ◌-◌, ◌<◌, ◌==◌, ◌&&◌, not, nat_lt, nat_le, min, take, length, slice_index, bit_and, bit_or, Bool, true, false, cond, ℤ, pos, negsuc, List, []}
 use Rattle.entry.specs.declared.op.Op.{Op}
 use Rattle.entry.specs.declared.op.Op.TheVariants.{Nop, PollAdd, Timeout, TimeoutRemove, AsyncCancel, LinkTimeout, Close, Read, Write, Invalid}
 use Rattle.entry.specs.Entry.{Entry}
 use Rattle.model.specs.declared.req.Req.{Req}
 use Rattle.model.specs.declared.event.Event.{Event}
-use Rattle.model.specs.History.{Hit, nothing, took, missed, hit, Submission, submission, phase, IsReplied}
+use Rattle.model.specs.History.{Hit, nothing, took, missed, hit, phase, IsReplied}
 use Rattle.model.specs.Chains.{is_link_timeout, is_timeout, IsBefore, IsPlaced}
 use Rattle.model.specs.Pipes.{Flow, flow, content, End, no_end, read_end, write_end, end_of}
 

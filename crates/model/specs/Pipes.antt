@@ -1,9 +1,8 @@
 -- What is in a pipe and which of its ends are closed, as the history tells.
-use Rattle.std.specs.Prelude.{ℕ, ◌+◌, ◌*◌, ◌/◌, ◌%◌, ◌==◌, ◌&&◌, ◌++◌, take, drop, Bool, true, false, cond, ℤ, pos, negsuc, List, [], ◌∷◌, Option, Some, None}
+use Rattle.std.specs.Prelude.{ℕ, ◌+◌, ◌/◌, ◌%◌, ◌==◌, ◌&&◌, ◌++◌, take, drop, Bool, true, false, cond, ℤ, pos, negsuc, List, [], ◌∷◌, Option, Some}
 use Rattle.entry.specs.declared.op.Op.{Op}
 use Rattle.entry.specs.declared.op.Op.TheVariants.{Close, Read, Write}
 use Rattle.entry.specs.Entry.{Entry}
-use Rattle.model.specs.declared.req.Req.{Req}
 use Rattle.model.specs.declared.event.Event.{Event}
 use Rattle.model.specs.declared.event.Event.TheVariants.{Reply}
 use Rattle.model.specs.History.{Submission, submission}
