@@ -1,0 +1,6 @@
+pub mod Frames
+pub mod Growing
+pub mod Numbers
+pub mod Roles
+pub mod Steps
+pub mod Words

@@ -1,0 +1,12 @@
+//! The shared table of a board: its words and slots, the one rule over them, and each kind of step that a pass takes.
+#![tactic(auto)]
+
+pub mod law;
+pub mod line;
+pub mod parcel;
+pub mod view;
+
+pub use law::{About, Law};
+pub use line::Line;
+pub use parcel::{Parcel, Thing};
+pub use view::{Layout, Role, Step, View};
