@@ -56,6 +56,10 @@ lent_stays (Lent r word value) j q n = ap (λ b. cond b true (lent j q)) n
 lent_stays (Did e) j q n = refl
 lent_stays l j q n = refl
 
+abbrev pub begins : Line → Bool
+begins (Did (Begin r)) = true
+begins _ = false
+
 module _ (s : Setup) where
   pub legal_tail : (l : Line) (j : List Line) → Legal s (events_of (l ∷ j)) → Legal s (events_of j)
   legal_tail (Did e) j h = h.1
@@ -117,6 +121,9 @@ module _ (s : Setup) where
   pub replied_later : (later seen : List Line) (q : Req) → Legal s (events_of (later ++ seen)) → IsReplied (phase (events_of seen) q) → IsReplied (phase (events_of (later ++ seen)) q)
   replied_later later seen q l d = lasts (λ h. IsReplied (phase h q)) q (replied_lasts q) later seen l (counted s (events_of seen) q (legal_before later seen l) (λ u. subst IsReplied u d)) d
 
+  pub replied_by : (l : Line) (j : List Line) (q : Req) → Legal s (events_of (l ∷ j)) → IsReplied (phase (events_of j) q) → IsReplied (phase (events_of (l ∷ j)) q)
+  replied_by l j q h d = replied_later (l ∷ []) j q h d
+
   -- a place that only this role's own events end
   module _ (r : Req) (role : Role) (p : Phase) where
     abbrev pub Ends : Type 0
@@ -171,10 +178,6 @@ module _ (s : Setup) where
       data_by r role c res mine l (later ++ seen) h live n.0 (still_replied r role c res mine later seen h' live' n.1 is) ∙ still_data r role c res mine later seen h' live' n.1 is
 
   -- only a Begin makes a request run
-  abbrev pub begins : Line → Bool
-  begins (Did (Begin r)) = true
-  begins _ = false
-
   not_begun : (e : Event) (h : List Event) (p : Phase) → begins (Did e) ≡ false → MayChange p e → becomes h e p ≡ runs → ⊥
   not_begun (Begin r) h p keeps m is = true≢false keeps
   not_begun (Reap r) h (replied c x) keeps m is = cc

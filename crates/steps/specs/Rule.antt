@@ -169,7 +169,6 @@ IsSameSeat s t = (t.table_id ≡ s.table_id) × (t.id ≡ s.id)
 pub record Vacant (K : List ℕ) (seen : List Line) (x g : ℕ) : Type 0 where
   pub next : submits (events_of seen) (ring_of K x) ≤ (held K x g).k
   pub gone_by : (n : ℕ) → n < g → (c : Cause) × (res : ℤ) × (phase (events_of seen) (held K x n) ≡ reaped c res)
-  pub unlent : lent seen (held K x g) ≡ false
 
 -- how the poller's seat is cut: the submitter of the next ring leaves it, or a worker
 abbrev pub next_poller : Role → Role
