@@ -4,5 +4,6 @@ pub mod Growing
 pub mod Numbers
 pub mod Path
 pub mod Roles
+pub mod Served
 pub mod Steps
 pub mod Words
