@@ -1,5 +1,5 @@
 -- Cells, requests and claim words tell each other apart.
-use Rattle.std.proofs.Common.{◌≡◌, ℕ, suc, ◌+◌, ◌*◌, ◌<◌, ◌≤◌, zero, ◌-◌, nat_lt, ltb-true, ltb-false, Bool, true, false, cond, List, [], ◌∷◌, sym, refl, ap, ◌∙◌, subst, arith, eqb, mul-le-mul_right, suc-mul}
+use Rattle.std.proofs.Common.{◌≡◌, ℕ, suc, ◌+◌, ◌*◌, ◌<◌, ◌≤◌, zero, ◌-◌, nat_lt, ltb-true, ltb-false, Bool, true, false, cond, List, [], ◌∷◌, length, sym, refl, ap, ◌∙◌, subst, arith, eqb, mul-le-mul_right, suc-mul}
 use Rattle.std.proofs.Common.{ℤ, pos, negsuc, SFits, of_z, w32}
 use Rattle.std.proofs.lemmas.Int.{ints}
 use Rattle.claim.specs.declared.tag.Tag.{Tag}
@@ -38,6 +38,15 @@ located (n ∷ K) x h = two_ways (nat_lt x n) _
     (λ w. subst (λ (b : Bool). let r : ℕ = cond b 0 (suc (ring_of K (x - n))) in let p : ℕ = cond b x (place_of K (x - n)) in (x ≡ first_cell (n ∷ K) r + p) × (p < cells_in (n ∷ K) r)) (sym w) (omega arith, ltb-true x n w))
     (λ w. subst (λ (b : Bool). let r : ℕ = cond b 0 (suc (ring_of K (x - n))) in let p : ℕ = cond b x (place_of K (x - n)) in (x ≡ first_cell (n ∷ K) r + p) × (p < cells_in (n ∷ K) r)) (sym w)
     (let l : n ≤ x = ltb-false x n w in let i = located K (x - n) (omega arith) in let e = i.0 in (omega arith, i.1)))
+
+cells_beyond : (K : List ℕ) (i : ℕ) → length K < suc i → cells_in K i ≡ 0
+cells_beyond [] i h = refl
+cells_beyond (n ∷ K) zero h = absurd (omega arith)
+cells_beyond (n ∷ K) (suc i) h = cells_beyond K i (omega arith)
+
+-- a cell's ring is there
+pub ring_in : (K : List ℕ) (x : ℕ) → IsCell K x → ring_of K x < length K
+ring_in K x h = let a = located K x h in let z : ¬ (length K < suc (ring_of K x)) = λ l. (let b = cells_beyond K (ring_of K x) l in let c = a.1 in absurd (omega arith)) in omega arith
 
 pub one_cell : (K : List ℕ) (x y g h : ℕ) → IsCell K x → IsCell K y → held K x g ≡ held K y h → (x ≡ y) × (g ≡ h)
 one_cell K x y g h s t e =
