@@ -20,7 +20,7 @@ use Rattle.steps.specs.declared.parcel.Thing.{Thing}
 use Rattle.steps.specs.declared.parcel.Thing.TheVariants.{Full}
 use Rattle.steps.specs.declared.view.Layout.{Layout}
 use Rattle.steps.specs.declared.view.Role.{Role}
-use Rattle.steps.specs.declared.view.Role.TheVariants.{Poller, Submitter, Idle, Busy, Leaving, Spent}
+use Rattle.steps.specs.declared.view.Role.TheVariants.{Poller, Submitter, Lending, Idle, Busy, Leaving, Spent}
 use Rattle.steps.specs.declared.view.Step.{Step}
 use Rattle.steps.specs.declared.view.View.{View}
 use Rattle.steps.specs.Journal.{events_of, freed, lent, holder, Fair}
@@ -145,17 +145,21 @@ module _ (slots id : ℕ) (me : Seated) where
   extends s r at l role legal live fair t = let seat = r.seats id v at in record { mid = r.past; saw = seat.saw; heard = seat.heard; legal = legal; live = live; orderly = (fair, r.orderly); steps = t; is = refl }
 
   -- who keeps his role keeps what it owes
-  pub same_turns : (s : St) (r : Ruled L s) → There s → (l : Line) → begins l ≡ false → Legal S (events_of (l ∷ r.past)) → ((q : Req) → v.role ≡ Busy q → phase (events_of (l ∷ r.past)) q ≡ runs) → Turns r.past l v v.role
-  same_turns s r at l calm legal going = record {
+  pub same_turns : (s : St) (r : Ruled L s) → There s → (l : Line) → begins l ≡ false → Legal S (events_of (l ∷ r.past)) → 0 < v.parts → ((q : Req) → lent (l ∷ r.past) q ≡ lent r.past q) → ((q : Req) → v.role ≡ Busy q → phase (events_of (l ∷ r.past)) q ≡ runs) → Turns r.past l v v.role
+  same_turns s r at l calm legal has quiet going = record {
     keeps = λ _ _ _ z. z;
-    busy = λ q is. ((busy_now s r at q is).0, going q is);
-    leaving = λ q is. (let y = left_now L s r id v at q is in (y.0, replied_by S l r.past q legal y.1));
+    has = has;
+    lends = λ q is. Rattle.std.proofs.Common.inr (sym (quiet q) ∙ is, λ z. z);
+    busy = going;
+    leaving = λ q is. replied_by S l r.past q legal (left_now L s r id v at q is).1;
     running = λ q is. Rattle.std.proofs.Common.inr (ran S l r.past q legal calm is, λ z. z);
   }
 
   -- a worker that has no pipe ends with the request that it runs
-  pub ends_run : (s : St) (r : Ruled L s) → There s → (l : Line) (q : Req) → begins l ≡ false → Legal S (events_of (l ∷ r.past)) → v.role ≡ Busy q → phase (events_of (l ∷ r.past)) q ≢ runs → ((p : ℕ) → holder v.seen p ≢ Some q) → Turns r.past l v Idle
-  ends_run s r at l q calm legal busy over bare = record {
+  pub ends_run : (s : St) (r : Ruled L s) → There s → (l : Line) (q : Req) → begins l ≡ false → Legal S (events_of (l ∷ r.past)) → v.role ≡ Busy q → phase (events_of (l ∷ r.past)) q ≢ runs → ((p : ℕ) → holder v.seen p ≢ Some q) → ((q : Req) → lent (l ∷ r.past) q ≡ lent r.past q) → Turns r.past l v Idle
+  ends_run s r at l q calm legal busy over bare quiet = record {
+    has = (busy_now s r at q busy).0;
+    lends = λ c is. Rattle.std.proofs.Common.inr (sym (quiet c) ∙ is, λ z. absurd (let y = sym busy ∙ z in cc));
     keeps = λ p c is own. absurd (let same' : q ≡ c = same_true q c (same_sym q c ∙ subst (λ (z : Role). stands_for z (workers c) ≡ true) busy own) in
         lacks_now s r at q p (subst (λ (z : Role). stands_for z (workers q) ≡ true) (sym busy) (same_itself q)) (bare p) (is ∙ ap Some (sym same')));
     busy = λ c is. absurd (cc);

@@ -15,12 +15,12 @@ use Rattle.steps.specs.declared.line.Line.{Line}
 use Rattle.steps.specs.declared.parcel.Thing.{Thing}
 use Rattle.steps.specs.declared.view.Layout.{Layout}
 use Rattle.steps.specs.declared.view.Role.{Role}
-use Rattle.steps.specs.declared.view.Role.TheVariants.{Busy, Leaving, Spent}
+use Rattle.steps.specs.declared.view.Role.TheVariants.{Busy, Leaving, Lending, Spent}
 use Rattle.steps.specs.declared.view.Step.{Step}
 use Rattle.steps.specs.declared.view.View.{View}
-use Rattle.steps.specs.Journal.{events_of, noted, holder, Fair}
+use Rattle.steps.specs.Journal.{events_of, lent, noted, holder, Fair}
 use Rattle.steps.specs.Cells.{setup_of, IsCell, CellOk, PipeOk, Home, claim_at, pipe_at, slot_at}
-use Rattle.steps.specs.Rule.{workers, stands_for, owns, apart, AllBegin, SeatOk, parts_of, IsRunBy, IsHeldBy, Ruled, seeing}
+use Rattle.steps.specs.Rule.{workers, stands_for, owns, apart, AllBegin, SeatOk, parts_of, IsRunBy, IsHeldBy, IsLentBy, Knows, Ruled, seeing}
 use Rattle.steps.proofs.Roles.{apart_sym, others_own}
 use Rattle.steps.proofs.Growing.{replied_later}
 use Rattle.steps.proofs.Frames.{Quiet, cell_stays, pipe_stays}
@@ -52,6 +52,22 @@ held_set vs id v w q there same by = dite (ℕ_discrete by.0 id)
     (id, w, at_now vs id v w there, same (subst (λ (z : View). stands_for z.role (workers q) ≡ true) one by.3)))
     (λ n. (by.0, by.1, set_else vs id by.0 w n ∙ by.2, by.3))
 
+pub lent_set : (vs : List View) (id : ℕ) (v w : View) (q : Req) → get_elem? vs id ≡ some v → (v.role ≡ Lending q → w.role ≡ Lending q) → IsLentBy vs q → IsLentBy (set vs id w) q
+lent_set vs id v w q there same by = dite (ℕ_discrete by.0 id)
+    (λ e. let at : get_elem? vs id ≡ some by.1 = subst (λ (z : ℕ). get_elem? vs z ≡ some by.1) e by.2 in let one : by.1 ≡ v = some-injective by.1 v (sym at ∙ there) in
+    (id, w, at_now vs id v w there, same (ap (λ (z : View). z.role) (sym one) ∙ by.3)))
+    (λ n. (by.0, by.1, set_else vs id by.0 w n ∙ by.2, by.3))
+
+abbrev pub IsKnown : List View → List Line → Type 0
+IsKnown vs j = (i : ℕ) × (v : View) × (get_elem? vs i ≡ some v) × (0 < v.parts) × Knows v j
+
+-- who knew all still does where the one seat that changes goes on knowing it
+pub known_set : (vs : List View) (id : ℕ) (v w : View) (j : List Line) → get_elem? vs id ≡ some v → (0 < v.parts → Knows v j → (0 < w.parts) × Knows w j) → IsKnown vs j → IsKnown (set vs id w) j
+known_set vs id v w j there same by = dite (ℕ_discrete by.0 id)
+    (λ e. let at : get_elem? vs id ≡ some by.1 = subst (λ (z : ℕ). get_elem? vs z ≡ some by.1) e by.2 in let one : by.1 ≡ v = some-injective by.1 v (sym at ∙ there) in
+    let k = same (subst (λ (z : View). 0 < z.parts) one by.3) (subst (λ (z : View). Knows z j) one by.4) in (id, w, at_now vs id v w there, k.0, k.1))
+    (λ n. (by.0, by.1, set_else vs id by.0 w n ∙ by.2, by.3, by.4))
+
 -- the line leaves the clock and the pipes that are at home
 pub record Calm (past : List Line) (l : Line) : Type 0 where
   pub fair : Fair past l
@@ -62,8 +78,10 @@ pub record Calm (past : List Line) (l : Line) : Type 0 where
 -- what the seat's new role owes: it keeps its pipes, runs only what runs, and leaves only what was answered
 pub record Turns (past : List Line) (l : Line) (v : View) (role : Role) : Type 0 where
   pub keeps : (p : ℕ) (q : Req) → holder past p ≡ Some q → stands_for v.role (workers q) ≡ true → stands_for role (workers q) ≡ true
-  pub busy : (q : Req) → role ≡ Busy q → (0 < v.parts) × (phase (events_of (l ∷ past)) q ≡ runs)
-  pub leaving : (q : Req) → role ≡ Leaving q → (0 < v.parts) × IsReplied (phase (events_of (l ∷ past)) q)
+  pub has : 0 < v.parts
+  pub busy : (q : Req) → role ≡ Busy q → phase (events_of (l ∷ past)) q ≡ runs
+  pub leaving : (q : Req) → role ≡ Leaving q → IsReplied (phase (events_of (l ∷ past)) q)
+  pub lends : (q : Req) → lent (l ∷ past) q ≡ true → (role ≡ Lending q) ⊎ ((lent past q ≡ true) × (v.role ≡ Lending q → role ≡ Lending q))
   pub running : (q : Req) → phase (events_of (l ∷ past)) q ≡ runs → (role ≡ Busy q) ⊎ ((phase (events_of past) q ≡ runs) × (v.role ≡ Busy q → role ≡ Busy q))
 
 module _ (L : Layout) where
@@ -80,10 +98,11 @@ module _ (L : Layout) where
     heard = heard_more l j v.heard s.heard;
     busy = s.busy;
     leaving = s.leaving;
+    lending = s.lending;
   }
 
-  pub seat_sees : (j : List Line) (t : List Step) (v : View) (role : Role) → v.layout ≡ L → ((q : Req) → role ≡ Busy q → (0 < v.parts) × (phase (events_of j) q ≡ runs)) → ((q : Req) → role ≡ Leaving q → (0 < v.parts) × IsReplied (phase (events_of j) q)) → SeatOk L j (seeing v role j t)
-  seat_sees j t v role layout busy leaving = record { layout = λ _. layout; saw = record { later = []; is = refl; none = tt }; heard = tt; busy = busy; leaving = leaving }
+  pub seat_sees : (j : List Line) (t : List Step) (v : View) (role : Role) → v.layout ≡ L → ((q : Req) → role ≡ Busy q → (0 < v.parts) × (phase (events_of j) q ≡ runs)) → ((q : Req) → role ≡ Leaving q → (0 < v.parts) × IsReplied (phase (events_of j) q)) → ((q : Req) → role ≡ Lending q → 0 < v.parts) → SeatOk L j (seeing v role j t)
+  seat_sees j t v role layout busy leaving lending = record { layout = λ _. layout; saw = record { later = []; is = refl; none = tt }; heard = tt; busy = busy; leaving = leaving; lending = lending }
 
   -- what a seat that leaves its request is known to have
   pub left_now : (s : St) (r : Ruled L s) (i : ℕ) (u : View) → get_elem? s.views i ≡ some u → (q : Req) → u.role ≡ Leaving q → (0 < u.parts) × IsReplied (phase (events_of r.past) q)
@@ -129,12 +148,15 @@ module _ (L : Layout) where
     notes = notes;
     clock = low 0 (omega arith) ∙ (r.clock ∙ sym calm.clock);
     pipes = λ p h. subst (λ (z : ℕ × Home). PipeOk L.caps (l ∷ r.past) p z.0 z.1) (λ i. (sym (low (pipe_at p) (omega arith)) i, sym (slots p (omega arith)) i)) (pipe_stays L.caps l r.past p _ _ (calm.pipes p).0 (calm.pipes p).1 (r.pipes p h));
-    seats = seats_set s.views id (seeing v role (l ∷ r.past) t) (l ∷ r.past) (seat_sees (l ∷ r.past) t v role layout turns.busy turns.leaving) (λ i u apart' at. seat_stays l r.past u (others i u apart' at).0 (r.seats i u at));
+    seats = seats_set s.views id (seeing v role (l ∷ r.past) t) (l ∷ r.past) (seat_sees (l ∷ r.past) t v role layout (λ q is. (turns.has, turns.busy q is)) (λ q is. (turns.has, turns.leaving q is)) (λ q is. turns.has)) (λ i u apart' at. seat_stays l r.past u (others i u apart' at).0 (r.seats i u at));
     roles = roles_set s.views id (seeing v role (l ∷ r.past) t) r.roles (λ i u apart' at. (others i u apart' at).1);
     run = λ q is. ⊎_elim (λ (mine : role ≡ Busy q). (id, seeing v role (l ∷ r.past) t, at_now s.views id v (seeing v role (l ∷ r.past) t) there, mine))
         (λ (k : (phase (events_of r.past) q ≡ runs) × (v.role ≡ Busy q → role ≡ Busy q)). run_set s.views id v (seeing v role (l ∷ r.past) t) q there k.1 (r.run q k.0)) (turns.running q is);
     held_by = λ p q is. (let old : holder r.past p ≡ Some q = sym (calm.pipes p).0 ∙ is in held_set s.views id v (seeing v role (l ∷ r.past) t) q there (turns.keeps p q old) (r.held_by p q old));
+    lent_by = λ q is. ⊎_elim (λ (mine : role ≡ Lending q). (id, seeing v role (l ∷ r.past) t, at_now s.views id v (seeing v role (l ∷ r.past) t) there, mine))
+        (λ (k : (lent r.past q ≡ true) × (v.role ≡ Lending q → role ≡ Lending q)). lent_set s.views id v (seeing v role (l ∷ r.past) t) q there k.1 (r.lent_by q k.0)) (turns.lends q is);
     parts = (let p = parts_set s.views id v (seeing v role (l ∷ r.past) t) there in let old = r.parts in omega arith);
+    newest = (id, seeing v role (l ∷ r.past) t, at_now s.views id v (seeing v role (l ∷ r.past) t) there, turns.has, inl refl);
   }
 
   -- the same where the claim word of x becomes n
@@ -172,9 +194,11 @@ module _ (L : Layout) where
     notes = λ y k h small. ap (λ z. get_or z (8 * y + (73 + k)) 0) same ∙ r.notes y k h small;
     clock = ap (λ z. get_or z 0 0) same ∙ r.clock;
     pipes = λ p h. subst (λ z. PipeOk L.caps r.past p (get_or z (pipe_at p) 0) (get_elem? s.homes p)) (sym same) (r.pipes p h);
-    seats = seats_set s.views id (seeing v v.role r.past t) r.past (seat_sees r.past t v v.role layout busy (left_now s r id v at)) (λ l u _ there. r.seats l u there);
+    seats = seats_set s.views id (seeing v v.role r.past t) r.past (seat_sees r.past t v v.role layout busy (left_now s r id v at) (r.seats id v at).lending) (λ l u _ there. r.seats l u there);
     roles = roles_set s.views id (seeing v v.role r.past t) r.roles (λ l u other there. r.roles id l v u at there (λ e. other (sym e)));
     run = λ q is. run_set s.views id v (seeing v v.role r.past t) q at (λ z. z) (r.run q is);
     held_by = λ p q is. held_set s.views id v (seeing v v.role r.past t) q at (λ z. z) (r.held_by p q is);
+    lent_by = λ q is. lent_set s.views id v (seeing v v.role r.past t) q at (λ z. z) (r.lent_by q is);
     parts = (let p = parts_set s.views id v (seeing v v.role r.past t) at in let old = r.parts in omega arith);
+    newest = known_set s.views id v (seeing v v.role r.past t) r.past at (λ has _. (has, inl refl)) r.newest;
   }

@@ -11,7 +11,7 @@ use Rattle.steps.specs.declared.line.Line.TheVariants.{Did, Freed, Lent}
 use Rattle.steps.specs.declared.parcel.Parcel.{Parcel}
 use Rattle.steps.specs.declared.parcel.Thing.{Thing}
 use Rattle.steps.specs.declared.parcel.Thing.TheVariants.{Full}
-use Rattle.steps.specs.declared.view.Role.TheVariants.{Idle, Busy}
+use Rattle.steps.specs.declared.view.Role.TheVariants.{Submitter, Lending, Idle, Busy}
 use Rattle.steps.specs.declared.view.View.{View}
 use Rattle.steps.specs.Journal.{events_of, holder}
 use Rattle.steps.specs.Cells.{IsCell, held, word_of, claim_at, user_at, outcome_at, slot_at, bits_of, cause_bits, IsParcel}
@@ -49,7 +49,7 @@ began st m x r m' = Extends m.0 (Did (Begin r)) (Busy r) m'.0 × Hands m' x r []
 
 -- the slot that was taken last is given back with the parcel
 abbrev pub submitted : At → Seated → ℕ → Req → Seated → Type 0
-submitted st m x r m' = (p : Parcel) → m.1 ≡ (slot_at x, Some (Full p)) ∷ rest m.1 → Extends m.0 (Did (Submit r p.sqe p.buffer.items p.last)) m.0.role m'.0 × (m'.1 ≡ rest m.1)
+submitted st m x r m' = (p : Parcel) → m.1 ≡ (slot_at x, Some (Full p)) ∷ rest m.1 → Extends m.0 (Did (Submit r p.sqe p.buffer.items p.last)) (Submitter r.ring) m'.0 × (m'.1 ≡ rest m.1)
 
 -- the new word has the result
 abbrev pub replied_with : At → Seated → ℕ → Req → Seated → Type 0
@@ -59,13 +59,13 @@ abbrev pub parked : At → Seated → ℕ → Req → Seated → Type 0
 parked st m x r m' = Extends m.0 (Did (Park r)) Idle m'.0 × (m'.1 ≡ rest m.1)
 
 abbrev pub reaps : At → Seated → ℕ → Req → Seated → Type 0
-reaps st m x r m' = Extends m.0 (Did (Reap r)) m.0.role m'.0 × (m'.1 ≡ rest m.1)
+reaps st m x r m' = Extends m.0 (Did (Reap r)) (Submitter r.ring) m'.0 × (m'.1 ≡ rest m.1)
 
 -- of a store in the user word before the Submit of generation g: the empty slot is taken
 abbrev pub opened : At → Seated → ℕ → Seated → Type 0
-opened st m n m' = (x g : ℕ) → st.word ≡ user_at x → IsCell m.0.layout.cells x → Vacant m.0.layout.cells m.0.seen x g → Extends m.0 (Lent (held m.0.layout.cells x g) st.word st.first) m.0.role m'.0 × (m'.1 ≡ (slot_at x, None) ∷ m.1)
+opened st m n m' = (x g : ℕ) → st.word ≡ user_at x → IsCell m.0.layout.cells x → Vacant m.0.layout.cells m.0.seen x g → Extends m.0 (Lent (held m.0.layout.cells x g) st.word st.first) (Lending (held m.0.layout.cells x g)) m'.0 × (m'.1 ≡ (slot_at x, None) ∷ m.1)
 
 -- of a store in the outcome word before the Reap of generation g: the slot is taken, with the buffer and the data
 abbrev pub emptied : At → Seated → ℕ → Seated → Type 0
 emptied st m n m' = (x g : ℕ) (c : Cause) (res : ℤ) → st.word ≡ outcome_at x → IsCell m.0.layout.cells x → phase (events_of m.0.seen) (held m.0.layout.cells x g) ≡ replied c res
-    → Extends m.0 (Lent (held m.0.layout.cells x g) st.word st.first) m.0.role m'.0 × Hands m' x (held m.0.layout.cells x g) (data_of (events_of m.0.seen) (held m.0.layout.cells x g)) m.1
+    → Extends m.0 (Lent (held m.0.layout.cells x g) st.word st.first) (Lending (held m.0.layout.cells x g)) m'.0 × Hands m' x (held m.0.layout.cells x g) (data_of (events_of m.0.seen) (held m.0.layout.cells x g)) m.1

@@ -1,5 +1,5 @@
 -- The rule: one legal history that agrees with all words, and of which each seat has seen a beginning that lacks none of the seat's own lines.
-use Rattle.std.specs.Prelude.{◌≡◌, ◌≢◌, ℕ, suc, ◌-◌, ◌+◌, ◌*◌, ◌<◌, ◌≤◌, Bool, true, false, not, ◌==◌, nat_le, nat_lt, ℤ, List, [], ◌∷◌, ◌++◌, length, slice_index, Option, Some, None}
+use Rattle.std.specs.Prelude.{◌≡◌, ◌≢◌, ℕ, suc, ◌-◌, ◌+◌, ◌*◌, ◌<◌, ◌≤◌, ◌⊎◌, Bool, true, false, not, ◌==◌, nat_le, nat_lt, ℤ, List, [], ◌∷◌, ◌++◌, length, slice_index, Option, Some, None}
 use mathlib.Core.Option.{some}
 use lib.ListN.{get_elem?}
 use Rattle.atomic_table.specs.Table.{State}
@@ -14,7 +14,7 @@ use Rattle.steps.specs.declared.line.Line.TheVariants.{Did, Freed, Lent, Noted, 
 use Rattle.steps.specs.declared.parcel.Thing.{Thing}
 use Rattle.steps.specs.declared.view.Layout.{Layout}
 use Rattle.steps.specs.declared.view.Role.{Role}
-use Rattle.steps.specs.declared.view.Role.TheVariants.{Poller, Submitter, Idle, Busy, Leaving, Spent}
+use Rattle.steps.specs.declared.view.Role.TheVariants.{Poller, Submitter, Lending, Idle, Busy, Leaving, Spent}
 use Rattle.steps.specs.declared.view.Step.{Step}
 use Rattle.steps.specs.declared.view.View.{View}
 use Rattle.steps.specs.Journal.{events_of, lent, noted, holder, Orderly}
@@ -47,6 +47,7 @@ abbrev pub stands_for : Role → Owner → Bool
 stands_for (Poller n) pollers = true
 stands_for (Poller n) (rings i) = nat_le n i
 stands_for (Submitter l) (rings i) = l == i
+stands_for (Lending r) (rings i) = r.ring == i
 stands_for (Busy r) (workers q) = same q r
 stands_for (Leaving r) (workers q) = same q r
 stands_for _ _ = false
@@ -60,6 +61,11 @@ apart (Poller n) (Poller m) = false
 apart (Poller n) (Submitter i) = nat_lt i n
 apart (Submitter i) (Poller n) = nat_lt i n
 apart (Submitter i) (Submitter l) = not (i == l)
+apart (Poller n) (Lending r) = nat_lt r.ring n
+apart (Lending r) (Poller n) = nat_lt r.ring n
+apart (Submitter i) (Lending r) = not (i == r.ring)
+apart (Lending r) (Submitter i) = not (r.ring == i)
+apart (Lending r) (Lending q) = not (r.ring == q.ring)
 apart (Busy r) (Busy q) = not (same r q)
 apart (Busy r) (Leaving q) = not (same r q)
 apart (Leaving r) (Busy q) = not (same r q)
@@ -89,6 +95,7 @@ pub record SeatOk (L : Layout) (j : List Line) (v : View) : Type 0 where
   pub heard : AllBegin j v.heard
   pub busy : (r : Req) → v.role ≡ Busy r → (0 < v.parts) × (phase (events_of v.seen) r ≡ runs)
   pub leaving : (r : Req) → v.role ≡ Leaving r → (0 < v.parts) × IsReplied (phase (events_of v.seen) r)
+  pub lending : (r : Req) → v.role ≡ Lending r → 0 < v.parts
 
 abbrev pub parts_of : List View → ℕ
 parts_of [] = 0
@@ -101,6 +108,18 @@ IsRunBy vs q = (i : ℕ) × (v : View) × (get_elem? vs i ≡ some v) × (v.role
 -- some seat has what the request's worker took
 abbrev pub IsHeldBy : List View → Req → Type 0
 IsHeldBy vs q = (i : ℕ) × (v : View) × (get_elem? vs i ≡ some v) × (stands_for v.role (workers q) ≡ true)
+
+-- some seat has the slot of the request's cell
+abbrev pub IsLentBy : List View → Req → Type 0
+IsLentBy vs q = (i : ℕ) × (v : View) × (get_elem? vs i ≡ some v) × (v.role ≡ Lending q)
+
+-- the seat has seen all of j, or was told of it
+abbrev pub IsOneOf : List Line → List (List Line) → Type 0
+IsOneOf j [] = ⊥
+IsOneOf j (x ∷ xs) = (x ≡ j) ⊎ IsOneOf j xs
+
+abbrev pub Knows : View → List Line → Type 0
+Knows v j = (v.seen ≡ j) ⊎ IsOneOf j v.heard
 
 -- what holds between any two steps
 pub record Ruled (L : Layout) (s : State (Option Thing) View) : Type 0 where
@@ -119,7 +138,9 @@ pub record Ruled (L : Layout) (s : State (Option Thing) View) : Type 0 where
   pub roles : (i l : ℕ) (v w : View) → get_elem? s.views i ≡ some v → get_elem? s.views l ≡ some w → ¬ (i ≡ l) → apart v.role w.role ≡ true
   pub run : (q : Req) → phase (events_of past) q ≡ runs → IsRunBy s.views q
   pub held_by : (p : ℕ) (q : Req) → holder past p ≡ Some q → IsHeldBy s.views q
+  pub lent_by : (q : Req) → lent past q ≡ true → IsLentBy s.views q
   pub parts : parts_of s.views ≡ 9223372036854775808
+  pub newest : (i : ℕ) × (v : View) × (get_elem? s.views i ≡ some v) × (0 < v.parts) × Knows v past
 
 abbrev pub opening_view : Layout → View
 opening_view L = record { layout = L; role = Poller 0; parts = 9223372036854775808; seen = []; heard = []; steps = [] }
@@ -197,7 +218,7 @@ messenger v = record v { role = Idle; parts = 0; heard = []; steps = [] }
 
 -- a seat hears what the other has seen, and the other is spent
 abbrev pub hearing : View → View → View
-hearing v w = record v { parts = v.parts + w.parts; heard = w.seen ∷ v.heard }
+hearing v w = record v { parts = v.parts + w.parts; heard = w.seen ∷ (w.heard ++ v.heard) }
 
 abbrev pub spent_view : View
 spent_view = record { layout = record { cells = []; caps = [] }; role = Spent; parts = 0; seen = []; heard = []; steps = [] }

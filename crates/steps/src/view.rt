@@ -15,6 +15,8 @@ pub enum Role {
     Poller(u64),
     /// The submitter of this ring.
     Submitter(u64),
+    /// The submitter of the request's ring, while it has the slot of the request's cell: before the Submit, or the Reap.
+    Lending(Req),
     /// A worker without a request.
     Idle,
     /// The worker that runs the request.
