@@ -10,6 +10,9 @@ use Rattle.atomic_table.proofs.Lists.{at_set, at_longer, set_else}
 use Rattle.claim.specs.declared.tag.Tag.TheVariants.{Empty}
 use Rattle.model.specs.declared.req.Req.{Req}
 use Rattle.model.specs.Legal.{Legal}
+use Rattle.model.specs.Pipes.{untouched}
+use Rattle.model.specs.History.{phase, runs}
+use Rattle.steps.specs.Journal.{events_of, lent}
 use Rattle.model.proofs.Requests.{same_itself}
 use Rattle.steps.specs.declared.line.Line.{Line}
 use Rattle.steps.specs.declared.parcel.Thing.{Thing}
@@ -18,7 +21,7 @@ use Rattle.steps.specs.declared.view.Role.{Role}
 use Rattle.steps.specs.declared.view.Role.TheVariants.{Poller, Submitter, Lending, Idle, Busy, Leaving, Spent}
 use Rattle.steps.specs.declared.view.View.{View}
 use Rattle.steps.specs.Cells.{setup_of, CellOk, PipeOk, PipeIs, total, claim_at, pipe_at, slot_at}
-use Rattle.steps.specs.Rule.{Owner, nobody, pollers, rings, workers, owner, stands_for, owns, apart, NoneOf, Saw, Begins, AllBegin, SeatOk, parts_of, IsRunBy, IsHeldBy, IsLentBy, IsOneOf, Knows, Ruled, opening_view, without_one, without_next, next_poller, submitter_of, next_submitter, idle_one, messenger, hearing, spent_view}
+use Rattle.steps.specs.Rule.{Owner, nobody, pollers, rings, workers, owner, stands_for, owns, apart, NoneOf, Saw, Begins, AllBegin, SeatOk, parts_of, IsRunBy, IsHeldBy, IsLentBy, IsOneOf, Knows, Ruled, opening_view, without_one, without_next, next_poller, submitter_of, next_submitter, idle_one, messenger, hearing, spent_view, Ended}
 use Rattle.steps.proofs.Roles.{apart_sym, idle_apart, spent_apart, worker_is}
 use Rattle.steps.proofs.Steps.{parts_set, run_set, held_set, lent_set, known_set, IsKnown, at_now}
 
@@ -32,14 +35,14 @@ none_of : (a b : Role) → ((o : Owner) → stands_for a o ≡ false → stands_
 none_of a b h [] n = tt
 none_of a b h (e ∷ l) n = (h (owner e) n.0, none_of a b h l n.1)
 
-all_home : {A : Type 0} (n i : ℕ) (a : A) → i < n → get_elem? (map some (replicate n a)) i ≡ some (some a)
-all_home zero i a h = absurd (omega arith)
-all_home (suc n) zero a h = refl
-all_home (suc n) (suc i) a h = all_home n i a (omega arith)
+home_of : {A : Type 0} (l : List A) (i : ℕ) (a : A) → get_elem? l i ≡ some a → get_elem? (map some l) i ≡ some (some a)
+home_of [] i a e = absurd (some-ne-none a (sym e))
+home_of (x ∷ l) zero a e = ap some e
+home_of (x ∷ l) (suc i) a e = home_of l i a e
 
-homes_length : {A : Type 0} (n : ℕ) (a : A) → length (map some (replicate n a)) ≡ n
-homes_length zero a = refl
-homes_length (suc n) a = ap suc (homes_length n a)
+homes_length : {A : Type 0} (l : List A) → length (map some l) ≡ length l
+homes_length [] = refl
+homes_length (x ∷ l) = ap suc (homes_length l)
 
 alone : {A : Type 0} (a b : A) (i : ℕ) → get_elem? (a ∷ []) i ≡ some b → (i ≡ 0) × (a ≡ b)
 alone a b zero e = (refl, some-injective a b e)
@@ -123,16 +126,18 @@ module _ (L : Layout) where
   abbrev St : Type 0
   St = State (Option Thing) View
 
-  -- START, of a table without pipes
-  pub starts : (rows words slots : ℕ) → L.caps ≡ [] → rows ≡ total L.cells → words ≡ 8 * rows + 72 → slots ≡ rows + 64 → Ruled L (opening (replicate words 0) (replicate slots None) (opening_view L))
-  starts rows words slots bare most wide deep = record {
+  -- START: the slots of the cells are empty, and those of the pipes have new pipes
+  pub starts : (rows words : ℕ) (slots : List (Option Thing)) → rows ≡ total L.cells → words ≡ 8 * rows + 72 → length slots ≡ rows + 64
+      → ((x : ℕ) → x < rows → get_elem? slots (x + 64) ≡ some None) → ((p : ℕ) → p < 64 → (o : Option Thing) × (get_elem? slots p ≡ some o) × PipeIs L.caps p o untouched)
+      → Ruled L (opening (replicate words 0) slots (opening_view L))
+  starts rows words slots most wide deep empty pipes = record {
     past = [];
     legal = tt;
     live = refl;
     orderly = tt;
     wide = λ x h. (let m = most in subst (λ (n : ℕ). claim_at x + 7 < n) (sym (length-replicate words 0)) (omega arith));
-    deep = λ x h. (let m = most in subst (λ (n : ℕ). slot_at x < n) (sym (homes_length slots None)) (omega arith));
-    room = (let z : ℕ = 0 in (subst (λ (n : ℕ). 72 ≤ n) (sym (length-replicate words z)) (omega arith), subst (λ (n : ℕ). 64 ≤ n) (sym (homes_length slots None)) (omega arith)));
+    deep = λ x h. (let m = most in subst (λ (n : ℕ). slot_at x < n) (sym (homes_length slots)) (omega arith));
+    room = (let z : ℕ = 0 in (subst (λ (n : ℕ). 72 ≤ n) (sym (length-replicate words z)) (omega arith), subst (λ (n : ℕ). 64 ≤ n) (sym (homes_length slots)) (omega arith)));
     cells = λ x h. record {
       tag = Empty;
       cause = 0;
@@ -140,12 +145,12 @@ module _ (L : Layout) where
       payload = 0;
       fits = (omega arith, omega arith, omega arith);
       word_is = (let m = most in get_or-replicate words (claim_at x) 0 0 (omega arith));
-      says = (refl, refl, refl, refl, λ _. (let m = most in all_home slots (slot_at x) None (omega arith)));
+      says = (refl, refl, refl, refl, λ _. (let m = most in home_of slots (slot_at x) None (empty x (omega arith))));
       ages = record { before = λ n l. absurd (omega arith); after = λ n l. refl; unfreed = λ n l. refl; unlent = λ n l. refl };
     };
     notes = λ x i h small. (let m = most in get_or-replicate words (8 * x + (73 + i)) 0 0 (omega arith));
     clock = get_or-replicate words 0 0 0 (omega arith);
-    pipes = λ p h. (get_or-replicate words (pipe_at p) 0 0 (omega arith), None, all_home slots p None (omega arith), rw bare (omega arith));
+    pipes = λ p h. (let o = pipes p h in (get_or-replicate words (pipe_at p) 0 0 (omega arith), o.0, home_of slots p o.0 o.1, o.2));
     seats = λ i v at. subst (SeatOk L []) (alone (opening_view L) v i at).1 record { layout = λ _. refl; saw = record { later = []; is = refl; none = tt }; heard = tt; busy = (λ q is. absurd (cc)); leaving = (λ q is. absurd (cc)); lending = (λ q is. absurd (cc)) };
     roles = λ i l v w p q n. absurd (n ((alone (opening_view L) v i p).0 ∙ sym (alone (opening_view L) w l q).0));
     run = λ q is. absurd (cc);
@@ -293,4 +298,20 @@ module _ (L : Layout) where
         lent_by = λ q is. lent_set vs other w spent_view q at (λ b. absurd (bare q b)) (lent_set s.views id v (hearing v w) q there (λ e. e) (r.lent_by q is));
         parts = (let p = parts_set s.views id v (hearing v w) there in let p' = parts_set vs other w spent_view at in let old = r.parts in omega arith);
         newest = known_joined s.views id other v w r.past there at_old ne r.newest;
+      }
+
+  -- END: who has all parts knows all, and nobody runs or lends a slot any more
+  pub ends : (id : ℕ) (v : View) (words : List ℕ) (slots : List (Option Thing)) → Final (Seen (Ruled L) id v) words slots → Ended L v words slots
+  ends id v words slots f = let s = f.0 in let r = f.1.0 in let at = f.1.1 in let seat = r.seats id v at in
+      let mine : v.parts ≡ 9223372036854775808 → (i : ℕ) (u : View) → get_elem? s.views i ≡ some u → 0 < u.parts → v ≡ u = λ whole i u p has. the_one s.views id v i u at p has whole r.parts in record {
+        all = r.past;
+        legal = r.legal;
+        live = r.live;
+        orderly = r.orderly;
+        seen = (seat.saw.later, seat.saw.is);
+        heard = seat.heard;
+        known = λ whole. (let k = r.newest in subst (λ (z : View). Knows z r.past) (sym (mine whole k.0 k.1 k.2 k.3)) k.4);
+        still = λ whole lazy q is. (let b = r.run q is in let u = b.1 in lazy q (ap (λ (z : View). z.role) (mine whole b.0 u b.2 (((r.seats b.0 u b.2).busy q b.3).0)) ∙ b.3));
+        unlent = λ whole bare q is. (let b = r.lent_by q is in let u = b.1 in bare q (ap (λ (z : View). z.role) (mine whole b.0 u b.2 ((r.seats b.0 u b.2).lending q b.3)) ∙ b.3));
+        cells = λ x h. (get_elem? s.homes (slot_at x), subst (λ (z : List ℕ). CellOk L.cells r.past x (get_or z (claim_at x) 0) (get_elem? s.homes (slot_at x))) f.2 (r.cells x h), (λ y e. f.4 (slot_at x) y e));
       }

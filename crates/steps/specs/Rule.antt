@@ -222,3 +222,16 @@ hearing v w = record v { parts = v.parts + w.parts; heard = w.seen ∷ (w.heard 
 
 abbrev pub spent_view : View
 spent_view = record { layout = record { cells = []; caps = [] }; role = Spent; parts = 0; seen = []; heard = []; steps = [] }
+
+-- what the table is at the end, as the seat with this view knows it
+pub record Ended (L : Layout) (v : View) (words : List ℕ) (slots : List (Option Thing)) : Type 0 where
+  pub all : List Line
+  pub legal : Legal (setup_of L) (events_of all)
+  pub live : was_shut (events_of all) ≡ false
+  pub orderly : Orderly all
+  pub seen : Begins all v.seen
+  pub heard : AllBegin all v.heard
+  pub known : v.parts ≡ 9223372036854775808 → Knows v all
+  pub still : v.parts ≡ 9223372036854775808 → ((r : Req) → v.role ≢ Busy r) → (q : Req) → ¬ (phase (events_of all) q ≡ runs)
+  pub unlent : v.parts ≡ 9223372036854775808 → ((r : Req) → v.role ≢ Lending r) → (q : Req) → ¬ (lent all q ≡ true)
+  pub cells : (x : ℕ) → IsCell L.cells x → (home : Home) × CellOk L.cells all x (slice_index words (claim_at x)) home × ((y : Option Thing) → home ≡ some (some y) → get_elem? slots (slot_at x) ≡ some y)
