@@ -1,5 +1,5 @@
 -- The table of answers over one pipe: what each call answers, and what it makes of the pipe. In each row the first case that holds decides.
-use Rattle.std.specs.Prelude.{◌≡◌, ℕ, ◌+◌, ◌-◌, ◌==◌, nat_lt, nat_le, min, take, drop, length, bit_and, bit_or, Bool, true, false, cond, ℤ, pos, List, [], ◌++◌}
+use Rattle.std.specs.Prelude.{ℕ, ◌+◌, ◌-◌, ◌==◌, nat_lt, nat_le, min, take, drop, length, bit_and, bit_or, Bool, true, false, cond, pos, List, [], ◌++◌}
 use Rattle.pipe.specs.declared.ends.End.{End}
 use Rattle.pipe.specs.declared.ends.End.TheVariants.{Read, Write}
 use Rattle.pipe.specs.declared.ready.Ready.{Ready}

@@ -12,3 +12,6 @@ pub use ends::End;
 pub use error::PipeError;
 pub use pipe::Pipe;
 pub use ready::Ready;
+
+#[cfg(test)]
+mod tests;

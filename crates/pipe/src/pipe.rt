@@ -60,7 +60,7 @@ impl Pipe {
         ensures data { buffer.new ≡ take (moved result) self.old.content ++ drop (moved result) buffer.old }
         ensures left { self.new ≡ after_read (moved result) self.old }
         ensures unchanged { OnIdle result ((self.new ≡ self.old) × (buffer.new ≡ buffer.old)) }
-        ensures count { IfNow result (λ n. n ≤ MAX_CAPACITY) }
+        ensures count { IfNow result (λ n. n ≤ 65536) }
         ensures limits { IsConduit self.new }
     {
         if self.read_shut {
@@ -82,7 +82,7 @@ impl Pipe {
         ensures answer { result ≡ answer_write self.old (length bytes.now) }
         ensures gone_in { self.new ≡ after_write (moved result) bytes.now self.old }
         ensures unchanged { OnIdle result (self.new ≡ self.old) }
-        ensures count { IfNow result (λ n. n ≤ MAX_CAPACITY) }
+        ensures count { IfNow result (λ n. n ≤ 65536) }
         ensures limits { IsConduit self.new }
     {
         if self.write_shut {
@@ -121,14 +121,14 @@ impl Pipe {
         ensures bits { IfNow result (λ events. (0 < events) × (events < 32)) }
         ensures limits { IsConduit self.now }
     {
-        if self.is_shut(end) {
-            return Ready::Fail(EBADF);
-        }
         let events = self.events(end) & (mask | ALWAYS);
-        if events == 0 {
-            return Ready::Wait;
+        if self.is_shut(end) {
+            Ready::Fail(EBADF)
+        } else if events == 0 {
+            Ready::Wait
+        } else {
+            Ready::Now(events)
         }
-        Ready::Now(events)
     }
 
     fn is_shut(&self, end: End) -> bool
