@@ -1,6 +1,8 @@
 -- How a kind of step is proved: what the seat does at the state found is turned into what the table asks of the step.
 use Rattle.std.proofs.Common.{◌≡◌, ◌≢◌, ℕ, ◌+◌, ◌*◌, ◌<◌, ◌⊎◌, ⊎_elim, Bool, true, false, cond, Option, Some, None, ℤ, List, [], ◌∷◌, ◌++◌, get_or, set, sym, refl, ap, ◌∙◌, subst, arith, eqb, true≢false}
 use mathlib.Core.Option.{some, none}
+use mathlib.Core.Logic.{dite}
+use native.Mathlib.Decide.{ℕ_discrete}
 use lib.ListN.{get_elem?}
 use lib.Seq.{set-get_or}
 use prog.Atomic.{either}
@@ -40,6 +42,9 @@ in_hand (x ∷ xs) = x.1
 
 pub same_parcel : (p q : Parcel) → Some (Full p) ≡ Some (Full q) → p ≡ q
 same_parcel p q e = cc
+
+pub either_way : (n m : ℕ) (A : Type 0) → (n ≡ m → A) → (n ≢ m → A) → A
+either_way n m A hit miss = dite (ℕ_discrete n m) hit miss
 
 -- the place after an event of the request
 pub now_is : (b : Bool) (p q : Phase) → b ≡ true → cond b p q ≡ p

@@ -118,6 +118,9 @@ module _ (s : Setup) where
   pub counted_in : (j : List Line) (q : Req) (p : Phase) → Legal s (events_of j) → phase (events_of j) q ≡ p → p ≢ unborn → q.k < submits (events_of j) q.ring
   counted_in j q p l is born = counted s (events_of j) q l (λ u. born (sym is ∙ u))
 
+  pub submitted_in : (j : List Line) (q : Req) (x : Submission) → Legal s (events_of j) → submission (events_of j) q ≡ Some x → q.k < submits (events_of j) q.ring
+  submitted_in j q x l is = let n : ¬ (submits (events_of j) q.ring ≤ q.k) = λ le. (let e = sym is ∙ submission_none s (events_of j) q l le in cc) in omega arith
+
   pub replied_later : (later seen : List Line) (q : Req) → Legal s (events_of (later ++ seen)) → IsReplied (phase (events_of seen) q) → IsReplied (phase (events_of (later ++ seen)) q)
   replied_later later seen q l d = lasts (λ h. IsReplied (phase h q)) q (replied_lasts q) later seen l (counted s (events_of seen) q (legal_before later seen l) (λ u. subst IsReplied u d)) d
 

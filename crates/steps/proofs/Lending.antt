@@ -33,12 +33,12 @@ use Rattle.steps.specs.Cells.{setup_of}
 use Rattle.steps.specs.Plays.{Seated}
 use Rattle.steps.specs.Journal.{Fair}
 use Rattle.steps.specs.declared.view.Role.TheVariants.{Submitter, Lending, Idle, Busy, Leaving, Spent}
-use Rattle.steps.specs.Journal.{events_of, freed, lent, noted, holder, Serves}
+use Rattle.steps.specs.Journal.{PlainAnswer, events_of, freed, lent, noted, holder, Serves}
 use Rattle.steps.specs.Cells.{IsCell, ring_of, held, CellOk, Ages, Keeps, IsParcel, MayBegin, claim_at, user_at, outcome_at, slot_at, word_of, bits_of, cause_bits}
 use Rattle.steps.specs.Rule.{pollers, rings, workers, stands_for, owns, apart, Vacant, Ruled, Extends}
 use Rattle.steps.specs.Plays.{looked, tried, sure, released, began, submitted, replied_with, parked, reaps, opened, emptied, Hands}
 use Rattle.steps.proofs.Numbers.{other_cell, other_age, one_word, one_result, same_bits, ring_in}
-use Rattle.steps.proofs.Served.{PlainAnswer, plain_answers, plain_touches, plain_moves}
+use Rattle.steps.proofs.Served.{plain_answers, plain_touches, plain_moves}
 use Rattle.steps.proofs.Roles.{as_lending, unowned, idle_apart, busy_apart}
 use Rattle.steps.proofs.Growing.{about, begins, ran, lent_stays, counted_in, open_lasts, kind_lasts, submission_lasts, placed_lasts, phase_stays}
 use Rattle.steps.proofs.Frames.{may_stays, ages_stay, done_keeps}
@@ -168,4 +168,3 @@ module _ (slots id : ℕ) (me : Seated) where
 
     pub empty_allows : (M : Layout) (n : ℕ) (c : Cause) (res : ℤ) → phase (events_of v.seen) q ≡ replied c res → lent v.seen q ≡ false → Allows (Ruled M) slots id me (outcome_at x) (λ _. n) (λ _. emptied (step slots (outcome_at x) n 0 none) me n)
     empty_allows M n c res done home = shaped slots id me M (outcome_at x) (λ _. n) (λ _. emptied (step slots (outcome_at x) n 0 none) me n) (λ z. (let y = sym mine ∙ z in cc)) (empty_does n c res done home)
-

@@ -9,5 +9,7 @@ pub mod Path
 pub mod Roles
 pub mod Running
 pub mod Served
+pub mod Setting
 pub mod Steps
+pub mod Views
 pub mod Words

@@ -33,12 +33,12 @@ use Rattle.steps.specs.Cells.{setup_of}
 use Rattle.steps.specs.Plays.{Seated}
 use Rattle.steps.specs.Journal.{Fair}
 use Rattle.steps.specs.declared.view.Role.TheVariants.{Submitter, Lending, Idle, Busy, Leaving, Spent}
-use Rattle.steps.specs.Journal.{events_of, freed, lent, noted, holder, Serves}
+use Rattle.steps.specs.Journal.{PlainAnswer, events_of, freed, lent, noted, holder, Serves}
 use Rattle.steps.specs.Cells.{IsCell, ring_of, held, CellOk, Ages, Keeps, IsParcel, MayBegin, claim_at, user_at, outcome_at, slot_at, word_of, bits_of, cause_bits}
 use Rattle.steps.specs.Rule.{pollers, rings, workers, stands_for, owns, apart, Vacant, Ruled, Extends}
 use Rattle.steps.specs.Plays.{looked, tried, sure, released, began, submitted, replied_with, parked, reaps, opened, emptied, Hands}
 use Rattle.steps.proofs.Numbers.{other_cell, other_age, one_word, one_result, same_bits, ring_in}
-use Rattle.steps.proofs.Served.{PlainAnswer, plain_answers, plain_touches, plain_moves}
+use Rattle.steps.proofs.Served.{plain_answers, plain_touches, plain_moves}
 use Rattle.steps.proofs.Roles.{as_lending, unowned, idle_apart, busy_apart}
 use Rattle.steps.proofs.Growing.{about, begins, ran, lent_stays, counted_in, open_lasts, kind_lasts, submission_lasts, placed_lasts, phase_stays}
 use Rattle.steps.proofs.Frames.{may_stays, ages_stay, done_keeps}
@@ -53,7 +53,6 @@ quiet_line past l fair live clock pipes = record { fair = fair; live = live; clo
 
 pub dec_req : {A : Type 0} (a b : Req) → (a ≡ b → A) → (a ≢ b → A) → A
 dec_req a b yes' no' = dite (ℕ_discrete a.ring b.ring) (λ p. dite (ℕ_discrete a.k b.k) (λ q. yes' (λ i. record { ring = p i; k = q i })) (λ n. no' (λ e. n (ap (λ (z : Req). z.k) e)))) (λ n. no' (λ e. n (ap (λ (z : Req). z.ring) e)))
-
 
 module _ (slots id : ℕ) (me : Seated) where
   abbrev v : View
@@ -141,4 +140,3 @@ module _ (slots id : ℕ) (me : Seated) where
   pub begin_allows : (M : Layout) (x g old new : ℕ) → v.role ≡ Idle → 0 < v.parts → IsCell K x → g < 16777216 → old ≡ word_of Ready 0 g 0 → new ≡ word_of Running 0 g 0
       → Allows (Ruled M) slots id me (claim_at x) (λ n. either (eqb n old) new n) (tried Ready began (step slots (claim_at x) old new none) me)
   begin_allows M x g old new idle has inside f is_old is_new = tries slots id me M Ready began x g 0 old new (λ e. (let y = sym idle ∙ e in cc)) inside f (omega arith) is_old (begin_does x g old new idle has inside f is_new)
-

@@ -15,14 +15,8 @@ use Rattle.model.proofs.Requests.{bool_cases}
 use Rattle.model.proofs.Growth.{submission_some}
 use Rattle.steps.specs.declared.line.Line.{Line}
 use Rattle.steps.specs.declared.line.Line.TheVariants.{Did}
-use Rattle.steps.specs.Journal.{events_of, is_served, Serves, Orderly, uses, touches}
+use Rattle.steps.specs.Journal.{events_of, is_served, Serves, PlainAnswer, Orderly, uses, touches}
 use Rattle.steps.specs.Cells.{MayBegin}
-
--- the reply of an operation that needs no pipe and no clock
-abbrev pub PlainAnswer : Op → ℤ → Type 0
-PlainAnswer Nop res = res ≡ pos 0
-PlainAnswer Invalid res = res ≡ negsuc 21
-PlainAnswer _ res = ⊥
 
 pub plain_answers : (caps : List ℕ) (h : List Event) (r : Req) (op : Op) (res : ℤ) → PlainAnswer op res → OpAnswers caps h r op res []
 plain_answers caps h r Nop res a = ap (λ z. now z []) (sym a)

@@ -3,6 +3,7 @@
 use Rattle.std.specs.Prelude.{◌≡◌, ℕ, zero, suc, ◌+◌, ◌-◌, ◌*◌, ◌<◌, nat_lt, cond, Bool, true, false, List, [], ◌∷◌, ◌++◌, drop, length, ℤ, pos, negsuc, slice_index, Option, Some, None}
 use mathlib.Core.Option as maybe
 use mathlib.Core.Option.{some}
+use lib.ListN.{get_elem?}
 use Rattle.claim.specs.declared.tag.Tag.{Tag}
 use Rattle.claim.specs.declared.tag.Tag.TheVariants.{Empty, Held, Ready, Running, Armed, Done}
 use Rattle.claim.specs.Claim.{packed}
@@ -147,3 +148,12 @@ PipeSays caps j p word home (Some r) = word ≡ 1
 
 abbrev pub PipeOk : List ℕ → List Line → ℕ → ℕ → Home → Type 0
 PipeOk caps j p word home = PipeSays caps j p word home (holder j p)
+
+abbrev pub IsCapacity : ℕ → Type 0
+IsCapacity n = (0 < n) × (n < 65537)
+
+-- the slots of a new table
+pub record AreNewSlots (caps : List ℕ) (rows : ℕ) (slots : List (Option Thing)) : Type 0 where
+  pub long : length slots ≡ rows + 64
+  pub empty : (x : ℕ) → x < rows → get_elem? slots (x + 64) ≡ some None
+  pub pipes : (p : ℕ) → p < 64 → (o : Option Thing) × (get_elem? slots p ≡ some o) × PipeIs caps p o untouched

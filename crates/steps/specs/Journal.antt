@@ -1,5 +1,5 @@
 -- The journal: the history's events, newest first, and between them what seats do without an event. Who was moved to Ready, which slot or pipe is out with whom, and what stands in a note word, is read off it.
-use Rattle.std.specs.Prelude.{◌≡◌, ℕ, ◌+◌, ◌*◌, ◌==◌, ◌&&◌, ◌||◌, not, ◌⊎◌, Bool, true, false, cond, List, [], ◌∷◌, Option, Some, None}
+use Rattle.std.specs.Prelude.{◌≡◌, ℕ, ◌+◌, ◌*◌, ◌==◌, ◌&&◌, ◌||◌, not, ◌⊎◌, Bool, true, false, cond, ℤ, pos, negsuc, List, [], ◌∷◌, Option, Some, None}
 use Rattle.entry.specs.declared.op.Op.{Op}
 use Rattle.entry.specs.declared.op.Op.TheVariants.{Nop, Close, Read, Write, PollAdd, Invalid}
 use Rattle.entry.specs.Entry.{Entry, drains}
@@ -86,6 +86,12 @@ is_served _ = false
 
 abbrev pub Serves : Entry → Bool → Type 0
 Serves e last = (is_served e.op ≡ true) × (drains e ≡ false) × (last ≡ true)
+
+-- the reply of an operation that needs no pipe and no clock
+abbrev pub PlainAnswer : Op → ℤ → Type 0
+PlainAnswer Nop res = res ≡ pos 0
+PlainAnswer Invalid res = res ≡ negsuc 21
+PlainAnswer _ res = ⊥
 
 -- only who has a pipe changes it or gives it back, and nobody takes it from him
 abbrev pub Fair : List Line → Line → Type 0

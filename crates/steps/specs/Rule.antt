@@ -8,6 +8,9 @@ use Rattle.atomic_table.specs.declared.shared.Seat.{Seat}
 use Rattle.model.specs.declared.req.Req.{Req}
 use Rattle.model.specs.declared.event.Event.TheVariants.{Submit, Begin, Park, Reply, Take, Miss, Tick, Arm, Expire, Fire, FireMiss, Settle, Sever, Reap, Shut, Cut}
 use Rattle.model.specs.History.{Cause, same, phase, runs, replied, reaped, submits, clock_of, was_shut, IsReplied}
+use Rattle.claim.specs.declared.tag.Tag.TheVariants.{Done}
+use Rattle.entry.specs.Entry.{Entry, fails}
+use Rattle.model.specs.Chains.{IsPlaced}
 use Rattle.model.specs.Legal.{Legal}
 use Rattle.steps.specs.declared.line.Line.{Line}
 use Rattle.steps.specs.declared.line.Line.TheVariants.{Did, Freed, Lent, Noted, Hold, Free}
@@ -18,7 +21,7 @@ use Rattle.steps.specs.declared.view.Role.TheVariants.{Poller, Submitter, Lendin
 use Rattle.steps.specs.declared.view.Step.{Step}
 use Rattle.steps.specs.declared.view.View.{View}
 use Rattle.steps.specs.Journal.{events_of, lent, noted, holder, Orderly}
-use Rattle.steps.specs.Cells.{setup_of, IsCell, ring_of, held, claim_at, pipe_at, slot_at, CellOk, PipeOk, Home}
+use Rattle.steps.specs.Cells.{setup_of, IsCell, ring_of, held, claim_at, pipe_at, slot_at, CellOk, PipeOk, Home, word_of, bits_of, cause_bits}
 
 -- whose a line is: a seat of no other kind makes it
 pub data Owner : Type 0 where
@@ -175,6 +178,10 @@ pub record Extends (v : View) (l : Line) (role : Role) (w : View) : Type 0 where
   pub steps : List Step
   pub is : w ≡ seeing v role (l ∷ mid) steps
 
+-- the seat added two lines, and others may stand between
+abbrev pub ExtendsTwice : View → Line → Role → Line → Role → View → Type 0
+ExtendsTwice v k between l role w = (mid : View) × Extends v k between mid × Extends mid l role w
+
 -- what a claim word tells
 abbrev pub Shown : List ℕ → List Line → ℕ → ℕ → Type 0
 Shown K j x word = (home : Home) × CellOk K j x word home
@@ -190,6 +197,17 @@ IsSameSeat s t = (t.table_id ≡ s.table_id) × (t.id ≡ s.id)
 pub record Vacant (K : List ℕ) (seen : List Line) (x g : ℕ) : Type 0 where
   pub next : submits (events_of seen) (ring_of K x) ≤ (held K x g).k
   pub gone_by : (n : ℕ) → n < g → (c : Cause) × (res : ℤ) × (phase (events_of seen) (held K x n) ≡ reaped c res)
+
+-- the claim word of a request that has replied
+pub record IsDone (seen : List Line) (r : Req) (g word : ℕ) : Type 0 where
+  pub cause : Cause
+  pub res : ℤ
+  pub entry : Entry
+  pub bits : ℕ
+  pub replied_is : phase (events_of seen) r ≡ replied cause res
+  pub placed_is : IsPlaced (events_of seen) r entry
+  pub bits_are : bits_of res bits
+  pub word_is : word ≡ word_of Done (cause_bits cause (fails entry res)) g bits
 
 -- how the poller's seat is cut: the submitter of the next ring leaves it, or a worker
 abbrev pub next_poller : Role → Role

@@ -5,6 +5,7 @@ use atomic_table::TableRule;
 use std::snapshot::Snapshot;
 
 /// The cells of each ring and the capacities of the pipes, as the table was made for them.
+#[derive(Drop)]
 pub struct About {
     pub cells: Snapshot<Vec<u64>>,
     pub caps: Snapshot<Vec<u32>>,
