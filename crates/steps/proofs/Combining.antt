@@ -6,7 +6,7 @@ use native.Mathlib.Decide.{ℕ_discrete}
 use lib.ListN.{get_elem?}
 use lib.Seq.{set-get_or}
 use prog.Atomic.{either}
-use Rattle.atomic_table.specs.Table.{State, step, Act, keeps, takes, gives, stepped, Allows, Valid, carried_after, rest}
+use Rattle.atomic_table.specs.Table.{State, step, Act, keeps, gives, stepped, Allows, Valid, carried_after, rest}
 use Rattle.atomic_table.proofs.Lists.{exchanged}
 use Rattle.claim.specs.declared.tag.Tag.{Tag}
 use Rattle.claim.specs.declared.tag.Tag.TheVariants.{Empty}
@@ -22,12 +22,12 @@ use Rattle.steps.specs.declared.parcel.Thing.{Thing}
 use Rattle.steps.specs.declared.parcel.Thing.TheVariants.{Full}
 use Rattle.steps.specs.declared.view.Layout.{Layout}
 use Rattle.steps.specs.declared.view.Role.{Role}
-use Rattle.steps.specs.declared.view.Role.TheVariants.{Poller, Submitter, Lending, Idle, Busy, Leaving, Spent}
+use Rattle.steps.specs.declared.view.Role.TheVariants.{Idle, Busy, Leaving, Spent}
 use Rattle.steps.specs.declared.view.Step.{Step}
 use Rattle.steps.specs.declared.view.View.{View}
 use Rattle.steps.specs.Journal.{events_of, freed, lent, holder, Fair}
-use Rattle.steps.specs.Cells.{setup_of, IsCell, ring_of, held, CellOk, Ages, Home, claim_at, slot_at, word_of}
-use Rattle.steps.specs.Rule.{workers, rings, stands_for, NoneOf, Saw, IsHeldBy, Vacant, Ruled, seeing, IsStep, Looks, Extends}
+use Rattle.steps.specs.Cells.{setup_of, IsCell, ring_of, held, CellOk, Ages, claim_at, slot_at, word_of}
+use Rattle.steps.specs.Rule.{workers, rings, stands_for, NoneOf, Vacant, Ruled, seeing, IsStep, Extends}
 use Rattle.steps.specs.Plays.{Seated, At, looked, tried, sure}
 use Rattle.steps.proofs.Numbers.{one_word}
 use Rattle.steps.proofs.Roles.{same_sym, worker_is}

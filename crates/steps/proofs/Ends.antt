@@ -1,5 +1,5 @@
 -- The table at the start, the cuts and joins of seats, and the table at the end.
-use Rattle.std.proofs.Common.{◌≡◌, ◌≢◌, ℕ, zero, suc, ◌+◌, ◌-◌, ◌*◌, ◌<◌, ◌≤◌, ◌⊎◌, Bool, true, false, not, nat_le, nat_lt, Option, Some, None, List, [], ◌∷◌, ◌++◌, map, replicate, length, get_or, set, sym, refl, ap, ◌∙◌, subst, inl, inr, ⊎_elim, arith, true≢false, append-nil}
+use Rattle.std.proofs.Common.{◌≡◌, ◌≢◌, ℕ, zero, suc, ◌+◌, ◌-◌, ◌*◌, ◌<◌, ◌≤◌, ◌⊎◌, true, false, Option, None, List, [], ◌∷◌, ◌++◌, map, replicate, length, get_or, set, sym, refl, ap, ◌∙◌, subst, inl, inr, ⊎_elim, arith, true≢false, append-nil}
 use Rattle.std.proofs.lemmas.Bool.Decides.{nat_tests}
 use mathlib.Core.Option.{some, some-injective, some-ne-none}
 use mathlib.Core.Logic.{dite}
@@ -9,10 +9,7 @@ use Rattle.atomic_table.specs.Table.{State, opening, Splits, Joins, Final, Seen}
 use Rattle.atomic_table.proofs.Lists.{at_set, at_longer, set_else}
 use Rattle.claim.specs.declared.tag.Tag.TheVariants.{Empty}
 use Rattle.model.specs.declared.req.Req.{Req}
-use Rattle.model.specs.Legal.{Legal}
 use Rattle.model.specs.Pipes.{untouched}
-use Rattle.model.specs.History.{phase, runs}
-use Rattle.steps.specs.Journal.{events_of, lent}
 use Rattle.model.proofs.Requests.{same_itself}
 use Rattle.steps.specs.declared.line.Line.{Line}
 use Rattle.steps.specs.declared.parcel.Thing.{Thing}
@@ -20,9 +17,9 @@ use Rattle.steps.specs.declared.view.Layout.{Layout}
 use Rattle.steps.specs.declared.view.Role.{Role}
 use Rattle.steps.specs.declared.view.Role.TheVariants.{Poller, Submitter, Lending, Idle, Busy, Leaving, Spent}
 use Rattle.steps.specs.declared.view.View.{View}
-use Rattle.steps.specs.Cells.{setup_of, CellOk, PipeOk, PipeIs, total, claim_at, pipe_at, slot_at}
-use Rattle.steps.specs.Rule.{Owner, nobody, pollers, rings, workers, owner, stands_for, owns, apart, NoneOf, Saw, Begins, AllBegin, SeatOk, parts_of, IsRunBy, IsHeldBy, IsLentBy, IsOneOf, Knows, Ruled, opening_view, without_one, without_next, next_poller, submitter_of, next_submitter, idle_one, messenger, hearing, spent_view, Ended}
-use Rattle.steps.proofs.Roles.{apart_sym, idle_apart, spent_apart, worker_is}
+use Rattle.steps.specs.Cells.{CellOk, PipeIs, total, claim_at, pipe_at, slot_at}
+use Rattle.steps.specs.Rule.{Owner, nobody, pollers, rings, workers, owner, stands_for, apart, NoneOf, Begins, AllBegin, SeatOk, parts_of, IsRunBy, IsHeldBy, IsLentBy, IsOneOf, Knows, Ruled, opening_view, without_one, without_next, next_poller, submitter_of, next_submitter, idle_one, messenger, hearing, spent_view, Ended}
+use Rattle.steps.proofs.Roles.{apart_sym, idle_apart, spent_apart}
 use Rattle.steps.proofs.Steps.{parts_set, run_set, held_set, lent_set, known_set, IsKnown, at_now}
 
 at_end : {A : Type 0} (l : List A) (a b : A) (j : ℕ) → get_elem? (l ++ a ∷ []) j ≡ some b → (get_elem? l j ≡ some b) ⊎ ((j ≡ length l) × (a ≡ b))

@@ -1,21 +1,19 @@
 -- A line about one request leaves all other cells and pipes as they were.
 use Rattle.std.specs.Prelude.{◌==◌}
-use Rattle.std.proofs.Common.{◌≡◌, ◌≢◌, ℕ, ◌<◌, ◌⊎◌, Bool, true, false, cond, ℤ, List, [], ◌∷◌, ◌++◌, Option, Some, None, sym, refl, ap, ◌∙◌, subst, ⊎_elim, arith, true≢false, eqb-true}
-use Rattle.entry.specs.Entry.{Entry}
+use Rattle.std.proofs.Common.{◌≡◌, ◌≢◌, ℕ, ◌<◌, Bool, true, false, cond, List, [], ◌∷◌, ◌++◌, Option, Some, None, sym, refl, ap, ◌∙◌, subst, ⊎_elim, arith, true≢false}
 use Rattle.model.specs.declared.req.Req.{Req}
 use Rattle.model.specs.declared.event.Event.{Event}
-use Rattle.model.specs.declared.event.Event.TheVariants.{Submit, Reply}
-use Rattle.model.specs.History.{Cause, Phase, unborn, waits, runs, armed, replied, same, answers, data_in, data_of, phase, submission, submits, was_shut}
-use Rattle.model.specs.Chains.{is_timer, placed, IsPlaced, Open}
-use Rattle.model.specs.Pipes.{Flow, flow, flows_as, moves}
+use Rattle.model.specs.History.{Phase, unborn, waits, runs, armed, replied, same, answers, data_in, data_of, phase, submission, submits}
+use Rattle.model.specs.Chains.{is_timer, IsPlaced, Open}
+use Rattle.model.specs.Pipes.{flow}
 use Rattle.model.specs.Legal.{Setup, Legal, IsOf}
-use Rattle.model.proofs.Requests.{bool_cases, same_true}
+use Rattle.model.proofs.Requests.{bool_cases}
 use Rattle.claim.specs.declared.tag.Tag.TheVariants.{Empty, Held, Ready, Running, Armed, Done}
 use Rattle.claim.specs.declared.tag.Tag.{Tag}
 use Rattle.steps.specs.declared.line.Line.{Line}
-use Rattle.steps.specs.declared.line.Line.TheVariants.{Did, Freed, Lent, Noted, Hold, Free}
+use Rattle.steps.specs.declared.line.Line.TheVariants.{Did, Hold, Free}
 use Rattle.steps.specs.declared.view.Role.{Role}
-use Rattle.steps.specs.Journal.{events_of, freed, lent, holder, touches, Orderly}
+use Rattle.steps.specs.Journal.{events_of, holder}
 use Rattle.steps.specs.Cells.{held, Home, IsParcel, Keeps, Ages, MayBegin, Says, CellOk, PipeIs, PipeSays, PipeOk}
 use Rattle.steps.specs.Rule.{workers, stands_for, NoneOf}
 use Rattle.steps.proofs.Growing.{about, phase_stays, data_stays, freed_stays, lent_stays, counted_in, lasts_by, lasts, submission_lasts, placed_lasts, open_lasts, kind_lasts}

@@ -1,11 +1,11 @@
 -- What stays true as the journal grows: of every line, and of the lines of others.
-use Rattle.std.proofs.Common.{◌≡◌, ◌≢◌, ℕ, suc, ◌+◌, ◌<◌, ◌≤◌, ◌⊎◌, Bool, true, false, cond, ℤ, List, [], ◌∷◌, ◌++◌, Option, Some, None, sym, refl, ap, ◌∙◌, subst, inl, inr, ⊎_elim, arith, true≢false, eq-eqb, ne_eqb}
+use Rattle.std.proofs.Common.{◌≡◌, ◌≢◌, ℕ, ◌<◌, ◌≤◌, Bool, true, false, cond, ℤ, List, [], ◌∷◌, ◌++◌, Some, sym, refl, ap, ◌∙◌, subst, ⊎_elim, arith, true≢false, ne_eqb}
 use Rattle.entry.specs.Entry.{Entry}
 use Rattle.model.specs.declared.req.Req.{Req}
 use Rattle.model.specs.declared.event.Event.{Event}
-use Rattle.model.specs.declared.event.Event.TheVariants.{Submit, Begin, Park, Reply, Take, Miss, Tick, Arm, Expire, Fire, FireMiss, Settle, Sever, Reap, Shut, Cut}
-use Rattle.model.specs.History.{Cause, Phase, unborn, waits, runs, armed, replied, reaped, Submission, same, concerns, becomes, phase, answers, data_in, data_of, submission, submits, adds_to, clock_of, shuts, was_shut, shuts, IsReplied}
-use Rattle.model.specs.Chains.{placed, IsPlaced, Open}
+use Rattle.model.specs.declared.event.Event.TheVariants.{Submit, Begin, Park, Reply, Take, Miss, Tick, Expire, Fire, FireMiss, Settle, Sever, Reap, Shut, Cut}
+use Rattle.model.specs.History.{Cause, Phase, unborn, runs, replied, reaped, Submission, same, concerns, becomes, phase, answers, data_in, data_of, submission, submits, adds_to, was_shut, IsReplied}
+use Rattle.model.specs.Chains.{IsPlaced, Open}
 use Rattle.model.specs.Legal.{Setup, MayCome, shut_for, Legal, IsOf}
 use Rattle.model.proofs.Requests.{bool_cases, same_true, same_false}
 use Rattle.model.proofs.Growth.{MayChange, may_change, changed, unchanged, counted, submission_stays, submission_none, replied_stays}
@@ -14,8 +14,8 @@ use Rattle.steps.specs.declared.line.Line.{Line}
 use Rattle.steps.specs.declared.line.Line.TheVariants.{Did, Freed, Lent, Noted, Hold, Free}
 use Rattle.steps.specs.declared.view.Role.{Role}
 use Rattle.steps.specs.declared.view.Role.TheVariants.{Busy}
-use Rattle.steps.specs.Journal.{event_of, events_of, frees, freed, lends, lent}
-use Rattle.steps.specs.Rule.{pollers, rings, workers, stands_for, owns, NoneOf}
+use Rattle.steps.specs.Journal.{events_of, freed, lent}
+use Rattle.steps.specs.Rule.{rings, stands_for, owns, NoneOf}
 
 -- the line is about this request
 abbrev pub about : Line → Req → Bool

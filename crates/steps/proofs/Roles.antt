@@ -1,5 +1,5 @@
 -- Whose lines are whose: two roles that are apart own no line together.
-use Rattle.std.proofs.Common.{◌≡◌, ℕ, ◌⊎◌, true, false, not, Bool, sym, refl, ap, ◌∙◌, subst, inl, inr, true≢false, arith}
+use Rattle.std.proofs.Common.{◌≡◌, ◌⊎◌, true, false, not, sym, refl, ap, ◌∙◌, subst, inl, inr, true≢false, arith}
 use Rattle.std.proofs.lemmas.Bool.Decides.{nat_tests}
 use Rattle.model.specs.declared.req.Req.{Req}
 use Rattle.model.specs.History.{same}

@@ -1,24 +1,19 @@
 -- How a worker ends with a request: by a reply that needs no pipe, or by parking it.
-use Rattle.std.proofs.Common.{◌≡◌, ◌≢◌, ℕ, suc, ◌+◌, ◌*◌, ◌<◌, ◌≤◌, ◌⊎◌, Bool, true, false, cond, Option, Some, None, ℤ, List, [], ◌∷◌, ◌++◌, length, get_or, set, sym, refl, ap, ◌∙◌, subst, inl, inr, arith, eqb, eqb-true, ne_eqb, eq-eqb, true≢false, get_or-set_other, get_or-set_same, length-set}
+use Rattle.std.proofs.Common.{◌≡◌, ◌≢◌, ℕ, ◌<◌, true, Option, Some, ℤ, List, [], ◌∷◌, get_or, set, sym, refl, ◌∙◌, subst, arith, eqb, true≢false, length-set}
 use mathlib.Core.Option.{some, none}
-use mathlib.Core.Option as maybe
-use mathlib.Core.Logic.{dite}
-use native.Mathlib.Decide.{ℕ_discrete}
-use lib.ListN.{get_elem?}
 use prog.Atomic.{either}
-use Rattle.atomic_table.specs.Table.{step, keeps, takes, gives, stepped, Allows, rest}
+use Rattle.atomic_table.specs.Table.{step, gives, Allows, rest}
 use Rattle.atomic_table.proofs.Lists.{set_here, set_else}
-use Rattle.claim.specs.declared.tag.Tag.TheVariants.{Empty, Held, Ready, Running, Armed, Done}
+use Rattle.claim.specs.declared.tag.Tag.TheVariants.{Ready, Running, Done}
 use Rattle.entry.specs.Entry.{Entry, fails}
 use Rattle.model.specs.declared.req.Req.{Req}
-use Rattle.model.specs.declared.event.Event.TheVariants.{Submit, Begin, Park, Reply, Reap}
-use Rattle.model.specs.History.{Cause, by_reply, Phase, unborn, waits, runs, replied, reaped, after_reap, same, phase, submission, submits, data_of, IsReplied}
-use Rattle.model.specs.Chains.{is_timer, placed, IsPlaced, Open}
-use Rattle.model.specs.Legal.{Legal, Fits, IsOf}
-use Rattle.model.proofs.Requests.{same_itself, same_false}
-use Rattle.model.proofs.Growth.{unborn_yet}
+use Rattle.model.specs.declared.event.Event.TheVariants.{Park, Reply}
+use Rattle.model.specs.History.{by_reply, waits, runs, replied, phase, submission, submits}
+use Rattle.model.specs.Chains.{IsPlaced}
+use Rattle.model.specs.Legal.{Legal}
+use Rattle.model.proofs.Requests.{same_itself}
 use Rattle.steps.specs.declared.line.Line.{Line}
-use Rattle.steps.specs.declared.line.Line.TheVariants.{Did, Freed, Lent}
+use Rattle.steps.specs.declared.line.Line.TheVariants.{Did}
 use Rattle.steps.specs.declared.parcel.Parcel.{Parcel}
 use Rattle.steps.specs.declared.parcel.Thing.{Thing}
 use Rattle.steps.specs.declared.parcel.Thing.TheVariants.{Full}
@@ -27,25 +22,23 @@ use Rattle.steps.specs.declared.view.Role.{Role}
 use Rattle.steps.specs.declared.view.View.{View}
 use Rattle.atomic_table.specs.Table.{State}
 use Rattle.model.specs.Legal.{Setup}
-use Rattle.model.specs.History.{was_shut, clock_of}
 use Rattle.model.specs.Pipes.{flow}
 use Rattle.steps.specs.Cells.{setup_of}
 use Rattle.steps.specs.Plays.{Seated}
-use Rattle.steps.specs.Journal.{Fair}
-use Rattle.steps.specs.declared.view.Role.TheVariants.{Submitter, Lending, Idle, Busy, Leaving, Spent}
-use Rattle.steps.specs.Journal.{PlainAnswer, events_of, freed, lent, noted, holder, Serves}
-use Rattle.steps.specs.Cells.{IsCell, ring_of, held, CellOk, Ages, Keeps, IsParcel, MayBegin, claim_at, user_at, outcome_at, slot_at, word_of, bits_of, cause_bits}
-use Rattle.steps.specs.Rule.{pollers, rings, workers, stands_for, owns, apart, Vacant, Ruled, Extends}
-use Rattle.steps.specs.Plays.{looked, tried, sure, released, began, submitted, replied_with, parked, reaps, opened, emptied, Hands}
-use Rattle.steps.proofs.Numbers.{other_cell, other_age, one_word, one_result, same_bits, ring_in}
+use Rattle.steps.specs.declared.view.Role.TheVariants.{Idle, Busy}
+use Rattle.steps.specs.Journal.{PlainAnswer, events_of, holder}
+use Rattle.steps.specs.Cells.{IsCell, held, IsParcel, claim_at, slot_at, word_of, bits_of, cause_bits}
+use Rattle.steps.specs.Rule.{owns, Ruled, Extends}
+use Rattle.steps.specs.Plays.{sure, replied_with, parked}
+use Rattle.steps.proofs.Numbers.{other_cell, other_age, one_word, one_result}
 use Rattle.steps.proofs.Served.{plain_answers, plain_touches, plain_moves}
-use Rattle.steps.proofs.Roles.{as_lending, unowned, idle_apart, busy_apart}
-use Rattle.steps.proofs.Growing.{about, begins, ran, lent_stays, counted_in, open_lasts, kind_lasts, submission_lasts, placed_lasts, phase_stays}
+use Rattle.steps.proofs.Roles.{idle_apart}
+use Rattle.steps.proofs.Growing.{counted_in, submission_lasts, placed_lasts}
 use Rattle.steps.proofs.Frames.{may_stays, ages_stay, done_keeps}
-use Rattle.steps.proofs.Words.{says_of, running_word, done_word, DoneWord, cause_fits}
-use Rattle.steps.proofs.Steps.{Calm, Turns, adds, adds_claim, owned}
-use Rattle.steps.proofs.Combining.{in_hand, same_parcel, now_is, two_requests, tick, with_line, Does, There, shaped, seen_legal, lasts_now, lent_now, submits_now, reaped_now, replied_now, data_now, busy_now, lacks_now, vacant_now, extends, same_turns, ends_run, no_worker, looks_on, tries, sures, Out, home_again}
-use Rattle.steps.proofs.Path.{quiet_line, dec_req}
+use Rattle.steps.proofs.Words.{says_of, running_word, cause_fits}
+use Rattle.steps.proofs.Steps.{Calm, adds_claim, owned}
+use Rattle.steps.proofs.Combining.{now_is, tick, with_line, Does, There, seen_legal, lasts_now, busy_now, extends, ends_run, sures, Out, home_again}
+use Rattle.steps.proofs.Path.{quiet_line}
 
 module _ (slots id : ℕ) (me : Seated) where
   abbrev v : View

@@ -1,16 +1,16 @@
 -- What holds of the requests that the board serves so far: batches of one, of NOP and Invalid entries, without IO_DRAIN.
-use Rattle.std.proofs.Common.{◌≡◌, ℕ, ◌<◌, ◌≤◌, ◌⊎◌, Bool, true, false, cond, ◌&&◌, not, ℤ, pos, negsuc, List, [], ◌∷◌, Option, Some, None, sym, refl, ap, ◌∙◌, subst, ⊎_elim, arith, true≢false}
+use Rattle.std.proofs.Common.{◌≡◌, ℕ, ◌<◌, true, false, cond, ◌&&◌, not, ℤ, List, [], ◌∷◌, Option, Some, None, sym, refl, ap, ◌∙◌, subst, ⊎_elim, arith, true≢false}
 use Rattle.entry.specs.declared.op.Op.{Op}
 use Rattle.entry.specs.declared.op.Op.TheVariants.{Nop, Invalid}
 use Rattle.entry.specs.Entry.{Entry, links, drains}
 use Rattle.model.specs.declared.req.Req.{Req}
 use Rattle.model.specs.declared.event.Event.{Event}
 use Rattle.model.specs.declared.event.Event.TheVariants.{Submit}
-use Rattle.model.specs.History.{Submission, submission, same, submits, phase}
-use Rattle.model.specs.Chains.{is_link_timeout, is_timer, hosts, joins, placed_behind, placed_from, placed, IsPlaced, before_in, previous, IsChainBefore, Severed, IsClear, Open, gate_of, is_link_timeout_in}
-use Rattle.model.specs.Pipes.{Flow, flow, flows, flows_as}
+use Rattle.model.specs.History.{Submission, submission, same, submits}
+use Rattle.model.specs.Chains.{is_link_timeout, is_timer, hosts, joins, placed_behind, placed_from, placed, IsPlaced, before_in, previous, IsChainBefore, IsClear, gate_of, is_link_timeout_in}
+use Rattle.model.specs.Pipes.{Flow, flows, flows_as}
 use Rattle.model.specs.Answers.{OpAnswers, now}
-use Rattle.model.specs.Legal.{Setup, Legal, IsOf}
+use Rattle.model.specs.Legal.{Setup, Legal}
 use Rattle.model.proofs.Requests.{bool_cases}
 use Rattle.model.proofs.Growth.{submission_some}
 use Rattle.steps.specs.declared.line.Line.{Line}

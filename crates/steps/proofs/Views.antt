@@ -1,21 +1,20 @@
 -- What a view keeps between two steps of one call.
-use Rattle.std.proofs.Common.{◌≡◌, ℕ, ◌<◌, ◌≤◌, true, false, ℤ, List, [], ◌∷◌, ◌++◌, Some, eq-eqb, sym, refl, ap, ◌∙◌, subst, arith}
+use Rattle.std.proofs.Common.{◌≡◌, ℕ, ◌<◌, true, false, ℤ, List, ◌∷◌, ◌++◌, Some, eq-eqb, sym, refl, ap, ◌∙◌, subst, arith}
 use Rattle.entry.specs.Entry.{Entry}
 use Rattle.model.specs.declared.req.Req.{Req}
-use Rattle.model.specs.History.{Cause, unborn, replied, phase, submits, submission, was_shut, data_of}
+use Rattle.model.specs.History.{Cause, replied, phase, submits, submission, was_shut}
 use Rattle.model.specs.Chains.{IsPlaced}
 use Rattle.model.specs.Legal.{Setup, Legal}
 use Rattle.steps.specs.declared.line.Line.{Line}
 use Rattle.steps.specs.declared.line.Line.TheVariants.{Lent}
-use Rattle.steps.specs.declared.view.Layout.{Layout}
 use Rattle.steps.specs.declared.parcel.Parcel.{Parcel}
 use Rattle.steps.specs.declared.view.Role.{Role}
 use Rattle.steps.specs.declared.view.Role.TheVariants.{Submitter}
 use Rattle.steps.specs.declared.view.View.{View}
 use Rattle.steps.specs.Journal.{events_of}
 use Rattle.steps.specs.Cells.{setup_of, ring_of, held, IsParcel}
-use Rattle.steps.specs.Rule.{rings, stands_for, NoneOf, Vacant, Extends}
-use Rattle.steps.proofs.Growing.{submitted_in, submission_lasts, legal_before, counted_in, placed_lasts, lasts, still_reaped, still_replied, still_data, same_submits}
+use Rattle.steps.specs.Rule.{rings, stands_for, Vacant, Extends}
+use Rattle.steps.proofs.Growing.{submitted_in, submission_lasts, legal_before, counted_in, placed_lasts, lasts, still_reaped, still_replied, same_submits}
 
 pub layout_after : (v w : View) (l : Line) (role : Role) → Extends v l role w → w.layout ≡ v.layout
 layout_after v w l role x = ap (λ (z : View). z.layout) x.is

@@ -1,16 +1,16 @@
 -- What a claim word tells of its request, and the other way round.
-use Rattle.std.proofs.Common.{◌≡◌, ◌≢◌, ℕ, ◌+◌, ◌<◌, true, false, cond, ℤ, List, sym, refl, ap, ◌∙◌, subst, arith, eqb, eq-eqb}
+use Rattle.std.proofs.Common.{◌≡◌, ◌≢◌, ℕ, ◌<◌, true, false, ℤ, List, sym, refl, ◌∙◌, subst, arith, eqb, eq-eqb}
 use prog.Atomic.{either}
 use Rattle.claim.specs.declared.tag.Tag.{Tag}
 use Rattle.claim.specs.declared.tag.Tag.TheVariants.{Empty, Held, Ready, Running, Armed, Done}
 use Rattle.entry.specs.Entry.{Entry, fails}
 use Rattle.model.specs.declared.req.Req.{Req}
-use Rattle.model.specs.History.{Cause, by_reply, by_take, by_expire, by_fire, by_settle, by_sever, by_cut, Phase, unborn, waits, runs, armed, replied, reaped, phase, data_of}
+use Rattle.model.specs.History.{Cause, by_reply, by_take, by_expire, by_fire, by_settle, by_sever, by_cut, Phase, unborn, runs, replied, reaped, phase, data_of}
 use Rattle.model.specs.Chains.{IsPlaced}
 use Rattle.steps.specs.declared.line.Line.{Line}
 use Rattle.steps.specs.Journal.{events_of, lent}
-use Rattle.steps.specs.Cells.{held, Home, Keeps, Ages, Says, CellOk, word_of, bits_of, cause_bits, cause_number}
-use Rattle.steps.proofs.Numbers.{one_word, same_bits}
+use Rattle.steps.specs.Cells.{held, Home, Keeps, Ages, Says, CellOk, word_of, bits_of, cause_bits}
+use Rattle.steps.proofs.Numbers.{one_word}
 
 -- an exchange that is known to find its word
 pub certain : (n old new : ℕ) (F : ℕ → Type 0) → n ≡ old → F new → F (either (eqb n old) new n)

@@ -1,6 +1,6 @@
 -- Where the cells of the rings and the pipes lie in the table, and what their words and slots say.
 -- Word 0 is the clock, the words 1 to 64 are the pipes', and from word 72 on each cell has a line of eight: its claim word and seven note words. The slots 0 to 63 are the pipes', and then comes one a cell.
-use Rattle.std.specs.Prelude.{◌≡◌, ℕ, zero, suc, ◌+◌, ◌-◌, ◌*◌, ◌<◌, nat_lt, cond, Bool, true, false, List, [], ◌∷◌, ◌++◌, drop, length, ℤ, pos, negsuc, slice_index, Option, Some, None}
+use Rattle.std.specs.Prelude.{◌≡◌, ℕ, suc, ◌+◌, ◌-◌, ◌*◌, ◌<◌, nat_lt, cond, Bool, true, false, List, [], ◌∷◌, ◌++◌, drop, length, ℤ, pos, negsuc, slice_index, Option, Some, None}
 use mathlib.Core.Option as maybe
 use mathlib.Core.Option.{some}
 use lib.ListN.{get_elem?}
@@ -9,11 +9,10 @@ use Rattle.claim.specs.declared.tag.Tag.TheVariants.{Empty, Held, Ready, Running
 use Rattle.claim.specs.Claim.{packed}
 use Rattle.entry.specs.Entry.{Entry, fails}
 use Rattle.model.specs.declared.req.Req.{Req}
-use Rattle.model.specs.History.{Cause, by_reply, by_take, by_expire, by_fire, by_settle, by_sever, by_cut, Submission, submission, unborn, waits, runs, armed, replied, reaped, phase, data_of, Phase}
+use Rattle.model.specs.History.{Cause, by_reply, by_take, by_expire, by_fire, by_settle, by_sever, by_cut, submission, unborn, waits, runs, armed, replied, reaped, phase, data_of}
 use Rattle.model.specs.Chains.{is_timer, IsPlaced, Open}
 use Rattle.model.specs.Pipes.{Flow, flow, content, untouched}
 use Rattle.model.specs.Legal.{Setup, IsOf}
-use Rattle.pipe.specs.Pipe.{Conduit}
 use Rattle.steps.specs.declared.line.Line.{Line}
 use Rattle.steps.specs.declared.parcel.Parcel.{Parcel}
 use Rattle.steps.specs.declared.parcel.Thing.{Thing}

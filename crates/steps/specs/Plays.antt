@@ -1,9 +1,8 @@
 -- What each kind of step tells its seat.
-use Rattle.std.specs.Prelude.{◌≡◌, ◌≢◌, ℕ, ◌+◌, ◌*◌, ◌<◌, Bool, ℤ, List, [], ◌∷◌, Option, Some, None}
+use Rattle.std.specs.Prelude.{◌≡◌, ◌≢◌, ℕ, ◌<◌, ℤ, List, [], ◌∷◌, Option, Some, None}
 use Rattle.atomic_table.specs.Table.{Me, Step, rest}
 use Rattle.claim.specs.declared.tag.Tag.{Tag}
-use Rattle.claim.specs.declared.tag.Tag.TheVariants.{Empty, Held, Ready, Running, Done}
-use Rattle.entry.specs.Entry.{fails}
+use Rattle.claim.specs.declared.tag.Tag.TheVariants.{Done}
 use Rattle.model.specs.declared.req.Req.{Req}
 use Rattle.model.specs.declared.event.Event.TheVariants.{Submit, Begin, Park, Reply, Reap}
 use Rattle.model.specs.History.{Cause, phase, replied, data_of}
@@ -14,7 +13,7 @@ use Rattle.steps.specs.declared.parcel.Thing.TheVariants.{Full}
 use Rattle.steps.specs.declared.view.Role.TheVariants.{Submitter, Lending, Idle, Busy}
 use Rattle.steps.specs.declared.view.View.{View}
 use Rattle.steps.specs.Journal.{events_of, holder}
-use Rattle.steps.specs.Cells.{IsCell, held, word_of, claim_at, user_at, outcome_at, slot_at, bits_of, cause_bits, IsParcel}
+use Rattle.steps.specs.Cells.{IsCell, held, word_of, claim_at, user_at, outcome_at, slot_at, bits_of, IsParcel}
 use Rattle.steps.specs.Rule.{Looks, Extends, Shown, Vacant, IsStep}
 
 abbrev pub Seated : Type 0

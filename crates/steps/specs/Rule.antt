@@ -1,12 +1,12 @@
 -- The rule: one legal history that agrees with all words, and of which each seat has seen a beginning that lacks none of the seat's own lines.
-use Rattle.std.specs.Prelude.{◌≡◌, ◌≢◌, ℕ, suc, ◌-◌, ◌+◌, ◌*◌, ◌<◌, ◌≤◌, ◌⊎◌, Bool, true, false, not, ◌==◌, nat_le, nat_lt, ℤ, List, [], ◌∷◌, ◌++◌, length, slice_index, Option, Some, None}
+use Rattle.std.specs.Prelude.{◌≡◌, ◌≢◌, ℕ, suc, ◌-◌, ◌+◌, ◌*◌, ◌<◌, ◌≤◌, ◌⊎◌, Bool, true, false, not, ◌==◌, nat_le, nat_lt, ℤ, List, [], ◌∷◌, ◌++◌, length, slice_index, Option, Some}
 use mathlib.Core.Option.{some}
 use lib.ListN.{get_elem?}
 use Rattle.atomic_table.specs.Table.{State}
 use Rattle.atomic_table.specs.Seated.{TableId}
 use Rattle.atomic_table.specs.declared.shared.Seat.{Seat}
 use Rattle.model.specs.declared.req.Req.{Req}
-use Rattle.model.specs.declared.event.Event.TheVariants.{Submit, Begin, Park, Reply, Take, Miss, Tick, Arm, Expire, Fire, FireMiss, Settle, Sever, Reap, Shut, Cut}
+use Rattle.model.specs.declared.event.Event.TheVariants.{Submit, Begin, Park, Reply, Take, Miss, Reap}
 use Rattle.model.specs.History.{Cause, same, phase, runs, replied, reaped, submits, clock_of, was_shut, IsReplied}
 use Rattle.claim.specs.declared.tag.Tag.TheVariants.{Done}
 use Rattle.entry.specs.Entry.{Entry, fails}

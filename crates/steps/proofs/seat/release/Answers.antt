@@ -1,4 +1,4 @@
-use Rattle.std.proofs.Common.{◌≡◌, ℕ, true, sym, refl, subst, arith, eqb-true}
+use Rattle.std.proofs.Common.{◌≡◌, true, sym, refl, subst, arith, eqb-true}
 use Rattle.steps.specs.Rule.{pollers, stands_for}
 use Rattle.steps.proofs.Combining.{either_way}
 use Rattle.steps.proofs.Path.{release_allows}

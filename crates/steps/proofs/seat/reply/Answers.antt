@@ -1,4 +1,4 @@
-use Rattle.std.proofs.Common.{◌≡◌, ℤ, refl, sym, subst, ◌∙◌, ap, arith, of_z, w32}
+use Rattle.std.proofs.Common.{ℤ, refl, sym, subst, ◌∙◌, ap, arith, of_z, w32}
 use Rattle.std.proofs.lemmas.Int.{to_z-of_z}
 use mir.Val.{to_z}
 use Rattle.claim.specs.declared.tag.Tag.TheVariants.{Done}

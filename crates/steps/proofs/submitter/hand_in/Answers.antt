@@ -1,20 +1,4 @@
-use Rattle.std.proofs.Common.{◌≡◌, ℕ, ◌+◌, ◌*◌, ◌<◌, true, false, List, [], ◌∷◌, Some, None, sym, refl, ap, ◌∙◌, subst, arith, eq-eqb, cond, add-one}
-use Rattle.atomic_table.specs.Table.{rest}
-use Rattle.claim.specs.declared.tag.Tag.TheVariants.{Empty}
-use Rattle.model.specs.declared.req.Req.{Req}
-use Rattle.model.specs.declared.event.Event.TheVariants.{Submit, Reap}
-use Rattle.model.specs.History.{submits, data_of}
-use Rattle.steps.specs.declared.line.Line.TheVariants.{Did, Lent}
-use Rattle.steps.specs.declared.parcel.Parcel.{Parcel}
-use Rattle.steps.specs.declared.parcel.Thing.TheVariants.{Full}
-use Rattle.steps.specs.declared.view.Layout.{Layout}
-use Rattle.steps.specs.declared.view.View.{View}
-use Rattle.steps.specs.declared.view.Role.TheVariants.{Submitter, Lending}
-use Rattle.steps.specs.Journal.{events_of, Serves}
-use Rattle.steps.specs.Cells.{slot_at, user_at, outcome_at, held, ring_of, word_of, IsCell, IsParcel}
-use Rattle.steps.specs.Rule.{Extends, Vacant, IsDone, rings, stands_for}
-use Rattle.steps.proofs.Combining.{in_hand, same_parcel}
-use Rattle.steps.proofs.Views.{layout_after, role_after, parts_after, submits_after, vacant_after, replied_after, placed_after, submitter_can, parcel_after}
+use Rattle.std.proofs.Common.{refl, arith}
 use Rattle.steps.proofs.Giving.{submit_allows}
 use Rattle.steps.proofs.submitter.hand_in.Goals as goal
 

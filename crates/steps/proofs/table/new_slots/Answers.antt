@@ -1,4 +1,4 @@
-use Rattle.std.proofs.Common.{◌≡◌, ℕ, ◌<◌, ◌≤◌, ◌+◌, sym, refl, ap, ◌∙◌, subst, arith, Option, Some, None, List, length}
+use Rattle.std.proofs.Common.{◌≤◌, sym, subst, arith, Option, length}
 use Rattle.model.specs.Pipes.{untouched}
 use Rattle.steps.specs.declared.parcel.Thing.{Thing}
 use Rattle.steps.specs.Cells.{PipeIs}
