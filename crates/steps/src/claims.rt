@@ -38,13 +38,6 @@ pub fn running(generation: u32) -> u64
     pack(ClaimWord::running(generation))
 }
 
-/// The bits of a reply.
-pub fn bits(res: i32) -> u32
-    ensures { bits_of res result }
-{
-    res.cast_unsigned()
-}
-
 /// A worker answered the request.
 pub fn done(generation: u32, fails: bool, res: i32) -> u64
     requires { generation < 16777216 }

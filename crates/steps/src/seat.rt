@@ -1,7 +1,7 @@
 //! Single steps of a seat on a request's path.
 ghost use Rattle.std.specs.Prelude.{◌≡◌, ◌≢◌, ℕ, ℤ, suc, ◌+◌, ◌*◌, ◌<◌, ◌≤◌, Bool, true, false, cond, List, [], ◌∷◌, Option, Some, None};
 ghost use Rattle.atomic_table.specs.Table.{rest};
-ghost use Rattle.claim.specs.declared.tag.Tag.TheVariants.{Done};
+ghost use Rattle.claim.specs.declared.tag.Tag.TheVariants.{Held, Ready, Done};
 ghost use Rattle.entry.specs.Entry.{Entry, fails as fails_with};
 ghost use Rattle.model.specs.declared.req.Req.{Req};
 ghost use Rattle.model.specs.declared.event.Event.TheVariants.{Begin, Park, Submit, Reply, Reap};
@@ -42,6 +42,7 @@ pub fn release(words: &Words, seat: &mut Place, cell: usize, generation: u32) ->
     ensures seat { IsSameSeat seat.old seat.new × (seat.new.me.1 ≡ seat.old.me.1) }
     ensures frees { result ≡ true → Extends seat.old.me.0 (Freed (held seat.old.me.0.layout.cells cell generation)) seat.old.me.0.role seat.new.me.0 }
     ensures looks { result ≢ true → Looks seat.old.me.0 seat.new.me.0 }
+    ensures missed { result ≢ true → (n : ℕ) × IsStep (claim_at cell) n seat.old.me.0 seat.new.me.0 × Shown seat.old.me.0.layout.cells seat.new.me.0.seen cell n × (n ≢ word_of Held 0 generation 0) }
 {
     let held = claims::held(generation);
     let ready = claims::ready(generation);
@@ -56,6 +57,7 @@ pub fn begin(words: &Words, seat: &mut Place, cell: usize, generation: u32) -> b
     ensures seat { IsSameSeat seat.old seat.new }
     ensures begins { result ≡ true → Extends seat.old.me.0 (Did (Begin (held seat.old.me.0.layout.cells cell generation))) (Busy (held seat.old.me.0.layout.cells cell generation)) seat.new.me.0 × Hands seat.new.me cell (held seat.old.me.0.layout.cells cell generation) [] seat.old.me.1 × ((p : ℕ) → holder seat.new.me.0.seen p ≢ Some (held seat.old.me.0.layout.cells cell generation)) }
     ensures looks { result ≢ true → Looks seat.old.me.0 seat.new.me.0 × (seat.new.me.1 ≡ seat.old.me.1) }
+    ensures missed { result ≢ true → (n : ℕ) × IsStep (claim_at cell) n seat.old.me.0 seat.new.me.0 × Shown seat.old.me.0.layout.cells seat.new.me.0.seen cell n × (n ≢ word_of Ready 0 generation 0) }
 {
     let ready = claims::ready(generation);
     let running = claims::running(generation);

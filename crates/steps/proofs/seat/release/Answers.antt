@@ -1,4 +1,4 @@
-use Rattle.std.proofs.Common.{◌≡◌, true, sym, refl, subst, arith, eqb-true}
+use Rattle.std.proofs.Common.{◌∙◌, eq-eqb, ◌≡◌, true, sym, refl, subst, arith, eqb-true}
 use Rattle.steps.specs.Rule.{pollers, stands_for}
 use Rattle.steps.proofs.Combining.{either_way}
 use Rattle.steps.proofs.Path.{release_allows}
@@ -16,3 +16,6 @@ returns-clause-seat c = let f = c.requires.fits in let p = c.compare_exchange.en
   (c.compare_exchange.ensures.0, c.compare_exchange.ensures.1),
   either_way c.compare_exchange.result c.held-held.result _ (λ hit. (p hit c.args.cell c.args.generation 0 refl f.2 c.requires.small (omega arith) c.held-held.ensures).1) (λ miss. (m miss).1),
 )
+
+pub returns-clause-missed : goal.returns-clause-missed
+returns-clause-missed c = let f = c.requires.fits in λ ne. let m = c.compare_exchange.ensures.2.1 (λ hit. ne (eq-eqb _ _ hit)) in (c.compare_exchange.result, m.3, m.2 c.args.cell refl f.2, λ e. ne (eq-eqb _ _ (e ∙ sym c.held-held.ensures)))
