@@ -1,16 +1,27 @@
 //! A completion queue entry.
-ghost use Rattle.std.specs.Prelude.{◌≡◌, ◌==◌, ◌↔◌, ◌≢◌, IfSome, IsNone, IsTrue, ◌&&◌};
+ghost use Rattle.std.specs.Prelude.{Some, codes, decimal, ◌++◌, ◌≡◌, ◌==◌, ◌↔◌, ◌≢◌, IfSome, IsNone, IsTrue, ◌&&◌};
+ghost use Rattle.std.specs.Fmt.{signed_decimal};
 ghost use Rattle.entry.specs.declared.cqe.Cqe.{Cqe};
 ghost use Rattle.entry.specs.Table.{is_i32, is_u64};
 ghost use Rattle.entry.specs.Text.{cqe_text, number_at};
 
 use crate::field::{i32_at, put_i32, put_u64, u32_at, u64_at};
+use std::fmt;
 
 /// A completion: the user_data of the entry, and its reply. A negative reply is an error number of errno(3).
 #[derive(Clone, Copy, PartialEq, Eq, Debug)]
 pub struct Cqe {
     pub user_data: u64,
     pub res: i32,
+}
+
+impl fmt::Display for Cqe {
+    ghost output = { λ c. Some (codes "ud " ++ (decimal c.user_data ++ (codes " res " ++ signed_decimal c.res))) };
+
+    fn fmt<W: fmt::Write>(&self, f: &mut fmt::Formatter<W>) -> fmt::Result {
+        let (user_data, res) = (self.user_data, self.res);
+        write!(f, "ud {user_data} res {res}")
+    }
 }
 
 impl Cqe {

@@ -7,8 +7,11 @@ mod field;
 pub mod flags;
 pub mod op;
 pub mod row;
+mod shown;
 pub mod sqe;
 pub mod table;
+#[cfg(test)]
+mod tests;
 
 pub use cqe::Cqe;
 pub use flags::SqeFlags;

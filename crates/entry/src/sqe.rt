@@ -88,7 +88,8 @@ impl Sqe {
         ensures row { result ≡ table_row self.now.op }
         ensures fits { IsTrue (fits self.now) }
     {
-        self.op.row()
+        let Sqe { op, .. } = self;
+        op.row()
     }
 
     /// The entry that a row with these flags and this user_data stands for: Invalid where the values are not those that

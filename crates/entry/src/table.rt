@@ -3,9 +3,9 @@
 /// The table of opcodes, a line a row. `by_opcode!(body!(args))` is `body! { (args) row; row; .. }` over all rows, and
 /// `by_opcode!(Read: body!(args))` is `body! { (args) row; }` over the row of READ. A row is
 ///
-/// `"NAME" Variant { fields } = opcode: [fd] [off] [addr] [len] [flags word] [flags] [fails];`
+/// `"text" Variant { fields } = opcode: [fd] [off] [addr] [len] [flags word] [flags] [fails];`
 ///
-/// and a column tells what stands there: one value, or a word for the kind of value and the field of `Op` that has it.
+/// where the text is a format of the fields, and a column tells what stands there: one value, or a word for the kind of value and the field of `Op` that has it.
 #[macro_export]
 macro_rules! by_opcode {
     ($body:ident!($($args:tt)*)) => {
@@ -19,28 +19,28 @@ macro_rules! by_opcode {
         $crate::by_opcode!($($then)* { "NOP" Nop {} = 0: [none] [zero] [zero] [zero] [zero] [drain] [negative] })
     };
     (@row PollAdd [$($then:tt)*]) => {
-        $crate::by_opcode!($($then)* { "POLL_ADD" PollAdd { fd, mask } = 6: [any fd] [zero] [zero] [zero] [mask mask] [drain] [negative] })
+        $crate::by_opcode!($($then)* { "POLL_ADD fd {fd} mask {mask}" PollAdd { fd, mask } = 6: [any fd] [zero] [zero] [zero] [mask mask] [drain] [negative] })
     };
     (@row Timeout [$($then:tt)*]) => {
-        $crate::by_opcode!($($then)* { "TIMEOUT" Timeout { ticks, etime_success } = 11: [none] [zero] [ticks ticks] [one] [etime etime_success] [drain] [unless_etime etime_success] })
+        $crate::by_opcode!($($then)* { "TIMEOUT ticks {ticks} etime-ok {etime_success}" Timeout { ticks, etime_success } = 11: [none] [zero] [ticks ticks] [one] [etime etime_success] [drain] [unless_etime etime_success] })
     };
     (@row TimeoutRemove [$($then:tt)*]) => {
-        $crate::by_opcode!($($then)* { "TIMEOUT_REMOVE" TimeoutRemove { user_data } = 12: [none] [zero] [target user_data] [zero] [zero] [drain] [negative] })
+        $crate::by_opcode!($($then)* { "TIMEOUT_REMOVE target {user_data}" TimeoutRemove { user_data } = 12: [none] [zero] [target user_data] [zero] [zero] [drain] [negative] })
     };
     (@row AsyncCancel [$($then:tt)*]) => {
-        $crate::by_opcode!($($then)* { "ASYNC_CANCEL" AsyncCancel { user_data } = 14: [none] [zero] [target user_data] [zero] [zero] [drain] [negative] })
+        $crate::by_opcode!($($then)* { "ASYNC_CANCEL target {user_data}" AsyncCancel { user_data } = 14: [none] [zero] [target user_data] [zero] [zero] [drain] [negative] })
     };
     (@row LinkTimeout [$($then:tt)*]) => {
-        $crate::by_opcode!($($then)* { "LINK_TIMEOUT" LinkTimeout { ticks } = 15: [none] [zero] [ticks ticks] [one] [zero] [no_drain] [never] })
+        $crate::by_opcode!($($then)* { "LINK_TIMEOUT ticks {ticks}" LinkTimeout { ticks } = 15: [none] [zero] [ticks ticks] [one] [zero] [no_drain] [never] })
     };
     (@row Close [$($then:tt)*]) => {
-        $crate::by_opcode!($($then)* { "CLOSE" Close { fd } = 19: [any fd] [zero] [zero] [zero] [zero] [drain] [negative] })
+        $crate::by_opcode!($($then)* { "CLOSE fd {fd}" Close { fd } = 19: [any fd] [zero] [zero] [zero] [zero] [drain] [negative] })
     };
     (@row Read [$($then:tt)*]) => {
-        $crate::by_opcode!($($then)* { "READ" Read { fd, offset, len } = 22: [any fd] [place offset] [zero] [count len] [zero] [drain] [short len] })
+        $crate::by_opcode!($($then)* { "READ fd {fd}{offset} len {len}" Read { fd, offset, len } = 22: [any fd] [place offset] [zero] [count len] [zero] [drain] [short len] })
     };
     (@row Write [$($then:tt)*]) => {
-        $crate::by_opcode!($($then)* { "WRITE" Write { fd, offset, len } = 23: [any fd] [place offset] [zero] [count len] [zero] [drain] [short len] })
+        $crate::by_opcode!($($then)* { "WRITE fd {fd}{offset} len {len}" Write { fd, offset, len } = 23: [any fd] [place offset] [zero] [count len] [zero] [drain] [short len] })
     };
 
     (@all [$($rest:ident)*] [$($rows:tt)*] $body:ident ($($args:tt)*) { $($row:tt)* }) => {
@@ -55,14 +55,14 @@ macro_rules! by_opcode {
 }
 
 /// The supported flags, a line a flag: `by_flag!(body!(args))` is `body! { (args) flag; flag; .. }`, where a flag is
-/// `CONSTANT = value: "word" [kind];`, in the order of the bits.
+/// `CONSTANT = value: " word" [kind];`, in the order of the bits.
 #[macro_export]
 macro_rules! by_flag {
     ($body:ident!($($args:tt)*)) => {
         $body! { ($($args)*)
-            IO_DRAIN = 2: "drain" [drain];
-            IO_LINK = 4: "link" [link];
-            IO_HARDLINK = 8: "hard" [link];
+            IO_DRAIN = 2: " drain" [drain];
+            IO_LINK = 4: " link" [link];
+            IO_HARDLINK = 8: " hard" [link];
         }
     };
 }
