@@ -4,6 +4,7 @@ ghost use Rattle.std.specs.Int.{w32, cast_signed, cast_unsigned};
 ghost use Rattle.claim.specs.Claim.{Claim, allows, cause_of, fits, is_refused, packed};
 
 use crate::tag::{Cause, Tag};
+use std::fmt;
 use std::marker::Model;
 
 /// What a cell's word says of its request. The cause is 0 unless the tag is Done. The payload is the deadline of an Armed
@@ -34,6 +35,33 @@ const FAILS: u8 = 8;
 
 /// The first number that is no generation: a generation has 24 bits.
 pub const GENERATIONS: u32 = 0x100_0000;
+
+impl fmt::Display for ClaimWord {
+    ghost use Rattle.std.specs.Prelude.{Some};
+    ghost use Rattle.claim.specs.Claim.{claim_text};
+
+    ghost output = { λ w. Some (claim_text w) };
+
+    fn fmt<W: fmt::Write>(&self, f: &mut fmt::Formatter<W>) -> fmt::Result {
+        let (generation, cause, payload, reply) = (
+            self.generation,
+            self.cause,
+            self.payload,
+            self.reply(),
+        );
+        match self.tag {
+            Tag::Empty => write!(f, "EMPTY generation {generation}"),
+            Tag::Held => write!(f, "HELD generation {generation}"),
+            Tag::Ready => write!(f, "READY generation {generation}"),
+            Tag::Running => write!(f, "RUNNING generation {generation}"),
+            Tag::Armed => write!(f, "ARMED generation {generation} deadline {payload}"),
+            Tag::Done => write!(
+                f,
+                "DONE generation {generation} cause {cause} reply {reply}"
+            ),
+        }
+    }
+}
 
 impl ClaimWord {
     /// The word of a cell without a request. The next one that it gets has this generation.
