@@ -5,4 +5,4 @@ pub mod grid;
 pub mod worker;
 
 pub use grid::{Grid, Spot};
-pub use worker::{Busy, Worker};
+pub use worker::{Busy, Ran, Worker};

@@ -1,13 +1,16 @@
 //! A worker's pass, and a worker that runs a request.
-ghost use Rattle.std.specs.Prelude.{◌≡◌, ◌≢◌, ℕ, ◌<◌, ◌≤◌, ◌⊎◌, [], ◌∷◌, Some, length, IfOk, IfErr};
-ghost use Rattle.model.specs.declared.event.Event.TheVariants.{Begin};
+ghost use Rattle.std.specs.Prelude.{◌≡◌, ◌≢◌, ℕ, ◌<◌, ◌≤◌, ◌⊎◌, [], ◌∷◌, true, Some, None, length, IfOk, IfErr};
+ghost use Rattle.model.specs.declared.event.Event.TheVariants.{Begin, Park};
 ghost use Rattle.steps.specs.declared.line.Line.TheVariants.{Did};
 ghost use Rattle.steps.specs.declared.parcel.Parcel.{Parcel};
 ghost use Rattle.steps.specs.declared.parcel.Thing.TheVariants.{Full};
-ghost use Rattle.steps.specs.declared.view.Role.TheVariants.{Busy as RoleBusy};
+ghost use Rattle.steps.specs.declared.view.Role.TheVariants.{Idle, Busy as RoleBusy};
+ghost use Rattle.steps.specs.Journal.{is_served, PlainAnswer};
+ghost use Rattle.steps.specs.Cells.{slot_at};
 ghost use Rattle.steps.specs.Rule.{Looks, Extends};
 
 use crate::grid::Grid;
+use entry::{Cqe, Op, Sqe, fails};
 use model::Req;
 use std::marker::Model;
 use steps::{Parcel, Place, Thing, Words, seat};
@@ -125,10 +128,24 @@ fn plain_answer(sqe: &Sqe) -> i32
     }
 }
 
+/// Puts the parcel back into the slot that the seat has.
+fn put_back(words: &Words, place: &mut Place, cell: usize, parcel: Parcel)
+    requires table { place.old.table_id ≡ words.now.table_id }
+    requires out { place.old.me.1 ≡ (slot_at cell, None) ∷ [] }
+    requires small { cell < 16384 }
+    ensures seat { (place.new.table_id ≡ place.old.table_id) × (place.new.id ≡ place.old.id) × (place.new.me ≡ (place.old.me.0, (slot_at cell, Some (Full parcel)) ∷ [])) }
+{
+    let None = words.exchange(place, cell + 64, Some(Thing::Full(parcel))) else {
+        unreachable!()
+    };
+}
+
 impl<'a> Busy<'a> {
+    ghost use Rattle.work.specs.Runs.{IsRun};
+
     /// Puts the request back to Ready.
     pub fn park(self) -> Worker
-        ensures parked { (result.table ≡ self.pass.table) × Extends self.pass.view (Did (Park self.req)) Idle result.view }
+        ensures parked { (result.table ≡ self.entry.pass.table) × Extends self.entry.pass.view (Did (Park self.entry.req)) Idle result.view }
     {
         let Busy {
             words,
@@ -145,8 +162,8 @@ impl<'a> Busy<'a> {
 
     /// Answers the request.
     pub fn run(self) -> (Worker, Ran)
-        ensures worker { result.0.table ≡ self.pass.table }
-        ensures replied { IsRun self result.0 result.1 }
+        ensures worker { result.0.table ≡ self.entry.pass.table }
+        ensures replied { IsRun self.entry result.0 result.1 }
     {
         let Busy {
             words,
