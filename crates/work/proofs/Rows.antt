@@ -1,6 +1,5 @@
 -- A row of the grid tells where its ring's cells lie.
-use Rattle.std.proofs.Common.{◌≡◌, ℕ, zero, suc, ◌+◌, ◌-◌, ◌*◌, ◌/◌, ◌%◌, ◌<◌, ◌≤◌, nat_lt, Bool, true, false, cond, List, [], ◌∷◌, length, get_or, sym, refl, ap, ◌∙◌, subst, arith, ltb-true, lt-ltb, le-ltb}
-use Rattle.model.specs.declared.req.Req.{Req}
+use Rattle.std.proofs.Common.{◌≡◌, ℕ, zero, suc, ◌+◌, ◌-◌, ◌*◌, ◌/◌, ◌%◌, ◌<◌, ◌≤◌, nat_lt, true, false, cond, List, [], ◌∷◌, length, get_or, sym, refl, ap, ◌∙◌, subst, arith, ltb-true, lt-ltb, le-ltb}
 use Rattle.work.specs.declared.grid.Row.{Row}
 use Rattle.work.specs.Grid.{cells_of, RowsFrom}
 use Rattle.steps.specs.Cells.{IsCell, held, total, cells_in, ring_of, place_of}

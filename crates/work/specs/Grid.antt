@@ -1,7 +1,6 @@
 -- The cells of the rings as a table of rows.
-use Rattle.std.specs.Prelude.{◌≡◌, ℕ, zero, suc, ◌+◌, ◌<◌, ◌≤◌, List, [], ◌∷◌, length, map}
+use Rattle.std.specs.Prelude.{◌≡◌, ℕ, ◌+◌, ◌<◌, ◌≤◌, List, [], ◌∷◌}
 use Rattle.work.specs.declared.grid.Row.{Row}
-use Rattle.steps.specs.Cells.{total}
 
 abbrev pub cells_of : List Row → List ℕ
 cells_of [] = []

@@ -1,13 +1,10 @@
 -- What a run does.
-use Rattle.std.specs.Prelude.{◌≡◌, ℕ, List, [], ◌∷◌, ℤ}
+use Rattle.std.specs.Prelude.{◌≡◌, []}
 use Rattle.entry.specs.Entry.{Entry}
-use Rattle.entry.specs.declared.cqe.Cqe.{Cqe}
-use Rattle.model.specs.declared.req.Req.{Req}
 use Rattle.model.specs.declared.event.Event.TheVariants.{Reply}
 use Rattle.model.specs.Chains.{IsPlaced}
 use Rattle.steps.specs.declared.line.Line.TheVariants.{Did}
 use Rattle.steps.specs.declared.view.Role.TheVariants.{Idle}
-use Rattle.steps.specs.Journal.{events_of}
 use Rattle.steps.specs.Rule.{Extends}
 use Rattle.work.specs.declared.worker.Ran.{Ran}
 use Rattle.work.specs.declared.worker.Ran.TheVariants.{Replied}

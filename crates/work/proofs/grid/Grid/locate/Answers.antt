@@ -1,7 +1,5 @@
-use Rattle.std.proofs.Common.{◌≡◌, ℕ, ◌+◌, ◌*◌, ◌/◌, ◌%◌, ◌<◌, ◌≤◌, length, get_or, sym, refl, ap, ◌∙◌, subst, inl, inr, arith, ltb-false, List}
-use Rattle.steps.specs.Cells.{cells_in}
+use Rattle.std.proofs.Common.{ℕ, length, sym, ap, arith, ltb-false, List}
 use Rattle.work.specs.declared.grid.Row.{Row}
-use Rattle.work.specs.Grid.{cells_of}
 use Rattle.work.proofs.Rows.{cells_long, row_found, spot_says}
 use Rattle.work.proofs.grid.Grid.locate.Goals as goal
 

@@ -1,4 +1,4 @@
-use Rattle.std.proofs.Common.{◌≡◌, ℕ, ◌+◌, List, [], ◌∷◌, Some, sym, refl, ap, ◌∙◌, subst, arith}
+use Rattle.std.proofs.Common.{◌∷◌, Some, sym, refl, ap, ◌∙◌}
 use Rattle.atomic_table.specs.Table.{rest}
 use Rattle.steps.specs.declared.parcel.Thing.TheVariants.{Full}
 use Rattle.steps.specs.Cells.{slot_at}
