@@ -1,3 +1,7 @@
+pub mod Anys
 pub mod Growth
+pub mod Kept
+pub mod Listing
 pub mod Opening
 pub mod Requests
+pub mod Token

@@ -1,5 +1,7 @@
 pub mod Answers
 pub mod Chains
+pub mod Decides
 pub mod History
 pub mod Legal
 pub mod Pipes
+pub mod Seen

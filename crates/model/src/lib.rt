@@ -2,8 +2,12 @@
 #![tactic(auto)]
 
 pub mod bytes;
+mod chain;
 pub mod event;
+mod history;
 pub mod req;
+mod request;
+mod ring;
 
 pub use bytes::Bytes;
 pub use event::Event;
