@@ -1,7 +1,10 @@
 pub mod Answers
 pub mod Chains
+pub mod Content
 pub mod Decides
 pub mod History
 pub mod Legal
 pub mod Pipes
+pub mod Reaches
 pub mod Seen
+pub mod Tells

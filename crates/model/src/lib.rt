@@ -1,10 +1,12 @@
 //! The one-thread ring: its events, which of them may follow which, and the ring that carries them out.
 #![tactic(auto)]
 
+mod answer;
 pub mod bytes;
 mod chain;
 pub mod event;
 mod history;
+mod pipe;
 pub mod req;
 mod request;
 mod ring;
