@@ -1,4 +1,5 @@
 pub mod Anys
+pub mod Chained
 pub mod Ends
 pub mod Growth
 pub mod Kept
