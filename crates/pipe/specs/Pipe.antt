@@ -1,0 +1,14 @@
+-- What contracts see of a pipe: its capacity in bytes, the bytes in it (the oldest first), and which of its ends are closed (pipe(7)).
+use Rattle.std.specs.Prelude.{ℕ, ◌≤◌, Bool, List, length}
+
+pub record Conduit : Type 0 where
+  pub cap : ℕ
+  pub content : List ℕ
+  pub read_shut : Bool
+  pub write_shut : Bool
+
+-- what is true of every pipe: the limits of the capacity (this profile), and that no more is in it
+pub record IsConduit (c : Conduit) : Type 0 where
+  pub least : 1 ≤ c.cap
+  pub most : c.cap ≤ 65536
+  pub fits : length c.content ≤ c.cap
