@@ -33,7 +33,7 @@ module _ (xs : List Request) where
   pub severed_by : (k : ℕ) → severed_in xs k ≡ true → (m : ℕ) × (m < k) × Joined xs m k × (severs_at xs m ≡ true)
   severed_by zero is = absurd (true≢false (sym is))
   severed_by (suc k) is =
-      let j : joins (handed_in xs k) ≡ true = and_left _ _ is in let o : (severs_at xs k || severed_in xs k) ≡ true = and_right _ _ is in ⊎_elim
+      let j : joins (handed_in xs k) ≡ true = and_left (joins (handed_in xs k)) (severs_at xs k || severed_in xs k) is in let o : (severs_at xs k || severed_in xs k) ≡ true = and_right (joins (handed_in xs k)) (severs_at xs k || severed_in xs k) is in ⊎_elim
       (λ (w : severs_at xs k ≡ true). let lt : k < suc k = omega arith in
       (k, lt, joined_more xs k k (λ i a b. absurd (omega arith)) j, w))
       (λ (w : severs_at xs k ≡ false). let b = severed_by k (or_cases _ _ o (λ u. true≢false (sym u ∙ w))) in let lt : b.0 < suc k = omega (arith, b.1) in

@@ -5,5 +5,6 @@ pub mod Growth
 pub mod Kept
 pub mod Listing
 pub mod Opening
+pub mod Reading
 pub mod Requests
 pub mod Token
