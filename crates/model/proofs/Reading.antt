@@ -13,7 +13,7 @@ use Rattle.model.specs.declared.request.Stage.TheVariants.{Waits, Runs, Armed, R
 use Rattle.model.specs.History.{Phase, unborn, waits, runs, armed, replied, reaped, Submission, submission, phase, reply_in, reply, IsReplied, IsPending}
 use Rattle.model.specs.Chains.{joins, severs, previous, before_in, placed_behind, placed_from, placed, IsPlaced, IsBefore, IsChainBefore, Severed, IsClear}
 use Rattle.model.specs.Answers.{asks_for, Matches, IsFirst, NoneLeft}
-use Rattle.model.specs.Seen.{is_pending, reply_at, stage_of, Seen, seen, seen_of, handed_of, handed_at, handed_in, placed_in}
+use Rattle.model.specs.Seen.{is_pending, reply_at, stage_of, Seen, seen, seen_of, handed_of, handed_at, stage_at, handed_in, placed_in}
 use Rattle.model.specs.Decides.{reply_in_of, severs_at, severed_in, pending_of, chain_done, any_below, drains_of, blocks, held_back, clear_in, asked_for, wanted}
 use Rattle.model.proofs.Requests.{bool_cases, not_true, and_left, and_right}
 use Rattle.model.proofs.Anys.{any_at, any_found}
@@ -22,10 +22,6 @@ use Rattle.model.proofs.Chained.{severed_by, severed_from, done_by, done_from, s
 seen_handed : (o : Option Request) → (seen_of o).handed ≡ handed_at o
 seen_handed None = refl
 seen_handed (Some x) = refl
-
-abbrev pub stage_at : Option Request → Option Stage
-stage_at None = None
-stage_at (Some x) = Some x.stage
 
 seen_stage : (o : Option Request) → (seen_of o).stage ≡ stage_at o
 seen_stage None = refl

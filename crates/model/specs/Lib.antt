@@ -1,9 +1,11 @@
+pub mod Agrees
 pub mod Answers
 pub mod Chains
 pub mod Content
 pub mod Decides
 pub mod History
 pub mod Legal
+pub mod Machine
 pub mod Pipes
 pub mod Reaches
 pub mod Seen

@@ -63,6 +63,10 @@ abbrev pub handed_at : Option Request → Option Submission
 handed_at None = None
 handed_at (Some x) = Some (handed_of x)
 
+abbrev pub stage_at : Option Request → Option Stage
+stage_at None = None
+stage_at (Some x) = Some x.stage
+
 -- the requests of a ring, by number
 abbrev pub handed_in : List Request → ℕ → Option Submission
 handed_in xs k = handed_at (slice_get xs k)

@@ -10,6 +10,7 @@ mod pipe;
 pub mod req;
 mod request;
 mod ring;
+mod state;
 
 pub use bytes::Bytes;
 pub use event::Event;
