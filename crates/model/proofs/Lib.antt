@@ -4,6 +4,7 @@ pub mod Ends
 pub mod Growth
 pub mod Kept
 pub mod Listing
+pub mod Moving
 pub mod Opening
 pub mod Reading
 pub mod Requests

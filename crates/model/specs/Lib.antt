@@ -6,6 +6,7 @@ pub mod Decides
 pub mod History
 pub mod Legal
 pub mod Machine
+pub mod Moves
 pub mod Pipes
 pub mod Reaches
 pub mod Seen

@@ -3,14 +3,17 @@
 
 mod answer;
 pub mod bytes;
+mod cancel;
 mod chain;
 pub mod event;
 mod history;
+mod moves;
 mod pipe;
 pub mod req;
 mod request;
 mod ring;
 mod state;
+mod timing;
 
 pub use bytes::Bytes;
 pub use event::Event;
