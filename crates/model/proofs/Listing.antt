@@ -3,10 +3,11 @@ use Rattle.std.proofs.Common.{◌≡◌, ℕ, zero, suc, ◌+◌, ◌<◌, ◌==
 use Prim.Native.Nat.compare
 use lib.Dec.{compare_is_eq}
 use Rattle.std.specs.List.{slice_get, filter}
-use Rattle.std.proofs.lemmas.Option.{get_or_from_slice_get}
+use Rattle.std.proofs.lemmas.Option.{slice_get_read}
 use Rattle.model.specs.declared.request.Request.{Request}
 use Rattle.model.specs.Seen.{is_pending}
 use Rattle.model.specs.Decides.{pending_of, lists, Listed}
+use Rattle.model.specs.Moves.{put, put_at}
 use Rattle.model.proofs.Requests.{bool_cases, not_true}
 
 pub apart : (i j : ℕ) → ¬ (i ≡ j) → (i == j) ≡ false
@@ -83,8 +84,8 @@ pub others_left : (ms : List ℕ) (i k : ℕ) → (i == k) ≡ false → lists m
 others_left ms i k w l = lists_left (λ m. not (m == i)) ms k (not_true' (k == i) (apart k i (λ e. true≢false (sym (eq-eqb i k (sym e)) ∙ w)))) l
 
 -- a request was written
-pub written : (f : Request → Request) (xs ys : List Request) (k : ℕ) (d x : Request) → xs ≡ ys → d ≡ get_or xs k d → slice_get ys k ≡ Some x → set xs k (f d) ≡ set ys k (f x)
-written f xs ys k d x e v is = ap (λ (z : Request). set xs k (f z)) (v ∙ get_or_from_slice_get xs k x d (ap (λ zs. slice_get zs k) e ∙ is)) ∙ ap (λ zs. set zs k (f x)) e
+pub written : (f : Request → Request) (xs ys : List Request) (k : ℕ) (d : Request) → xs ≡ ys → k < length xs → d ≡ get_or xs k d → set xs k (f d) ≡ put ys k f
+written f xs ys k d e lt v = sym (ap (put_at xs k f) (slice_get_read xs (length xs) k d refl lt v)) ∙ ap (λ zs. put zs k f) e
 
 pub Listed-stage : (xs : List Request) (ms ns : List ℕ) (k : ℕ) (y : Request) → k < length xs → Listed xs ms → ns ≡ filter (λ m. not (m == k)) ms → is_pending y.stage ≡ false → Listed (set xs k y) ns
 Listed-stage xs ms ns k y lt l e f = Listed-set xs ms ns k y lt l (λ i w j. rw e (others_left ms k i w j)) (λ p. absurd (true≢false (sym p ∙ f)))

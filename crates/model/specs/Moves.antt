@@ -30,6 +30,9 @@ put_found xs k f = put xs k (λ x. record x { found = f })
 abbrev pub put_fired : List Request → ℕ → List Request
 put_fired xs k = put xs k (λ x. record x { fired = true })
 
+abbrev pub put_taken : List Request → ℕ → List ℕ → List Request
+put_taken xs k bs = put xs k (λ x. record x { taken = bs })
+
 abbrev pub is_waits : Option Stage → Bool
 is_waits (Some Waits) = true
 is_waits _ = false

@@ -23,7 +23,7 @@ impl Ring {
         target < cancel && self.is_wanted(op, target) && !self.any_wanted(op, target)
     }
 
-    #[tactic(auto, using(crate::proofs::Moving::stage_within))]
+    #[tactic(auto, using(crate::proofs::Moving::stage_within, crate::proofs::Moving::found_length))]
     pub fn take(&mut self, cancel: u64, target: u64) -> bool
         ensures may { result ≡ may_take self.old cancel target }
         ensures after { self.new ≡ cond result (put_stage (put_found self.old cancel Took) target cancelled) self.old }

@@ -70,7 +70,7 @@ impl Ring {
         true
     }
 
-    #[tactic(auto, using(crate::proofs::Moving::stage_within))]
+    #[tactic(auto, using(crate::proofs::Moving::stage_within, crate::proofs::Moving::put_reaped_is))]
     pub fn reap(&mut self, k: u64) -> bool
         ensures may { result ≡ may_reap self.old k }
         ensures after { self.new ≡ cond result (put_reaped self.old k) self.old }

@@ -73,7 +73,7 @@ impl Ring {
         }
     }
 
-    #[tactic(auto, using(crate::proofs::Moving::stage_within))]
+    #[tactic(auto, using(crate::proofs::Moving::stage_within, crate::proofs::Moving::fired_length))]
     pub fn fire(&mut self, clock: u32, timer: u64, target: u64) -> bool
         ensures may { result ≡ may_fire clock self.old timer target }
         ensures after { self.new ≡ cond result (put_stage (put_fired self.old timer) target cancelled) self.old }
