@@ -2,10 +2,13 @@ pub mod Anys
 pub mod Chained
 pub mod Ends
 pub mod Growth
+pub mod Keeping
 pub mod Kept
 pub mod Listing
 pub mod Moving
 pub mod Opening
 pub mod Reading
+pub mod Phases
 pub mod Requests
+pub mod Singles
 pub mod Token

@@ -112,17 +112,17 @@ module _ (h : List Event) (i : ℕ) (xs : List Request) (reads : (k : ℕ) → s
       severed_from xs k q.k v.3.0.1 (λ m x y. sym (joins_is m) ∙ v.3.1 m x y)
       (severs_at_from xs q.k v.1 v.2 (sym (placed_is q.k) ∙ ap (placed h) (sym e) ∙ v.4) (sym (reply_is q.k) ∙ ap (reply h) (sym e) ∙ v.5) v.6)
 
-  here : (q : Req) (k : ℕ) → IsBefore q (at k) → q ≡ at q.k
+  pub here : (q : Req) (k : ℕ) → IsBefore q (at k) → q ≡ at q.k
   here q k b j = record { ring = b.0 j; k = q.k }
 
   -- the request before k is kept too
-  kept_before : (k m : ℕ) (x : Request) → slice_get xs k ≡ Some x → m < k → (y : Request) × (slice_get xs m ≡ Some y)
+  pub kept_before : (k m : ℕ) (x : Request) → slice_get xs k ≡ Some x → m < k → (y : Request) × (slice_get xs m ≡ Some y)
   kept_before k m x is lt = let le : k < length xs = slice_get_within xs k x is in let m' : m < length xs = omega arith in (get_or xs m x, slice_get-get_or xs m x m')
 
-  placed_of : (k : ℕ) (y : Request) → slice_get xs k ≡ Some y → placed_in xs k ≡ Some (placed_behind (cond (k == 0) None (handed_in xs (k - 1))) y.sqe)
+  pub placed_of : (k : ℕ) (y : Request) → slice_get xs k ≡ Some y → placed_in xs k ≡ Some (placed_behind (cond (k == 0) None (handed_in xs (k - 1))) y.sqe)
   placed_of k y is = ap (λ o. placed_from (cond (k == 0) None (handed_in xs (k - 1))) (handed_at o)) is
 
-  drains_of_placed : (k : ℕ) (y : Request) (d : Entry) → slice_get xs k ≡ Some y → placed h (at k) ≡ Some d → drains d ≡ drains y.sqe
+  pub drains_of_placed : (k : ℕ) (y : Request) (d : Entry) → slice_get xs k ≡ Some y → placed h (at k) ≡ Some d → drains d ≡ drains y.sqe
   drains_of_placed k y d is p = drains_placed _ y.sqe d (sym (placed_of k y is) ∙ sym (placed_is k) ∙ p)
 
   module _ (k : ℕ) (x : Request) (is : slice_get xs k ≡ Some x) where

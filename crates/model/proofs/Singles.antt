@@ -1,0 +1,87 @@
+-- The events that one request alone decides: Begin, Park, Sever, Reap, Cut.
+use Rattle.std.proofs.Common.{◌≡◌, ℕ, zero, suc, ◌+◌, ◌-◌, ◌<◌, ◌≤◌, ◌==◌, ◌&&◌, not, Bool, true, false, cond, ℤ, negsuc, List, [], ◌∷◌, length, get_or, Option, Some, None, refl, sym, ap, ◌∙◌, subst, ⊎_elim, true≢false, eqb-true, eq-eqb, sub-one, arith}
+use Rattle.std.specs.List.{slice_get}
+use Rattle.std.proofs.lemmas.Option.{slice_get_within}
+use Rattle.entry.specs.Entry.{Entry}
+use Rattle.entry.specs.declared.op.Op.{Op}
+use Rattle.model.specs.declared.req.Req.{Req}
+use Rattle.model.specs.declared.event.Event.{Event}
+use Rattle.model.specs.declared.event.Event.TheVariants.{Begin, Park, Sever, Reap, Cut}
+use Rattle.model.specs.declared.request.Request.{Request}
+use Rattle.model.specs.declared.request.Stage.{Stage}
+use Rattle.model.specs.declared.request.Stage.TheVariants.{Waits, Runs, Armed, Replied, Reaped}
+use Rattle.model.specs.History.{Phase, waits, runs, armed, replied, phase, IsPending}
+use Rattle.model.specs.Chains.{placed, previous, placed_behind, is_link_timeout_in, gate_of, Open, IsClear, is_timer, Severed}
+use Rattle.model.specs.Legal.{MayCome, shut_for, IsOf}
+use Rattle.model.specs.Machine.{Machine, setup_of}
+use Rattle.model.specs.Seen.{Seen, seen, seen_of, stage_of, stage_at, placed_in, handed_in, find}
+use Rattle.model.specs.Decides.{clear_in, severed_in, pending_of}
+use Rattle.model.specs.Agrees.{Agrees, Carries, Decided}
+use Rattle.model.specs.Moves.{put, put_stage, is_waits, is_running, placed_as, gate_in, open_in, may_begin, may_park}
+use Rattle.model.proofs.Requests.{bool_cases, not_true, and_left, and_right}
+use Rattle.model.proofs.Moving.{put_length}
+use Rattle.model.proofs.Phases.{waits_from, runs_from}
+use Rattle.model.proofs.Reading.{stage_is, placed_is, placed_of, clear_is, was_clear, kept_before, severed_is, was_severed}
+use Rattle.model.proofs.Keeping.{row, put_row, row_within, Calm, same_setup, here_is, one_kept, decides}
+
+-- an event that changes nothing but requests
+calm_begin : (h : List Event) (r : Req) → Calm h (Begin r)
+calm_begin h r = record { counts = λ j. omega arith; flows = λ p. refl; clock = refl; shut = refl }
+
+some_waits : (o : Option Request) → is_waits (stage_at o) ≡ true → (x : Request) × (o ≡ Some x)
+some_waits None e = absurd (true≢false (sym e))
+some_waits (Some x) e = (x, refl)
+
+module _ (m : Machine) (h : List Event) (a : Agrees h m) (i : ℕ) where
+  abbrev xs : List Request
+  xs = row m.rings i
+
+  abbrev at : ℕ → Req
+  at k = record { ring = i; k = k }
+
+  reads : (k : ℕ) → seen h (at k) ≡ seen_of (slice_get xs k)
+  reads k = a.requests (at k)
+
+  gate_is : (k : ℕ) → gate_of h (at k) ≡ at (gate_in xs k)
+  gate_is k = ap (λ z. cond (is_link_timeout_in z) (previous (at k)) (at k)) (placed_is h i xs reads k) ∙ elim (is_link_timeout_in (placed_in xs k)) as (λ b. cond b (previous (at k)) (at k) ≡ at (cond b (k - 1) k)) [ true ↦ refl | false ↦ refl ]
+
+  before : (k : ℕ) (x : Request) → slice_get xs k ≡ Some x → (y : Request) × (slice_get xs (k - 1) ≡ Some y)
+  before zero x is = (x, is)
+  before (suc k) x is = let y = kept_before h i xs reads (suc k) k x is (omega arith) in (y.0, rw sub-one y.1)
+
+  gate_kept : (k : ℕ) (x : Request) → slice_get xs k ≡ Some x → (y : Request) × (slice_get xs (gate_in xs k) ≡ Some y)
+  gate_kept k x is = elim (is_link_timeout_in (placed_in xs k)) as (λ b. (y : Request) × (slice_get xs (cond b (k - 1) k) ≡ Some y)) [ true ↦ before k x is | false ↦ (x, is) ]
+
+  pub open_is : (k : ℕ) (x : Request) → slice_get xs k ≡ Some x → open_in xs k ≡ true → Open h (at k)
+  open_is k x is o = let y = gate_kept k x is in subst (λ (z : Req). IsClear h z) (sym (gate_is k)) (clear_is h i xs reads (gate_in xs k) y.0 y.1 o)
+
+  pub was_open : (k : ℕ) (x : Request) → slice_get xs k ≡ Some x → Open h (at k) → open_in xs k ≡ true
+  was_open k x is o = let y = gate_kept k x is in was_clear h i xs reads (gate_in xs k) y.0 y.1 (subst (λ (z : Req). IsClear h z) (gate_is k) o)
+
+  begin_may : (k : ℕ) → may_begin xs k ≡ true → MayCome (setup_of m) h (Begin (at k))
+  begin_may k b =
+      let w = and_left (is_waits (stage_at (slice_get xs k))) _ b in let r = and_right (is_waits (stage_at (slice_get xs k))) (open_in xs k && not (placed_as is_timer (placed_in xs k))) b in
+      let x = some_waits (slice_get xs k) w in let e = placed_of h i xs reads k x.0 x.1 in
+      let t : not (placed_as is_timer (placed_in xs k)) ≡ true = and_right (open_in xs k) _ r in
+      (waits_from (phase h (at k)) (ap is_waits (stage_is h i xs reads k) ∙ w), open_is k x.0 x.1 (and_left (open_in xs k) _ r),
+      (_, placed_is h i xs reads k ∙ e, not_true _ (λ u. true≢false (sym t ∙ ap not (ap (placed_as is_timer) e ∙ u)))))
+
+  may_begin_is : (k : ℕ) → MayCome (setup_of m) h (Begin (at k)) → may_begin xs k ≡ true
+  may_begin_is k c =
+      let w : is_waits (stage_at (slice_get xs k)) ≡ true = sym (ap is_waits (stage_is h i xs reads k)) ∙ ap (λ p. is_waits (stage_of p)) c.0 in
+      let x = some_waits (slice_get xs k) w in let o = was_open k x.0 x.1 c.1 in
+      let t : placed_as is_timer (placed_in xs k) ≡ false = ap (placed_as is_timer) (sym (placed_is h i xs reads k) ∙ c.2.1) ∙ c.2.2 in
+      rw (w, o, t) refl
+
+  begin_kept : (k : ℕ) → may_begin xs k ≡ true → m.shut ≡ false → Agrees (Begin (at k) ∷ h) (put_row m i (put_stage xs k Runs))
+  begin_kept k b s =
+      let x = some_waits (slice_get xs k) (and_left (is_waits (stage_at (slice_get xs k))) _ b) in let e = here_is m h a i k x.0 x.1 in
+      one_kept m h a i k x.0 x.1 (Begin (at k)) (λ z. record z { stage = Runs }) (begin_may k b) s (calm_begin h (at k))
+      (rw (eq-eqb i i refl, eq-eqb k k refl) (λ j. record { handed = (e j).handed; stage = Some Runs; found = (e j).found; fired = (e j).fired; taken = (e j).taken }))
+      (λ j w. rw (eq-eqb i i refl, w) refl)
+      (λ q w. rw w refl)
+
+pub begin_decides : (m n : Machine) (i k : ℕ) (b : Bool) → m.shut ≡ false → b ≡ may_begin (row m.rings i) k → n ≡ cond b (put_row m i (put_stage (row m.rings i) k Runs)) m → Decided b m (Begin (record { ring = i; k = k })) n
+begin_decides m n i k b s is after = decides b m (put_row m i (put_stage (row m.rings i) k Runs)) n (Begin (record { ring = i; k = k })) after
+    (λ t. (same_setup m i _, λ h a. (begin_may m h a i k (sym is ∙ t), begin_kept m h a i k (sym is ∙ t) s)))
+    (λ f h a c. true≢false (sym (may_begin_is m h a i k c) ∙ sym is ∙ f))
