@@ -1,5 +1,6 @@
 -- What is kept goes on agreeing with the history when the requests of one ring are written.
 use Rattle.std.proofs.Common.{◌≡◌, ℕ, zero, suc, ◌+◌, ◌-◌, ◌<◌, ◌≤◌, ◌==◌, ◌&&◌, ◌≢◌, not, Bool, true, false, cond, List, [], ◌∷◌, length, get_or, set, Option, Some, None, refl, sym, ap, ◌∙◌, subst, ⊎_elim, true≢false, eqb-true, eq-eqb, get_or-set_same, get_or-set_other, arith}
+use Rattle.std.proofs.lemmas.List.{set-get_or}
 use Rattle.std.specs.List.{slice_get}
 use Rattle.std.proofs.Math.ListN.{length-set}
 use Rattle.std.proofs.lemmas.Option.{slice_get_within}
@@ -94,3 +95,37 @@ module _ (m : Machine) (h : List Event) (a : Agrees h m) (i k : ℕ) (x : Reques
 pub decides : (b : Bool) (m n' n : Machine) (e : Event) → n ≡ cond b n' m → (b ≡ true → Carries m e n') → (b ≡ false → (h : List Event) → Agrees h m → ¬ MayCome (setup_of m) h e) → Decided b m e n
 decides true m n' n e is yes' no' = subst (λ (z : Machine). Carries m e z) (sym is) (yes' refl)
 decides false m n' n e is yes' no' = (is, no' refl)
+
+-- a contract over a row, as the code meets it
+get_or_same : (rings : List (List Request)) (i : ℕ) (c d : List Request) → i < length rings → get_or rings i c ≡ get_or rings i d
+get_or_same [] i c d lt = absurd (omega arith)
+get_or_same (r ∷ rs) zero c d lt = refl
+get_or_same (r ∷ rs) (suc i) c d lt = get_or_same rs i c d (omega arith)
+
+row_of : (rings : List (List Request)) (i : ℕ) (r : List Request) → i < length rings → r ≡ get_or rings i r → r ≡ row rings i
+row_of rings i r lt e = e ∙ get_or_same rings i r [] lt
+
+after_row : (m : Machine) (i : ℕ) (r s : List Request) (b : Bool) (ys : List Request → List Request) → i < length m.rings → r ≡ row m.rings i → s ≡ cond b (ys r) r → put_row m i s ≡ cond b (put_row m i (ys (row m.rings i))) m
+after_row m i r s true ys lt e f = ap (put_row m i) (f ∙ ap ys e)
+after_row m i r s false ys lt e f = ap (put_row m i) (f ∙ e) ∙ ap (λ (z : List (List Request)). let n : Machine = record m { rings = z } in n) (set-get_or m.rings i [])
+
+abbrev pub IsDecided : Event → ℕ → (Machine → List Request → Bool) → (List Request → List Request) → Type 0
+IsDecided e i may ys = (m n : Machine) (b : Bool) → m.shut ≡ shut_for e → b ≡ may m (row m.rings i) → n ≡ cond b (put_row m i (ys (row m.rings i))) m → Decided b m e n
+
+pub meets : (e : Event) (i : ℕ) (may : Machine → List Request → Bool) (ys : List Request → List Request) → IsDecided e i may ys
+    → (m now : Machine) → m ≡ now → (r s : List Request) (b : Bool) → now.shut ≡ shut_for e → i < length m.rings → r ≡ get_or m.rings i r → b ≡ may m r → s ≡ cond b (ys r) r → Decided b now e (put_row m i s)
+meets e i may ys dec m now v r s b sh lt is by-row after =
+    let one = row_of m.rings i r lt is in
+    subst (λ (z : Machine). Decided b z e (put_row m i s)) v
+    (dec m (put_row m i s) b (ap (λ (z : Machine). z.shut) v ∙ sh) (by-row ∙ ap (may m) one) (after_row m i r s b ys lt one after))
+
+-- no such ring
+no_row : (rings : List (List Request)) (i : ℕ) → length rings ≤ i → row rings i ≡ []
+no_row [] i le = refl
+no_row (r ∷ rs) zero le = absurd (omega arith)
+no_row (r ∷ rs) (suc i) le = no_row rs i (omega arith)
+
+pub misses : (e : Event) (i : ℕ) (may : Machine → List Request → Bool) (ys : List Request → List Request) → IsDecided e i may ys
+    → (m now : Machine) → m ≡ now → now.shut ≡ shut_for e → length m.rings ≤ i → may m [] ≡ false → Decided false now e m
+misses e i may ys dec m now v sh le never =
+    subst (λ (z : Machine). Decided false z e m) v (dec m m false (ap (λ (z : Machine). z.shut) v ∙ sh) (sym (ap (may m) (no_row m.rings i le) ∙ never)) refl)

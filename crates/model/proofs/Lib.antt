@@ -11,4 +11,5 @@ pub mod Reading
 pub mod Phases
 pub mod Requests
 pub mod Singles
+pub mod Untaken
 pub mod Token

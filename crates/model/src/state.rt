@@ -1,14 +1,11 @@
 //! What is kept of a run, and the events that change one request.
 ghost use Rattle.std.specs.Prelude.{◌≡◌, false};
-ghost use Rattle.model.specs.Seen.{find, stage_at};
 ghost use Rattle.model.specs.Agrees.{Decided};
 ghost use Rattle.model.specs.declared.event.Event.TheVariants.{Begin, Park};
 
 use crate::pipe::Pipe;
 use crate::req::Req;
-use crate::request::Stage;
 use crate::ring::Ring;
-use entry::Op;
 use std::marker::Model;
 
 #[derive(Drop)]
@@ -28,11 +25,14 @@ impl Model for State {
 }
 
 impl State {
-    /// Where the request stands, if it was submitted.
-    fn stage(&self, req: Req) -> Option<Stage>
-        ensures { result ≡ stage_at (find self.now.rings req) }
+    pub fn begin(&mut self, req: Req) -> bool
+        requires { self.old.shut ≡ false }
+        ensures { Decided result self.old (Begin req) self.new }
     {
-        let ring = self.rings.get(req.ring as usize)?;
-        Some(ring.get(req.k)?.stage)
+        let i = req.ring as usize;
+        if i >= self.rings.len() {
+            return false;
+        }
+        self.rings[i].begin(req.k)
     }
 }
