@@ -129,3 +129,7 @@ pub misses : (e : Event) (i : ℕ) (may : Machine → List Request → Bool) (ys
     → (m now : Machine) → m ≡ now → now.shut ≡ shut_for e → length m.rings ≤ i → may m [] ≡ false → Decided false now e m
 misses e i may ys dec m now v sh le never =
     subst (λ (z : Machine). Decided false z e m) v (dec m m false (ap (λ (z : Machine). z.shut) v ∙ sh) (sym (ap (may m) (no_row m.rings i le) ∙ never)) refl)
+
+-- a request is named by its ring and its number
+pub retarget : (E : Req → Event) (b : Bool) (m n : Machine) (i : ℕ) (t : Req) → i ≡ t.ring → Decided b m (E (record { ring = i; k = t.k })) n → Decided b m (E t) n
+retarget E b m n i t e d = subst (λ (z : Req). Decided b m (E z) n) (λ j. record { ring = e j; k = t.k }) d

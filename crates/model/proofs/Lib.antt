@@ -1,4 +1,5 @@
 pub mod Anys
+pub mod Cancels
 pub mod Chained
 pub mod Ends
 pub mod Growth
@@ -12,4 +13,5 @@ pub mod Phases
 pub mod Requests
 pub mod Singles
 pub mod Untaken
+pub mod Timed
 pub mod Token

@@ -30,7 +30,7 @@ use Rattle.model.proofs.Keeping.{row, put_row, row_within, Calm, same_setup, her
 calm_begin : (h : List Event) (r : Req) → Calm h (Begin r)
 calm_begin h r = record { counts = λ j. omega arith; flows = λ p. refl; clock = refl; shut = refl }
 
-some_waits : (o : Option Request) → is_waits (stage_at o) ≡ true → (x : Request) × (o ≡ Some x)
+pub some_waits : (o : Option Request) → is_waits (stage_at o) ≡ true → (x : Request) × (o ≡ Some x)
 some_waits None e = absurd (true≢false (sym e))
 some_waits (Some x) e = (x, refl)
 
@@ -41,7 +41,7 @@ module _ (m : Machine) (h : List Event) (a : Agrees h m) (i : ℕ) where
   abbrev at : ℕ → Req
   at k = record { ring = i; k = k }
 
-  reads : (k : ℕ) → seen h (at k) ≡ seen_of (slice_get xs k)
+  pub reads : (k : ℕ) → seen h (at k) ≡ seen_of (slice_get xs k)
   reads k = a.requests (at k)
 
   gate_is : (k : ℕ) → gate_of h (at k) ≡ at (gate_in xs k)
@@ -108,7 +108,7 @@ calm_reap h r = record { counts = λ j. omega arith; flows = λ p. refl; clock =
 calm_cut : (h : List Event) (r : Req) → Calm h (Cut r)
 calm_cut h r = record { counts = λ j. omega arith; flows = λ p. refl; clock = refl; shut = refl }
 
-some_runs : (o : Option Request) → is_running (stage_at o) ≡ true → (x : Request) × (o ≡ Some x)
+pub some_runs : (o : Option Request) → is_running (stage_at o) ≡ true → (x : Request) × (o ≡ Some x)
 some_runs None e = absurd (true≢false (sym e))
 some_runs (Some x) e = (x, refl)
 
@@ -120,7 +120,7 @@ some_pending : (o : Option Request) → pending_of o ≡ true → (x : Request) 
 some_pending None e = absurd (true≢false (sym e))
 some_pending (Some x) e = (x, refl)
 
-waits_unreplied : (p : Phase) → p ≡ waits → ¬ IsReplied p
+pub waits_unreplied : (p : Phase) → p ≡ waits → ¬ IsReplied p
 waits_unreplied p e r = subst IsReplied e r
 
 pending_unreplied : (p : Phase) → IsPending p → ¬ IsReplied p
