@@ -32,7 +32,7 @@ row_within (r ∷ rs) zero k x is = omega arith
 row_within (r ∷ rs) (suc i) k x is = let lt : i < length rs = row_within rs i k x is in omega arith
 
 -- the rows after a write
-row_put : (rings : List (List Request)) (i j : ℕ) (ys : List Request) → i < length rings → row (set rings i ys) j ≡ cond (i == j) ys (row rings j)
+pub row_put : (rings : List (List Request)) (i j : ℕ) (ys : List Request) → i < length rings → row (set rings i ys) j ≡ cond (i == j) ys (row rings j)
 row_put rings i j ys lt = ⊎_elim
     (λ (w : (i == j) ≡ true). let e : i ≡ j = eqb-true i j w in ap (λ z. row (set rings i ys) z) (sym e) ∙ get_or-set_same rings i ys [] lt ∙ sym (ap (λ b. cond b ys (row rings j)) w))
     (λ (w : (i == j) ≡ false). let n : j ≢ i = λ e. true≢false (sym (eq-eqb i j (sym e)) ∙ w) in get_or-set_other rings i j ys [] n ∙ sym (ap (λ b. cond b ys (row rings j)) w))

@@ -1,5 +1,5 @@
 -- What the events make of the requests of a ring.
-use Rattle.std.specs.Prelude.{ℕ, suc, ◌+◌, ◌-◌, ◌==◌, ◌&&◌, ◌||◌, not, nat_lt, nat_le, Bool, true, false, cond, ℤ, negsuc, List, Option, Some, None, slice_get, set}
+use Rattle.std.specs.Prelude.{ℕ, suc, ◌+◌, ◌-◌, ◌==◌, ◌&&◌, ◌||◌, not, nat_lt, nat_le, Bool, true, false, cond, ℤ, negsuc, List, [], length, Option, Some, None, slice_get, set}
 use Rattle.entry.specs.Entry.{Entry}
 use Rattle.entry.specs.declared.op.Op.{Op}
 use Rattle.entry.specs.declared.op.Op.TheVariants.{Timeout, LinkTimeout, Invalid}
@@ -11,7 +11,7 @@ use Rattle.model.specs.declared.request.Found.TheVariants.{Nothing, Took, Missed
 use Rattle.model.specs.Chains.{is_timer, is_timeout, is_link_timeout, is_link_timeout_in}
 use Rattle.model.specs.Legal.{ticks_of}
 use Rattle.model.specs.Seen.{is_pending, stage_at, placed_in}
-use Rattle.model.specs.Decides.{pending_of, severed_in, clear_in, any_below, wanted}
+use Rattle.model.specs.Decides.{runs_of, pending_of, severed_in, clear_in, any_below, wanted}
 
 abbrev pub put_at : List Request → ℕ → (Request → Request) → Option Request → List Request
 put_at xs k f None = xs
@@ -161,3 +161,11 @@ may_take xs c t = comes_upon xs c t && is_idle (stage_at (slice_get xs t))
 
 abbrev pub may_miss : List Request → ℕ → ℕ → Bool
 may_miss xs c t = comes_upon xs c t && is_running (stage_at (slice_get xs t))
+
+-- some request of the ring runs
+abbrev pub runs_in : List Request → Bool
+runs_in xs = any_below (λ m. runs_of (slice_get xs m)) (length xs)
+
+-- a request as it is handed in
+abbrev pub born : Entry → List ℕ → Bool → Request
+born e bytes last = record { sqe = e; bytes = bytes; last = last; stage = Waits; found = Nothing; fired = false; taken = [] }
