@@ -102,7 +102,7 @@ get_or_same [] i c d lt = absurd (omega arith)
 get_or_same (r ∷ rs) zero c d lt = refl
 get_or_same (r ∷ rs) (suc i) c d lt = get_or_same rs i c d (omega arith)
 
-row_of : (rings : List (List Request)) (i : ℕ) (r : List Request) → i < length rings → r ≡ get_or rings i r → r ≡ row rings i
+pub row_of : (rings : List (List Request)) (i : ℕ) (r : List Request) → i < length rings → r ≡ get_or rings i r → r ≡ row rings i
 row_of rings i r lt e = e ∙ get_or_same rings i r [] lt
 
 after_row : (m : Machine) (i : ℕ) (r s : List Request) (b : Bool) (ys : List Request → List Request) → i < length m.rings → r ≡ row m.rings i → s ≡ cond b (ys r) r → put_row m i s ≡ cond b (put_row m i (ys (row m.rings i))) m

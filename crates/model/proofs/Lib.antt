@@ -13,6 +13,6 @@ pub mod Phases
 pub mod Requests
 pub mod Singles
 pub mod Untaken
-pub mod Whole
+pub mod Wide
 pub mod Timed
 pub mod Token

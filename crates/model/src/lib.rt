@@ -14,6 +14,7 @@ mod request;
 mod ring;
 mod state;
 mod timing;
+mod whole;
 
 pub use bytes::Bytes;
 pub use event::Event;

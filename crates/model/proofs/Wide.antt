@@ -23,7 +23,7 @@ use Rattle.model.proofs.Anys.{any_at, any_found}
 use Rattle.model.proofs.Listing.{slice_get-push}
 use Rattle.model.proofs.Phases.{runs_from}
 use Rattle.model.proofs.Reading.{stage_is}
-use Rattle.model.proofs.Keeping.{row, put_row, row_put, row_within, same_setup}
+use Rattle.model.proofs.Keeping.{row, row_of, put_row, row_put, row_within, same_setup}
 
 pub tick_carries : (m : Machine) (n : ℕ) → m.shut ≡ false → m.clock ≤ n → n ≤ 2147483647 → Carries m (Tick n) (record m { clock = n })
 tick_carries m n s le top = (refl, λ h a. let may : MayCome (setup_of m) h (Tick n) = (subst (λ (z : ℕ). z ≤ n) (sym a.clock) le, top) in (may, record {
@@ -140,3 +140,16 @@ module _ (m : Machine) (i : ℕ) (e : Entry) (bytes : List ℕ) (last : Bool) wh
 
 pub submit_refuses : (m : Machine) (q : Req) (e : Entry) (bytes : List ℕ) (last : Bool) → (q.ring < length m.rings → q.k ≡ length (row m.rings q.ring) → Fits e bytes → ⊥) → Refuses m (Submit q e bytes last) m
 submit_refuses m q e bytes last out = (refl, λ h a c. out c.0 (c.1 ∙ a.counts q.ring) c.2)
+
+-- as the code meets it: the bytes are a copy, and no data have come
+pub submit_meets : (m now : Machine) → m ≡ now → (q : Req) (e : Entry) (bs : List ℕ) (last : Bool) (r s : List Request) (cs ts : List ℕ) → now.shut ≡ false → q.ring < length m.rings → r ≡ get_or m.rings q.ring r → q.k ≡ length r
+    → Fits e bs → cs ≡ bs → ts ≡ [] → s ≡ r ++ record { sqe = e; bytes = cs; last = last; stage = Waits; found = Nothing; fired = false; taken = ts } ∷ [] → Carries now (Submit q e bs last) (put_row m q.ring s)
+submit_meets m now v q e bs last r s cs ts sh lt is k f c t after =
+    let one : r ≡ row m.rings q.ring = row_of m.rings q.ring r lt is in let k' : length (row m.rings q.ring) ≡ q.k = sym (ap length one) ∙ sym k in
+    let x : record { sqe = e; bytes = cs; last = last; stage = Waits; found = Nothing; fired = false; taken = ts } ≡ born e bs last = λ j. record { sqe = e; bytes = c j; last = last; stage = Waits; found = Nothing; fired = false; taken = t j } in
+    let n : s ≡ row m.rings q.ring ++ born e bs last ∷ [] = after ∙ ap (λ zs. zs ++ record { sqe = e; bytes = cs; last = last; stage = Waits; found = Nothing; fired = false; taken = ts } ∷ []) one ∙ ap (λ z. row m.rings q.ring ++ z ∷ []) x in
+    let name : record { ring = q.ring; k = length (row m.rings q.ring) } ≡ q = λ j. record { ring = q.ring; k = k' j } in
+    subst (λ (z : Machine). Carries z (Submit q e bs last) (put_row m q.ring s)) v
+    (subst (λ (z : List Request). Carries m (Submit q e bs last) (put_row m q.ring z)) (sym n)
+    (subst (λ (z : Req). Carries m (Submit z e bs last) (put_row m q.ring (row m.rings q.ring ++ born e bs last ∷ []))) name
+    (submit_carries m q.ring e bs last (ap (λ (z : Machine). z.shut) v ∙ sh) lt f)))
