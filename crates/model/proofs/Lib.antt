@@ -10,6 +10,7 @@ pub mod Moving
 pub mod Opening
 pub mod Reading
 pub mod Phases
+pub mod Replying
 pub mod Requests
 pub mod Singles
 pub mod Untaken

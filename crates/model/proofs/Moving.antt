@@ -8,7 +8,7 @@ use Rattle.model.specs.declared.request.Stage.TheVariants.{Replied, Reaped}
 use Rattle.model.specs.declared.request.Found.{Found}
 use Rattle.std.proofs.Math.ListN.{length-set}
 use Rattle.model.specs.Seen.{stage_at}
-use Rattle.model.specs.Moves.{put, put_at, put_stage, put_found, put_fired, put_reaped, taken_out, is_due}
+use Rattle.model.specs.Moves.{put, put_at, put_stage, put_found, put_fired, put_taken, put_reaped, taken_out, is_due}
 
 stage_some : (o : Option Request) (s : Stage) → stage_at o ≡ Some s → (x : Request) × (o ≡ Some x)
 stage_some None s e = cc
@@ -44,3 +44,6 @@ due_some clock (Some x) e = (x, refl)
 
 pub due_within : (clock : ℕ) (xs : List Request) (k : ℕ) → is_due clock (stage_at (slice_get xs k)) ≡ true → k < length xs
 due_within clock xs k e = let x = due_some clock (slice_get xs k) e in slice_get_within xs k x.0 x.1
+
+pub taken_length : (xs : List Request) (k : ℕ) (bs : List ℕ) → length (put_taken xs k bs) ≡ length xs
+taken_length xs k bs = put_length xs k _

@@ -9,5 +9,6 @@ pub mod Machine
 pub mod Moves
 pub mod Pipes
 pub mod Reaches
+pub mod Replies
 pub mod Seen
 pub mod Tells

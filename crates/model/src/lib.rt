@@ -10,6 +10,7 @@ mod history;
 mod moves;
 mod pipe;
 pub mod req;
+mod reply;
 mod request;
 mod ring;
 mod state;
