@@ -2,6 +2,7 @@ pub mod Anys
 pub mod Cancels
 pub mod Chained
 pub mod Ends
+pub mod Flowing
 pub mod Growth
 pub mod Keeping
 pub mod Kept

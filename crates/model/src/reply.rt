@@ -1,6 +1,8 @@
 //! The answers that workers give, and what they make of the pipes.
 ghost use Rattle.std.specs.Prelude.{◌≡◌, ◌<◌, false, true, length, take, Some, None, slice_get, IfOk, OnOk, OnErr, MatchOption};
 ghost use Rattle.entry.specs.declared.op.Op.{Op};
+ghost use Rattle.model.specs.Agrees.{Decided};
+ghost use Rattle.model.specs.declared.event.Event.TheVariants.{Reply};
 ghost use Rattle.model.specs.Pipes.{size};
 ghost use Rattle.model.specs.Reaches.{reached};
 ghost use Rattle.model.specs.Seen.{stage_at, placed_in, handed_in, with_op};
@@ -12,9 +14,11 @@ use crate::answer::{Reached, answers, reach};
 use crate::bytes::Bytes;
 use crate::pipe::{Pipe, tells_number};
 use crate::request::{Found, Stage};
+use crate::req::Req;
 use crate::ring::Ring;
+use crate::state::State;
 use entry::Op;
-use std::alloc::AllocError;
+use std::alloc::{AllocError, Global};
 
 impl Ring {
     /// What was handed in with the request.
@@ -44,6 +48,27 @@ impl Ring {
     {
         self.set_taken(k, taken);
         self.set_stage(k, Stage::Replied(res));
+    }
+}
+
+impl State {
+    /// A worker answers the running request.
+    pub fn reply(&mut self, alloc: Global, req: Req, res: i32, data: &Bytes) -> Result<bool, AllocError>
+        requires { self.old.shut ≡ false }
+        ensures decided { IfOk result (λ done. Decided done self.old (Reply req res «data».now) self.new) }
+        ensures same { OnErr result (self.new ≡ self.old) }
+    {
+        let i = req.ring as usize;
+        if i >= self.rings.len() {
+            return Ok(false);
+        }
+        let Some(op) = may_reply(&self.rings[i], &self.pipes, req.k, res, data.as_slice()) else {
+            return Ok(false);
+        };
+        let taken = Bytes::copy(alloc, data.as_slice())?;
+        carry(&mut self.pipes, op, self.rings[i].bytes(req.k), res)?;
+        self.rings[i].answer(req.k as usize, res, taken);
+        Ok(true)
     }
 }
 
