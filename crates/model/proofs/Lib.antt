@@ -1,6 +1,7 @@
 pub mod Anys
 pub mod Cancels
 pub mod Chained
+pub mod Deciding
 pub mod Ends
 pub mod Flowing
 pub mod Growth

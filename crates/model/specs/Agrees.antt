@@ -5,7 +5,7 @@ use Rattle.model.specs.declared.event.Event.{Event}
 use Rattle.model.specs.declared.request.Request.{Request}
 use Rattle.model.specs.History.{submits, clock_of, was_shut}
 use Rattle.model.specs.Pipes.{Flow, content, flow}
-use Rattle.model.specs.Legal.{Setup, MayCome, Legal}
+use Rattle.model.specs.Legal.{Setup, MayCome, Allowed, Legal}
 use Rattle.model.specs.Content.{Content}
 use Rattle.model.specs.Machine.{Machine, setup_of}
 use Rattle.model.specs.Seen.{seen, seen_of, find}
@@ -37,3 +37,8 @@ Refuses m e n = (n ≡ m) × ((h : List Event) → Agrees h m → ¬ MayCome (se
 abbrev pub Decided : Bool → Machine → Event → Machine → Type 0
 Decided true m e n = Carries m e n
 Decided false m e n = Refuses m e n
+
+-- as the code decides it, the end included
+abbrev pub Decision : Bool → Machine → Event → Machine → Type 0
+Decision true m e n = (setup_of n ≡ setup_of m) × ((h : List Event) → Agrees h m → Allowed (setup_of m) h e × Agrees (e ∷ h) n)
+Decision false m e n = (n ≡ m) × ((h : List Event) → Agrees h m → ¬ Allowed (setup_of m) h e)

@@ -10,5 +10,6 @@ pub mod Moves
 pub mod Pipes
 pub mod Reaches
 pub mod Replies
+pub mod Run
 pub mod Seen
 pub mod Tells

@@ -14,6 +14,7 @@ mod reply;
 mod request;
 mod ring;
 mod state;
+mod steps;
 mod timing;
 mod whole;
 
