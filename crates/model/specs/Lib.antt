@@ -3,6 +3,7 @@ pub mod Answers
 pub mod Chains
 pub mod Content
 pub mod Decides
+pub mod Fresh
 pub mod History
 pub mod Legal
 pub mod Machine
