@@ -1,4 +1,5 @@
 pub mod Anys
+pub mod Beginning
 pub mod Cancels
 pub mod Chained
 pub mod Deciding

@@ -43,7 +43,7 @@ fn empty_rings(alloc: Global, rings: u16) -> Result<Vec<Ring>, AllocError>
     ensures { IfOk result (λ v. v.items ≡ replicate rings []) }
 {
     let mut all = Vec::new(alloc);
-    for _i in 0..rings {
+    for i in 0..rings {
         all.push(Ring::new(alloc))?;
     }
     Ok(all)
