@@ -81,10 +81,11 @@ module _ (m : Machine) (h : List Event) (a : Agrees h m) (i : ℕ) where
   upon_may c t b =
       let p : (is_running (stage_at (slice_get xs c)) && seeks (slice_get xs c)) ≡ true = and_left _ (nat_lt t c && is_first_wanted xs (placed_in xs c) t) b in
       let q : (nat_lt t c && is_first_wanted xs (placed_in xs c) t) ≡ true = and_right (is_running (stage_at (slice_get xs c)) && seeks (slice_get xs c)) _ b in
-      let x = cancel_kept c t b in let lt = ltb-true t c (and_left (nat_lt t c) _ q) in let d = first_by xs (placed_in xs c) t (and_right (nat_lt t c) _ q) in
-      (runs_from (phase h (at c)) (ap is_running (told c) ∙ and_left (is_running (stage_at (slice_get xs c))) _ p),
-      nothing_from (hit h (at c)) (ap is_nothing (found_told c) ∙ seeks_by (slice_get xs c) (and_right (is_running (stage_at (slice_get xs c))) _ p)),
-      is_first h i xs (reads m h a i) c x.0 x.1 d.0 d.1 t lt d.2 d.3)
+      let x = cancel_kept c t b in let lt = ltb-true t c (and_left (nat_lt t c) _ q) in let d = first_by xs (placed_in xs c) t (and_right (nat_lt t c) _ q) in (
+        runs_from (phase h (at c)) (ap is_running (told c) ∙ and_left (is_running (stage_at (slice_get xs c))) _ p),
+        nothing_from (hit h (at c)) (ap is_nothing (found_told c) ∙ seeks_by (slice_get xs c) (and_right (is_running (stage_at (slice_get xs c))) _ p)),
+        is_first h i xs (reads m h a i) c x.0 x.1 d.0 d.1 t lt d.2 d.3,
+      )
 
   may_upon : (c : ℕ) (t : Req) → phase h (at c) ≡ runs → hit h (at c) ≡ nothing → IsFirst h (at c) t → comes_upon xs c t.k ≡ true
   may_upon c t r n f =

@@ -58,14 +58,14 @@ module _ (m : Machine) (h : List Event) (a : Agrees h m) (i : ℕ) where
   ring_kept e ys lt len may shut calm own others = record {
     legal = subst (λ (s : Setup). Legal s (e ∷ h)) (sym (same_setup m i ys)) ((a.shut ∙ shut, may), a.legal);
     requests = λ q. ⊎_elim
-      (λ (w : (i == q.ring) ≡ true). let one : i ≡ q.ring = eqb-true i q.ring w in let name : at q.k ≡ q = λ j. record { ring = one j; k = q.k } in
-      sym (ap (seen (e ∷ h)) name) ∙ own q.k ∙ sym (ap (λ (r : List Request). seen_of (slice_get r q.k)) (row_put m.rings i q.ring ys lt ∙ ap (λ b. cond b ys (row m.rings q.ring)) w)))
-      (λ (w : (i == q.ring) ≡ false). others q w ∙ a.requests q ∙ sym (ap (λ (r : List Request). seen_of (slice_get r q.k)) (row_put m.rings i q.ring ys lt ∙ ap (λ b. cond b ys (row m.rings q.ring)) w)))
-      (bool_cases (i == q.ring));
+        (λ (w : (i == q.ring) ≡ true). let one : i ≡ q.ring = eqb-true i q.ring w in let name : at q.k ≡ q = λ j. record { ring = one j; k = q.k } in
+        sym (ap (seen (e ∷ h)) name) ∙ own q.k ∙ sym (ap (λ (r : List Request). seen_of (slice_get r q.k)) (row_put m.rings i q.ring ys lt ∙ ap (λ b. cond b ys (row m.rings q.ring)) w)))
+        (λ (w : (i == q.ring) ≡ false). others q w ∙ a.requests q ∙ sym (ap (λ (r : List Request). seen_of (slice_get r q.k)) (row_put m.rings i q.ring ys lt ∙ ap (λ b. cond b ys (row m.rings q.ring)) w)))
+        (bool_cases (i == q.ring));
     counts = λ j. calm.counts j ∙ a.counts j ∙ ⊎_elim
-      (λ (w : (i == j) ≡ true). let one : i ≡ j = eqb-true i j w in ap (λ z. length (row m.rings z)) (sym one) ∙ sym len ∙ sym (ap length (row_put m.rings i j ys lt ∙ ap (λ b. cond b ys (row m.rings j)) w)))
-      (λ (w : (i == j) ≡ false). sym (ap length (row_put m.rings i j ys lt ∙ ap (λ b. cond b ys (row m.rings j)) w)))
-      (bool_cases (i == j));
+        (λ (w : (i == j) ≡ true). let one : i ≡ j = eqb-true i j w in ap (λ z. length (row m.rings z)) (sym one) ∙ sym len ∙ sym (ap length (row_put m.rings i j ys lt ∙ ap (λ b. cond b ys (row m.rings j)) w)))
+        (λ (w : (i == j) ≡ false). sym (ap length (row_put m.rings i j ys lt ∙ ap (λ b. cond b ys (row m.rings j)) w)))
+        (bool_cases (i == j));
     pipes = λ p x is. subst (λ w. PipeIs w x) (sym (calm.flows p)) (a.pipes p x is);
     clock = calm.clock ∙ a.clock;
     shut = calm.shut ∙ a.shut;

@@ -104,4 +104,3 @@ from_pending runs i = refl
 from_pending (armed d) i = refl
 from_pending (replied c res) i = absurd i
 from_pending (reaped c res) i = absurd i
-

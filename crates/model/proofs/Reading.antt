@@ -143,11 +143,11 @@ module _ (h : List Event) (i : ℕ) (xs : List Request) (reads : (k : ℕ) → s
           unsevered = λ v. true≢false (sym s ∙ ap not (was_severed k v));
           chain = λ q b. back q b.0 (done_by xs k done q.k b.0.1 (λ m u v. sym (joins_is m) ∙ b.1 m u v));
           drains_before = λ q d b p t. let y = kept_before k q.k x is b.1 in
-          let f : drains y.0.sqe ≡ true = sym (drains_of_placed q.k y.0 d y.1 (ap (placed h) (sym (here q k b)) ∙ p)) ∙ t in
-          back q b (unblocked (drains x.sqe) q.k y.0 none b.1 y.1 (rw f (elim (drains x.sqe) as (λ z. (z || true) ≡ true) [ true ↦ refl | false ↦ refl ])));
+              let f : drains y.0.sqe ≡ true = sym (drains_of_placed q.k y.0 d y.1 (ap (placed h) (sym (here q k b)) ∙ p)) ∙ t in
+              back q b (unblocked (drains x.sqe) q.k y.0 none b.1 y.1 (rw f (elim (drains x.sqe) as (λ z. (z || true) ≡ true) [ true ↦ refl | false ↦ refl ])));
           drain = λ d p t q b. let y = kept_before k q.k x is b.1 in
-          let f : drains x.sqe ≡ true = sym (drains_of_placed k x d is p) ∙ t in
-          back q b (unblocked (drains x.sqe) q.k y.0 none b.1 y.1 (rw f refl));
+              let f : drains x.sqe ≡ true = sym (drains_of_placed k x d is p) ∙ t in
+              back q b (unblocked (drains x.sqe) q.k y.0 none b.1 y.1 (rw f refl));
         }
 
     -- a request that blocks k was not answered, though it was to be
@@ -219,7 +219,10 @@ module _ (h : List Event) (i : ℕ) (xs : List Request) (reads : (k : ℕ) → s
         let e = here t k f.matches.0 in let a = was_matched t f.matches in let y = kept_before k t.k x is f.matches.0.1 in
         let alive : pending_of (slice_get xs t.k) ≡ true = ⊎_elim (λ (w : pending_of (slice_get xs t.k) ≡ true). w)
         (λ (w : pending_of (slice_get xs t.k) ≡ false). absurd (f.unanswered (subst (λ (z : Req). IsReplied (phase h z)) (sym e) (is_answered t.k y.0 y.1 w)))) (bool_cases (pending_of (slice_get xs t.k))) in
-        let lt : t.k < k = f.matches.0.1 in
-        (e, lt, ap (λ b. b && asked_for d.op (placed_in xs t.k)) alive ∙ a,
-        not_true _ (λ u. (let g = any_found (wanted xs d.op) t.k u in let l : g.0 < k = omega (arith, g.1) in
-        true≢false (sym (and_left _ _ g.2) ∙ was_answered g.0 (f.first (at g.0) (matched g.0 l (and_right _ _ g.2)) g.1)))))
+        let lt : t.k < k = f.matches.0.1 in (
+          e,
+          lt,
+          ap (λ b. b && asked_for d.op (placed_in xs t.k)) alive ∙ a,
+          not_true _ (λ u. (let g = any_found (wanted xs d.op) t.k u in let l : g.0 < k = omega (arith, g.1) in
+              true≢false (sym (and_left _ _ g.2) ∙ was_answered g.0 (f.first (at g.0) (matched g.0 l (and_right _ _ g.2)) g.1)))),
+        )

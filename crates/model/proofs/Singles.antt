@@ -72,9 +72,11 @@ module _ (m : Machine) (h : List Event) (a : Agrees h m) (i : ℕ) where
   begin_may k b =
       let w = and_left (is_waits (stage_at (slice_get xs k))) _ b in let r = and_right (is_waits (stage_at (slice_get xs k))) (open_in xs k && not (placed_as is_timer (placed_in xs k))) b in
       let x = some_waits (slice_get xs k) w in let e = placed_of h i xs reads k x.0 x.1 in
-      let t : not (placed_as is_timer (placed_in xs k)) ≡ true = and_right (open_in xs k) _ r in
-      (waits_from (phase h (at k)) (ap is_waits (stage_is h i xs reads k) ∙ w), open_is k x.0 x.1 (and_left (open_in xs k) _ r),
-      (_, placed_is h i xs reads k ∙ e, not_true _ (λ u. true≢false (sym t ∙ ap not (ap (placed_as is_timer) e ∙ u)))))
+      let t : not (placed_as is_timer (placed_in xs k)) ≡ true = and_right (open_in xs k) _ r in (
+        waits_from (phase h (at k)) (ap is_waits (stage_is h i xs reads k) ∙ w),
+        open_is k x.0 x.1 (and_left (open_in xs k) _ r),
+        (_, placed_is h i xs reads k ∙ e, not_true _ (λ u. true≢false (sym t ∙ ap not (ap (placed_as is_timer) e ∙ u)))),
+      )
 
   may_begin_is : (k : ℕ) → MayCome (setup_of m) h (Begin (at k)) → may_begin xs k ≡ true
   may_begin_is k c =

@@ -170,9 +170,11 @@ module _ (m : Machine) (h : List Event) (a : Agrees h m) (i : ℕ) where
       let p : (is_due m.clock (stage_at (slice_get xs l)) && not (fired_of (slice_get xs l))) ≡ true = and_left _ (placed_as is_link_timeout (placed_in xs l) && (suc t == l)) b in
       let q : (placed_as is_link_timeout (placed_in xs l) && (suc t == l)) ≡ true = and_right (is_due m.clock (stage_at (slice_get xs l)) && not (fired_of (slice_get xs l))) _ b in
       let e = placed_by is_link_timeout (placed_in xs l) (and_left (placed_as is_link_timeout (placed_in xs l)) (suc t == l) q) in
-      let f : not (fired_of (slice_get xs l)) ≡ true = and_right (is_due m.clock (stage_at (slice_get xs l))) _ p in
-      (due_is l (and_left (is_due m.clock (stage_at (slice_get xs l))) _ p), fired_is l ∙ not_true _ (λ u. true≢false (sym f ∙ ap not u)),
-      ((e.0, entry_is l ∙ e.1, e.2), refl, eqb-true (suc t) l (and_right (placed_as is_link_timeout (placed_in xs l)) (suc t == l) q)))
+      let f : not (fired_of (slice_get xs l)) ≡ true = and_right (is_due m.clock (stage_at (slice_get xs l))) _ p in (
+        due_is l (and_left (is_due m.clock (stage_at (slice_get xs l))) _ p),
+        fired_is l ∙ not_true _ (λ u. true≢false (sym f ∙ ap not u)),
+        ((e.0, entry_is l ∙ e.1, e.2), refl, eqb-true (suc t) l (and_right (placed_as is_link_timeout (placed_in xs l)) (suc t == l) q)),
+      )
 
   may_out : (l t : ℕ) → IsDue h (at l) → fired h (at l) ≡ false → IsTarget h (at l) (at t) → runs_out m.clock xs l t ≡ true
   may_out l t d f g =
@@ -232,12 +234,15 @@ module _ (m : Machine) (h : List Event) (a : Agrees h m) (i : ℕ) where
       let p : (is_armed (stage_at (slice_get xs l)) && placed_as is_link_timeout (placed_in xs l)) ≡ true = and_left _ (fired_of (slice_get xs l) || is_answered (stage_at (slice_get xs (l - 1)))) b in
       let t = and_right (is_armed (stage_at (slice_get xs l))) (placed_as is_link_timeout (placed_in xs l)) p in let e = placed_by is_link_timeout (placed_in xs l) t in
       let o : (fired_of (slice_get xs l) || is_answered (stage_at (slice_get xs (l - 1)))) ≡ true = and_right (is_armed (stage_at (slice_get xs l)) && placed_as is_link_timeout (placed_in xs l)) _ b in
-      let lt = not_first xs l t in let k : suc (l - 1) ≡ l = omega arith in
-      (armed_from (phase h (at l)) (ap is_armed (told l) ∙ and_left (is_armed (stage_at (slice_get xs l))) _ p), (e.0, entry_is l ∙ e.1, e.2), ⊎_elim
-      (λ (w : fired_of (slice_get xs l) ≡ true). inl (fired_is l ∙ w))
-      (λ (w : fired_of (slice_get xs l) ≡ false). let G : Bool → Type 0 = λ z. (z || is_answered (stage_at (slice_get xs (l - 1)))) ≡ true in
-      inr (at (l - 1), ((e.0, entry_is l ∙ e.1, e.2), refl, k), answered_from (phase h (at (l - 1))) (ap is_answered (told (l - 1)) ∙ subst G w o)))
-      (bool_cases (fired_of (slice_get xs l))))
+      let lt = not_first xs l t in let k : suc (l - 1) ≡ l = omega arith in (
+        armed_from (phase h (at l)) (ap is_armed (told l) ∙ and_left (is_armed (stage_at (slice_get xs l))) _ p),
+        (e.0, entry_is l ∙ e.1, e.2),
+        ⊎_elim
+            (λ (w : fired_of (slice_get xs l) ≡ true). inl (fired_is l ∙ w))
+            (λ (w : fired_of (slice_get xs l) ≡ false). let G : Bool → Type 0 = λ z. (z || is_answered (stage_at (slice_get xs (l - 1)))) ≡ true in
+            inr (at (l - 1), ((e.0, entry_is l ∙ e.1, e.2), refl, k), answered_from (phase h (at (l - 1))) (ap is_answered (told (l - 1)) ∙ subst G w o)))
+            (bool_cases (fired_of (slice_get xs l))),
+      )
 
   may_settle_is : (l : ℕ) → MayCome (setup_of m) h (Settle (at l)) → may_settle xs l ≡ true
   may_settle_is l c =

@@ -26,14 +26,20 @@ use Rattle.model.proofs.Reading.{stage_is}
 use Rattle.model.proofs.Keeping.{row, row_of, put_row, row_put, row_within, same_setup}
 
 pub tick_carries : (m : Machine) (n : ℕ) → m.shut ≡ false → m.clock ≤ n → n ≤ 2147483647 → Carries m (Tick n) (record m { clock = n })
-tick_carries m n s le top = (refl, λ h a. let may : MayCome (setup_of m) h (Tick n) = (subst (λ (z : ℕ). z ≤ n) (sym a.clock) le, top) in (may, record {
-  legal = ((a.shut ∙ s, may), a.legal);
-  requests = a.requests;
-  counts = λ j. (let e : submits (Tick n ∷ h) j ≡ submits h j = omega arith in e ∙ a.counts j);
-  pipes = a.pipes;
-  clock = refl;
-  shut = a.shut;
-}))
+tick_carries m n s le top = (
+  refl,
+  λ h a. let may : MayCome (setup_of m) h (Tick n) = (subst (λ (z : ℕ). z ≤ n) (sym a.clock) le, top) in (
+    may,
+    record {
+      legal = ((a.shut ∙ s, may), a.legal);
+      requests = a.requests;
+      counts = λ j. (let e : submits (Tick n ∷ h) j ≡ submits h j = omega arith in e ∙ a.counts j);
+      pipes = a.pipes;
+      clock = refl;
+      shut = a.shut;
+    },
+  ),
+)
 
 pub tick_refuses : (m : Machine) (n : ℕ) → (m.clock ≤ n → n ≤ 2147483647 → ⊥) → Refuses m (Tick n) m
 tick_refuses m n out = (refl, λ h a c. out (subst (λ (z : ℕ). z ≤ n) a.clock c.0) c.1)
@@ -76,20 +82,29 @@ stage_runs None e = e
 stage_runs (Some x) e = back x.stage e
 
 pub shut_carries : (m : Machine) → m.shut ≡ false → list_any runs_in m.rings ≡ false → Carries m Shut (record m { shut = true })
-shut_carries m s none = (refl, λ h a. let may : MayCome (setup_of m) h Shut = (λ q r.
-    (let w : is_running (stage_at (slice_get (row m.rings q.ring) q.k)) ≡ true = sym (ap is_running (stage_is h q.ring (row m.rings q.ring) (λ k. a.requests (record { ring = q.ring; k = k })) q.k)) ∙ ap (λ p. is_running (stage_of p)) r in
-    let x = runs_stage (slice_get (row m.rings q.ring) q.k) w in true≢false (sym (row_any m.rings q.ring q.k x.0 x.1 x.2) ∙ none))) in (may, record {
-  legal = ((a.shut ∙ s, may), a.legal);
-  requests = a.requests;
-  counts = λ j. (let e : submits (Shut ∷ h) j ≡ submits h j = omega arith in e ∙ a.counts j);
-  pipes = a.pipes;
-  clock = a.clock;
-  shut = refl;
-}))
+shut_carries m s none = (
+  refl,
+  λ h a. let may : MayCome (setup_of m) h Shut = (λ q r.
+      (let w : is_running (stage_at (slice_get (row m.rings q.ring) q.k)) ≡ true = sym (ap is_running (stage_is h q.ring (row m.rings q.ring) (λ k. a.requests (record { ring = q.ring; k = k })) q.k)) ∙ ap (λ p. is_running (stage_of p)) r in
+      let x = runs_stage (slice_get (row m.rings q.ring) q.k) w in true≢false (sym (row_any m.rings q.ring q.k x.0 x.1 x.2) ∙ none))) in (
+        may,
+        record {
+          legal = ((a.shut ∙ s, may), a.legal);
+          requests = a.requests;
+          counts = λ j. (let e : submits (Shut ∷ h) j ≡ submits h j = omega arith in e ∙ a.counts j);
+          pipes = a.pipes;
+          clock = a.clock;
+          shut = refl;
+        },
+      ),
+)
 
 pub shut_refuses : (m : Machine) → list_any runs_in m.rings ≡ true → Refuses m Shut m
-shut_refuses m some = (refl, λ h a c. let f = any_row m.rings some in
-    c (record { ring = f.0; k = f.1 }) (runs_from (phase h (record { ring = f.0; k = f.1 })) (ap is_running (stage_is h f.0 (row m.rings f.0) (λ k. a.requests (record { ring = f.0; k = k })) f.1) ∙ stage_runs (slice_get (row m.rings f.0) f.1) f.2)))
+shut_refuses m some = (
+  refl,
+  λ h a c. let f = any_row m.rings some in
+      c (record { ring = f.0; k = f.1 }) (runs_from (phase h (record { ring = f.0; k = f.1 })) (ap is_running (stage_is h f.0 (row m.rings f.0) (λ k. a.requests (record { ring = f.0; k = k })) f.1) ∙ stage_runs (slice_get (row m.rings f.0) f.1) f.2)),
+)
 
 module _ (m : Machine) (i : ℕ) (e : Entry) (bytes : List ℕ) (last : Bool) where
   abbrev xs : List Request
@@ -118,25 +133,31 @@ module _ (m : Machine) (i : ℕ) (e : Entry) (bytes : List ℕ) (last : Bool) wh
       (bool_cases (length xs == j))
 
   pub submit_carries : m.shut ≡ false → i < length m.rings → Fits e bytes → Carries m (Submit r e bytes last) (put_row m i after)
-  submit_carries s lt f = (same_setup m i after, λ h a. let may = submit_may h a lt f in (may, record {
-    legal = subst (λ (z : Setup). Legal z (Submit r e bytes last ∷ h)) (sym (same_setup m i after)) ((a.shut ∙ s, may), a.legal);
-    requests = λ q. ⊎_elim
-      (λ (w : (i == q.ring) ≡ true). let one : i ≡ q.ring = eqb-true i q.ring w in let name : record { ring = i; k = q.k } ≡ q = λ j. record { ring = one j; k = q.k } in
-      sym (ap (seen (Submit r e bytes last ∷ h)) name) ∙ own h a q.k ∙ sym (ap (λ (z : List Request). seen_of (slice_get z q.k)) (row_put m.rings i q.ring after lt ∙ ap (λ b. cond b after (row m.rings q.ring)) w)))
-      (λ (w : (i == q.ring) ≡ false). (rw w refl) ∙ a.requests q ∙ sym (ap (λ (z : List Request). seen_of (slice_get z q.k)) (row_put m.rings i q.ring after lt ∙ ap (λ b. cond b after (row m.rings q.ring)) w)))
-      (bool_cases (i == q.ring));
-    counts = λ j. ⊎_elim
-      (λ (w : (i == j) ≡ true). let one : i ≡ j = eqb-true i j w in
-      let n : adds_to (Submit r e bytes last) j ≡ 1 = ap (λ (b : Bool). let n : ℕ = cond b 1 0 in n) w in let c = a.counts j in let c' : length (row m.rings i) ≡ length (row m.rings j) = ap (λ z. length (row m.rings z)) one in
-      let l = length-append xs (born e bytes last ∷ []) in
-      let t : submits (Submit r e bytes last ∷ h) j ≡ length after = omega arith in t ∙ sym (ap length (row_put m.rings i j after lt ∙ ap (λ b. cond b after (row m.rings j)) w)))
-      (λ (w : (i == j) ≡ false). let n : adds_to (Submit r e bytes last) j ≡ 0 = ap (λ (b : Bool). let n : ℕ = cond b 1 0 in n) w in let c = a.counts j in
-      let t : submits (Submit r e bytes last ∷ h) j ≡ length (row m.rings j) = omega arith in t ∙ sym (ap length (row_put m.rings i j after lt ∙ ap (λ b. cond b after (row m.rings j)) w)))
-      (bool_cases (i == j));
-    pipes = a.pipes;
-    clock = a.clock;
-    shut = a.shut;
-  }))
+  submit_carries s lt f = (
+    same_setup m i after,
+    λ h a. let may = submit_may h a lt f in (
+      may,
+      record {
+        legal = subst (λ (z : Setup). Legal z (Submit r e bytes last ∷ h)) (sym (same_setup m i after)) ((a.shut ∙ s, may), a.legal);
+        requests = λ q. ⊎_elim
+            (λ (w : (i == q.ring) ≡ true). let one : i ≡ q.ring = eqb-true i q.ring w in let name : record { ring = i; k = q.k } ≡ q = λ j. record { ring = one j; k = q.k } in
+            sym (ap (seen (Submit r e bytes last ∷ h)) name) ∙ own h a q.k ∙ sym (ap (λ (z : List Request). seen_of (slice_get z q.k)) (row_put m.rings i q.ring after lt ∙ ap (λ b. cond b after (row m.rings q.ring)) w)))
+            (λ (w : (i == q.ring) ≡ false). (rw w refl) ∙ a.requests q ∙ sym (ap (λ (z : List Request). seen_of (slice_get z q.k)) (row_put m.rings i q.ring after lt ∙ ap (λ b. cond b after (row m.rings q.ring)) w)))
+            (bool_cases (i == q.ring));
+        counts = λ j. ⊎_elim
+            (λ (w : (i == j) ≡ true). let one : i ≡ j = eqb-true i j w in
+            let n : adds_to (Submit r e bytes last) j ≡ 1 = ap (λ (b : Bool). let n : ℕ = cond b 1 0 in n) w in let c = a.counts j in let c' : length (row m.rings i) ≡ length (row m.rings j) = ap (λ z. length (row m.rings z)) one in
+            let l = length-append xs (born e bytes last ∷ []) in
+            let t : submits (Submit r e bytes last ∷ h) j ≡ length after = omega arith in t ∙ sym (ap length (row_put m.rings i j after lt ∙ ap (λ b. cond b after (row m.rings j)) w)))
+            (λ (w : (i == j) ≡ false). let n : adds_to (Submit r e bytes last) j ≡ 0 = ap (λ (b : Bool). let n : ℕ = cond b 1 0 in n) w in let c = a.counts j in
+            let t : submits (Submit r e bytes last ∷ h) j ≡ length (row m.rings j) = omega arith in t ∙ sym (ap length (row_put m.rings i j after lt ∙ ap (λ b. cond b after (row m.rings j)) w)))
+            (bool_cases (i == j));
+        pipes = a.pipes;
+        clock = a.clock;
+        shut = a.shut;
+      },
+    ),
+  )
 
 pub submit_refuses : (m : Machine) (q : Req) (e : Entry) (bytes : List ℕ) (last : Bool) → (q.ring < length m.rings → q.k ≡ length (row m.rings q.ring) → Fits e bytes → ⊥) → Refuses m (Submit q e bytes last) m
 submit_refuses m q e bytes last out = (refl, λ h a c. out c.0 (c.1 ∙ a.counts q.ring) c.2)

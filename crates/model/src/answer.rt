@@ -29,58 +29,62 @@ pub fn reach(fd: i32, pipes: usize) -> Reached
     if p >= pipes {
         return Reached::Nothing;
     }
-    if n % 2 == 0 { Reached::Read(p) } else { Reached::Write(p) }
+    if n % 2 == 0 {
+        Reached::Read(p)
+    } else {
+        Reached::Write(p)
+    }
 }
 
 /// The reply answers this operation now.
-pub fn answers(pipes: &[Pipe], op: Op, res: i32, data: &[u8]) -> bool
-    ensures { result ≡ tells (op_answer (caps_of pipes.now) (flow_in pipes.now) op) res data.now }
+pub fn answers(pipes: &[Pipe], op: Op, res: i32, bytes: &[u8]) -> bool
+    ensures { result ≡ tells (op_answer (caps_of pipes.now) (flow_in pipes.now) op) res bytes.now }
 {
     match op {
-        Op::Nop => tells_number(0, res, data),
-        Op::Invalid => res == -22 && data.is_empty(),
-        Op::Read { fd, len, .. } => answers_read(pipes, fd, len, res, data),
-        Op::Write { fd, len, .. } => answers_write(pipes, fd, len, res, data),
-        Op::Close { fd } => answers_close(pipes, fd, res, data),
-        Op::PollAdd { fd, mask } => answers_poll(pipes, fd, mask, res, data),
+        Op::Nop => tells_number(0, res, bytes),
+        Op::Invalid => res == -22 && bytes.is_empty(),
+        Op::Read { fd, len, .. } => answers_read(pipes, fd, len, res, bytes),
+        Op::Write { fd, len, .. } => answers_write(pipes, fd, len, res, bytes),
+        Op::Close { fd } => answers_close(pipes, fd, res, bytes),
+        Op::PollAdd { fd, mask } => answers_poll(pipes, fd, mask, res, bytes),
         _ => false,
     }
 }
 
-fn answers_read(pipes: &[Pipe], fd: i32, len: u32, res: i32, data: &[u8]) -> bool
-    ensures { result ≡ tells (read_from (caps_of pipes.now) (flow_in pipes.now) (end_of fd) len) res data.now }
+fn answers_read(pipes: &[Pipe], fd: i32, len: u32, res: i32, bytes: &[u8]) -> bool
+    ensures { result ≡ tells (read_from (caps_of pipes.now) (flow_in pipes.now) (end_of fd) len) res bytes.now }
 {
     match reach(fd, pipes.len()) {
-        Reached::Read(p) => pipes[p].tells_read(len, res, data),
-        _ => tells_bad_end(res, data),
+        Reached::Read(p) => pipes[p].tells_read(len, res, bytes),
+        _ => tells_bad_end(res, bytes),
     }
 }
 
-fn answers_write(pipes: &[Pipe], fd: i32, len: u32, res: i32, data: &[u8]) -> bool
-    ensures { result ≡ tells (write_to (caps_of pipes.now) (flow_in pipes.now) (end_of fd) len) res data.now }
+fn answers_write(pipes: &[Pipe], fd: i32, len: u32, res: i32, bytes: &[u8]) -> bool
+    ensures { result ≡ tells (write_to (caps_of pipes.now) (flow_in pipes.now) (end_of fd) len) res bytes.now }
 {
     match reach(fd, pipes.len()) {
-        Reached::Write(p) => pipes[p].tells_write(len, res, data),
-        _ => tells_bad_end(res, data),
+        Reached::Write(p) => pipes[p].tells_write(len, res, bytes),
+        _ => tells_bad_end(res, bytes),
     }
 }
 
-fn answers_close(pipes: &[Pipe], fd: i32, res: i32, data: &[u8]) -> bool
-    ensures { result ≡ tells (close_of (caps_of pipes.now) (flow_in pipes.now) (end_of fd)) res data.now }
+fn answers_close(pipes: &[Pipe], fd: i32, res: i32, bytes: &[u8]) -> bool
+    ensures { result ≡ tells (close_of (caps_of pipes.now) (flow_in pipes.now) (end_of fd)) res bytes.now }
 {
     match reach(fd, pipes.len()) {
-        Reached::Nothing => tells_bad_end(res, data),
-        Reached::Read(p) => pipes[p].tells_close_read(res, data),
-        Reached::Write(p) => pipes[p].tells_close_write(res, data),
+        Reached::Nothing => tells_bad_end(res, bytes),
+        Reached::Read(p) => pipes[p].tells_close_read(res, bytes),
+        Reached::Write(p) => pipes[p].tells_close_write(res, bytes),
     }
 }
 
-fn answers_poll(pipes: &[Pipe], fd: i32, mask: u32, res: i32, data: &[u8]) -> bool
-    ensures { result ≡ tells (poll_of (caps_of pipes.now) (flow_in pipes.now) (end_of fd) mask) res data.now }
+fn answers_poll(pipes: &[Pipe], fd: i32, mask: u32, res: i32, bytes: &[u8]) -> bool
+    ensures { result ≡ tells (poll_of (caps_of pipes.now) (flow_in pipes.now) (end_of fd) mask) res bytes.now }
 {
     match reach(fd, pipes.len()) {
-        Reached::Nothing => tells_bad_end(res, data),
-        Reached::Read(p) => pipes[p].tells_poll_read(mask, res, data),
-        Reached::Write(p) => pipes[p].tells_poll_write(mask, res, data),
+        Reached::Nothing => tells_bad_end(res, bytes),
+        Reached::Read(p) => pipes[p].tells_poll_read(mask, res, bytes),
+        Reached::Write(p) => pipes[p].tells_poll_write(mask, res, bytes),
     }
 }

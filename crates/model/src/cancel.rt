@@ -28,7 +28,9 @@ impl Ring {
         ensures may { result ≡ may_take self.old cancel target }
         ensures after { self.new ≡ cond result (put_stage (put_found self.old cancel Took) target cancelled) self.old }
     {
-        if !self.comes_upon(cancel, target) || !matches!(self.stage(target), Some(Stage::Waits | Stage::Armed(_))) {
+        if !self.comes_upon(cancel, target)
+            || !matches!(self.stage(target), Some(Stage::Waits | Stage::Armed(_)))
+        {
             return false;
         }
         self.set_found(cancel as usize, Found::Took);

@@ -5,6 +5,7 @@ mod answer;
 pub mod bytes;
 mod cancel;
 mod chain;
+mod copy;
 pub mod error;
 pub mod event;
 mod history;

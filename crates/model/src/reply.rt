@@ -13,8 +13,8 @@ ghost use Rattle.model.specs.Replies.{is_cancel, cancel_tells, found_in, op_repl
 use crate::answer::{Reached, answers, reach};
 use crate::bytes::Bytes;
 use crate::pipe::{Pipe, tells_number};
-use crate::request::{Found, Stage};
 use crate::req::Req;
+use crate::request::{Found, Stage};
 use crate::ring::Ring;
 use crate::state::State;
 use entry::Op;
@@ -53,19 +53,25 @@ impl Ring {
 
 impl State {
     /// A worker answers the running request.
-    pub fn reply(&mut self, alloc: Global, req: Req, res: i32, data: &Bytes) -> Result<bool, AllocError>
+    pub fn reply(
+        &mut self,
+        alloc: Global,
+        req: Req,
+        res: i32,
+        told: &Bytes,
+    ) -> Result<bool, AllocError>
         requires { self.old.shut ≡ false }
-        ensures decided { IfOk result (λ done. Decided done self.old (Reply req res «data».now) self.new) }
+        ensures decided { IfOk result (λ done. Decided done self.old (Reply req res told.now) self.new) }
         ensures same { OnErr result (self.new ≡ self.old) }
     {
         let i = req.ring as usize;
         if i >= self.rings.len() {
             return Ok(false);
         }
-        let Some(op) = may_reply(&self.rings[i], &self.pipes, req.k, res, data.as_slice()) else {
+        let Some(op) = may_reply(&self.rings[i], &self.pipes, req.k, res, told.as_slice()) else {
             return Ok(false);
         };
-        let taken = Bytes::copy(alloc, data.as_slice())?;
+        let taken = Bytes::copy(alloc, told.as_slice())?;
         carry(&mut self.pipes, op, self.rings[i].bytes(req.k), res)?;
         self.rings[i].answer(req.k as usize, res, taken);
         Ok(true)
@@ -73,37 +79,37 @@ impl State {
 }
 
 /// The cancel of this operation may be answered so.
-fn cancel_tells(ring: &Ring, k: u64, op: Op, res: i32, data: &[u8]) -> bool
-    ensures { result ≡ cancel_tells (found_in (slice_get ring.now k)) (any_below (wanted ring.now op) k) res data.now }
+fn cancel_tells(ring: &Ring, k: u64, op: Op, res: i32, taken: &[u8]) -> bool
+    ensures { result ≡ cancel_tells (found_in (slice_get ring.now k)) (any_below (wanted ring.now op) k) res taken.now }
 {
     match ring.found(k) {
-        Found::Took => tells_number(0, res, data),
-        Found::Missed => res == -114 && data.is_empty(),
-        Found::Nothing => !ring.any_wanted(op, k) && res == -2 && data.is_empty(),
+        Found::Took => tells_number(0, res, taken),
+        Found::Missed => res == -114 && taken.is_empty(),
+        Found::Nothing => !ring.any_wanted(op, k) && res == -2 && taken.is_empty(),
     }
 }
 
 /// The running request `k` with this operation may be answered so.
-fn tells_op(ring: &Ring, pipes: &[Pipe], k: u64, op: Op, res: i32, data: &[u8]) -> bool
-    ensures { result ≡ op_replies pipes.now ring.now k res data.now op }
+fn tells_op(ring: &Ring, pipes: &[Pipe], k: u64, op: Op, res: i32, taken: &[u8]) -> bool
+    ensures { result ≡ op_replies pipes.now ring.now k res taken.now op }
 {
     match op {
-        Op::AsyncCancel { .. } | Op::TimeoutRemove { .. } => cancel_tells(ring, k, op, res, data),
-        _ => answers(pipes, op, res, data),
+        Op::AsyncCancel { .. } | Op::TimeoutRemove { .. } => cancel_tells(ring, k, op, res, taken),
+        _ => answers(pipes, op, res, taken),
     }
 }
 
 /// The operation of the running request `k`, where this reply may come.
 #[tactic(auto, using(crate::proofs::Moving::stage_within, crate::proofs::Replying::may_reply_is))]
-pub fn may_reply(ring: &Ring, pipes: &[Pipe], k: u64, res: i32, data: &[u8]) -> Option<Op>
-    ensures no { result ≡ None → may_reply pipes.now ring.now k res data.now ≡ false }
-    ensures yes { (op : Op) → result ≡ Some op → (may_reply pipes.now ring.now k res data.now ≡ true) × (placed_in ring.now k ≡ with_op (handed_in ring.now k) op) × (k < length ring.now) }
+pub fn may_reply(ring: &Ring, pipes: &[Pipe], k: u64, res: i32, taken: &[u8]) -> Option<Op>
+    ensures no { result ≡ None → may_reply pipes.now ring.now k res taken.now ≡ false }
+    ensures yes { (op : Op) → result ≡ Some op → (may_reply pipes.now ring.now k res taken.now ≡ true) × (placed_in ring.now k ≡ with_op (handed_in ring.now k) op) × (k < length ring.now) }
 {
     if !matches!(ring.stage(k), Some(Stage::Runs)) {
         return None;
     }
     let op = ring.op(k as usize);
-    if !tells_op(ring, pipes, k, op, res, data) {
+    if !tells_op(ring, pipes, k, op, res, taken) {
         return None;
     }
     Some(op)
@@ -113,7 +119,11 @@ pub fn may_reply(ring: &Ring, pipes: &[Pipe], k: u64, res: i32, data: &[u8]) -> 
 fn size(res: i32) -> usize
     ensures { result ≡ size res }
 {
-    if res < 0 { 0 } else { res.unsigned_abs() as usize }
+    if res < 0 {
+        0
+    } else {
+        res.unsigned_abs() as usize
+    }
 }
 
 /// The reply to this operation moves bytes, or closes an end.

@@ -18,7 +18,12 @@ impl State {
             return Ok(false);
         }
         match event {
-            Event::Submit { req, sqe, bytes, last } => self.submit(alloc, *req, *sqe, bytes, *last),
+            Event::Submit {
+                req,
+                sqe,
+                bytes,
+                last,
+            } => self.submit(alloc, *req, *sqe, bytes, *last),
             Event::Reply { req, res, data } => self.reply(alloc, *req, *res, data),
             Event::Begin(req) => Ok(self.begin(*req)),
             Event::Park(req) => Ok(self.park(*req)),

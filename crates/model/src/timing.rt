@@ -61,7 +61,9 @@ impl Ring {
         if !self.is_due(clock, timer) || self.has_fired(timer) {
             return false;
         }
-        matches!(self.op(timer as usize), Op::LinkTimeout { .. }) && target < timer && target + 1 == timer
+        matches!(self.op(timer as usize), Op::LinkTimeout { .. })
+            && target < timer
+            && target + 1 == timer
     }
 
     fn has_fired(&self, k: u64) -> bool
@@ -78,7 +80,9 @@ impl Ring {
         ensures may { result ≡ may_fire clock self.old timer target }
         ensures after { self.new ≡ cond result (put_stage (put_fired self.old timer) target cancelled) self.old }
     {
-        if !self.runs_out(clock, timer, target) || !matches!(self.stage(target), Some(Stage::Waits | Stage::Armed(_))) {
+        if !self.runs_out(clock, timer, target)
+            || !matches!(self.stage(target), Some(Stage::Waits | Stage::Armed(_)))
+        {
             return false;
         }
         self.set_fired(timer as usize);
@@ -91,7 +95,9 @@ impl Ring {
         ensures may { result ≡ may_fire_miss clock self.old timer target }
         ensures after { self.new ≡ cond result (put_fired self.old timer) self.old }
     {
-        if !self.runs_out(clock, timer, target) || !matches!(self.stage(target), Some(Stage::Runs)) {
+        if !self.runs_out(clock, timer, target)
+            || !matches!(self.stage(target), Some(Stage::Runs))
+        {
             return false;
         }
         self.set_fired(timer as usize);
@@ -103,7 +109,9 @@ impl Ring {
         ensures may { result ≡ may_settle self.old k }
         ensures after { self.new ≡ cond result (put_settled self.old k) self.old }
     {
-        if !matches!(self.stage(k), Some(Stage::Armed(_))) || !matches!(self.op(k as usize), Op::LinkTimeout { .. }) {
+        if !matches!(self.stage(k), Some(Stage::Armed(_)))
+            || !matches!(self.op(k as usize), Op::LinkTimeout { .. })
+        {
             return false;
         }
         let fired = self.has_fired(k);

@@ -43,7 +43,14 @@ impl State {
     }
 
     /// An entry is handed in with its buffer.
-    pub fn submit(&mut self, alloc: Global, req: Req, sqe: Sqe, bytes: &Bytes, last: bool) -> Result<bool, AllocError>
+    pub fn submit(
+        &mut self,
+        alloc: Global,
+        req: Req,
+        sqe: Sqe,
+        bytes: &Bytes,
+        last: bool,
+    ) -> Result<bool, AllocError>
         requires { self.old.shut ≡ false }
         ensures decided { IfOk result (λ done. Decided done self.old (Submit req sqe bytes.now last) self.new) }
         ensures same { OnErr result (self.new ≡ self.old) }
