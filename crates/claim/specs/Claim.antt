@@ -1,5 +1,7 @@
 -- What the 64-bit word of a cell says of its request, and which words say nothing.
-use Rattle.std.specs.Prelude.{◌==◌, ◌&&◌, ◌||◌, not, nat_lt, ℕ, ◌+◌, ◌*◌, ◌/◌, ◌%◌, Bool, if◌then◌else◌}
+use Rattle.std.specs.Prelude.{◌==◌, ◌&&◌, ◌||◌, not, nat_lt, ℕ, ◌+◌, ◌*◌, ◌/◌, ◌%◌, Bool, List, ◌++◌, codes, decimal, if◌then◌else◌}
+use Rattle.std.specs.Fmt.{signed_decimal}
+use Rattle.std.specs.Int.{w32, cast_signed}
 use Rattle.claim.specs.declared.tag.Tag.{Tag}
 use Rattle.claim.specs.declared.tag.Tag.TheVariants.{Empty, Held, Ready, Running, Armed, Done}
 use Rattle.claim.specs.declared.tag.Cause.{Cause}
@@ -71,3 +73,16 @@ has_bad_payload word = nat_lt (tag_bits word) 4 && not (payload_bits word == 0)
 -- the words that say nothing
 abbrev pub is_refused : ℕ → Bool
 is_refused word = nat_lt 5 (tag_bits word) || (has_bad_cause word || has_bad_payload word)
+
+-- the text of a word in a log: what the request is doing, and the parts that this has
+abbrev pub claim_text : Claim → List ℕ
+claim_text c = elim c.tag [
+  | Empty ↦ codes "EMPTY generation " ++ decimal c.generation
+  | Held ↦ codes "HELD generation " ++ decimal c.generation
+  | Ready ↦ codes "READY generation " ++ decimal c.generation
+  | Running ↦ codes "RUNNING generation " ++ decimal c.generation
+  | Armed ↦ codes "ARMED generation " ++ (decimal c.generation ++ (codes " deadline " ++ decimal c.payload))
+  | Done ↦
+      codes "DONE generation "
+      ++ (decimal c.generation ++ (codes " cause " ++ (decimal c.cause ++ (codes " reply " ++ signed_decimal (cast_signed w32 c.payload)))))
+]

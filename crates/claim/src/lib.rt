@@ -2,6 +2,8 @@
 #![tactic(auto)]
 
 pub mod tag;
+#[cfg(test)]
+mod tests;
 pub mod word;
 
 pub use tag::{Cause, Tag};

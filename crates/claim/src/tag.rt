@@ -38,6 +38,7 @@ pub enum Cause {
 
 impl Tag {
     /// The low four bits of a word with this tag.
+    #[inline(always)]
     pub fn number(self) -> u8
         ensures value { result ≡ tag_number self }
         ensures small { result < 6 }
@@ -53,6 +54,7 @@ impl Tag {
     }
 
     /// The tag with this number, if there is one.
+    #[inline(always)]
     pub fn of_number(number: u8) -> Option<Tag>
         ensures some { IfSome result (λ t. tag_number t ≡ number) }
         ensures none { IsNone result ↔ (6 ≤ number) }

@@ -1,9 +1,10 @@
 //! A claim word, and its 64 bits.
-ghost use Rattle.std.specs.Prelude.{◌≡◌, ◌<◌, ℕ, ℤ, IfSome, IsNone, IsTrue, ◌↔◌, nat_le};
+ghost use Rattle.std.specs.Prelude.{not, ◌≡◌, ◌<◌, ℕ, ℤ, IfSome, IsNone, IsTrue, ◌↔◌, nat_le};
 ghost use Rattle.std.specs.Int.{w32, cast_signed, cast_unsigned};
 ghost use Rattle.claim.specs.Claim.{Claim, allows, cause_of, fits, is_refused, packed};
 
 use crate::tag::{Cause, Tag};
+use std::fmt;
 use std::marker::Model;
 
 /// What a cell's word says of its request. The cause is 0 unless the tag is Done. The payload is the deadline of an Armed
@@ -34,6 +35,33 @@ const FAILS: u8 = 8;
 
 /// The first number that is no generation: a generation has 24 bits.
 pub const GENERATIONS: u32 = 0x100_0000;
+
+impl fmt::Display for ClaimWord {
+    ghost use Rattle.std.specs.Prelude.{Some};
+    ghost use Rattle.claim.specs.Claim.{claim_text};
+
+    ghost output = { λ w. Some (claim_text w) };
+
+    fn fmt<W: fmt::Write>(&self, f: &mut fmt::Formatter<W>) -> fmt::Result {
+        let (generation, cause, payload, reply) = (
+            self.generation,
+            self.cause,
+            self.payload,
+            self.reply(),
+        );
+        match self.tag {
+            Tag::Empty => write!(f, "EMPTY generation {generation}"),
+            Tag::Held => write!(f, "HELD generation {generation}"),
+            Tag::Ready => write!(f, "READY generation {generation}"),
+            Tag::Running => write!(f, "RUNNING generation {generation}"),
+            Tag::Armed => write!(f, "ARMED generation {generation} deadline {payload}"),
+            Tag::Done => write!(
+                f,
+                "DONE generation {generation} cause {cause} reply {reply}"
+            ),
+        }
+    }
+}
 
 impl ClaimWord {
     /// The word of a cell without a request. The next one that it gets has this generation.
@@ -129,19 +157,21 @@ impl ClaimWord {
     }
 }
 
-/// Whether a word with this tag may have this cause and payload.
-fn is_allowed(tag: Tag, cause: u8, payload: u32) -> bool
-    requires { cause < 16 }
-    ensures { result ≡ allows tag cause payload }
+/// Whether the word has a tag, and a cause and a payload that this tag may have. Without branches, since it stands on
+/// every request's path.
+#[inline(always)]
+fn says_something(word: u64) -> bool
+    ensures { result ≡ not (is_refused word) }
 {
-    match tag {
-        Tag::Done => matches!(cause % FAILS, 1..=6),
-        Tag::Armed => cause == 0,
-        _ => cause == 0 && payload == 0,
-    }
+    let (tag, cause, payload) = (word % 16, (word >> 4) % 16, word >> 32);
+    let is_done = tag == 5;
+    let names_event = (0 < cause % 8) & (cause % 8 < 7);
+    let fits_cause = if is_done { names_event } else { cause == 0 };
+    (tag < 6) & fits_cause & ((3 < tag) | (payload == 0))
 }
 
 /// The word's 64 bits.
+#[inline(always)]
 pub fn pack(word: ClaimWord) -> u64
     ensures packed { result ≡ packed word }
     ensures fits { IsTrue (fits word) }
@@ -151,6 +181,7 @@ pub fn pack(word: ClaimWord) -> u64
 }
 
 /// What the 64 bits say: None for a tag above 5, a cause that is not of the list, or a payload that must be 0 and isn't.
+#[inline(always)]
 pub fn unpack(word: u64) -> Option<ClaimWord>
     ensures refused { IsNone result ↔ IsTrue (is_refused word) }
     ensures packed { IfSome result (λ c. packed c ≡ word) }
@@ -158,17 +189,13 @@ pub fn unpack(word: u64) -> Option<ClaimWord>
     ensures again { (c : Claim) → IsTrue (fits c) → packed c ≡ word → result ≡ Some c }
 {
     let tag = Tag::of_number((word % 16) as u8)?;
-    let cause = ((word >> 4) % 16) as u8;
-    let generation = ((word >> 8) % u64::from(GENERATIONS)) as u32;
-    let payload = (word >> 32) as u32;
-    if is_allowed(tag, cause, payload) {
-        Some(ClaimWord {
-            tag,
-            cause,
-            generation,
-            payload,
-        })
-    } else {
-        None
+    if !says_something(word) {
+        return None;
     }
+    Some(ClaimWord {
+        tag,
+        cause: ((word >> 4) % 16) as u8,
+        generation: ((word >> 8) % u64::from(GENERATIONS)) as u32,
+        payload: (word >> 32) as u32,
+    })
 }

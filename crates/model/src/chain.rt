@@ -39,7 +39,7 @@ pub fn severs(requests: &[Request], k: usize) -> bool
     let op = placed_op(requests, k);
     let request = &requests[k];
     match request.stage.reply() {
-        Some(res) => fails(op, res) && (!request.sqe.flags().links_hard() || op == Op::Invalid),
+        Some(res) => fails(op, res) && (!request.sqe.links_hard() || op == Op::Invalid),
         None => false,
     }
 }

@@ -69,8 +69,7 @@ impl Request {
     pub fn joins(&self) -> bool
         ensures { result ≡ joins (Some (handed_of self.now)) }
     {
-        let flags = self.sqe.flags();
-        (flags.links_soft() || flags.links_hard()) && !self.last
+        (self.sqe.links_soft() || self.sqe.links_hard()) && !self.last
     }
 
     /// A LINK_TIMEOUT may stand directly behind it.

@@ -1,6 +1,19 @@
 //! The pipe.
+ghost use Rattle.std.specs.Prelude.{◌≡◌, ◌<◌, ◌≤◌, ◌↔◌, ◌⊎◌, ◌++◌, length, take, drop, nat_lt, nat_le, if◌then◌else◌, IfOk, IsErrOf};
+ghost use Rattle.pipe.specs.Pipe.{IsConduit};
+ghost use Rattle.pipe.specs.Answers.{new_conduit, answer_read, answer_write, answer_close, answer_poll, is_shut, events_at, free_in, moved, IfNow, OnIdle, after_read, after_write, after_close};
+
+use crate::ends::End;
+use crate::errno::{EBADF, EPIPE};
+use crate::error::PipeError;
+use crate::poll::{ALWAYS, POLLERR, POLLHUP, POLLIN, POLLOUT};
+use crate::ready::Ready;
 use circular_buffer::HeapCircularBuffer;
+use std::alloc::Global;
 use std::marker::Model;
+
+/// The largest capacity of a pipe, in bytes.
+pub const MAX_CAPACITY: u32 = 65536;
 
 /// A pipe of a fixed capacity. Contracts see its bytes and its ends as a `Conduit`.
 #[derive(Drop)]
@@ -15,7 +28,146 @@ impl Model for Pipe {
 
     ghost Value = { Conduit };
 
-    ghost view = { λ p. record { cap = p.bytes.capacity; content = p.bytes.items; read_shut = p.read_shut; write_shut = p.write_shut } };
+    ghost use Rattle.pipe.specs.Inside.{conduit_of};
 
-    ghost invariant = { λ p. IsConduit (record { cap = p.bytes.capacity; content = p.bytes.items; read_shut = p.read_shut; write_shut = p.write_shut }) };
+    ghost view = { conduit_of };
+
+    ghost invariant = { λ p. IsConduit (conduit_of p) };
+}
+
+impl Pipe {
+    /// An empty pipe for `cap` bytes, with both ends open. Its room is made here, once.
+    pub fn new(alloc: Global, cap: u32) -> Result<Pipe, PipeError>
+        ensures bad_capacity { IsErrOf result PipeError.BadCapacity ↔ ((cap ≡ 0) ⊎ (65536 < cap)) }
+        ensures empty { IfOk result (λ pipe. pipe ≡ new_conduit cap) }
+        ensures limits { IfOk result (λ pipe. IsConduit pipe) }
+    {
+        if cap == 0 || cap > MAX_CAPACITY {
+            return Err(PipeError::BadCapacity);
+        }
+        let bytes = HeapCircularBuffer::with_capacity(alloc, cap as usize)?;
+        Ok(Pipe {
+            bytes,
+            read_shut: false,
+            write_shut: false,
+        })
+    }
+
+    /// Takes the oldest bytes out, as many as `buffer` holds, and puts them at its front (read(2)).
+    /// `Now(0)` for a buffer that isn't empty is the end of the file.
+    pub fn read_into(&mut self, buffer: &mut [u8]) -> Ready<usize>
+        ensures answer { result ≡ answer_read self.old (length buffer.old) }
+        ensures data { buffer.new ≡ take (moved result) self.old.content ++ drop (moved result) buffer.old }
+        ensures left { self.new ≡ after_read (moved result) self.old }
+        ensures unchanged { OnIdle result ((self.new ≡ self.old) × (buffer.new ≡ buffer.old)) }
+        ensures count { IfNow result (λ n. n ≤ 65536) }
+        ensures limits { IsConduit self.new }
+    {
+        if self.read_shut {
+            Ready::Fail(EBADF)
+        } else if buffer.is_empty() {
+            Ready::Now(0)
+        } else if !self.bytes.is_empty() {
+            Ready::Now(self.bytes.read_into(buffer))
+        } else if self.write_shut {
+            Ready::Now(0)
+        } else {
+            Ready::Wait
+        }
+    }
+
+    /// Puts bytes in behind those that are there (write(2)). At most the capacity goes in whole or not at all, more
+    /// than that as far as there is room.
+    pub fn write_from(&mut self, bytes: &[u8]) -> Ready<usize>
+        ensures answer { result ≡ answer_write self.old (length bytes.now) }
+        ensures gone_in { self.new ≡ after_write (moved result) bytes.now self.old }
+        ensures unchanged { OnIdle result (self.new ≡ self.old) }
+        ensures count { IfNow result (λ n. n ≤ 65536) }
+        ensures limits { IsConduit self.new }
+    {
+        if self.write_shut {
+            Ready::Fail(EBADF)
+        } else if bytes.is_empty() {
+            Ready::Now(0)
+        } else if self.read_shut {
+            Ready::Fail(EPIPE)
+        } else if self.takes(bytes.len()) {
+            Ready::Now(self.bytes.fill_from_slice(bytes))
+        } else {
+            Ready::Wait
+        }
+    }
+
+    /// Closes an end (close(2)). An end is closed once.
+    pub fn close_end(&mut self, end: End) -> Ready<()>
+        ensures answer { result ≡ answer_close self.old end }
+        ensures closed { self.new ≡ after_close end self.old }
+        ensures unchanged { OnIdle result (self.new ≡ self.old) }
+        ensures limits { IsConduit self.new }
+    {
+        if self.is_shut(end) {
+            return Ready::Fail(EBADF);
+        }
+        match end {
+            End::Read => self.read_shut = true,
+            End::Write => self.write_shut = true,
+        }
+        Ready::Now(())
+    }
+
+    /// The events of an end that are in `mask`, and `POLLERR` and `POLLHUP` in any case (poll(2)).
+    pub fn poll_mask(&self, end: End, mask: u32) -> Ready<u32>
+        ensures answer { result ≡ answer_poll self.now end mask }
+        ensures bits { IfNow result (λ events. (0 < events) × (events < 32)) }
+        ensures limits { IsConduit self.now }
+    {
+        let events = self.events(end) & (mask | ALWAYS);
+        if self.is_shut(end) {
+            Ready::Fail(EBADF)
+        } else if events == 0 {
+            Ready::Wait
+        } else {
+            Ready::Now(events)
+        }
+    }
+
+    fn is_shut(&self, end: End) -> bool
+        ensures answer { result ≡ is_shut end self.now }
+        ensures limits { IsConduit self.now }
+    {
+        match end {
+            End::Read => self.read_shut,
+            End::Write => self.write_shut,
+        }
+    }
+
+    /// Whether a write of so many bytes goes in now: whole where the pipe is large enough, else in part.
+    fn takes(&self, len: usize) -> bool
+        ensures { result ≡ (if nat_le len self.now.cap then nat_le len (free_in self.now) else nat_lt 0 (free_in self.now)) }
+    {
+        let free = self.bytes.capacity() - self.bytes.len();
+        if len <= self.bytes.capacity() {
+            len <= free
+        } else {
+            free > 0
+        }
+    }
+
+    /// The events of an end.
+    fn events(&self, end: End) -> u32
+        ensures { result ≡ events_at end self.now }
+    {
+        match end {
+            End::Read => bits_if(!self.bytes.is_empty(), POLLIN)
+                | bits_if(self.write_shut, POLLHUP),
+            End::Write => bits_if(!self.bytes.is_full(), POLLOUT)
+                | bits_if(self.read_shut, POLLERR),
+        }
+    }
+}
+
+fn bits_if(holds: bool, bits: u32) -> u32
+    ensures { result ≡ (if holds then bits else 0) }
+{
+    if holds { bits } else { 0 }
 }

@@ -1,0 +1,7 @@
+//! The numbers of errors (errno(3)).
+
+/// The end is closed.
+pub const EBADF: i32 = 9;
+
+/// Nobody can read what is written.
+pub const EPIPE: i32 = 32;

@@ -1,0 +1,16 @@
+//! The bits of events (poll(2)).
+
+/// There are bytes to read.
+pub const POLLIN: u32 = 1;
+
+/// There is room for a byte.
+pub const POLLOUT: u32 = 4;
+
+/// The read end is closed. Told at the write end, also where nobody asked for it.
+pub const POLLERR: u32 = 8;
+
+/// The write end is closed. Told at the read end, also where nobody asked for it.
+pub const POLLHUP: u32 = 16;
+
+/// The events that are told where nobody asked for them, too.
+pub const ALWAYS: u32 = POLLERR | POLLHUP;

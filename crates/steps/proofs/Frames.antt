@@ -1,0 +1,109 @@
+-- A line about one request leaves all other cells and pipes as they were.
+use Rattle.std.specs.Prelude.{◌==◌}
+use Rattle.std.proofs.Common.{◌≡◌, ◌≢◌, ℕ, ◌<◌, Bool, true, false, cond, List, [], ◌∷◌, ◌++◌, Option, Some, None, sym, refl, ap, ◌∙◌, subst, ⊎_elim, arith, true≢false}
+use Rattle.model.specs.declared.req.Req.{Req}
+use Rattle.model.specs.declared.event.Event.{Event}
+use Rattle.model.specs.History.{Phase, unborn, waits, runs, armed, replied, same, answers, data_in, data_of, phase, submission, submits}
+use Rattle.model.specs.Chains.{is_timer, IsPlaced, Open}
+use Rattle.model.specs.Pipes.{flow}
+use Rattle.model.specs.Legal.{Setup, Legal, IsOf}
+use Rattle.model.proofs.Requests.{bool_cases}
+use Rattle.claim.specs.declared.tag.Tag.TheVariants.{Empty, Held, Ready, Running, Armed, Done}
+use Rattle.claim.specs.declared.tag.Tag.{Tag}
+use Rattle.steps.specs.declared.line.Line.{Line}
+use Rattle.steps.specs.declared.line.Line.TheVariants.{Did, Hold, Free}
+use Rattle.steps.specs.declared.view.Role.{Role}
+use Rattle.steps.specs.Journal.{events_of, holder}
+use Rattle.steps.specs.Cells.{held, Home, IsParcel, Keeps, Ages, MayBegin, Says, CellOk, PipeIs, PipeSays, PipeOk}
+use Rattle.steps.specs.Rule.{workers, stands_for, NoneOf}
+use Rattle.steps.proofs.Growing.{about, phase_stays, data_stays, freed_stays, lent_stays, counted_in, lasts_by, lasts, submission_lasts, placed_lasts, open_lasts, kind_lasts}
+
+abbrev pub Quiet : List ℕ → Line → ℕ → Type 0
+Quiet K l y = (n : ℕ) → about l (held K y n) ≡ false
+
+module _ (s : Setup) (l : Line) (j : List Line) (legal : Legal s (events_of (l ∷ j))) where
+  parcel_stays : (r : Req) (data' : List ℕ) (p : _) → r.k < submits (events_of j) r.ring → IsParcel j r data' p → IsParcel (l ∷ j) r data' p
+  parcel_stays r data' p c k = (k.0, lasts_by s (λ h. submission h r ≡ Some (record { entry = p.sqe; bytes = k.0; last = p.last })) r (submission_lasts s r _) l j legal c k.1, k.2)
+
+  pub keeps_stays : (r : Req) (home : Home) (data' : List ℕ) → r.k < submits (events_of j) r.ring → Keeps j r home data' → Keeps (l ∷ j) r home data'
+  keeps_stays r home data' c k = (k.0, k.1, parcel_stays r data' k.0 c k.2)
+
+  pub may_stays : (r : Req) → r.k < submits (events_of j) r.ring → MayBegin j r → MayBegin (l ∷ j) r
+  may_stays r c m = (lasts_by s (λ h. Open h r) r (open_lasts s r) l j legal c m.0, lasts_by s (λ h. IsOf h r is_timer false) r (kind_lasts s r is_timer false) l j legal c m.1)
+
+  before : Legal s (events_of j)
+  before = Rattle.steps.proofs.Growing.legal_tail s l j legal
+
+  born : (r : Req) (p : Phase) → phase (events_of j) r ≡ p → p ≢ unborn → r.k < submits (events_of j) r.ring
+  born r p is n = counted_in s j r p before is n
+
+  says_stays : (r : Req) (home : Home) (cause payload : ℕ) → about l r ≡ false → (t : Tag) → Says j r home cause payload t → Says (l ∷ j) r home cause payload t
+  says_stays r home cause payload a Empty x = (x.0, x.1, phase_stays l j r a ∙ x.2, freed_stays l j r a ∙ x.3, λ o. x.4 (sym (lent_stays l j r a) ∙ o))
+  says_stays r home cause payload a Held x = let c = born r waits x.2 (λ e. cc) in (x.0, x.1, phase_stays l j r a ∙ x.2, freed_stays l j r a ∙ x.3, lent_stays l j r a ∙ x.4, keeps_stays r home [] c x.5)
+  says_stays r home cause payload a Ready x = let c = born r waits x.2 (λ e. cc) in (x.0, x.1, phase_stays l j r a ∙ x.2, freed_stays l j r a ∙ x.3, lent_stays l j r a ∙ x.4, keeps_stays r home [] c x.5, may_stays r c x.6)
+  says_stays r home cause payload a Running x = let c = born r runs x.2 (λ e. cc) in (x.0, x.1, phase_stays l j r a ∙ x.2, freed_stays l j r a ∙ x.3, lent_stays l j r a ∙ x.4, may_stays r c x.5)
+  says_stays r home cause payload a Armed x = let c = born r (armed payload) x.1 (λ e. cc) in (x.0, phase_stays l j r a ∙ x.1, freed_stays l j r a ∙ x.2, lent_stays l j r a ∙ x.3, keeps_stays r home [] c x.4)
+  says_stays r home cause payload a Done x = let c = born r (replied x.0 x.1) x.3 (λ e. cc) in (
+    x.0,
+    x.1,
+    x.2,
+    phase_stays l j r a ∙ x.3,
+    x.4,
+    lasts_by s (λ h. IsPlaced h r x.2) r (placed_lasts s r x.2) l j legal c x.5,
+    x.6,
+    λ o. subst (Keeps (l ∷ j) r home) (sym (data_stays l j r a)) (keeps_stays r home _ c (x.7 (sym (lent_stays l j r a) ∙ o))),
+  )
+
+  pub ages_stay : (K : List ℕ) (x g : ℕ) → ((n : ℕ) → ¬ (n ≡ g) → about l (held K x n) ≡ false) → Ages K j x g → Ages K (l ∷ j) x g
+  ages_stay K x g quiet a = record {
+    before = λ n lt. (let b = a.before n lt in (b.0, b.1, phase_stays l j (held K x n) (quiet n (omega arith)) ∙ b.2));
+    after = λ n lt. phase_stays l j (held K x n) (quiet n (omega arith)) ∙ a.after n lt;
+    unfreed = λ n lt. freed_stays l j (held K x n) (quiet n (omega arith)) ∙ a.unfreed n lt;
+    unlent = λ n lt. lent_stays l j (held K x n) (quiet n (omega arith)) ∙ a.unlent n lt;
+  }
+
+  pub cell_stays : (K : List ℕ) (y word : ℕ) (home : Home) → Quiet K l y → CellOk K j y word home → CellOk K (l ∷ j) y word home
+  cell_stays K y word home q c = record {
+    tag = c.tag;
+    cause = c.cause;
+    gen = c.gen;
+    payload = c.payload;
+    fits = c.fits;
+    word_is = c.word_is;
+    says = says_stays (held K y c.gen) home c.cause c.payload (q c.gen) c.tag c.says;
+    ages = ages_stay K y c.gen (λ n _. q n) c.ages;
+  }
+
+-- of a pipe at home the content stays
+module _ (caps : List ℕ) (l : Line) (j : List Line) (p word : ℕ) (home : Home) where
+  by_holder : (o : Option Req) → (o ≡ None → flow (events_of (l ∷ j)) p ≡ flow (events_of j) p) → PipeSays caps j p word home o → PipeSays caps (l ∷ j) p word home o
+  by_holder None f s = (s.0, s.1, s.2, subst (PipeIs caps p s.1) (sym (f refl)) s.3)
+  by_holder (Some r) f s = s
+
+  pub pipe_stays : holder (l ∷ j) p ≡ holder j p → (holder j p ≡ None → flow (events_of (l ∷ j)) p ≡ flow (events_of j) p) → PipeOk caps j p word home → PipeOk caps (l ∷ j) p word home
+  pipe_stays same f ok = subst (PipeSays caps (l ∷ j) p word home) (sym same) (by_holder (holder j p) f ok)
+
+-- while a seat that acts for r does nothing, it gets no pipe
+module _ (role : Role) (r : Req) (p : ℕ) (mine : stands_for role (workers r) ≡ true) where
+  some_one : (q c : Req) → Some q ≡ Some c → q ≡ c
+  some_one q c e = cc
+
+  not_else : (q : Req) → stands_for role (workers q) ≡ false → Some r ≡ Some q → ⊥
+  not_else q n e = true≢false (sym mine ∙ (ap (λ (z : Req). stands_for role (workers z)) (some_one r q e) ∙ n))
+
+  lacks_by : (l : Line) (j : List Line) → Rattle.steps.specs.Rule.owns role l ≡ false → holder j p ≢ Some r → holder (l ∷ j) p ≢ Some r
+  lacks_by (Hold q m) j n h = λ is. ⊎_elim
+      (λ (t : (m == p) ≡ true). not_else q n (sym is ∙ ap (λ (b : Bool). cond b (Some q) (holder j p)) t))
+      (λ (t : (m == p) ≡ false). h (sym (ap (λ (b : Bool). cond b (Some q) (holder j p)) t) ∙ is)) (bool_cases (m == p))
+  lacks_by (Free q m) j n h = λ is. ⊎_elim
+      (λ (t : (m == p) ≡ true). let z = sym is ∙ ap (λ (b : Bool). cond b None (holder j p)) t in cc)
+      (λ (t : (m == p) ≡ false). h (sym (ap (λ (b : Bool). cond b None (holder j p)) t) ∙ is)) (bool_cases (m == p))
+  lacks_by l j n h = h
+
+  pub still_lacks : (later seen : List Line) → NoneOf role later → holder seen p ≢ Some r → holder (later ++ seen) p ≢ Some r
+  still_lacks [] seen n h = h
+  still_lacks (l ∷ later) seen n h = lacks_by l (later ++ seen) n.0 (still_lacks later seen n.1 h)
+
+-- an event that answers a request gives the slot its data
+pub done_keeps : (e : Event) (j : List Line) (q : Req) (home : Home) → answers e q ≡ true → Keeps (Did e ∷ j) q home (data_in e) → Keeps (Did e ∷ j) q home (data_of (events_of (Did e ∷ j)) q)
+done_keeps e j q home w k = subst (Keeps (Did e ∷ j) q home) (sym (ap (λ b. cond b (data_in e) (data_of (events_of j) q)) w)) k

@@ -1,0 +1,15 @@
+pub mod Combining
+pub mod Ends
+pub mod Frames
+pub mod Giving
+pub mod Growing
+pub mod Lending
+pub mod Numbers
+pub mod Path
+pub mod Roles
+pub mod Running
+pub mod Served
+pub mod Setting
+pub mod Steps
+pub mod Views
+pub mod Words

@@ -1,0 +1,97 @@
+-- Whose lines are whose: two roles that are apart own no line together.
+use Rattle.std.proofs.Common.{◌≡◌, ◌⊎◌, true, false, not, sym, refl, ap, ◌∙◌, subst, inl, inr, true≢false, arith}
+use Rattle.std.proofs.lemmas.Bool.Decides.{nat_tests}
+use Rattle.model.specs.declared.req.Req.{Req}
+use Rattle.model.specs.History.{same}
+use Rattle.model.proofs.Requests.{same_itself, same_true}
+use Rattle.steps.specs.declared.line.Line.{Line}
+use Rattle.steps.specs.declared.view.Role.{Role}
+use Rattle.steps.specs.declared.view.Role.TheVariants.{Poller, Submitter, Lending, Idle, Busy, Leaving, Spent}
+use Rattle.steps.specs.Rule.{Owner, nobody, pollers, rings, workers, owner, stands_for, owns, apart}
+
+pub same_sym : (a b : Req) → same a b ≡ same b a
+same_sym a b = grind (arith, nat_tests)
+
+not_both : (r q c : Req) → not (same r q) ≡ true → same c r ≡ true → same c q ≡ false
+not_both r q c h w = elim (same c q) as (λ b. same c q ≡ b → b ≡ false) [ true ↦ λ e. absurd (true≢false (sym (sym (ap not (same_sym r q ∙ subst (λ (z : Req). same z r ≡ true) (same_true c q e) w)) ∙ h))) | false ↦ λ e. refl ] refl
+
+-- while it has a slot, a submitter stays apart from the same seats
+pub as_lending : (r : Req) (u : Role) → apart (Submitter r.ring) u ≡ apart (Lending r) u
+as_lending r (Poller n) = refl
+as_lending r u = refl
+
+pub unowned : (a : Role) → stands_for a nobody ≡ false
+unowned (Poller n) = refl
+unowned a = refl
+
+own_apart : (o : Owner) (a b : Role) → apart a b ≡ true → stands_for a o ≡ true → stands_for b o ≡ false
+own_apart nobody a b h w = absurd (true≢false (sym w ∙ unowned a))
+own_apart pollers (Poller n) (Poller m) h w = cc
+own_apart pollers (Poller n) b h w = refl
+own_apart pollers a b h w = cc
+own_apart (rings l) (Poller n) (Poller m) h w = cc
+own_apart (rings l) (Poller n) (Submitter i) h w = grind (arith, nat_tests)
+own_apart (rings l) (Poller n) (Lending r) h w = grind (arith, nat_tests)
+own_apart (rings l) (Poller n) b h w = refl
+own_apart (rings l) (Submitter i) (Poller n) h w = grind (arith, nat_tests)
+own_apart (rings l) (Submitter i) (Submitter m) h w = grind (arith, nat_tests)
+own_apart (rings l) (Submitter i) (Lending r) h w = grind (arith, nat_tests)
+own_apart (rings l) (Submitter i) b h w = refl
+own_apart (rings l) (Lending r) (Poller n) h w = grind (arith, nat_tests)
+own_apart (rings l) (Lending r) (Submitter m) h w = grind (arith, nat_tests)
+own_apart (rings l) (Lending r) (Lending q) h w = grind (arith, nat_tests)
+own_apart (rings l) (Lending r) b h w = refl
+own_apart (rings l) a b h w = cc
+own_apart (workers c) (Busy r) (Busy q) h w = not_both r q c h w
+own_apart (workers c) (Busy r) (Leaving q) h w = not_both r q c h w
+own_apart (workers c) (Busy r) b h w = refl
+own_apart (workers c) (Leaving r) (Busy q) h w = not_both r q c h w
+own_apart (workers c) (Leaving r) (Leaving q) h w = not_both r q c h w
+own_apart (workers c) (Leaving r) b h w = refl
+own_apart (workers c) a b h w = cc
+
+pub others_own : (a b : Role) (l : Line) → apart a b ≡ true → owns a l ≡ true → owns b l ≡ false
+others_own a b l h w = own_apart (owner l) a b h w
+
+pub apart_sym : (a b : Role) → apart a b ≡ true → apart b a ≡ true
+apart_sym (Submitter i) (Submitter l) h = grind (arith, nat_tests)
+apart_sym (Submitter i) (Lending r) h = grind (arith, nat_tests)
+apart_sym (Lending r) (Submitter i) h = grind (arith, nat_tests)
+apart_sym (Lending r) (Lending q) h = grind (arith, nat_tests)
+apart_sym (Lending r) (Poller n) h = h
+apart_sym (Poller n) (Lending r) h = h
+apart_sym (Busy r) (Busy q) h = ap not (same_sym q r) ∙ h
+apart_sym (Busy r) (Leaving q) h = ap not (same_sym q r) ∙ h
+apart_sym (Leaving r) (Busy q) h = ap not (same_sym q r) ∙ h
+apart_sym (Leaving r) (Leaving q) h = ap not (same_sym q r) ∙ h
+apart_sym (Poller n) (Submitter i) h = h
+apart_sym (Submitter i) (Poller n) h = h
+apart_sym (Poller n) (Poller m) h = h
+apart_sym Idle (Poller n) h = refl
+apart_sym Idle b h = refl
+apart_sym Spent (Poller n) h = refl
+apart_sym Spent b h = refl
+apart_sym a b h = refl
+
+pub idle_apart : (a : Role) → apart Idle a ≡ true
+idle_apart (Poller n) = refl
+idle_apart a = refl
+
+pub spent_apart : (a : Role) → apart Spent a ≡ true
+spent_apart (Poller n) = refl
+spent_apart a = refl
+
+pub busy_apart : (r : Req) (a : Role) → ((q : Req) → stands_for a (workers q) ≡ true → same r q ≡ false) → apart (Busy r) a ≡ true
+busy_apart r (Busy q) h = ap not (h q (same_itself q))
+busy_apart r (Leaving q) h = ap not (h q (same_itself q))
+busy_apart r (Poller n) h = refl
+busy_apart r a h = refl
+
+pub worker_is : (a : Role) (q : Req) → stands_for a (workers q) ≡ true → (a ≡ Busy q) ⊎ (a ≡ Leaving q)
+worker_is (Busy r) q h = inl (ap Busy (sym (same_true q r h)))
+worker_is (Leaving r) q h = inr (ap Leaving (sym (same_true q r h)))
+worker_is (Poller n) q h = absurd (true≢false (sym h))
+worker_is (Submitter i) q h = absurd (true≢false (sym h))
+worker_is (Lending r) q h = absurd (true≢false (sym h))
+worker_is Idle q h = absurd (true≢false (sym h))
+worker_is Spent q h = absurd (true≢false (sym h))

@@ -1,0 +1,12 @@
+use Rattle.std.proofs.Common.{sym, ◌∙◌, eq-eqb, refl, arith, eqb-true}
+use Rattle.steps.proofs.Path.{begin_allows}
+use Rattle.steps.proofs.seat.begin.Goals as goal
+
+pub compare_exchange-requires : goal.compare_exchange-requires
+compare_exchange-requires c = let f = c.requires.fits in (f.0, omega arith, begin_allows _ _ _ _ c.args.cell c.args.generation _ _ c.requires.idle.0 c.requires.idle.1 f.2 c.requires.small c.ready-ready.ensures c.running-running.ensures)
+
+pub returns-clause-begins : goal.returns-clause-begins
+returns-clause-begins c = let f = c.requires.fits in let p = c.compare_exchange.ensures.2.0 in λ e. p (eqb-true _ _ e) c.args.cell c.args.generation 0 refl f.2 c.requires.small (omega arith) c.ready-ready.ensures
+
+pub returns-clause-missed : goal.returns-clause-missed
+returns-clause-missed c = let f = c.requires.fits in λ ne. let m = c.compare_exchange.ensures.2.1 (λ hit. ne (eq-eqb _ _ hit)) in (c.compare_exchange.result, m.3, m.2 c.args.cell refl f.2, λ e. ne (eq-eqb _ _ (e ∙ sym c.ready-ready.ensures)))

@@ -1,0 +1,158 @@
+-- Where the cells of the rings and the pipes lie in the table, and what their words and slots say.
+-- Word 0 is the clock, the words 1 to 64 are the pipes', and from word 72 on each cell has a line of eight: its claim word and seven note words. The slots 0 to 63 are the pipes', and then comes one a cell.
+use Rattle.std.specs.Prelude.{◌≡◌, ℕ, suc, ◌+◌, ◌-◌, ◌*◌, ◌<◌, nat_lt, cond, Bool, true, false, List, [], ◌∷◌, ◌++◌, drop, length, ℤ, pos, negsuc, slice_index, Option, Some, None}
+use mathlib.Core.Option as maybe
+use mathlib.Core.Option.{some}
+use lib.ListN.{get_elem?}
+use Rattle.claim.specs.declared.tag.Tag.{Tag}
+use Rattle.claim.specs.declared.tag.Tag.TheVariants.{Empty, Held, Ready, Running, Armed, Done}
+use Rattle.claim.specs.Claim.{packed}
+use Rattle.entry.specs.Entry.{Entry, fails}
+use Rattle.model.specs.declared.req.Req.{Req}
+use Rattle.model.specs.History.{Cause, by_reply, by_take, by_expire, by_fire, by_settle, by_sever, by_cut, submission, unborn, waits, runs, armed, replied, reaped, phase, data_of}
+use Rattle.model.specs.Chains.{is_timer, IsPlaced, Open}
+use Rattle.model.specs.Pipes.{Flow, flow, content, untouched}
+use Rattle.model.specs.Legal.{Setup, IsOf}
+use Rattle.steps.specs.declared.line.Line.{Line}
+use Rattle.steps.specs.declared.parcel.Parcel.{Parcel}
+use Rattle.steps.specs.declared.parcel.Thing.{Thing}
+use Rattle.steps.specs.declared.parcel.Thing.TheVariants.{Full, Piped}
+use Rattle.steps.specs.declared.view.Layout.{Layout}
+use Rattle.steps.specs.Journal.{events_of, freed, lent, holder}
+
+-- the group of rings that the board is
+abbrev pub setup_of : Layout → Setup
+setup_of L = record { rings = length L.cells; caps = L.caps }
+
+abbrev pub claim_at : ℕ → ℕ
+claim_at x = 8 * x + 72
+
+-- the user_data of the cell's request stands here from before its Submit on
+abbrev pub user_at : ℕ → ℕ
+user_at x = 8 * x + 73
+
+-- here stands, from before its Reap on, whether the reply of the cell's last request failed
+abbrev pub outcome_at : ℕ → ℕ
+outcome_at x = 8 * x + 74
+
+abbrev pub pipe_at : ℕ → ℕ
+pipe_at p = p + 1
+
+abbrev pub slot_at : ℕ → ℕ
+slot_at x = x + 64
+
+-- the number of cells of the ring i, 0 where there is none
+abbrev pub cells_in : List ℕ → ℕ → ℕ
+cells_in K i = slice_index K i
+
+abbrev pub total : List ℕ → ℕ
+total [] = 0
+total (n ∷ K) = n + total K
+
+-- the ring of the cell x, and its place there: the cells are numbered from 0 in the order of the rings
+abbrev pub ring_of : List ℕ → ℕ → ℕ
+ring_of [] x = 0
+ring_of (n ∷ K) x = cond (nat_lt x n) 0 (suc (ring_of K (x - n)))
+
+abbrev pub place_of : List ℕ → ℕ → ℕ
+place_of [] x = x
+place_of (n ∷ K) x = cond (nat_lt x n) x (place_of K (x - n))
+
+abbrev pub IsCell : List ℕ → ℕ → Type 0
+IsCell K x = x < total K
+
+-- the request of generation g in the cell x
+abbrev pub held : List ℕ → ℕ → ℕ → Req
+held K x g = record { ring = ring_of K x; k = g * cells_in K (ring_of K x) + place_of K x }
+
+-- a claim word: tag, cause, generation and payload, one above the other
+abbrev pub word_of : Tag → ℕ → ℕ → ℕ → ℕ
+word_of tag cause gen payload = packed (record { tag = tag; cause = cause; generation = gen; payload = payload })
+
+-- the 32 bits of a reply
+abbrev pub bits_of : ℤ → ℕ → Type 0
+bits_of (pos n) b = (n < 2147483648) × (b ≡ n)
+bits_of (negsuc n) b = (n < 2147483648) × (b + n + 1 ≡ 4294967296)
+
+-- how a claim word names the event that answered: bit 3 says that the reply is a failure
+abbrev pub cause_number : Cause → ℕ
+cause_number by_reply = 1
+cause_number by_take = 2
+cause_number by_expire = 3
+cause_number by_fire = 4
+cause_number by_settle = 5
+cause_number by_sever = 6
+cause_number by_cut = 7
+
+abbrev pub cause_bits : Cause → Bool → ℕ
+cause_bits c fails' = cause_number c + cond fails' 8 0
+
+abbrev pub Home : Type 0
+Home = maybe.Option (maybe.Option (Option Thing))
+
+-- the first bytes are the data
+abbrev pub over : List ℕ → List ℕ → List ℕ
+over data' bytes = data' ++ drop (length data') bytes
+
+-- the parcel is what was handed in as r, with these data over the front of its buffer
+abbrev pub IsParcel : List Line → Req → List ℕ → Parcel → Type 0
+IsParcel j r data' p = (bytes : List ℕ) × (submission (events_of j) r ≡ Some (record { entry = p.sqe; bytes = bytes; last = p.last })) × (p.buffer.items ≡ over data' bytes)
+
+-- the slot is at home and has what was handed in
+abbrev pub Keeps : List Line → Req → Home → List ℕ → Type 0
+Keeps j r home data' = (p : Parcel) × (home ≡ some (some (Some (Full p)))) × IsParcel j r data' p
+
+-- earlier generations were reaped, and later ones not yet submitted
+pub record Ages (K : List ℕ) (j : List Line) (x g : ℕ) : Type 0 where
+  pub before : (n : ℕ) → n < g → (c : Cause) × (res : ℤ) × (phase (events_of j) (held K x n) ≡ reaped c res)
+  pub after : (n : ℕ) → g < n → phase (events_of j) (held K x n) ≡ unborn
+  pub unfreed : (n : ℕ) → g < n → freed j (held K x n) ≡ false
+  pub unlent : (n : ℕ) → g < n → lent j (held K x n) ≡ false
+
+-- a worker may begin it
+abbrev pub MayBegin : List Line → Req → Type 0
+MayBegin j r = Open (events_of j) r × IsOf (events_of j) r is_timer false
+
+module _ (j : List Line) (r : Req) (home : Home) (cause payload : ℕ) where
+  -- what the word says of its request, by its tag
+  abbrev pub Says : Tag → Type 0
+  Says Empty = (cause ≡ 0) × (payload ≡ 0) × (phase (events_of j) r ≡ unborn) × (freed j r ≡ false) × (lent j r ≡ false → home ≡ some (some None))
+  Says Held = (cause ≡ 0) × (payload ≡ 0) × (phase (events_of j) r ≡ waits) × (freed j r ≡ false) × (lent j r ≡ false) × Keeps j r home []
+  Says Ready = (cause ≡ 0) × (payload ≡ 0) × (phase (events_of j) r ≡ waits) × (freed j r ≡ true) × (lent j r ≡ false) × Keeps j r home [] × MayBegin j r
+  Says Running = (cause ≡ 0) × (payload ≡ 0) × (phase (events_of j) r ≡ runs) × (freed j r ≡ true) × (lent j r ≡ false) × MayBegin j r
+  Says Armed = (cause ≡ 0) × (phase (events_of j) r ≡ armed payload) × (freed j r ≡ false) × (lent j r ≡ false) × Keeps j r home []
+  Says Done = (c : Cause) × (res : ℤ) × (e : Entry) × (phase (events_of j) r ≡ replied c res) × bits_of res payload × IsPlaced (events_of j) r e × (cause ≡ cause_bits c (fails e res)) × (lent j r ≡ false → Keeps j r home (data_of (events_of j) r))
+
+-- what the claim word and the slot of the cell x say
+pub record CellOk (K : List ℕ) (j : List Line) (x word : ℕ) (home : Home) : Type 0 where
+  pub tag : Tag
+  pub cause : ℕ
+  pub gen : ℕ
+  pub payload : ℕ
+  pub fits : (cause < 16) × (gen < 16777216) × (payload < 4294967296)
+  pub word_is : word ≡ word_of tag cause gen payload
+  pub says : Says j (held K x gen) home cause payload tag
+  pub ages : Ages K j x gen
+
+-- the pipe in the slot is the pipe that the history tells; there is none where the layout has none
+abbrev pub PipeIs : List ℕ → ℕ → Option Thing → Flow → Type 0
+PipeIs caps p None w = length caps < suc p
+PipeIs caps p (Some (Full x)) w = ⊥
+PipeIs caps p (Some (Piped v)) w = (v.cap ≡ slice_index caps p) × (v.content ≡ content w) × (v.read_shut ≡ w.read_shut) × (v.write_shut ≡ w.write_shut)
+
+-- what a pipe's word says: 0 at home, 1 out
+abbrev pub PipeSays : List ℕ → List Line → ℕ → ℕ → Home → Option Req → Type 0
+PipeSays caps j p word home None = (word ≡ 0) × (o : Option Thing) × (home ≡ some (some o)) × PipeIs caps p o (flow (events_of j) p)
+PipeSays caps j p word home (Some r) = word ≡ 1
+
+abbrev pub PipeOk : List ℕ → List Line → ℕ → ℕ → Home → Type 0
+PipeOk caps j p word home = PipeSays caps j p word home (holder j p)
+
+abbrev pub IsCapacity : ℕ → Type 0
+IsCapacity n = (0 < n) × (n < 65537)
+
+-- the slots of a new table
+pub record AreNewSlots (caps : List ℕ) (rows : ℕ) (slots : List (Option Thing)) : Type 0 where
+  pub long : length slots ≡ rows + 64
+  pub empty : (x : ℕ) → x < rows → get_elem? slots (x + 64) ≡ some None
+  pub pipes : (p : ℕ) → p < 64 → (o : Option Thing) × (get_elem? slots p ≡ some o) × PipeIs caps p o untouched

@@ -1,0 +1,106 @@
+-- The journal: the history's events, newest first, and between them what seats do without an event. Who was moved to Ready, which slot or pipe is out with whom, and what stands in a note word, is read off it.
+use Rattle.std.specs.Prelude.{◌≡◌, ℕ, ◌==◌, Bool, true, false, cond, ℤ, pos, negsuc, List, [], ◌∷◌, Option, Some, None}
+use Rattle.entry.specs.declared.op.Op.{Op}
+use Rattle.entry.specs.declared.op.Op.TheVariants.{Nop, Close, Read, Write, PollAdd, Invalid}
+use Rattle.entry.specs.Entry.{Entry, drains}
+use Rattle.model.specs.declared.req.Req.{Req}
+use Rattle.model.specs.declared.event.Event.{Event}
+use Rattle.model.specs.declared.event.Event.TheVariants.{Submit, Reply, Reap}
+use Rattle.model.specs.History.{same}
+use Rattle.model.specs.Chains.{placed}
+use Rattle.model.specs.Pipes.{End, no_end, read_end, write_end, end_of}
+use Rattle.steps.specs.declared.line.Line.{Line}
+use Rattle.steps.specs.declared.line.Line.TheVariants.{Did, Freed, Lent, Noted, Hold, Free}
+
+abbrev pub event_of : Line → List Event → List Event
+event_of (Did e) h = e ∷ h
+event_of _ h = h
+
+-- the history
+abbrev pub events_of : List Line → List Event
+events_of [] = []
+events_of (l ∷ j) = event_of l (events_of j)
+
+abbrev pub frees : Line → Req → Bool
+frees (Freed r) q = same r q
+frees _ q = false
+
+-- the request was moved to Ready
+abbrev pub freed : List Line → Req → Bool
+freed [] q = false
+freed (l ∷ j) q = cond (frees l q) true (freed j q)
+
+abbrev pub lends : Line → Req → Bool → Bool
+lends (Lent r word value) q b = cond (same r q) true b
+lends (Did (Submit r e bytes last)) q b = cond (same r q) false b
+lends (Did (Reap r)) q b = cond (same r q) false b
+lends _ q b = b
+
+-- the submitter has the slot of the request's cell
+abbrev pub lent : List Line → Req → Bool
+lent [] q = false
+lent (l ∷ j) q = lends l q (lent j q)
+
+abbrev pub stores : Line → ℕ → ℕ → ℕ
+stores (Lent r word value) w n = cond (word == w) value n
+stores (Noted r word value) w n = cond (word == w) value n
+stores _ w n = n
+
+-- what was stored last in this note word
+abbrev pub noted : List Line → ℕ → ℕ
+noted [] w = 0
+noted (l ∷ j) w = stores l w (noted j w)
+
+abbrev pub holds : Line → ℕ → Option Req → Option Req
+holds (Hold r n) p o = cond (n == p) (Some r) o
+holds (Free r n) p o = cond (n == p) None o
+holds _ p o = o
+
+-- for which request a worker has the pipe p
+abbrev pub holder : List Line → ℕ → Option Req
+holder [] p = None
+holder (l ∷ j) p = holds l p (holder j p)
+
+abbrev pub is_end_of : End → ℕ → Bool
+is_end_of no_end p = false
+is_end_of (read_end n) p = n == p
+is_end_of (write_end n) p = n == p
+
+abbrev pub uses : Op → ℕ → Bool
+uses (Read fd offset len) p = is_end_of (end_of fd) p
+uses (Write fd offset len) p = is_end_of (end_of fd) p
+uses (Close fd) p = is_end_of (end_of fd) p
+uses (PollAdd fd mask) p = is_end_of (end_of fd) p
+uses _ p = false
+
+-- the request is answered from the pipe p
+abbrev pub touches : Option Entry → ℕ → Bool
+touches None p = false
+touches (Some e) p = uses e.op p
+
+-- what the board serves so far: batches of one, of NOP and Invalid entries, without IO_DRAIN
+abbrev pub is_served : Op → Bool
+is_served Nop = true
+is_served Invalid = true
+is_served _ = false
+
+abbrev pub Serves : Entry → Bool → Type 0
+Serves e last = (is_served e.op ≡ true) × (drains e ≡ false) × (last ≡ true)
+
+-- the reply of an operation that needs no pipe and no clock
+abbrev pub PlainAnswer : Op → ℤ → Type 0
+PlainAnswer Nop res = res ≡ pos 0
+PlainAnswer Invalid res = res ≡ negsuc 21
+PlainAnswer _ res = ⊥
+
+-- only who has a pipe changes it or gives it back, and nobody takes it from him
+abbrev pub Fair : List Line → Line → Type 0
+Fair j (Did (Submit r e bytes last)) = Serves e last
+Fair j (Did (Reply r res data')) = (p : ℕ) → touches (placed (events_of j) r) p ≡ true → holder j p ≡ Some r
+Fair j (Hold r p) = holder j p ≡ None
+Fair j (Free r p) = holder j p ≡ Some r
+Fair j _ = Unit {0}
+
+abbrev pub Orderly : List Line → Type 0
+Orderly [] = Unit {0}
+Orderly (l ∷ j) = Fair j l × Orderly j

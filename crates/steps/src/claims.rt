@@ -1,0 +1,54 @@
+//! The claim words that steps write and look for.
+ghost use Rattle.std.specs.Prelude.{◌≡◌, ◌+◌, ◌<◌, cond, ℕ};
+ghost use Rattle.claim.specs.declared.tag.Tag.TheVariants.{Empty, Held, Ready, Running, Done};
+ghost use Rattle.model.specs.History.{by_reply};
+ghost use Rattle.steps.specs.Cells.{word_of, bits_of, cause_bits};
+
+use claim::{Cause, ClaimWord, pack};
+
+/// No request yet of this generation.
+pub fn empty(generation: u32) -> u64
+    requires { generation < 16777216 }
+    ensures { result ≡ word_of Empty 0 generation 0 }
+{
+    pack(ClaimWord::empty(generation))
+}
+
+/// The request of this generation was submitted.
+pub fn held(generation: u32) -> u64
+    requires { generation < 16777216 }
+    ensures { result ≡ word_of Held 0 generation 0 }
+{
+    pack(ClaimWord::held(generation))
+}
+
+/// A worker may begin the request.
+pub fn ready(generation: u32) -> u64
+    requires { generation < 16777216 }
+    ensures { result ≡ word_of Ready 0 generation 0 }
+{
+    pack(ClaimWord::ready(generation))
+}
+
+/// A worker runs the request.
+pub fn running(generation: u32) -> u64
+    requires { generation < 16777216 }
+    ensures { result ≡ word_of Running 0 generation 0 }
+{
+    pack(ClaimWord::running(generation))
+}
+
+/// A worker answered the request.
+pub fn done(generation: u32, fails: bool, res: i32) -> u64
+    requires { generation < 16777216 }
+    ensures { (b : ℕ) → bits_of res b → result ≡ word_of Done (cause_bits by_reply fails) generation b }
+{
+    pack(ClaimWord::done(generation, Cause::Reply, fails, res))
+}
+
+/// What the outcome word of a cell says: 1 where the last reply was a failure.
+pub fn outcome(failed: bool) -> u64
+    ensures { result ≡ cond failed 1 0 }
+{
+    if failed { 1 } else { 0 }
+}

@@ -1,0 +1,18 @@
+//! The shared table of a board: its words and slots, the one rule over them, and each kind of step that a pass takes.
+#![tactic(auto)]
+
+pub mod claims;
+pub mod law;
+pub mod line;
+pub mod parcel;
+mod plays;
+pub mod seat;
+pub mod submitter;
+pub mod table;
+pub mod view;
+
+pub use law::{About, Law};
+pub use line::Line;
+pub use parcel::{Parcel, Thing};
+pub use table::{BoardTable, Place, Words};
+pub use view::{Layout, Role, Step, View};

@@ -1,0 +1,94 @@
+//! What each kind of step tells its seat, as the table takes it.
+ghost use Rattle.claim.specs.declared.tag.Tag.TheVariants.{Empty, Held, Ready, Running, Done};
+ghost use Rattle.steps.specs.Plays.{looked, tried, sure, released, began, submitted, replied_with, parked, reaps, opened, emptied};
+ghost use Rattle.steps.specs.Rule.{without_next, without_one, next_submitter, idle_one, messenger, hearing, spent_view};
+
+use crate::parcel::Thing;
+use crate::view::View;
+use atomic_table::{Join, Play, Split};
+
+pub(crate) struct Look;
+
+impl Play<Option<Thing>, View> for Look {
+    ghost then = { looked };
+}
+
+pub(crate) struct Release;
+
+impl Play<Option<Thing>, View> for Release {
+    ghost then = { tried Held released };
+}
+
+pub(crate) struct Begin;
+
+impl Play<Option<Thing>, View> for Begin {
+    ghost then = { tried Ready began };
+}
+
+pub(crate) struct Reply;
+
+impl Play<Option<Thing>, View> for Reply {
+    ghost then = { sure Running replied_with };
+}
+
+pub(crate) struct Park;
+
+impl Play<Option<Thing>, View> for Park {
+    ghost then = { sure Running parked };
+}
+
+pub(crate) struct OpenCell;
+
+impl Play<Option<Thing>, View> for OpenCell {
+    ghost then = { opened };
+}
+
+pub(crate) struct EmptyCell;
+
+impl Play<Option<Thing>, View> for EmptyCell {
+    ghost then = { emptied };
+}
+
+pub(crate) struct Submit;
+
+impl Play<Option<Thing>, View> for Submit {
+    ghost then = { sure Empty submitted };
+}
+
+pub(crate) struct Reap;
+
+impl Play<Option<Thing>, View> for Reap {
+    ghost then = { sure Done reaps };
+}
+
+pub(crate) struct CutSubmitter;
+
+impl Split<View> for CutSubmitter {
+    ghost left = { without_next };
+
+    ghost right = { next_submitter };
+}
+
+pub(crate) struct CutWorker;
+
+impl Split<View> for CutWorker {
+    ghost left = { without_one };
+
+    ghost right = { idle_one };
+}
+
+pub(crate) struct CutMessenger;
+
+impl Split<View> for CutMessenger {
+    ghost left = { λ v. v };
+
+    ghost right = { messenger };
+}
+
+pub(crate) struct Hear;
+
+impl Join<View> for Hear {
+    ghost both = { hearing };
+
+    ghost spent = { spent_view };
+}

@@ -1,0 +1,52 @@
+//! Where the requests of the rings lie among the cells of the table.
+ghost use Rattle.std.specs.Prelude.{◌≡◌, ◌<◌, ◌≤◌, length, IfSome, IfNone};
+ghost use Rattle.steps.specs.Cells.{IsCell, held};
+
+use model::Req;
+use std::marker::Model;
+
+/// A request's cell, and which generation of it the request is.
+#[derive(Clone, Copy, PartialEq, Eq, Debug)]
+pub struct Spot {
+    pub cell: usize,
+    pub generation: u64,
+}
+
+/// The cells of one ring: the number of its first one, and how many there are.
+#[derive(Clone, Copy, PartialEq, Eq, Debug)]
+pub struct Row {
+    first: usize,
+    cells: u64,
+}
+
+/// The cells of all rings, one ring's behind the other's. Contracts see how many cells each ring has.
+#[derive(Drop)]
+pub struct Grid {
+    rows: Vec<Row>,
+}
+
+impl Model for Grid {
+    ghost use Rattle.std.specs.Prelude.{List, ℕ};
+
+    ghost Value = { List ℕ };
+
+    ghost use Rattle.work.specs.Grid.{cells_of, IsGrid};
+
+    ghost view = { λ g. cells_of g.rows.items };
+
+    ghost invariant = { λ g. IsGrid g.rows.items };
+}
+
+impl Grid {
+    /// Where the request lies: None for a ring that isn't there.
+    pub fn locate(&self, req: Req) -> Option<Spot>
+        ensures some { IfSome result (λ s. IsCell self.now s.cell × (held self.now s.cell s.generation ≡ req) × (s.cell < 16384)) }
+        ensures none { IfNone result (length self.now ≤ req.ring) }
+    {
+        let row = self.rows.get(usize::from(req.ring))?;
+        Some(Spot {
+            cell: row.first + (req.k % row.cells) as usize,
+            generation: req.k / row.cells,
+        })
+    }
+}
