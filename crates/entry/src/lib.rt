@@ -5,6 +5,7 @@ mod bytes;
 pub mod cqe;
 mod field;
 pub mod flags;
+pub mod links;
 pub mod op;
 pub mod row;
 mod shown;

@@ -1,5 +1,16 @@
+pub mod Agrees
 pub mod Answers
 pub mod Chains
+pub mod Content
+pub mod Decides
+pub mod Fresh
 pub mod History
 pub mod Legal
+pub mod Machine
+pub mod Moves
 pub mod Pipes
+pub mod Reaches
+pub mod Replies
+pub mod Run
+pub mod Seen
+pub mod Tells

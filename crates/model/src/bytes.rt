@@ -1,6 +1,7 @@
 //! A row of bytes, which contracts see as the list of them.
-ghost use Rattle.std.specs.Prelude.{◌≡◌};
+ghost use Rattle.std.specs.Prelude.{◌≡◌, [], IfOk};
 
+use std::alloc::{AllocError, Global};
 use std::marker::Model;
 
 /// Bytes on the heap. Contracts see their list.
@@ -37,5 +38,23 @@ impl Bytes {
         ensures { result.items ≡ self }
     {
         self.bytes
+    }
+
+    /// No bytes.
+    pub fn empty(alloc: Global) -> Bytes
+        ensures { result ≡ [] }
+    {
+        Bytes {
+            bytes: Vec::new(alloc),
+        }
+    }
+
+    /// A copy of the bytes.
+    pub fn copy(alloc: Global, bytes: &[u8]) -> Result<Bytes, AllocError>
+        ensures { IfOk result (λ b. b ≡ bytes.now) }
+    {
+        Ok(Bytes {
+            bytes: Vec::from_slice(alloc, bytes)?,
+        })
     }
 }
