@@ -3,3 +3,4 @@ pub mod Chains
 pub mod History
 pub mod Legal
 pub mod Pipes
+pub mod State
