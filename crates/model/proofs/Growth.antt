@@ -147,7 +147,7 @@ module _ (s : Setup) where
   may_change e h q l a w = changes e h q refl a w
 
   -- who was counted after an event of another request was counted before it
-  earlier : (e : Event) (h : List Event) (q : Req) → MayCome s h e → concerns e q ≡ false → q.k < submits (e ∷ h) q.ring → q.k < submits h q.ring
+  pub earlier : (e : Event) (h : List Event) (q : Req) → MayCome s h e → concerns e q ≡ false → q.k < submits (e ∷ h) q.ring → q.k < submits h q.ring
   earlier (Submit r e bytes last) h q a w le = ⊎_elim
       (λ (b : (eqb r.ring q.ring) ≡ true). let ring : r.ring ≡ q.ring = eqb-true r.ring q.ring b in
       let one : adds_to (Submit r e bytes last) q.ring ≡ 1 = ap (λ (b : Bool). let n : ℕ = cond b 1 0 in n) b in

@@ -1,7 +1,9 @@
+pub mod Alike
 pub mod Anys
 pub mod Beginning
 pub mod Cancels
 pub mod Chained
+pub mod Contents
 pub mod Deciding
 pub mod Ends
 pub mod Flowing
@@ -11,12 +13,14 @@ pub mod Kept
 pub mod Listing
 pub mod Moving
 pub mod Opening
-pub mod Reading
 pub mod Phases
+pub mod Reading
 pub mod Replying
 pub mod Requests
 pub mod Singles
-pub mod Untaken
-pub mod Wide
+pub mod State
 pub mod Timed
 pub mod Token
+pub mod Untaken
+pub mod Wide
+pub mod Words

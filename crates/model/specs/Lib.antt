@@ -13,4 +13,5 @@ pub mod Reaches
 pub mod Replies
 pub mod Run
 pub mod Seen
+pub mod State
 pub mod Tells
