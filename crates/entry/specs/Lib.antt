@@ -1,1 +1,4 @@
 pub mod Entry
+pub mod Flags
+pub mod Table
+pub mod Text

@@ -1,16 +1,38 @@
 //! The flags byte of an entry.
-use std::marker::Model;
+ghost use Rattle.std.specs.Prelude.{⊤, [], ◌∷◌, codes};
+
+use bitflags::{Flag, Flags, bitflag_items};
 
 /// The supported flags of an entry: `IO_DRAIN` (bit 1), `IO_LINK` (bit 2) and `IO_HARDLINK` (bit 3) of io_uring_enter(2).
 #[derive(Clone, Copy, PartialEq, Eq, Debug)]
 pub struct SqeFlags(u8);
 
-impl Model for SqeFlags {
-    ghost use Rattle.std.specs.Prelude.{ℕ};
+bitflag_items! {
+    impl SqeFlags: u8 {
+        const IO_DRAIN = 2;
+        const IO_LINK = 4;
+        const IO_HARDLINK = 8;
+    }
+}
 
-    ghost Value = { ℕ };
+impl Flags for SqeFlags {
+    type Bits = u8;
 
-    ghost view = { λ f. f.0 };
+    ghost exact = { ⊤ };
 
-    ghost inverse = { λ n. record { 0 = n } };
+    ghost table = { (codes "IO_DRAIN", 2) ∷ (codes "IO_LINK", 4) ∷ (codes "IO_HARDLINK", 8) ∷ [] };
+
+    ghost set_of = { λ f. f.0 };
+
+    fn flags<'a>() -> &'a [Flag<SqeFlags>] {
+        SqeFlags::FLAGS
+    }
+
+    fn bits(&self) -> u8 {
+        self.0
+    }
+
+    fn from_bits_retain(bits: u8) -> SqeFlags {
+        SqeFlags(bits)
+    }
 }

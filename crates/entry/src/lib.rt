@@ -1,10 +1,17 @@
 //! Submission queue entries and completions: what they say, and their bytes.
 #![tactic(auto)]
 
+mod bytes;
+pub mod cqe;
+mod field;
 pub mod flags;
 pub mod op;
+pub mod row;
 pub mod sqe;
+pub mod table;
 
+pub use cqe::Cqe;
 pub use flags::SqeFlags;
 pub use op::{Offset, Op};
-pub use sqe::Sqe;
+pub use row::Row;
+pub use sqe::{Sqe, fails};

@@ -1,0 +1,174 @@
+//! A claim word, and its 64 bits.
+ghost use Rattle.std.specs.Prelude.{◌≡◌, ◌<◌, ℕ, ℤ, IfSome, IsNone, IsTrue, ◌↔◌, nat_le};
+ghost use Rattle.std.specs.Int.{w32, cast_signed, cast_unsigned};
+ghost use Rattle.claim.specs.Claim.{Claim, allows, cause_of, fits, is_refused, packed};
+
+use crate::tag::{Cause, Tag};
+use std::marker::Model;
+
+/// What a cell's word says of its request. The cause is 0 unless the tag is Done. The payload is the deadline of an Armed
+/// request, the 32 bits of a Done one's reply, and 0 otherwise. The generation has 24 bits.
+#[derive(Clone, Copy, PartialEq, Eq, Debug)]
+pub struct ClaimWord {
+    pub tag: Tag,
+    pub cause: u8,
+    pub generation: u32,
+    pub payload: u32,
+}
+
+impl Model for ClaimWord {
+    ghost use Rattle.std.specs.Prelude.{IsTrue};
+    ghost use Rattle.claim.specs.Claim.{Claim, fits};
+
+    ghost Value = { Claim };
+
+    ghost view = { λ w. record { tag = w.tag; cause = w.cause; generation = w.generation; payload = w.payload } };
+
+    ghost invariant = { λ w. IsTrue (fits (record { tag = w.tag; cause = w.cause; generation = w.generation; payload = w.payload })) };
+
+    ghost inverse = { λ c. record { tag = c.tag; cause = c.cause; generation = c.generation; payload = c.payload } };
+}
+
+/// One bit of the cause of a Done word says that the reply fails.
+const FAILS: u8 = 8;
+
+/// The first number that is no generation: a generation has 24 bits.
+pub const GENERATIONS: u32 = 0x100_0000;
+
+impl ClaimWord {
+    /// The word of a cell without a request. The next one that it gets has this generation.
+    pub fn empty(generation: u32) -> ClaimWord
+        requires { generation < GENERATIONS }
+        ensures { result ≡ record { tag = Tag.Empty; cause = 0; generation = generation; payload = 0 } }
+    {
+        ClaimWord {
+            tag: Tag::Empty,
+            cause: 0,
+            generation,
+            payload: 0,
+        }
+    }
+
+    /// The request of this generation was submitted, and waits.
+    pub fn held(generation: u32) -> ClaimWord
+        requires { generation < GENERATIONS }
+        ensures { result ≡ record { tag = Tag.Held; cause = 0; generation = generation; payload = 0 } }
+    {
+        ClaimWord {
+            tag: Tag::Held,
+            cause: 0,
+            generation,
+            payload: 0,
+        }
+    }
+
+    /// A worker may begin it.
+    pub fn ready(generation: u32) -> ClaimWord
+        requires { generation < GENERATIONS }
+        ensures { result ≡ record { tag = Tag.Ready; cause = 0; generation = generation; payload = 0 } }
+    {
+        ClaimWord {
+            tag: Tag::Ready,
+            cause: 0,
+            generation,
+            payload: 0,
+        }
+    }
+
+    /// A worker runs it.
+    pub fn running(generation: u32) -> ClaimWord
+        requires { generation < GENERATIONS }
+        ensures { result ≡ record { tag = Tag.Running; cause = 0; generation = generation; payload = 0 } }
+    {
+        ClaimWord {
+            tag: Tag::Running,
+            cause: 0,
+            generation,
+            payload: 0,
+        }
+    }
+
+    /// Its timer runs until this tick of the clock.
+    pub fn armed(generation: u32, deadline: u32) -> ClaimWord
+        requires { generation < GENERATIONS }
+        ensures { result ≡ record { tag = Tag.Armed; cause = 0; generation = generation; payload = deadline } }
+    {
+        ClaimWord {
+            tag: Tag::Armed,
+            cause: 0,
+            generation,
+            payload: deadline,
+        }
+    }
+
+    /// It was answered with this reply.
+    pub fn done(generation: u32, cause: Cause, fails: bool, reply: i32) -> ClaimWord
+        requires { generation < GENERATIONS }
+        ensures { result ≡ record { tag = Tag.Done; cause = cause_of cause fails; generation = generation; payload = cast_unsigned w32 reply } }
+    {
+        ClaimWord {
+            tag: Tag::Done,
+            cause: cause.number(fails),
+            generation,
+            payload: reply.cast_unsigned(),
+        }
+    }
+
+    /// The reply of a Done word: its payload, read as signed.
+    pub fn reply(&self) -> i32
+        ensures { result ≡ cast_signed w32 self.now.payload }
+    {
+        self.payload.cast_signed()
+    }
+
+    /// Whether the reply of a Done word is a failure.
+    pub fn has_failed(&self) -> bool
+        ensures { result ≡ nat_le 8 self.now.cause }
+    {
+        self.cause >= FAILS
+    }
+}
+
+/// Whether a word with this tag may have this cause and payload.
+fn is_allowed(tag: Tag, cause: u8, payload: u32) -> bool
+    requires { cause < 16 }
+    ensures { result ≡ allows tag cause payload }
+{
+    match tag {
+        Tag::Done => matches!(cause % FAILS, 1..=6),
+        Tag::Armed => cause == 0,
+        _ => cause == 0 && payload == 0,
+    }
+}
+
+/// The word's 64 bits.
+pub fn pack(word: ClaimWord) -> u64
+    ensures packed { result ≡ packed word }
+    ensures fits { IsTrue (fits word) }
+{
+    let low = u64::from(word.tag.number()) + (u64::from(word.cause) << 4);
+    low + (u64::from(word.generation) << 8) + (u64::from(word.payload) << 32)
+}
+
+/// What the 64 bits say: None for a tag above 5, a cause that is not of the list, or a payload that must be 0 and isn't.
+pub fn unpack(word: u64) -> Option<ClaimWord>
+    ensures refused { IsNone result ↔ IsTrue (is_refused word) }
+    ensures packed { IfSome result (λ c. packed c ≡ word) }
+    ensures fits { IfSome result (λ c. IsTrue (fits c)) }
+    ensures again { (c : Claim) → IsTrue (fits c) → packed c ≡ word → result ≡ Some c }
+{
+    let tag = Tag::of_number((word % 16) as u8)?;
+    let cause = ((word >> 4) % 16) as u8;
+    let generation = ((word >> 8) % u64::from(GENERATIONS)) as u32;
+    let payload = (word >> 32) as u32;
+    if is_allowed(tag, cause, payload) {
+        Some(ClaimWord {
+            tag,
+            cause,
+            generation,
+            payload,
+        })
+    } else {
+        None
+    }
+}

@@ -1,0 +1,15 @@
+use Rattle.std.proofs.Common.{ℤ, ◌∷◌, ap, ◌∙◌, replicate, rules}
+use Rattle.std.specs.Int.{w32, cast_unsigned}
+use Rattle.std.specs.Int.RustNames.{FitsSigned}
+use Rattle.std.proofs.lemmas.Int.{to_z-of_z}
+use Rattle.byteorder.specs.Endian.{little_bytes}
+use Rattle.entry.specs.Text.{put}
+use Rattle.entry.proofs.Spelled.{layout-written}
+use Rattle.entry.proofs.bytes.layout.Goals as goal
+
+pub returns : goal.returns
+returns c =
+    let r = c.args.row.now in
+    let fits : FitsSigned w32 r.fd = search rules in
+    let signed = ap (λ (z : ℤ). put 4 4 (little_bytes 4 (cast_unsigned w32 z)) (r.opcode ∷ c.args.flags ∷ replicate 62 0)) (to_z-of_z w32 r.fd fits) in
+    layout-written r c.args.flags c.args.user_data _ _ _ _ _ _ (c.put_i32.ensures ∙ signed) c.put_u64.ensures c.put_u64-2.ensures c.put_u32.ensures c.put_u32-2.ensures c.put_u64-3.ensures

@@ -1,0 +1,6 @@
+use Rattle.byteorder.specs.Endian.{little_bytes}
+use Rattle.entry.proofs.Places.{put-from_tail}
+use Rattle.entry.proofs.field.put_u64.Goals as goal
+
+pub returns : goal.returns
+returns c = put-from_tail c.args.at 8 c.args.bytes.now (little_bytes 8 c.args.n) _ c.requires c.write_u64.ensures

@@ -1,0 +1,157 @@
+-- Which rows the builders' values make.
+use Rattle.std.proofs.Common.{◌≡◌, ◌⊎◌, ◌==◌, ◌&&◌, ◌||◌, nat_lt, if◌then◌else◌, ℕ, ℤ, Bool, true, false, IsTrue, refl, ap, sym, ◌∙◌, inl, inr, arith, bit_and, pos, negsuc, eqb-true}
+use Rattle.std.specs.Int.{w32}
+use Rattle.std.specs.Int.RustNames.{FitsSigned}
+use Rattle.std.proofs.lemmas.Bool.{false≢true, lt-ltb}
+use Rattle.std.proofs.lemmas.Bool.Decides.{eqb_tells}
+use Rattle.entry.specs.declared.op.Op.{Op}
+use Rattle.entry.specs.declared.op.Op.TheVariants.{PollAdd, Timeout, LinkTimeout, Read, Write, Invalid}
+use Rattle.entry.specs.declared.op.Offset.{Offset}
+use Rattle.entry.specs.declared.op.Offset.TheVariants.{Zero, Current}
+use Rattle.entry.specs.declared.row.Row.{Row}
+use Rattle.entry.specs.Entry.{Entry}
+use Rattle.entry.specs.Table.{etime_word, fits, fits_op, is_i32, is_valid, no_fd, place, row}
+use Rattle.prep.specs.Built.{IsOfRow, is_place, link_timeout_op, offset_of, plain, poll_op, read_op, timeout_op, write_op}
+
+-- op is the operation of the row, or Invalid where the row is none's
+pub record Reads (r : Row) (op : Op) : Type 0 where
+  pub made : IsTrue (is_valid op) → IsTrue (fits_op op) × (r ≡ row op)
+  pub only : (o : Op) → IsTrue (is_valid o) → IsTrue (fits_op o) → r ≡ row o → IsTrue (is_valid op)
+
+valid_or_not : (op : Op) → IsTrue (is_valid op) ⊎ (op ≡ Invalid)
+valid_or_not Invalid = inr refl
+valid_or_not op = inl refl
+
+pub both : {a b : Bool} → IsTrue a → IsTrue b → IsTrue (a && b)
+both {a} {b} p q = rw (p, q) refl
+
+pub both_true : (a b : Bool) → IsTrue (a && b) → IsTrue a × IsTrue b
+both_true true true h = (refl, refl)
+both_true true false h = (refl, h)
+both_true false b h = absurd (false≢true h)
+
+pub plain-fits : (op : Op) → IsTrue (fits_op op) → IsTrue (fits (plain op))
+plain-fits op ok = both ok refl
+
+entry_with : ℕ → ℕ → Op → Entry
+entry_with user_data flags op = record { user_data = user_data; flags = flags; op = op }
+
+plain-same : (e : Entry) (op : Op) → e.user_data ≡ 0 → e.flags ≡ 0 → e.op ≡ op → e ≡ plain op
+unfolding entry_with
+plain-same e op user_data flags is =
+    let same : entry_with e.user_data e.flags e.op ≡ entry_with 0 0 op = rw (user_data, flags, is) refl in
+    same
+
+-- the entry of the row is the operation's
+pub built : (r : Row) (e : Entry) (op : Op) → IsOfRow r e → Reads r op → e ≡ plain op
+built r e op is reads = elim (valid_or_not op) [
+  | inl valid ↦ let made = reads.made valid in is.again (plain op) (plain-fits op made.0) made.1 refl refl
+  | inr not ↦ elim (valid_or_not e.op) [
+    | inl valid ↦
+        let ok = both_true (fits_op e.op) _ is.within in
+        absurd (false≢true (sym (ap is_valid not) ∙ reads.only e.op valid ok.0 (is.valid valid).0))
+    | inr none ↦ plain-same e op is.user_data (is.invalid none) (none ∙ sym not)
+  ]
+]
+
+place-offset_of : (off : ℕ) → IsTrue (is_place off) → off ≡ place (offset_of off)
+place-offset_of off h = elim (eqb_tells off 0) [
+  | inl t ↦ rw t.0 t.1
+  | inr t ↦ rw t.0 (eqb-true off _ (rw t.0 at h))
+]
+
+is_place-place : (off : ℕ) (o : Offset) → off ≡ place o → IsTrue (is_place off)
+is_place-place off Zero h = rw h refl
+is_place-place off Current h = rw h refl
+
+-- an operation where a test holds, and else Invalid
+Reads-chosen : (r : Row) (b : Bool) (op : Op) → (IsTrue b → IsTrue (fits_op op) × (r ≡ row op)) → IsTrue (is_valid op)
+    → ((o : Op) → IsTrue (is_valid o) → IsTrue (fits_op o) → r ≡ row o → IsTrue b) → Reads r (if b then op else Invalid)
+Reads-chosen r true op made valid only = record { made = λ _. made refl; only = λ o v ok is. valid }
+Reads-chosen r false op made valid only = record { made = λ v. absurd (false≢true v); only = λ o v ok is. only o v ok is }
+
+pub is_i32-from : (z : ℤ) → FitsSigned w32 z → IsTrue (is_i32 z)
+is_i32-from (pos n) fits = lt-ltb n _ fits.sfits
+is_i32-from (negsuc n) fits = lt-ltb n _ fits.sfits
+
+is_read : (z : ℤ) (len off : ℕ) (o : Op) → IsTrue (is_valid o) → IsTrue (fits_op o)
+    → record { opcode = 22; fd = z; off = off; addr = 0; len = len; word = 0 } ≡ row o → IsTrue (is_place off && nat_lt len 2147483648)
+is_read z len off (Read fd offset n) valid ok is =
+    let parts = both_true (is_i32 fd) (nat_lt n 2147483648) ok in
+    both (is_place-place off offset (ap (λ (r : Row). r.off) is)) (ap (λ (r : Row). nat_lt r.len 2147483648) is ∙ parts.1)
+is_read z len off o valid ok is = let code = ap (λ (r : Row). r.opcode) is in absurd (omega arith)
+
+pub Reads-read : (z fd : ℤ) (len off : ℕ) → FitsSigned w32 fd → z ≡ fd
+    → Reads (record { opcode = 22; fd = z; off = off; addr = 0; len = len; word = 0 }) (read_op fd len off)
+Reads-read z fd len off fits is =
+    Reads-chosen _ (is_place off && nat_lt len 2147483648) (Read fd (offset_of off) len)
+    (λ t.
+    let parts = both_true (is_place off) (nat_lt len 2147483648) t in
+    let at = place-offset_of off parts.0 in
+    (both (is_i32-from fd fits) parts.1, rw (is, ← at) refl))
+    refl (is_read z len off)
+
+is_write : (z : ℤ) (len off : ℕ) (o : Op) → IsTrue (is_valid o) → IsTrue (fits_op o)
+    → record { opcode = 23; fd = z; off = off; addr = 0; len = len; word = 0 } ≡ row o → IsTrue (is_place off && nat_lt len 2147483648)
+is_write z len off (Write fd offset n) valid ok is =
+    let parts = both_true (is_i32 fd) (nat_lt n 2147483648) ok in
+    both (is_place-place off offset (ap (λ (r : Row). r.off) is)) (ap (λ (r : Row). nat_lt r.len 2147483648) is ∙ parts.1)
+is_write z len off o valid ok is = let code = ap (λ (r : Row). r.opcode) is in absurd (omega arith)
+
+pub Reads-write : (z fd : ℤ) (len off : ℕ) → FitsSigned w32 fd → z ≡ fd
+    → Reads (record { opcode = 23; fd = z; off = off; addr = 0; len = len; word = 0 }) (write_op fd len off)
+Reads-write z fd len off fits is =
+    Reads-chosen _ (is_place off && nat_lt len 2147483648) (Write fd (offset_of off) len)
+    (λ t.
+    let parts = both_true (is_place off) (nat_lt len 2147483648) t in
+    let at = place-offset_of off parts.0 in
+    (both (is_i32-from fd fits) parts.1, rw (is, ← at) refl))
+    refl (is_write z len off)
+
+is_poll : (z : ℤ) (mask : ℕ) (o : Op) → IsTrue (is_valid o) → IsTrue (fits_op o)
+    → record { opcode = 6; fd = z; off = 0; addr = 0; len = 0; word = mask } ≡ row o → IsTrue (bit_and mask 29 == mask)
+is_poll z mask (PollAdd fd m) valid ok is =
+    ap (λ (r : Row). bit_and r.word 29 == r.word) is ∙ (both_true (is_i32 fd) (bit_and m 29 == m) ok).1
+is_poll z mask o valid ok is = let code = ap (λ (r : Row). r.opcode) is in absurd (omega arith)
+
+pub Reads-poll : (z fd : ℤ) (mask : ℕ) → FitsSigned w32 fd → z ≡ fd
+    → Reads (record { opcode = 6; fd = z; off = 0; addr = 0; len = 0; word = mask }) (poll_op fd mask)
+Reads-poll z fd mask fits is =
+    Reads-chosen _ (bit_and mask 29 == mask) (PollAdd fd mask) (λ t. (both (is_i32-from fd fits) t, rw is refl)) refl (is_poll z mask)
+
+-- a TIMEOUT's flags word is 0 or ETIME_SUCCESS
+abbrev is_etime_word : ℕ → Bool
+is_etime_word flags = (flags == 0) || (flags == 32)
+
+is_etime_word-word : (flags : ℕ) (b : Bool) → flags ≡ etime_word b → IsTrue (is_etime_word flags)
+is_etime_word-word flags true h = rw h refl
+is_etime_word-word flags false h = rw h refl
+
+etime_word-eq : (flags : ℕ) → IsTrue (is_etime_word flags) → flags ≡ etime_word (flags == 32)
+etime_word-eq flags h = elim (eqb_tells flags 0) [
+  | inl t ↦ rw t.1 refl
+  | inr t ↦ let is = eqb-true flags 32 (rw t.0 at h) in rw is refl
+]
+
+is_timeout : (ticks flags : ℕ) (o : Op) → IsTrue (is_valid o) → IsTrue (fits_op o)
+    → record { opcode = 11; fd = no_fd; off = 0; addr = ticks; len = 1; word = flags } ≡ row o → IsTrue (nat_lt ticks 2147483648 && is_etime_word flags)
+is_timeout ticks flags (Timeout n success) valid ok is =
+    both (ap (λ (r : Row). nat_lt r.addr 2147483648) is ∙ ok) (is_etime_word-word flags success (ap (λ (r : Row). r.word) is))
+is_timeout ticks flags o valid ok is = let code = ap (λ (r : Row). r.opcode) is in absurd (omega arith)
+
+pub Reads-timeout : (ticks flags : ℕ) → Reads (record { opcode = 11; fd = no_fd; off = 0; addr = ticks; len = 1; word = flags }) (timeout_op ticks flags)
+Reads-timeout ticks flags =
+    Reads-chosen _ (nat_lt ticks 2147483648 && is_etime_word flags) (Timeout ticks (flags == 32))
+    (λ t.
+    let parts = both_true (nat_lt ticks 2147483648) (is_etime_word flags) t in
+    let at = etime_word-eq flags parts.1 in
+    (parts.0, rw (← at) refl))
+    refl (is_timeout ticks flags)
+
+is_link_timeout : (ticks : ℕ) (o : Op) → IsTrue (is_valid o) → IsTrue (fits_op o)
+    → record { opcode = 15; fd = no_fd; off = 0; addr = ticks; len = 1; word = 0 } ≡ row o → IsTrue (nat_lt ticks 2147483648)
+is_link_timeout ticks (LinkTimeout n) valid ok is = ap (λ (r : Row). nat_lt r.addr 2147483648) is ∙ ok
+is_link_timeout ticks o valid ok is = let code = ap (λ (r : Row). r.opcode) is in absurd (omega arith)
+
+pub Reads-link_timeout : (ticks : ℕ) → Reads (record { opcode = 15; fd = no_fd; off = 0; addr = ticks; len = 1; word = 0 }) (link_timeout_op ticks)
+Reads-link_timeout ticks = Reads-chosen _ (nat_lt ticks 2147483648) (LinkTimeout ticks) (λ t. (t, refl)) refl (is_link_timeout ticks)
