@@ -1,1 +1,2 @@
 pub mod TableText
+pub mod Kept

@@ -1,0 +1,11 @@
+-- What reading a script keeps true.
+use Rattle.std.specs.Prelude.{ℕ, Bool, ◌&&◌, nat_le, Option, IsSome}
+use Rattle.script.specs.declared.fault.Fault.{Fault}
+
+-- what was found wrong isn't forgotten
+abbrev pub KeepsFault : Option Fault → Option Fault → Type 0
+KeepsFault old new = IsSome old → IsSome new
+
+-- a byte that may stand in a line
+abbrev pub is_plain_byte : ℕ → Bool
+is_plain_byte b = nat_le 32 b && nat_le b 126
