@@ -18,6 +18,3 @@ mod words;
 pub use fault::{Fault, ScriptFault};
 pub use reading::read_script;
 pub use table::{read_table, write_table};
-
-#[cfg(test)]
-mod tests;

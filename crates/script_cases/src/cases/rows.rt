@@ -1,42 +1,45 @@
 //! Whole scripts, and each beginning of them.
-use super::told;
-use crate::read_script;
+use super::{told, unfolded};
 use bitflags::Flags;
 use entry::Op;
 use explore::Act;
+use script::read_script;
 use std::test::Fail;
 
 /// The scripts of the language's worked examples, each written out.
-const SCRIPTS: [&[u8]; 23] = [
-    b"ring 4\non 0\nnop a ud=7\nsubmit\nwait a",
-    b"pipe 16\nring 8\non 0\nraw a ff080000000000000000000000000000000000000000000000000000000000000000000000000000000000000000000000000000000000000000000000000000\nnop n\nsubmit\nwait n",
-    b"pipe 16\nring 8\non 0\nnop a link\nwrite b 1 abcd link\nread c 0 4\nsubmit\nwait c",
-    b"pipe 16\nring 8\non 0\nwrite w 1 abc\nsubmit\nwait w\nread r 0 8 link\nnop n\nsubmit\nwait n",
-    b"pipe 16\nring 8\non 0\nwrite w 1 abc\nsubmit\nwait w\nread r 0 8 hard\nnop n\nsubmit\nwait n",
-    b"pipe 16\nring 8\non 0\nread a 1 4 link\nnop b hard\nnop c\nsubmit\nwait c",
-    b"pipe 16\nring 8\non 0\nread a 1 4 link\nsubmit\nnop b\nsubmit\nwait a\nwait b",
-    b"pipe 16\nring 8\non 0\nread r 0 0\nsubmit\nwait r",
-    b"pipe 16\nring 8\non 0\nread r 0 4\ncancel c r\nsubmit\nwait c",
-    b"pipe 16\nring 8\non 0\ncancel c ud=99\nsubmit\nwait c\nnop n\nsubmit\nwait n\ncancel d n\nsubmit\nwait d",
-    b"pipe 16\nring 8\non 0\nread a 0 4 ud=9\nread b 0 4 ud=9\ncancel c ud=9\nsubmit\nwait c\nwrite w 1 xy\nsubmit\nwait b",
-    b"pipe 16\nring 8\non 0\nread r 0 4 link\nlink-timeout t 5\nsubmit\nwait t\non clock\narmed t\ntick 4\ntick 5",
-    b"pipe 16\nring 8\non 0\nread r 0 4 link\nlink-timeout t 5\nsubmit\nwrite w 1 z\nsubmit\nwait r\nwait t",
-    b"pipe 16\nring 8\non 0\ntimeout t 2147483648\nsubmit\nwait t",
-    b"pipe 16\nring 8\non 0\nread x 0 4\nsubmit\nwait x",
-    b"pipe 16\nring 8\non 0\ntimeout t 0 etime-ok link\nnop n\nsubmit\nwait n",
-    b"pipe 16\nring 8\non 0\ntimeout t 5\nremove m t\nsubmit\nwait m",
-    b"pipe 4\nring 8\non 0\nwrite w 1 abcdef link\nnop n\nsubmit\nwait n",
-    b"pipe 4\nring 8\non 0\nwrite a 1 abc\nsubmit\nwait a\nwrite b 1 de\nsubmit\nread r 0 2\nsubmit\nwait b",
-    b"pipe 16\nring 8\non 0\nclose c 1\nsubmit\nwait c\nread r 0 4\nsubmit\nwait r\nwrite w 1 x\nsubmit\nwait w\npoll p 0 1\nsubmit\nwait p\nclose d 1\nsubmit\nwait d",
-    b"pipe 16\nring 8\non 0\nclose c 0\nsubmit\nwait c\nwrite w 1 x\npoll p 1 0\nsubmit\nwait w\nwait p",
-    b"pipe 16\nring 8\non 0\nwrite a 1 ab\nread b 0 2\nnop d drain\nnop e\nsubmit\nwait e",
-    b"pipe 16\nring 8\non 0\nlink-timeout t 5\nsubmit\nwait t",
-];
+const SCRIPTS: &str = "\
+ring 4/on 0/nop a ud=7/submit/wait a
+pipe 16/ring 8/on 0/raw a ff080000000000000000000000000000000000000000000000000000000000000000000000000000000000000000000000000000000000000000000000000000/nop n/submit/wait n
+pipe 16/ring 8/on 0/nop a link/write b 1 abcd link/read c 0 4/submit/wait c
+pipe 16/ring 8/on 0/write w 1 abc/submit/wait w/read r 0 8 link/nop n/submit/wait n
+pipe 16/ring 8/on 0/write w 1 abc/submit/wait w/read r 0 8 hard/nop n/submit/wait n
+pipe 16/ring 8/on 0/read a 1 4 link/nop b hard/nop c/submit/wait c
+pipe 16/ring 8/on 0/read a 1 4 link/submit/nop b/submit/wait a/wait b
+pipe 16/ring 8/on 0/read r 0 0/submit/wait r
+pipe 16/ring 8/on 0/read r 0 4/cancel c r/submit/wait c
+pipe 16/ring 8/on 0/cancel c ud=99/submit/wait c/nop n/submit/wait n/cancel d n/submit/wait d
+pipe 16/ring 8/on 0/read a 0 4 ud=9/read b 0 4 ud=9/cancel c ud=9/submit/wait c/write w 1 xy/submit/wait b
+pipe 16/ring 8/on 0/read r 0 4 link/link-timeout t 5/submit/wait t/on clock/armed t/tick 4/tick 5
+pipe 16/ring 8/on 0/read r 0 4 link/link-timeout t 5/submit/write w 1 z/submit/wait r/wait t
+pipe 16/ring 8/on 0/timeout t 2147483648/submit/wait t
+pipe 16/ring 8/on 0/read x 0 4/submit/wait x
+pipe 16/ring 8/on 0/timeout t 0 etime-ok link/nop n/submit/wait n
+pipe 16/ring 8/on 0/timeout t 5/remove m t/submit/wait m
+pipe 4/ring 8/on 0/write w 1 abcdef link/nop n/submit/wait n
+pipe 4/ring 8/on 0/write a 1 abc/submit/wait a/write b 1 de/submit/read r 0 2/submit/wait b
+pipe 16/ring 8/on 0/close c 1/submit/wait c/read r 0 4/submit/wait r/write w 1 x/submit/wait w/poll p 0 1/submit/wait p/close d 1/submit/wait d
+pipe 16/ring 8/on 0/close c 0/submit/wait c/write w 1 x/poll p 1 0/submit/wait w/wait p
+pipe 16/ring 8/on 0/write a 1 ab/read b 0 2/nop d drain/nop e/submit/wait e
+pipe 16/ring 8/on 0/link-timeout t 5/submit/wait t";
 
 #[test]
 fn each_is_read(rt: HostRuntime) -> Result<(), Fail> {
-    for script in SCRIPTS {
-        assert_eq!(rt; told(&rt, script)?.as_str(), "");
+    for script in SCRIPTS.lines() {
+        assert_eq!(rt;
+            told(&rt, &unfolded(&rt, script)?)?.as_str(),
+            "",
+            "{script}"
+        );
     }
     assert_eq!(rt;
         told(&rt, b"ring 8\non 0\nnop")?.as_str(),
@@ -47,7 +50,8 @@ fn each_is_read(rt: HostRuntime) -> Result<(), Fail> {
 
 #[test]
 fn each_beginning_is_a_script_or_a_fault(rt: HostRuntime) -> Result<(), Fail> {
-    for script in SCRIPTS {
+    for script in SCRIPTS.lines() {
+        let script = unfolded(&rt, script)?;
         for len in 0..script.len() {
             let told = told(&rt, &script[..len])?;
             assert!(rt; told.is_empty() || told.as_bytes().starts_with(b"line "));
