@@ -1,9 +1,10 @@
-//! The texts of the program: tables written and read, and scripts read.
+//! The texts of the program: tables written and read, histories written, and scripts read.
 #![tactic(auto)]
 
 mod actor;
 pub mod fault;
 mod faults;
+pub mod history;
 mod keyword;
 mod label;
 mod options;
@@ -16,5 +17,6 @@ pub mod table;
 mod words;
 
 pub use fault::{Fault, ScriptFault};
+pub use history::write_history;
 pub use reading::read_script;
 pub use table::{read_table, write_table};

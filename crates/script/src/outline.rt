@@ -23,7 +23,7 @@ pub struct Outline<'a> {
 
 impl<'a> Outline<'a> {
     /// What the lines of a script declare.
-    pub fn of(alloc: Global, bytes: &'a [u8]) -> Result<Outline<'a>, AllocError> {
+    pub fn of(alloc: Global, lines: &[&'a [u8]]) -> Result<Outline<'a>, AllocError> {
         let mut outline = Outline {
             declared: Vec::new(alloc),
             last_submits: [0; RINGS],
@@ -32,7 +32,7 @@ impl<'a> Outline<'a> {
         let mut actor = Actor::Start;
         let mut rings = 0usize;
         let mut line = 0u64;
-        for text in bytes.split(|byte| *byte == b'\n') {
+        for text in lines {
             let words = words_of(alloc, text)?;
             line = line.saturating_add(1);
             let Some(keyword) = first_word(&words).and_then(Keyword::of) else {

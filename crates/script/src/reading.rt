@@ -1,23 +1,27 @@
 //! Scripts read from their text.
-ghost use Rattle.std.specs.Prelude.{◌≡◌, ◌==◌, IfOk, IfNone, IsTrue};
-ghost use Rattle.std.specs.List.{list_all};
-ghost use Rattle.script.specs.Kept.{is_plain_byte};
+ghost use Rattle.std.specs.Prelude.{◌==◌, IfOk, IfNone, OnOk, All};
+ghost use Rattle.std.specs.List.{slice_split};
+ghost use Rattle.script.specs.Kept.{IsPlain};
 
 use crate::fault::{Fault, ScriptFault};
 use crate::faults::Faults;
 use crate::outline::Outline;
 use crate::parts::Parts;
-use crate::words::{first_word, is_plain, words_of};
+use crate::words::{first_word, is_plain, lines_of, words_of};
 use explore::Script;
 use std::alloc::{AllocError, Global};
 
 /// The script that a text writes. Of all faults of all lines the one on the least line is told, and of one line's faults
 /// the first in the list of `Fault`.
-pub fn read_script(alloc: Global, bytes: &[u8]) -> Result<Script, ScriptFault> {
-    let outline = Outline::of(alloc, bytes)?;
+pub fn read_script(alloc: Global, bytes: &[u8]) -> Result<Script, ScriptFault>
+    // What is accepted has no other bytes than line feeds and those from 0x20 to 0x7e.
+    ensures plain { OnOk result (All IsPlain (slice_split (λ b. b == 10) bytes.now)) }
+{
+    let lines = lines_of(alloc, bytes)?;
+    let outline = Outline::of(alloc, &lines)?;
     let mut parts = Parts::new(alloc);
     let mut line = 0u64;
-    for text in bytes.split(|byte| *byte == b'\n') {
+    for text in &lines {
         line = line.saturating_add(1);
         if let Some(fault) = fault_of(alloc, &mut parts, &outline, line, text)? {
             return Err(ScriptFault::Line { line, fault });
@@ -40,7 +44,7 @@ fn fault_of(
     line: u64,
     text: &[u8],
 ) -> Result<Option<Fault>, AllocError>
-    ensures { IfOk result (λ fault. IfNone fault (IsTrue (list_all is_plain_byte text.now))) }
+    ensures { IfOk result (λ fault. IfNone fault (IsPlain text.now)) }
 {
     let mut faults = Faults::new();
     faults.note_if(!is_plain(text), Fault::NotAscii);

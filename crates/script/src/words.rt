@@ -1,9 +1,16 @@
 //! The words of a line.
-ghost use Rattle.std.specs.Prelude.{◌≡◌};
-ghost use Rattle.std.specs.List.{list_all};
+ghost use Rattle.std.specs.Prelude.{◌≡◌, ◌==◌, IfOk, map};
+ghost use Rattle.std.specs.List.{list_all, slice_split};
 ghost use Rattle.script.specs.Kept.{is_plain_byte};
 
 use std::alloc::{AllocError, Global};
+
+/// The lines of a text: what stands between its line feeds.
+pub fn lines_of(alloc: Global, bytes: &[u8]) -> Result<Vec<&[u8]>, AllocError>
+    ensures { IfOk result (λ lines. map (λ line. line.now) lines.items ≡ slice_split (λ b. b == 10) bytes.now) }
+{
+    bytes.split(|byte| *byte == b'\n').collect(alloc)
+}
 
 /// The words of a line: what stands between its spaces.
 pub fn words_of(alloc: Global, line: &[u8]) -> Result<Vec<&[u8]>, AllocError> {
