@@ -1,0 +1,6 @@
+use Rattle.std.proofs.Common.{ℕ, List, All, Bor, take, map}
+use Rattle.script.specs.Kept.{IsPlain}
+use Rattle.script.proofs.reading.read_script.Given as goal
+
+abbrev pub invariant-loop-text : goal.invariant-loop-text
+invariant-loop-text l = All IsPlain (take l.text-index (map (λ (s : Bor (List ℕ)). s.now) l.text-items))

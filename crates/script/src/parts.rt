@@ -1,0 +1,295 @@
+//! The parts of a script, as its lines give them.
+ghost use Rattle.script.specs.Kept.{KeepsFault};
+
+use crate::actor::Actor;
+use crate::fault::Fault;
+use crate::faults::Faults;
+use crate::keyword::{Keyword, Kind};
+use crate::label::is_label;
+use crate::outline::Outline;
+use crate::request::{Request, request_of};
+use explore::{Act, Named, Script};
+use std::alloc::{AllocError, Global};
+
+/// The most entries that a script has.
+const ENTRIES: usize = 256;
+
+/// The most pipes, and the largest capacity of one in bytes.
+const PIPES: usize = 64;
+
+const LARGEST_CAPACITY: u32 = 65536;
+
+/// The most cells of a ring, and the largest completion ring.
+const LARGEST_CELLS: u32 = 1024;
+
+const LARGEST_POSTS: u32 = 2048;
+
+/// The largest value of the clock.
+const LARGEST_TICK: u32 = 2147483647;
+
+/// The parts of a script so far, whose lines they are, and what each ring has not submitted yet.
+#[derive(Drop)]
+pub struct Parts {
+    actor: Actor,
+    now: u32,
+    pipes: Vec<u32>,
+    rings: Vec<(u32, Option<u32>)>,
+    entries: Vec<Named>,
+    acts: Vec<Vec<Act>>,
+    clock: Vec<Act>,
+    pending: Vec<Vec<u32>>,
+}
+
+impl Parts {
+    /// No parts.
+    pub fn new(alloc: Global) -> Parts {
+        Parts {
+            actor: Actor::Start,
+            now: 0,
+            pipes: Vec::new(alloc),
+            rings: Vec::new(alloc),
+            entries: Vec::new(alloc),
+            acts: Vec::new(alloc),
+            clock: Vec::new(alloc),
+            pending: Vec::new(alloc),
+        }
+    }
+
+    /// The script of these parts.
+    pub fn script(self, alloc: Global) -> Result<Option<Script>, AllocError> {
+        let Parts {
+            actor: _,
+            now: _,
+            pipes,
+            rings,
+            entries,
+            acts,
+            clock,
+            pending: _,
+        } = self;
+        Script::new(alloc, pipes, rings, entries, acts, clock)
+    }
+
+    /// Takes a line in, whose number and words these are, and notes its faults. With a fault the parts are of no use
+    /// any more.
+    pub fn take(
+        &mut self,
+        alloc: Global,
+        faults: &mut Faults,
+        outline: &Outline<'_>,
+        line: u64,
+        words: &[&[u8]],
+    ) -> Result<(), AllocError>
+        ensures { KeepsFault faults.old.least faults.new.least }
+    {
+        let Some(keyword) = words.first().and_then(|word| Keyword::of(word)) else {
+            faults.note(Fault::UnknownWord);
+            return Ok(());
+        };
+        let (least, most) = keyword.arguments();
+        faults.note_if(
+            !self.is_in_place(outline, keyword, words.get(1)),
+            Fault::OutOfPlace,
+        );
+        faults.note_if(words.len() <= least, Fault::MissingArgument);
+        faults.note_if(words.len().saturating_sub(1) > most, Fault::ExtraArgument);
+        if words.len() <= least {
+            return Ok(());
+        }
+        match keyword {
+            Keyword::Entry(kind) => self.entry(alloc, faults, outline, kind, line, words),
+            Keyword::Submit => self.submit(alloc, faults),
+            _ => match words.get(1) {
+                Some(word) => self.short_line(alloc, faults, outline, keyword, word, words.get(2)),
+                None => Ok(()),
+            },
+        }
+    }
+
+    /// Whether a line with this first word may stand here.
+    fn is_in_place(&self, outline: &Outline<'_>, keyword: Keyword, word: Option<&&[u8]>) -> bool {
+        match keyword {
+            Keyword::Pipe | Keyword::Ring => self.actor == Actor::Start,
+            Keyword::On => match word {
+                Some(name) => Actor::named(name, self.rings.len()) != Actor::Stranger,
+                None => true,
+            },
+            Keyword::Entry(_) => matches!(self.actor, Actor::Ring(_)),
+            Keyword::Submit => self.has_pending(),
+            Keyword::Wait => matches!(self.actor, Actor::Ring(_) | Actor::Clock),
+            Keyword::Tick => self.actor == Actor::Clock,
+            Keyword::Armed => self.actor == Actor::Clock && is_no_other_kind(outline, word),
+        }
+    }
+
+    /// Whether the actor is a ring that has entries to submit.
+    fn has_pending(&self) -> bool {
+        match self.actor {
+            Actor::Ring(ring) => match self.pending.get(ring) {
+                Some(pending) => !pending.is_empty(),
+                None => false,
+            },
+            _ => false,
+        }
+    }
+
+    /// A line with one argument, or two.
+    fn short_line(
+        &mut self,
+        alloc: Global,
+        faults: &mut Faults,
+        outline: &Outline<'_>,
+        keyword: Keyword,
+        word: &[u8],
+        second: Option<&&[u8]>,
+    ) -> Result<(), AllocError>
+        ensures { KeepsFault faults.old.least faults.new.least }
+    {
+        match keyword {
+            Keyword::Pipe => self.pipe(faults, word),
+            Keyword::Ring => self.ring(alloc, faults, word, second),
+            Keyword::On => {
+                self.actor = Actor::named(word, self.rings.len());
+                Ok(())
+            }
+            Keyword::Wait => {
+                let place = place_of(faults, outline, word);
+                self.push_act(Act::Wait(place))
+            }
+            Keyword::Armed => {
+                let place = place_of(faults, outline, word);
+                self.push_act(Act::Armed(place))
+            }
+            Keyword::Tick => {
+                let now = faults.number(word, self.now, LARGEST_TICK);
+                self.now = now;
+                self.push_act(Act::Tick(now))
+            }
+            _ => Ok(()),
+        }
+    }
+
+    /// A line of the actor.
+    fn push_act(&mut self, act: Act) -> Result<(), AllocError> {
+        match self.actor {
+            Actor::Clock => self.clock.push(act)?,
+            Actor::Ring(ring) => {
+                if let Some(acts) = self.acts.get_mut(ring) {
+                    acts.push(act)?;
+                }
+            }
+            _ => {}
+        }
+        Ok(())
+    }
+
+    fn pipe(&mut self, faults: &mut Faults, word: &[u8]) -> Result<(), AllocError>
+        ensures { KeepsFault faults.old.least faults.new.least }
+    {
+        let capacity = faults.number(word, 1, LARGEST_CAPACITY);
+        faults.note_if(self.pipes.len() >= PIPES, Fault::OutOfRange);
+        self.pipes.push(capacity)?;
+        Ok(())
+    }
+
+    fn ring(
+        &mut self,
+        alloc: Global,
+        faults: &mut Faults,
+        word: &[u8],
+        second: Option<&&[u8]>,
+    ) -> Result<(), AllocError>
+        ensures { KeepsFault faults.old.least faults.new.least }
+    {
+        let cells = faults.number(word, 1, LARGEST_CELLS);
+        faults.note_if(!cells.is_power_of_two(), Fault::OutOfRange);
+        faults.note_if(self.rings.len() >= crate::actor::RINGS, Fault::OutOfRange);
+        let posts = match second {
+            Some(word) => Some(faults.number(word, 1, LARGEST_POSTS)),
+            None => None,
+        };
+        self.rings.push((cells, posts))?;
+        self.acts.push(Vec::new(alloc))?;
+        self.pending.push(Vec::new(alloc))?;
+        Ok(())
+    }
+
+    fn entry(
+        &mut self,
+        alloc: Global,
+        faults: &mut Faults,
+        outline: &Outline<'_>,
+        kind: Kind,
+        line: u64,
+        words: &[&[u8]],
+    ) -> Result<(), AllocError>
+        ensures { KeepsFault faults.old.least faults.new.least }
+    {
+        let place = self.entries.len();
+        let number = (place as u64).saturating_add(1);
+        let Request { sqe, buffer } = request_of(alloc, faults, outline, kind, words, number)?;
+        faults.note_if(place >= ENTRIES, Fault::OutOfRange);
+        let Some(label) = words.get(1) else {
+            return Ok(());
+        };
+        faults.note_if(!is_label(label), Fault::BadLabel);
+        faults.note_if(self.declares(label), Fault::DuplicateLabel);
+        if let Actor::Ring(ring) = self.actor {
+            faults.note_if(
+                outline.is_unsubmitted(ring, line),
+                Fault::UnsubmittedEntries,
+            );
+            if let Some(pending) = self.pending.get_mut(ring) {
+                pending.push(u32::try_from(place).unwrap_or(0))?;
+            }
+        }
+        let label = String::from_utf8_lossy(alloc, label)?;
+        self.entries.push(Named { label, sqe, buffer })?;
+        Ok(())
+    }
+
+    /// Whether an entry so far has this label.
+    fn declares(&self, label: &[u8]) -> bool {
+        self.entries
+            .iter()
+            .any(|entry| entry.label.as_bytes() == label)
+    }
+
+    fn submit(&mut self, alloc: Global, faults: &mut Faults) -> Result<(), AllocError>
+        ensures { KeepsFault faults.old.least faults.new.least }
+    {
+        let Actor::Ring(ring) = self.actor else {
+            return Ok(());
+        };
+        let Some(pending) = self.pending.get_mut(ring) else {
+            return Ok(());
+        };
+        let batch = std::mem::replace(pending, Vec::new(alloc));
+        if let Some((cells, _)) = self.rings.get(ring) {
+            faults.note_if(batch.len() > *cells as usize, Fault::OutOfRange);
+        }
+        self.push_act(Act::Submit(batch))
+    }
+}
+
+/// Whether no entry line of another kind than a timer declares the label.
+fn is_no_other_kind(outline: &Outline<'_>, word: Option<&&[u8]>) -> bool {
+    match word.and_then(|label| outline.find(label)) {
+        Some((_, declared)) => declared.kind.is_timer(),
+        None => true,
+    }
+}
+
+/// The place of the entry that a label names.
+fn place_of(faults: &mut Faults, outline: &Outline<'_>, label: &[u8]) -> u32
+    ensures { KeepsFault faults.old.least faults.new.least }
+{
+    faults.note_if(!is_label(label), Fault::BadLabel);
+    match outline.find(label) {
+        Some((place, _)) => place,
+        None => {
+            faults.note(Fault::UnknownLabel);
+            0
+        }
+    }
+}

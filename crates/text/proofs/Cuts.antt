@@ -1,0 +1,50 @@
+-- Where a text is cut at its first space or line feed.
+use Rattle.std.proofs.Common.{◌≡◌, ℕ, zero, suc, ◌<◌, ◌^◌, List, [], ◌∷◌, ◌++◌, length, slice_index, inl, inr, ℤ, pos, negsuc, arith, refl}
+use Rattle.std.specs.Prelude.{FitsSigned}
+use Rattle.std.specs.Int.{w32, IsInRange}
+use Rattle.std.specs.Fmt.{decimal, signed_decimal}
+use Rattle.std.proofs.lemmas.Fmt.{decimal_is_IsNumeral}
+use Rattle.std.proofs.lemmas.Str.Parse.{digit_at}
+use Rattle.text.specs.Line.{IsCut, IsCutByte, data_text}
+
+abbrev pub IsUncut : List ℕ → Type 0
+IsUncut word = (k : ℕ) → k < length word → IsCutByte (slice_index word k) → ⊥
+
+IsUncut-rest : (b : ℕ) (bs : List ℕ) → IsUncut (b ∷ bs) → IsUncut bs
+IsUncut-rest b bs h k lt = h (suc k) (omega (arith, lt))
+
+cut_first : (b : ℕ) (bs rest : List ℕ) → IsUncut (b ∷ bs) → IsCut rest → rest ≡ b ∷ bs → ⊥
+cut_first b bs [] h cut e = absurd cc
+cut_first b bs (c ∷ cs) h cut e = let same : c ≡ b = cc in h 0 (omega arith) (rw (← same) cut)
+
+-- there is one word up to the first cut, and one rest
+pub cut_once : (v w x y : List ℕ) → IsUncut v → IsUncut w → IsCut x → IsCut y → v ++ x ≡ w ++ y → (v ≡ w) × (x ≡ y)
+cut_once [] [] x y hv hw hx hy e = (refl, e)
+cut_once [] (b ∷ bs) [] y hv hw hx hy e = absurd cc
+cut_once [] (b ∷ bs) (c ∷ cs) y hv hw hx hy e = let same : c ≡ b = cc in absurd (hw 0 (omega arith) (rw (← same) hx))
+cut_once (a ∷ vs) [] x [] hv hw hx hy e = absurd cc
+cut_once (a ∷ vs) [] x (c ∷ cs) hv hw hx hy e = let same : a ≡ c = cc in absurd (hv 0 (omega arith) (rw same hy))
+cut_once (a ∷ vs) (b ∷ bs) x y hv hw hx hy e =
+    let others = cut_once vs bs x y (IsUncut-rest a vs hv) (IsUncut-rest b bs hw) hx hy cc in
+    let heads : a ≡ b = cc in
+    (rw (heads, others.0) refl, others.1)
+
+no_digit : (b : ℕ) → IsInRange 48 57 b → IsCutByte b → ⊥
+no_digit b h (inl e) = omega (arith, h.0, e)
+no_digit b h (inr e) = omega (arith, h.0, e)
+
+IsUncut-decimal : (n : ℕ) → n < 2 ^ 64 → IsUncut (decimal n)
+IsUncut-decimal n lt k in_word = no_digit (slice_index (decimal n) k) (digit_at (decimal n) k (decimal_is_IsNumeral n lt).0.1 in_word)
+
+IsUncut-minus : (word : List ℕ) → IsUncut word → IsUncut (45 ∷ word)
+IsUncut-minus word h zero lt (inl e) = omega (arith, e)
+IsUncut-minus word h zero lt (inr e) = omega (arith, e)
+IsUncut-minus word h (suc k) lt cut = h k (omega (arith, lt)) cut
+
+pub IsUncut-signed : (z : ℤ) → FitsSigned w32 z → IsUncut (signed_decimal z)
+IsUncut-signed (pos n) h = IsUncut-decimal n (omega (arith, h))
+IsUncut-signed (negsuc n) h = IsUncut-minus (decimal (suc n)) (IsUncut-decimal (suc n) (omega (arith, h)))
+
+pub IsCut-data : (bytes rest : List ℕ) → IsCut (data_text bytes ++ (10 ∷ rest))
+IsCut-data [] rest = inr refl
+IsCut-data (b ∷ bs) rest = inl refl

@@ -1,0 +1,4 @@
+pub mod Numbers
+pub mod Hexadecimal
+pub mod Cuts
+pub mod Lines

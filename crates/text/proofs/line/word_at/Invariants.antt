@@ -1,0 +1,6 @@
+use Rattle.std.proofs.Common.{ℕ, ◌<◌, slice_index}
+use Rattle.text.specs.Line.{IsCutByte}
+use Rattle.text.proofs.line.word_at.Given as goal
+
+abbrev pub invariant-loop-i : goal.invariant-loop-i
+invariant-loop-i l = (k : ℕ) → k < l.i → IsCutByte (slice_index l.bytes k) → ⊥
