@@ -18,7 +18,7 @@ pub mod Reading
 pub mod Replying
 pub mod Requests
 pub mod Singles
-pub mod State
+pub mod Futures
 pub mod Timed
 pub mod Token
 pub mod Untaken
