@@ -80,7 +80,7 @@ module _ (slots id : ℕ) (me : Seated) where
         with_line slots id me (claim_at x) s r.past l v.role,
         keeps,
         tt,
-        adds_claim L s r id v v.role x new s.homes l (tick slots id me (claim_at x) s (l ∷ r.past)) inside refl (quiet_line r.past l tt r.live refl (λ p. (refl, refl))) (same_turns slots id me s r at l refl r.legal has (λ _. refl) (λ q is. absurd (lazy q is))) r.legal at (owned L s r id v l at mine)
+        adds_claim L s r id v v.role x new s.homes l (tick slots id me (claim_at x) s (l ∷ r.past)) inside refl (quiet_line r.past l (here.0.2, may'.0, may'.1) r.live refl (λ p. (refl, refl))) (same_turns slots id me s r at l refl r.legal has (λ _. refl) (λ q is. absurd (lazy q is))) r.legal at (owned L s r id v l at mine)
             (λ y h other k. other_cell K x y g k inside h other) (λ w. refl) refl (λ y other. refl) record {
               tag = Ready;
               cause = 0;
@@ -91,7 +91,7 @@ module _ (slots id : ℕ) (me : Seated) where
               says = (refl, refl, here.0.2, ap (λ b. cond b true (freed r.past q)) (same_itself q), here.0.4, here.0.5, may');
               ages = ages_stay S l r.past r.legal K x g (λ n other. other_age K x g n inside other) here.1;
             },
-        (extends slots id me s r at l v.role r.legal r.live tt (tick slots id me (claim_at x) s (l ∷ r.past)), refl),
+        (extends slots id me s r at l v.role r.legal r.live (here.0.2, may'.0, may'.1) (tick slots id me (claim_at x) s (l ∷ r.past)), refl),
         refl,
       )
 

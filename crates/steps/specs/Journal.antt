@@ -6,8 +6,9 @@ use Rattle.entry.specs.Entry.{Entry, drains}
 use Rattle.model.specs.declared.req.Req.{Req}
 use Rattle.model.specs.declared.event.Event.{Event}
 use Rattle.model.specs.declared.event.Event.TheVariants.{Submit, Reply, Reap}
-use Rattle.model.specs.History.{same}
-use Rattle.model.specs.Chains.{placed}
+use Rattle.model.specs.History.{same, phase, waits}
+use Rattle.model.specs.Chains.{placed, Open, is_timer}
+use Rattle.model.specs.Legal.{IsOf}
 use Rattle.model.specs.Pipes.{End, no_end, read_end, write_end, end_of}
 use Rattle.steps.specs.declared.line.Line.{Line}
 use Rattle.steps.specs.declared.line.Line.TheVariants.{Did, Freed, Lent, Noted, Hold, Free}
@@ -93,10 +94,11 @@ PlainAnswer Nop res = res ≡ pos 0
 PlainAnswer Invalid res = res ≡ negsuc 21
 PlainAnswer _ res = ⊥
 
--- only who has a pipe changes it or gives it back, and nobody takes it from him
+-- only who has a pipe changes it or gives it back, and nobody takes it from him; only what waits, is open and is a worker's to run is moved to Ready
 abbrev pub Fair : List Line → Line → Type 0
 Fair j (Did (Submit r e bytes last)) = Serves e last
 Fair j (Did (Reply r res data')) = (p : ℕ) → touches (placed (events_of j) r) p ≡ true → holder j p ≡ Some r
+Fair j (Freed r) = (phase (events_of j) r ≡ waits) × Open (events_of j) r × IsOf (events_of j) r is_timer false
 Fair j (Hold r p) = holder j p ≡ None
 Fair j (Free r p) = holder j p ≡ Some r
 Fair j _ = Unit {0}

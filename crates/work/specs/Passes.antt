@@ -38,6 +38,16 @@ pub record IsIdleSeat (s : Seat (Option Thing) View) : Type 0 where
   pub parts : 0 < s.me.0.parts
   pub bare : s.me.1 ≡ []
 
+-- a messenger's seat: it has no part, no work and no slot
+pub record IsMessengerSeat (s : Seat (Option Thing) View) : Type 0 where
+  pub role : s.me.0.role ≡ Idle
+  pub bare : s.me.1 ≡ []
+
+-- the pass is of this table, where the cell is
+pub record CanReach (table : TableId) (p : Pass) (x : ℕ) : Type 0 where
+  pub table_is : p.table ≡ table
+  pub cell : (x < 16384) × IsCell p.view.layout.cells x × (claim_at x + 7 < table.words)
+
 -- a worker that runs a request, as contracts see it
 pub record Running : Type 0 where
   pub pass : Pass

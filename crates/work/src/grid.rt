@@ -1,8 +1,9 @@
 //! Where the requests of the rings lie among the cells of the table.
-ghost use Rattle.std.specs.Prelude.{◌≡◌, ◌<◌, ◌≤◌, length, IfSome, IfNone};
-ghost use Rattle.steps.specs.Cells.{IsCell, held};
+ghost use Rattle.std.specs.Prelude.{◌≡◌, ◌<◌, ◌≤◌, length, IfOk, IfSome, IfNone};
+ghost use Rattle.steps.specs.Cells.{IsCell, cells_in, held, total};
 
 use model::Req;
+use std::alloc::{AllocError, Global};
 use std::marker::Model;
 
 /// A request's cell, and which generation of it the request is.
@@ -38,6 +39,49 @@ impl Model for Grid {
 }
 
 impl Grid {
+    ghost use Rattle.work.specs.Grid.{AreCells};
+
+    /// The cells of rings that have these numbers of them.
+    pub fn new(alloc: Global, cells: &[u64]) -> Result<Grid, AllocError>
+        requires { AreCells cells.now }
+        ensures { IfOk result (λ g. g ≡ cells.now) }
+    {
+        let mut rows = Vec::new(alloc);
+        let mut first = 0;
+        for &cells in cells {
+            rows.push(Row { first, cells })?;
+            first += cells as usize;
+        }
+        Ok(Grid { rows })
+    }
+
+    /// How many rings there are.
+    pub fn rings(&self) -> usize
+        ensures { result ≡ length self.now }
+    {
+        self.rows.len()
+    }
+
+    /// How many cells the ring has: 0 for a ring that isn't there.
+    pub fn cells_in(&self, ring: usize) -> u64
+        ensures { result ≡ cells_in self.now ring }
+    {
+        match self.rows.get(ring) {
+            Some(row) => row.cells,
+            None => 0,
+        }
+    }
+
+    /// How many cells all rings have.
+    pub fn total(&self) -> usize
+        ensures { result ≡ total self.now }
+    {
+        match self.rows.last() {
+            Some(row) => row.first + row.cells as usize,
+            None => 0,
+        }
+    }
+
     /// Where the request lies: None for a ring that isn't there.
     pub fn locate(&self, req: Req) -> Option<Spot>
         ensures some { IfSome result (λ s. IsCell self.now s.cell × (held self.now s.cell s.generation ≡ req) × (s.cell < 16384)) }

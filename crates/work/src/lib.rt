@@ -2,7 +2,9 @@
 #![tactic(auto)]
 
 pub mod grid;
+pub mod pass;
 pub mod worker;
 
 pub use grid::{Grid, Spot};
+pub use pass::{Messenger, Pass};
 pub use worker::{Busy, Ran, Worker};

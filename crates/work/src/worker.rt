@@ -10,12 +10,14 @@ ghost use Rattle.steps.specs.Cells.{slot_at};
 ghost use Rattle.steps.specs.Rule.{Looks, Extends};
 
 use crate::grid::Grid;
+use crate::pass::{Messenger, Pass};
 use entry::{Cqe, Op, Sqe, fails};
 use model::Req;
 use std::marker::Model;
-use steps::{Parcel, Place, Thing, Words, seat};
+use steps::{Parcel, Place, Thing, Words, seat, table};
 
 /// A worker without a request. Contracts see its table and what it knows.
+#[derive(Drop)]
 pub struct Worker {
     place: Place,
 }
@@ -39,6 +41,31 @@ impl Worker {
         ensures { result ≡ pass_of place }
     {
         Worker { place }
+    }
+
+    /// Its seat.
+    pub fn into_place(self) -> Place
+        ensures seat { IsIdleSeat result }
+        ensures value { pass_of result ≡ self }
+    {
+        let Worker { place } = self;
+        place
+    }
+}
+
+impl Pass for Worker {
+    ghost knows = { λ w. w };
+
+    fn load(&mut self, words: &Words, cell: usize) -> u64 {
+        seat::look(words, &mut self.place, cell)
+    }
+
+    fn tell(&mut self, words: &Words) -> Messenger {
+        Messenger::new(table::tell(words, &mut self.place))
+    }
+
+    fn hear(&mut self, words: &Words, messenger: Messenger) {
+        table::hear(words, &mut self.place, messenger.into_place());
     }
 }
 
