@@ -1,7 +1,7 @@
 -- A row of the grid tells where its ring's cells lie.
-use Rattle.std.proofs.Common.{◌≡◌, ℕ, zero, suc, ◌+◌, ◌-◌, ◌*◌, ◌/◌, ◌%◌, ◌<◌, ◌≤◌, nat_lt, true, false, cond, List, [], ◌∷◌, length, get_or, sym, refl, ap, ◌∙◌, subst, arith, ltb-true, lt-ltb, le-ltb}
+use Rattle.std.proofs.Common.{◌≡◌, ℕ, zero, suc, ◌+◌, ◌-◌, ◌*◌, ◌/◌, ◌%◌, ◌<◌, ◌≤◌, nat_lt, true, false, cond, List, [], ◌∷◌, ◌++◌, take, length, get_or, sym, refl, ap, ◌∙◌, subst, arith, ltb-true, lt-ltb, le-ltb}
 use Rattle.work.specs.declared.grid.Row.{Row}
-use Rattle.work.specs.Grid.{cells_of, RowsFrom}
+use Rattle.work.specs.Grid.{cells_of, RowsFrom, AreCellCounts}
 use Rattle.steps.specs.Cells.{IsCell, held, total, cells_in, ring_of, place_of}
 use Rattle.steps.proofs.Numbers.{first_cell}
 
@@ -61,3 +61,38 @@ spot_says rows i k row K is g s =
     let at : held C (row.first + p) (k / row.cells) ≡ record { ring = i; k = k } = subst (λ (z : ℕ). held C z (k / row.cells) ≡ record { ring = i; k = k }) first (located_is C i k (k / row.cells) p lt' e) in
     let end = rows_end 0 rows g in
     (subst (λ (M : List ℕ). IsCell M (row.first + p)) is inside, subst (λ (M : List ℕ). held M (row.first + p) (k / row.cells) ≡ record { ring = i; k = k }) is at, omega arith)
+
+-- the rows so far, with one more behind them
+pub cells_more : (rows : List Row) (r : Row) → cells_of (rows ++ r ∷ []) ≡ cells_of rows ++ r.cells ∷ []
+cells_more [] r = refl
+cells_more (q ∷ rows) r = ap (λ (xs : List ℕ). q.cells ∷ xs) (cells_more rows r)
+
+pub total_more : (K : List ℕ) (n : ℕ) → total (K ++ n ∷ []) ≡ total K + n
+total_more [] n = omega arith
+total_more (m ∷ K) n = let i = total_more K n in omega arith
+
+pub rows_more : (n : ℕ) (rows : List Row) (r : Row) → RowsFrom n rows → r.first ≡ n + total (cells_of rows) → 0 < r.cells → r.cells ≤ 1024 → r.first + r.cells ≤ 16384 → RowsFrom n (rows ++ r ∷ [])
+rows_more n [] r h at some few end = (omega arith, some, few, omega arith)
+rows_more n (q ∷ rows) r h at some few end = (h.0, h.1, h.2, rows_more (n + q.cells) rows r h.3 (omega arith) some few end)
+
+-- the first i of the numbers, and the one at i
+pub counts_at : (K : List ℕ) (i : ℕ) → AreCellCounts K → i < length K → (0 < get_or K i 0) × (get_or K i 0 ≤ 1024)
+counts_at [] i h lt = absurd (omega arith)
+counts_at (n ∷ K) zero h lt = (h.0, h.1)
+counts_at (n ∷ K) (suc i) h lt = counts_at K i h.2 (omega arith)
+
+pub total_at : (K : List ℕ) (i : ℕ) → i < length K → total (take i K) + get_or K i 0 ≤ total K
+total_at [] i lt = absurd (omega arith)
+total_at (n ∷ K) zero lt = omega arith
+total_at (n ∷ K) (suc i) lt = let h = total_at K i (omega arith) in omega arith
+
+-- the cells that a look-up of a row tells
+pub cells_found : (rows : List Row) (i : ℕ) (d : Row) → i < length rows → (get_or rows i d).cells ≡ cells_in (cells_of rows) i
+cells_found [] i d lt = absurd (omega arith)
+cells_found (r ∷ rows) zero d lt = refl
+cells_found (r ∷ rows) (suc i) d lt = cells_found rows i d (omega arith)
+
+pub cells_lost : (K : List ℕ) (i : ℕ) → length K ≤ i → cells_in K i ≡ 0
+cells_lost [] i le = refl
+cells_lost (n ∷ K) zero le = absurd (omega arith)
+cells_lost (n ∷ K) (suc i) le = cells_lost K i (omega arith)

@@ -24,18 +24,20 @@ pub struct Row {
 #[derive(Drop)]
 pub struct Grid {
     rows: Vec<Row>,
+    count: usize,
 }
 
 impl Model for Grid {
-    ghost use Rattle.std.specs.Prelude.{List, ℕ};
+    ghost use Rattle.std.specs.Prelude.{◌≡◌, List, ℕ};
 
     ghost Value = { List ℕ };
 
+    ghost use Rattle.steps.specs.Cells.{total};
     ghost use Rattle.work.specs.Grid.{cells_of, IsGrid};
 
     ghost view = { λ g. cells_of g.rows.items };
 
-    ghost invariant = { λ g. IsGrid g.rows.items };
+    ghost invariant = { λ g. IsGrid g.rows.items × (g.count ≡ total (cells_of g.rows.items)) };
 }
 
 impl Grid {
@@ -52,7 +54,7 @@ impl Grid {
             rows.push(Row { first, cells })?;
             first += cells as usize;
         }
-        Ok(Grid { rows })
+        Ok(Grid { rows, count: first })
     }
 
     /// How many rings there are.
@@ -76,10 +78,7 @@ impl Grid {
     pub fn total(&self) -> usize
         ensures { result ≡ total self.now }
     {
-        match self.rows.last() {
-            Some(row) => row.first + row.cells as usize,
-            None => 0,
-        }
+        self.count
     }
 
     /// Where the request lies: None for a ring that isn't there.

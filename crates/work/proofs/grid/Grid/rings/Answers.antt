@@ -1,0 +1,6 @@
+use Rattle.std.proofs.Common.{List, ℕ, length, ap, sym, ◌∙◌}
+use Rattle.work.proofs.Rows.{cells_long}
+use Rattle.work.proofs.grid.Grid.rings.Goals as goal
+
+pub returns : goal.returns
+returns c = c.len.ensures ∙ (c.self.inside.rows.ok.0 ∙ (sym (cells_long c.self.inside.rows.items) ∙ ap (λ (k : List ℕ). length k) c.self.view_is))
