@@ -8,6 +8,7 @@ ghost use Rattle.steps.specs.declared.view.Role.TheVariants.{Idle, Busy as RoleB
 ghost use Rattle.steps.specs.Journal.{is_served, PlainAnswer};
 ghost use Rattle.steps.specs.Cells.{slot_at};
 ghost use Rattle.steps.specs.Rule.{Looks, Extends};
+ghost use Rattle.work.specs.Board.{Facts, IsOf};
 
 use crate::grid::Grid;
 use crate::pass::{Messenger, Pass};
@@ -111,6 +112,7 @@ impl Worker {
     pub fn begin<'a>(self, words: &'a Words, grid: &Grid, req: Req) -> Result<Busy<'a>, Worker>
         requires on { IsOn words.now.table_id grid.now self }
         ensures begun { IfOk result (λ b. (b.req ≡ req) × (b.pass.table ≡ self.table) × Extends self.view (Did (Begin req)) (RoleBusy req) b.pass.view) }
+        ensures kept { (b : Facts) → IsOf b self → IfOk result (λ busy. IsOf b busy.pass) × IfErr result (λ w. IsOf b w) }
         ensures refused { IfErr result (λ w. (w.table ≡ self.table) × ((w.view ≡ self.view) ⊎ Looks self.view w.view) × ((length grid.now ≤ req.ring) ⊎ FoundNotReady grid.now req self.view w.view)) }
     {
         let Worker { mut place } = self;
@@ -172,6 +174,7 @@ impl<'a> Busy<'a> {
 
     /// Puts the request back to Ready.
     pub fn park(self) -> Worker
+        ensures kept { (b : Facts) → IsOf b self.entry.pass → IsOf b result }
         ensures parked { (result.table ≡ self.entry.pass.table) × Extends self.entry.pass.view (Did (Park self.entry.req)) Idle result.view }
     {
         let Busy {
@@ -190,6 +193,7 @@ impl<'a> Busy<'a> {
     /// Answers the request.
     pub fn run(self) -> (Worker, Ran)
         ensures worker { result.0.table ≡ self.entry.pass.table }
+        ensures kept { (b : Facts) → IsOf b self.entry.pass → IsOf b result.0 }
         ensures replied { IsRun self.entry result.0 result.1 }
     {
         let Busy {

@@ -1,0 +1,6 @@
+pub mod Calls
+pub mod Headline
+pub mod Limits
+pub mod New
+pub mod Refusals
+pub mod Seats

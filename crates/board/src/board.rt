@@ -1,0 +1,293 @@
+//! The board and its calls.
+ghost use Rattle.std.specs.Prelude.{◌≡◌, ◌≢◌, ℕ, ◌+◌, ◌-◌, ◌<◌, ◌≤◌, ◌⊎◌, ◌↔◌, cond, true, false, [], ◌∷◌, length, slice_index, IfOk, IfErr, IsTrue};
+ghost use Rattle.std.specs.declared.result.Result.TheVariants.{Err};
+ghost use Rattle.model.specs.declared.req.Req.{Req};
+ghost use Rattle.model.specs.declared.event.Event.TheVariants.{Submit, Begin, Reap};
+ghost use Rattle.model.specs.History.{same, phase, submits};
+ghost use Rattle.model.specs.Legal.{FitsOp};
+ghost use Rattle.steps.specs.declared.line.Line.TheVariants.{Did};
+ghost use Rattle.steps.specs.declared.view.Role.TheVariants.{Poller as PollerRole, Submitter as SubmitterRole, Busy as BusyRole};
+ghost use Rattle.steps.specs.Journal.{freed, Serves};
+ghost use Rattle.steps.specs.Rule.{Looks, Extends, Begins};
+ghost use Rattle.work.specs.Board.{IsOf};
+ghost use Rattle.work.specs.Passes.{seen_of, FoundNotReady};
+ghost use Rattle.board.specs.declared.error.BoardError.TheVariants.{BadShape};
+ghost use Rattle.board.specs.declared.poller.Released.TheVariants.{Freed, NotHeld};
+ghost use Rattle.board.specs.Calls.{Goes, Finds, Stepped, IsFree, IsReaped, IsUnheld, MayStart, next_of};
+ghost use Rattle.board.specs.Headline.{IsCompletion, HasOnce};
+ghost use Rattle.board.specs.Limits.{counts, is_shape};
+ghost use Rattle.board.specs.New.{IsNew, IsFresh, AreSubmitters, AreWorkers};
+ghost use Rattle.board.specs.Refusals.{RefusesEntry, RefusesReap};
+
+use crate::completion::Completion;
+use crate::error::{BoardError, ReapError, SubmitError};
+use crate::limits::is_shape;
+use crate::phase::{Phase, has_failed, told};
+use crate::poller::{Poller, Released};
+use crate::shape::{RingShape, Shape};
+use crate::submitter::Submitter;
+use entry::{Cqe, Op, Sqe};
+use model::Req;
+use std::alloc::{AllocError, Global};
+use std::marker::Model;
+use steps::{BoardTable, Parcel, Place, Words, claims, table};
+use work::{Busy, Grid, Pass, Worker};
+
+/// Rings, pipes and workers over one shared table. Its passes may be used by several threads at once.
+#[derive(Drop)]
+pub struct Board {
+    pub(crate) table: BoardTable,
+    pub(crate) grid: Grid,
+    pub(crate) workers: u32,
+}
+
+impl Model for Board {
+    ghost use Rattle.std.specs.Prelude.{◌≡◌};
+    ghost use Rattle.work.specs.Board.{Facts, IsBoard};
+
+    ghost Value = { Facts };
+
+    ghost view = { λ b. record { table = b.table.shared.table_id; layout = record { cells = b.grid; caps = b.table.shared.key.caps.value.items }; workers = b.workers } };
+
+    ghost invariant = { λ b. IsBoard (record { table = b.table.shared.table_id; layout = record { cells = b.grid; caps = b.table.shared.key.caps.value.items }; workers = b.workers }) × (b.table.shared.key.cells.value.items ≡ b.grid) };
+}
+
+/// The last generation of a cell's word. No request has it.
+const LAST_GENERATION: u32 = 16_777_215;
+
+/// The numbers of cells.
+fn cells_of(alloc: Global, rings: &[RingShape]) -> Result<Vec<u64>, AllocError>
+    ensures { IfOk result (λ v. v.items ≡ counts rings.now) }
+{
+    let mut cells = Vec::new(alloc);
+    for ring in rings {
+        cells.push(u64::from(ring.cells))?;
+    }
+    Ok(cells)
+}
+
+/// The submitters of all rings, whose seats leave the poller's.
+fn cut_submitters(
+    alloc: Global,
+    words: &Words,
+    seat: &mut Place,
+    rings: u16,
+) -> Result<Vec<Submitter>, AllocError> {
+    let mut submitters = Vec::new(alloc);
+    for ring in 0..rings {
+        let place = table::next_submitter(words, seat);
+        submitters.push(Submitter::new(place, ring))?;
+    }
+    Ok(submitters)
+}
+
+/// So many workers, whose seats leave the poller's.
+fn cut_workers(
+    alloc: Global,
+    words: &Words,
+    seat: &mut Place,
+    count: u32,
+) -> Result<Vec<Worker>, AllocError> {
+    let mut workers = Vec::new(alloc);
+    for _ in 0..count {
+        let place = table::next_worker(words, seat);
+        workers.push(Worker::new(place))?;
+    }
+    Ok(workers)
+}
+
+/// Whether the board serves such an entry.
+fn is_served(sqe: &Sqe) -> bool
+    ensures { IsTrue result ↔ Serves sqe.now true }
+{
+    match sqe.op() {
+        Op::Nop => !sqe.drains(),
+        Op::Invalid => !sqe.drains(),
+        _ => false,
+    }
+}
+
+/// Whether a buffer of this length goes with the entry.
+fn fits_length(sqe: &Sqe, length: usize) -> bool
+    ensures { IsTrue result ↔ FitsOp sqe.now.op length }
+{
+    match sqe.op() {
+        Op::Read {
+            fd: _,
+            offset: _,
+            len,
+        } => length == len as usize,
+        Op::Write {
+            fd: _,
+            offset: _,
+            len,
+        } => length == len as usize,
+        Op::Invalid => true,
+        _ => length == 0,
+    }
+}
+
+impl Board {
+    /// A board of this shape, with the poller's pass, a submitter for each ring, in order, and its workers.
+    pub fn new(
+        alloc: Global,
+        shape: &Shape,
+    ) -> Result<(Board, Poller, Vec<Submitter>, Vec<Worker>), BoardError>
+        ensures new { IfOk result (λ t. IsNew shape.now t.0 t.1 t.2.items t.3.items) }
+        ensures bad_shape { result ≡ Err BadShape → is_shape shape.now ≡ false }
+        ensures refused { is_shape shape.now ≡ false → result ≡ Err BadShape }
+    {
+        if !is_shape(shape) {
+            return Err(BoardError::BadShape);
+        }
+        let cells = cells_of(alloc, shape.rings.as_slice())?;
+        let grid = Grid::new(alloc, cells.as_slice())?;
+        let (table, mut seat) = table::set_up(alloc, &cells, &shape.pipes, grid.total())?;
+        let rings = shape.rings.len() as u16;
+        let submitters = cut_submitters(alloc, &table.shared, &mut seat, rings)?;
+        let workers = cut_workers(alloc, &table.shared, &mut seat, shape.workers)?;
+        let board = Board {
+            table,
+            grid,
+            workers: shape.workers,
+        };
+        Ok((board, Poller::new(seat), submitters, workers))
+    }
+
+    /// Where the request stands.
+    pub fn look<P: Pass>(&self, pass: &mut P, req: Req) -> Phase
+        requires { IsOf self.now (P.knows pass.old) }
+        ensures looks { Goes self.now (P.knows pass.old) [] (P.knows pass.new) }
+        ensures finds { Finds self.now req result (P.knows pass.old) (P.knows pass.new) }
+    {
+        let Some(spot) = self.grid.locate(req) else {
+            return Phase::Unborn;
+        };
+        let word = pass.load(&self.table.shared, spot.cell);
+        told(word, spot.generation)
+    }
+
+    /// Both passes look, and the second has then seen all that the first has.
+    pub fn meet<P: Pass, Q: Pass>(&self, pass: &mut P, other: &mut Q)
+        requires first { IsOf self.now (P.knows pass.old) }
+        requires second { IsOf self.now (Q.knows other.old) }
+        ensures first { Goes self.now (P.knows pass.old) [] (P.knows pass.new) }
+        ensures second { Goes self.now (Q.knows other.old) [] (Q.knows other.new) }
+        ensures told { Begins (Q.knows other.new).view.seen (P.knows pass.new).view.seen }
+    {
+        let words = &self.table.shared;
+        pass.load(words, 0);
+        let messenger = pass.tell(words);
+        other.hear(words, messenger);
+        other.load(words, 0);
+    }
+
+    /// Submits a batch of one entry with its buffer.
+    pub fn submit(
+        &self,
+        submitter: &mut Submitter,
+        sqe: Sqe,
+        buffer: Vec<u8>,
+    ) -> Result<Req, (SubmitError, Vec<u8>)>
+        requires { IsOf self.now submitter.old }
+        ensures submitted { (ring : ℕ) → submitter.old.view.role ≡ SubmitterRole ring → IfOk result (λ r. (r ≡ next_of submitter.old ring) × Goes self.now submitter.old (Submit r sqe buffer.items true ∷ []) submitter.new) }
+        ensures free { IfOk result (λ r. IsFree self.now.layout.cells (seen_of submitter.new) r) }
+        ensures refused { IfErr result (λ e. Goes self.now submitter.old [] submitter.new × (e.1 ≡ buffer)) }
+        ensures reason { (ring : ℕ) → submitter.old.view.role ≡ SubmitterRole ring → IfErr result (λ e. RefusesEntry self.now sqe buffer.items (next_of submitter.old ring) submitter.old submitter.new e.0) }
+    {
+        if !is_served(&sqe) {
+            return Err((SubmitError::Unserved, buffer));
+        }
+        if !fits_length(&sqe, buffer.len()) {
+            return Err((SubmitError::BufferLength, buffer));
+        }
+        let req = submitter.next_request();
+        let Some(spot) = self.grid.locate(req) else {
+            unreachable!()
+        };
+        let generation = spot.generation as u32;
+        if submitter.load(&self.table.shared, spot.cell) != claims::empty(generation) {
+            return Err((SubmitError::Full, buffer));
+        }
+        if generation == LAST_GENERATION {
+            return Err((SubmitError::Spent, buffer));
+        }
+        let parcel = Parcel {
+            sqe,
+            buffer,
+            last: true,
+        };
+        submitter.hand_in(&self.table.shared, spot.cell, generation, parcel);
+        Ok(req)
+    }
+
+    /// Moves a request that waits, and is open, to the workers.
+    pub fn release(&self, poller: &mut Poller, req: Req) -> Released
+        requires { IsOf self.now poller.old }
+        ensures looks { Goes self.now poller.old [] poller.new }
+        ensures freed { result ≡ Freed → (freed poller.new.view.seen req ≡ true) × MayStart poller.new.view.seen req }
+        ensures not_held { result ≡ NotHeld → IsUnheld poller.new.view.seen req × ((length self.now.layout.cells ≤ req.ring) ⊎ Stepped poller.old poller.new) }
+        ensures alone { (q : Req) → (result ≡ NotHeld) ⊎ (same req q ≡ false) → freed poller.new.view.seen q ≡ freed poller.old.view.seen q }
+    {
+        let Some(spot) = self.grid.locate(req) else {
+            return Released::NotHeld;
+        };
+        let word = poller.load(&self.table.shared, spot.cell);
+        let Phase::Held = told(word, spot.generation) else {
+            return Released::NotHeld;
+        };
+        if poller.free(&self.table.shared, spot.cell, spot.generation as u32) {
+            Released::Freed
+        } else {
+            Released::NotHeld
+        }
+    }
+
+    /// Gives a request that is Ready to the worker.
+    pub fn begin<'a>(&'a self, worker: Worker, req: Req) -> Result<Busy<'a>, Worker>
+        requires { IsOf self.now worker }
+        ensures begun { IfOk result (λ b. (b.req ≡ req) × IsOf self.now b.pass × Extends worker.view (Did (Begin req)) (BusyRole req) b.pass.view) }
+        ensures refused { IfErr result (λ w. IsOf self.now w × ((w.view ≡ worker.view) ⊎ Looks worker.view w.view) × ((length self.now.layout.cells ≤ req.ring) ⊎ FoundNotReady self.now.layout.cells req worker.view w.view)) }
+    {
+        worker.begin(&self.table.shared, &self.grid, req)
+    }
+
+    /// Takes the request's completion.
+    pub fn reap(&self, submitter: &mut Submitter, req: Req) -> Result<Completion, ReapError>
+        requires { IsOf self.now submitter.old }
+        ensures reaped { IfOk result (λ x. Goes self.now submitter.old (Reap req ∷ []) submitter.new) }
+        ensures completion { IfOk result (λ x. IsCompletion (seen_of submitter.new) req x × IsReaped (phase (seen_of submitter.new) req)) }
+        ensures once { IfOk result (λ x. HasOnce (seen_of submitter.new) req) }
+        ensures refused { IfErr result (λ e. Goes self.now submitter.old [] submitter.new) }
+        ensures reason { (ring : ℕ) → submitter.old.view.role ≡ SubmitterRole ring → IfErr result (λ e. RefusesReap req ring (submits (seen_of submitter.old) ring) submitter.old submitter.new e) }
+    {
+        if req.ring != submitter.ring() {
+            return Err(ReapError::Foreign);
+        }
+        if submitter.next_request().k <= req.k {
+            return Err(ReapError::NotYet);
+        }
+        let Some(spot) = self.grid.locate(req) else {
+            unreachable!()
+        };
+        let words = &self.table.shared;
+        let word = submitter.load(words, spot.cell);
+        match told(word, spot.generation) {
+            Phase::Done(res) => {
+                let generation = spot.generation as u32;
+                let parcel = submitter.take(words, spot.cell, generation, word, has_failed(word));
+                let cqe = Cqe {
+                    user_data: parcel.sqe.user_data(),
+                    res,
+                };
+                Ok(Completion {
+                    req,
+                    cqe,
+                    buffer: parcel.buffer,
+                })
+            }
+            Phase::Gone => Err(ReapError::Gone),
+            _ => Err(ReapError::NotYet),
+        }
+    }
+}

@@ -1,0 +1,78 @@
+//! Why a call on the board is refused. A refusal changes nothing.
+use std::alloc::{AllocError, AllocFailed};
+use thiserror::Error;
+
+/// Why a board can't be made.
+#[derive(Clone, Copy, PartialEq, Eq, Debug, Error)]
+pub enum BoardError {
+    /// The shape is outside its limits.
+    #[error("the shape is outside its limits")]
+    BadShape,
+    /// Its room wasn't found.
+    #[error("out of memory")]
+    Memory,
+}
+
+impl From<AllocError> for BoardError {
+    ghost use Rattle.std.specs.Prelude.{◌≡◌};
+    ghost use Rattle.board.specs.declared.error.BoardError.TheVariants.{Memory};
+
+    ghost from_gives = { λ _ e. e ≡ Memory };
+
+    fn from(_error: AllocError) -> BoardError {
+        BoardError::Memory
+    }
+}
+
+impl<T: Drop> From<AllocFailed<T>> for BoardError {
+    ghost use Rattle.std.specs.Prelude.{◌≡◌};
+    ghost use Rattle.board.specs.declared.error.BoardError.TheVariants.{Memory};
+
+    ghost from_gives = { λ _ e. e ≡ Memory };
+
+    fn from(_error: AllocFailed<T>) -> BoardError {
+        BoardError::Memory
+    }
+}
+
+/// Why an entry isn't taken (io_uring_enter(2)). They are tested in the order `Unserved`, `BufferLength`, `Full`, `Spent`.
+#[derive(Clone, Copy, PartialEq, Eq, Debug, Error)]
+pub enum SubmitError {
+    /// The cell of the next request is not free.
+    #[error("the ring is full")]
+    Full,
+    /// The buffer doesn't have the entry's length: `len` for a READ or WRITE, none for others that are valid.
+    #[error("the buffer doesn't have the entry's length")]
+    BufferLength,
+    /// The cell has had all requests that it can have.
+    #[error("the cell has had all its requests")]
+    Spent,
+    /// The board can't serve such an entry yet.
+    #[error("not served yet")]
+    Unserved,
+}
+
+/// Why there is no completion to take.
+#[derive(Clone, Copy, PartialEq, Eq, Debug, Error)]
+pub enum ReapError {
+    /// The request has no reply yet, or wasn't submitted.
+    #[error("no reply yet")]
+    NotYet,
+    /// Its completion was taken before.
+    #[error("taken before")]
+    Gone,
+    /// It is a request of another ring.
+    #[error("a request of another ring")]
+    Foreign,
+}
+
+/// Why a board isn't ended.
+#[derive(Clone, Copy, PartialEq, Eq, Debug, Error)]
+pub enum FinishError {
+    /// A pass of the board is not among those handed in.
+    #[error("a pass is missing")]
+    Missing,
+    /// The report's room wasn't found.
+    #[error("out of memory")]
+    Memory,
+}

@@ -1,0 +1,27 @@
+//! The board: rings, pipes and workers over one shared table, as its passes use it. No lock guards it.
+#![tactic(auto)]
+
+pub mod board;
+pub mod completion;
+pub mod end;
+pub mod error;
+mod limits;
+pub mod phase;
+pub mod poller;
+mod remains;
+mod report;
+pub mod shape;
+pub mod submitter;
+
+pub use board::Board;
+pub use completion::{Completion, Report};
+pub use end::Unfinished;
+pub use error::{BoardError, FinishError, ReapError, SubmitError};
+pub use phase::Phase;
+pub use poller::{Poller, Released};
+pub use shape::{RingShape, Shape};
+pub use submitter::Submitter;
+pub use work::{Busy, Pass, Ran, Worker};
+
+#[cfg(test)]
+mod tests;

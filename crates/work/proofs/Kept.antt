@@ -1,0 +1,35 @@
+-- A pass of a board stays one of its own.
+use Rattle.std.proofs.Common.{◌≡◌, List, ◌∷◌, false, sym, ap, ◌∙◌, subst}
+use Rattle.model.specs.History.{was_shut}
+use Rattle.model.specs.Legal.{Legal}
+use Rattle.steps.specs.declared.line.Line.{Line}
+use Rattle.steps.specs.declared.view.Layout.{Layout}
+use Rattle.steps.specs.declared.view.Role.{Role}
+use Rattle.steps.specs.declared.view.View.{View}
+use Rattle.steps.specs.Journal.{events_of, Orderly}
+use Rattle.steps.specs.Cells.{setup_of}
+use Rattle.steps.specs.Rule.{Looks, Extends}
+use Rattle.work.specs.Board.{Facts, IsOf, share_of}
+use Rattle.work.specs.Passes.{Pass}
+
+pub looked_of : (b : Facts) (p q : Pass) → IsOf b p → q.table ≡ p.table → Looks p.view q.view → IsOf b q
+looked_of b p q o t x =
+    let seen : q.view.seen ≡ x.now = ap (λ (z : View). z.seen) x.is in record {
+      table_is = t ∙ o.table_is;
+      layout_is = ap (λ (z : View). z.layout) x.is ∙ o.layout_is;
+      share_is = ap (λ (z : View). z.parts) x.is ∙ (o.share_is ∙ ap (share_of b) (sym (ap (λ (z : View). z.role) x.is)));
+      legal = subst (λ (j : List Line). Legal (setup_of b.layout) (events_of j)) (sym seen) (subst (λ (L : Layout). Legal (setup_of L) (events_of x.now)) o.layout_is x.legal);
+      live = subst (λ (j : List Line). was_shut (events_of j) ≡ false) (sym seen) x.live;
+      orderly = subst Orderly (sym seen) x.orderly;
+    }
+
+pub extended_of : (b : Facts) (p q : Pass) (l : Line) (role : Role) → IsOf b p → share_of b role ≡ share_of b p.view.role → q.table ≡ p.table → Extends p.view l role q.view → IsOf b q
+extended_of b p q l role o same t x =
+    let seen : q.view.seen ≡ l ∷ x.mid = ap (λ (z : View). z.seen) x.is in record {
+      table_is = t ∙ o.table_is;
+      layout_is = ap (λ (z : View). z.layout) x.is ∙ o.layout_is;
+      share_is = ap (λ (z : View). z.parts) x.is ∙ (o.share_is ∙ (sym same ∙ ap (share_of b) (sym (ap (λ (z : View). z.role) x.is))));
+      legal = subst (λ (j : List Line). Legal (setup_of b.layout) (events_of j)) (sym seen) (subst (λ (L : Layout). Legal (setup_of L) (events_of (l ∷ x.mid))) o.layout_is x.legal);
+      live = subst (λ (j : List Line). was_shut (events_of j) ≡ false) (sym seen) x.live;
+      orderly = subst Orderly (sym seen) x.orderly;
+    }

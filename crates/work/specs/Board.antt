@@ -1,0 +1,38 @@
+-- What contracts see of a board, and when a pass is one of its own.
+use Rattle.std.specs.Prelude.{◌≡◌, ℕ, ◌+◌, ◌-◌, ◌*◌, ◌<◌, ◌≤◌, false, length}
+use Rattle.atomic_table.specs.Seated.{TableId}
+use Rattle.model.specs.History.{was_shut}
+use Rattle.model.specs.Legal.{Setup, Legal}
+use Rattle.steps.specs.declared.view.Layout.{Layout}
+use Rattle.steps.specs.declared.view.Role.{Role}
+use Rattle.steps.specs.declared.view.Role.TheVariants.{Poller}
+use Rattle.steps.specs.Journal.{Orderly}
+use Rattle.steps.specs.Cells.{setup_of, total}
+use Rattle.work.specs.Grid.{AreCells}
+use Rattle.work.specs.Passes.{Pass, seen_of}
+
+-- a board: its table, the cells of its rings and the capacities of its pipes, and how many workers it has
+pub record Facts : Type 0 where
+  pub table : TableId
+  pub layout : Layout
+  pub workers : ℕ
+
+pub record IsBoard (b : Facts) : Type 0 where
+  pub wide : b.table.words ≡ 8 * total b.layout.cells + 72
+  pub cells : AreCells b.layout.cells
+  pub rings : (0 < length b.layout.cells) × (length b.layout.cells ≤ 16)
+  pub workers : b.workers ≤ 64
+
+-- the parts that the pass with this role has: the poller's has all that the others don't, so who has all parts has all passes
+abbrev pub share_of : Facts → Role → ℕ
+share_of b (Poller n) = 9223372036854775808 - (length b.layout.cells + b.workers)
+share_of b _ = 1
+
+-- the pass is one of this board's own
+pub record IsOf (b : Facts) (p : Pass) : Type 0 where
+  pub table_is : p.table ≡ b.table
+  pub layout_is : p.view.layout ≡ b.layout
+  pub share_is : p.view.parts ≡ share_of b p.view.role
+  pub legal : Legal (setup_of b.layout) (seen_of p)
+  pub live : was_shut (seen_of p) ≡ false
+  pub orderly : Orderly p.view.seen
