@@ -1,2 +1,4 @@
 pub mod Going
+pub mod Keeping
+pub mod Knowing
 pub mod Telling
