@@ -1,4 +1,6 @@
+pub mod Bounds
 pub mod Going
 pub mod Keeping
 pub mod Knowing
+pub mod Releasing
 pub mod Telling
