@@ -1,4 +1,5 @@
 pub mod Bounds
+pub mod Cutting
 pub mod Going
 pub mod Keeping
 pub mod Knowing
