@@ -4,4 +4,5 @@ pub mod Going
 pub mod Keeping
 pub mod Knowing
 pub mod Releasing
+pub mod Submitting
 pub mod Telling

@@ -221,7 +221,7 @@ impl Board {
             unreachable!()
         };
         let generation = spot.generation as u32;
-        if submitter.load(&self.table.shared, spot.cell) != claims::empty(generation) {
+        if submitter.look_at(&self.table.shared, spot.cell) != claims::empty(generation) {
             return Err((SubmitError::Full, buffer));
         }
         if generation == LAST_GENERATION {
@@ -286,7 +286,7 @@ impl Board {
             unreachable!()
         };
         let words = &self.table.shared;
-        let word = submitter.load(words, spot.cell);
+        let word = submitter.look_at(words, spot.cell);
         match told(word, spot.generation) {
             Phase::Done(res) => {
                 let generation = spot.generation as u32;
