@@ -3,6 +3,8 @@ pub mod Cutting
 pub mod Going
 pub mod Keeping
 pub mod Knowing
+pub mod Once
+pub mod Reaping
 pub mod Releasing
 pub mod Submitting
 pub mod Telling
