@@ -69,15 +69,18 @@ abbrev pub IsCutOrNot : List Event → Req → ℤ → Bool → Type 0
 IsCutOrNot h r res true = (res ≡ negsuc 124) × (IsIdle (phase h r))
 IsCutOrNot h r res false = (c : Cause) × (phase h r ≡ replied c res)
 
--- the line is right, as the history before the end tells
-pub record IsLine (h : List Event) (x : Completion × Bool) : Type 0 where
+-- the line is right for this request, as the history before the end tells
+pub record IsLineOf (h : List Event) (r : Req) (x : Completion × Bool) : Type 0 where
   pub entry : Entry
   pub bytes : List ℕ
   pub end_of_batch : Bool
-  pub handed_in : submission h x.0.req ≡ Some (record { entry = entry; bytes = bytes; last = end_of_batch })
+  pub handed_in : submission h r ≡ Some (record { entry = entry; bytes = bytes; last = end_of_batch })
   pub user_data : x.0.cqe.user_data ≡ entry.user_data
-  pub buffer : x.0.buffer.items ≡ over (data_left h x.0.req (phase h x.0.req)) bytes
-  pub cut : IsCutOrNot h x.0.req x.0.cqe.res x.1
+  pub buffer : x.0.buffer.items ≡ over (data_left h r (phase h r)) bytes
+  pub cut : IsCutOrNot h r x.0.cqe.res x.1
+
+abbrev pub IsLine : List Event → Completion × Bool → Type 0
+IsLine h x = IsLineOf h x.0.req x
 
 abbrev pub AreLines : List Event → List (Completion × Bool) → Type 0
 AreLines h [] = Unit {0}

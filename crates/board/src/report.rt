@@ -1,5 +1,5 @@
 //! The report of the requests that were not reaped, from what is left of a table.
-ghost use Rattle.std.specs.Prelude.{◌≡◌, ℕ, ◌+◌, ◌<◌, ◌≤◌, List, Some, None, length, slice_set, vec_capacity};
+ghost use Rattle.std.specs.Prelude.{◌≡◌, ℕ, ◌+◌, ◌<◌, ◌≤◌, ◌↔◌, List, Some, None, IsTrue, length, slice_set, vec_capacity};
 ghost use mathlib.Core.Option.{some};
 ghost use lib.ListN.{get_elem?};
 ghost use Rattle.model.specs.Legal.{Setup};
@@ -8,7 +8,7 @@ ghost use Rattle.steps.specs.declared.parcel.Parcel.{Parcel};
 ghost use Rattle.steps.specs.declared.parcel.Thing.TheVariants.{Full};
 ghost use Rattle.steps.specs.Cells.{Ages};
 ghost use Rattle.steps.specs.Rule.{Shown};
-ghost use Rattle.board.specs.Calls.{IsWord};
+ghost use Rattle.board.specs.Calls.{IsWord, IsPresent};
 ghost use Rattle.board.specs.Remains.{Reports, IsReplyOf};
 
 use crate::completion::Completion;
@@ -22,6 +22,17 @@ use work::Grid;
 
 /// The reply to a request that the end cut off (ECANCELED).
 const CUT: i32 = -125;
+
+/// Whether the request was submitted and not reaped.
+fn is_present(phase: Phase) -> bool
+    ensures { IsTrue result ↔ IsPresent phase }
+{
+    match phase {
+        Phase::Unborn => false,
+        Phase::Gone => false,
+        _ => true,
+    }
+}
 
 /// The line of a request that stands so, with its parcel.
 fn line_of(req: Req, phase: Phase, parcel: Parcel) -> (Completion, bool)
@@ -52,7 +63,10 @@ fn take_parcel(slots: &mut Vec<Option<Thing>>, cell: usize) -> Parcel
     ensures parcel { get_elem? slots.old.items cell ≡ some (Some (Full result)) }
     ensures slots { slots.new.items ≡ slice_set slots.old.items cell None }
 {
-    let Some(Thing::Full(parcel)) = slots[cell].take() else {
+    let Some(thing) = slots[cell].take() else {
+        unreachable!()
+    };
+    let Thing::Full(parcel) = thing else {
         unreachable!()
     };
     parcel
@@ -80,7 +94,7 @@ fn add_line(grid: &Grid, remains: &mut Remains, lines: &mut Vec<(Completion, boo
         unreachable!()
     };
     let phase = told(remains.claims[spot.cell], spot.generation);
-    if phase == Phase::Gone || phase == Phase::Unborn {
+    if !is_present(phase) {
         return;
     }
     let parcel = take_parcel(&mut remains.slots, spot.cell);
