@@ -1,7 +1,11 @@
+pub mod Bounds
 pub mod Emptying
 pub mod Ending
 pub mod Going
 pub mod Hearing
+pub mod Keeping
+pub mod Knowing
 pub mod Listing
+pub mod Releasing
 pub mod Settling
 pub mod Telling

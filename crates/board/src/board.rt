@@ -232,7 +232,7 @@ impl Board {
         let Some(spot) = self.grid.locate(req) else {
             return Released::NotHeld;
         };
-        let word = poller.load(&self.table.shared, spot.cell);
+        let word = poller.look_at(&self.table.shared, spot.cell);
         let Phase::Held = told(word, spot.generation) else {
             return Released::NotHeld;
         };
