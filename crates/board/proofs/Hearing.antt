@@ -7,7 +7,7 @@ use Rattle.steps.specs.Rule.{AllBegin, IsOneOf, Knows, Begins, hearing}
 use Rattle.work.specs.Board.{Facts, IsOf, share_of}
 use Rattle.work.specs.Passes.{Pass}
 use Rattle.board.specs.Remains.{told_by, hearing_all}
-use Rattle.board.specs.Reports.{AreOf, IsKnown, BeginsWith}
+use Rattle.board.specs.Reports.{AreOf, IsSeen, BeginsWith}
 
 told_last : (ps : List Pass) (p : Pass) (xs : List (List Line)) → told_by ps (p.view.seen ∷ (p.view.heard ++ xs)) ≡ told_by (ps ++ p ∷ []) xs
 told_last [] p xs = refl
@@ -22,31 +22,26 @@ pub are_of_last : (b : Facts) (ps : List Pass) (p : Pass) → AreOf b (ps ++ p �
 are_of_last b [] p h = (tt, h.0)
 are_of_last b (q ∷ ps) p h = let r = are_of_last b ps p h.1 in ((h.0, r.0), r.1)
 
-one_of : (j : List Line) (xs ys : List (List Line)) → IsOneOf j (xs ++ ys) → IsOneOf j xs ⊎ IsOneOf j ys
-one_of j [] ys h = inr h
-one_of j (x ∷ xs) ys (inl e) = inl (inl e)
-one_of j (x ∷ xs) ys (inr h) = ⊎_elim (λ a. inl (inr a)) (λ a. inr a) (one_of j xs ys h)
+known_of : (b : Facts) (j : List Line) (ps : List Pass) (xs : List (List Line)) → AreOf b ps → IsOneOf j (told_by ps xs) → IsSeen j ps ⊎ IsOneOf j xs
+known_of b j [] xs o h = inr h
+known_of b j (p ∷ ps) xs o (inl e) = inl (inl e)
+known_of b j (p ∷ ps) xs o (inr h) = ⊎_elim (λ a. inl (inr a)) (λ a. inr a) (known_of b j ps xs o.1 (subst (λ (z : List (List Line)). IsOneOf j (z ++ told_by ps xs)) o.0.looked h))
 
-known_of : (j : List Line) (ps : List Pass) (xs : List (List Line)) → IsOneOf j (told_by ps xs) → IsKnown j ps ⊎ IsOneOf j xs
-known_of j [] xs h = inr h
-known_of j (p ∷ ps) xs (inl e) = inl (inl (inl e))
-known_of j (p ∷ ps) xs (inr h) = ⊎_elim (λ a. inl (inl (inr a))) (λ a. ⊎_elim (λ c. inl (inr c)) (λ c. inr c) (known_of j ps xs a)) (one_of j p.view.heard (told_by ps xs) h)
+seen_first : (j : List Line) (ps qs : List Pass) → IsSeen j ps → IsSeen j (ps ++ qs)
+seen_first j [] qs h = absurd h
+seen_first j (p ∷ ps) qs (inl e) = inl e
+seen_first j (p ∷ ps) qs (inr h) = inr (seen_first j ps qs h)
 
-known_first : (j : List Line) (ps qs : List Pass) → IsKnown j ps → IsKnown j (ps ++ qs)
-known_first j [] qs h = absurd h
-known_first j (p ∷ ps) qs (inl e) = inl e
-known_first j (p ∷ ps) qs (inr h) = inr (known_first j ps qs h)
+seen_second : (j : List Line) (ps qs : List Pass) → IsSeen j qs → IsSeen j (ps ++ qs)
+seen_second j [] qs h = h
+seen_second j (p ∷ ps) qs h = inr (seen_second j ps qs h)
 
-known_second : (j : List Line) (ps qs : List Pass) → IsKnown j qs → IsKnown j (ps ++ qs)
-known_second j [] qs h = h
-known_second j (p ∷ ps) qs h = inr (known_second j ps qs h)
+-- what is known to who heard all of them is what one of them has seen
+pub known_by : (b : Facts) (j : List Line) (p : Pass) (ss ws : List Pass) → IsOf b p → AreOf b ss → AreOf b ws → Knows (hearing_all (hearing_all p.view ss) ws) j → IsSeen j (p ∷ (ss ++ ws))
+known_by b j p ss ws o os ow (inl e) = inl e
+known_by b j p ss ws o os ow (inr h) = ⊎_elim (λ a. inr (seen_second j ss ws a)) (λ a. ⊎_elim (λ c. inr (seen_first j ss ws c)) (λ c. absurd (subst (IsOneOf j) o.looked c)) (known_of b j ss p.view.heard os a)) (known_of b j ws (told_by ss p.view.heard) ow h)
 
--- who heard all of them knows just what they knew
-pub known_by : (j : List Line) (p : Pass) (ss ws : List Pass) → Knows (hearing_all (hearing_all p.view ss) ws) j → IsKnown j (p ∷ (ss ++ ws))
-known_by j p ss ws (inl e) = inl (inl e)
-known_by j p ss ws (inr h) = ⊎_elim (λ a. inr (known_second j ss ws a)) (λ a. ⊎_elim (λ c. inr (known_first j ss ws c)) (λ c. inl (inr c)) (known_of j ss p.view.heard a)) (known_of j ws (told_by ss p.view.heard) h)
-
-begin_second : (j : List Line) (xs ys : List (List Line)) → AllBegin j (xs ++ ys) → AllBegin j ys
+pub begin_second : (j : List Line) (xs ys : List (List Line)) → AllBegin j (xs ++ ys) → AllBegin j ys
 begin_second j [] ys h = h
 begin_second j (x ∷ xs) ys h = begin_second j xs ys h.1
 

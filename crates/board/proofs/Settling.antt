@@ -25,7 +25,7 @@ use Rattle.work.specs.Grid.{AreCells}
 use Rattle.work.specs.Passes.{Pass}
 use Rattle.board.specs.declared.completion.Completion.{Completion}
 use Rattle.board.specs.Remains.{IsLeft, data_left, full_slots, hearing_all, AreTaken, Reports}
-use Rattle.board.specs.Reports.{IsListed, IsReport}
+use Rattle.board.specs.Reports.{AreOf, IsListed, IsReport}
 use Rattle.board.proofs.Emptying.{some_inside}
 use Rattle.board.proofs.Hearing.{known_by, begins_by}
 use Rattle.board.proofs.Listing.{left_age}
@@ -99,15 +99,15 @@ module _ (L : Layout) (v : View) (words : List ℕ) (slots : List (Option Thing)
   }
 
   -- the report with its last line
-  pub is_report : (b : Facts) (p : Pass) (ss ws : List Pass) (claims : List ℕ) (things : List (Option Thing)) (lines : List (Completion × Bool)) (space : ℕ) → b.layout ≡ L → v ≡ hearing_all (hearing_all p.view ss) ws
+  pub is_report : (b : Facts) (p : Pass) (ss ws : List Pass) (claims : List ℕ) (things : List (Option Thing)) (lines : List (Completion × Bool)) (space : ℕ) → b.layout ≡ L → IsOf b p → AreOf b ss → AreOf b ws → v ≡ hearing_all (hearing_all p.view ss) ws
       → Reports (setup_of L) L.cells e.all claims things lines space (record { ring = length L.cells; k = 0 }) → IsReport b (p ∷ (ss ++ ws)) lines
-  is_report b p ss ws claims things lines space layout is so =
+  is_report b p ss ws claims things lines space layout o os ow is so =
       let h : List Event = events_of e.all in let s : Setup = setup_of L in
       let born : (r : Req) → IsLeft (phase h r) → ¬ (phase h r ≡ unborn) = λ r l u. subst IsLeft u l in
       let listed : (r : Req) → IsLeft (phase h r) → IsListed r lines = λ r l. so.listed r (inl (ring_there s h r.ring e.legal (let c = counted s h r e.legal (born r l) in omega arith))) l in
       record {
         all = e.all;
-        longest = known_by e.all p ss ws (subst (λ (z : View). Rattle.steps.specs.Rule.Knows z e.all) is (e.known whole));
+        longest = known_by b e.all p ss ws o os ow (subst (λ (z : View). Rattle.steps.specs.Rule.Knows z e.all) is (e.known whole));
         begins = begins_by e.all p ss ws (subst (λ (z : View). Rattle.steps.specs.Rule.Begins e.all z.seen) is e.seen) (subst (λ (z : View). Rattle.steps.specs.Rule.AllBegin e.all z.heard) is e.heard);
         legal = subst (λ (z : Layout). Legal (setup_of z) (Rattle.board.specs.Reports.ended lines h)) (sym layout) (ended_legal s h e.legal e.live still lines so.ordered so.right);
         ordered = so.ordered;
@@ -126,8 +126,8 @@ pub record Closing (b : Facts) (p : Pass) (ss ws : List Pass) (v : View) (words 
   pub board : IsBoard b
   pub rings : ℕ
   pub role : p.view.role ≡ Poller rings
-  pub submitters : length ss ≡ length b.layout.cells
-  pub workers : length ws ≡ b.workers
+  pub submitters : AreOf b ss × (length ss ≡ length b.layout.cells)
+  pub workers : AreOf b ws × (length ws ≡ b.workers)
   pub view_is : v ≡ hearing_all (hearing_all p.view ss) ws
   pub ended : Ended b.layout v words slots
 
@@ -137,7 +137,7 @@ some_cell (n ∷ K) c lt = let m = c.0.0 in omega arith
 
 module _ (b : Facts) (p : Pass) (ss ws : List Pass) (v : View) (words : List ℕ) (slots : List (Option Thing)) (z : Closing b p ss ws v words slots) where
   whole : v.parts ≡ 9223372036854775808
-  whole = ap (λ (w : View). w.parts) z.view_is ∙ all_parts b p z.rings ss ws z.ours z.role z.submitters z.workers z.board.rings.1 z.board.workers
+  whole = ap (λ (w : View). w.parts) z.view_is ∙ all_parts b p z.rings ss ws z.ours z.role z.submitters.1 z.workers.1 z.board.rings.1 z.board.workers
 
   role : v.role ≡ Poller z.rings
   role = ap (λ (w : View). w.role) z.view_is ∙ z.role
@@ -151,7 +151,7 @@ module _ (b : Facts) (p : Pass) (ss ws : List Pass) (v : View) (words : List ℕ
 
   pub closed_report : (d : Facts) (claims : List ℕ) (things : List (Option Thing)) (lines : List (Completion × Bool)) (space : ℕ) → b ≡ d
       → Reports (setup_of b.layout) b.layout.cells z.ended.all claims things lines space (record { ring = length b.layout.cells; k = 0 }) → IsReport d (p ∷ (ss ++ ws)) lines
-  closed_report d claims things lines space same' so = subst (λ (f : Facts). IsReport f (p ∷ (ss ++ ws)) lines) same' (is_report b.layout v words slots z.ended whole z.rings role b p ss ws claims things lines space refl z.view_is so)
+  closed_report d claims things lines space same' so = subst (λ (f : Facts). IsReport f (p ∷ (ss ++ ws)) lines) same' (is_report b.layout v words slots z.ended whole z.rings role b p ss ws claims things lines space refl z.ours z.submitters.0 z.workers.0 z.view_is so)
 
 -- what the seat of the poller's pass knows after both calls
 pub view_after : {R : Type 0} (p q : Pass) (r : R) (one two : View × R) (ss ws : List Pass) → q ≡ p → one ≡ (hearing_all q.view ss, r) → two ≡ (hearing_all one.0 ws, one.1) → two.0 ≡ hearing_all (hearing_all p.view ss) ws

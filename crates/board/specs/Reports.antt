@@ -8,7 +8,7 @@ use Rattle.model.specs.Legal.{Legal}
 use Rattle.steps.specs.declared.line.Line.{Line}
 use Rattle.steps.specs.Journal.{events_of}
 use Rattle.steps.specs.Cells.{setup_of}
-use Rattle.steps.specs.Rule.{Begins, Knows}
+use Rattle.steps.specs.Rule.{Begins}
 use Rattle.work.specs.Board.{Facts, IsOf}
 use Rattle.work.specs.Passes.{Pass}
 use Rattle.board.specs.declared.completion.Completion.{Completion}
@@ -51,10 +51,10 @@ abbrev pub AllTell : List Event → List (Completion × Bool) → Type 0
 AllTell h [] = Unit {0}
 AllTell h (x ∷ lines) = Tells h x × AllTell h lines
 
--- one of the passes has seen all of j, or was told of it
-abbrev pub IsKnown : List Line → List Pass → Type 0
-IsKnown j [] = ⊥
-IsKnown j (p ∷ ps) = Knows p.view j ⊎ IsKnown j ps
+-- one of the passes has seen just j
+abbrev pub IsSeen : List Line → List Pass → Type 0
+IsSeen j [] = ⊥
+IsSeen j (p ∷ ps) = (p.view.seen ≡ j) ⊎ IsSeen j ps
 
 -- j begins with what each pass has seen
 abbrev pub BeginsWith : List Line → List Pass → Type 0
@@ -64,7 +64,7 @@ BeginsWith j (p ∷ ps) = Begins j p.view.seen × BeginsWith j ps
 -- the report of the board b with these passes: the longest that they have seen, followed by Shut and the Cuts alone, is legal, and just its requests without Reap have a line
 pub record IsReport (b : Facts) (passes : List Pass) (lines : List (Completion × Bool)) : Type 0 where
   pub all : List Line
-  pub longest : IsKnown all passes
+  pub longest : IsSeen all passes
   pub begins : BeginsWith all passes
   pub legal : Legal (setup_of b.layout) (ended lines (events_of all))
   pub ordered : Ordered lines

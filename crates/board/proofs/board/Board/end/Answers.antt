@@ -8,7 +8,7 @@ use Rattle.steps.specs.Rule.{Ended}
 use Rattle.work.specs.Passes.{Pass, pass_of}
 use Rattle.work.specs.Board.{Facts, IsOf}
 use Rattle.board.specs.declared.completion.Completion.{Completion}
-use Rattle.board.specs.Reports.{IsReport}
+use Rattle.board.specs.Reports.{AreOf, IsReport}
 use Rattle.board.proofs.Settling.{Closing, closed_deep, closed_begins, closed_report, view_after}
 use Rattle.board.proofs.board.Board.end.Goals as goal
 
@@ -22,8 +22,8 @@ remains_of-remains-requires-clause-counts c =
       board = c.self.invariant.0;
       rings = length c.into_place-seat.result.me.0.layout.cells;
       role = ap (λ (y : Pass). y.view.role) (sym c.into_place-seat.ensures.value) ∙ c.into_place-seat.ensures.seat.role;
-      submitters = c.requires.submitters.1 ∙ ap (λ (f : Facts). length f.layout.cells) (sym same');
-      workers = c.requires.workers.1 ∙ ap (λ (f : Facts). f.workers) (sym same');
+      submitters = subst (λ (f : Facts). AreOf f ss × (length ss ≡ length f.layout.cells)) (sym same') c.requires.submitters;
+      workers = subst (λ (f : Facts). AreOf f ws × (length ws ≡ f.workers)) (sym same') c.requires.workers;
       view_is = view_after p (pass_of c.into_place-seat.result) c.into_place-seat.result.me.1 c.hear_submitters.new.seat.me c.hear_workers.new.seat.me ss ws c.into_place-seat.ensures.value c.hear_submitters.ensures.heard c.hear_workers.ensures.heard;
       ended = subst (λ (k : List ℕ). Ended (record { cells = k; caps = c.self.inside.table.shared.key.caps.value.items }) v words slots) c.self.invariant.1 c.finish-closed.ensures.ended;
     } in
@@ -40,8 +40,8 @@ add_rings-requires-clause-so_far c =
       board = c.self.invariant.0;
       rings = length c.into_place-seat.result.me.0.layout.cells;
       role = ap (λ (y : Pass). y.view.role) (sym c.into_place-seat.ensures.value) ∙ c.into_place-seat.ensures.seat.role;
-      submitters = c.requires.submitters.1 ∙ ap (λ (f : Facts). length f.layout.cells) (sym same');
-      workers = c.requires.workers.1 ∙ ap (λ (f : Facts). f.workers) (sym same');
+      submitters = subst (λ (f : Facts). AreOf f ss × (length ss ≡ length f.layout.cells)) (sym same') c.requires.submitters;
+      workers = subst (λ (f : Facts). AreOf f ws × (length ws ≡ f.workers)) (sym same') c.requires.workers;
       view_is = view_after p (pass_of c.into_place-seat.result) c.into_place-seat.result.me.1 c.hear_submitters.new.seat.me c.hear_workers.new.seat.me ss ws c.into_place-seat.ensures.value c.hear_submitters.ensures.heard c.hear_workers.ensures.heard;
       ended = subst (λ (k : List ℕ). Ended (record { cells = k; caps = c.self.inside.table.shared.key.caps.value.items }) v words slots) c.self.invariant.1 c.finish-closed.ensures.ended;
     } in
@@ -58,8 +58,8 @@ returns c =
       board = c.self.invariant.0;
       rings = length c.into_place-seat.result.me.0.layout.cells;
       role = ap (λ (y : Pass). y.view.role) (sym c.into_place-seat.ensures.value) ∙ c.into_place-seat.ensures.seat.role;
-      submitters = c.requires.submitters.1 ∙ ap (λ (f : Facts). length f.layout.cells) (sym same');
-      workers = c.requires.workers.1 ∙ ap (λ (f : Facts). f.workers) (sym same');
+      submitters = subst (λ (f : Facts). AreOf f ss × (length ss ≡ length f.layout.cells)) (sym same') c.requires.submitters;
+      workers = subst (λ (f : Facts). AreOf f ws × (length ws ≡ f.workers)) (sym same') c.requires.workers;
       view_is = view_after p (pass_of c.into_place-seat.result) c.into_place-seat.result.me.1 c.hear_submitters.new.seat.me c.hear_workers.new.seat.me ss ws c.into_place-seat.ensures.value c.hear_submitters.ensures.heard c.hear_workers.ensures.heard;
       ended = subst (λ (k : List ℕ). Ended (record { cells = k; caps = c.self.inside.table.shared.key.caps.value.items }) v words slots) c.self.invariant.1 c.finish-closed.ensures.ended;
     } in
