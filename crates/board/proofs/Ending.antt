@@ -122,7 +122,12 @@ module _ (s : Setup) (h : List Event) (legal : Legal s h) (live : was_shut h ≡
   tells_on r x g n t =
       let p = cut_phase r x.0.req g n in let c = t.completion in record {
         completion = record {
-          entry = c.entry; bytes = c.bytes; end_of_batch = c.end_of_batch; handed_in = c.handed_in; req_is = c.req_is; user_data = c.user_data;
+          entry = c.entry;
+          bytes = c.bytes;
+          end_of_batch = c.end_of_batch;
+          handed_in = c.handed_in;
+          req_is = c.req_is;
+          user_data = c.user_data;
           reply_is = ap reply_in p ∙ c.reply_is;
           buffer = c.buffer ∙ sym (ap (λ (d : List ℕ). Rattle.steps.specs.Cells.over d c.bytes) (cut_data r x.0.req g n));
         };
@@ -137,7 +142,12 @@ module _ (s : Setup) (h : List Event) (legal : Legal s h) (live : was_shut h ≡
   tells_cut x g w sub l =
       let r : Req = x.0.req in let c = subst (IsCutOrNot h r x.0.cqe.res) w l.cut in let p = was_cut r g in record {
         completion = record {
-          entry = l.entry; bytes = l.bytes; end_of_batch = l.end_of_batch; handed_in = sub ∙ l.handed_in; req_is = refl; user_data = l.user_data;
+          entry = l.entry;
+          bytes = l.bytes;
+          end_of_batch = l.end_of_batch;
+          handed_in = sub ∙ l.handed_in;
+          req_is = refl;
+          user_data = l.user_data;
           reply_is = ap reply_in p ∙ ap Some (sym c.0);
           buffer = l.buffer ∙ ap (λ (d : List ℕ). Rattle.steps.specs.Cells.over d l.bytes) (no_data_left h r (phase h r) c.1 ∙ sym (no_data r g));
         };
@@ -148,7 +158,12 @@ module _ (s : Setup) (h : List Event) (legal : Legal s h) (live : was_shut h ≡
   tells_replied x g w sub p d l =
       let r : Req = x.0.req in let c = subst (IsCutOrNot h r x.0.cqe.res) w l.cut in record {
         completion = record {
-          entry = l.entry; bytes = l.bytes; end_of_batch = l.end_of_batch; handed_in = sub ∙ l.handed_in; req_is = refl; user_data = l.user_data;
+          entry = l.entry;
+          bytes = l.bytes;
+          end_of_batch = l.end_of_batch;
+          handed_in = sub ∙ l.handed_in;
+          req_is = refl;
+          user_data = l.user_data;
           reply_is = ap reply_in (p ∙ c.1);
           buffer = l.buffer ∙ ap (λ (z : List ℕ). Rattle.steps.specs.Cells.over z l.bytes) (ap (data_left h r) c.1 ∙ sym d);
         };
@@ -177,6 +192,7 @@ module _ (s : Setup) (h : List Event) (legal : Legal s h) (live : was_shut h ≡
     all_answered r lt = by_phase r (phase h r) refl (subst (λ (z : ℕ). r.k < z) (ended_submits h lines r.ring) lt)
 
     pub listed_unreaped : (r : Req) → IsListed r lines → (r.k < submits (ended lines h) r.ring) × (¬ IsReaped (phase (ended lines h) r))
-    listed_unreaped r l = let left = listed_left h lines r right l in
-        (subst (λ (z : ℕ). r.k < z) (sym (ended_submits h lines r.ring)) (counted s h r legal (left_born _ left)),
-         λ u. ⊎_elim (λ e. subst IsReaped e u) (λ e. left_unreaped _ left (subst IsReaped e u)) (ended_either h lines r))
+    listed_unreaped r l = let left = listed_left h lines r right l in (
+      subst (λ (z : ℕ). r.k < z) (sym (ended_submits h lines r.ring)) (counted s h r legal (left_born _ left)),
+      λ u. ⊎_elim (λ e. subst IsReaped e u) (λ e. left_unreaped _ left (subst IsReaped e u)) (ended_either h lines r),
+    )

@@ -65,7 +65,13 @@ first_cell_reached b p k o = record {
 looks_told : (v m w : View) → m.parts ≡ 0 → Looks (hearing v m) w → Looks v w
 looks_told v m w none x =
     let e : v.parts + m.parts ≡ v.parts = omega arith in record {
-      now = x.now; saw = x.saw; heard = begin_second x.now m.heard v.heard x.heard.1; legal = x.legal; live = x.live; orderly = x.orderly; steps = x.steps;
+      now = x.now;
+      saw = x.saw;
+      heard = begin_second x.now m.heard v.heard x.heard.1;
+      legal = x.legal;
+      live = x.live;
+      orderly = x.orderly;
+      steps = x.steps;
       is = x.is ∙ (λ i. seeing (record v { parts = e i }) v.role x.now x.steps);
     }
 

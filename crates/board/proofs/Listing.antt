@@ -123,7 +123,12 @@ left_age K j x g a ages left = elim (compared a g) [
 module _ (s : Setup) (K : List ℕ) (j : List Line) (claims : List ℕ) (slots : List (Option Thing)) (lines : Lines) (space : ℕ) (r : Req) (so : Reports s K j claims slots lines space r) where
   pub line_skipped : ¬ IsLeft (phase (events_of j) r) → Reports s K j claims slots lines space (next_to r)
   line_skipped gone = record {
-    rests = so.rests; wide = so.wide; kept = so.kept; room = so.room; ordered = so.ordered; right = so.right;
+    rests = so.rests;
+    wide = so.wide;
+    kept = so.kept;
+    room = so.room;
+    ordered = so.ordered;
+    right = so.right;
     earlier = earlier_by r (next_to r) (step_on r) lines so.earlier;
     listed = λ q b left. ⊎_elim (λ z. so.listed q z left) (λ (e : q ≡ r). absurd (gone (subst (λ z. IsLeft (phase (events_of j) z)) e left))) (one_more r q b);
   }
@@ -135,11 +140,11 @@ module _ (s : Setup) (K : List ℕ) (j : List Line) (claims : List ℕ) (slots :
     wide = length-set slots x None ∙ so.wide;
     kept = λ y a cell up un. dite (ℕ_discrete y x)
         (λ (e : y ≡ x). absurd (
-          let up' : IsLeft (phase (events_of j) (held K x a)) = subst (λ z. IsLeft (phase (events_of j) (held K z a))) e up in
-          let ages = (so.rests.shown x inside).1.ages in
-          let same' : a ≡ g = sym (left_age K j x a _ ages up') ∙ left_age K j x g _ ages (subst (λ z. IsLeft (phase (events_of j) z)) (sym at) left) in
-          let one : held K y a ≡ line.0.req = (λ i. held K (e i) (same' i)) ∙ (at ∙ sym of) in
-          un (subst (λ z. IsListed z (lines ++ line ∷ [])) (sym one) (listed_last lines line))))
+        let up' : IsLeft (phase (events_of j) (held K x a)) = subst (λ z. IsLeft (phase (events_of j) (held K z a))) e up in
+        let ages = (so.rests.shown x inside).1.ages in
+        let same' : a ≡ g = sym (left_age K j x a _ ages up') ∙ left_age K j x g _ ages (subst (λ z. IsLeft (phase (events_of j) z)) (sym at) left) in
+        let one : held K y a ≡ line.0.req = (λ i. held K (e i) (same' i)) ∙ (at ∙ sym of) in
+        un (subst (λ z. IsListed z (lines ++ line ∷ [])) (sym one) (listed_last lines line))))
         (λ (ne : ¬ (y ≡ x)). (let k = so.kept y a cell up (λ l. un (listed_more (held K y a) lines line l)) in (k.0, set_else slots x y None ne ∙ k.1, k.2)));
     room = (let f = full_taken slots x t full in let m = so.room in omega (arith, length-append lines (line ∷ [])));
     ordered = ordered_last lines line so.ordered (subst (λ z. AreEarlier z lines) (sym of) so.earlier);
@@ -191,7 +196,9 @@ module _ (s : Setup) (K : List ℕ) (j : List Line) (claims : List ℕ) (slots :
       let same' : k.0 ≡ p = one_parcel k.0 p (some-injective _ _ (sym k.1 ∙ full)) in
       let e : q ≡ line.0.req = at ∙ sym of in let was = subst (λ (z : Parcel). IsParcel j q (data_left h q (phase h q)) z) same' k.2 in
       subst (λ z. IsLineOf h z line) e (record {
-        entry = p.sqe; bytes = was.0; end_of_batch = p.last;
+        entry = p.sqe;
+        bytes = was.0;
+        end_of_batch = p.last;
         handed_in = was.1;
         user_data = user;
         buffer = ap (λ b. b.items) buffer ∙ was.2;
@@ -246,14 +253,24 @@ module _ (s : Setup) (K : List ℕ) (j : List Line) (claims : List ℕ) (rests :
   -- the ring's report begins with the first that can be left, and ends behind the last one
   pub ring_opens : (slots : List (Option Thing)) (lines : Lines) (space : ℕ) → Reports s K j claims slots lines space (record { ring = i; k = 0 }) → Reports s K j claims slots lines space (record { ring = i; k = (a - 2) * cells_in K i })
   ring_opens slots lines space so = record {
-    rests = so.rests; wide = so.wide; kept = so.kept; room = so.room; ordered = so.ordered; right = so.right;
+    rests = so.rests;
+    wide = so.wide;
+    kept = so.kept;
+    room = so.room;
+    ordered = so.ordered;
+    right = so.right;
     earlier = earlier_by (record { ring = i; k = 0 }) (record { ring = i; k = (a - 2) * cells_in K i }) (λ z b. ⊎_elim (λ lt. inl lt) (λ e. absurd (let n = e.1 in omega arith)) b) lines so.earlier;
     listed = λ q b left. ⊎_elim (λ lt. so.listed q (inl lt) left) (λ e. absurd (none_left q e.0 left e.1)) b;
   }
 
   pub ring_closes : (slots : List (Option Thing)) (lines : Lines) (space k : ℕ) → (a + 1) * cells_in K i ≤ k → Reports s K j claims slots lines space (record { ring = i; k = k }) → Reports s K j claims slots lines space (record { ring = i + 1; k = 0 })
   ring_closes slots lines space k all so = record {
-    rests = so.rests; wide = so.wide; kept = so.kept; room = so.room; ordered = so.ordered; right = so.right;
+    rests = so.rests;
+    wide = so.wide;
+    kept = so.kept;
+    room = so.room;
+    ordered = so.ordered;
+    right = so.right;
     earlier = earlier_by (record { ring = i; k = k }) (record { ring = i + 1; k = 0 }) (λ z b. inl (⊎_elim (λ (lt : z.ring < i). let l : z.ring < i + 1 = omega arith in l) (λ (e : (z.ring ≡ i) × (z.k < k)). let f = e.0 in let l : z.ring < i + 1 = omega arith in l) b)) lines so.earlier;
     listed = λ q b left. ⊎_elim
         (λ (lt : q.ring < i + 1). elim (compared q.ring i) [

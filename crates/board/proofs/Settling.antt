@@ -85,16 +85,22 @@ module _ (L : Layout) (v : View) (words : List ℕ) (slots : List (Option Thing)
   pub begins_report : (claims : List ℕ) (things : List (Option Thing)) (space : ℕ) → AreCells L.cells → AreTaken words slots (total L.cells) claims things → total L.cells ≤ space → Reports (setup_of L) L.cells e.all claims things [] space (record { ring = 0; k = 0 })
   begins_report claims things space cells t le = record {
     rests = record {
-      legal = e.legal; rings = refl; cells = cells; still = still; long = t.claims_long;
+      legal = e.legal;
+      rings = refl;
+      cells = cells;
+      still = still;
+      long = t.claims_long;
       shown = λ x inside. (let c = e.cells x inside in (c.0, subst (λ (z : ℕ). CellOk L.cells e.all x z c.0) (sym (t.claims_are x inside)) c.1));
       words = λ x inside. (let c = e.cells x inside in word_is (setup_of L) L.cells e.all x (get_or claims x 0) c.0 e.legal e.live (subst (λ (z : ℕ). CellOk L.cells e.all x z c.0) (sym (t.claims_are x inside)) c.1));
     };
     wide = t.things_long;
     kept = λ x g inside left un. (let c = e.cells x inside in let ok = c.1 in let same' = left_age L.cells e.all x g ok.gen ok.ages left in
-      let k = keeps_by e.all (held L.cells x g) c.0 ok.cause ok.payload ok.tag (subst (λ (z : ℕ). Says e.all (held L.cells x z) c.0 ok.cause ok.payload ok.tag) same' ok.says) left (free _) in
-      (k.0, t.things_are x (Some (Full k.0)) inside (c.2 (Some (Full k.0)) k.1), k.2));
+        let k = keeps_by e.all (held L.cells x g) c.0 ok.cause ok.payload ok.tag (subst (λ (z : ℕ). Says e.all (held L.cells x z) c.0 ok.cause ok.payload ok.tag) same' ok.says) left (free _) in
+        (k.0, t.things_are x (Some (Full k.0)) inside (c.2 (Some (Full k.0)) k.1), k.2));
     room = (let f = full_few things in let l = t.things_long in omega arith);
-    ordered = tt; earlier = tt; right = tt;
+    ordered = tt;
+    earlier = tt;
+    right = tt;
     listed = λ q b left. ⊎_elim (λ lt. absurd (omega arith)) (λ p. absurd (let m = p.1 in omega arith)) b;
   }
 

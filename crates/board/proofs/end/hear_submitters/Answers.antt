@@ -21,5 +21,5 @@ loop-submitter-preserved c =
       role = heard_role c.loop-submitter.seat.me.0 c.into_place.result.me.0 c.loop-submitter.seat.me.1 c.hear.new.seat.me me ∙ v.role;
       bare = heard_bare c.loop-submitter.seat.me.0 c.into_place.result.me.0 c.loop-submitter.seat.me.1 c.hear.new.seat.me me ∙ v.bare;
       heard = heard_more c.loop-submitter.seat.me.0 c.into_place.result.me.0 c.loop-submitter.seat.me.1 c.hear.new.seat.me c.pop.new.self.items p (one_submitter b.0 p c.into_place.ensures.seat.0 of (ap (λ (z : Pass). z.view.role) (sym same') ∙ c.into_place.ensures.seat.2.role)) (ap (λ (z : Pass). z.view) same') me
-        ∙ (ap (hearing_all c.loop-submitter.seat.me.0) (sym c.in-Some.ensures.items) ∙ v.heard);
+          ∙ (ap (hearing_all c.loop-submitter.seat.me.0) (sym c.in-Some.ensures.items) ∙ v.heard);
     }

@@ -21,5 +21,5 @@ loop-worker-preserved c =
       role = heard_role c.loop-worker.seat.me.0 c.into_place.result.me.0 c.loop-worker.seat.me.1 c.hear.new.seat.me me ∙ v.role;
       bare = heard_bare c.loop-worker.seat.me.0 c.into_place.result.me.0 c.loop-worker.seat.me.1 c.hear.new.seat.me me ∙ v.bare;
       heard = heard_more c.loop-worker.seat.me.0 c.into_place.result.me.0 c.loop-worker.seat.me.1 c.hear.new.seat.me c.pop.new.self.items p (one_worker b.0 p of (ap (λ (z : Pass). z.view.role) (sym same') ∙ c.into_place.ensures.seat.role)) (ap (λ (z : Pass). z.view) same') me
-        ∙ (ap (hearing_all c.loop-worker.seat.me.0) (sym c.in-Some.ensures.items) ∙ v.heard);
+          ∙ (ap (hearing_all c.loop-worker.seat.me.0) (sym c.in-Some.ensures.items) ∙ v.heard);
     }
