@@ -25,14 +25,15 @@ abbrev Place : Type 0
 Place = Seat (Option Thing) View
 
 -- a pass that has seen nothing is one of the board's own
-pub fresh : (b : Facts) (p : Pass) (role : Role) → p.table ≡ b.table → p.view.layout ≡ b.layout → p.view.role ≡ role → p.view.parts ≡ share_of b role → p.view.seen ≡ [] → IsFresh b role p
-fresh b p role t l r n s = (record {
+pub fresh : (b : Facts) (p : Pass) (role : Role) → p.table ≡ b.table → p.view.layout ≡ b.layout → p.view.role ≡ role → p.view.parts ≡ share_of b role → p.view.heard ≡ [] → p.view.seen ≡ [] → IsFresh b role p
+fresh b p role t l r n hd s = (record {
   table_is = t;
   layout_is = l;
   share_is = n ∙ ap (share_of b) (sym r);
   legal = subst (λ (j : List Line). Legal (setup_of b.layout) (events_of j)) (sym s) tt;
   live = ap (λ (j : List Line). was_shut (events_of j)) s;
   orderly = subst Orderly (sym s) tt;
+  looked = hd;
 }, r, s)
 
 pub submitters_more : (b : Facts) (n : ℕ) (ps : List Pass) (p : Pass) → AreSubmitters b n ps → IsFresh b (Submitter (n + length ps)) p → AreSubmitters b n (ps ++ p ∷ [])
@@ -53,6 +54,7 @@ module _ (L : Layout) (t : TableId) (n m : ℕ) (s s' w : Place) (c : IsCutting 
       role = ap (λ (x : Me (Option Thing) View). x.0.role) rest' ∙ (ap next_poller c.role ∙ ap Poller (omega arith));
       parts = (let p = ap (λ (x : Me (Option Thing) View). x.0.parts) rest' in let q = c.parts in omega arith);
       seen = ap (λ (x : Me (Option Thing) View). x.0.seen) rest' ∙ c.seen;
+      heard = ap (λ (x : Me (Option Thing) View). x.0.heard) rest' ∙ c.heard;
       bare = ap (λ (x : Me (Option Thing) View). x.1) rest' ∙ c.bare;
     }
 
@@ -77,7 +79,7 @@ module _ (L : Layout) (t : TableId) (n m : ℕ) (s s' w : Place) (c : IsCutting 
     }
 
     pub submitter_fresh : (b : Facts) → b.table ≡ t → b.layout ≡ L → IsFresh b (Submitter n) (pass_of w)
-    submitter_fresh b x y = fresh b (pass_of w) (Submitter n) (of ∙ (c.table_is ∙ sym x)) (layout ∙ sym y) role_is (ap (λ (z : Me (Option Thing) View). z.0.parts) cut) seen
+    submitter_fresh b x y = fresh b (pass_of w) (Submitter n) (of ∙ (c.table_is ∙ sym x)) (layout ∙ sym y) role_is (ap (λ (z : Me (Option Thing) View). z.0.parts) cut) (ap (λ (z : Me (Option Thing) View). z.0.heard) cut) seen
 
   -- a worker was cut
   module _ (rest' : s'.me ≡ (without_one s.me.0, s.me.1)) (cut : w.me ≡ (idle_one s.me.0, [])) (large : 1 < s.me.0.parts) where
@@ -88,11 +90,12 @@ module _ (L : Layout) (t : TableId) (n m : ℕ) (s s' w : Place) (c : IsCutting 
       role = ap (λ (x : Me (Option Thing) View). x.0.role) rest' ∙ c.role;
       parts = (let p = ap (λ (x : Me (Option Thing) View). x.0.parts) rest' in let q = c.parts in omega arith);
       seen = ap (λ (x : Me (Option Thing) View). x.0.seen) rest' ∙ c.seen;
+      heard = ap (λ (x : Me (Option Thing) View). x.0.heard) rest' ∙ c.heard;
       bare = ap (λ (x : Me (Option Thing) View). x.1) rest' ∙ c.bare;
     }
 
     pub worker_fresh : (b : Facts) → b.table ≡ t → b.layout ≡ L → IsFresh b Idle (pass_of w)
-    worker_fresh b x y = fresh b (pass_of w) Idle (of ∙ (c.table_is ∙ sym x)) (ap (λ (z : Me (Option Thing) View). z.0.layout) cut ∙ (c.layout_is ∙ sym y)) (ap (λ (z : Me (Option Thing) View). z.0.role) cut) (ap (λ (z : Me (Option Thing) View). z.0.parts) cut) (ap (λ (z : Me (Option Thing) View). z.0.seen) cut ∙ c.seen)
+    worker_fresh b x y = fresh b (pass_of w) Idle (of ∙ (c.table_is ∙ sym x)) (ap (λ (z : Me (Option Thing) View). z.0.layout) cut ∙ (c.layout_is ∙ sym y)) (ap (λ (z : Me (Option Thing) View). z.0.role) cut) (ap (λ (z : Me (Option Thing) View). z.0.parts) cut) (ap (λ (z : Me (Option Thing) View). z.0.heard) cut) (ap (λ (z : Me (Option Thing) View). z.0.seen) cut ∙ c.seen)
 
 -- the poller's seat once all others were cut
 pub cut_all : (L : Layout) (t : TableId) (n m : ℕ) (s s' : Place) → IsCutting L t n 0 s → ((i : ℕ) → IsCutting s.me.0.layout t i 0 s → IsCutting s.me.0.layout t i m s') → IsCutting L t n m s'
@@ -100,4 +103,4 @@ cut_all L t n m s s' k w = subst (λ (M : Layout). IsCutting M t n m s') k.layou
 
 -- and its pass
 pub poller_fresh : (b : Facts) (L : Layout) (t : TableId) (n : ℕ) (s : Place) → IsCutting L t n b.workers s → b.table ≡ t → b.layout ≡ L → length b.layout.cells ≡ n → n ≤ 16 → b.workers ≤ 64 → IsFresh b (Poller n) (pass_of s)
-poller_fresh b L t n s k x y is few pool = fresh b (pass_of s) (Poller n) (k.table_is ∙ sym x) (k.layout_is ∙ sym y) k.role (let p = k.parts in omega arith) k.seen
+poller_fresh b L t n s k x y is few pool = fresh b (pass_of s) (Poller n) (k.table_is ∙ sym x) (k.layout_is ∙ sym y) k.role (let p = k.parts in omega arith) k.heard k.seen

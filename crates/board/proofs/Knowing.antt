@@ -16,12 +16,13 @@ use Rattle.steps.specs.declared.view.Role.TheVariants.{Poller}
 use Rattle.steps.specs.Journal.{events_of, freed}
 use Rattle.steps.specs.declared.view.View.{View}
 use Rattle.steps.specs.Cells.{setup_of, IsCell, held, total}
-use Rattle.steps.specs.Rule.{pollers, stands_for, owns, NoneOf, Looks, Extends, Shown, IsStep, hearing}
+use Rattle.steps.specs.Rule.{pollers, stands_for, owns, NoneOf, Looks, Extends, Shown, IsStep, hearing, seeing}
 use Rattle.work.specs.Board.{Facts, IsBoard, IsOf}
 use Rattle.work.specs.Grid.{AreCellCounts}
 use Rattle.work.specs.Passes.{Pass, CanReach, seen_of}
 use Rattle.work.proofs.Kept.{looked_of}
 use Rattle.board.proofs.Telling.{word_is}
+use Rattle.board.proofs.Hearing.{begin_second}
 use Rattle.board.specs.Calls.{IsWord, Stands, Stepped, Goes, MayStart}
 use Rattle.board.proofs.Going.{goes_looked}
 use Rattle.board.specs.declared.phase.Phase.{Phase as Standing}
@@ -60,13 +61,22 @@ first_cell_reached b p k o = record {
   cell = (omega arith, subst (λ (L : Layout). IsCell L.cells 0) (sym o.layout_is) (some_cell b.layout.cells k.rings.0 k.cells.0), (let w = k.wide in let n : 0 < total b.layout.cells = some_cell b.layout.cells k.rings.0 k.cells.0 in omega arith));
 }
 
--- a pass that heard a messenger, and then looked
+-- who heard a messenger, which has no part, and then looked, has looked
+looks_told : (v m w : View) → m.parts ≡ 0 → Looks (hearing v m) w → Looks v w
+looks_told v m w none x =
+    let e : v.parts + m.parts ≡ v.parts = omega arith in record {
+      now = x.now;
+      saw = x.saw;
+      heard = begin_second x.now m.heard v.heard x.heard.1;
+      legal = x.legal;
+      live = x.live;
+      orderly = x.orderly;
+      steps = x.steps;
+      is = x.is ∙ (λ i. seeing (record v { parts = e i }) v.role x.now x.steps);
+    }
+
 pub goes_told : (b : Facts) (p h q : Pass) (v : View) → IsOf b p → h ≡ record { table = p.table; view = hearing p.view v } → v.parts ≡ 0 → q.table ≡ h.table → Looks h.view q.view → Goes b p [] q
-goes_told b p h q v o is none t x =
-    let h' : Pass = record { table = p.table; view = hearing p.view v } in
-    let o' : IsOf b h' = record { table_is = o.table_is; layout_is = o.layout_is; share_is = (let s = o.share_is in omega arith); legal = o.legal; live = o.live; orderly = o.orderly } in
-    let g : Goes b h' [] q = goes_looked b h' q o' (t ∙ ap (λ (z : Pass). z.table) is) (subst (λ (z : Pass). Looks z.view q.view) is x) in
-    record { kept = g.kept; role_is = g.role_is; later = g.later; seen_is = g.seen_is; own = g.own; last = g.last }
+goes_told b p h q v o is none t x = goes_looked b p q o (t ∙ ap (λ (z : Pass). z.table) is) (looks_told p.view v q.view none (subst (λ (z : Pass). Looks z.view q.view) is x))
 
 -- only the poller moves a request to Ready
 not_freed : (role : Role) → stands_for role pollers ≡ true → (l : Line) (j : List Line) → owns role l ≡ false → (q : Req) → freed (l ∷ j) q ≡ freed j q

@@ -41,4 +41,5 @@ pub record IsCutting (L : Layout) (t : TableId) (n m : ℕ) (s : Seat (Option Th
   pub role : s.me.0.role ≡ Poller n
   pub parts : s.me.0.parts + (n + m) ≡ 9223372036854775808
   pub seen : s.me.0.seen ≡ []
+  pub heard : s.me.0.heard ≡ []
   pub bare : s.me.1 ≡ []
