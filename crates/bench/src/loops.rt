@@ -51,7 +51,9 @@ pub struct Entries {
 
 impl Entries {
     /// A READ for each of the sixteen places.
-    pub fn new() -> Entries {
+    pub fn new() -> Entries
+        ensures { (i : ℕ) → i < 16 → get_or result.bytes i [] ≡ text (read_at i) }
+    {
         let mut sqes = [read(0, 0, 0); 16];
         let mut bytes = [[0; 64]; 16];
         for i in 0..16usize {
@@ -106,7 +108,10 @@ fn any_bits() -> [u64; 16]
 
 impl Words {
     /// A Done word and a word of any tag for each of the sixteen places.
-    pub fn new() -> Words {
+    pub fn new() -> Words
+        ensures done { (i : ℕ) → i < 16 → slice_index result.bits i ≡ packed (done_at i) }
+        ensures any { (i : ℕ) → i < 16 → slice_index result.any i ≡ packed (any_at i) }
+    {
         let mut words = [ClaimWord::empty(0); 16];
         let mut bits = [0; 16];
         for i in 0..16usize {
