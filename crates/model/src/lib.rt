@@ -27,6 +27,3 @@ pub use error::{Memory, Refused};
 pub use event::Event;
 pub use object::Object;
 pub use req::Req;
-
-#[cfg(test)]
-mod tests;
