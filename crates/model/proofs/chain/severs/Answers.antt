@@ -1,6 +1,5 @@
-use Rattle.std.proofs.Common.{rules, refl, ◌≡◌, ◌∙◌, Bool, false, sym, ap, ℤ, SFits, w32, arith}
+use Rattle.std.proofs.Common.{rules, ◌∙◌, ap, SFits, w32}
 use Rattle.std.proofs.lemmas.Int.{to_z-of_z}
-use Rattle.std.proofs.lemmas.Grind.{common_steps}
 use Rattle.entry.specs.Entry.{fails_op}
 use Rattle.model.proofs.Kept.{severs_kept}
 use Rattle.model.proofs.chain.severs.Goals as goal
