@@ -2,6 +2,8 @@
 #![tactic(auto)]
 
 mod answer;
+mod answering;
+mod asked;
 pub mod bytes;
 mod cancel;
 mod chain;
@@ -21,6 +23,7 @@ mod state;
 mod steps;
 mod timing;
 mod whole;
+mod worded;
 
 pub use bytes::Bytes;
 pub use error::{Memory, Refused};
