@@ -2,6 +2,7 @@ pub mod Bounds
 pub mod Emptying
 pub mod Ending
 pub mod Going
+pub mod Handing
 pub mod Hearing
 pub mod Keeping
 pub mod Knowing
