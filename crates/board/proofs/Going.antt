@@ -9,7 +9,9 @@ use Rattle.steps.specs.declared.line.Line.TheVariants.{Did, Freed, Lent}
 use Rattle.steps.specs.declared.view.Role.{Role}
 use Rattle.steps.specs.declared.view.Role.TheVariants.{Poller, Submitter, Lending}
 use Rattle.steps.specs.declared.view.View.{View}
+use Rattle.steps.specs.declared.view.Layout.{Layout}
 use Rattle.steps.specs.Journal.{event_of, events_of}
+use Rattle.steps.specs.Cells.{held, ring_of}
 use Rattle.steps.specs.Rule.{Owner, nobody, pollers, rings, workers, owner, stands_for, owns, NoneOf, Looks, Extends, ExtendsTwice}
 use Rattle.work.specs.Board.{Facts, IsOf, share_of}
 use Rattle.work.specs.Passes.{Pass}
@@ -109,3 +111,10 @@ goes_twice b p q i r word value e o t role ring mine x =
       own = subst (λ (z : Role). own_of z (Did e ∷ (second.saw.later ++ L)) ≡ e ∷ []) (sym role) (ap (λ c. cond c (e ∷ own_of (Submitter i) (second.saw.later ++ L)) (own_of (Submitter i) (second.saw.later ++ L))) yes ∙ ap (λ (h : List Event). e ∷ h) own1);
       last = (events_of (second.saw.later ++ L), refl);
     }
+
+-- the same, by the cell of the request
+pub goes_own : (b : Facts) (p q : Pass) (x g : ℕ) (r : Req) (word value : ℕ) (ev : Req → Event) → IsOf b p → q.table ≡ p.table → p.view.role ≡ Submitter r.ring → ((z : Req) → owner (Did (ev z)) ≡ rings z.ring) → held b.layout.cells x g ≡ r
+    → ExtendsTwice p.view (Lent (held p.view.layout.cells x g) word value) (Lending (held p.view.layout.cells x g)) (Did (ev (held p.view.layout.cells x g))) (Submitter (ring_of p.view.layout.cells x)) q.view → Goes b p (ev r ∷ []) q
+goes_own b p q x g r word value ev o t role mine at y =
+    let here : held p.view.layout.cells x g ≡ r = ap (λ (L : Layout). held L.cells x g) o.layout_is ∙ at in
+    goes_twice b p q r.ring r word value (ev r) o t role refl (mine r) (subst (λ (z : Req). ExtendsTwice p.view (Lent z word value) (Lending z) (Did (ev z)) (Submitter z.ring) q.view) here y)

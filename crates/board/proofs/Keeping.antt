@@ -24,10 +24,10 @@ use Rattle.board.specs.Seats.{IsSubmitterSeat}
 abbrev Place : Type 0
 Place = Seat (Option Thing) View
 
-submits_it : (v : View) (i : ℕ) → v.role ≡ Submitter i → stands_for v.role (rings i) ≡ true
+pub submits_it : (v : View) (i : ℕ) → v.role ≡ Submitter i → stands_for v.role (rings i) ≡ true
 submits_it v i is = ap (λ (z : Role). stands_for z (rings i)) is ∙ eq-eqb i i refl
 
-lends_it : (v : View) (r : Req) (i : ℕ) → v.role ≡ Lending r → r.ring ≡ i → stands_for v.role (rings i) ≡ true
+pub lends_it : (v : View) (r : Req) (i : ℕ) → v.role ≡ Lending r → r.ring ≡ i → stands_for v.role (rings i) ≡ true
 lends_it v r i is ring = ap (λ (z : Role). stands_for z (rings i)) is ∙ eq-eqb r.ring i ring
 
 -- a seat that looked

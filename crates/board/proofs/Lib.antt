@@ -1,4 +1,5 @@
 pub mod Bounds
+pub mod Cutting
 pub mod Emptying
 pub mod Ending
 pub mod Going
@@ -7,6 +8,9 @@ pub mod Hearing
 pub mod Keeping
 pub mod Knowing
 pub mod Listing
+pub mod Once
+pub mod Reaping
 pub mod Releasing
 pub mod Settling
+pub mod Submitting
 pub mod Telling

@@ -1,5 +1,5 @@
 -- What a claim word of the table tells of a request, and what it rules out.
-use Rattle.std.proofs.Common.{◌≡◌, ◌≢◌, ◌⊎◌, inl, inr, ⊎_elim, ℕ, ◌+◌, ◌-◌, ◌*◌, ◌<◌, ◌≤◌, Bool, true, false, cond, ◌&&◌, not, IsTrue, ℤ, List, [], ◌∷◌, sym, refl, ap, ◌∙◌, subst, arith, true≢false, nat_lt, ltb-true, ltb-false, lt-ltb, le-ltb, eqb-true, of_z, w32}
+use Rattle.std.proofs.Common.{◌≡◌, ◌≢◌, ◌⊎◌, inl, inr, ⊎_elim, ℕ, ◌+◌, ◌-◌, ◌*◌, ◌<◌, ◌≤◌, Bool, true, false, cond, ◌&&◌, not, IsTrue, ℤ, List, [], ◌∷◌, sym, refl, ap, ◌∙◌, subst, arith, true≢false, nat_lt, ltb-true, ltb-false, lt-ltb, le-ltb, eqb-true, of_z, w32, SFits}
 use Rattle.std.proofs.Math.Facts.{sfits_to_z, Fits-of_lt}
 use Rattle.std.proofs.lemmas.Int.{to_z-of_z, of_z-to_z}
 use mir.Val.{to_z}
@@ -106,6 +106,10 @@ parts_tell K j x w home c f is ok = let p = fits_parts c f in one_word ok.tag c.
 -- the reply that 32 bits are
 pub reply_is : (res : ℤ) (b : ℕ) → bits_of res b → to_z w32 b ≡ res
 reply_is res b s = let f : b < 4294967296 = bits_fit res b s in one_result (to_z w32 b) res b (bits_are (to_z w32 b) b (sfits_to_z {w = w32} {n = b} (Fits-of_lt {w = w32} {n = b} f)) (sym (of_z-to_z w32 b f))) s
+
+-- a reply of 32 bits is read as it was written
+pub signed_is : (res : ℤ) (b : ℕ) → bits_of res b → to_z w32 (of_z w32 res) ≡ res
+signed_is res b s = to_z-of_z w32 res (subst (SFits w32) (reply_is res b s) (sfits_to_z {w = w32} {n = b} (Fits-of_lt {w = w32} {n = b} (bits_fit res b s))))
 
 unheld_by : (K : List ℕ) (j : List Line) (x w g : ℕ) (home : Home) (t : Tag) (c p : ℕ) → Says j (held K x g) home c p t → w ≡ word_of t c g p → w ≢ word_of Held 0 g 0 → IsUnheld j (held K x g)
 unheld_by K j x w g home Empty c p y is n = inl (inl y.2)

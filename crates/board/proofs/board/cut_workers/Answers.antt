@@ -1,38 +1,33 @@
-use Rattle.std.proofs.Common.{rules, ◌≡◌, ◌≢◌, ℕ, ◌+◌, ◌-◌, ◌<◌, ◌≤◌, ◌⊎◌, ◌↔◌, cond, true, false, [], ◌∷◌, length, slice_index, IfOk, IfErr, IsTrue, ◌*◌, ◌/◌, ◌%◌, Bool, nat_eq, nat_lt, List, ◌++◌, slice_index_or, slice_set, bit_and, bit_or, Fits, w8, w32, w64, Bor, MutBor}
-use Rattle.std.specs.declared.result.Result.TheVariants.{Err}
-use Rattle.model.specs.declared.req.Req.{Req}
-use Rattle.model.specs.declared.event.Event.TheVariants.{Submit, Begin, Reap}
-use Rattle.model.specs.History.{same, phase, submits}
-use Rattle.model.specs.Legal.{FitsOp}
-use Rattle.steps.specs.declared.line.Line.TheVariants.{Did}
-use Rattle.steps.specs.declared.view.Role.TheVariants.{Poller as PollerRole}
-use Rattle.steps.specs.declared.view.Role.TheVariants.{Submitter as SubmitterRole}
-use Rattle.steps.specs.declared.view.Role.TheVariants.{Busy as BusyRole}
-use Rattle.steps.specs.Journal.{freed, Serves}
-use Rattle.steps.specs.Rule.{Looks, Extends, Begins}
-use Rattle.work.specs.Board.{IsOf}
-use Rattle.work.specs.Passes.{seen_of, FoundNotReady}
-use Rattle.board.specs.declared.error.BoardError.TheVariants.{BadShape}
-use Rattle.board.specs.declared.poller.Released.TheVariants.{Freed, NotHeld}
-use Rattle.board.specs.Calls.{Goes, Finds, Stepped, IsFree, IsReaped, IsUnheld, MayStart, next_of}
-use Rattle.board.specs.Headline.{IsCompletion, HasOnce}
-use Rattle.board.specs.Limits.{counts, is_shape}
-use Rattle.board.specs.New.{IsNew, IsFresh, AreSubmitters, AreWorkers}
-use Rattle.board.specs.Refusals.{RefusesEntry, RefusesReap}
+use Rattle.std.proofs.Common.{◌≡◌, ◌<◌, ◌+◌, ℕ, length, List, [], ◌∷◌, ◌++◌, refl, sym, ap, ◌∙◌, subst, arith}
+use Rattle.std.proofs.lemmas.List.{length-append}
+use Rattle.steps.specs.declared.view.Role.{Role}
+use Rattle.steps.specs.declared.view.Role.TheVariants.{Poller, Idle, Spent}
+use Rattle.work.specs.Board.{Facts}
+use Rattle.work.specs.Passes.{Pass, pass_of}
+use Rattle.board.specs.New.{AreWorkers, IsFresh, IsCutting}
+use Rattle.board.proofs.Cutting.{workers_more, cut_worker, worker_fresh}
 use Rattle.board.proofs.board.cut_workers.Goals as goal
 
--- src/board.rt:92:5
 pub loop-init : goal.loop-init
-loop-init c = ?
+loop-init c = (λ n k. k, ap (λ (l : List Pass). length l) c.new-workers.ensures.items, λ b x y. subst (AreWorkers b) (sym c.new-workers.ensures.items) tt)
 
--- src/board.rt:93:13
 pub next_worker-place-requires-clause-fits : goal.next_worker-place-requires-clause-fits
-next_worker-place-requires-clause-fits c = ?
+next_worker-place-requires-clause-fits c = let r = c.requires.seat in ((c.loop.invariant.0 r.0 r.1).table_is, c.requires.words)
 
--- src/board.rt:93:13
 pub next_worker-place-requires-clause-live : goal.next_worker-place-requires-clause-live
-next_worker-place-requires-clause-live c = ?
+next_worker-place-requires-clause-live c = let r = c.requires.seat in let k = c.loop.invariant.0 r.0 r.1 in let p = k.parts in let lt = c.loop-test.true in let few = c.requires.count in let n = r.2 in (λ e. (let y = k.role in cc), omega arith)
 
--- src/board.rt:92:5
 pub loop-preserved : goal.loop-preserved
-loop-preserved c = ?
+loop-preserved c =
+    let v = c.loop.invariant in let r = c.requires.seat in let e = c.next_worker-place.ensures in let lt = c.loop-test.true in let few = c.requires.count in let nf = r.2 in
+    let L = c.args.seat.now.me.0.layout in let t = c.args.words.now.table_id in let i = c.loop.counter in let ps : List Pass = c.loop.workers.items in let q : Pass = pass_of c.next_worker-place.result in
+    let items : c.push.new.self.items ≡ ps ++ q ∷ [] = c.in_ok-push.ensures.items ∙ ap (λ (z : Pass). ps ++ z ∷ []) c.new.ensures in
+    let k = v.0 r.0 r.1 in let p = k.parts in let large : 1 < c.loop.seat.me.0.parts = omega arith in
+    (
+      λ n start. cut_worker L t n i c.loop.seat c.next_worker-place.new.seat c.next_worker-place.result (v.0 n start) e.seat.0 e.worker.0 e.seat.1 e.worker.1 large,
+      ap (λ (l : List Pass). length l) items ∙ (length-append ps (q ∷ []) ∙ ap (λ (n : ℕ). n + 1) v.1),
+      λ b x y. subst (AreWorkers b) (sym items) (workers_more b ps q (v.2 b x y) (worker_fresh L t r.0 i c.loop.seat c.next_worker-place.new.seat c.next_worker-place.result k e.seat.0 e.worker.0 e.seat.1 e.worker.1 large b x y)),
+    )
+
+pub returns-clause-seat : goal.returns-clause-seat
+returns-clause-seat c = λ n k. (let a = c.loop-test.false in let b = c.loop.auto.counter-end in subst (λ (z : ℕ). IsCutting c.args.seat.now.me.0.layout c.args.words.now.table_id n z c.loop.seat) (omega arith) (c.loop.invariant.0 n k))
