@@ -25,3 +25,5 @@ pub use work::{Busy, Pass, Ran, Worker};
 
 #[cfg(test)]
 mod tests;
+#[cfg(test)]
+mod end_tests;
