@@ -1,4 +1,7 @@
 //! The submitter of a ring with what it has taken of its completions.
+ghost use Rattle.std.specs.Prelude.{◌≡◌};
+ghost use Rattle.work.specs.Board.{IsOf};
+
 use crate::lines::Halt;
 use board::{Board, Completion, SubmitError, Submitter};
 use entry::Sqe;
@@ -28,7 +31,9 @@ pub(crate) enum Tried {
 
 impl Client {
     /// The client of a submitter that has submitted nothing yet.
-    pub fn new(alloc: Global, submitter: Submitter) -> Client {
+    pub fn new(alloc: Global, submitter: Submitter) -> Client
+        ensures { result.submitter ≡ submitter }
+    {
         Client {
             submitter,
             open: VecDeque::new(alloc),
@@ -43,7 +48,11 @@ impl Client {
         board: &Board,
         sqe: Sqe,
         buffer: Vec<u8>,
-    ) -> Result<Tried, AllocError> {
+    ) -> Result<Tried, AllocError>
+        requires { IsOf board.now self.old.submitter }
+        ensures { IsOf board.now self.new.submitter }
+    {
+        let _ring = self.submitter.ring();
         match board.submit(&mut self.submitter, sqe, buffer) {
             Ok(req) => {
                 self.open.push_back(req)?;
@@ -55,7 +64,10 @@ impl Client {
     }
 
     /// Takes the completions of all its requests that have replied.
-    pub fn take_all(&mut self, board: &Board) -> Result<(), AllocError> {
+    pub fn take_all(&mut self, board: &Board) -> Result<(), AllocError>
+        requires { IsOf board.now self.old.submitter }
+        ensures { IsOf board.now self.new.submitter }
+    {
         for _ in 0..self.open.len() {
             self.take_next(board)?;
         }
@@ -63,7 +75,10 @@ impl Client {
     }
 
     /// Takes the completion of the first of its open requests, or puts this one behind the others.
-    fn take_next(&mut self, board: &Board) -> Result<(), AllocError> {
+    fn take_next(&mut self, board: &Board) -> Result<(), AllocError>
+        requires { IsOf board.now self.old.submitter }
+        ensures { IsOf board.now self.new.submitter }
+    {
         let Some(req) = self.open.pop_front() else {
             return Ok(());
         };

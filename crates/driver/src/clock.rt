@@ -1,4 +1,6 @@
 //! The lines of the clock, carried out by the poller's thread.
+ghost use Rattle.work.specs.Board.{IsOf};
+
 use crate::lines::Halt;
 use crate::stage::{Stage, is_replied};
 use board::Poller;
@@ -29,7 +31,10 @@ impl Clock {
 
     /// Tries its next line once. The board has no timers yet, so the lines that set the clock or wait for a timer to be
     /// armed do nothing.
-    pub fn turn(&mut self, stage: &Stage<'_>, poller: &mut Poller) {
+    pub fn turn(&mut self, stage: &Stage<'_>, poller: &mut Poller)
+        requires { IsOf stage.now.board.now poller.old }
+        ensures { IsOf stage.now.board.now poller.new }
+    {
         if self.is_over(stage) {
             return;
         }

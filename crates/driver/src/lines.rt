@@ -1,4 +1,6 @@
 //! The lines of a ring, carried out one after another.
+ghost use Rattle.work.specs.Board.{IsOf};
+
 use crate::client::{Client, Tried};
 use crate::stage::{Stage, is_replied};
 use explore::{Act, Named};
@@ -31,7 +33,10 @@ impl<T: Drop> From<AllocFailed<T>> for Halt {
 }
 
 /// Carries the lines of the client's ring out, once all threads have begun.
-pub(crate) fn carry_out(stage: &Stage<'_>, mut client: Client) -> Client {
+pub(crate) fn carry_out(stage: &Stage<'_>, mut client: Client) -> Client
+    requires { IsOf stage.now.board.now client.submitter }
+    ensures { IsOf stage.now.board.now result.submitter }
+{
     stage.gate.begin();
     if let Err(halt) = carry_lines(stage, &mut client) {
         client.halt = Some(halt);
@@ -41,7 +46,10 @@ pub(crate) fn carry_out(stage: &Stage<'_>, mut client: Client) -> Client {
 }
 
 /// Carries the ring's lines out, up to the first that stops.
-fn carry_lines(stage: &Stage<'_>, client: &mut Client) -> Result<(), Halt> {
+fn carry_lines(stage: &Stage<'_>, client: &mut Client) -> Result<(), Halt>
+    requires { IsOf stage.now.board.now client.old.submitter }
+    ensures { IsOf stage.now.board.now client.new.submitter }
+{
     if !stage.gate.is_open() {
         return Err(Halt::Thread);
     }
@@ -56,7 +64,10 @@ fn carry_lines(stage: &Stage<'_>, client: &mut Client) -> Result<(), Halt> {
 }
 
 /// Carries one line out.
-fn carry_line(stage: &Stage<'_>, client: &mut Client, act: &Act) -> Result<(), Halt> {
+fn carry_line(stage: &Stage<'_>, client: &mut Client, act: &Act) -> Result<(), Halt>
+    requires { IsOf stage.now.board.now client.old.submitter }
+    ensures { IsOf stage.now.board.now client.new.submitter }
+{
     match act {
         Act::Submit(places) => submit_all(stage, client, places.as_slice()),
         Act::Wait(place) => wait(stage, client, *place),
@@ -65,7 +76,10 @@ fn carry_line(stage: &Stage<'_>, client: &mut Client, act: &Act) -> Result<(), H
 }
 
 /// Submits the entries at these places one by one.
-fn submit_all(stage: &Stage<'_>, client: &mut Client, places: &[u32]) -> Result<(), Halt> {
+fn submit_all(stage: &Stage<'_>, client: &mut Client, places: &[u32]) -> Result<(), Halt>
+    requires { IsOf stage.now.board.now client.old.submitter }
+    ensures { IsOf stage.now.board.now client.new.submitter }
+{
     let Some(first) = places.first() else {
         return Ok(());
     };
@@ -79,7 +93,10 @@ fn submit_all(stage: &Stage<'_>, client: &mut Client, places: &[u32]) -> Result<
 
 /// Submits an entry of a line whose first entry is at `first`. Where its cell isn't free it is tried again, and before
 /// each further try the completions that are there are taken.
-fn submit(stage: &Stage<'_>, client: &mut Client, entry: &Named, first: u32) -> Result<(), Halt> {
+fn submit(stage: &Stage<'_>, client: &mut Client, entry: &Named, first: u32) -> Result<(), Halt>
+    requires { IsOf stage.now.board.now client.old.submitter }
+    ensures { IsOf stage.now.board.now client.new.submitter }
+{
     let mut buffer = entry.buffer.clone()?;
     for _ in 0..stage.turns {
         buffer = match client.try_submit(stage.board, entry.sqe, buffer)? {
@@ -94,7 +111,10 @@ fn submit(stage: &Stage<'_>, client: &mut Client, entry: &Named, first: u32) -> 
 }
 
 /// Waits for the reply to the entry at a place. At each try the completions that are there are taken.
-fn wait(stage: &Stage<'_>, client: &mut Client, place: u32) -> Result<(), Halt> {
+fn wait(stage: &Stage<'_>, client: &mut Client, place: u32) -> Result<(), Halt>
+    requires { IsOf stage.now.board.now client.old.submitter }
+    ensures { IsOf stage.now.board.now client.new.submitter }
+{
     for _ in 0..stage.turns {
         client.take_all(stage.board)?;
         if is_replied(stage, &mut client.submitter, place) {

@@ -1,4 +1,7 @@
 //! The thread with the poller and a worker: it goes round the requests until all lines are carried out.
+ghost use Rattle.work.specs.Board.{IsOf};
+ghost use Rattle.driver.specs.Parts.{IsDeskOf};
+
 use crate::clock::Clock;
 use crate::stage::Stage;
 use crate::window::Window;
@@ -25,7 +28,10 @@ pub(crate) fn windows_of(alloc: Global, rings: u16) -> Result<Vec<Window>, Alloc
 }
 
 /// Goes round until all lines are carried out, and no request can go on.
-pub(crate) fn go_round(stage: &Stage<'_>, mut desk: Desk) -> Desk {
+pub(crate) fn go_round(stage: &Stage<'_>, mut desk: Desk) -> Desk
+    requires { IsDeskOf stage.now.board.now desk }
+    ensures { IsDeskOf stage.now.board.now result }
+{
     stage.gate.begin();
     for _ in 0..u64::MAX {
         let is_last = stage.gate.is_over() && desk.clock.is_over(stage);
@@ -43,7 +49,10 @@ pub(crate) fn go_round(stage: &Stage<'_>, mut desk: Desk) -> Desk {
 
 /// Goes round once: moves what may begin to the workers, answers what is ready, and tries a line of the clock. True where a
 /// request went on.
-fn round(stage: &Stage<'_>, desk: Desk) -> (Desk, bool) {
+fn round(stage: &Stage<'_>, desk: Desk) -> (Desk, bool)
+    requires { IsDeskOf stage.now.board.now desk }
+    ensures { IsDeskOf stage.now.board.now result.0 }
+{
     let Desk {
         mut poller,
         worker,
@@ -63,7 +72,10 @@ fn round(stage: &Stage<'_>, desk: Desk) -> (Desk, bool) {
 }
 
 /// Moves what may begin to the workers, in the order of the rings. True where there was one.
-fn release_all(stage: &Stage<'_>, poller: &mut Poller, windows: &mut Vec<Window>) -> bool {
+fn release_all(stage: &Stage<'_>, poller: &mut Poller, windows: &mut Vec<Window>) -> bool
+    requires { IsOf stage.now.board.now poller.old }
+    ensures { IsOf stage.now.board.now poller.new }
+{
     let mut moved = false;
     for window in windows.iter_mut() {
         window.look(stage.board, poller);
@@ -75,7 +87,10 @@ fn release_all(stage: &Stage<'_>, poller: &mut Poller, windows: &mut Vec<Window>
 }
 
 /// Lets the worker answer what is ready, in the order of the rings. True where there was one.
-fn serve_all(stage: &Stage<'_>, worker: Worker, windows: &[Window]) -> (Worker, bool) {
+fn serve_all(stage: &Stage<'_>, worker: Worker, windows: &[Window]) -> (Worker, bool)
+    requires { IsOf stage.now.board.now worker }
+    ensures { IsOf stage.now.board.now result.0 }
+{
     let mut worker = worker;
     let mut moved = false;
     for window in windows {

@@ -1,4 +1,6 @@
 //! The table of a run, from its completions.
+ghost use Rattle.std.specs.Prelude.{◌≡◌, length, IfOk};
+
 use crate::fault::RunFault;
 use board::Completion;
 use entry::Op;
@@ -13,7 +15,9 @@ pub(crate) fn table_of(
     homes: &[Option<Req>],
     taken: &[Completion],
     left: &[(Completion, bool)],
-) -> Result<Table, RunFault> {
+) -> Result<Table, RunFault>
+    ensures { IfOk result (λ table. length table.lines.items ≡ length script.now.entries.items) }
+{
     let mut lines = Vec::new(alloc);
     for place in 0..script.entries.len() {
         let Some(row) = row_at(alloc, script, homes, taken, left, place)? else {

@@ -1,4 +1,9 @@
 //! A script carried out.
+ghost use Rattle.std.specs.Prelude.{◌≡◌, length, map, All, IfOk};
+ghost use Rattle.work.specs.Board.{IsOf};
+ghost use Rattle.driver.specs.Parts.{submitter_of};
+ghost use Rattle.driver.specs.Cast.{IsWhole};
+
 use crate::client::Client;
 use crate::clock::Clock;
 use crate::fault::RunFault;
@@ -25,45 +30,97 @@ pub fn run_script<R: Threads + Sync>(
     script: &Script,
     workers: u32,
     turns: u32,
-) -> Result<Table, RunFault> {
+) -> Result<Table, RunFault>
+    ensures lines { IfOk result (λ table. length table.lines.items ≡ length script.now.entries.items) }
+{
     if let Some(label) = first_unserved(script) {
         return Err(RunFault::Unserved(label.to_string(alloc)?));
     }
     let homes = homes_of(alloc, script)?;
+    let cast = cast_of(alloc, script, workers)?;
+    let (taken, report) = play(rt, alloc, script, homes.as_slice(), turns, cast)?;
+    table_of(
+        alloc,
+        script,
+        homes.as_slice(),
+        taken.as_slice(),
+        report.lines(),
+    )
+}
+
+/// A board, with all its passes at their places: at the desk, with the clients, or idle.
+#[derive(Drop)]
+struct Cast {
+    board: Board,
+    desk: Desk,
+    clients: Vec<Client>,
+    idle: Vec<Worker>,
+}
+
+/// A new board of the shape that a script asks for, with its passes.
+fn cast_of(alloc: Global, script: &Script, workers: u32) -> Result<Cast, RunFault>
+    ensures { IfOk result IsWhole }
+{
     let shape = shape_of(alloc, script, workers)?;
-    let (board, poller, submitters, mut workers) = Board::new(alloc, &shape)?;
-    let Some(worker) = workers.pop() else {
+    let (board, poller, submitters, mut idle) = Board::new(alloc, &shape)?;
+    let Some(worker) = idle.pop() else {
         return Err(RunFault::Shared);
     };
-    let rings = submitters.len() as u16;
-    let gate = Gate::new(u64::from(rings));
-    let stage = Stage {
-        board: &board,
-        script,
-        homes: homes.as_slice(),
-        turns,
-        gate: &gate,
-    };
+    let windows = windows_of(alloc, submitters.len() as u16)?;
+    let clients = clients_of(alloc, submitters)?;
     let desk = Desk {
         poller,
         worker,
-        windows: windows_of(alloc, rings)?,
+        windows,
         clock: Clock::new(),
     };
-    let (desk, clients) = run_all(rt, &stage, desk, clients_of(alloc, submitters)?)?;
+    Ok(Cast {
+        board,
+        desk,
+        clients,
+        idle,
+    })
+}
+
+/// Carries all lines out, and ends the board: the completions that the clients took, and the report of all others.
+fn play<R: Threads + Sync>(
+    rt: &R,
+    alloc: Global,
+    script: &Script,
+    homes: &[Option<Req>],
+    turns: u32,
+    cast: Cast,
+) -> Result<(Vec<Completion>, Report), RunFault>
+    requires { IsWhole cast }
+{
+    let Cast {
+        board,
+        desk,
+        clients,
+        mut idle,
+    } = cast;
+    let gate = Gate::new(clients.len() as u64);
+    let stage = Stage {
+        board: &board,
+        script,
+        homes,
+        turns,
+        gate: &gate,
+    };
+    let (desk, clients) = run_all(rt, &stage, desk, clients)?;
     let Desk {
         poller,
         worker,
         windows: _,
         clock,
     } = desk;
-    workers.push(worker)?;
+    idle.push(worker)?;
     let (submitters, taken, halt) = parts_of(alloc, clients)?;
     if let Some(halt) = halt.or(clock.halt) {
         return Err(fault_of(alloc, script, halt));
     }
-    let report = ended(alloc, board, poller, submitters, workers)?;
-    table_of(alloc, script, homes.as_slice(), taken.as_slice(), report.lines())
+    let report = ended(alloc, board, poller, submitters, idle)?;
+    Ok((taken, report))
 }
 
 /// The board that a script asks for.
@@ -83,7 +140,9 @@ fn shape_of(alloc: Global, script: &Script, workers: u32) -> Result<Shape, Alloc
 }
 
 /// The clients of these submitters, in their order.
-fn clients_of(alloc: Global, submitters: Vec<Submitter>) -> Result<Vec<Client>, AllocError> {
+fn clients_of(alloc: Global, submitters: Vec<Submitter>) -> Result<Vec<Client>, AllocError>
+    ensures { IfOk result (λ clients. map submitter_of clients.items ≡ submitters.items) }
+{
     let mut clients = Vec::new(alloc);
     for submitter in submitters {
         clients.push(Client::new(alloc, submitter))?;
@@ -95,7 +154,9 @@ fn clients_of(alloc: Global, submitters: Vec<Submitter>) -> Result<Vec<Client>, 
 fn parts_of(
     alloc: Global,
     clients: Vec<Client>,
-) -> Result<(Vec<Submitter>, Vec<Completion>, Option<Halt>), AllocError> {
+) -> Result<(Vec<Submitter>, Vec<Completion>, Option<Halt>), AllocError>
+    ensures { IfOk result (λ parts. parts.0.items ≡ map submitter_of clients.items) }
+{
     let mut submitters = Vec::new(alloc);
     let mut all = Vec::new(alloc);
     let mut first = None;
@@ -141,7 +202,11 @@ fn ended(
     poller: Poller,
     submitters: Vec<Submitter>,
     workers: Vec<Worker>,
-) -> Result<Report, RunFault> {
+) -> Result<Report, RunFault>
+    requires poller { IsOf board poller }
+    requires submitters { All (λ p. IsOf board p) submitters.items }
+    requires workers { All (λ p. IsOf board p) workers.items }
+{
     match board.finish(alloc, poller, submitters, workers) {
         Ok(report) => Ok(report),
         Err(unfinished) => match unfinished.error {

@@ -1,4 +1,6 @@
 //! What all threads of a run share.
+ghost use Rattle.work.specs.Board.{IsOf};
+
 use crate::gate::Gate;
 use board::{Board, Pass, Phase};
 use explore::Script;
@@ -16,7 +18,10 @@ pub(crate) struct Stage<'a> {
 }
 
 /// Whether the request of the entry at a place has its reply, as this pass sees it now.
-pub(crate) fn is_replied<P: Pass>(stage: &Stage<'_>, pass: &mut P, place: u32) -> bool {
+pub(crate) fn is_replied<P: Pass>(stage: &Stage<'_>, pass: &mut P, place: u32) -> bool
+    requires { IsOf stage.now.board.now (P.knows pass.old) }
+    ensures { IsOf stage.now.board.now (P.knows pass.new) }
+{
     let Some(Some(req)) = stage.homes.get(place as usize) else {
         return false;
     };

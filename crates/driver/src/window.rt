@@ -1,4 +1,6 @@
 //! The requests of a ring that the poller's thread looks after.
+ghost use Rattle.work.specs.Board.{IsOf};
+
 use board::{Board, Phase, Poller, Released, Worker};
 use model::Req;
 
@@ -26,13 +28,19 @@ impl Window {
     }
 
     /// Notes what was submitted since, and what has replied.
-    pub fn look(&mut self, board: &Board, poller: &mut Poller) {
+    pub fn look(&mut self, board: &Board, poller: &mut Poller)
+        requires { IsOf board.now poller.old }
+        ensures { IsOf board.now poller.new }
+    {
         self.find_tail(board, poller);
         self.find_low(board, poller);
     }
 
     /// Moves the tail behind the last request that was submitted.
-    fn find_tail(&mut self, board: &Board, poller: &mut Poller) {
+    fn find_tail(&mut self, board: &Board, poller: &mut Poller)
+        requires { IsOf board.now poller.old }
+        ensures { IsOf board.now poller.new }
+    {
         for k in self.tail..u64::MAX {
             if board.look(poller, self.req(k)) == Phase::Unborn {
                 self.tail = k;
@@ -42,9 +50,15 @@ impl Window {
     }
 
     /// Moves the low end to the first request without a reply.
-    fn find_low(&mut self, board: &Board, poller: &mut Poller) {
+    fn find_low(&mut self, board: &Board, poller: &mut Poller)
+        requires { IsOf board.now poller.old }
+        ensures { IsOf board.now poller.new }
+    {
         for k in self.low..self.tail {
-            if !matches!(board.look(poller, self.req(k)), Phase::Done(_) | Phase::Gone) {
+            if !matches!(
+                board.look(poller, self.req(k)),
+                Phase::Done(_) | Phase::Gone
+            ) {
                 self.low = k;
                 return;
             }
@@ -53,7 +67,10 @@ impl Window {
     }
 
     /// Moves the requests that may begin to the workers. True where there was one.
-    pub fn release(&self, board: &Board, poller: &mut Poller) -> bool {
+    pub fn release(&self, board: &Board, poller: &mut Poller) -> bool
+        requires { IsOf board.now poller.old }
+        ensures { IsOf board.now poller.new }
+    {
         let mut moved = false;
         for k in self.low..self.tail {
             if board.release(poller, self.req(k)) == Released::Freed {
@@ -64,7 +81,10 @@ impl Window {
     }
 
     /// Lets the worker answer the requests that are ready. True where there was one.
-    pub fn serve(&self, board: &Board, worker: Worker) -> (Worker, bool) {
+    pub fn serve(&self, board: &Board, worker: Worker) -> (Worker, bool)
+        requires { IsOf board.now worker }
+        ensures { IsOf board.now result.0 }
+    {
         let mut worker = worker;
         let mut moved = false;
         for k in self.low..self.tail {
@@ -79,7 +99,10 @@ impl Window {
 }
 
 /// Answers the request, where it is ready.
-fn answer(board: &Board, worker: Worker, req: Req) -> (Worker, bool) {
+fn answer(board: &Board, worker: Worker, req: Req) -> (Worker, bool)
+    requires { IsOf board.now worker }
+    ensures { IsOf board.now result.0 }
+{
     match board.begin(worker, req) {
         Ok(busy) => (busy.run().0, true),
         Err(worker) => (worker, false),
