@@ -42,7 +42,9 @@ pub fn request_of<'a>(alloc: Global, words: &'a [&'a str]) -> Result<Request<'a>
 fn command<'a>(alloc: Global) -> Result<Command<'a>, AllocError> {
     Command::new(alloc, "ringrun")
         .version("0.1.0")
-        .about("Carries scripts of submissions out on a ring runtime with the behaviour of io_uring.")
+        .about(
+            "Carries scripts of submissions out on a ring runtime with the behaviour of io_uring.",
+        )
         .after_help("Example:\n  ringrun run examples/first.ring\nprints\n  a 0")
         .subcommand_required(true)
         .arg_required_else_help(true)

@@ -1,12 +1,12 @@
 //! The commands of the program: what each reads, answers and writes.
 #![tactic(auto)]
 
+pub mod answer;
 pub mod job;
-pub mod perform;
 pub mod problem;
 
+pub use answer::perform;
 pub use job::{Job, Request, request_of};
-pub use perform::perform;
 
 #[cfg(test)]
 mod tests;

@@ -1,4 +1,6 @@
 //! Why a command gives no answer.
+ghost use Rattle.std.specs.Prelude.{◌≡◌};
+
 use driver::RunFault;
 use script::ScriptFault;
 use std::alloc::{AllocError, AllocFailed};
@@ -26,8 +28,12 @@ pub enum Problem {
 }
 
 impl Problem {
+    ghost use Rattle.commands.specs.Status.{status_of};
+
     /// The status that the program ends with.
-    pub fn status(&self) -> u8 {
+    pub fn status(&self) -> u8
+        ensures { result ≡ status_of self.now }
+    {
         match self {
             Problem::Stuck(_) => 3,
             Problem::Line(_) => 2,

@@ -1,4 +1,6 @@
 //! A command carried out.
+ghost use Rattle.std.specs.Prelude.{◌≤◌};
+
 use crate::job::Job;
 use crate::problem::Problem;
 use driver::run_script;
@@ -16,7 +18,9 @@ pub fn perform<R: Threads + Sync, S: Read, W: Write, E: Write>(
     script: &mut S,
     out: &mut W,
     err: &mut E,
-) -> u8 {
+) -> u8
+    ensures { result ≤ 3 }
+{
     let done = match answer(rt, alloc, job, script) {
         Ok(text) => write_all(out, &text),
         Err(problem) => Err(problem),
