@@ -1,5 +1,5 @@
 //! What the words of the command line ask for.
-use clap::{Arg, ArgAction, Command, Error, value_parser};
+use clap::{Arg, ArgAction, ArgMatches, Command, Error, value_parser};
 use std::alloc::{AllocError, Global};
 
 /// What is asked for.
@@ -25,17 +25,21 @@ const TURNS: u32 = 10_000_000;
 /// The request that the words of a command line make, the program's name first.
 pub fn request_of<'a>(alloc: Global, words: &'a [&'a str]) -> Result<Request<'a>, Error> {
     let matches = command(alloc)?.try_get_matches_from(words)?;
-    let given = match matches.subcommand() {
-        Some((_, given)) => given,
-        None => &matches,
-    };
-    Ok(Request {
+    match matches.subcommand() {
+        Some((_, given)) => Ok(request_in(given)),
+        None => Ok(request_in(&matches)),
+    }
+}
+
+/// The request that the words behind a command make.
+fn request_in<'a>(given: &ArgMatches<'a>) -> Request<'a> {
+    Request {
         job: Job::Run {
             workers: given.get_one::<u32>("workers").unwrap_or(WORKERS),
             turns: given.get_one::<u32>("turns").unwrap_or(TURNS),
         },
         file: given.get_str("FILE").unwrap_or("-"),
-    })
+    }
 }
 
 /// The program's commands.
