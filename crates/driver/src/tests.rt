@@ -14,17 +14,14 @@ fn named(alloc: Global, label: &str, sqe: Sqe) -> Result<Named, AllocError> {
     })
 }
 
-/// A script of one ring with so many cells: it submits all entries at once, and waits for the one at `place`.
+/// A script of one ring with so many cells: it submits the entries at these places at once, and waits for that at `place`.
 fn batch_script(
     alloc: Global,
     cells: u32,
     entries: Vec<Named>,
+    places: Vec<u32>,
     place: u32,
 ) -> Result<Option<Script>, AllocError> {
-    let mut places = Vec::new(alloc);
-    for at in 0..entries.len() {
-        places.push(at as u32)?;
-    }
     let lines = vec![in alloc; Act::Submit(places), Act::Wait(place)]?;
     Script::new(
         alloc,
@@ -42,7 +39,8 @@ fn a_nop_and_an_invalid_entry(rt: HostRuntime) -> Result<(), Fail> {
     let alloc = rt.alloc();
     let nop = named(alloc, "a", prep::nop())?;
     let invalid = named(alloc, "b", Sqe::of_bytes(&[255; 64]))?;
-    let Some(script) = batch_script(alloc, 4, vec![in alloc; nop, invalid]?, 1)? else {
+    let entries = vec![in alloc; nop, invalid]?;
+    let Some(script) = batch_script(alloc, 4, entries, vec![in alloc; 0, 1]?, 1)? else {
         return Err(Fail::new("no script"));
     };
     let table = run_script(&rt, alloc, &script, 1, 1_000_000)?;
