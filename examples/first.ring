@@ -1,0 +1,5 @@
+ring 4
+on 0
+nop a ud=7
+submit
+wait a
