@@ -1,17 +1,16 @@
 -- The history after Shut and the Cuts of a report.
-use Rattle.std.proofs.Common.{◌≡◌, ◌≢◌, ◌⊎◌, inl, inr, ⊎_elim, ℕ, zero, suc, ◌+◌, ◌<◌, ◌≤◌, Bool, true, false, cond, ℤ, negsuc, Option, Some, None, List, [], ◌∷◌, length, sym, refl, ap, ◌∙◌, subst, arith, true≢false}
+use Rattle.std.proofs.Common.{◌≡◌, ◌⊎◌, inl, inr, ⊎_elim, ℕ, ◌<◌, Bool, true, false, cond, ℤ, negsuc, Some, List, [], ◌∷◌, sym, refl, ap, ◌∙◌, subst, arith, true≢false}
 use Rattle.model.specs.declared.req.Req.{Req}
 use Rattle.model.specs.declared.event.Event.{Event}
-use Rattle.model.specs.declared.event.Event.TheVariants.{Submit, Shut, Cut}
-use Rattle.model.specs.History.{Cause, by_cut, Phase, unborn, waits, runs, armed, replied, reaped, same, phase, reply_in, answers, data_in, data_of, submission, submits, adds_to, was_shut, IsReplied, IsPending, IsIdle}
+use Rattle.model.specs.declared.event.Event.TheVariants.{Cut}
+use Rattle.model.specs.History.{by_cut, Phase, unborn, waits, runs, armed, replied, reaped, same, phase, reply_in, data_of, submission, submits, was_shut, IsPending, IsIdle}
 use Rattle.model.specs.Legal.{Setup, Legal}
-use Rattle.model.proofs.Requests.{bool_cases, same_true, same_false, same_itself}
-use Rattle.model.proofs.Growth.{counted, born_once, unchanged, changed}
+use Rattle.model.proofs.Requests.{bool_cases, same_false, same_itself}
+use Rattle.model.proofs.Growth.{counted, born_once}
 use Rattle.board.specs.declared.completion.Completion.{Completion}
 use Rattle.board.specs.Calls.{IsReaped}
-use Rattle.board.specs.Headline.{IsCompletion}
-use Rattle.board.specs.Remains.{IsLeft, data_left, IsCutOrNot, IsLineOf, IsLine, AreLines}
-use Rattle.board.specs.Reports.{IsBefore, AreLater, Ordered, IsListed, ended, Tells, AllTell}
+use Rattle.board.specs.Remains.{IsLeft, data_left, IsCutOrNot, IsLine, AreLines}
+use Rattle.board.specs.Reports.{Ordered, IsListed, ended, Tells, AllTell}
 use Rattle.board.proofs.Listing.{unlisted_later}
 use Rattle.board.proofs.Telling.{cut_shuts}
 

@@ -1,9 +1,8 @@
 -- Lists of a board's passes, as they are handed in and out.
-use Rattle.std.proofs.Common.{◌≡◌, ℕ, zero, suc, ◌+◌, ◌<◌, List, [], ◌∷◌, ◌++◌, length, get_or, set, arith}
-use Rattle.steps.specs.declared.view.Role.TheVariants.{Submitter}
+use Rattle.std.proofs.Common.{ℕ, zero, suc, ◌<◌, List, [], ◌∷◌, ◌++◌, length, get_or, set, arith}
 use Rattle.work.specs.Board.{Facts, IsOf}
 use Rattle.work.specs.Passes.{Pass}
-use Rattle.board.specs.New.{IsFresh, AreSubmitters, AreWorkers}
+use Rattle.board.specs.New.{AreSubmitters, AreWorkers}
 use Rattle.board.specs.Reports.{AreOf}
 
 -- new passes are the board's own

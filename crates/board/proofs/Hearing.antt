@@ -1,5 +1,5 @@
 -- A seat that heard the passes knows what they had seen.
-use Rattle.std.proofs.Common.{◌≡◌, ℕ, ◌+◌, ◌⊎◌, inl, inr, List, [], ◌∷◌, ◌++◌, length, sym, refl, ap, ◌∙◌, subst, ⊎_elim, arith, length-append}
+use Rattle.std.proofs.Common.{◌≡◌, ℕ, ◌+◌, ◌⊎◌, inl, inr, List, [], ◌∷◌, ◌++◌, length, refl, ap, ◌∙◌, subst, ⊎_elim, arith, length-append}
 use Rattle.steps.specs.declared.line.Line.{Line}
 use Rattle.steps.specs.declared.view.Role.TheVariants.{Submitter, Idle}
 use Rattle.steps.specs.declared.view.View.{View}

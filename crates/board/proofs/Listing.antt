@@ -1,5 +1,5 @@
 -- The lines of a report, one after the other.
-use Rattle.std.proofs.Common.{◌≡◌, ◌≢◌, ◌⊎◌, inl, inr, ⊎_elim, ℕ, zero, suc, ◌+◌, ◌-◌, ◌*◌, ◌/◌, ◌%◌, ◌<◌, ◌≤◌, Bool, true, false, ℤ, negsuc, Option, Some, None, List, [], ◌∷◌, ◌++◌, length, get_or, set, nat_lt, ltb-true, ltb-false, sym, refl, ap, ◌∙◌, subst, arith, length-append}
+use Rattle.std.proofs.Common.{◌≡◌, ◌⊎◌, inl, inr, ⊎_elim, ℕ, zero, suc, ◌+◌, ◌-◌, ◌*◌, ◌/◌, ◌%◌, ◌<◌, ◌≤◌, Bool, true, false, ℤ, Option, Some, None, List, [], ◌∷◌, ◌++◌, length, set, nat_lt, ltb-true, ltb-false, sym, refl, ap, ◌∙◌, subst, arith, length-append}
 use Rattle.std.proofs.Math.Nat.{mul-le-mul_left}
 use mathlib.Core.Logic.{dite}
 use mathlib.Core.Option.{some, some-injective}
@@ -9,7 +9,7 @@ use Rattle.atomic_table.proofs.Lists.{set_else}
 use Rattle.model.specs.declared.req.Req.{Req}
 use Rattle.model.specs.declared.event.Event.{Event}
 use Rattle.model.specs.History.{Cause, Phase, unborn, waits, runs, armed, replied, reaped, phase, submits}
-use Rattle.model.specs.Legal.{Setup, Legal}
+use Rattle.model.specs.Legal.{Setup}
 use Rattle.model.proofs.Requests.{bool_cases}
 use Rattle.model.proofs.Growth.{counted, born_once}
 use Rattle.steps.specs.declared.line.Line.{Line}
@@ -17,8 +17,7 @@ use Rattle.steps.specs.declared.parcel.Parcel.{Parcel}
 use Rattle.steps.specs.declared.parcel.Thing.{Thing}
 use Rattle.steps.specs.declared.parcel.Thing.TheVariants.{Full}
 use Rattle.steps.specs.Journal.{events_of}
-use Rattle.steps.specs.Cells.{IsCell, held, ring_of, place_of, cells_in, total, Ages, IsParcel}
-use Rattle.steps.specs.Rule.{Shown}
+use Rattle.steps.specs.Cells.{IsCell, held, ring_of, place_of, cells_in, Ages, IsParcel}
 use Rattle.steps.proofs.Numbers.{first_cell}
 use Rattle.work.proofs.Rows.{cell_says, located_is, counts_at}
 use Rattle.board.specs.declared.completion.Completion.{Completion}

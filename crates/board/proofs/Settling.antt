@@ -1,11 +1,10 @@
 -- From the end of a table to its report.
-use Rattle.std.proofs.Common.{◌≡◌, ◌≢◌, ◌⊎◌, inl, inr, ⊎_elim, ℕ, zero, suc, ◌+◌, ◌-◌, ◌*◌, ◌<◌, ◌≤◌, ◌==◌, Bool, true, false, cond, Option, Some, None, List, [], ◌∷◌, ◌++◌, length, get_or, sym, refl, ap, ◌∙◌, subst, arith, true≢false, eqb-true}
-use mathlib.Core.Option.{some, some-injective}
-use lib.ListN.{get_elem?}
+use Rattle.std.proofs.Common.{◌≡◌, inl, ⊎_elim, ℕ, ◌+◌, ◌-◌, ◌<◌, ◌≤◌, ◌==◌, Bool, true, false, cond, Option, Some, None, List, [], ◌∷◌, ◌++◌, length, get_or, sym, refl, ap, ◌∙◌, subst, arith, eqb-true}
+use mathlib.Core.Option.{some}
 use Rattle.model.specs.declared.req.Req.{Req}
 use Rattle.model.specs.declared.event.Event.{Event}
 use Rattle.model.specs.declared.event.Event.TheVariants.{Submit}
-use Rattle.model.specs.History.{Cause, Phase, unborn, waits, runs, armed, replied, phase, data_of, submits, adds_to}
+use Rattle.model.specs.History.{unborn, runs, phase, submits, adds_to}
 use Rattle.model.specs.Legal.{Setup, Legal}
 use Rattle.model.proofs.Requests.{bool_cases, not_true}
 use Rattle.model.proofs.Growth.{counted}
@@ -18,7 +17,7 @@ use Rattle.steps.specs.declared.view.Layout.{Layout}
 use Rattle.steps.specs.declared.view.Role.TheVariants.{Poller}
 use Rattle.steps.specs.declared.view.View.{View}
 use Rattle.steps.specs.Journal.{events_of, lent}
-use Rattle.steps.specs.Cells.{IsCell, held, total, setup_of, claim_at, slot_at, Home, Says, Keeps, CellOk}
+use Rattle.steps.specs.Cells.{IsCell, held, total, setup_of, slot_at, Home, Says, Keeps, CellOk}
 use Rattle.steps.specs.Rule.{Ended}
 use Rattle.work.specs.Board.{Facts, IsBoard, IsOf, share_of}
 use Rattle.work.specs.Grid.{AreCells}

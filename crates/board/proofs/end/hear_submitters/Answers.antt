@@ -1,5 +1,4 @@
-use Rattle.std.proofs.Common.{◌≡◌, ◌++◌, ◌∷◌, [], List, sym, ap, ◌∙◌, subst}
-use Rattle.steps.specs.declared.view.View.{View}
+use Rattle.std.proofs.Common.{◌≡◌, sym, ap, ◌∙◌, subst}
 use Rattle.work.specs.Board.{IsOf}
 use Rattle.work.specs.Passes.{Pass, pass_of}
 use Rattle.board.specs.Remains.{hearing_all}

@@ -1,9 +1,9 @@
-use Rattle.std.proofs.Common.{◌≡◌, ◌<◌, ◌+◌, ◌*◌, ◌++◌, ◌∷◌, [], List, ℕ, Option, Bool, length, rules, set, true, false, sym, ap, ◌∙◌, subst, arith}
+use Rattle.std.proofs.Common.{◌≡◌, ◌<◌, ◌+◌, ◌*◌, List, Option, length, ◌∙◌, subst, arith}
 use mathlib.Core.Option.{some}
 use lib.ListN.{get_elem?}
-use Rattle.std.specs.Mem.Slots.{slots_items, slots_filled, slots_len, slots_counts}
+use Rattle.std.specs.Mem.Slots.{slots_items, slots_filled, slots_counts}
 use Rattle.steps.specs.declared.parcel.Thing.{Thing}
-use Rattle.board.specs.Remains.{AreTaken, IsEmptied}
+use Rattle.board.specs.Remains.{IsEmptied}
 use Rattle.board.proofs.Emptying.{emptied_more, taken_more}
 use Rattle.board.proofs.remains.take_cells.Goals as goal
 

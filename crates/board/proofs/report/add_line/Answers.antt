@@ -1,17 +1,14 @@
-use Rattle.std.proofs.Common.{◌≡◌, ◌<◌, ◌≤◌, ◌+◌, ℕ, List, Option, Some, None, length, get_or, sym, ap, ◌∙◌, subst, arith, true≢false}
-use mathlib.Core.Option.{some}
-use lib.ListN.{get_elem?}
+use Rattle.std.proofs.Common.{◌≡◌, ℕ, List, get_or, sym, ◌∙◌, subst, arith, true≢false}
 use Rattle.model.specs.Legal.{Setup}
 use Rattle.model.specs.History.{phase}
 use Rattle.steps.specs.declared.line.Line.{Line}
 use Rattle.steps.specs.declared.parcel.Parcel.{Parcel}
-use Rattle.steps.specs.declared.parcel.Thing.{Thing}
 use Rattle.steps.specs.declared.parcel.Thing.TheVariants.{Full}
 use Rattle.steps.specs.Journal.{events_of}
 use Rattle.steps.specs.Cells.{held}
 use Rattle.steps.specs.Rule.{Shown}
 use Rattle.board.specs.Calls.{IsWord, IsPresent}
-use Rattle.board.specs.Remains.{Reports, IsLeft}
+use Rattle.board.specs.Remains.{IsLeft}
 use Rattle.board.proofs.Emptying.{word_at}
 use Rattle.board.proofs.Listing.{line_skipped, line_added, present_left, absent_left, is_line, has_slot, one_full}
 use Rattle.board.proofs.report.add_line.Goals as goal

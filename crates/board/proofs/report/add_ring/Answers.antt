@@ -1,7 +1,6 @@
-use Rattle.std.proofs.Common.{◌≡◌, ◌<◌, ◌≤◌, ◌+◌, ◌*◌, ◌-◌, ℕ, List, length, get_or, vec_capacity, w64, sym, ap, ◌∙◌, subst, arith}
+use Rattle.std.proofs.Common.{◌≡◌, ◌≤◌, ◌+◌, ◌*◌, ◌-◌, ℕ, List, get_or, vec_capacity, w64, sym, ap, ◌∙◌, subst, arith}
 use Rattle.std.proofs.Math.Facts.{Fits-of_lt}
-use Rattle.model.specs.declared.req.Req.{Req}
-use Rattle.steps.specs.Cells.{cells_in, Ages, held}
+use Rattle.steps.specs.Cells.{cells_in}
 use Rattle.steps.specs.Rule.{Shown}
 use Rattle.work.proofs.Rows.{counts_at}
 use Rattle.board.specs.Calls.{IsWord}

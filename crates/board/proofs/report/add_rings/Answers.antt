@@ -1,4 +1,4 @@
-use Rattle.std.proofs.Common.{◌≡◌, ◌<◌, ◌≤◌, ℕ, length, vec_capacity, subst, arith}
+use Rattle.std.proofs.Common.{◌≡◌, ℕ, length, vec_capacity, subst, arith}
 use Rattle.board.specs.Remains.{Reports}
 use Rattle.board.proofs.report.add_rings.Goals as goal
 

@@ -1,4 +1,4 @@
-use Rattle.std.proofs.Common.{ℕ, sym, ap, ◌∙◌, subst}
+use Rattle.std.proofs.Common.{sym, ap, ◌∙◌, subst}
 use Rattle.claim.specs.Claim.{Claim}
 use Rattle.steps.specs.Cells.{Ages}
 use Rattle.board.proofs.Telling.{parts_tell}

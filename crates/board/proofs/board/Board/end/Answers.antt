@@ -1,7 +1,6 @@
-use Rattle.std.proofs.Common.{◌≡◌, ◌<◌, ◌≤◌, ◌+◌, ◌*◌, ◌∷◌, ◌++◌, [], ℕ, List, Option, Bool, length, vec_capacity, sym, refl, ap, ◌∙◌, subst, arith}
-use Rattle.std.specs.Mem.Slots.{slots_items, slots_len, slots_counts}
+use Rattle.std.proofs.Common.{◌≡◌, ◌≤◌, ◌∷◌, ◌++◌, ℕ, List, Option, Bool, length, vec_capacity, sym, ap, ◌∙◌, subst, arith}
+use Rattle.std.specs.Mem.Slots.{slots_items, slots_counts}
 use Rattle.steps.specs.declared.parcel.Thing.{Thing}
-use Rattle.steps.specs.declared.view.Layout.{Layout}
 use Rattle.steps.specs.declared.view.View.{View}
 use Rattle.steps.specs.Cells.{total, setup_of}
 use Rattle.steps.specs.Rule.{Ended}
