@@ -25,5 +25,3 @@ pub use work::{Busy, Pass, Ran, Worker};
 
 #[cfg(test)]
 mod end_tests;
-#[cfg(test)]
-mod tests;
