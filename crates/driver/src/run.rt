@@ -107,7 +107,8 @@ fn play<R: Threads + Sync>(
         turns,
         gate: &gate,
     };
-    let (desk, clients) = run_all(rt, &stage, desk, clients)?;
+    let (desk, clients) = run_all(rt, &stage, desk, clients);
+    let clients = clients?;
     let Desk {
         poller,
         worker,
