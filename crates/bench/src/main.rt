@@ -3,6 +3,9 @@
 //! beside the time of the same loop with nothing but a copy of the 64 bytes.
 #![tactic(auto)]
 
+ghost use Rattle.std.specs.Prelude.{◌≡◌};
+ghost use Rattle.bench.specs.Median.{is_middle, middle_of};
+
 mod loops;
 
 use loops::{Entries, Loop, Words};
@@ -53,16 +56,25 @@ fn median(rt: &HostRuntime, kind: Loop) -> io::Result<u64> {
         };
         times[i] = nanos.saturating_mul(100) / OPERATIONS as u64;
     }
-    Ok(middle(times))
+    Ok(middle(&times))
+}
+
+/// Whether at most half of the times are less than this one, and at most half are more.
+fn is_middle(times: &[u64; ROUNDS], time: u64) -> bool
+    ensures { result ≡ is_middle times.now time }
+{
+    let below = times.iter().filter(|t| **t < time).count();
+    let above = times.iter().filter(|t| **t > time).count();
+    below <= ROUNDS / 2 && above <= ROUNDS / 2
 }
 
 /// The middle one of the times, in their order.
-fn middle(times: [u64; ROUNDS]) -> u64 {
+fn middle(times: &[u64; ROUNDS]) -> u64
+    ensures { result ≡ middle_of times.now }
+{
     for time in times {
-        let below = times.iter().filter(|t| **t < time).count();
-        let above = times.iter().filter(|t| **t > time).count();
-        if below <= ROUNDS / 2 && above <= ROUNDS / 2 {
-            return time;
+        if is_middle(times, *time) {
+            return *time;
         }
     }
     0

@@ -1,5 +1,10 @@
 -- What a new board and its passes are.
-use Rattle.std.specs.Prelude.{◌≡◌, ℕ, suc, length, List, [], ◌∷◌}
+use Rattle.std.specs.Prelude.{◌≡◌, ℕ, suc, ◌+◌, length, List, [], ◌∷◌, Option}
+use Rattle.atomic_table.specs.Seated.{TableId}
+use Rattle.atomic_table.specs.declared.shared.Seat.{Seat}
+use Rattle.steps.specs.declared.parcel.Thing.{Thing}
+use Rattle.steps.specs.declared.view.Layout.{Layout}
+use Rattle.steps.specs.declared.view.View.{View}
 use Rattle.board.specs.declared.shape.Shape.{Shape}
 use Rattle.board.specs.Limits.{counts}
 use Rattle.steps.specs.declared.view.Role.{Role}
@@ -28,3 +33,13 @@ pub record IsNew (s : Shape) (b : Facts) (poller : Pass) (submitters workers : L
   pub poller_is : IsFresh b (Poller (length s.rings.items)) poller
   pub submitters_are : (length submitters ≡ length s.rings.items) × AreSubmitters b 0 submitters
   pub workers_are : (length workers ≡ s.workers) × AreWorkers b workers
+
+-- the poller's seat, from which the seats of n submitters and m workers were cut
+pub record IsCutting (L : Layout) (t : TableId) (n m : ℕ) (s : Seat (Option Thing) View) : Type 0 where
+  pub table_is : s.table_id ≡ t
+  pub layout_is : s.me.0.layout ≡ L
+  pub role : s.me.0.role ≡ Poller n
+  pub parts : s.me.0.parts + (n + m) ≡ 9223372036854775808
+  pub seen : s.me.0.seen ≡ []
+  pub heard : s.me.0.heard ≡ []
+  pub bare : s.me.1 ≡ []

@@ -19,5 +19,6 @@ pub record IsSubmitterSeat (s : Seat (Option Thing) View) (ring next : ℕ) : Ty
   pub bare : s.me.1 ≡ []
   pub ring_there : ring < length s.me.0.layout.cells
   pub next_is : next ≡ submits (events_of s.me.0.seen) ring
+  pub narrow : cells_in s.me.0.layout.cells ring ≤ 1024
   pub few : next ≤ 16777215 * cells_in s.me.0.layout.cells ring
   pub unlent : (q : Req) → q.ring ≡ ring → lent s.me.0.seen q ≡ false

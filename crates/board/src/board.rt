@@ -9,14 +9,15 @@ ghost use Rattle.steps.specs.declared.line.Line.TheVariants.{Did};
 ghost use Rattle.steps.specs.declared.view.Role.TheVariants.{Poller as PollerRole, Submitter as SubmitterRole, Busy as BusyRole};
 ghost use Rattle.steps.specs.Journal.{freed, Serves};
 ghost use Rattle.steps.specs.Rule.{Looks, Extends, Begins};
-ghost use Rattle.work.specs.Board.{IsOf};
+ghost use Rattle.work.specs.Board.{Facts, IsOf};
+ghost use Rattle.work.specs.Grid.{AreCellCounts};
 ghost use Rattle.work.specs.Passes.{seen_of, FoundNotReady};
 ghost use Rattle.board.specs.declared.error.BoardError.TheVariants.{BadShape};
 ghost use Rattle.board.specs.declared.poller.Released.TheVariants.{Freed, NotHeld};
 ghost use Rattle.board.specs.Calls.{Goes, Finds, Stepped, IsFree, IsReaped, IsUnheld, MayStart, next_of};
 ghost use Rattle.board.specs.Headline.{IsCompletion, HasOnce};
 ghost use Rattle.board.specs.Limits.{counts, is_shape};
-ghost use Rattle.board.specs.New.{IsNew, IsFresh, AreSubmitters, AreWorkers};
+ghost use Rattle.board.specs.New.{IsNew, AreSubmitters, AreWorkers, IsCutting};
 ghost use Rattle.board.specs.Refusals.{RefusesEntry, RefusesReap};
 
 use crate::completion::Completion;
@@ -72,7 +73,14 @@ fn cut_submitters(
     words: &Words,
     seat: &mut Place,
     rings: u16,
-) -> Result<Vec<Submitter>, AllocError> {
+) -> Result<Vec<Submitter>, AllocError>
+    requires seat { IsCutting seat.old.me.0.layout words.now.table_id 0 0 seat.old }
+    requires cells { AreCellCounts seat.old.me.0.layout.cells × (rings ≡ length seat.old.me.0.layout.cells) × (rings ≤ 16) }
+    requires words { 0 < words.now.table_id.words }
+    ensures seat { IfOk result (λ v. IsCutting seat.old.me.0.layout words.now.table_id rings 0 seat.new) }
+    ensures count { IfOk result (λ v. length v.items ≡ rings) }
+    ensures submitters { IfOk result (λ v. (b : Facts) → b.table ≡ words.now.table_id → b.layout ≡ seat.old.me.0.layout → AreSubmitters b 0 v.items) }
+{
     let mut submitters = Vec::new(alloc);
     for ring in 0..rings {
         let place = table::next_submitter(words, seat);
@@ -87,7 +95,14 @@ fn cut_workers(
     words: &Words,
     seat: &mut Place,
     count: u32,
-) -> Result<Vec<Worker>, AllocError> {
+) -> Result<Vec<Worker>, AllocError>
+    requires seat { (n : ℕ) × IsCutting seat.old.me.0.layout words.now.table_id n 0 seat.old × (n ≤ 16) }
+    requires count { count ≤ 64 }
+    requires words { 0 < words.now.table_id.words }
+    ensures seat { IfOk result (λ v. (n : ℕ) → IsCutting seat.old.me.0.layout words.now.table_id n 0 seat.old → IsCutting seat.old.me.0.layout words.now.table_id n count seat.new) }
+    ensures count { IfOk result (λ v. length v.items ≡ count) }
+    ensures workers { IfOk result (λ v. (b : Facts) → b.table ≡ words.now.table_id → b.layout ≡ seat.old.me.0.layout → AreWorkers b v.items) }
+{
     let mut workers = Vec::new(alloc);
     for _ in 0..count {
         let place = table::next_worker(words, seat);
@@ -206,7 +221,7 @@ impl Board {
             unreachable!()
         };
         let generation = spot.generation as u32;
-        if submitter.load(&self.table.shared, spot.cell) != claims::empty(generation) {
+        if submitter.look_at(&self.table.shared, spot.cell) != claims::empty(generation) {
             return Err((SubmitError::Full, buffer));
         }
         if generation == LAST_GENERATION {
@@ -232,7 +247,7 @@ impl Board {
         let Some(spot) = self.grid.locate(req) else {
             return Released::NotHeld;
         };
-        let word = poller.load(&self.table.shared, spot.cell);
+        let word = poller.look_at(&self.table.shared, spot.cell);
         let Phase::Held = told(word, spot.generation) else {
             return Released::NotHeld;
         };
@@ -271,7 +286,7 @@ impl Board {
             unreachable!()
         };
         let words = &self.table.shared;
-        let word = submitter.load(words, spot.cell);
+        let word = submitter.look_at(words, spot.cell);
         match told(word, spot.generation) {
             Phase::Done(res) => {
                 let generation = spot.generation as u32;

@@ -1,4 +1,12 @@
 //! The end of a board.
+ghost use Rattle.std.specs.Prelude.{◌≡◌, ◌≢◌, ◌+◌, ◌<◌, ◌≤◌, ◌⊎◌, ◌↔◌, [], ◌∷◌, ◌++◌, length, vec_capacity, IfOk, IfErr};
+ghost use Rattle.steps.specs.declared.view.Role.TheVariants.{Spent};
+ghost use Rattle.steps.specs.Cells.{total};
+ghost use Rattle.work.specs.Board.{Facts, IsOf};
+ghost use Rattle.board.specs.declared.error.FinishError.TheVariants.{Missing};
+ghost use Rattle.board.specs.Remains.{hearing_all};
+ghost use Rattle.board.specs.Reports.{AreOf, IsReport};
+
 use crate::board::Board;
 use crate::completion::{Completion, Report};
 use crate::error::FinishError;
@@ -23,59 +31,73 @@ pub struct Unfinished {
 /// The room that a report needs.
 struct Room {
     remains: Remains,
-    nexts: Vec<u64>,
     lines: Vec<(Completion, bool)>,
 }
 
 impl Room {
-    /// Room for so many cells of so many rings.
-    fn new(alloc: Global, cells: usize, rings: usize) -> Result<Room, AllocError> {
-        Ok(Room {
-            remains: Remains::with_room(alloc, cells)?,
-            nexts: Vec::with_capacity(alloc, rings)?,
-            lines: Vec::with_capacity(alloc, cells)?,
-        })
-    }
-}
-
-/// The number that each ring's next request would have had.
-fn note_nexts(submitters: &[Submitter], nexts: &mut Vec<u64>) {
-    for submitter in submitters {
-        let Ok(()) = nexts.push(submitter.next_request().k) else {
-            unreachable!()
-        };
+    /// Room for so many cells.
+    fn new(alloc: Global, cells: usize) -> Result<Room, AllocError>
+        ensures claims { IfOk result (λ r. (r.remains.claims.items ≡ []) × (cells ≤ vec_capacity r.remains.claims)) }
+        ensures slots { IfOk result (λ r. (r.remains.slots.items ≡ []) × (cells ≤ vec_capacity r.remains.slots)) }
+        ensures lines { IfOk result (λ r. (r.lines.items ≡ []) × (cells ≤ vec_capacity r.lines)) }
+    {
+        let remains = Remains::with_room(alloc, cells)?;
+        let lines = Vec::with_capacity(alloc, cells)?;
+        Ok(Room { remains, lines })
     }
 }
 
 /// The seat hears all submitters.
-fn hear_submitters(words: &Words, seat: &mut Place, mut submitters: Vec<Submitter>) {
+fn hear_submitters(words: &Words, seat: &mut Place, mut submitters: Vec<Submitter>)
+    requires fits { (seat.old.table_id ≡ words.now.table_id) × (0 < words.now.table_id.words) }
+    requires live { seat.old.me.0.role ≢ Spent }
+    requires ours { (b : Facts) × (b.table ≡ words.now.table_id) × AreOf b submitters.items }
+    ensures table { seat.new.table_id ≡ seat.old.table_id }
+    ensures heard { seat.new.me ≡ (hearing_all seat.old.me.0 submitters.items, seat.old.me.1) }
+{
     while let Some(submitter) = submitters.pop() {
         table::hear(words, seat, submitter.into_place());
     }
 }
 
 /// The seat hears all workers.
-fn hear_workers(words: &Words, seat: &mut Place, mut workers: Vec<Worker>) {
+fn hear_workers(words: &Words, seat: &mut Place, mut workers: Vec<Worker>)
+    requires fits { (seat.old.table_id ≡ words.now.table_id) × (0 < words.now.table_id.words) }
+    requires live { seat.old.me.0.role ≢ Spent }
+    requires ours { (b : Facts) × (b.table ≡ words.now.table_id) × AreOf b workers.items }
+    ensures table { seat.new.table_id ≡ seat.old.table_id }
+    ensures heard { seat.new.me ≡ (hearing_all seat.old.me.0 workers.items, seat.old.me.1) }
+{
     while let Some(worker) = workers.pop() {
         table::hear(words, seat, worker.into_place());
     }
 }
 
 impl Board {
-    /// Ends the board. The report has each request that wasn't reaped; those without a reply are cut off with -125.
+    /// Ends the board. The report has each request that wasn't reaped; those without a reply are cut off with -125
+    /// (ECANCELED), as no request runs while all passes are here.
     pub fn finish(
         self,
         alloc: Global,
         poller: Poller,
         submitters: Vec<Submitter>,
         workers: Vec<Worker>,
-    ) -> Result<Report, Unfinished> {
+    ) -> Result<Report, Unfinished>
+        requires poller { IsOf self poller }
+        requires submitters { AreOf self submitters.items }
+        requires workers { AreOf self workers.items }
+        ensures report { IfOk result (λ r. IsReport self (poller ∷ (submitters.items ++ workers.items)) r) }
+        ensures complete { IfOk result (λ r. (length submitters.items ≡ length self.layout.cells) × (length workers.items ≡ self.workers)) }
+        ensures missing { IfErr result (λ u. (u.error ≡ Missing) ↔ ((length submitters.items ≢ length self.layout.cells) ⊎ (length workers.items ≢ self.workers))) }
+        ensures board { IfErr result (λ u. (u.board ≡ self) × (u.poller ≡ poller)) }
+        ensures passes { IfErr result (λ u. (u.submitters ≡ submitters) × (u.workers ≡ workers)) }
+    {
         let error = if submitters.len() != self.grid.rings()
             || workers.len() != self.workers as usize
         {
             FinishError::Missing
         } else {
-            match Room::new(alloc, self.grid.total(), self.grid.rings()) {
+            match Room::new(alloc, self.grid.total()) {
                 Ok(room) => return Ok(self.end(poller, submitters, workers, room)),
                 Err(_) => FinishError::Memory,
             }
@@ -96,24 +118,27 @@ impl Board {
         submitters: Vec<Submitter>,
         workers: Vec<Worker>,
         room: Room,
-    ) -> Report {
+    ) -> Report
+        requires poller { IsOf self poller }
+        requires submitters { AreOf self submitters.items × (length submitters.items ≡ length self.layout.cells) }
+        requires workers { AreOf self workers.items × (length workers.items ≡ self.workers) }
+        requires claims { (room.remains.claims.items ≡ []) × (total self.layout.cells ≤ vec_capacity room.remains.claims) }
+        requires slots { (room.remains.slots.items ≡ []) × (total self.layout.cells ≤ vec_capacity room.remains.slots) }
+        requires lines { (room.lines.items ≡ []) × (total self.layout.cells ≤ vec_capacity room.lines) }
+        ensures { IsReport self (poller ∷ (submitters.items ++ workers.items)) result }
+    {
         let Board {
             table,
             grid,
             workers: _,
         } = self;
-        let Room {
-            remains,
-            mut nexts,
-            mut lines,
-        } = room;
-        note_nexts(submitters.as_slice(), &mut nexts);
+        let Room { remains, mut lines } = room;
         let mut seat = poller.into_place();
         hear_submitters(&table.shared, &mut seat, submitters);
         hear_workers(&table.shared, &mut seat, workers);
         let closed = table::finish(table, seat);
         let mut remains = remains_of(closed, remains, grid.total());
-        add_rings(&grid, &mut remains, &mut lines, nexts.as_slice());
+        add_rings(&grid, &mut remains, &mut lines);
         Report::new(lines)
     }
 }

@@ -24,4 +24,4 @@ pub use submitter::Submitter;
 pub use work::{Busy, Pass, Ran, Worker};
 
 #[cfg(test)]
-mod tests;
+mod end_tests;

@@ -3,6 +3,7 @@ ghost use Rattle.std.specs.Prelude.{◌≡◌, ◌≢◌, ℕ, ◌<◌, ◌≤�
 ghost use Rattle.claim.specs.declared.tag.Tag.TheVariants.{Held};
 ghost use Rattle.model.specs.History.{submits};
 ghost use Rattle.steps.specs.declared.line.Line.TheVariants.{Freed};
+ghost use Rattle.steps.specs.declared.view.Role.TheVariants.{Poller as PollerRole};
 ghost use Rattle.steps.specs.Cells.{claim_at, held, ring_of, word_of, MayBegin};
 ghost use Rattle.steps.specs.Rule.{Extends, Looks, Shown, IsStep};
 ghost use Rattle.work.specs.Passes.{pass_of, seen_of, CanReach};
@@ -56,6 +57,18 @@ impl Poller {
         place
     }
 
+    /// Loads the claim word of the cell.
+    pub(crate) fn look_at(&mut self, words: &Words, cell: usize) -> u64
+        requires { CanReach words.now.table_id self.old cell }
+        ensures role { self.old.view.role ≡ PollerRole (length self.old.view.layout.cells) }
+        ensures table { self.new.table ≡ self.old.table }
+        ensures looks { Looks self.old.view self.new.view }
+        ensures shown { Shown self.old.view.layout.cells self.new.view.seen cell result }
+        ensures step { IsStep (claim_at cell) result self.old.view self.new.view }
+    {
+        seat::look(words, &mut self.place, cell)
+    }
+
     /// Moves a Held request to Ready, or tells what else was found.
     pub(crate) fn free(&mut self, words: &Words, cell: usize, generation: u32) -> bool
         requires reach { CanReach words.now.table_id self.old cell }
@@ -76,7 +89,7 @@ impl Pass for Poller {
     ghost knows = { λ p. p };
 
     fn load(&mut self, words: &Words, cell: usize) -> u64 {
-        seat::look(words, &mut self.place, cell)
+        self.look_at(words, cell)
     }
 
     fn tell(&mut self, words: &Words) -> Messenger {

@@ -1,4 +1,8 @@
 //! What is left of a table that was ended: the claim word and the slot of each cell.
+ghost use Rattle.std.specs.Prelude.{◌≡◌, ℕ, ◌+◌, ◌*◌, ◌<◌, ◌≤◌, true, false, [], slice_index_or, vec_capacity, IfOk};
+ghost use Rattle.std.specs.Mem.Slots.{slots_items, slots_filled, slots_len, IsFull};
+ghost use Rattle.board.specs.Remains.{AreTaken, IsEmptied};
+
 use atomic_table::Closed;
 use std::alloc::{AllocError, Global};
 use steps::Thing;
@@ -12,23 +16,42 @@ pub(crate) struct Remains {
 
 impl Remains {
     /// Room for so many cells.
-    pub fn with_room(alloc: Global, cells: usize) -> Result<Remains, AllocError> {
-        Ok(Remains {
-            claims: Vec::with_capacity(alloc, cells)?,
-            slots: Vec::with_capacity(alloc, cells)?,
-        })
+    pub fn with_room(alloc: Global, cells: usize) -> Result<Remains, AllocError>
+        ensures claims { IfOk result (λ r. (r.claims.items ≡ []) × (cells ≤ vec_capacity r.claims)) }
+        ensures slots { IfOk result (λ r. (r.slots.items ≡ []) × (cells ≤ vec_capacity r.slots)) }
+    {
+        let claims = Vec::with_capacity(alloc, cells)?;
+        let slots = Vec::with_capacity(alloc, cells)?;
+        Ok(Remains { claims, slots })
     }
 }
 
-/// Lets the pipes' slots go.
-fn drop_pipes(closed: &mut Closed<Option<Thing>, Global>) {
-    for p in 0..64usize {
+/// Lets the values of these slots go.
+fn drop_slots(closed: &mut Closed<Option<Thing>, Global>, from: usize, to: usize)
+    requires there { (from ≤ to) × (to ≤ slots_len closed.old.slots) }
+    requires full { (k : ℕ) → from ≤ k → k < to → slice_index_or (slots_filled closed.old.slots) k false ≡ true }
+    ensures words { closed.new.words ≡ closed.old.words }
+    ensures same { (slots_items closed.new.slots ≡ slots_items closed.old.slots) × (slots_len closed.new.slots ≡ slots_len closed.old.slots) }
+    ensures emptied { IsEmptied (slots_filled closed.old.slots) (slots_filled closed.new.slots) from to }
+{
+    for p in from..to {
         drop(closed.take(p));
     }
 }
 
 /// Takes the claim word and the slot of each cell.
-fn take_cells(closed: &mut Closed<Option<Thing>, Global>, remains: &mut Remains, cells: usize) {
+fn take_cells(closed: &mut Closed<Option<Thing>, Global>, remains: &mut Remains, cells: usize)
+    requires words { IsFull closed.old.words × (8 * cells + 72 ≤ slots_len closed.old.words) }
+    requires slots { cells + 64 ≤ slots_len closed.old.slots }
+    requires full { (k : ℕ) → 64 ≤ k → k < cells + 64 → slice_index_or (slots_filled closed.old.slots) k false ≡ true }
+    requires few { cells ≤ 16384 }
+    requires claims { (remains.old.claims.items ≡ []) × (cells ≤ vec_capacity remains.old.claims) }
+    requires room { (remains.old.slots.items ≡ []) × (cells ≤ vec_capacity remains.old.slots) }
+    ensures words { closed.new.words ≡ closed.old.words }
+    ensures same { (slots_items closed.new.slots ≡ slots_items closed.old.slots) × (slots_len closed.new.slots ≡ slots_len closed.old.slots) }
+    ensures emptied { IsEmptied (slots_filled closed.old.slots) (slots_filled closed.new.slots) 64 (cells + 64) }
+    ensures taken { AreTaken (slots_items closed.old.words) (slots_items closed.old.slots) cells remains.new.claims.items remains.new.slots.items }
+{
     for x in 0..cells {
         let word = closed.word(8 * x + 72);
         let thing = closed.take(x + 64);
@@ -46,9 +69,18 @@ pub(crate) fn remains_of(
     mut closed: Closed<Option<Thing>, Global>,
     mut remains: Remains,
     cells: usize,
-) -> Remains {
-    drop_pipes(&mut closed);
+) -> Remains
+    requires full { IsFull closed.words × IsFull closed.slots }
+    requires counts { (8 * cells + 72 ≤ slots_len closed.words) × (cells + 64 ≤ slots_len closed.slots) }
+    requires few { cells ≤ 16384 }
+    requires claims { (remains.claims.items ≡ []) × (cells ≤ vec_capacity remains.claims) }
+    requires room { (remains.slots.items ≡ []) × (cells ≤ vec_capacity remains.slots) }
+    ensures { AreTaken (slots_items closed.words) (slots_items closed.slots) cells result.claims.items result.slots.items }
+{
+    let count = closed.slot_count();
+    drop_slots(&mut closed, 0, 64);
     take_cells(&mut closed, &mut remains, cells);
+    drop_slots(&mut closed, cells + 64, count);
     closed.free();
     remains
 }

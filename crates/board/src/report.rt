@@ -1,7 +1,20 @@
 //! The report of the requests that were not reaped, from what is left of a table.
+ghost use Rattle.std.specs.Prelude.{◌≡◌, ℕ, ◌+◌, ◌<◌, ◌≤◌, ◌↔◌, List, Some, None, IsTrue, length, slice_set, vec_capacity};
+ghost use mathlib.Core.Option.{some};
+ghost use lib.ListN.{get_elem?};
+ghost use Rattle.model.specs.Legal.{Setup};
+ghost use Rattle.steps.specs.declared.line.Line.{Line};
+ghost use Rattle.steps.specs.declared.parcel.Parcel.{Parcel};
+ghost use Rattle.steps.specs.declared.parcel.Thing.TheVariants.{Full};
+ghost use Rattle.steps.specs.Cells.{Ages};
+ghost use Rattle.steps.specs.Rule.{Shown};
+ghost use Rattle.board.specs.Calls.{IsWord, IsPresent};
+ghost use Rattle.board.specs.Remains.{Reports, IsReplyOf};
+
 use crate::completion::Completion;
 use crate::phase::{Phase, told};
 use crate::remains::Remains;
+use claim::unpack;
 use entry::Cqe;
 use model::Req;
 use steps::{Parcel, Thing};
@@ -10,8 +23,24 @@ use work::Grid;
 /// The reply to a request that the end cut off (ECANCELED).
 const CUT: i32 = -125;
 
-/// A request that stands in its cell, with its parcel.
-fn line_of(req: Req, phase: Phase, parcel: Parcel) -> (Completion, bool) {
+/// Whether the request was submitted and not reaped.
+fn is_present(phase: Phase) -> bool
+    ensures { IsTrue result ↔ IsPresent phase }
+{
+    match phase {
+        Phase::Unborn => false,
+        Phase::Gone => false,
+        _ => true,
+    }
+}
+
+/// The line of a request that stands so, with its parcel.
+fn line_of(req: Req, phase: Phase, parcel: Parcel) -> (Completion, bool)
+    ensures req { result.0.req ≡ req }
+    ensures user_data { result.0.cqe.user_data ≡ parcel.sqe.user_data }
+    ensures buffer { result.0.buffer ≡ parcel.buffer }
+    ensures reply { IsReplyOf phase result.0.cqe.res result.1 }
+{
     let (res, cut) = match phase {
         Phase::Done(res) => (res, false),
         _ => (CUT, true),
@@ -28,45 +57,75 @@ fn line_of(req: Req, phase: Phase, parcel: Parcel) -> (Completion, bool) {
     (completion, cut)
 }
 
-/// Adds the request's line, where it was not reaped.
-fn add_line(grid: &Grid, remains: &mut Remains, lines: &mut Vec<(Completion, bool)>, req: Req) {
+/// Takes the parcel out of a cell's slot, which has one.
+fn take_parcel(slots: &mut Vec<Option<Thing>>, cell: usize) -> Parcel
+    requires { (p : Parcel) × (get_elem? slots.old.items cell ≡ some (Some (Full p))) }
+    ensures parcel { get_elem? slots.old.items cell ≡ some (Some (Full result)) }
+    ensures slots { slots.new.items ≡ slice_set slots.old.items cell None }
+{
+    let Some(thing) = slots[cell].take() else {
+        unreachable!()
+    };
+    let Thing::Full(parcel) = thing else {
+        unreachable!()
+    };
+    parcel
+}
+
+/// The generation that a claim word tells.
+fn age_of(word: u64) -> u64
+    requires { IsWord word }
+    ensures ages { (K : List ℕ) (j : List Line) (x : ℕ) → Shown K j x word → Ages K j x result }
+    ensures small { result < 16777216 }
+{
+    let Some(claim) = unpack(word) else {
+        unreachable!()
+    };
+    u64::from(claim.generation)
+}
+
+/// Adds the request's line, where it was submitted and not reaped.
+fn add_line(grid: &Grid, remains: &mut Remains, lines: &mut Vec<(Completion, bool)>, req: Req)
+    requires there { req.ring < length grid.now }
+    requires so_far { (s : Setup) × (j : List Line) × Reports s grid.now j remains.old.claims.items remains.old.slots.items lines.old.items (vec_capacity lines.old) req }
+    ensures { (s : Setup) (j : List Line) → Reports s grid.now j remains.old.claims.items remains.old.slots.items lines.old.items (vec_capacity lines.old) req → Reports s grid.now j remains.new.claims.items remains.new.slots.items lines.new.items (vec_capacity lines.new) (record { ring = req.ring; k = req.k + 1 }) }
+{
     let Some(spot) = grid.locate(req) else {
         unreachable!()
     };
     let phase = told(remains.claims[spot.cell], spot.generation);
-    if let Phase::Gone = phase {
+    if !is_present(phase) {
         return;
     }
-    let Some(Thing::Full(parcel)) = remains.slots[spot.cell].take() else {
-        unreachable!()
-    };
+    let parcel = take_parcel(&mut remains.slots, spot.cell);
     let Ok(()) = lines.push(line_of(req, phase, parcel)) else {
         unreachable!()
     };
 }
 
-/// Adds the lines of the ring, whose next request would have been the `next`-th.
-fn add_ring(
-    grid: &Grid,
-    remains: &mut Remains,
-    lines: &mut Vec<(Completion, bool)>,
-    ring: u16,
-    next: u64,
-) {
+/// Adds the lines of the ring. Those that were not reaped are of the generation of its first cell, or a neighbour.
+fn add_ring(grid: &Grid, remains: &mut Remains, lines: &mut Vec<(Completion, bool)>, ring: u16)
+    requires there { ring < length grid.now }
+    requires so_far { (s : Setup) × (j : List Line) × Reports s grid.now j remains.old.claims.items remains.old.slots.items lines.old.items (vec_capacity lines.old) (record { ring = ring; k = 0 }) }
+    ensures { (s : Setup) (j : List Line) → Reports s grid.now j remains.old.claims.items remains.old.slots.items lines.old.items (vec_capacity lines.old) (record { ring = ring; k = 0 }) → Reports s grid.now j remains.new.claims.items remains.new.slots.items lines.new.items (vec_capacity lines.new) (record { ring = ring + 1; k = 0 }) }
+{
+    let Some(spot) = grid.locate(Req { ring, k: 0 }) else {
+        unreachable!()
+    };
+    let age = age_of(remains.claims[spot.cell]);
     let cells = grid.cells_in(usize::from(ring));
-    for k in next.saturating_sub(cells)..next {
+    for k in age.saturating_sub(2) * cells..(age + 1) * cells {
         add_line(grid, remains, lines, Req { ring, k });
     }
 }
 
-/// Adds the lines of all rings, whose next requests would have been those of `nexts`.
-pub(crate) fn add_rings(
-    grid: &Grid,
-    remains: &mut Remains,
-    lines: &mut Vec<(Completion, bool)>,
-    nexts: &[u64],
-) {
-    for ring in 0..nexts.len() as u16 {
-        add_ring(grid, remains, lines, ring, nexts[usize::from(ring)]);
+/// Adds the lines of all rings.
+pub(crate) fn add_rings(grid: &Grid, remains: &mut Remains, lines: &mut Vec<(Completion, bool)>)
+    requires few { length grid.now ≤ 16 }
+    requires so_far { (s : Setup) × (j : List Line) × Reports s grid.now j remains.old.claims.items remains.old.slots.items lines.old.items (vec_capacity lines.old) (record { ring = 0; k = 0 }) }
+    ensures { (s : Setup) (j : List Line) → Reports s grid.now j remains.old.claims.items remains.old.slots.items lines.old.items (vec_capacity lines.old) (record { ring = 0; k = 0 }) → Reports s grid.now j remains.new.claims.items remains.new.slots.items lines.new.items (vec_capacity lines.new) (record { ring = length grid.now; k = 0 }) }
+{
+    for ring in 0..grid.rings() as u16 {
+        add_ring(grid, remains, lines, ring);
     }
 }

@@ -7,8 +7,8 @@ ghost use Rattle.model.specs.Legal.{Fits as FitsEntry};
 ghost use Rattle.steps.specs.declared.line.Line.TheVariants.{Did, Lent};
 ghost use Rattle.steps.specs.declared.view.Role.TheVariants.{Submitter as SubmitterRole, Lending};
 ghost use Rattle.steps.specs.Journal.{events_of, lent, Serves};
-ghost use Rattle.steps.specs.Cells.{ring_of, held, cells_in, user_at, outcome_at, IsParcel};
-ghost use Rattle.steps.specs.Rule.{ExtendsTwice, Vacant, IsDone};
+ghost use Rattle.steps.specs.Cells.{claim_at, ring_of, held, cells_in, user_at, outcome_at, IsParcel};
+ghost use Rattle.steps.specs.Rule.{Looks, Shown, IsStep, ExtendsTwice, Vacant, IsDone};
 ghost use Rattle.work.specs.Passes.{pass_of, seen_of, CanReach};
 ghost use Rattle.board.specs.Calls.{next_of};
 ghost use Rattle.board.specs.Seats.{IsSubmitterSeat};
@@ -62,6 +62,7 @@ impl Submitter {
     pub fn next_request(&self) -> Req
         ensures role { self.now.view.role ≡ SubmitterRole result.ring }
         ensures next { result ≡ next_of self.now result.ring }
+        ensures there { result.ring < length self.now.view.layout.cells }
         ensures few { result.k ≤ 16777215 * cells_in self.now.view.layout.cells result.ring }
     {
         Req {
@@ -81,6 +82,17 @@ impl Submitter {
             next: _,
         } = self;
         place
+    }
+
+    /// Loads the claim word of the cell.
+    pub(crate) fn look_at(&mut self, words: &Words, cell: usize) -> u64
+        requires { CanReach words.now.table_id self.old cell }
+        ensures table { self.new.table ≡ self.old.table }
+        ensures looks { Looks self.old.view self.new.view }
+        ensures shown { Shown self.old.view.layout.cells self.new.view.seen cell result }
+        ensures step { IsStep (claim_at cell) result self.old.view self.new.view }
+    {
+        seat::look(words, &mut self.place, cell)
     }
 
     /// Submits its next request, whose cell is free.
@@ -125,7 +137,7 @@ impl Pass for Submitter {
     ghost knows = { λ s. s };
 
     fn load(&mut self, words: &Words, cell: usize) -> u64 {
-        seat::look(words, &mut self.place, cell)
+        self.look_at(words, cell)
     }
 
     fn tell(&mut self, words: &Words) -> Messenger {

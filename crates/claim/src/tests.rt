@@ -71,5 +71,10 @@ fn texts(rt: HostRuntime) -> Result<(), Fail> {
         format!(in alloc; "{done}")?.as_str(),
         "DONE generation 3 cause 10 reply -125"
     );
+    assert_eq!(rt;
+        format!(in alloc; "{:?}", ClaimWord::held(1))?.as_str(),
+        "ClaimWord { tag: Held, cause: 0, generation: 1, payload: 0 }"
+    );
+    assert_eq!(rt; format!(in alloc; "{:?}", Cause::Take)?.as_str(), "Take");
     Ok(())
 }

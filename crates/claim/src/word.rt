@@ -1,7 +1,7 @@
 //! A claim word, and its 64 bits.
 ghost use Rattle.std.specs.Prelude.{not, ◌≡◌, ◌<◌, ℕ, ℤ, IfSome, IsNone, IsTrue, ◌↔◌, nat_le};
 ghost use Rattle.std.specs.Int.{w32, cast_signed, cast_unsigned};
-ghost use Rattle.claim.specs.Claim.{Claim, allows, cause_of, fits, is_refused, packed};
+ghost use Rattle.claim.specs.Claim.{Claim, allows, cause_of, fits, is_refused, packed, tag_bits, tag_number};
 
 use crate::tag::{Cause, Tag};
 use std::fmt;
@@ -157,17 +157,31 @@ impl ClaimWord {
     }
 }
 
-/// Whether the word has a tag, and a cause and a payload that this tag may have. Without branches, since it stands on
-/// every request's path.
+/// The word's tag, if its cause and payload are such as this tag may have. The test that most words meet comes first, since
+/// this stands on every request's path: nothing but a tag below 4 and the generation.
 #[inline(always)]
-fn says_something(word: u64) -> bool
-    ensures { result ≡ not (is_refused word) }
+fn tag_of(word: u64) -> Option<Tag>
+    ensures refused { IsNone result ↔ IsTrue (is_refused word) }
+    ensures tag { IfSome result (λ t. tag_number t ≡ tag_bits word) }
 {
-    let (tag, cause, payload) = (word % 16, (word >> 4) % 16, word >> 32);
-    let is_done = tag == 5;
-    let names_event = (0 < cause % 8) & (cause % 8 < 7);
-    let fits_cause = if is_done { names_event } else { cause == 0 };
-    (tag < 6) & fits_cause & ((3 < tag) | (payload == 0))
+    let has_tag_alone = ((word >> 2) % 64 == 0) & (word >> 32 == 0);
+    if has_tag_alone {
+        return Some(match word % 4 {
+            0 => Tag::Empty,
+            1 => Tag::Held,
+            2 => Tag::Ready,
+            _ => Tag::Running,
+        });
+    }
+    let event = (word >> 4) % 8;
+    let names_event = (0 < event) & (event < 7);
+    if word % 16 == 5 && names_event {
+        Some(Tag::Done)
+    } else if word % 256 == 4 {
+        Some(Tag::Armed)
+    } else {
+        None
+    }
 }
 
 /// The word's 64 bits.
@@ -188,10 +202,7 @@ pub fn unpack(word: u64) -> Option<ClaimWord>
     ensures fits { IfSome result (λ c. IsTrue (fits c)) }
     ensures again { (c : Claim) → IsTrue (fits c) → packed c ≡ word → result ≡ Some c }
 {
-    let tag = Tag::of_number((word % 16) as u8)?;
-    if !says_something(word) {
-        return None;
-    }
+    let tag = tag_of(word)?;
     Some(ClaimWord {
         tag,
         cause: ((word >> 4) % 16) as u8,

@@ -63,6 +63,12 @@ fn vectors_are_read(rt: HostRuntime) {
         (invalid.user_data(), invalid.flags().bits(), invalid.op()),
         (u64::MAX, 12, Op::Invalid)
     );
+    // 64 zero bytes are no NOP: its fd is -1.
+    let zero = Sqe::of_bytes(&[0; 64]);
+    assert_eq!(rt;
+        (zero.user_data(), zero.flags().bits(), zero.op()),
+        (0, 0, Op::Invalid)
+    );
 }
 
 #[test]
@@ -174,6 +180,25 @@ fn flags_have_their_bits(rt: HostRuntime) {
 }
 
 #[test]
+fn flags_ask_for_drains_and_links(rt: HostRuntime) {
+    for (flags, drains, soft, hard) in [
+        (0, false, false, false),
+        (2, true, false, false),
+        (4, false, true, false),
+        (8, false, false, true),
+        (14, true, true, true),
+    ] {
+        let mut bytes = READ_1;
+        bytes[1] = flags;
+        let read = Sqe::of_bytes(&bytes);
+        assert_eq!(rt;
+            (read.drains(), read.links_soft(), read.links_hard()),
+            (drains, soft, hard)
+        );
+    }
+}
+
+#[test]
 fn replies_that_fail(rt: HostRuntime) {
     let read = Sqe::of_bytes(&READ_1);
     assert_eq!(rt;
@@ -245,6 +270,10 @@ fn texts(rt: HostRuntime) -> Result<(), Fail> {
         format!(in alloc; "{:?}", Op::Close { fd: 1 })?.as_str(),
         "Close { fd: 1 }"
     );
+    assert_eq!(rt;
+        format!(in alloc; "{:?}", Sqe::of_bytes(&NOP_7))?.as_str(),
+        "Sqe { user_data: 7, flags: SqeFlags(0), op: Nop }"
+    );
     Ok(())
 }
 
@@ -263,5 +292,10 @@ fn rows_both_ways(rt: HostRuntime) {
         }
     );
     assert_eq!(rt; Sqe::of_row(row, 4, 1), Sqe::of_bytes(&READ_1));
-    assert_eq!(rt; row.candidate(), Sqe::of_bytes(&READ_1).op());
+    let op = Sqe::of_bytes(&READ_1).op();
+    assert_eq!(rt; row.candidate(), op);
+    assert_eq!(rt; (op.row(), op.fits(), op.allowed_flags()), (row, true, 14));
+    assert!(rt; op.is_written_as(&row, 4) && !op.is_written_as(&row, 16));
+    assert!(rt; !Op::LinkTimeout { ticks: 0x8000_0000 }.fits());
+    assert_eq!(rt; Offset::Current.number(), u64::MAX);
 }

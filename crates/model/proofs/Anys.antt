@@ -9,7 +9,7 @@ use Rattle.model.specs.declared.request.Stage.{Stage}
 use Rattle.model.specs.declared.request.Stage.TheVariants.{Waits, Runs, Armed, Replied, Reaped}
 use Rattle.model.specs.Seen.{is_pending}
 use Rattle.model.specs.Decides.{pending_of, any_below, lists, Listed, blocks, wanted, is_runs, runs_of, severed_in, chain_done, drains_of, held_back, clear_in}
-use Rattle.model.proofs.Requests.{bool_cases, not_true, and_left, and_right}
+use Rattle.model.proofs.Requests.{bool_cases, and_left, and_right}
 
 -- one passes
 pub any_at : (p : ℕ → Bool) (n m : ℕ) → m < n → p m ≡ true → any_below p n ≡ true

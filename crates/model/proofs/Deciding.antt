@@ -1,9 +1,9 @@
 -- From the requests of a state to the whole run.
-use Rattle.std.proofs.Common.{◌≡◌, Bool, true, false, List, ◌∷◌, refl, sym, ap, ◌∙◌, subst, true≢false}
+use Rattle.std.proofs.Common.{◌≡◌, Bool, true, false, refl, sym, ◌∙◌}
 use Rattle.model.specs.declared.event.Event.{Event}
-use Rattle.model.specs.Legal.{MayCome, Allowed, shut_for}
-use Rattle.model.specs.Machine.{Machine, setup_of}
-use Rattle.model.specs.Agrees.{Agrees, Decided, Decision}
+use Rattle.model.specs.Legal.{shut_for}
+use Rattle.model.specs.Machine.{Machine}
+use Rattle.model.specs.Agrees.{Decided, Decision}
 
 -- the state is shut where the event wants it
 pub decision : (b : Bool) (m : Machine) (e : Event) (n : Machine) → m.shut ≡ shut_for e → Decided b m e n → Decision b m e n

@@ -1,5 +1,5 @@
 -- What is kept goes on agreeing with the history when the requests of one ring are written.
-use Rattle.std.proofs.Common.{◌≡◌, ℕ, zero, suc, ◌+◌, ◌-◌, ◌<◌, ◌≤◌, ◌==◌, ◌&&◌, ◌≢◌, not, Bool, true, false, cond, List, [], ◌∷◌, length, get_or, set, Option, Some, None, refl, sym, ap, ◌∙◌, subst, ⊎_elim, true≢false, eqb-true, eq-eqb, get_or-set_same, get_or-set_other, arith}
+use Rattle.std.proofs.Common.{◌≡◌, ℕ, zero, suc, ◌<◌, ◌≤◌, ◌==◌, ◌≢◌, Bool, true, false, cond, List, [], ◌∷◌, length, get_or, set, Some, refl, sym, ap, ◌∙◌, subst, ⊎_elim, true≢false, eqb-true, eq-eqb, get_or-set_same, get_or-set_other, arith}
 use Rattle.std.proofs.lemmas.List.{set-get_or}
 use Rattle.std.specs.List.{slice_get}
 use Rattle.std.proofs.Math.ListN.{length-set}
@@ -7,15 +7,14 @@ use Rattle.std.proofs.lemmas.Option.{slice_get_within}
 use Rattle.model.specs.declared.req.Req.{Req}
 use Rattle.model.specs.declared.event.Event.{Event}
 use Rattle.model.specs.declared.request.Request.{Request}
-use Rattle.model.specs.History.{same, submits, clock_of, was_shut}
+use Rattle.model.specs.History.{submits, clock_of, was_shut}
 use Rattle.model.specs.Pipes.{flow}
 use Rattle.model.specs.Legal.{Setup, MayCome, Legal, shut_for}
-use Rattle.model.specs.Content.{Content}
 use Rattle.model.specs.Machine.{Machine, setup_of}
-use Rattle.model.specs.Seen.{Seen, seen, seen_of, find}
-use Rattle.model.specs.Agrees.{PipeIs, Agrees, Carries, Refuses, Decided}
+use Rattle.model.specs.Seen.{Seen, seen, seen_of}
+use Rattle.model.specs.Agrees.{PipeIs, Agrees, Carries, Decided}
 use Rattle.model.specs.Moves.{put, put_at}
-use Rattle.model.proofs.Requests.{bool_cases, not_true}
+use Rattle.model.proofs.Requests.{bool_cases}
 use Rattle.model.proofs.Listing.{slice_get-set}
 use Rattle.model.proofs.Moving.{put_length}
 

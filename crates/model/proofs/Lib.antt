@@ -1,5 +1,6 @@
 pub mod Alike
 pub mod Anys
+pub mod Asking
 pub mod Beginning
 pub mod Cancels
 pub mod Chained
@@ -23,4 +24,5 @@ pub mod Timed
 pub mod Token
 pub mod Untaken
 pub mod Wide
+pub mod Wording
 pub mod Words

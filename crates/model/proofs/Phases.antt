@@ -1,9 +1,8 @@
 -- What a stage tells of the phase.
-use Rattle.std.proofs.Common.{◌≡◌, ℕ, ◌≤◌, nat_le, not, Bool, true, false, ℤ, Option, Some, None, refl, sym, ap, ◌∙◌, true≢false}
-use Rattle.std.proofs.lemmas.Bool.{leb-true, le-leb}
+use Rattle.std.proofs.Common.{◌≡◌, ℕ, ◌≤◌, Bool, true, false, ℤ, Option, Some, None, refl, sym, true≢false}
+use Rattle.std.proofs.lemmas.Bool.{leb-true}
 use Rattle.model.specs.declared.request.Request.{Request}
 use Rattle.model.specs.declared.request.Stage.{Stage}
-use Rattle.model.specs.declared.request.Stage.TheVariants.{Waits, Runs, Armed, Replied, Reaped}
 use Rattle.model.specs.History.{Cause, Phase, unborn, waits, runs, armed, replied, reaped, IsReplied, IsPending, IsIdle}
 use Rattle.model.specs.Seen.{is_pending, stage_of, stage_at}
 use Rattle.model.specs.Decides.{pending_of}

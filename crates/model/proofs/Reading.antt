@@ -1,7 +1,7 @@
 -- What the requests of a ring tell is what the history tells of them.
-use Rattle.std.proofs.Common.{◌≡◌, ℕ, suc, ◌-◌, ◌<◌, ◌≤◌, ◌==◌, ◌&&◌, ◌||◌, not, Bool, true, false, cond, ℤ, List, length, get_or, Option, Some, None, refl, sym, ap, ◌∙◌, subst, ⊎_elim, true≢false, eqb-true, eq-eqb, arith}
+use Rattle.std.proofs.Common.{◌≡◌, ℕ, ◌-◌, ◌<◌, ◌==◌, ◌&&◌, ◌||◌, not, Bool, true, false, cond, ℤ, List, length, get_or, Option, Some, None, refl, sym, ap, ◌∙◌, subst, ⊎_elim, true≢false, arith}
 use Rattle.std.specs.List.{slice_get}
-use Rattle.std.proofs.lemmas.Option.{slice_get_past, slice_get_within, slice_get-get_or}
+use Rattle.std.proofs.lemmas.Option.{slice_get_within, slice_get-get_or}
 use Rattle.entry.specs.Entry.{Entry, drains}
 use Rattle.entry.specs.declared.op.Op.{Op}
 use Rattle.entry.specs.declared.op.Op.TheVariants.{Invalid}
@@ -9,12 +9,11 @@ use Rattle.model.specs.declared.req.Req.{Req}
 use Rattle.model.specs.declared.event.Event.{Event}
 use Rattle.model.specs.declared.request.Request.{Request}
 use Rattle.model.specs.declared.request.Stage.{Stage}
-use Rattle.model.specs.declared.request.Stage.TheVariants.{Waits, Runs, Armed, Replied, Reaped}
-use Rattle.model.specs.History.{Phase, unborn, waits, runs, armed, replied, reaped, Submission, submission, phase, reply_in, reply, IsReplied, IsPending}
-use Rattle.model.specs.Chains.{joins, severs, previous, before_in, placed_behind, placed_from, placed, IsPlaced, IsBefore, IsChainBefore, Severed, IsClear}
+use Rattle.model.specs.History.{Phase, unborn, waits, runs, armed, replied, reaped, submission, phase, reply_in, reply, IsReplied}
+use Rattle.model.specs.Chains.{joins, placed_behind, placed_from, placed, IsBefore, Severed, IsClear}
 use Rattle.model.specs.Answers.{asks_for, Matches, IsFirst, NoneLeft}
-use Rattle.model.specs.Seen.{is_pending, reply_at, stage_of, Seen, seen, seen_of, handed_of, handed_at, stage_at, handed_in, placed_in}
-use Rattle.model.specs.Decides.{reply_in_of, severs_at, severed_in, pending_of, chain_done, any_below, drains_of, blocks, held_back, clear_in, asked_for, wanted}
+use Rattle.model.specs.Seen.{is_pending, reply_at, stage_of, Seen, seen, seen_of, handed_at, stage_at, handed_in, placed_in}
+use Rattle.model.specs.Decides.{reply_in_of, severed_in, pending_of, chain_done, any_below, drains_of, blocks, held_back, clear_in, asked_for, wanted}
 use Rattle.model.proofs.Requests.{bool_cases, not_true, and_left, and_right}
 use Rattle.model.proofs.Anys.{any_at, any_found}
 use Rattle.model.proofs.Chained.{severed_by, severed_from, done_by, done_from, severs_at_by, severs_at_from}

@@ -1,30 +1,25 @@
 -- The events that one request alone decides: Begin, Park, Sever, Reap, Cut.
-use Rattle.std.proofs.Common.{◌≡◌, ℕ, zero, suc, ◌+◌, ◌-◌, ◌<◌, ◌≤◌, ◌==◌, ◌&&◌, not, Bool, true, false, cond, ℤ, negsuc, List, [], ◌∷◌, length, get_or, Option, Some, None, refl, sym, ap, ◌∙◌, subst, ⊎_elim, true≢false, eqb-true, eq-eqb, sub-one, arith}
+use Rattle.std.proofs.Common.{◌≡◌, ℕ, zero, suc, ◌-◌, ◌&&◌, not, Bool, true, false, cond, List, [], ◌∷◌, Option, Some, None, refl, sym, ap, ◌∙◌, subst, true≢false, eq-eqb, sub-one, arith}
 use Rattle.std.specs.List.{slice_get}
-use Rattle.std.proofs.lemmas.Option.{slice_get_within}
-use Rattle.entry.specs.Entry.{Entry}
-use Rattle.entry.specs.declared.op.Op.{Op}
 use Rattle.model.specs.declared.req.Req.{Req}
 use Rattle.model.specs.declared.event.Event.{Event}
 use Rattle.model.specs.declared.event.Event.TheVariants.{Begin, Park, Sever, Reap, Cut}
 use Rattle.model.specs.declared.request.Request.{Request}
 use Rattle.model.specs.declared.request.Stage.{Stage}
 use Rattle.model.specs.declared.request.Stage.TheVariants.{Waits, Runs, Armed, Replied, Reaped}
-use Rattle.model.specs.History.{Cause, Phase, waits, runs, armed, replied, phase, reaped, unborn, after_reap, IsPending, IsReplied}
-use Rattle.model.specs.Chains.{placed, previous, placed_behind, is_link_timeout_in, gate_of, Open, IsClear, is_timer, Severed}
-use Rattle.model.specs.Legal.{MayCome, shut_for, IsOf}
+use Rattle.model.specs.History.{Phase, waits, runs, armed, replied, phase, reaped, unborn, after_reap, IsPending, IsReplied}
+use Rattle.model.specs.Chains.{previous, is_link_timeout_in, gate_of, Open, IsClear, is_timer}
+use Rattle.model.specs.Legal.{MayCome}
 use Rattle.model.specs.Machine.{Machine, setup_of}
-use Rattle.model.specs.Seen.{Seen, seen, seen_of, stage_of, stage_at, placed_in, handed_in, find}
-use Rattle.model.specs.Decides.{clear_in, severed_in, pending_of}
-use Rattle.model.specs.Agrees.{Agrees, Carries, Decided}
+use Rattle.model.specs.Seen.{Seen, seen, seen_of, stage_of, stage_at, placed_in}
+use Rattle.model.specs.Decides.{severed_in, pending_of}
+use Rattle.model.specs.Agrees.{Agrees, Decided}
 use Rattle.model.proofs.Untaken.{untaken}
-use Rattle.model.proofs.Growth.{reply_of_replied}
-use Rattle.model.specs.Moves.{put, put_stage, is_waits, is_running, placed_as, gate_in, open_in, may_begin, may_park, may_sever, may_reap, may_cut, put_reaped, taken_out, cancelled, is_replied}
-use Rattle.model.proofs.Requests.{bool_cases, not_true, and_left, and_right}
-use Rattle.model.proofs.Moving.{put_length}
+use Rattle.model.specs.Moves.{put_stage, is_waits, is_running, placed_as, gate_in, open_in, may_begin, may_park, may_sever, may_reap, may_cut, put_reaped, taken_out, cancelled, is_replied}
+use Rattle.model.proofs.Requests.{not_true, and_left, and_right}
 use Rattle.model.proofs.Phases.{waits_from, runs_from, replied_from, pending_as, pending_at, pending_from, from_pending}
 use Rattle.model.proofs.Reading.{stage_is, placed_is, placed_of, clear_is, was_clear, kept_before, severed_is, was_severed}
-use Rattle.model.proofs.Keeping.{row, put_row, row_within, Calm, same_setup, here_is, one_kept, decides}
+use Rattle.model.proofs.Keeping.{row, put_row, Calm, same_setup, here_is, one_kept, decides}
 
 -- an event that changes nothing but requests
 calm_begin : (h : List Event) (r : Req) → Calm h (Begin r)

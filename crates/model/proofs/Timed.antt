@@ -1,35 +1,30 @@
 -- The events of the timers: Arm, Expire, Fire, FireMiss, Settle.
-use Rattle.std.proofs.Common.{◌≡◌, ℕ, zero, suc, ◌+◌, ◌-◌, ◌<◌, ◌≤◌, ◌==◌, ◌&&◌, ◌||◌, not, nat_lt, Bool, true, false, cond, ℤ, negsuc, List, [], ◌∷◌, length, get_or, set, Option, Some, None, inl, inr, refl, sym, ap, ◌∙◌, subst, ⊎_elim, true≢false, eqb-true, eq-eqb, sub-one, arith}
+use Rattle.std.proofs.Common.{◌≡◌, ℕ, zero, suc, ◌+◌, ◌-◌, ◌<◌, ◌≤◌, ◌==◌, ◌&&◌, ◌||◌, not, Bool, true, false, cond, negsuc, List, ◌∷◌, Option, Some, None, inl, inr, refl, sym, ap, ◌∙◌, subst, ⊎_elim, true≢false, eqb-true, eq-eqb, arith}
 use Rattle.std.specs.List.{slice_get}
 use Rattle.std.proofs.lemmas.Option.{slice_get_within}
-use Rattle.std.proofs.lemmas.Bool.{leb-true, le-leb}
+use Rattle.std.proofs.lemmas.Bool.{le-leb}
 use Rattle.entry.specs.Entry.{Entry}
 use Rattle.entry.specs.declared.op.Op.{Op}
-use Rattle.entry.specs.declared.op.Op.TheVariants.{Timeout, LinkTimeout, Invalid}
+use Rattle.entry.specs.declared.op.Op.TheVariants.{Invalid}
 use Rattle.model.specs.declared.req.Req.{Req}
 use Rattle.model.specs.declared.event.Event.{Event}
-use Rattle.model.specs.declared.event.Event.TheVariants.{Arm, Expire, Fire, FireMiss, Settle, Take, Miss}
+use Rattle.model.specs.declared.event.Event.TheVariants.{Arm, Expire, Fire, FireMiss, Settle}
 use Rattle.model.specs.declared.request.Request.{Request}
-use Rattle.model.specs.declared.request.Stage.{Stage}
-use Rattle.model.specs.declared.request.Stage.TheVariants.{Waits, Runs, Armed, Replied, Reaped}
-use Rattle.model.specs.declared.request.Found.{Found}
-use Rattle.model.specs.declared.request.Found.TheVariants.{Nothing, Took, Missed}
-use Rattle.model.specs.History.{Cause, by_settle, Phase, unborn, waits, runs, armed, replied, reaped, Hit, nothing, took, missed, submission, phase, hit, fired, data_of, clock_of, IsPending, IsReplied, IsIdle}
-use Rattle.model.specs.Chains.{placed, placed_behind, placed_from, is_timer, is_timeout, is_link_timeout, IsLinkTimeout, IsTarget, IsPlaced}
-use Rattle.model.specs.Answers.{IsFirst}
-use Rattle.model.specs.Legal.{MayCome, shut_for, ticks_of, IsDue, IsOf}
+use Rattle.model.specs.declared.request.Stage.TheVariants.{Armed, Replied}
+use Rattle.model.specs.History.{by_settle, Phase, unborn, waits, runs, armed, replied, reaped, submission, phase, hit, fired, data_of, clock_of, IsReplied, IsIdle}
+use Rattle.model.specs.Chains.{placed, placed_from, is_timeout, is_link_timeout, IsTarget}
+use Rattle.model.specs.Legal.{MayCome, ticks_of, IsDue}
 use Rattle.model.specs.Machine.{Machine, setup_of}
-use Rattle.model.specs.Seen.{Seen, seen, seen_of, stage_of, stage_at, found_of, placed_in, handed_at, handed_in}
-use Rattle.model.specs.Decides.{pending_of, wanted, any_below}
+use Rattle.model.specs.Seen.{Seen, seen, seen_of, stage_of, stage_at, found_of, placed_in, handed_at}
 use Rattle.model.specs.Agrees.{Agrees, Decided}
-use Rattle.model.specs.Moves.{put, put_at, put_stage, put_fired, put_found, put_settled, is_waits, is_running, is_due, is_armed, is_idle, is_answered, placed_as, open_in, fired_of, seeks, is_nothing, falls_due, arms, may_arm, may_expire, runs_out, may_fire, may_fire_miss, may_settle, is_first_wanted, comes_upon, may_take, may_miss, cancelled, timed_out}
+use Rattle.model.specs.Moves.{put, put_at, put_stage, put_fired, put_settled, is_waits, is_running, is_due, is_armed, is_idle, is_answered, placed_as, open_in, fired_of, falls_due, arms, may_arm, may_expire, runs_out, may_fire, may_fire_miss, may_settle, cancelled, timed_out}
 use Rattle.model.proofs.Requests.{bool_cases, not_true, and_left, and_right}
 use Rattle.model.proofs.Listing.{slice_get-set, apart}
 use Rattle.model.proofs.Moving.{put_length}
 use Rattle.model.proofs.Phases.{waits_from, runs_from, due_from, armed_from, idle_from, from_idle, answered_from, from_answered}
-use Rattle.model.proofs.Reading.{stage_is, placed_is, placed_of, kept_before, is_first, was_first}
+use Rattle.model.proofs.Reading.{stage_is, placed_is}
 use Rattle.model.proofs.Keeping.{row, put_row, row_within, Calm, same_setup, here_is, one_kept, ring_kept, put_own, decides}
-use Rattle.model.proofs.Singles.{some_waits, reads, open_is, was_open, waits_unreplied, nothing_taken}
+use Rattle.model.proofs.Singles.{some_waits, reads, open_is, was_open, nothing_taken}
 
 falls_by : (clock d : ℕ) (t : Option ℕ) → falls_due clock d t ≡ true → (n : ℕ) × (t ≡ Some n) × (d ≡ clock + n)
 falls_by clock d None e = absurd (true≢false (sym e))

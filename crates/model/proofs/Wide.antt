@@ -1,5 +1,5 @@
 -- The events of no one request: Tick, Shut. And Submit, which makes one.
-use Rattle.std.proofs.Common.{◌≡◌, ℕ, zero, suc, ◌+◌, ◌-◌, ◌<◌, ◌≤◌, ◌==◌, ◌&&◌, ◌||◌, ◌++◌, not, nat_lt, Bool, true, false, cond, ℤ, List, [], ◌∷◌, length, get_or, set, Option, Some, None, refl, sym, ap, ◌∙◌, subst, ⊎_elim, true≢false, eqb-true, eq-eqb, length-append, arith}
+use Rattle.std.proofs.Common.{◌≡◌, ℕ, zero, suc, ◌<◌, ◌≤◌, ◌==◌, ◌||◌, ◌++◌, Bool, true, false, cond, List, [], ◌∷◌, length, get_or, Option, Some, None, refl, sym, ap, ◌∙◌, subst, ⊎_elim, true≢false, eqb-true, eq-eqb, length-append, arith}
 use Rattle.std.specs.List.{slice_get, list_any}
 use Rattle.std.proofs.lemmas.Option.{slice_get_within, slice_get_past}
 use Rattle.entry.specs.Entry.{Entry}
@@ -10,20 +10,19 @@ use Rattle.model.specs.declared.request.Request.{Request}
 use Rattle.model.specs.declared.request.Stage.{Stage}
 use Rattle.model.specs.declared.request.Stage.TheVariants.{Waits, Runs, Armed, Replied, Reaped}
 use Rattle.model.specs.declared.request.Found.TheVariants.{Nothing}
-use Rattle.model.specs.History.{Phase, runs, Submission, submission, phase, hit, fired, data_of, submits, clock_of, was_shut, adds_to}
-use Rattle.model.specs.Pipes.{flow}
-use Rattle.model.specs.Legal.{Setup, MayCome, Legal, shut_for, Fits}
+use Rattle.model.specs.History.{phase, submits, adds_to}
+use Rattle.model.specs.Legal.{Setup, MayCome, Legal, Fits}
 use Rattle.model.specs.Machine.{Machine, setup_of}
-use Rattle.model.specs.Seen.{Seen, seen, seen_of, stage_of, stage_at, found_of, find}
-use Rattle.model.specs.Decides.{runs_of, is_runs, any_below}
-use Rattle.model.specs.Agrees.{PipeIs, Agrees, Carries, Refuses, Decided}
+use Rattle.model.specs.Seen.{seen, seen_of, stage_of, stage_at}
+use Rattle.model.specs.Decides.{runs_of, is_runs}
+use Rattle.model.specs.Agrees.{Agrees, Carries, Refuses}
 use Rattle.model.specs.Moves.{is_running, runs_in, born}
-use Rattle.model.proofs.Requests.{bool_cases, not_true, and_left, and_right}
+use Rattle.model.proofs.Requests.{bool_cases}
 use Rattle.model.proofs.Anys.{any_at, any_found}
 use Rattle.model.proofs.Listing.{slice_get-push}
 use Rattle.model.proofs.Phases.{runs_from}
 use Rattle.model.proofs.Reading.{stage_is}
-use Rattle.model.proofs.Keeping.{row, row_of, put_row, row_put, row_within, same_setup}
+use Rattle.model.proofs.Keeping.{row, row_of, put_row, row_put, same_setup}
 
 pub tick_carries : (m : Machine) (n : ℕ) → m.shut ≡ false → m.clock ≤ n → n ≤ 2147483647 → Carries m (Tick n) (record m { clock = n })
 tick_carries m n s le top = (

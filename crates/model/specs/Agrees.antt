@@ -1,11 +1,10 @@
 -- When what is kept agrees with a history.
-use Rattle.std.specs.Prelude.{◌≡◌, ℕ, ◌≤◌, Bool, true, false, List, [], ◌∷◌, length, Option, Some, None, slice_get, get_or}
+use Rattle.std.specs.Prelude.{◌≡◌, ℕ, ◌≤◌, Bool, true, false, List, [], ◌∷◌, length, Some, slice_get, get_or}
 use Rattle.model.specs.declared.req.Req.{Req}
 use Rattle.model.specs.declared.event.Event.{Event}
-use Rattle.model.specs.declared.request.Request.{Request}
 use Rattle.model.specs.History.{submits, clock_of, was_shut}
 use Rattle.model.specs.Pipes.{Flow, content, flow}
-use Rattle.model.specs.Legal.{Setup, MayCome, Allowed, Legal}
+use Rattle.model.specs.Legal.{MayCome, Allowed, Legal}
 use Rattle.model.specs.Content.{Content}
 use Rattle.model.specs.Machine.{Machine, setup_of}
 use Rattle.model.specs.Seen.{seen, seen_of, find}

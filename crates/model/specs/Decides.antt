@@ -1,11 +1,11 @@
 -- Decisions on the requests of one ring, in the order of submission.
-use Rattle.std.specs.Prelude.{◌≡◌, ◌∷◌, ℕ, zero, suc, ◌-◌, ◌<◌, ◌==◌, ◌&&◌, ◌||◌, not, nat_lt, Bool, true, false, cond, ℤ, List, [], Option, Some, None, slice_get}
+use Rattle.std.specs.Prelude.{◌≡◌, ◌∷◌, ℕ, zero, suc, ◌==◌, ◌&&◌, ◌||◌, not, Bool, true, false, ℤ, List, [], Option, Some, None, slice_get}
 use Rattle.entry.specs.Entry.{Entry, drains}
 use Rattle.entry.specs.declared.op.Op.{Op}
 use Rattle.model.specs.declared.request.Request.{Request}
 use Rattle.model.specs.declared.request.Stage.{Stage}
 use Rattle.model.specs.declared.request.Stage.TheVariants.{Waits, Runs, Armed, Replied, Reaped}
-use Rattle.model.specs.Chains.{joins, severs, is_link_timeout_in}
+use Rattle.model.specs.Chains.{joins, severs}
 use Rattle.model.specs.Answers.{asks_for}
 use Rattle.model.specs.Seen.{is_pending, reply_at, handed_in, placed_in}
 

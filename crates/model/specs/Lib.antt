@@ -1,5 +1,6 @@
 pub mod Agrees
 pub mod Answers
+pub mod Asked
 pub mod Chains
 pub mod Content
 pub mod Decides
@@ -15,3 +16,4 @@ pub mod Run
 pub mod Seen
 pub mod State
 pub mod Tells
+pub mod Worded

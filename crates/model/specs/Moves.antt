@@ -1,13 +1,12 @@
 -- What the events make of the requests of a ring.
-use Rattle.std.specs.Prelude.{ℕ, suc, ◌+◌, ◌-◌, ◌==◌, ◌&&◌, ◌||◌, not, nat_lt, nat_le, Bool, true, false, cond, ℤ, negsuc, List, [], length, Option, Some, None, slice_get, set}
+use Rattle.std.specs.Prelude.{ℕ, suc, ◌+◌, ◌-◌, ◌==◌, ◌&&◌, ◌||◌, not, nat_lt, nat_le, Bool, true, false, cond, negsuc, List, [], length, Option, Some, None, slice_get, set}
 use Rattle.entry.specs.Entry.{Entry}
 use Rattle.entry.specs.declared.op.Op.{Op}
-use Rattle.entry.specs.declared.op.Op.TheVariants.{Timeout, LinkTimeout, Invalid}
 use Rattle.model.specs.declared.request.Request.{Request}
 use Rattle.model.specs.declared.request.Stage.{Stage}
 use Rattle.model.specs.declared.request.Stage.TheVariants.{Waits, Runs, Armed, Replied, Reaped}
 use Rattle.model.specs.declared.request.Found.{Found}
-use Rattle.model.specs.declared.request.Found.TheVariants.{Nothing, Took, Missed}
+use Rattle.model.specs.declared.request.Found.TheVariants.{Nothing}
 use Rattle.model.specs.Chains.{is_timer, is_timeout, is_link_timeout, is_link_timeout_in}
 use Rattle.model.specs.Legal.{ticks_of}
 use Rattle.model.specs.Seen.{is_pending, stage_at, placed_in}

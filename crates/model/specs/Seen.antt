@@ -1,5 +1,5 @@
 -- What is kept of a request, beside what the history says of it.
-use Rattle.std.specs.Prelude.{◌≡◌, ℕ, ◌-◌, ◌==◌, Bool, true, false, cond, ℤ, List, [], Option, Some, None, slice_get, get_or}
+use Rattle.std.specs.Prelude.{ℕ, ◌-◌, ◌==◌, Bool, true, false, cond, ℤ, List, [], Option, Some, None, slice_get, get_or}
 use Rattle.entry.specs.Entry.{Entry}
 use Rattle.entry.specs.declared.op.Op.{Op}
 use Rattle.model.specs.declared.req.Req.{Req}

@@ -1,21 +1,21 @@
 //! The chains of a ring, read off its requests in the order of submission.
-ghost use Rattle.std.specs.Prelude.{◌≡◌, ◌<◌, ◌≤◌, length};
+ghost use Rattle.std.specs.Prelude.{◌≡◌, ◌<◌, ◌≤◌, ◌⊎◌, length};
 ghost use Rattle.entry.specs.Entry.{fails_op};
 ghost use Rattle.model.specs.Seen.{placed_in, handed_in, with_op};
 ghost use Rattle.model.specs.Decides.{severs_at, severed_in, chain_done};
 
 use crate::request::Request;
-use entry::Op;
+use entry::{Op, Sqe, fails};
 
-/// The reply is a failure, which a soft link doesn't survive.
-pub fn fails(op: Op, res: i32) -> bool
+/// The reply is a failure of the entry, which was placed as it was handed in, or as Invalid.
+fn fails_as(sqe: &Sqe, op: Op, res: i32) -> bool
+    requires { (op ≡ sqe.now.op) ⊎ (op ≡ Op.Invalid) }
     ensures { result ≡ fails_op op res }
 {
-    match op {
-        Op::LinkTimeout { .. } => false,
-        Op::Timeout { etime_success, .. } => res < 0 && !(etime_success && res == -62),
-        Op::Read { len, .. } | Op::Write { len, .. } => res < 0 || res.unsigned_abs() < len,
-        _ => res < 0,
+    if op == Op::Invalid {
+        res < 0
+    } else {
+        fails(sqe, res)
     }
 }
 
@@ -39,7 +39,8 @@ pub fn severs(requests: &[Request], k: usize) -> bool
     let op = placed_op(requests, k);
     let request = &requests[k];
     match request.stage.reply() {
-        Some(res) => fails(op, res) && (!request.sqe.links_hard() || op == Op::Invalid),
+        Some(res) => fails_as(&request.sqe, op, res)
+            && (!request.sqe.links_hard() || op == Op::Invalid),
         None => false,
     }
 }

@@ -2,6 +2,8 @@
 #![tactic(auto)]
 
 mod answer;
+mod answering;
+mod asked;
 pub mod bytes;
 mod cancel;
 mod chain;
@@ -21,12 +23,10 @@ mod state;
 mod steps;
 mod timing;
 mod whole;
+mod worded;
 
 pub use bytes::Bytes;
 pub use error::{Memory, Refused};
 pub use event::Event;
 pub use object::Object;
 pub use req::Req;
-
-#[cfg(test)]
-mod tests;

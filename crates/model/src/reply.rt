@@ -31,7 +31,8 @@ impl Ring {
         }
     }
 
-    fn found(&self, k: u64) -> Found
+    /// What the cancel has done so far.
+    pub fn found(&self, k: u64) -> Found
         ensures { result ≡ found_in (slice_get self.now k) }
     {
         match self.get(k) {

@@ -83,7 +83,7 @@ no_chain None i w = true≢false (sym w)
 no_chain (Some x) i w = ends_chain x i.2 w
 
 -- no request is behind another in a chain
-unchained : (j : List Line) (q r : Req) → Orderly j → IsChainBefore (events_of j) q r → ⊥
+pub unchained : (j : List Line) (q r : Req) → Orderly j → IsChainBefore (events_of j) q r → ⊥
 unchained j q r o c = no_chain (submission (events_of j) (record { ring = r.ring; k = q.k })) (serves_all j (record { ring = r.ring; k = q.k }) o) (c.1 q.k (omega arith) c.0.1)
 
 module _ (s : Setup) (j : List Line) (o : Orderly j) (l : Legal s (events_of j)) where

@@ -72,7 +72,7 @@ module _ (K : List ℕ) (j : List Line) (x w : ℕ) (home : Home) where
   says_empty r c p Armed s is = let y = s.1 in absurd (cc)
   says_empty r c p Done s is = let y = s.3 in absurd (cc)
 
-  not_reaped : (r : Req) (c p : ℕ) (t : Tag) (c' : Cause) (res : ℤ) → Says j r home c p t → phase (events_of j) r ≢ reaped c' res
+  pub not_reaped : (r : Req) (c p : ℕ) (t : Tag) (c' : Cause) (res : ℤ) → Says j r home c p t → phase (events_of j) r ≢ reaped c' res
   not_reaped r c p Empty c' res s is = let y = s.2 in absurd (cc)
   not_reaped r c p Held c' res s is = let y = s.2 in absurd (cc)
   not_reaped r c p Ready c' res s is = let y = s.2 in absurd (cc)

@@ -1,6 +1,6 @@
 //! The table, from its making to its end, and how seats are cut and joined.
 ghost use Rattle.std.specs.Prelude.{◌≡◌, ◌≢◌, ℕ, suc, ◌+◌, ◌*◌, ◌<◌, ◌≤◌, false, [], ◌∷◌, IfOk, length, slice_index};
-ghost use Rattle.std.specs.Mem.Slots.{slots_items};
+ghost use Rattle.std.specs.Mem.Slots.{slots_items, slots_len, IsFull};
 ghost use Rattle.model.specs.declared.req.Req.{Req};
 ghost use Rattle.steps.specs.declared.view.Role.TheVariants.{Poller, Lending, Spent};
 ghost use Rattle.pipe.specs.Answers.{new_conduit};
@@ -126,6 +126,8 @@ pub fn hear(words: &Words, seat: &mut Place, other: Place)
 /// Ends the table.
 pub fn finish(board: BoardTable, seat: Place) -> Closed<Option<Thing>, Global>
     requires fits { seat.table_id ≡ board.shared.table_id }
+    ensures full { IsFull result.words × IsFull result.slots }
+    ensures counts { slots_len result.words ≡ board.shared.table_id.words }
     ensures ended { Ended (record { cells = board.shared.key.cells.value.items; caps = board.shared.key.caps.value.items }) seat.me.0 (slots_items result.words) (slots_items result.slots) }
 {
     board.close_with(seat)

@@ -21,6 +21,7 @@ looked_of b p q o t x =
       legal = subst (λ (j : List Line). Legal (setup_of b.layout) (events_of j)) (sym seen) (subst (λ (L : Layout). Legal (setup_of L) (events_of x.now)) o.layout_is x.legal);
       live = subst (λ (j : List Line). was_shut (events_of j) ≡ false) (sym seen) x.live;
       orderly = subst Orderly (sym seen) x.orderly;
+      looked = ap (λ (z : View). z.heard) x.is;
     }
 
 pub extended_of : (b : Facts) (p q : Pass) (l : Line) (role : Role) → IsOf b p → share_of b role ≡ share_of b p.view.role → q.table ≡ p.table → Extends p.view l role q.view → IsOf b q
@@ -32,4 +33,5 @@ extended_of b p q l role o same t x =
       legal = subst (λ (j : List Line). Legal (setup_of b.layout) (events_of j)) (sym seen) (subst (λ (L : Layout). Legal (setup_of L) (events_of (l ∷ x.mid))) o.layout_is x.legal);
       live = subst (λ (j : List Line). was_shut (events_of j) ≡ false) (sym seen) x.live;
       orderly = subst Orderly (sym seen) x.orderly;
+      looked = ap (λ (z : View). z.heard) x.is;
     }

@@ -1,5 +1,5 @@
 -- What contracts see of a board, and when a pass is one of its own.
-use Rattle.std.specs.Prelude.{◌≡◌, ℕ, ◌+◌, ◌-◌, ◌*◌, ◌<◌, ◌≤◌, false, length}
+use Rattle.std.specs.Prelude.{◌≡◌, ℕ, ◌+◌, ◌-◌, ◌*◌, ◌<◌, ◌≤◌, false, [], length}
 use Rattle.atomic_table.specs.Seated.{TableId}
 use Rattle.model.specs.History.{was_shut}
 use Rattle.model.specs.Legal.{Setup, Legal}
@@ -28,7 +28,7 @@ abbrev pub share_of : Facts → Role → ℕ
 share_of b (Poller n) = 9223372036854775808 - (length b.layout.cells + b.workers)
 share_of b _ = 1
 
--- the pass is one of this board's own
+-- the pass is one of this board's own, and has looked at all that it was told
 pub record IsOf (b : Facts) (p : Pass) : Type 0 where
   pub table_is : p.table ≡ b.table
   pub layout_is : p.view.layout ≡ b.layout
@@ -36,3 +36,4 @@ pub record IsOf (b : Facts) (p : Pass) : Type 0 where
   pub legal : Legal (setup_of b.layout) (seen_of p)
   pub live : was_shut (seen_of p) ≡ false
   pub orderly : Orderly p.view.seen
+  pub looked : p.view.heard ≡ []

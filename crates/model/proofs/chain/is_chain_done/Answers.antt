@@ -1,7 +1,7 @@
-use Rattle.std.proofs.Common.{◌≡◌, ◌∙◌, ◌-◌, ◌<◌, length, ap, sym, arith}
+use Rattle.std.proofs.Common.{◌∙◌, ◌-◌, ◌<◌, length, ap, sym, arith}
 use Rattle.model.specs.Decides.{pending_of}
 use Rattle.std.proofs.lemmas.Option.{slice_get-get_or}
-use Rattle.model.proofs.Kept.{joins_kept, done_unjoined, undone_here, done_before}
+use Rattle.model.proofs.Kept.{joins_kept, undone_here, done_before}
 use Rattle.model.proofs.chain.is_chain_done.Goals as goal
 
 pub returns-then-is_pending : goal.returns-then-is_pending

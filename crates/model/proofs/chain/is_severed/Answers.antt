@@ -1,4 +1,4 @@
-use Rattle.std.proofs.Common.{◌≡◌, ◌∙◌, ◌-◌, ◌<◌, length, sym, arith}
+use Rattle.std.proofs.Common.{◌∙◌, ◌-◌, ◌<◌, length, sym, arith}
 use Rattle.model.proofs.Kept.{joins_kept, severed_unjoined, severed_here, severed_before}
 use Rattle.model.proofs.chain.is_severed.Goals as goal
 

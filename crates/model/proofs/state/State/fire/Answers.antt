@@ -1,8 +1,6 @@
-use Rattle.std.proofs.Common.{arith, subst, sym, refl, ◌≡◌}
+use Rattle.std.proofs.Common.{arith, ◌≡◌}
 use Rattle.model.specs.declared.event.Event.TheVariants.{Fire}
 use Rattle.model.specs.Moves.{put_stage, put_fired, cancelled, may_fire}
-use Rattle.model.specs.declared.req.Req.{Req}
-use Rattle.model.specs.Agrees.{Decided}
 use Rattle.model.proofs.Keeping.{meets, retarget}
 use Rattle.model.proofs.Timed.{fire_decides}
 use Rattle.model.proofs.state.State.fire.Goals as goal

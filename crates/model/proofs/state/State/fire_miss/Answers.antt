@@ -1,8 +1,6 @@
-use Rattle.std.proofs.Common.{arith, subst, sym, refl, ◌≡◌}
+use Rattle.std.proofs.Common.{arith, ◌≡◌}
 use Rattle.model.specs.declared.event.Event.TheVariants.{FireMiss}
 use Rattle.model.specs.Moves.{put_fired, may_fire_miss}
-use Rattle.model.specs.declared.req.Req.{Req}
-use Rattle.model.specs.Agrees.{Decided}
 use Rattle.model.proofs.Keeping.{meets, retarget}
 use Rattle.model.proofs.Timed.{fire_miss_decides}
 use Rattle.model.proofs.state.State.fire_miss.Goals as goal

@@ -1,9 +1,7 @@
-use Rattle.std.proofs.Common.{arith, subst, sym, refl, ◌≡◌}
+use Rattle.std.proofs.Common.{arith, ◌≡◌}
 use Rattle.model.specs.declared.event.Event.TheVariants.{Miss}
 use Rattle.model.specs.declared.request.Found.TheVariants.{Missed}
 use Rattle.model.specs.Moves.{put_found, may_miss}
-use Rattle.model.specs.declared.req.Req.{Req}
-use Rattle.model.specs.Agrees.{Decided}
 use Rattle.model.proofs.Keeping.{meets, retarget}
 use Rattle.model.proofs.Cancels.{miss_decides}
 use Rattle.model.proofs.state.State.miss.Goals as goal

@@ -1,9 +1,7 @@
-use Rattle.std.proofs.Common.{arith, subst, sym, refl, ◌≡◌}
+use Rattle.std.proofs.Common.{arith}
 use Rattle.model.specs.declared.event.Event.TheVariants.{Park}
 use Rattle.model.specs.declared.request.Stage.TheVariants.{Waits}
 use Rattle.model.specs.Moves.{put_stage, may_park}
-use Rattle.model.specs.declared.req.Req.{Req}
-use Rattle.model.specs.Agrees.{Decided}
 use Rattle.model.proofs.Keeping.{meets}
 use Rattle.model.proofs.Singles.{park_decides}
 use Rattle.model.proofs.state.State.park.Goals as goal

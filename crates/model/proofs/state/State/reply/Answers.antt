@@ -1,7 +1,6 @@
-use Rattle.std.proofs.Common.{rules, refl, ◌≡◌, ◌∙◌, ◌<◌, ℤ, Bool, true, false, List, ℕ, length, SFits, w32, to_z, of_z, sym, ap, subst, arith}
+use Rattle.std.proofs.Common.{refl, ◌≡◌, ◌∙◌, ◌<◌, true, false, List, length, w32, to_z, of_z, sym, ap, subst, arith}
 use Rattle.std.specs.List.{slice_get}
 use Rattle.model.specs.declared.request.Request.{Request}
-use Rattle.model.specs.Seen.{placed_in, handed_in, with_op}
 use Rattle.model.specs.Replies.{may_reply, put_reply, bytes_in, moved}
 use Rattle.model.proofs.Ends.{signed}
 use Rattle.model.proofs.Keeping.{row_of}

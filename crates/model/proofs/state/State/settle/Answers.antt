@@ -1,8 +1,6 @@
-use Rattle.std.proofs.Common.{arith, subst, sym, refl, ◌≡◌}
+use Rattle.std.proofs.Common.{arith}
 use Rattle.model.specs.declared.event.Event.TheVariants.{Settle}
 use Rattle.model.specs.Moves.{put_settled, may_settle}
-use Rattle.model.specs.declared.req.Req.{Req}
-use Rattle.model.specs.Agrees.{Decided}
 use Rattle.model.proofs.Keeping.{meets}
 use Rattle.model.proofs.Timed.{settle_decides}
 use Rattle.model.proofs.state.State.settle.Goals as goal

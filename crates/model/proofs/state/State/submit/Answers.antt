@@ -1,5 +1,4 @@
-use Rattle.std.proofs.Common.{rules, ◌≡◌, ℕ, length, ◌<◌, Bool, true, false, sym, ap, ◌∙◌, subst, arith}
-use Rattle.entry.specs.Entry.{Entry}
+use Rattle.std.proofs.Common.{rules, ◌≡◌, length, ◌<◌, sym, ap, ◌∙◌, arith}
 use Rattle.model.specs.Legal.{Fits}
 use Rattle.model.proofs.Keeping.{row_of}
 use Rattle.model.proofs.Wide.{submit_meets}

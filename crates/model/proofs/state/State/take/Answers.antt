@@ -1,9 +1,7 @@
-use Rattle.std.proofs.Common.{arith, subst, sym, refl, ◌≡◌}
+use Rattle.std.proofs.Common.{arith, ◌≡◌}
 use Rattle.model.specs.declared.event.Event.TheVariants.{Take}
 use Rattle.model.specs.declared.request.Found.TheVariants.{Took}
 use Rattle.model.specs.Moves.{put_stage, put_found, cancelled, may_take}
-use Rattle.model.specs.declared.req.Req.{Req}
-use Rattle.model.specs.Agrees.{Decided}
 use Rattle.model.proofs.Keeping.{meets, retarget}
 use Rattle.model.proofs.Cancels.{take_decides}
 use Rattle.model.proofs.state.State.take.Goals as goal

@@ -1,0 +1,16 @@
+pub mod Bounds
+pub mod Cutting
+pub mod Emptying
+pub mod Ending
+pub mod Going
+pub mod Handing
+pub mod Hearing
+pub mod Keeping
+pub mod Knowing
+pub mod Listing
+pub mod Once
+pub mod Reaping
+pub mod Releasing
+pub mod Settling
+pub mod Submitting
+pub mod Telling

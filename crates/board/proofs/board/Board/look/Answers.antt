@@ -1,0 +1,25 @@
+use Rattle.std.proofs.Common.{◌≡◌, ◌≤◌, ℕ, length, sym, ap, ◌∙◌, subst, inl, inr}
+use Rattle.model.specs.declared.req.Req.{Req}
+use Rattle.steps.specs.Cells.{claim_at}
+use Rattle.work.specs.Board.{Facts}
+use Rattle.board.specs.Calls.{Stands}
+use Rattle.board.proofs.Going.{goes_looked, goes_still}
+use Rattle.board.proofs.Knowing.{unborn_ring, found_word, stepped_once, spot_of}
+use Rattle.board.proofs.board.Board.look.Goals as goal
+
+pub returns-in_default-clause-finds : goal.returns-in_default-clause-finds
+returns-in_default-clause-finds g c =
+    let le : length c.args.self.now.layout.cells ≤ c.args.req.ring = subst (λ (b : Facts). length b.layout.cells ≤ c.args.req.ring) c.self.view_is c.in_default.ensures.none in
+    (unborn_ring c.args.self.now (g.P.Pass.knows c.args.pass.now) c.args.req c.requires le, inl le)
+
+pub told-requires : goal.told-requires
+told-requires g c = let e = c.load-word.ensures in found_word c.args.self.now (g.P.Pass.knows c.args.pass.now) (g.P.Pass.knows c.load-word.new.self) c.in-Some.spot.cell c.load-word.result c.requires e.table e.looks e.shown
+
+pub returns-clause-looks : goal.returns-clause-looks
+returns-clause-looks g c = let e = c.load-word.ensures in goes_looked c.args.self.now (g.P.Pass.knows c.args.pass.now) (g.P.Pass.knows c.load-word.new.self) c.requires e.table e.looks
+
+pub returns-clause-finds : goal.returns-clause-finds
+returns-clause-finds g c =
+    let e = c.load-word.ensures in let p = g.P.Pass.knows c.args.pass.now in let q = g.P.Pass.knows c.load-word.new.self in let s = c.in-Some.spot in
+    let at = spot_of c.args.self.now p c.self.inside.grid s.cell s.generation c.args.req c.requires (sym (ap (λ (b : Facts). b.layout.cells) c.self.view_is)) c.in-Some.ensures.some.1 in
+    (subst (λ (r : Req). Stands q.view.seen r c.told.result) at (c.told.ensures.stands p.view.layout.cells q.view.seen s.cell e.shown), inr (stepped_once p q (claim_at s.cell) c.load-word.result e.step))

@@ -1,0 +1,31 @@
+use Rattle.std.proofs.Common.{◌≡◌, ◌<◌, [], refl, sym, ap, ◌∙◌, subst}
+use Rattle.steps.specs.Rule.{Looks, hearing}
+use Rattle.work.specs.Board.{Facts, IsBoard, IsOf}
+use Rattle.work.specs.Passes.{Pass, CanReach}
+use Rattle.work.proofs.Kept.{looked_of}
+use Rattle.board.proofs.Going.{goes_looked}
+use Rattle.board.proofs.Knowing.{first_cell_reached, goes_told}
+use Rattle.board.proofs.board.Board.meet.Goals as goal
+
+pub load-requires : goal.load-requires
+load-requires g c = let k = subst IsBoard c.self.view_is c.self.invariant.0 in subst (λ (b : Facts). CanReach b.table (g.P.Pass.knows c.args.pass.now) 0) (sym c.self.view_is) (first_cell_reached c.args.self.now (g.P.Pass.knows c.args.pass.now) k c.requires.first)
+
+pub tell-messenger-requires : goal.tell-messenger-requires
+tell-messenger-requires g c = let e = c.load.ensures in let p = g.P.Pass.knows c.args.pass.now in let q = g.P.Pass.knows c.load.new.self in let k = subst IsBoard c.self.view_is c.self.invariant.0 in
+    subst (λ (b : Facts). CanReach b.table q 0) (sym c.self.view_is) (first_cell_reached c.args.self.now q k (looked_of c.args.self.now p q c.requires.first e.table e.looks))
+
+pub hear-requires-clause-reach : goal.hear-requires-clause-reach
+hear-requires-clause-reach g c = let k = subst IsBoard c.self.view_is c.self.invariant.0 in subst (λ (b : Facts). CanReach b.table (g.Q.Pass.knows c.args.other.now) 0) (sym c.self.view_is) (first_cell_reached c.args.self.now (g.Q.Pass.knows c.args.other.now) k c.requires.second)
+
+pub load-requires-2 : goal.load-requires-2
+load-requires-2 g c = let p = g.Q.Pass.knows c.args.other.now in let m = c.tell-messenger.result in let k = subst IsBoard c.self.view_is c.self.invariant.0 in
+    let r = first_cell_reached c.args.self.now p k c.requires.second in
+    subst (λ (b : Facts). CanReach b.table (g.Q.Pass.knows c.hear.new.self) 0) (sym c.self.view_is) (subst (λ (z : Pass). CanReach c.args.self.now.table z 0) (sym c.hear.ensures.heard) record { table_is = r.table_is; cell = r.cell })
+
+pub returns-clause-first : goal.returns-clause-first
+returns-clause-first g c = let e = c.load.ensures in let p = g.P.Pass.knows c.args.pass.now in
+    subst (λ (z : Pass). Rattle.board.specs.Calls.Goes c.args.self.now p [] z) (sym c.tell-messenger.ensures.same) (goes_looked c.args.self.now p (g.P.Pass.knows c.load.new.self) c.requires.first e.table e.looks)
+
+pub returns-clause-second : goal.returns-clause-second
+returns-clause-second g c = let e = c.load-2.ensures in let p = g.Q.Pass.knows c.args.other.now in let m = c.tell-messenger.result in
+    goes_told c.args.self.now p (g.Q.Pass.knows c.hear.new.self) (g.Q.Pass.knows c.load-2.new.self) m.view c.requires.second c.hear.ensures.heard (ap (λ (z : Pass). z.view.parts) c.tell-messenger.ensures.told) e.table e.looks

@@ -1,0 +1,76 @@
+use Rattle.std.proofs.Common.{◌≡◌, ◌<◌, ◌≤◌, ◌+◌, ◌*◌, ◌-◌, ℕ, List, [], Option, length, true, refl, sym, ap, ◌∙◌, subst, arith}
+use Rattle.atomic_table.specs.Table.{Me}
+use Rattle.steps.specs.declared.parcel.Thing.{Thing}
+use Rattle.steps.specs.declared.view.View.{View}
+use Rattle.steps.specs.declared.view.Layout.{Layout}
+use Rattle.steps.specs.declared.view.Role.{Role}
+use Rattle.steps.specs.declared.view.Role.TheVariants.{Poller}
+use Rattle.steps.specs.Cells.{total}
+use Rattle.work.specs.Grid.{AreCells, AreCellCounts}
+use Rattle.work.specs.Board.{Facts}
+use Rattle.work.specs.Passes.{Pass, pass_of}
+use Rattle.board.specs.Limits.{is_shape, counts}
+use Rattle.board.specs.New.{IsCutting, IsFresh}
+use Rattle.board.proofs.Bounds.{ShapeSays, shape_says}
+use Rattle.board.proofs.Cutting.{cut_all, poller_fresh}
+use Rattle.board.proofs.board.Board.new.Goals as goal
+
+pub new-requires : goal.new-requires
+new-requires c = let s = shape_says c.args.shape.now (sym c.if-not-is_shape.ensures) in subst AreCells (sym (c.as_slice-2.ensures.value ∙ (c.in_ok-cells.ensures ∙ ap counts c.as_slice.ensures.value))) s.cells
+
+pub set_up-requires-clause-rows : goal.set_up-requires-clause-rows
+set_up-requires-clause-rows c = let s = shape_says c.args.shape.now (sym c.if-not-is_shape.ensures) in
+    let is : c.total.result ≡ total c.in_ok-cells.cells.items = c.total.ensures ∙ ap total (c.in_ok-grid.ensures ∙ c.as_slice-2.ensures.value) in
+    let m : total c.in_ok-cells.cells.items ≤ 16384 = subst (λ (K : List ℕ). total K ≤ 16384) (sym (c.in_ok-cells.ensures ∙ ap counts c.as_slice.ensures.value)) s.cells.1 in
+    (omega arith, is)
+
+pub set_up-requires-clause-caps : goal.set_up-requires-clause-caps
+set_up-requires-clause-caps c = (shape_says c.args.shape.now (sym c.if-not-is_shape.ensures)).caps
+
+pub cut_submitters-requires-clause-cells : goal.cut_submitters-requires-clause-cells
+cut_submitters-requires-clause-cells c = let s = shape_says c.args.shape.now (sym c.if-not-is_shape.ensures) in let e = c.in_ok-table.ensures in
+    let items : c.in_ok-cells.cells.items ≡ counts c.args.shape.now.rings.items = c.in_ok-cells.ensures ∙ ap counts c.as_slice.ensures.value in
+    let first : c.in_ok-table.seat.me.0.layout.cells ≡ counts c.args.shape.now.rings.items = ap (λ (m : Me (Option Thing) View). m.0.layout.cells) e.1 ∙ items in
+    let n : c.len-rings.result ≡ length c.args.shape.now.rings.items = c.len-rings.ensures ∙ c.args.shape.now.rings.ok.0 in let r = s.rings in
+    (subst AreCellCounts (sym first) s.cells.0, n ∙ (sym s.long ∙ sym (ap (λ (K : List ℕ). length K) first)), omega arith)
+
+pub invariant_of-board : goal.invariant_of-board
+invariant_of-board c = let s = shape_says c.args.shape.now (sym c.if-not-is_shape.ensures) in let e = c.in_ok-table.ensures in
+    let items : c.in_ok-cells.cells.items ≡ counts c.args.shape.now.rings.items = c.in_ok-cells.ensures ∙ ap counts c.as_slice.ensures.value in
+    let first : c.in_ok-table.seat.me.0.layout.cells ≡ counts c.args.shape.now.rings.items = ap (λ (m : Me (Option Thing) View). m.0.layout.cells) e.1 ∙ items in
+    let grid : c.in_ok-grid.grid ≡ counts c.args.shape.now.rings.items = c.in_ok-grid.ensures ∙ (c.as_slice-2.ensures.value ∙ items) in let r = s.rings in let l = s.long in let g = ap (λ (K : List ℕ). length K) grid in
+    (record {
+      wide = e.4 ∙ ap (λ (z : ℕ). 8 * z + 72) c.total.ensures;
+      cells = subst AreCells (sym grid) s.cells;
+      rings = (omega arith, omega arith);
+      workers = s.workers;
+    }, e.2 ∙ (items ∙ sym grid))
+
+pub new-requires-2 : goal.new-requires-2
+new-requires-2 c = let s = shape_says c.args.shape.now (sym c.if-not-is_shape.ensures) in let e = c.in_ok-table.ensures in
+    let items : c.in_ok-cells.cells.items ≡ counts c.args.shape.now.rings.items = c.in_ok-cells.ensures ∙ ap counts c.as_slice.ensures.value in
+    let first : c.in_ok-table.seat.me.0.layout.cells ≡ counts c.args.shape.now.rings.items = ap (λ (m : Me (Option Thing) View). m.0.layout.cells) e.1 ∙ items in
+    let k = cut_all c.in_ok-table.seat.me.0.layout c.in_ok-table.table.shared.table_id c.len-rings.result c.args.shape.now.workers c.cut_submitters.new.seat c.cut_workers.new.seat c.in_ok-submitters.ensures.seat c.in_ok-workers.ensures.seat in let n : c.len-rings.result ≡ length c.args.shape.now.rings.items = c.len-rings.ensures ∙ c.args.shape.now.rings.ok.0 in
+    record { role = k.role ∙ ap Poller (n ∙ (sym s.long ∙ (sym (ap (λ (K : List ℕ). length K) first) ∙ sym (ap (λ (L : Layout). length L.cells) k.layout_is)))); bare = k.bare }
+
+pub returns-clause-new : goal.returns-clause-new
+returns-clause-new c = let s = shape_says c.args.shape.now (sym c.if-not-is_shape.ensures) in let e = c.in_ok-table.ensures in
+    let items : c.in_ok-cells.cells.items ≡ counts c.args.shape.now.rings.items = c.in_ok-cells.ensures ∙ ap counts c.as_slice.ensures.value in
+    let first : c.in_ok-table.seat.me.0.layout.cells ≡ counts c.args.shape.now.rings.items = ap (λ (m : Me (Option Thing) View). m.0.layout.cells) e.1 ∙ items in
+    let n : c.len-rings.result ≡ length c.args.shape.now.rings.items = c.len-rings.ensures ∙ c.args.shape.now.rings.ok.0 in let r = s.rings in let l = s.long in
+    let grid : c.in_ok-grid.grid ≡ counts c.args.shape.now.rings.items = c.in_ok-grid.ensures ∙ (c.as_slice-2.ensures.value ∙ items) in
+    let b : Facts = record { table = c.in_ok-table.table.shared.table_id; layout = record { cells = c.in_ok-grid.grid; caps = c.in_ok-table.table.shared.key.caps.value.items }; workers = c.args.shape.now.workers } in
+    let L : Layout = c.in_ok-table.seat.me.0.layout in
+    let cells' : c.in_ok-grid.grid ≡ L.cells = grid ∙ sym first in let caps' : c.in_ok-table.table.shared.key.caps.value.items ≡ L.caps = e.3 ∙ sym (ap (λ (m : Me (Option Thing) View). m.0.layout.caps) e.1) in
+    let layout : b.layout ≡ L = λ i. record { cells = cells' i; caps = caps' i } in
+    let k = cut_all c.in_ok-table.seat.me.0.layout c.in_ok-table.table.shared.table_id c.len-rings.result c.args.shape.now.workers c.cut_submitters.new.seat c.cut_workers.new.seat c.in_ok-submitters.ensures.seat c.in_ok-workers.ensures.seat in let g = ap (λ (K : List ℕ). length K) grid in
+    let same : length b.layout.cells ≡ c.len-rings.result = omega arith in
+    let poller = poller_fresh b L b.table c.len-rings.result c.cut_workers.new.seat k refl layout same (omega arith) s.workers in
+    let sub : b.layout ≡ c.cut_submitters.new.seat.me.0.layout = layout ∙ sym c.in_ok-submitters.ensures.seat.layout_is in record {
+      cells = grid;
+      caps = e.3;
+      pool = refl;
+      poller_is = subst (λ (z : Pass). IsFresh b (Poller (length c.args.shape.now.rings.items)) z) (sym c.new-2.ensures) (subst (λ (z : ℕ). IsFresh b (Poller z) (pass_of c.cut_workers.new.seat)) n poller);
+      submitters_are = (c.in_ok-submitters.ensures.count ∙ n, c.in_ok-submitters.ensures.submitters b refl layout);
+      workers_are = (c.in_ok-workers.ensures.count, c.in_ok-workers.ensures.workers b refl sub);
+    }

@@ -1,0 +1,9 @@
+use Rattle.std.specs.Prelude.{List, vec_capacity}
+use Rattle.model.specs.Legal.{Setup}
+use Rattle.steps.specs.declared.line.Line.{Line}
+use Rattle.board.specs.Remains.{Reports}
+use Rattle.board.proofs.report.add_ring.Given as goal
+
+-- the report goes up to the ring's k-th request
+abbrev pub invariant-loop-k : goal.invariant-loop-k
+invariant-loop-k l = (s : Setup) (j : List Line) → Reports s l.grid j l.fn.remains.claims.items l.fn.remains.slots.items l.fn.lines.items (vec_capacity l.fn.lines) (record { ring = l.ring; k = 0 }) → Reports s l.grid j l.remains.claims.items l.remains.slots.items l.lines.items (vec_capacity l.lines) (record { ring = l.ring; k = l.k })

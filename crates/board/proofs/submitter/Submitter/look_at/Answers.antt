@@ -1,0 +1,5 @@
+use Rattle.board.proofs.Keeping.{seat_looked}
+use Rattle.board.proofs.submitter.Submitter.look_at.Goals as goal
+
+pub invariant_of-self : goal.invariant_of-self
+invariant_of-self c = seat_looked c.self.inside.place c.look.new.seat c.self.inside.ring c.self.inside.next c.self.invariant c.look.ensures.looks c.look.ensures.seat.1

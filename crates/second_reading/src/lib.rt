@@ -1,0 +1,16 @@
+//! The definitions of the one-thread ring, read a second time: a plain slow program that decides from the whole list of
+//! events whether one more may come, and tests that compare it with the ring over all short lists.
+#![tactic(auto)]
+
+#[cfg(test)]
+mod allowed;
+#[cfg(test)]
+mod alphabet;
+#[cfg(test)]
+mod answers;
+#[cfg(test)]
+mod comparison;
+#[cfg(test)]
+mod list;
+#[cfg(test)]
+mod tests;
