@@ -1,0 +1,99 @@
+//! Why a command gives no answer.
+ghost use Rattle.std.specs.Prelude.{◌≡◌};
+
+use driver::RunFault;
+use script::ScriptFault;
+use std::alloc::{AllocError, AllocFailed};
+use std::{fmt, io};
+
+/// Why a command gives no answer.
+#[derive(Drop)]
+pub enum Problem {
+    /// Standard input or a file could not be read.
+    Input,
+    /// The answer could not be written.
+    Output,
+    /// Memory ran out, or a thread was refused.
+    Memory,
+    /// The board could not be ended.
+    Shared,
+    /// Another number of workers than 1 to 64.
+    Workers,
+    /// The script asks for what the board can't serve yet, in the line whose first entry has this label.
+    Unserved(String),
+    /// A line of the script ran out of turns: the label that it waits for, or of the first entry that it submits.
+    Stuck(String),
+    /// A line of the script has a fault.
+    Line(ScriptFault),
+}
+
+impl Problem {
+    ghost use Rattle.commands.specs.Status.{status_of};
+
+    /// The status that the program ends with.
+    pub fn status(&self) -> u8
+        ensures { result ≡ status_of self.now }
+    {
+        match self {
+            Problem::Stuck(_) => 3,
+            Problem::Line(_) => 2,
+            _ => 1,
+        }
+    }
+
+    /// What a read that failed means.
+    pub fn of_input(error: &io::Error) -> Problem {
+        match error.kind() {
+            io::ErrorKind::OutOfMemory => Problem::Memory,
+            _ => Problem::Input,
+        }
+    }
+}
+
+impl fmt::Display for Problem {
+    fn fmt<W: fmt::Write>(&self, f: &mut fmt::Formatter<W>) -> fmt::Result {
+        match self {
+            Problem::Input => write!(f, "fault: input"),
+            Problem::Output => write!(f, "fault: output"),
+            Problem::Memory => write!(f, "fault: memory"),
+            Problem::Shared => write!(f, "fault: shared"),
+            Problem::Workers => write!(f, "fault: workers"),
+            Problem::Unserved(label) => write!(f, "fault: not served yet: {label}"),
+            Problem::Stuck(label) => write!(f, "stuck {label}"),
+            Problem::Line(fault) => write!(f, "{fault}"),
+        }
+    }
+}
+
+impl From<ScriptFault> for Problem {
+    fn from(fault: ScriptFault) -> Problem {
+        match fault {
+            ScriptFault::Memory => Problem::Memory,
+            fault => Problem::Line(fault),
+        }
+    }
+}
+
+impl From<RunFault> for Problem {
+    fn from(fault: RunFault) -> Problem {
+        match fault {
+            RunFault::Stuck(label) => Problem::Stuck(label),
+            RunFault::Unserved(label) => Problem::Unserved(label),
+            RunFault::Memory | RunFault::Thread => Problem::Memory,
+            RunFault::Workers => Problem::Workers,
+            RunFault::Shared => Problem::Shared,
+        }
+    }
+}
+
+impl From<AllocError> for Problem {
+    fn from(_e: AllocError) -> Problem {
+        Problem::Memory
+    }
+}
+
+impl<T: Drop> From<AllocFailed<T>> for Problem {
+    fn from(_e: AllocFailed<T>) -> Problem {
+        Problem::Memory
+    }
+}

@@ -1,0 +1,51 @@
+//! Why a script gave no table.
+use crate::lines::Halt;
+use board::BoardError;
+use std::alloc::{AllocError, AllocFailed};
+use thiserror::Error;
+
+/// Why a script gave no table.
+#[derive(Debug, Drop, Error)]
+pub enum RunFault {
+    /// A line ran out of tries. The label is the one that it waits for, or that of the first entry which it submits. Of
+    /// several lines the lowest ring's is told, the clock's last.
+    #[error("stuck {0}")]
+    Stuck(String),
+    /// A line asks for what the board can't serve yet. The label is that of its first entry, or `tick` for the clock's.
+    #[error("not served yet: {0}")]
+    Unserved(String),
+    /// Memory ran out.
+    #[error("out of memory")]
+    Memory,
+    /// The threads didn't all begin.
+    #[error("a thread was refused")]
+    Thread,
+    /// The number of workers is not one that a board may have, 1 to 64.
+    #[error("not 1 to 64 workers")]
+    Workers,
+    /// The board could not be ended though all threads had come to their ends, or an entry had no completion. No script is
+    /// known for which it comes.
+    #[error("the board could not be ended")]
+    Shared,
+}
+
+impl From<AllocError> for RunFault {
+    fn from(_error: AllocError) -> RunFault {
+        RunFault::Memory
+    }
+}
+
+impl<T: Drop> From<AllocFailed<T>> for RunFault {
+    fn from(_error: AllocFailed<T>) -> RunFault {
+        RunFault::Memory
+    }
+}
+
+impl From<BoardError> for RunFault {
+    fn from(error: BoardError) -> RunFault {
+        match error {
+            BoardError::BadShape => RunFault::Workers,
+            BoardError::Memory => RunFault::Memory,
+        }
+    }
+}

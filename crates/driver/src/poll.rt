@@ -1,0 +1,104 @@
+//! The thread with the poller and a worker: it goes round the requests until all lines are carried out.
+ghost use Rattle.work.specs.Board.{IsOf};
+ghost use Rattle.driver.specs.Parts.{IsDeskOf};
+
+use crate::clock::Clock;
+use crate::stage::Stage;
+use crate::window::Window;
+use board::{Poller, Worker};
+use std::alloc::{AllocError, Global};
+use std::thread;
+
+/// The poller, a worker, the requests of each ring that they look after, and the clock's lines.
+#[derive(Drop)]
+pub(crate) struct Desk {
+    pub poller: Poller,
+    pub worker: Worker,
+    pub windows: Vec<Window>,
+    pub clock: Clock,
+}
+
+/// Windows of so many rings.
+pub(crate) fn windows_of(alloc: Global, rings: u16) -> Result<Vec<Window>, AllocError> {
+    let mut windows = Vec::new(alloc);
+    for ring in 0..rings {
+        windows.push(Window::new(ring))?;
+    }
+    Ok(windows)
+}
+
+/// Goes round until all lines are carried out, and no request can go on.
+pub(crate) fn go_round(stage: &Stage<'_>, mut desk: Desk) -> Desk
+    requires { IsDeskOf stage.now.board.now desk }
+    ensures { IsDeskOf stage.now.board.now result }
+{
+    stage.gate.begin();
+    for _ in 0..u64::MAX {
+        let is_last = stage.gate.is_over() && desk.clock.is_over(stage);
+        let (back, moved) = round(stage, desk);
+        desk = back;
+        if !moved {
+            if is_last {
+                break;
+            }
+            thread::yield_now();
+        }
+    }
+    desk
+}
+
+/// Goes round once: moves what may begin to the workers, answers what is ready, and tries a line of the clock. True where a
+/// request went on.
+fn round(stage: &Stage<'_>, desk: Desk) -> (Desk, bool)
+    requires { IsDeskOf stage.now.board.now desk }
+    ensures { IsDeskOf stage.now.board.now result.0 }
+{
+    let Desk {
+        mut poller,
+        worker,
+        mut windows,
+        mut clock,
+    } = desk;
+    let freed = release_all(stage, &mut poller, &mut windows);
+    let (worker, answered) = serve_all(stage, worker, &windows);
+    clock.turn(stage, &mut poller);
+    let desk = Desk {
+        poller,
+        worker,
+        windows,
+        clock,
+    };
+    (desk, freed || answered)
+}
+
+/// Moves what may begin to the workers, in the order of the rings. True where there was one.
+fn release_all(stage: &Stage<'_>, poller: &mut Poller, windows: &mut Vec<Window>) -> bool
+    requires { IsOf stage.now.board.now poller.old }
+    ensures { IsOf stage.now.board.now poller.new }
+{
+    let mut moved = false;
+    for window in windows.iter_mut() {
+        window.look(stage.board, poller);
+        if window.release(stage.board, poller) {
+            moved = true;
+        }
+    }
+    moved
+}
+
+/// Lets the worker answer what is ready, in the order of the rings. True where there was one.
+fn serve_all(stage: &Stage<'_>, worker: Worker, windows: &[Window]) -> (Worker, bool)
+    requires { IsOf stage.now.board.now worker }
+    ensures { IsOf stage.now.board.now result.0 }
+{
+    let mut worker = worker;
+    let mut moved = false;
+    for window in windows {
+        let (back, is_moved) = window.serve(stage.board, worker);
+        worker = back;
+        if is_moved {
+            moved = true;
+        }
+    }
+    (worker, moved)
+}

@@ -1,0 +1,72 @@
+//! Which lines of a script the board can serve.
+use entry::{Op, Sqe};
+use explore::{Act, Script};
+
+/// The label of the first entry of the first line, ring by ring and then of the clock, that the board can't serve yet;
+/// `tick` for a line that sets the clock.
+pub(crate) fn first_unserved(script: &Script) -> Option<&str> {
+    for lines in &script.acts {
+        if let Some(label) = unserved_line(script, lines.as_slice()) {
+            return Some(label);
+        }
+    }
+    unserved_line(script, script.clock.as_slice())
+}
+
+/// The label of the first of these lines that can't be served.
+fn unserved_line<'a>(script: &'a Script, lines: &'a [Act]) -> Option<&'a str> {
+    for act in lines {
+        if let Some(label) = unserved_act(script, act) {
+            return Some(label);
+        }
+    }
+    None
+}
+
+/// The label of the line, if it can't be served.
+fn unserved_act<'a>(script: &'a Script, act: &'a Act) -> Option<&'a str> {
+    match act {
+        Act::Submit(places) => {
+            if is_batch_served(script, places.as_slice()) {
+                None
+            } else {
+                places.first().and_then(|place| label_at(script, *place))
+            }
+        }
+        Act::Wait(_) => None,
+        Act::Armed(place) => label_at(script, *place),
+        Act::Tick(_) => Some("tick"),
+    }
+}
+
+/// The label of the entry at a place.
+pub(crate) fn label_at(script: &Script, place: u32) -> Option<&str> {
+    match script.entries.get(place as usize) {
+        Some(entry) => Some(entry.label.as_str()),
+        None => None,
+    }
+}
+
+/// Whether the board serves the entries at these places one by one as it would serve them as a batch: each is served, and
+/// none makes the next one wait.
+fn is_batch_served(script: &Script, places: &[u32]) -> bool {
+    let mut was_linked = false;
+    for place in places {
+        let Some(entry) = script.entries.get(*place as usize) else {
+            return false;
+        };
+        if was_linked || !is_served(&entry.sqe) {
+            return false;
+        }
+        was_linked = entry.sqe.links_soft() || entry.sqe.links_hard();
+    }
+    true
+}
+
+/// Whether the board serves such an entry.
+fn is_served(sqe: &Sqe) -> bool {
+    match sqe.op() {
+        Op::Nop | Op::Invalid => !sqe.drains(),
+        _ => false,
+    }
+}

@@ -1,0 +1,29 @@
+//! What all threads of a run share.
+ghost use Rattle.work.specs.Board.{IsOf};
+
+use crate::gate::Gate;
+use board::{Board, Pass, Phase};
+use explore::Script;
+use model::Req;
+
+/// What all threads of a run share: the board, the script, the request of each entry, how often a line is tried, and the
+/// gate.
+#[derive(Clone, Copy)]
+pub(crate) struct Stage<'a> {
+    pub board: &'a Board,
+    pub script: &'a Script,
+    pub homes: &'a [Option<Req>],
+    pub turns: u32,
+    pub gate: &'a Gate,
+}
+
+/// Whether the request of the entry at a place has its reply, as this pass sees it now.
+pub(crate) fn is_replied<P: Pass>(stage: &Stage<'_>, pass: &mut P, place: u32) -> bool
+    requires { IsOf stage.now.board.now (P.knows pass.old) }
+    ensures { IsOf stage.now.board.now (P.knows pass.new) }
+{
+    let Some(Some(req)) = stage.homes.get(place as usize) else {
+        return false;
+    };
+    matches!(stage.board.look(pass, *req), Phase::Done(_) | Phase::Gone)
+}
