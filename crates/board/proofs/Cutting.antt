@@ -26,15 +26,19 @@ Place = Seat (Option Thing) View
 
 -- a pass that has seen nothing is one of the board's own
 pub fresh : (b : Facts) (p : Pass) (role : Role) → p.table ≡ b.table → p.view.layout ≡ b.layout → p.view.role ≡ role → p.view.parts ≡ share_of b role → p.view.heard ≡ [] → p.view.seen ≡ [] → IsFresh b role p
-fresh b p role t l r n hd s = (record {
-  table_is = t;
-  layout_is = l;
-  share_is = n ∙ ap (share_of b) (sym r);
-  legal = subst (λ (j : List Line). Legal (setup_of b.layout) (events_of j)) (sym s) tt;
-  live = ap (λ (j : List Line). was_shut (events_of j)) s;
-  orderly = subst Orderly (sym s) tt;
-  looked = hd;
-}, r, s)
+fresh b p role t l r n hd s = (
+  record {
+    table_is = t;
+    layout_is = l;
+    share_is = n ∙ ap (share_of b) (sym r);
+    legal = subst (λ (j : List Line). Legal (setup_of b.layout) (events_of j)) (sym s) tt;
+    live = ap (λ (j : List Line). was_shut (events_of j)) s;
+    orderly = subst Orderly (sym s) tt;
+    looked = hd;
+  },
+  r,
+  s,
+)
 
 pub submitters_more : (b : Facts) (n : ℕ) (ps : List Pass) (p : Pass) → AreSubmitters b n ps → IsFresh b (Submitter (n + length ps)) p → AreSubmitters b n (ps ++ p ∷ [])
 submitters_more b n [] p k f = (subst (λ (i : ℕ). IsFresh b (Submitter i) p) (omega arith) f, tt)

@@ -48,9 +48,10 @@ signed_reply K j x w g c res shown is = let d = done_word K j x w shown.0 shown.
 stays : (v w : View) (l : Line) (role : Role) (r : Req) (c : Cause) (res : ℤ) (x : Extends v l role w) → stands_for v.role (rings r.ring) ≡ true → phase (events_of v.seen) r ≡ replied c res → (phase (events_of x.mid) r ≡ replied c res) × (data_of (events_of x.mid) r ≡ data_of (events_of v.seen) r)
 stays v w l role r c res x mine is =
     let s : Setup = setup_of v.layout in let legal : Legal s (events_of (x.saw.later ++ v.seen)) = subst (λ (j : List Line). Legal s (events_of j)) x.saw.is (legal_tail s l x.mid x.legal) in
-    let live : was_shut (events_of (x.saw.later ++ v.seen)) ≡ false = subst (λ (j : List Line). was_shut (events_of j) ≡ false) x.saw.is (live_tail s l x.mid x.live) in
-    (ap (λ (j : List Line). phase (events_of j) r) x.saw.is ∙ still_replied s r v.role c res mine x.saw.later v.seen legal live x.saw.none is,
-    ap (λ (j : List Line). data_of (events_of j) r) x.saw.is ∙ still_data s r v.role c res mine x.saw.later v.seen legal live x.saw.none is)
+    let live : was_shut (events_of (x.saw.later ++ v.seen)) ≡ false = subst (λ (j : List Line). was_shut (events_of j) ≡ false) x.saw.is (live_tail s l x.mid x.live) in (
+      ap (λ (j : List Line). phase (events_of j) r) x.saw.is ∙ still_replied s r v.role c res mine x.saw.later v.seen legal live x.saw.none is,
+      ap (λ (j : List Line). data_of (events_of j) r) x.saw.is ∙ still_data s r v.role c res mine x.saw.later v.seen legal live x.saw.none is,
+    )
 
 -- the submitter's note and its Reap
 module _ (v w : View) (r : Req) (word value : ℕ) (c : Cause) (res : ℤ) (role : v.role ≡ Submitter r.ring) (x : ExtendsTwice v (Lent r word value) (Lending r) (Did (Reap r)) (Submitter r.ring) w) (is : phase (events_of v.seen) r ≡ replied c res) where

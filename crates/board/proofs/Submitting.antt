@@ -46,9 +46,11 @@ replied_too p r = absurd r
 -- where the request before was reaped the cell is free, since no request is behind another in a chain
 pub free_by : (K : List ℕ) (j : List Line) (x g : ℕ) → IsCell K x → Orderly j → ((n : ℕ) → n < g → IsReaped (phase (events_of j) (held K x n))) → IsFree K (events_of j) (held K x g)
 free_by K j x g inside o gone q ring k =
-    let b = before_it K x g q inside ring k in let is = b.1 in let r : IsReaped (phase (events_of j) q) = subst (λ (z : Req). IsReaped (phase (events_of j) z)) (sym b.2) (gone b.0 (omega arith)) in
-    (r, λ m chained. ⊎_elim (λ (same' : q ≡ m). subst (λ (z : Req). IsReplied (phase (events_of j) z)) same' (replied_too (phase (events_of j) q) r))
-        (λ c. ⊎_elim (λ a. absurd (unchained j q m o a)) (λ a. absurd (unchained j m q o a)) c) chained)
+    let b = before_it K x g q inside ring k in let is = b.1 in let r : IsReaped (phase (events_of j) q) = subst (λ (z : Req). IsReaped (phase (events_of j) z)) (sym b.2) (gone b.0 (omega arith)) in (
+      r,
+      λ m chained. ⊎_elim (λ (same' : q ≡ m). subst (λ (z : Req). IsReplied (phase (events_of j) z)) same' (replied_too (phase (events_of j) q) r))
+          (λ c. ⊎_elim (λ a. absurd (unchained j q m o a)) (λ a. absurd (unchained j m q o a)) c) chained,
+    )
 
 was_reaped : (p : Rattle.model.specs.History.Phase) → IsReaped p → (c : Cause) × (res : ℤ) × (p ≡ reaped c res)
 was_reaped (reaped c res) r = (c, res, refl)
@@ -62,9 +64,9 @@ all_gone K j x w (suc n) home ok inside free i lt =
     let k : (held K x n).k + c ≡ (held K x (suc n)).k = (let p : ℕ = place_of K x in let e : (b + p) + c ≡ a + p = omega arith in e) in
     let last = was_reaped _ (free (held K x n) refl k).0 in
     let older : n < ok.gen = ⊎_elim (λ y. ltb-true n ok.gen y) (λ y. absurd (⊎_elim
-        (λ v. (let z = ltb-true ok.gen n v in let y = ok.ages.after n z in let t = last.2 in cc))
-        (λ v. (let z = ltb-false ok.gen n v in let y' = ltb-false n ok.gen y in let same' : ok.gen ≡ n = omega arith in not_reaped K j x w home (held K x ok.gen) ok.cause ok.payload ok.tag last.0 last.1 ok.says (ap (λ (m : ℕ). phase (events_of j) (held K x m)) same' ∙ last.2)))
-        (bool_cases (nat_lt ok.gen n)))) (bool_cases (nat_lt n ok.gen)) in
+    (λ v. (let z = ltb-true ok.gen n v in let y = ok.ages.after n z in let t = last.2 in cc))
+    (λ v. (let z = ltb-false ok.gen n v in let y' = ltb-false n ok.gen y in let same' : ok.gen ≡ n = omega arith in not_reaped K j x w home (held K x ok.gen) ok.cause ok.payload ok.tag last.0 last.1 ok.says (ap (λ (m : ℕ). phase (events_of j) (held K x m)) same' ∙ last.2)))
+    (bool_cases (nat_lt ok.gen n)))) (bool_cases (nat_lt n ok.gen)) in
     ok.ages.before i (omega arith)
 
 -- a word that isn't the Empty one of the next request's generation tells that its cell isn't free

@@ -26,8 +26,7 @@ loop-ring-preserved c =
     let v = c.loop-ring.invariant in let k = v.0 in let e = c.next_submitter-place.ensures in let p = k.parts in let lt = c.loop-ring-test.true in let few = c.requires.cells.2 in
     let L = c.args.seat.now.me.0.layout in let t = c.args.words.now.table_id in let i = c.loop-ring.ring in let ps : List Pass = c.loop-ring.submitters.items in let q : Pass = pass_of c.next_submitter-place.result in
     let items : c.push.new.self.items ≡ ps ++ q ∷ [] = c.in_ok-push.ensures.items ∙ ap (λ (z : Pass). ps ++ z ∷ []) c.new.ensures in
-    let large : 1 < c.loop-ring.seat.me.0.parts = omega arith in
-    (
+    let large : 1 < c.loop-ring.seat.me.0.parts = omega arith in (
       cut_submitter L t i 0 c.loop-ring.seat c.next_submitter-place.new.seat c.next_submitter-place.result k e.seat.0 e.submitter.0 e.seat.1 e.submitter.1 large refl,
       ap (λ (l : List Pass). length l) items ∙ (length-append ps (q ∷ []) ∙ ap (λ (n : ℕ). n + 1) v.1),
       λ b x y. subst (AreSubmitters b 0) (sym items) (submitters_more b 0 ps q (v.2 b x y) (subst (λ (n : ℕ). IsFresh b (Submitter n) q) (let l = v.1 in omega arith) (submitter_fresh L t i 0 c.loop-ring.seat c.next_submitter-place.new.seat c.next_submitter-place.result k e.seat.0 e.submitter.0 e.seat.1 e.submitter.1 large b x y))),

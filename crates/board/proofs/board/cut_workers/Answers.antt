@@ -22,8 +22,7 @@ loop-preserved c =
     let v = c.loop.invariant in let r = c.requires.seat in let e = c.next_worker-place.ensures in let lt = c.loop-test.true in let few = c.requires.count in let nf = r.2 in
     let L = c.args.seat.now.me.0.layout in let t = c.args.words.now.table_id in let i = c.loop.counter in let ps : List Pass = c.loop.workers.items in let q : Pass = pass_of c.next_worker-place.result in
     let items : c.push.new.self.items ≡ ps ++ q ∷ [] = c.in_ok-push.ensures.items ∙ ap (λ (z : Pass). ps ++ z ∷ []) c.new.ensures in
-    let k = v.0 r.0 r.1 in let p = k.parts in let large : 1 < c.loop.seat.me.0.parts = omega arith in
-    (
+    let k = v.0 r.0 r.1 in let p = k.parts in let large : 1 < c.loop.seat.me.0.parts = omega arith in (
       λ n start. cut_worker L t n i c.loop.seat c.next_worker-place.new.seat c.next_worker-place.result (v.0 n start) e.seat.0 e.worker.0 e.seat.1 e.worker.1 large,
       ap (λ (l : List Pass). length l) items ∙ (length-append ps (q ∷ []) ∙ ap (λ (n : ℕ). n + 1) v.1),
       λ b x y. subst (AreWorkers b) (sym items) (workers_more b ps q (v.2 b x y) (worker_fresh L t r.0 i c.loop.seat c.next_worker-place.new.seat c.next_worker-place.result k e.seat.0 e.worker.0 e.seat.1 e.worker.1 large b x y)),

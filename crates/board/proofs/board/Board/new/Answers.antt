@@ -38,13 +38,15 @@ pub invariant_of-board : goal.invariant_of-board
 invariant_of-board c = let s = shape_says c.args.shape.now (sym c.if-not-is_shape.ensures) in let e = c.in_ok-table.ensures in
     let items : c.in_ok-cells.cells.items ≡ counts c.args.shape.now.rings.items = c.in_ok-cells.ensures ∙ ap counts c.as_slice.ensures.value in
     let first : c.in_ok-table.seat.me.0.layout.cells ≡ counts c.args.shape.now.rings.items = ap (λ (m : Me (Option Thing) View). m.0.layout.cells) e.1 ∙ items in
-    let grid : c.in_ok-grid.grid ≡ counts c.args.shape.now.rings.items = c.in_ok-grid.ensures ∙ (c.as_slice-2.ensures.value ∙ items) in let r = s.rings in let l = s.long in let g = ap (λ (K : List ℕ). length K) grid in
-    (record {
-      wide = e.4 ∙ ap (λ (z : ℕ). 8 * z + 72) c.total.ensures;
-      cells = subst AreCells (sym grid) s.cells;
-      rings = (omega arith, omega arith);
-      workers = s.workers;
-    }, e.2 ∙ (items ∙ sym grid))
+    let grid : c.in_ok-grid.grid ≡ counts c.args.shape.now.rings.items = c.in_ok-grid.ensures ∙ (c.as_slice-2.ensures.value ∙ items) in let r = s.rings in let l = s.long in let g = ap (λ (K : List ℕ). length K) grid in (
+      record {
+        wide = e.4 ∙ ap (λ (z : ℕ). 8 * z + 72) c.total.ensures;
+        cells = subst AreCells (sym grid) s.cells;
+        rings = (omega arith, omega arith);
+        workers = s.workers;
+      },
+      e.2 ∙ (items ∙ sym grid),
+    )
 
 pub new-requires-2 : goal.new-requires-2
 new-requires-2 c = let s = shape_says c.args.shape.now (sym c.if-not-is_shape.ensures) in let e = c.in_ok-table.ensures in

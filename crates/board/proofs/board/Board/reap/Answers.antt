@@ -44,7 +44,7 @@ take-parcel-requires-clause-done c = let e = c.look_at-word.ensures in let b = c
     let done : Stands m.view.seen c.args.req (Done c.in-Done.res) = subst (λ (z : Standing). Stands m.view.seen c.args.req z) c.in-Done.is stands in
     let layout : p.view.layout ≡ m.view.layout = sym (ap (λ (z : View). z.layout) e.looks.is) in
     subst (λ (L : Layout). IsDone m.view.seen (held L.cells s.cell s.generation) s.generation c.look_at-word.result) layout
-        (is_done p.view.layout.cells m.view.seen s.cell c.look_at-word.result s.generation done.0 c.in-Done.res e.shown (subst (λ (r : Req). phase (seen_of m) r ≡ replied done.0 c.in-Done.res) (sym there) done.1))
+    (is_done p.view.layout.cells m.view.seen s.cell c.look_at-word.result s.generation done.0 c.in-Done.res e.shown (subst (λ (r : Req). phase (seen_of m) r ≡ replied done.0 c.in-Done.res) (sym there) done.1))
 
 pub returns-in-Done-clause-reaped : goal.returns-in-Done-clause-reaped
 returns-in-Done-clause-reaped c = let e = c.look_at-word.ensures in let b = c.args.self.now in let p = c.args.submitter.now in let m = c.look_at-word.new.self in let s = c.in-Some.spot in
@@ -74,17 +74,19 @@ returns-in-Done-clause-completion c = let e = c.look_at-word.ensures in let b = 
     let now = reaped_now m.view q.view c.args.req (outcome_at s.cell) (cond c.has_failed.result 1 0) done.0 c.in-Done.res role' x done.1 in
     let f = c.take-parcel.ensures.parcel in
     let parcel : IsParcel q.view.seen c.args.req (data_of (seen_of m) c.args.req) c.take-parcel.result = subst (λ (r : Req). IsParcel q.view.seen r (data_of (seen_of m) r) c.take-parcel.result) here f in
-    let signed : to_z w32 (of_z w32 c.in-Done.res) ≡ c.in-Done.res = signed_reply p.view.layout.cells m.view.seen s.cell c.look_at-word.result s.generation done.0 c.in-Done.res e.shown (subst (λ (r : Req). phase (seen_of m) r ≡ replied done.0 c.in-Done.res) (sym there) done.1) in
-    (record {
-      entry = c.take-parcel.result.sqe;
-      bytes = parcel.0;
-      end_of_batch = c.take-parcel.result.last;
-      handed_in = parcel.1;
-      req_is = refl;
-      user_data = c.user_data.ensures;
-      reply_is = reply_now m.view q.view c.args.req (outcome_at s.cell) (cond c.has_failed.result 1 0) done.0 c.in-Done.res role' x done.1 ∙ ap Some (sym signed);
-      buffer = parcel.2 ∙ ap (λ (d : List ℕ). over d parcel.0) (sym (data_now m.view q.view c.args.req (outcome_at s.cell) (cond c.has_failed.result 1 0) done.0 c.in-Done.res role' x done.1));
-    }, subst IsReaped (sym now) tt)
+    let signed : to_z w32 (of_z w32 c.in-Done.res) ≡ c.in-Done.res = signed_reply p.view.layout.cells m.view.seen s.cell c.look_at-word.result s.generation done.0 c.in-Done.res e.shown (subst (λ (r : Req). phase (seen_of m) r ≡ replied done.0 c.in-Done.res) (sym there) done.1) in (
+      record {
+        entry = c.take-parcel.result.sqe;
+        bytes = parcel.0;
+        end_of_batch = c.take-parcel.result.last;
+        handed_in = parcel.1;
+        req_is = refl;
+        user_data = c.user_data.ensures;
+        reply_is = reply_now m.view q.view c.args.req (outcome_at s.cell) (cond c.has_failed.result 1 0) done.0 c.in-Done.res role' x done.1 ∙ ap Some (sym signed);
+        buffer = parcel.2 ∙ ap (λ (d : List ℕ). over d parcel.0) (sym (data_now m.view q.view c.args.req (outcome_at s.cell) (cond c.has_failed.result 1 0) done.0 c.in-Done.res role' x done.1));
+      },
+      subst IsReaped (sym now) tt,
+    )
 
 pub returns-in-Done-clause-once : goal.returns-in-Done-clause-once
 returns-in-Done-clause-once c = let e = c.look_at-word.ensures in let b = c.args.self.now in let p = c.args.submitter.now in let m = c.look_at-word.new.self in let s = c.in-Some.spot in

@@ -51,7 +51,7 @@ returns-then-look_at-empty-clause-reason c = let e = c.look_at.ensures in let b 
     let served = c.is_served.ensures.0 c.if-not-is_served.false in let fits : Fits c.args.sqe c.args.buffer.items = subst (λ (z : ℕ). FitsOp c.args.sqe.op z) (c.len.ensures ∙ c.args.buffer.ok.0) (c.fits_length.ensures.0 c.if-not-fits_length.false) in
     λ ring role'. (let r = n.role in let same' : i ≡ ring = cc in
     subst (λ (z : ℕ). (Serves c.args.sqe true × Fits c.args.sqe c.args.buffer.items) × (¬ IsFree b.layout.cells (seen_of m) (next_of p z)) × Stepped p m) same'
-        ((served, fits), full b p m c.requires e.table e.looks i n.role s.cell s.generation inside at c.look_at.result e.shown (λ is. c.if-look_at-empty.true (is ∙ sym c.empty.ensures)), stepped_once p m (claim_at s.cell) c.look_at.result e.step))
+    ((served, fits), full b p m c.requires e.table e.looks i n.role s.cell s.generation inside at c.look_at.result e.shown (λ is. c.if-look_at-empty.true (is ∙ sym c.empty.ensures)), stepped_once p m (claim_at s.cell) c.look_at.result e.step))
 
 pub returns-then-generation-eq-LAST_GENERATION-clause-refused : goal.returns-then-generation-eq-LAST_GENERATION-clause-refused
 returns-then-generation-eq-LAST_GENERATION-clause-refused c = let e = c.look_at.ensures in (goes_looked c.args.self.now c.args.submitter.now c.look_at.new.self c.requires e.table e.looks, refl)
@@ -67,7 +67,7 @@ returns-then-generation-eq-LAST_GENERATION-clause-reason c = let e = c.look_at.e
     let is : c.look_at.result ≡ word_of Empty 0 s.generation 0 = c.if-look_at-empty.false ∙ c.empty.ensures in
     λ ring role'. (let r = n.role in let same' : i ≡ ring = cc in
     subst (λ (z : ℕ). (Serves c.args.sqe true × Fits c.args.sqe c.args.buffer.items) × IsFree b.layout.cells (seen_of m) (next_of p z) × ((next_of p z).k / cells_in b.layout.cells z ≡ 16777215)) same'
-        ((served, fits), free b p m c.requires e.table e.looks i n.role s.cell s.generation inside at c.look_at.result e.shown is small', subst (λ (r : Req). r.k / cells_in b.layout.cells r.ring ≡ 16777215) at (generation_is b.layout.cells s.cell s.generation inside ∙ c.if-generation-eq-LAST_GENERATION.true)))
+    ((served, fits), free b p m c.requires e.table e.looks i n.role s.cell s.generation inside at c.look_at.result e.shown is small', subst (λ (r : Req). r.k / cells_in b.layout.cells r.ring ≡ 16777215) at (generation_is b.layout.cells s.cell s.generation inside ∙ c.if-generation-eq-LAST_GENERATION.true)))
 
 pub hand_in-requires-clause-free : goal.hand_in-requires-clause-free
 hand_in-requires-clause-free c = let e = c.look_at.ensures in let b = c.args.self.now in let p = c.args.submitter.now in let m = c.look_at.new.self in let s = c.in-Some.spot in let n = c.next_request-req.ensures in let i = c.next_request-req.result.ring in
