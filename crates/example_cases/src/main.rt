@@ -10,7 +10,8 @@
 #![tactic(auto)]
 
 use explore::{ExploreError, Script, Table, find_history, outcomes};
-use model::{Event, Object};
+use model::Event;
+use ring::Object;
 use script::{read_script, read_table, write_table};
 use std::io;
 use std::io::Read;

@@ -2,8 +2,9 @@
 
 use crate::entry_line::Line;
 use crate::step::Step;
-use model::{Event, Memory, Object, Refused, Req};
+use model::{Event, Req};
 use prep::with_user_data;
+use ring::{Memory, Object, Refused};
 use std::alloc::{AllocError, Global};
 
 /// What went otherwise than the walk says, and at which of its steps, from 1.

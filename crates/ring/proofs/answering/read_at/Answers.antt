@@ -1,0 +1,13 @@
+use Rattle.std.proofs.Common.{◌≡◌, refl, sym, subst}
+use Rattle.std.specs.Prelude.{IfOk}
+use Rattle.std.proofs.lemmas.Option.{slice_get_read}
+use Rattle.model.specs.Answers.{Answer}
+use Rattle.ring.specs.Asked.{told_by}
+use Rattle.ring.proofs.Ends.{read_there, reached_as}
+use Rattle.ring.proofs.answering.read_at.Goals as goal
+
+pub returns-in-Read : goal.returns-in-Read
+returns-in-Read c =
+    let is = slice_get_read _ _ _ _ refl c.in-Read.ensures.within c.index-pipes-p.is in
+    let e = read_there _ _ _ _ is c.args.len (reached_as _ c.args.fd _ c.ranges.fd c.in-Read.ensures.end) in
+    subst (λ (a : Answer). IfOk c.read_now.result (λ x. x ≡ told_by a)) (sym e) c.read_now.ensures

@@ -1,0 +1,13 @@
+pub mod Agrees
+pub mod Asked
+pub mod Content
+pub mod Decides
+pub mod Fresh
+pub mod Machine
+pub mod Moves
+pub mod Reaches
+pub mod Replies
+pub mod Run
+pub mod Seen
+pub mod Tells
+pub mod Worded

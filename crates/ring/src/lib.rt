@@ -1,0 +1,26 @@
+//! The one-thread ring, which carries events out and accepts exactly the legal histories.
+#![tactic(auto)]
+
+mod answer;
+mod answering;
+mod asked;
+mod cancel;
+mod chain;
+mod copy;
+pub mod error;
+mod history;
+mod moves;
+pub mod object;
+mod pipe;
+mod reads;
+mod reply;
+mod request;
+mod ring;
+mod state;
+mod steps;
+mod timing;
+mod whole;
+mod worded;
+
+pub use error::{Memory, Refused};
+pub use object::Object;
