@@ -1,9 +1,10 @@
 //! The commands of the program: what each reads, answers and writes.
 #![tactic(auto)]
 
-pub mod answer;
-pub mod job;
-pub mod problem;
+mod answer;
+mod command_line;
+mod job;
+mod problem;
 
 pub use answer::perform;
 pub use job::{Job, Request, request_of};

@@ -2,6 +2,7 @@
 ghost use Rattle.std.specs.Prelude.{◌≡◌};
 
 use driver::RunFault;
+use explore::ExploreError;
 use script::ScriptFault;
 use std::alloc::{AllocError, AllocFailed};
 use std::{fmt, io};
@@ -19,6 +20,8 @@ pub enum Problem {
     Shared,
     /// Another number of workers than 1 to 64.
     Workers,
+    /// A search met more states than the program's limit.
+    TooManyStates,
     /// The script asks for what the board can't serve yet, in the line whose first entry has this label.
     Unserved(String),
     /// A line of the script ran out of turns: the label that it waits for, or of the first entry that it submits.
@@ -58,6 +61,7 @@ impl fmt::Display for Problem {
             Problem::Memory => write!(f, "fault: memory"),
             Problem::Shared => write!(f, "fault: shared"),
             Problem::Workers => write!(f, "fault: workers"),
+            Problem::TooManyStates => write!(f, "fault: too many states"),
             Problem::Unserved(label) => write!(f, "fault: not served yet: {label}"),
             Problem::Stuck(label) => write!(f, "stuck {label}"),
             Problem::Line(fault) => write!(f, "{fault}"),
@@ -70,6 +74,15 @@ impl From<ScriptFault> for Problem {
         match fault {
             ScriptFault::Memory => Problem::Memory,
             fault => Problem::Line(fault),
+        }
+    }
+}
+
+impl From<ExploreError> for Problem {
+    fn from(error: ExploreError) -> Problem {
+        match error {
+            ExploreError::TooMany => Problem::TooManyStates,
+            ExploreError::Memory => Problem::Memory,
         }
     }
 }

@@ -1,37 +1,58 @@
 //! The program: scripts of submissions, carried out.
 #![tactic(auto)]
 
+use clap::error::ErrorKind;
 use commands::{Request, perform, request_of};
 use std::fs::File;
 use std::io;
-use std::io::Write;
+use std::io::{Read, Write};
 use std::process::ExitCode;
 use std::thread::Threads;
 
 #[cfg(test)]
 mod tests;
 
-/// Opens the script of a request, and carries it out by threads.
-fn serve<T: Threads + Sync>(threads: &T, rt: &HostRuntime, request: &Request<'_>) -> u8 {
-    let alloc = rt.alloc();
+/// Carries a request out over its opened script. A fault of opening the table is told before the script is read.
+fn serve_script<T: Threads + Sync, R: Read>(
+    threads: &T,
+    rt: &HostRuntime,
+    request: &Request<'_>,
+    script: &mut R,
+) -> u8 {
+    let (alloc, job) = (rt.alloc(), &request.job);
     let (mut out, mut err) = (rt.stdout(), rt.stderr());
-    if request.file == "-" {
+    let Some(path) = request.table else {
         return perform(
             threads,
             alloc,
-            request.job,
-            &mut rt.stdin(),
+            job,
+            script,
+            &mut io::empty(),
             &mut out,
             &mut err,
         );
+    };
+    match File::open(rt, path) {
+        Ok(mut table) => perform(threads, alloc, job, script, &mut table, &mut out, &mut err),
+        Err(_) => refused(&mut err),
+    }
+}
+
+/// Opens the script of a request, and carries it out by threads.
+fn serve<T: Threads + Sync>(threads: &T, rt: &HostRuntime, request: &Request<'_>) -> u8 {
+    if request.file == "-" {
+        return serve_script(threads, rt, request, &mut rt.stdin());
     }
     match File::open(rt, request.file) {
-        Ok(mut script) => perform(threads, alloc, request.job, &mut script, &mut out, &mut err),
-        Err(_) => {
-            let _ = writeln!(err, "fault: input");
-            1
-        }
+        Ok(mut script) => serve_script(threads, rt, request, &mut script),
+        Err(_) => refused(&mut rt.stderr()),
     }
+}
+
+/// Says that a file can't be opened.
+fn refused<E: Write>(err: &mut E) -> u8 {
+    let _ = writeln!(err, "fault: input");
+    1
 }
 
 /// Reads the command line and carries it out. The answer is the program's status.
@@ -46,6 +67,9 @@ fn run<T: Threads + Sync>(threads: &T, rt: &HostRuntime) -> io::Result<u8> {
         Ok(request) => Ok(serve(threads, rt, &request)),
         Err(error) => {
             error.print(rt)?;
+            if error.kind() == ErrorKind::DisplayVersion {
+                println!(rt)?;
+            }
             Ok(if error.use_stderr() { 1 } else { 0 })
         }
     }

@@ -2,15 +2,22 @@
 use super::*;
 use commands::Job;
 
-/// A script that isn't there is a fault of input.
+/// A script that isn't there, and a table that isn't, are faults of input.
 #[test]
-fn a_missing_file(rt: HostRuntime) {
+fn missing_files(rt: HostRuntime) {
     let request = Request {
         job: Job::Run {
             workers: 1,
             turns: 1,
         },
         file: "no/such/file",
+        table: None,
+    };
+    assert_eq!(rt; serve(&rt, &rt, &request), 1);
+    let request = Request {
+        job: Job::History,
+        file: "-",
+        table: Some("no/such/file"),
     };
     assert_eq!(rt; serve(&rt, &rt, &request), 1);
 }

@@ -1,0 +1,88 @@
+//! The command line, as clap reads it.
+use clap::{Arg, ArgAction, Command, value_parser};
+use std::alloc::{AllocError, Global};
+
+/// The program's commands.
+pub fn command<'a>(alloc: Global) -> Result<Command<'a>, AllocError> {
+    Command::new(alloc, "ringrun")
+        .version("0.1.0")
+        .about(
+            "Carries scripts of submissions out on a ring runtime with the behaviour of io_uring.",
+        )
+        .after_help("Example:\n  ringrun run examples/first.ring\nprints\n  a 0")
+        .subcommand_required(true)
+        .arg_required_else_help(true)
+        .subcommand(run(alloc)?)?
+        .subcommand(outcomes(alloc)?)?
+        .subcommand(history(alloc)?)
+}
+
+/// The command `run`.
+fn run<'a>(alloc: Global) -> Result<Command<'a>, AllocError> {
+    Command::new(alloc, "run")
+        .about("Carries a script out by threads, and prints its table of completions.")
+        .long_about(
+            "Carries a script out by threads, and prints its table of completions: a line for each entry, with its label and \
+             its reply. Each ring has a thread of its own; one more has the poller and one of the workers, which answers all \
+             requests, whatever the number of workers.",
+        )
+        .after_help(
+            "Example:\n  printf 'ring 4\\non 0\\nnop a\\nsubmit\\nwait a\\n' | ringrun run -\nprints\n  a 0\n\nStatus 0: the table was printed. 1: one line 'fault: ..' says why not. 2: the script has a fault, told as\n'line N: ..'. 3: a line ran out of turns, told as 'stuck L' with the label that it waits for.",
+        )
+        .arg(workers(alloc))?
+        .arg(turns(alloc))?
+        .arg(file(alloc))
+}
+
+/// The command `outcomes`.
+fn outcomes<'a>(alloc: Global) -> Result<Command<'a>, AllocError> {
+    Command::new(alloc, "outcomes")
+        .about("Lists every table of completions that a script can have, whatever the schedule.")
+        .after_help(
+            "Example:\n  printf 'ring 4\\non 0\\nnop a\\nsubmit\\nwait a\\n' | ringrun outcomes -\nprints\n  a 0\n\n  tables 1",
+        )
+        .arg(file(alloc))
+}
+
+/// The command `history`.
+fn history<'a>(alloc: Global) -> Result<Command<'a>, AllocError> {
+    Command::new(alloc, "history")
+        .about(
+            "Prints one legal history of a script that ends in a given table, or that there is none.",
+        )
+        .after_help(
+            "Example: with the line `a 0` in the file TABLE,\n  printf 'ring 4\\non 0\\nnop a\\nsubmit\\nwait a\\n' | ringrun history - TABLE\nprints\n  submit a\n  begin a\n  reply a 0\n  shut",
+        )
+        .arg(file(alloc))?
+        .arg(
+            Arg::new(alloc, "TABLE")
+                .required(true)
+                .action(ArgAction::Set)
+                .help("The file with the table"),
+        )
+}
+
+fn workers<'a>(alloc: Global) -> Arg<'a> {
+    Arg::new(alloc, "workers")
+        .long("workers")
+        .value_name("N")
+        .value_parser(value_parser!(u32).range(1..=64))
+        .default_value("2")
+        .help("How many workers the board has, 1 to 64; for now one of them answers all requests")
+}
+
+fn turns<'a>(alloc: Global) -> Arg<'a> {
+    Arg::new(alloc, "turns")
+        .long("turns")
+        .value_name("N")
+        .value_parser(value_parser!(u32).range(1..))
+        .default_value("10000000")
+        .help("How often a line that waits is tried, 1 to 4294967295")
+}
+
+fn file<'a>(alloc: Global) -> Arg<'a> {
+    Arg::new(alloc, "FILE")
+        .required(true)
+        .action(ArgAction::Set)
+        .help("The file with the script; - is standard input")
+}
