@@ -1,5 +1,5 @@
 //! What the words of the command line ask for.
-ghost use Rattle.std.specs.Prelude.{OnOk};
+ghost use Rattle.std.specs.Prelude.{◌≤◌, IfOk};
 ghost use Rattle.commands.specs.Jobs.{IsWithin};
 
 use crate::command_line::command;
@@ -37,7 +37,7 @@ const TURNS: u32 = 10_000_000;
 /// The request that the words of a command line make, the program's name first. The error is clap's text: help, the version,
 /// or what is wrong with the words.
 pub fn request_of<'a>(alloc: Global, words: &'a [&'a str]) -> Result<Request<'a>, Error>
-    ensures { OnOk result (λ request. IsWithin request.job) }
+    ensures { IfOk result (λ request. IsWithin request.job) }
 {
     let matches = command(alloc)?.try_get_matches_from(words)?;
     let (name, given) = matches.subcommand().unwrap_or(("run", &matches));
@@ -64,8 +64,8 @@ fn job_of(name: &str, given: &ArgMatches<'_>) -> Job
 
 /// The number given for a word, from 1 to `most`, or else the usual one. The parser of the word has refused all others.
 fn number_of(given: &ArgMatches<'_>, word: &str, most: u32, usual: u32) -> u32
-    requires { 1 ≤ usual ≤ most }
-    ensures { 1 ≤ result ≤ most }
+    requires { (1 ≤ usual) × (usual ≤ most) }
+    ensures { (1 ≤ result) × (result ≤ most) }
 {
     match given.get_one::<u32>(word) {
         Some(number) if 1 <= number && number <= most => number,
