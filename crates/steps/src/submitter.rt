@@ -16,7 +16,7 @@ ghost use Rattle.steps.specs.Journal.{events_of, lent, Serves};
 ghost use Rattle.steps.specs.Cells.{ring_of, held, user_at, outcome_at, slot_at, word_of, bits_of, cause_bits, IsParcel};
 ghost use Rattle.steps.specs.Rule.{Extends, ExtendsTwice, Vacant, Fits, IsSameSeat, IsDone};
 
-use crate::parcel::{Parcel, Thing};
+use crate::parcel::{Parcel, Thing, parcel_of};
 use crate::table::{Place, Words};
 use crate::{claims, plays};
 
@@ -67,18 +67,6 @@ pub fn submit(words: &Words, seat: &mut Place, cell: usize, generation: u32, par
 {
     fill(words, seat, cell, generation, parcel);
     hand_in(words, seat, cell, generation);
-}
-
-/// What a full slot has.
-fn parcel_of(thing: Option<Thing>) -> Parcel
-    requires full { (p : Parcel) × (thing ≡ Some (Full p)) }
-    ensures is { thing ≡ Some (Full result) }
-{
-    let Some(thing) = thing else { unreachable!() };
-    let Thing::Full(parcel) = thing else {
-        unreachable!()
-    };
-    parcel
 }
 
 /// Notes whether the reply was a failure, takes the slot of a request that has replied, and empties it.

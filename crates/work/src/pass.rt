@@ -30,7 +30,7 @@ impl Messenger {
         requires { IsMessengerSeat place }
         ensures { result ≡ pass_of place }
     {
-        Messenger { place }
+        Self { place }
     }
 
     /// Its seat.
