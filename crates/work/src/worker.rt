@@ -1,5 +1,5 @@
 //! A worker's pass, and a worker that runs a request.
-ghost use Rattle.std.specs.Prelude.{◌≡◌, ◌≢◌, ℕ, ◌<◌, ◌≤◌, ◌⊎◌, [], ◌∷◌, true, Some, None, length, IfOk, IfErr};
+ghost use Rattle.std.specs.Prelude.{◌≡◌, ◌<◌, ◌≤◌, ◌⊎◌, [], ◌∷◌, true, Some, None, length, IfOk, IfErr};
 ghost use Rattle.model.specs.declared.event.Event.TheVariants.{Begin, Park};
 ghost use Rattle.steps.specs.declared.line.Line.TheVariants.{Did};
 ghost use Rattle.steps.specs.declared.parcel.Parcel.{Parcel};
