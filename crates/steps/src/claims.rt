@@ -1,5 +1,5 @@
 //! The claim words that steps write and look for.
-ghost use Rattle.std.specs.Prelude.{◌≡◌, ◌+◌, ◌<◌, cond, ℕ};
+ghost use Rattle.std.specs.Prelude.{◌≡◌, ◌<◌, cond, ℕ};
 ghost use Rattle.claim.specs.declared.tag.Tag.TheVariants.{Empty, Held, Ready, Running, Done};
 ghost use Rattle.model.specs.History.{by_reply};
 ghost use Rattle.steps.specs.Cells.{word_of, bits_of, cause_bits};

@@ -1,4 +1,8 @@
 //! What lies in a slot of the table.
+ghost use Rattle.std.specs.Prelude.{◌≡◌, Some};
+ghost use Rattle.steps.specs.declared.parcel.Parcel.{Parcel};
+ghost use Rattle.steps.specs.declared.parcel.Thing.TheVariants.{Full};
+
 use entry::Sqe;
 use pipe::Pipe;
 
@@ -16,4 +20,16 @@ pub struct Parcel {
 pub enum Thing {
     Full(Parcel),
     Piped(Pipe),
+}
+
+/// What a slot with a request has.
+pub fn parcel_of(thing: Option<Thing>) -> Parcel
+    requires full { (p : Parcel) × (thing ≡ Some (Full p)) }
+    ensures is { thing ≡ Some (Full result) }
+{
+    let Some(thing) = thing else { unreachable!() };
+    let Thing::Full(parcel) = thing else {
+        unreachable!()
+    };
+    parcel
 }

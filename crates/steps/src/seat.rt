@@ -1,25 +1,21 @@
 //! Single steps of a seat on a request's path.
-ghost use Rattle.std.specs.Prelude.{◌≡◌, ◌≢◌, ℕ, ℤ, suc, ◌+◌, ◌*◌, ◌<◌, ◌≤◌, Bool, true, false, cond, List, [], ◌∷◌, Option, Some, None};
+ghost use Rattle.std.specs.Prelude.{◌≡◌, ◌≢◌, ℕ, ◌+◌, ◌*◌, ◌<◌, true, [], Some};
 ghost use Rattle.atomic_table.specs.Table.{rest};
-ghost use Rattle.claim.specs.declared.tag.Tag.TheVariants.{Held, Ready, Done};
+ghost use Rattle.claim.specs.declared.tag.Tag.TheVariants.{Held, Ready};
 ghost use Rattle.entry.specs.Entry.{Entry, fails as fails_with};
-ghost use Rattle.model.specs.declared.req.Req.{Req};
-ghost use Rattle.model.specs.declared.event.Event.TheVariants.{Begin, Park, Submit, Reply, Reap};
-ghost use Rattle.model.specs.History.{Cause, by_reply, phase, replied, data_of, submits};
+ghost use Rattle.model.specs.declared.event.Event.TheVariants.{Begin, Park, Reply};
+ghost use Rattle.model.specs.History.{submits};
 ghost use Rattle.model.specs.Chains.{IsPlaced};
-ghost use Rattle.model.specs.Legal.{Fits as FitsEntry};
-ghost use Rattle.steps.specs.declared.line.Line.TheVariants.{Did, Freed, Lent};
-ghost use Rattle.steps.specs.declared.parcel.Parcel.{Parcel};
-ghost use Rattle.steps.specs.declared.parcel.Thing.TheVariants.{Full};
-ghost use Rattle.steps.specs.declared.view.Role.TheVariants.{Poller, Submitter, Lending, Idle, Busy, Spent};
-ghost use Rattle.steps.specs.Journal.{events_of, lent, holder, Serves, PlainAnswer};
-ghost use Rattle.steps.specs.Cells.{IsCell, ring_of, held, claim_at, user_at, outcome_at, slot_at, word_of, bits_of, cause_bits, IsParcel, MayBegin};
-ghost use Rattle.steps.specs.Rule.{Looks, Extends, Shown, Vacant, IsStep, Fits, IsSameSeat};
+ghost use Rattle.steps.specs.declared.line.Line.TheVariants.{Did, Freed};
+ghost use Rattle.steps.specs.declared.view.Role.TheVariants.{Poller, Idle, Busy, Spent};
+ghost use Rattle.steps.specs.Journal.{events_of, holder, PlainAnswer};
+ghost use Rattle.steps.specs.Cells.{ring_of, held, claim_at, word_of, MayBegin};
+ghost use Rattle.steps.specs.Rule.{Looks, Extends, Shown, IsStep, Fits, IsSameSeat};
 ghost use Rattle.steps.specs.Plays.{Hands};
 
-use crate::parcel::{Parcel, Thing};
 use crate::table::{Place, Words};
 use crate::{claims, plays};
+
 /// Loads the claim word of the cell.
 pub fn look(words: &Words, seat: &mut Place, cell: usize) -> u64
     requires fits { Fits words.now.table_id seat.old cell }

@@ -1,22 +1,18 @@
 //! The steps of a submitter: it notes, submits, notes again and reaps.
-ghost use Rattle.std.specs.Prelude.{◌≡◌, ℕ, ℤ, suc, ◌+◌, ◌<◌, true, false, cond, List, [], ◌∷◌, Some, None};
+ghost use Rattle.std.specs.Prelude.{◌≡◌, ℤ, ◌+◌, ◌<◌, false, cond, ◌∷◌, Some, None};
 ghost use Rattle.atomic_table.specs.Table.{rest};
-ghost use Rattle.claim.specs.declared.tag.Tag.TheVariants.{Done};
-ghost use Rattle.entry.specs.Entry.{Entry, fails};
-ghost use Rattle.model.specs.declared.req.Req.{Req};
 ghost use Rattle.model.specs.declared.event.Event.TheVariants.{Submit, Reap};
 ghost use Rattle.model.specs.History.{Cause, phase, replied, data_of, submits};
-ghost use Rattle.model.specs.Chains.{IsPlaced};
 ghost use Rattle.model.specs.Legal.{Fits as FitsEntry};
 ghost use Rattle.steps.specs.declared.line.Line.TheVariants.{Did, Lent};
 ghost use Rattle.steps.specs.declared.parcel.Parcel.{Parcel};
 ghost use Rattle.steps.specs.declared.parcel.Thing.TheVariants.{Full};
 ghost use Rattle.steps.specs.declared.view.Role.TheVariants.{Submitter, Lending};
 ghost use Rattle.steps.specs.Journal.{events_of, lent, Serves};
-ghost use Rattle.steps.specs.Cells.{ring_of, held, user_at, outcome_at, slot_at, word_of, bits_of, cause_bits, IsParcel};
+ghost use Rattle.steps.specs.Cells.{ring_of, held, user_at, outcome_at, slot_at, IsParcel};
 ghost use Rattle.steps.specs.Rule.{Extends, ExtendsTwice, Vacant, Fits, IsSameSeat, IsDone};
 
-use crate::parcel::{Parcel, Thing};
+use crate::parcel::{Parcel, Thing, parcel_of};
 use crate::table::{Place, Words};
 use crate::{claims, plays};
 
@@ -67,18 +63,6 @@ pub fn submit(words: &Words, seat: &mut Place, cell: usize, generation: u32, par
 {
     fill(words, seat, cell, generation, parcel);
     hand_in(words, seat, cell, generation);
-}
-
-/// What a full slot has.
-fn parcel_of(thing: Option<Thing>) -> Parcel
-    requires full { (p : Parcel) × (thing ≡ Some (Full p)) }
-    ensures is { thing ≡ Some (Full result) }
-{
-    let Some(thing) = thing else { unreachable!() };
-    let Thing::Full(parcel) = thing else {
-        unreachable!()
-    };
-    parcel
 }
 
 /// Notes whether the reply was a failure, takes the slot of a request that has replied, and empties it.

@@ -1,5 +1,5 @@
 //! The table, from its making to its end, and how seats are cut and joined.
-ghost use Rattle.std.specs.Prelude.{◌≡◌, ◌≢◌, ℕ, suc, ◌+◌, ◌*◌, ◌<◌, ◌≤◌, false, [], ◌∷◌, IfOk, length, slice_index};
+ghost use Rattle.std.specs.Prelude.{◌≡◌, ◌≢◌, ℕ, ◌+◌, ◌*◌, ◌<◌, ◌≤◌, false, [], IfOk, length, slice_index};
 ghost use Rattle.std.specs.Mem.Slots.{slots_items, slots_len, IsFull};
 ghost use Rattle.model.specs.declared.req.Req.{Req};
 ghost use Rattle.steps.specs.declared.view.Role.TheVariants.{Poller, Lending, Spent};

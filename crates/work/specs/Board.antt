@@ -2,7 +2,7 @@
 use Rattle.std.specs.Prelude.{◌≡◌, ℕ, ◌+◌, ◌-◌, ◌*◌, ◌<◌, ◌≤◌, false, [], length}
 use Rattle.atomic_table.specs.Seated.{TableId}
 use Rattle.model.specs.History.{was_shut}
-use Rattle.model.specs.Legal.{Setup, Legal}
+use Rattle.model.specs.Legal.{Legal}
 use Rattle.steps.specs.declared.view.Layout.{Layout}
 use Rattle.steps.specs.declared.view.Role.{Role}
 use Rattle.steps.specs.declared.view.Role.TheVariants.{Poller}

@@ -1,5 +1,5 @@
 //! What every pass can do: it looks, tells what it has seen, and hears what another one has seen.
-ghost use Rattle.std.specs.Prelude.{◌≡◌, ℕ};
+ghost use Rattle.std.specs.Prelude.{◌≡◌};
 ghost use Rattle.work.specs.Passes.{Pass as Knowledge, CanReach};
 ghost use Rattle.steps.specs.Cells.{claim_at};
 ghost use Rattle.steps.specs.Rule.{Looks, Shown, IsStep, messenger, hearing};
@@ -30,7 +30,7 @@ impl Messenger {
         requires { IsMessengerSeat place }
         ensures { result ≡ pass_of place }
     {
-        Messenger { place }
+        Self { place }
     }
 
     /// Its seat.

@@ -1,5 +1,5 @@
 //! A worker's pass, and a worker that runs a request.
-ghost use Rattle.std.specs.Prelude.{◌≡◌, ◌≢◌, ℕ, ◌<◌, ◌≤◌, ◌⊎◌, [], ◌∷◌, true, Some, None, length, IfOk, IfErr};
+ghost use Rattle.std.specs.Prelude.{◌≡◌, ◌<◌, ◌≤◌, ◌⊎◌, [], ◌∷◌, true, Some, None, length, IfOk, IfErr};
 ghost use Rattle.model.specs.declared.event.Event.TheVariants.{Begin, Park};
 ghost use Rattle.steps.specs.declared.line.Line.TheVariants.{Did};
 ghost use Rattle.steps.specs.declared.parcel.Parcel.{Parcel};
@@ -15,6 +15,7 @@ use crate::pass::{Messenger, Pass};
 use entry::{Cqe, Op, Sqe, fails};
 use model::Req;
 use std::marker::Model;
+use steps::parcel::parcel_of;
 use steps::{Parcel, Place, Thing, Words, seat, table};
 
 /// A worker without a request. Contracts see its table and what it knows.
@@ -41,7 +42,7 @@ impl Worker {
         requires { IsIdleSeat place }
         ensures { result ≡ pass_of place }
     {
-        Worker { place }
+        Self { place }
     }
 
     /// Its seat.
@@ -92,18 +93,6 @@ impl<'a> Model for Busy<'a> {
 
 /// The generations of a cell are below this.
 const GENERATIONS: u64 = 16_777_216;
-
-/// What a full slot has.
-fn parcel_of(thing: Option<Thing>) -> Parcel
-    requires full { (p : Parcel) × (thing ≡ Some (Full p)) }
-    ensures is { thing ≡ Some (Full result) }
-{
-    let Some(thing) = thing else { unreachable!() };
-    let Thing::Full(parcel) = thing else {
-        unreachable!()
-    };
-    parcel
-}
 
 impl Worker {
     ghost use Rattle.work.specs.Passes.{IsOn, FoundNotReady};
