@@ -33,6 +33,14 @@ Carries m e n = (setup_of n ≡ setup_of m) × ((h : List Event) → Agrees h m 
 abbrev pub Refuses : Machine → Event → Machine → Type 0
 Refuses m e n = (n ≡ m) × ((h : List Event) → Agrees h m → ¬ MayCome (setup_of m) h e)
 
+-- the event may come
+abbrev pub MayFollow : Machine → Event → Type 0
+MayFollow m e = (h : List Event) → Agrees h m → MayCome (setup_of m) h e
+
+-- the end allows it, too
+abbrev pub IsNext : Machine → Event → Type 0
+IsNext m e = (h : List Event) → Agrees h m → Allowed (setup_of m) h e
+
 abbrev pub Decided : Bool → Machine → Event → Machine → Type 0
 Decided true m e n = Carries m e n
 Decided false m e n = Refuses m e n

@@ -1,7 +1,7 @@
 //! The answers that workers give, and what they make of the pipes.
 ghost use Rattle.std.specs.Prelude.{◌≡◌, ◌<◌, false, true, length, take, Some, None, slice_get, IfOk, OnOk, OnErr, MatchOption};
 ghost use Rattle.entry.specs.declared.op.Op.{Op};
-ghost use Rattle.ring.specs.Agrees.{Decided};
+ghost use Rattle.ring.specs.Agrees.{Decided, MayFollow};
 ghost use Rattle.model.specs.declared.event.Event.TheVariants.{Reply};
 ghost use Rattle.model.specs.Pipes.{size};
 ghost use Rattle.ring.specs.Reaches.{reached};
@@ -62,6 +62,7 @@ impl State {
     ) -> Result<bool, AllocError>
         requires { self.old.shut ≡ false }
         ensures decided { IfOk result (λ done. Decided done self.old (Reply req res told.now) self.new) }
+        ensures wanting { OnErr result (MayFollow self.old (Reply req res told.now)) }
         ensures same { OnErr result (self.new ≡ self.old) }
     {
         let i = req.ring as usize;

@@ -1,17 +1,19 @@
 //! Every event, carried out or refused.
 ghost use Rattle.std.specs.Prelude.{◌≡◌, IfOk, OnErr};
 ghost use Rattle.model.specs.Legal.{shut_for};
-ghost use Rattle.ring.specs.Agrees.{Decision};
+ghost use Rattle.ring.specs.Agrees.{Decision, IsNext};
 
 use crate::state::State;
 use model::Event;
 use std::alloc::{AllocError, Global};
 
 impl State {
-    /// True where the event was allowed; it then has happened. Else nothing changes.
-    #[tactic(auto, using(crate::proofs::Deciding::decision, crate::proofs::Deciding::ill_timed))]
+    /// True where the event was allowed; it then has happened. Else nothing changes. Memory is wanting for an allowed
+    /// event alone.
+    #[tactic(auto, using(crate::proofs::Deciding::decision, crate::proofs::Deciding::ill_timed, crate::proofs::Deciding::following))]
     pub fn carry_out(&mut self, alloc: Global, event: &Event) -> Result<bool, AllocError>
         ensures decision { IfOk result (λ done. Decision done self.old event.now self.new) }
+        ensures wanting { OnErr result (IsNext self.old event.now) }
         ensures same { OnErr result (self.new ≡ self.old) }
     {
         if self.shut != is_cut(event) {

@@ -1,7 +1,7 @@
 //! The events of no one request, and the one that makes a request.
 ghost use Rattle.std.specs.Prelude.{◌≡◌, false, IsTrue, ◌↔◌, IfOk, OnErr};
 ghost use Rattle.std.specs.List.{list_any};
-ghost use Rattle.ring.specs.Agrees.{Decided};
+ghost use Rattle.ring.specs.Agrees.{Decided, MayFollow};
 ghost use Rattle.model.specs.Legal.{FitsOp};
 ghost use Rattle.ring.specs.Moves.{runs_in};
 ghost use Rattle.model.specs.declared.event.Event.TheVariants.{Submit, Tick, Shut};
@@ -52,6 +52,7 @@ impl State {
     ) -> Result<bool, AllocError>
         requires { self.old.shut ≡ false }
         ensures decided { IfOk result (λ done. Decided done self.old (Submit req sqe bytes.now last) self.new) }
+        ensures wanting { OnErr result (MayFollow self.old (Submit req sqe bytes.now last)) }
         ensures same { OnErr result (self.new ≡ self.old) }
     {
         let i = req.ring as usize;

@@ -4,7 +4,7 @@ use Rattle.ring.specs.declared.request.Request.{Request}
 use Rattle.ring.specs.Replies.{may_reply, put_reply, bytes_in, moved}
 use Rattle.ring.proofs.Ends.{signed}
 use Rattle.ring.proofs.Keeping.{row_of}
-use Rattle.ring.proofs.Replying.{reply_meets, reply_misses}
+use Rattle.ring.proofs.Replying.{reply_follows, reply_meets, reply_misses}
 use Rattle.ring.proofs.state.State.reply.Goals as goal
 
 pub returns-in_default-clause-decided : goal.returns-in_default-clause-decided
@@ -13,6 +13,16 @@ returns-in_default-clause-decided c =
     let none : may_reply c.deref.result.now c.index.result.now c.args.req.k c.args.res c.args.told.now ≡ false =
     sym (ap (λ z. may_reply c.deref.result.now c.index.result.now c.args.req.k z c.as_slice.result.now) (signed c.args.res c.ranges.res) ∙ ap (λ z. may_reply c.deref.result.now c.index.result.now c.args.req.k c.args.res z) c.as_slice.ensures) ∙ c.in_default.ensures.no refl in
     reply_misses _ _ c.self.view_is c.args.req c.args.res c.args.told.now c.index.result.now c.deref.result.now (row_of _ _ _ lt c.index.ensures) c.deref.ensures.value none
+
+pub returns-in_err-taken-clause-wanting : goal.returns-in_err-taken-clause-wanting
+returns-in_err-taken-clause-wanting c =
+    let lt : c.args.req.ring < length c.self.inside.rings.items = omega arith in
+    reply_follows c.from_residual.result _ _ c.self.view_is c.args.req c.args.res _ c.args.told.now _ c.index.result.now _ (signed c.args.res c.ranges.res) c.as_slice.ensures c.deref.ensures.value (row_of _ _ _ lt c.index.ensures) (c.in-Some.ensures.yes c.in-Some.op refl).0
+
+pub returns-in_err-carry-clause-wanting : goal.returns-in_err-carry-clause-wanting
+returns-in_err-carry-clause-wanting c =
+    let lt : c.args.req.ring < length c.self.inside.rings.items = omega arith in
+    reply_follows c.from_residual-in_err-carry.result _ _ c.self.view_is c.args.req c.args.res _ c.args.told.now _ c.index.result.now _ (signed c.args.res c.ranges.res) c.as_slice.ensures c.deref.ensures.value (row_of _ _ _ lt c.index.ensures) (c.in-Some.ensures.yes c.in-Some.op refl).0
 
 pub answer-requires : goal.answer-requires
 answer-requires c =
