@@ -24,4 +24,6 @@ pub use submitter::Submitter;
 pub use work::{Busy, Pass, Ran, Worker};
 
 #[cfg(test)]
+mod board_tests;
+#[cfg(test)]
 mod end_tests;
