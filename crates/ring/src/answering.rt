@@ -1,10 +1,10 @@
 //! The reply that the table of answers gives now, with its data.
-ghost use Rattle.std.specs.Prelude.{◌≡◌, ◌<◌, [], pos, true, not, cond, length, Some, IfOk};
+ghost use Rattle.std.specs.Prelude.{◌≡◌, ◌<◌, [], pos, true, not, cond, length, Some, IfOk, OnErr};
 ghost use Rattle.entry.specs.Table.{fits_op};
 ghost use Rattle.model.specs.Pipes.{end_of};
 ghost use Rattle.model.specs.Answers.{now, bad_end, answer_read, answer_write, answer_poll, read_events, write_events, read_from, write_to, close_of, poll_of};
 ghost use Rattle.ring.specs.Tells.{flow_of, caps_of, flow_in, op_answer};
-ghost use Rattle.ring.specs.Asked.{told_by};
+ghost use Rattle.ring.specs.Asked.{told_by, IsTold};
 
 use crate::answer::{Reached, reach};
 use crate::pipe::Pipe;
@@ -37,7 +37,8 @@ impl Pipe {
     /// What a READ of `len` bytes is answered now.
     fn read_now(&self, alloc: Global, len: u32) -> Result<Told, AllocError>
         requires { len < 2147483648 }
-        ensures { IfOk result (λ x. x ≡ told_by (answer_read (flow_of self.now) len)) }
+        ensures answer { IfOk result (λ x. x ≡ told_by (answer_read (flow_of self.now) len)) }
+        ensures wanting { OnErr result (IsTold (answer_read (flow_of self.now) len)) }
     {
         if self.read_shut {
             return Ok(failure(alloc, BAD_END));
@@ -142,7 +143,8 @@ fn events_now(alloc: Global, events: u32, mask: u32) -> Told
 /// What this operation, which is no cancel, is answered now.
 pub fn op_now(alloc: Global, pipes: &[Pipe], op: Op) -> Result<Told, AllocError>
     requires { fits_op op ≡ true }
-    ensures { IfOk result (λ x. x ≡ told_by (op_answer (caps_of pipes.now) (flow_in pipes.now) op)) }
+    ensures answer { IfOk result (λ x. x ≡ told_by (op_answer (caps_of pipes.now) (flow_in pipes.now) op)) }
+    ensures wanting { OnErr result (IsTold (op_answer (caps_of pipes.now) (flow_in pipes.now) op)) }
 {
     match op {
         Op::Nop => Ok(number(alloc, 0)),
@@ -157,7 +159,8 @@ pub fn op_now(alloc: Global, pipes: &[Pipe], op: Op) -> Result<Told, AllocError>
 
 fn read_at(alloc: Global, pipes: &[Pipe], fd: i32, len: u32) -> Result<Told, AllocError>
     requires { len < 2147483648 }
-    ensures { IfOk result (λ x. x ≡ told_by (read_from (caps_of pipes.now) (flow_in pipes.now) (end_of fd) len)) }
+    ensures answer { IfOk result (λ x. x ≡ told_by (read_from (caps_of pipes.now) (flow_in pipes.now) (end_of fd) len)) }
+    ensures wanting { OnErr result (IsTold (read_from (caps_of pipes.now) (flow_in pipes.now) (end_of fd) len)) }
 {
     match reach(fd, pipes.len()) {
         Reached::Read(p) => pipes[p].read_now(alloc, len),
