@@ -122,9 +122,11 @@ module _ (slots id : ℕ) (me : Seated) where
           },
           (λ y h word inside' free'. let same' : x ≡ y = omega arith in
               let free'' : Vacant K v.seen x h = subst (λ (z : ℕ). Vacant K v.seen z h) (sym same') free' in
-              let a : ¬ (g < h) = one_vacant g h (seen_legal slots id me s r at) free free'' in let b : ¬ (h < g) = one_vacant h g (seen_legal slots id me s r at) free'' free in let gen : g ≡ h = omega arith in
-              subst (λ (z : ℕ × ℕ). Extends v (Lent (held K z.0 z.1) (user_at x) n) (Lending (held K z.0 z.1)) (with_line slots id me (user_at x) s r.past l (Lending q)) × ((slot_at x, None) ∷ me.1 ≡ (slot_at z.0, None) ∷ me.1)) (λ i. (same' i, gen i))
-              (extends slots id me s r at l (Lending q) r.legal r.live tt (tick slots id me (user_at x) s (l ∷ r.past)), refl)),
+              let a : ¬ (g < h) = one_vacant g h (seen_legal slots id me s r at) free free'' in let b : ¬ (h < g) = one_vacant h g (seen_legal slots id me s r at) free'' free in let gen : g ≡ h = omega arith in (
+                subst (λ (z : ℕ × ℕ). Extends v (Lent (held K z.0 z.1) (user_at x) n) (Lending (held K z.0 z.1)) (with_line slots id me (user_at x) s r.past l (Lending q)) × ((slot_at x, None) ∷ me.1 ≡ (slot_at z.0, None) ∷ me.1)) (λ i. (same' i, gen i))
+                    (extends slots id me s r at l (Lending q) r.legal r.live tt (tick slots id me (user_at x) s (l ∷ r.past)), refl),
+                (get_or s.words (user_at x) 0, refl),
+              )),
           refl,
         )
 
@@ -152,9 +154,11 @@ module _ (slots id : ℕ) (me : Seated) where
           (λ y h c' res' at_word inside' done''. let same' : x ≡ y = omega arith in
               let other : phase (events_of r.past) (held K x h) ≡ replied c' res' = replied_now slots id me s r at (held K x h) c' res' submits_here (subst (λ (z : ℕ). phase (events_of v.seen) (held K z h) ≡ replied c' res') (sym same') done'') in
               let word' = done_word K r.past x _ _ ok h c' res' other in
-              let o = one_word Done Done _ g word.payload _ h word'.payload word.fits.0 word.fits.1 word.fits.2 word'.fits.0 word'.fits.1 word'.fits.2 (sym word.word_is ∙ word'.word_is) in
-              subst (λ (z : ℕ × ℕ). Extends v (Lent (held K z.0 z.1) (outcome_at x) n) (Lending (held K z.0 z.1)) (with_line slots id me (outcome_at x) s r.past l (Lending q)) × Hands (with_line slots id me (outcome_at x) s r.past l (Lending q), (slot_at x, Some (Full parcel.0)) ∷ me.1) z.0 (held K z.0 z.1) (data_of (events_of v.seen) (held K z.0 z.1)) me.1) (λ i. (same' i, o.2 i))
-              (extends slots id me s r at l (Lending q) r.legal r.live tt (tick slots id me (outcome_at x) s (l ∷ r.past)), (parcel.0, refl, subst (λ (z : List ℕ). IsParcel r.past q z parcel.0) (data_now slots id me s r at q c res submits_here done) parcel.2))),
+              let o = one_word Done Done _ g word.payload _ h word'.payload word.fits.0 word.fits.1 word.fits.2 word'.fits.0 word'.fits.1 word'.fits.2 (sym word.word_is ∙ word'.word_is) in (
+                subst (λ (z : ℕ × ℕ). Extends v (Lent (held K z.0 z.1) (outcome_at x) n) (Lending (held K z.0 z.1)) (with_line slots id me (outcome_at x) s r.past l (Lending q)) × Hands (with_line slots id me (outcome_at x) s r.past l (Lending q), (slot_at x, Some (Full parcel.0)) ∷ me.1) z.0 (held K z.0 z.1) (data_of (events_of v.seen) (held K z.0 z.1)) me.1) (λ i. (same' i, o.2 i))
+                    (extends slots id me s r at l (Lending q) r.legal r.live tt (tick slots id me (outcome_at x) s (l ∷ r.past)), (parcel.0, refl, subst (λ (z : List ℕ). IsParcel r.past q z parcel.0) (data_now slots id me s r at q c res submits_here done) parcel.2)),
+                (get_or s.words (outcome_at x) 0, refl),
+              )),
           refl,
         )
 

@@ -62,9 +62,9 @@ reaps st m x r m' = Extends m.0 (Did (Reap r)) (Submitter r.ring) m'.0 × (m'.1 
 
 -- of a store in the user word before the Submit of generation g: the empty slot is taken
 abbrev pub opened : At → Seated → ℕ → Seated → Type 0
-opened st m n m' = (x g : ℕ) → st.word ≡ user_at x → IsCell m.0.layout.cells x → Vacant m.0.layout.cells m.0.seen x g → Extends m.0 (Lent (held m.0.layout.cells x g) st.word st.first) (Lending (held m.0.layout.cells x g)) m'.0 × (m'.1 ≡ (slot_at x, None) ∷ m.1)
+opened st m n m' = (x g : ℕ) → st.word ≡ user_at x → IsCell m.0.layout.cells x → Vacant m.0.layout.cells m.0.seen x g → (Extends m.0 (Lent (held m.0.layout.cells x g) st.word st.first) (Lending (held m.0.layout.cells x g)) m'.0 × (m'.1 ≡ (slot_at x, None) ∷ m.1)) × ((found : ℕ) × IsStep st.word found m.0 m'.0)
 
 -- of a store in the outcome word before the Reap of generation g: the slot is taken, with the buffer and the data
 abbrev pub emptied : At → Seated → ℕ → Seated → Type 0
 emptied st m n m' = (x g : ℕ) (c : Cause) (res : ℤ) → st.word ≡ outcome_at x → IsCell m.0.layout.cells x → phase (events_of m.0.seen) (held m.0.layout.cells x g) ≡ replied c res
-    → Extends m.0 (Lent (held m.0.layout.cells x g) st.word st.first) (Lending (held m.0.layout.cells x g)) m'.0 × Hands m' x (held m.0.layout.cells x g) (data_of (events_of m.0.seen) (held m.0.layout.cells x g)) m.1
+    → (Extends m.0 (Lent (held m.0.layout.cells x g) st.word st.first) (Lending (held m.0.layout.cells x g)) m'.0 × Hands m' x (held m.0.layout.cells x g) (data_of (events_of m.0.seen) (held m.0.layout.cells x g)) m.1) × ((found : ℕ) × IsStep st.word found m.0 m'.0)

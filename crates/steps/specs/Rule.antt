@@ -156,6 +156,10 @@ seeing v role j t = record { layout = v.layout; role = role; parts = v.parts; se
 abbrev pub IsStep : ℕ → ℕ → View → View → Type 0
 IsStep word found v w = w.steps ≡ record { word = word; found = found; seen = w.seen } ∷ v.steps
 
+-- the seat made two steps more, at these words
+abbrev pub IsTwoSteps : ℕ → ℕ → View → View → Type 0
+IsTwoSteps first second v w = (mid : View) × ((n : ℕ) × IsStep first n v mid) × ((n : ℕ) × IsStep second n mid w)
+
 -- the seat saw the journal so far, which has no further line of its own
 pub record Looks (v w : View) : Type 0 where
   pub now : List Line

@@ -1,7 +1,7 @@
 //! Single steps of a seat on a request's path.
 ghost use Rattle.std.specs.Prelude.{◌≡◌, ◌≢◌, ℕ, ◌+◌, ◌*◌, ◌<◌, true, [], Some};
 ghost use Rattle.atomic_table.specs.Table.{rest};
-ghost use Rattle.claim.specs.declared.tag.Tag.TheVariants.{Held, Ready};
+ghost use Rattle.claim.specs.declared.tag.Tag.TheVariants.{Held, Ready, Running};
 ghost use Rattle.entry.specs.Entry.{Entry, fails as fails_with};
 ghost use Rattle.model.specs.declared.event.Event.TheVariants.{Begin, Park, Reply};
 ghost use Rattle.model.specs.History.{submits};
@@ -37,6 +37,7 @@ pub fn release(words: &Words, seat: &mut Place, cell: usize, generation: u32) ->
     requires may { MayBegin seat.old.me.0.seen (held seat.old.me.0.layout.cells cell generation) }
     ensures seat { IsSameSeat seat.old seat.new × (seat.new.me.1 ≡ seat.old.me.1) }
     ensures frees { result ≡ true → Extends seat.old.me.0 (Freed (held seat.old.me.0.layout.cells cell generation)) seat.old.me.0.role seat.new.me.0 }
+    ensures step { result ≡ true → IsStep (claim_at cell) (word_of Held 0 generation 0) seat.old.me.0 seat.new.me.0 }
     ensures looks { result ≢ true → Looks seat.old.me.0 seat.new.me.0 }
     ensures missed { result ≢ true → (n : ℕ) × IsStep (claim_at cell) n seat.old.me.0 seat.new.me.0 × Shown seat.old.me.0.layout.cells seat.new.me.0.seen cell n × (n ≢ word_of Held 0 generation 0) }
 {
@@ -52,6 +53,7 @@ pub fn begin(words: &Words, seat: &mut Place, cell: usize, generation: u32) -> b
     requires small { generation < 16777216 }
     ensures seat { IsSameSeat seat.old seat.new }
     ensures begins { result ≡ true → Extends seat.old.me.0 (Did (Begin (held seat.old.me.0.layout.cells cell generation))) (Busy (held seat.old.me.0.layout.cells cell generation)) seat.new.me.0 × Hands seat.new.me cell (held seat.old.me.0.layout.cells cell generation) [] seat.old.me.1 × ((p : ℕ) → holder seat.new.me.0.seen p ≢ Some (held seat.old.me.0.layout.cells cell generation)) }
+    ensures step { result ≡ true → IsStep (claim_at cell) (word_of Ready 0 generation 0) seat.old.me.0 seat.new.me.0 }
     ensures looks { result ≢ true → Looks seat.old.me.0 seat.new.me.0 × (seat.new.me.1 ≡ seat.old.me.1) }
     ensures missed { result ≢ true → (n : ℕ) × IsStep (claim_at cell) n seat.old.me.0 seat.new.me.0 × Shown seat.old.me.0.layout.cells seat.new.me.0.seen cell n × (n ≢ word_of Ready 0 generation 0) }
 {
@@ -70,6 +72,7 @@ pub fn reply(words: &Words, seat: &mut Place, cell: usize, generation: u32, fail
     requires answer { (e : Entry) × IsPlaced (events_of seat.old.me.0.seen) (held seat.old.me.0.layout.cells cell generation) e × PlainAnswer e.op res × (fails ≡ fails_with e res) }
     ensures seat { IsSameSeat seat.old seat.new × (seat.new.me.1 ≡ rest seat.old.me.1) }
     ensures replies { Extends seat.old.me.0 (Did (Reply (held seat.old.me.0.layout.cells cell generation) res [])) Idle seat.new.me.0 }
+    ensures step { IsStep (claim_at cell) (word_of Running 0 generation 0) seat.old.me.0 seat.new.me.0 }
 {
     let running = claims::running(generation);
     let done = claims::done(generation, fails, res);
@@ -85,6 +88,7 @@ pub fn park(words: &Words, seat: &mut Place, cell: usize, generation: u32)
     requires bare { (p : ℕ) → holder seat.old.me.0.seen p ≢ Some (held seat.old.me.0.layout.cells cell generation) }
     ensures seat { IsSameSeat seat.old seat.new × (seat.new.me.1 ≡ rest seat.old.me.1) }
     ensures parks { Extends seat.old.me.0 (Did (Park (held seat.old.me.0.layout.cells cell generation))) Idle seat.new.me.0 }
+    ensures step { IsStep (claim_at cell) (word_of Running 0 generation 0) seat.old.me.0 seat.new.me.0 }
 {
     let running = claims::running(generation);
     let ready = claims::ready(generation);

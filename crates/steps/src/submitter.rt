@@ -1,6 +1,7 @@
 //! The steps of a submitter: it notes, submits, notes again and reaps.
-ghost use Rattle.std.specs.Prelude.{◌≡◌, ℤ, ◌+◌, ◌<◌, false, cond, ◌∷◌, Some, None};
+ghost use Rattle.std.specs.Prelude.{◌≡◌, ℕ, ℤ, ◌+◌, ◌<◌, false, cond, ◌∷◌, Some, None};
 ghost use Rattle.atomic_table.specs.Table.{rest};
+ghost use Rattle.claim.specs.declared.tag.Tag.TheVariants.{Empty};
 ghost use Rattle.model.specs.declared.event.Event.TheVariants.{Submit, Reap};
 ghost use Rattle.model.specs.History.{Cause, phase, replied, data_of, submits};
 ghost use Rattle.model.specs.Legal.{Fits as FitsEntry};
@@ -9,8 +10,8 @@ ghost use Rattle.steps.specs.declared.parcel.Parcel.{Parcel};
 ghost use Rattle.steps.specs.declared.parcel.Thing.TheVariants.{Full};
 ghost use Rattle.steps.specs.declared.view.Role.TheVariants.{Submitter, Lending};
 ghost use Rattle.steps.specs.Journal.{events_of, lent, Serves};
-ghost use Rattle.steps.specs.Cells.{ring_of, held, user_at, outcome_at, slot_at, IsParcel};
-ghost use Rattle.steps.specs.Rule.{Extends, ExtendsTwice, Vacant, Fits, IsSameSeat, IsDone};
+ghost use Rattle.steps.specs.Cells.{ring_of, held, claim_at, user_at, outcome_at, slot_at, word_of, IsParcel};
+ghost use Rattle.steps.specs.Rule.{Extends, ExtendsTwice, IsStep, IsTwoSteps, Vacant, Fits, IsSameSeat, IsDone};
 
 use crate::parcel::{Parcel, Thing, parcel_of};
 use crate::table::{Place, Words};
@@ -25,6 +26,7 @@ fn fill(words: &Words, seat: &mut Place, cell: usize, generation: u32, parcel: P
     requires home { lent seat.old.me.0.seen (held seat.old.me.0.layout.cells cell generation) ≡ false }
     ensures seat { IsSameSeat seat.old seat.new × (seat.new.me.1 ≡ (slot_at cell, Some (Full parcel)) ∷ seat.old.me.1) }
     ensures lends { Extends seat.old.me.0 (Lent (held seat.old.me.0.layout.cells cell generation) (user_at cell) parcel.sqe.user_data) (Lending (held seat.old.me.0.layout.cells cell generation)) seat.new.me.0 }
+    ensures step { (found : ℕ) × IsStep (user_at cell) found seat.old.me.0 seat.new.me.0 }
 {
     let user_data = parcel.sqe.user_data();
     words.store::<plays::OpenCell>(seat, 8 * cell + 73, user_data);
@@ -43,6 +45,7 @@ fn hand_in(words: &Words, seat: &mut Place, cell: usize, generation: u32)
     requires filled { (p : Parcel) × (seat.old.me.1 ≡ (slot_at cell, Some (Full p)) ∷ rest seat.old.me.1) × Serves p.sqe p.last × FitsEntry p.sqe p.buffer.items }
     ensures seat { IsSameSeat seat.old seat.new × (seat.new.me.1 ≡ rest seat.old.me.1) }
     ensures submits { (p : Parcel) → seat.old.me.1 ≡ (slot_at cell, Some (Full p)) ∷ rest seat.old.me.1 → Extends seat.old.me.0 (Did (Submit (held seat.old.me.0.layout.cells cell generation) p.sqe p.buffer.items p.last)) (Submitter (ring_of seat.old.me.0.layout.cells cell)) seat.new.me.0 }
+    ensures step { IsStep (claim_at cell) (word_of Empty 0 generation 0) seat.old.me.0 seat.new.me.0 }
 {
     let empty = claims::empty(generation);
     let held = claims::held(generation);
@@ -60,6 +63,7 @@ pub fn submit(words: &Words, seat: &mut Place, cell: usize, generation: u32, par
     requires served { Serves parcel.sqe parcel.last × FitsEntry parcel.sqe parcel.buffer.items }
     ensures seat { IsSameSeat seat.old seat.new × (seat.new.me.1 ≡ seat.old.me.1) }
     ensures submits { ExtendsTwice seat.old.me.0 (Lent (held seat.old.me.0.layout.cells cell generation) (user_at cell) parcel.sqe.user_data) (Lending (held seat.old.me.0.layout.cells cell generation)) (Did (Submit (held seat.old.me.0.layout.cells cell generation) parcel.sqe parcel.buffer.items parcel.last)) (Submitter (ring_of seat.old.me.0.layout.cells cell)) seat.new.me.0 }
+    ensures steps { IsTwoSteps (user_at cell) (claim_at cell) seat.old.me.0 seat.new.me.0 }
 {
     fill(words, seat, cell, generation, parcel);
     hand_in(words, seat, cell, generation);
@@ -74,6 +78,7 @@ fn empty(words: &Words, seat: &mut Place, cell: usize, generation: u32, failed: 
     requires home { lent seat.old.me.0.seen (held seat.old.me.0.layout.cells cell generation) ≡ false }
     ensures seat { IsSameSeat seat.old seat.new × (seat.new.me.1 ≡ (slot_at cell, None) ∷ seat.old.me.1) }
     ensures lends { Extends seat.old.me.0 (Lent (held seat.old.me.0.layout.cells cell generation) (outcome_at cell) (cond failed 1 0)) (Lending (held seat.old.me.0.layout.cells cell generation)) seat.new.me.0 }
+    ensures step { (found : ℕ) × IsStep (outcome_at cell) found seat.old.me.0 seat.new.me.0 }
     ensures parcel { IsParcel seat.new.me.0.seen (held seat.old.me.0.layout.cells cell generation) (data_of (events_of seat.old.me.0.seen) (held seat.old.me.0.layout.cells cell generation)) result }
 {
     let outcome = claims::outcome(failed);
@@ -91,6 +96,7 @@ fn close(words: &Words, seat: &mut Place, cell: usize, generation: u32, done: u6
     requires emptied { seat.old.me.1 ≡ (slot_at cell, None) ∷ rest seat.old.me.1 }
     ensures seat { IsSameSeat seat.old seat.new × (seat.new.me.1 ≡ rest seat.old.me.1) }
     ensures reaps { Extends seat.old.me.0 (Did (Reap (held seat.old.me.0.layout.cells cell generation))) (Submitter (ring_of seat.old.me.0.layout.cells cell)) seat.new.me.0 }
+    ensures step { IsStep (claim_at cell) done seat.old.me.0 seat.new.me.0 }
 {
     let empty = claims::empty(generation + 1);
     words.compare_exchange::<plays::Reap>(seat, 8 * cell + 72, done, empty);
@@ -112,6 +118,7 @@ pub fn reap(
     requires home { lent seat.old.me.0.seen (held seat.old.me.0.layout.cells cell generation) ≡ false }
     ensures seat { IsSameSeat seat.old seat.new × (seat.new.me.1 ≡ seat.old.me.1) }
     ensures reaps { ExtendsTwice seat.old.me.0 (Lent (held seat.old.me.0.layout.cells cell generation) (outcome_at cell) (cond failed 1 0)) (Lending (held seat.old.me.0.layout.cells cell generation)) (Did (Reap (held seat.old.me.0.layout.cells cell generation))) (Submitter (ring_of seat.old.me.0.layout.cells cell)) seat.new.me.0 }
+    ensures steps { IsTwoSteps (outcome_at cell) (claim_at cell) seat.old.me.0 seat.new.me.0 }
     ensures parcel { IsParcel seat.new.me.0.seen (held seat.old.me.0.layout.cells cell generation) (data_of (events_of seat.old.me.0.seen) (held seat.old.me.0.layout.cells cell generation)) result }
 {
     let parcel = empty(words, seat, cell, generation, failed);

@@ -1,4 +1,6 @@
-use Rattle.std.proofs.Common.{sym, ◌∙◌, eq-eqb, refl, arith, eqb-true}
+use Rattle.std.proofs.Common.{ℕ, sym, ◌∙◌, eq-eqb, refl, subst, arith, eqb-true}
+use Rattle.steps.specs.Cells.{claim_at}
+use Rattle.steps.specs.Rule.{IsStep}
 use Rattle.steps.proofs.Path.{begin_allows}
 use Rattle.steps.proofs.seat.begin.Goals as goal
 
@@ -10,3 +12,6 @@ returns-clause-begins c = let f = c.requires.fits in let p = c.compare_exchange.
 
 pub returns-clause-missed : goal.returns-clause-missed
 returns-clause-missed c = let f = c.requires.fits in λ ne. let m = c.compare_exchange.ensures.2.1 (λ hit. ne (eq-eqb _ _ hit)) in (c.compare_exchange.result, m.3, m.2 c.args.cell refl f.2, λ e. ne (eq-eqb _ _ (e ∙ sym c.ready-ready.ensures)))
+
+pub returns-clause-step : goal.returns-clause-step
+returns-clause-step c = λ e. subst (λ (n : ℕ). IsStep (claim_at c.args.cell) n c.args.seat.now.me.0 c.compare_exchange.new.seat.me.0) (eqb-true _ _ e ∙ c.ready-ready.ensures) c.compare_exchange.ensures.2.2

@@ -1,4 +1,6 @@
-use Rattle.std.proofs.Common.{refl, arith}
+use Rattle.std.proofs.Common.{ℕ, refl, subst, ◌∙◌, arith}
+use Rattle.steps.specs.Cells.{claim_at}
+use Rattle.steps.specs.Rule.{IsStep}
 use Rattle.steps.proofs.Running.{park_allows}
 use Rattle.steps.proofs.seat.park.Goals as goal
 
@@ -8,4 +10,4 @@ compare_exchange-requires c = let f = c.requires.fits in let h = c.requires.parc
 
 pub returns : goal.returns
 returns c = let f = c.requires.fits in let d = c.compare_exchange.ensures.2.1 c.args.cell 0 c.args.generation 0 refl f.2 (omega arith) c.requires.small (omega arith) c.running-running.ensures in
-    record { seat = ((c.compare_exchange.ensures.0, c.compare_exchange.ensures.1), d.1); parks = d.0 }
+    record { seat = ((c.compare_exchange.ensures.0, c.compare_exchange.ensures.1), d.1); parks = d.0; step = subst (λ (n : ℕ). IsStep (claim_at c.args.cell) n c.args.seat.now.me.0 c.compare_exchange.new.seat.me.0) (c.compare_exchange.ensures.2.0 ∙ c.running-running.ensures) c.compare_exchange.ensures.2.2 }

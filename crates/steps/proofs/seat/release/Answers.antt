@@ -1,5 +1,6 @@
-use Rattle.std.proofs.Common.{◌∙◌, eq-eqb, ◌≡◌, true, sym, refl, subst, arith, eqb-true}
-use Rattle.steps.specs.Rule.{pollers, stands_for}
+use Rattle.std.proofs.Common.{ℕ, ◌∙◌, eq-eqb, ◌≡◌, true, sym, refl, subst, arith, eqb-true}
+use Rattle.steps.specs.Cells.{claim_at}
+use Rattle.steps.specs.Rule.{pollers, stands_for, IsStep}
 use Rattle.steps.proofs.Combining.{either_way}
 use Rattle.steps.proofs.Path.{release_allows}
 use Rattle.steps.proofs.seat.release.Goals as goal
@@ -19,3 +20,6 @@ returns-clause-seat c = let f = c.requires.fits in let p = c.compare_exchange.en
 
 pub returns-clause-missed : goal.returns-clause-missed
 returns-clause-missed c = let f = c.requires.fits in λ ne. let m = c.compare_exchange.ensures.2.1 (λ hit. ne (eq-eqb _ _ hit)) in (c.compare_exchange.result, m.3, m.2 c.args.cell refl f.2, λ e. ne (eq-eqb _ _ (e ∙ sym c.held-held.ensures)))
+
+pub returns-clause-step : goal.returns-clause-step
+returns-clause-step c = λ e. subst (λ (n : ℕ). IsStep (claim_at c.args.cell) n c.args.seat.now.me.0 c.compare_exchange.new.seat.me.0) (eqb-true _ _ e ∙ c.held-held.ensures) c.compare_exchange.ensures.2.2

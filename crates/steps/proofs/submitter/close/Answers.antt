@@ -1,6 +1,7 @@
-use Rattle.std.proofs.Common.{ℕ, refl, ap, ◌∙◌, arith, add-one}
+use Rattle.std.proofs.Common.{ℕ, refl, ap, subst, ◌∙◌, arith, add-one}
 use Rattle.claim.specs.declared.tag.Tag.TheVariants.{Empty}
-use Rattle.steps.specs.Cells.{word_of}
+use Rattle.steps.specs.Cells.{claim_at, word_of}
+use Rattle.steps.specs.Rule.{IsStep}
 use Rattle.steps.proofs.Giving.{reap_allows}
 use Rattle.steps.proofs.Numbers.{bits_fit}
 use Rattle.steps.proofs.Words.{cause_fits}
@@ -12,4 +13,4 @@ compare_exchange-requires c = let f = c.requires.fits in let s = c.requires.subm
 
 pub returns : goal.returns
 returns c = let f = c.requires.fits in let q = c.requires.done in let d = c.compare_exchange.ensures.2.1 c.args.cell _ c.args.generation q.bits refl f.2 (cause_fits q.cause _) (omega arith) (bits_fit q.res q.bits q.bits_are) q.word_is in
-    record { seat = ((c.compare_exchange.ensures.0, c.compare_exchange.ensures.1), d.1); reaps = d.0 }
+    record { seat = ((c.compare_exchange.ensures.0, c.compare_exchange.ensures.1), d.1); reaps = d.0; step = subst (λ (n : ℕ). IsStep (claim_at c.args.cell) n c.args.seat.now.me.0 c.compare_exchange.new.seat.me.0) c.compare_exchange.ensures.2.0 c.compare_exchange.ensures.2.2 }

@@ -9,7 +9,7 @@ use Rattle.steps.specs.declared.view.View.{View}
 use Rattle.steps.specs.declared.view.Role.TheVariants.{Lending}
 use Rattle.steps.specs.Journal.{events_of}
 use Rattle.steps.specs.Cells.{slot_at, outcome_at, held, IsParcel}
-use Rattle.steps.specs.Rule.{Extends}
+use Rattle.steps.specs.Rule.{Extends, IsStep}
 use Rattle.steps.proofs.Combining.{in_hand, same_parcel}
 use Rattle.steps.proofs.Lending.{empty_allows}
 use Rattle.steps.proofs.submitter.empty.Goals as goal
@@ -19,18 +19,19 @@ store-requires c = let f = c.requires.fits in let s = c.requires.submitter in le
     (f.0, omega arith, empty_allows _ _ c.args.seat.now.me c.args.cell c.args.generation s.0 s.1 f.2 c.requires.small _ _ d.0 d.1 d.2 c.requires.home)
 
 pub exchange-thing-requires : goal.exchange-thing-requires
-exchange-thing-requires c = let f = c.requires.fits in let d = c.requires.done in let t = c.store.ensures.2 c.args.cell c.args.generation d.0 d.1 refl f.2 d.2 in let took = t.1 in
+exchange-thing-requires c = let f = c.requires.fits in let d = c.requires.done in let t = (c.store.ensures.2 c.args.cell c.args.generation d.0 d.1 refl f.2 d.2).0 in let took = t.1 in
     (c.store.ensures.0 ∙ f.0, (Some (Full took.0), took.1 ∙ ap (λ cs. (slot_at c.args.cell, Some (Full took.0)) ∷ rest cs) (sym took.1)))
 
 pub parcel_of-requires : goal.parcel_of-requires
-parcel_of-requires c = let f = c.requires.fits in let d = c.requires.done in let took = (c.store.ensures.2 c.args.cell c.args.generation d.0 d.1 refl f.2 d.2).1 in record { full = (took.0, sym (ap in_hand (sym took.1 ∙ c.exchange-thing.ensures.2))) }
+parcel_of-requires c = let f = c.requires.fits in let d = c.requires.done in let took = (c.store.ensures.2 c.args.cell c.args.generation d.0 d.1 refl f.2 d.2).0.1 in record { full = (took.0, sym (ap in_hand (sym took.1 ∙ c.exchange-thing.ensures.2))) }
 
 pub returns : goal.returns
 returns c = let f = c.requires.fits in let d = c.requires.done in let v = c.args.seat.now.me.0 in let q : Req = held v.layout.cells c.args.cell c.args.generation in
-    let t = c.store.ensures.2 c.args.cell c.args.generation d.0 d.1 refl f.2 d.2 in let took = t.1 in let now = c.exchange-thing.ensures.3 in
+    let t = (c.store.ensures.2 c.args.cell c.args.generation d.0 d.1 refl f.2 d.2).0 in let took = t.1 in let now = c.exchange-thing.ensures.3 in
     let same = same_parcel _ _ (ap in_hand (sym took.1 ∙ c.exchange-thing.ensures.2) ∙ c.parcel_of.ensures.is) in record {
       seat = ((c.exchange-thing.ensures.0 ∙ c.store.ensures.0, c.exchange-thing.ensures.1 ∙ c.store.ensures.1), ap (λ m. m.1) now ∙ ap (λ cs. (slot_at c.args.cell, None) ∷ rest cs) took.1);
       lends = subst (λ (w : View). Extends v (Lent q (outcome_at c.args.cell) (cond c.args.failed 1 0)) (Lending q) w) (sym (ap (λ m. m.0) now))
           (subst (λ (n : ℕ). Extends v (Lent q (outcome_at c.args.cell) n) (Lending q) c.store.new.seat.me.0) c.outcome-outcome.ensures t.0);
       parcel = subst (λ (w : View). IsParcel w.seen q (data_of (events_of v.seen) q) c.parcel_of.result) (sym (ap (λ m. m.0) now)) (subst (λ (z : Parcel). IsParcel c.store.new.seat.me.0.seen q (data_of (events_of v.seen) q) z) same took.2);
+      step = subst (λ (w : View). (found : ℕ) × IsStep (outcome_at c.args.cell) found v w) (sym (ap (λ m. m.0) now)) (c.store.ensures.2 c.args.cell c.args.generation d.0 d.1 refl f.2 d.2).1;
     }

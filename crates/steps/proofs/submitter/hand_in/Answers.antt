@@ -1,4 +1,6 @@
-use Rattle.std.proofs.Common.{refl, arith}
+use Rattle.std.proofs.Common.{ℕ, refl, subst, ◌∙◌, arith}
+use Rattle.steps.specs.Cells.{claim_at}
+use Rattle.steps.specs.Rule.{IsStep}
 use Rattle.steps.proofs.Giving.{submit_allows}
 use Rattle.steps.proofs.submitter.hand_in.Goals as goal
 
@@ -12,3 +14,6 @@ returns-clause-seat c = let f = c.requires.fits in let p = c.requires.filled in 
 
 pub returns-clause-submits : goal.returns-clause-submits
 returns-clause-submits c = let f = c.requires.fits in let d = c.compare_exchange.ensures.2.1 c.args.cell 0 c.args.generation 0 refl f.2 (omega arith) c.requires.small (omega arith) c.empty-empty.ensures in λ p is. (d p is).0
+
+pub returns-clause-step : goal.returns-clause-step
+returns-clause-step c = subst (λ (n : ℕ). IsStep (claim_at c.args.cell) n c.args.seat.now.me.0 c.compare_exchange.new.seat.me.0) (c.compare_exchange.ensures.2.0 ∙ c.empty-empty.ensures) c.compare_exchange.ensures.2.2

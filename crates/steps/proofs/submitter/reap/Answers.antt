@@ -40,4 +40,5 @@ returns c = let v = c.args.seat.now.me.0 in let w = c.empty-parcel.new.seat.me.0
       seat = ((c.close.ensures.seat.0.0 ∙ c.empty-parcel.ensures.seat.0.0, c.close.ensures.seat.0.1 ∙ c.empty-parcel.ensures.seat.0.1), c.close.ensures.seat.1 ∙ ap rest c.empty-parcel.ensures.seat.1);
       reaps = (w, x, y);
       parcel = parcel_after w u _ _ y r (data_of (events_of v.seen) r) c.empty-parcel.result c.empty-parcel.ensures.parcel;
+      steps = (w, c.empty-parcel.ensures.step, (_, c.close.ensures.step));
     }

@@ -29,4 +29,5 @@ returns c = let v = c.args.seat.now.me.0 in let w = c.fill.new.seat.me.0 in let 
     let out = c.fill.ensures.seat.1 ∙ ap (λ cs. (slot_at c.args.cell, Some (Full c.args.parcel)) ∷ rest cs) (sym c.fill.ensures.seat.1) in record {
       seat = ((c.hand_in.ensures.seat.0.0 ∙ c.fill.ensures.seat.0.0, c.hand_in.ensures.seat.0.1 ∙ c.fill.ensures.seat.0.1), c.hand_in.ensures.seat.1 ∙ ap rest c.fill.ensures.seat.1);
       submits = (w, x, subst (λ (M : Layout). Extends w (Did (Submit (held M.cells c.args.cell c.args.generation) p.sqe p.buffer.items p.last)) (Submitter (ring_of M.cells c.args.cell)) c.hand_in.new.seat.me.0) (layout_after v w _ _ x) (c.hand_in.ensures.submits p out));
+      steps = (w, c.fill.ensures.step, (_, c.hand_in.ensures.step));
     }
