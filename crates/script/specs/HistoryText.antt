@@ -1,5 +1,5 @@
 -- The text of a history: one event a line, in order, its requests by their labels.
-use Rattle.std.specs.Prelude.{ℕ, Bool, cond, ℤ, negsuc, List, [], ◌∷◌, ◌++◌, Option, Some, None, slice_get, codes, decimal}
+use Rattle.std.specs.Prelude.{ℕ, cond, ℤ, negsuc, List, [], ◌∷◌, ◌++◌, Option, Some, None, slice_get, codes, decimal}
 use Rattle.std.specs.List.{list_any}
 use Rattle.std.specs.Global.{Vec}
 use Rattle.std.specs.String.{string_bytes}

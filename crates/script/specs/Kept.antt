@@ -1,5 +1,5 @@
 -- What reading a script keeps true.
-use Rattle.std.specs.Prelude.{ℕ, ◌+◌, ◌≤◌, List, IsTrue, Bool, ◌==◌, ◌&&◌, nat_le, length, Option, IsSome, IfSome}
+use Rattle.std.specs.Prelude.{ℕ, ◌≤◌, List, IsTrue, Bool, ◌==◌, ◌&&◌, nat_le, length, Option, IsSome, IfSome}
 use Rattle.std.specs.List.{list_all, slice_split}
 use Rattle.script.specs.declared.fault.Fault.{Fault}
 use Rattle.script.specs.declared.fault.Fault.TheVariants.{BadTable}

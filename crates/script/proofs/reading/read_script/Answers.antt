@@ -1,8 +1,7 @@
-use Rattle.std.proofs.Common.{◌≡◌, ℕ, ◌+◌, length, count_by, ap, ◌∙◌, arith}
+use Rattle.std.proofs.Common.{◌≡◌, ◌+◌, length, count_by, ap, ◌∙◌, arith}
 use Rattle.std.specs.Prelude.{◌==◌}
-use Rattle.std.proofs.lemmas.List.Elements.{All-nil}
 use Rattle.std.proofs.lemmas.List.Splits.{length-slice_split}
-use Rattle.script.specs.Kept.{IsPlain, text_lines}
+use Rattle.script.specs.Kept.{text_lines}
 use Rattle.script.proofs.PlainLines.{plain_more, plain_all, texts}
 use Rattle.script.proofs.reading.read_script.Goals as goal
 
