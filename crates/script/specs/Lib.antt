@@ -1,2 +1,3 @@
 pub mod TableText
 pub mod Kept
+pub mod HistoryText

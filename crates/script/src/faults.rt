@@ -1,6 +1,6 @@
 //! The faults of one line.
 ghost use Rattle.std.specs.Prelude.{◌≡◌, IsSome, IsTrue, None};
-ghost use Rattle.script.specs.Kept.{KeepsFault};
+ghost use Rattle.script.specs.Kept.{IsOfScript, KeepsFault};
 
 use crate::fault::Fault;
 use text::number_of;
@@ -28,7 +28,8 @@ impl Faults {
 
     /// One more fault.
     pub fn note(&mut self, fault: Fault)
-        ensures { IsSome self.new.least }
+        ensures noted { IsSome self.new.least }
+        ensures stays { IsOfScript fault → KeepsFault self.old.least self.new.least }
     {
         let known = self.least;
         self.least = match known {
@@ -39,7 +40,7 @@ impl Faults {
 
     /// One more fault, where it is one.
     pub fn note_if(&mut self, is_one: bool, fault: Fault)
-        ensures stays { KeepsFault self.old.least self.new.least }
+        ensures stays { IsOfScript fault → KeepsFault self.old.least self.new.least }
         ensures noted { IsTrue is_one → IsSome self.new.least }
     {
         if is_one {

@@ -1,4 +1,5 @@
 //! The parts of a script, as its lines give them.
+ghost use Rattle.std.specs.Prelude.{◌≡◌, ◌≤◌, ◌+◌, [], length, IfOk, IfSome, OnOk};
 ghost use Rattle.script.specs.Kept.{KeepsFault};
 
 use crate::actor::Actor;
@@ -42,7 +43,9 @@ pub struct Parts {
 
 impl Parts {
     /// No parts.
-    pub fn new(alloc: Global) -> Parts {
+    pub fn new(alloc: Global) -> Parts
+        ensures { result.entries.items ≡ [] }
+    {
         Parts {
             actor: Actor::Start,
             now: 0,
@@ -56,7 +59,9 @@ impl Parts {
     }
 
     /// The script of these parts.
-    pub fn script(self, alloc: Global) -> Result<Option<Script>, AllocError> {
+    pub fn script(self, alloc: Global) -> Result<Option<Script>, AllocError>
+        ensures { IfOk result (λ made. IfSome made (λ script. script.entries ≡ self.entries)) }
+    {
         let Parts {
             actor: _,
             now: _,
@@ -80,7 +85,8 @@ impl Parts {
         line: u64,
         words: &[&[u8]],
     ) -> Result<(), AllocError>
-        ensures { KeepsFault faults.old.least faults.new.least }
+        ensures faults { KeepsFault faults.old.least faults.new.least }
+        ensures entries { OnOk result (length self.new.entries.items ≤ length self.old.entries.items + 1) }
     {
         let Some(keyword) = words.first().and_then(|word| Keyword::of(word)) else {
             faults.note(Fault::UnknownWord);
@@ -143,7 +149,8 @@ impl Parts {
         word: &[u8],
         second: Option<&&[u8]>,
     ) -> Result<(), AllocError>
-        ensures { KeepsFault faults.old.least faults.new.least }
+        ensures faults { KeepsFault faults.old.least faults.new.least }
+        ensures entries { self.new.entries ≡ self.old.entries }
     {
         match keyword {
             Keyword::Pipe => self.pipe(faults, word),
@@ -170,7 +177,9 @@ impl Parts {
     }
 
     /// A line of the actor.
-    fn push_act(&mut self, act: Act) -> Result<(), AllocError> {
+    fn push_act(&mut self, act: Act) -> Result<(), AllocError>
+        ensures { self.new.entries ≡ self.old.entries }
+    {
         match self.actor {
             Actor::Clock => self.clock.push(act)?,
             Actor::Ring(ring) => {
@@ -184,7 +193,8 @@ impl Parts {
     }
 
     fn pipe(&mut self, faults: &mut Faults, word: &[u8]) -> Result<(), AllocError>
-        ensures { KeepsFault faults.old.least faults.new.least }
+        ensures faults { KeepsFault faults.old.least faults.new.least }
+        ensures entries { self.new.entries ≡ self.old.entries }
     {
         let capacity = faults.number(word, 1, LARGEST_CAPACITY);
         faults.note_if(self.pipes.len() >= PIPES, Fault::OutOfRange);
@@ -199,7 +209,8 @@ impl Parts {
         word: &[u8],
         second: Option<&&[u8]>,
     ) -> Result<(), AllocError>
-        ensures { KeepsFault faults.old.least faults.new.least }
+        ensures faults { KeepsFault faults.old.least faults.new.least }
+        ensures entries { self.new.entries ≡ self.old.entries }
     {
         let cells = faults.number(word, 1, LARGEST_CELLS);
         faults.note_if(!cells.is_power_of_two(), Fault::OutOfRange);
@@ -223,7 +234,8 @@ impl Parts {
         line: u64,
         words: &[&[u8]],
     ) -> Result<(), AllocError>
-        ensures { KeepsFault faults.old.least faults.new.least }
+        ensures faults { KeepsFault faults.old.least faults.new.least }
+        ensures entries { OnOk result (length self.new.entries.items ≤ length self.old.entries.items + 1) }
     {
         let place = self.entries.len();
         let number = (place as u64).saturating_add(1);
@@ -256,7 +268,8 @@ impl Parts {
     }
 
     fn submit(&mut self, alloc: Global, faults: &mut Faults) -> Result<(), AllocError>
-        ensures { KeepsFault faults.old.least faults.new.least }
+        ensures faults { KeepsFault faults.old.least faults.new.least }
+        ensures entries { self.new.entries ≡ self.old.entries }
     {
         let Actor::Ring(ring) = self.actor else {
             return Ok(());

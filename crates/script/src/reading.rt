@@ -1,7 +1,6 @@
 //! Scripts read from their text.
-ghost use Rattle.std.specs.Prelude.{◌==◌, IfOk, IfNone, OnOk, All};
-ghost use Rattle.std.specs.List.{slice_split};
-ghost use Rattle.script.specs.Kept.{IsPlain};
+ghost use Rattle.std.specs.Prelude.{◌≤◌, ◌+◌, length, IfOk, IfErr, IfNone, IfSome, OnOk, All};
+ghost use Rattle.script.specs.Kept.{IsFaultOf, IsOfScript, IsPlain, text_lines};
 
 use crate::fault::{Fault, ScriptFault};
 use crate::faults::Faults;
@@ -15,7 +14,10 @@ use std::alloc::{AllocError, Global};
 /// the first in the list of `Fault`.
 pub fn read_script(alloc: Global, bytes: &[u8]) -> Result<Script, ScriptFault>
     // What is accepted has no other bytes than line feeds and those from 0x20 to 0x7e.
-    ensures plain { OnOk result (All IsPlain (slice_split (λ b. b == 10) bytes.now)) }
+    ensures plain { OnOk result (All IsPlain (text_lines bytes.now)) }
+    // Each entry has its own line.
+    ensures entries { IfOk result (λ script. length script.entries.items ≤ length (text_lines bytes.now)) }
+    ensures fault { IfErr result (IsFaultOf bytes.now) }
 {
     let lines = lines_of(alloc, bytes)?;
     let outline = Outline::of(alloc, &lines)?;
@@ -44,7 +46,9 @@ fn fault_of(
     line: u64,
     text: &[u8],
 ) -> Result<Option<Fault>, AllocError>
-    ensures { IfOk result (λ fault. IfNone fault (IsPlain text.now)) }
+    ensures plain { IfOk result (λ fault. IfNone fault (IsPlain text.now)) }
+    ensures fault { IfOk result (λ fault. IfSome fault IsOfScript) }
+    ensures entries { OnOk result (length parts.new.entries.items ≤ length parts.old.entries.items + 1) }
 {
     let mut faults = Faults::new();
     faults.note_if(!is_plain(text), Fault::NotAscii);
