@@ -55,6 +55,11 @@ impl Walk {
         })
     }
 
+    /// The rings, to be asked.
+    pub fn ring(&self) -> &Object {
+        &self.object
+    }
+
     /// Hands the entries in as one batch of the ring. An entry with user_data 0 gets its number in the walk, from 1.
     pub fn submit(&mut self, ring: u16, lines: &[Line<'_>]) -> Result<(), Slip> {
         for (i, line) in lines.iter().enumerate() {
