@@ -1,5 +1,7 @@
 //! Why a command gives no answer.
 ghost use Rattle.std.specs.Prelude.{◌≡◌};
+ghost use Rattle.commands.specs.declared.problem.Problem.TheVariants.{Memory as OutOfMemory};
+ghost use Rattle.commands.specs.Status.{of_script, of_search, of_run};
 
 use driver::RunFault;
 use explore::ExploreError;
@@ -70,6 +72,8 @@ impl fmt::Display for Problem {
 }
 
 impl From<ScriptFault> for Problem {
+    ghost from_gives = { λ fault p. p ≡ of_script fault };
+
     fn from(fault: ScriptFault) -> Problem {
         match fault {
             ScriptFault::Memory => Problem::Memory,
@@ -79,6 +83,8 @@ impl From<ScriptFault> for Problem {
 }
 
 impl From<ExploreError> for Problem {
+    ghost from_gives = { λ error p. p ≡ of_search error };
+
     fn from(error: ExploreError) -> Problem {
         match error {
             ExploreError::TooMany => Problem::TooManyStates,
@@ -88,6 +94,8 @@ impl From<ExploreError> for Problem {
 }
 
 impl From<RunFault> for Problem {
+    ghost from_gives = { λ fault p. p ≡ of_run fault };
+
     fn from(fault: RunFault) -> Problem {
         match fault {
             RunFault::Stuck(label) => Problem::Stuck(label),
@@ -100,12 +108,16 @@ impl From<RunFault> for Problem {
 }
 
 impl From<AllocError> for Problem {
+    ghost from_gives = { λ _ p. p ≡ OutOfMemory };
+
     fn from(_e: AllocError) -> Problem {
         Problem::Memory
     }
 }
 
 impl<T: Drop> From<AllocFailed<T>> for Problem {
+    ghost from_gives = { λ _ p. p ≡ OutOfMemory };
+
     fn from(_e: AllocFailed<T>) -> Problem {
         Problem::Memory
     }

@@ -1,6 +1,6 @@
 //! Commands as a user gives them.
 use super::*;
-use std::alloc::AllocError;
+use std::alloc::{AllocError, Global};
 use std::thread::Threads;
 
 mod histories;
@@ -23,4 +23,11 @@ fn told<R: Threads + Sync + AllocGlobal>(
     let status = perform(rt, alloc, job, &mut script, &mut table, &mut out, &mut err);
     out.append(&mut err)?;
     Ok((String::from_utf8_lossy(alloc, &out)?, status))
+}
+
+/// Whether this table is one of those that `outcomes` lists.
+fn is_listed(alloc: Global, listed: &str, table: &str) -> Result<bool, AllocError> {
+    let wanted = format!(in alloc; "\n\n{table}\n")?;
+    let listed = format!(in alloc; "\n\n{listed}")?;
+    Ok(listed.as_str().contains(wanted.as_str()))
 }

@@ -1,4 +1,7 @@
 //! Why a script gave no table.
+ghost use Rattle.std.specs.Prelude.{◌≡◌};
+ghost use Rattle.driver.specs.declared.fault.RunFault.TheVariants.{Memory};
+
 use crate::lines::Halt;
 use board::BoardError;
 use std::alloc::{AllocError, AllocFailed};
@@ -30,12 +33,16 @@ pub enum RunFault {
 }
 
 impl From<AllocError> for RunFault {
+    ghost from_gives = { λ _ e. e ≡ Memory };
+
     fn from(_error: AllocError) -> RunFault {
         RunFault::Memory
     }
 }
 
 impl<T: Drop> From<AllocFailed<T>> for RunFault {
+    ghost from_gives = { λ _ e. e ≡ Memory };
+
     fn from(_error: AllocFailed<T>) -> RunFault {
         RunFault::Memory
     }

@@ -1,5 +1,5 @@
 //! The command `outcomes`.
-use super::told;
+use super::{is_listed, told};
 use crate::Job;
 use std::test::Fail;
 
@@ -139,9 +139,10 @@ fn one_of_many_tables(rt: HostRuntime) -> Result<(), Fail> {
     ];
     for (what, script, table) in cases {
         let (text, status) = told(&rt, &Job::Outcomes, script, "")?;
-        let wanted = format!(in rt.alloc(); "\n\n{table}\n")?;
-        let listed = format!(in rt.alloc(); "\n\n{text}")?;
-        assert!(rt; listed.as_str().contains(wanted.as_str()), "{what}: {text}");
+        assert!(rt;
+            is_listed(rt.alloc(), text.as_str(), table)?,
+            "{what}: {text}"
+        );
         assert_eq!(rt; status, 0, "{what}");
     }
     Ok(())

@@ -1,5 +1,5 @@
 //! The command `run`.
-use super::told;
+use super::{is_listed, told};
 use crate::Job;
 use std::test::Fail;
 
@@ -62,9 +62,7 @@ fn tables(rt: HostRuntime) -> Result<(), Fail> {
         assert_eq!(rt; text.as_str(), table, "{what}");
         assert_eq!(rt; status, 0, "{what}");
         let (listed, _) = told(&rt, &Job::Outcomes, script, "")?;
-        let listed = format!(in rt.alloc(); "\n\n{listed}")?;
-        let wanted = format!(in rt.alloc(); "\n\n{table}\n")?;
-        assert!(rt; listed.as_str().contains(wanted.as_str()), "{what}");
+        assert!(rt; is_listed(rt.alloc(), listed.as_str(), table)?, "{what}");
     }
     Ok(())
 }
