@@ -189,6 +189,7 @@ impl Board {
         ensures first { Goes self.now (P.knows pass.old) [] (P.knows pass.new) }
         ensures second { Goes self.now (Q.knows other.old) [] (Q.knows other.new) }
         ensures told { Begins (Q.knows other.new).view.seen (P.knows pass.new).view.seen }
+        ensures looked { Stepped (P.knows pass.old) (P.knows pass.new) × Stepped (Q.knows other.old) (Q.knows other.new) }
     {
         let words = &self.table.shared;
         pass.load(words, 0);

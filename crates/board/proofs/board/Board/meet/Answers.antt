@@ -1,10 +1,13 @@
-use Rattle.std.proofs.Common.{◌≡◌, ◌<◌, [], refl, sym, ap, ◌∙◌, subst}
+use Rattle.std.proofs.Common.{◌≡◌, ◌<◌, List, [], ◌∷◌, refl, sym, ap, ◌∙◌, subst}
+use Rattle.steps.specs.declared.view.Step.{Step}
+use Rattle.steps.specs.Cells.{claim_at}
 use Rattle.steps.specs.Rule.{Looks, hearing}
 use Rattle.work.specs.Board.{Facts, IsBoard, IsOf}
 use Rattle.work.specs.Passes.{Pass, CanReach}
 use Rattle.work.proofs.Kept.{looked_of}
 use Rattle.board.proofs.Going.{goes_looked}
-use Rattle.board.proofs.Knowing.{first_cell_reached, goes_told}
+use Rattle.board.specs.Calls.{Stepped}
+use Rattle.board.proofs.Knowing.{first_cell_reached, goes_told, stepped_once}
 use Rattle.board.proofs.board.Board.meet.Goals as goal
 
 pub load-requires : goal.load-requires
@@ -29,3 +32,10 @@ returns-clause-first g c = let e = c.load.ensures in let p = g.P.Pass.knows c.ar
 pub returns-clause-second : goal.returns-clause-second
 returns-clause-second g c = let e = c.load-2.ensures in let p = g.Q.Pass.knows c.args.other.now in let m = c.tell-messenger.result in
     goes_told c.args.self.now p (g.Q.Pass.knows c.hear.new.self) (g.Q.Pass.knows c.load-2.new.self) m.view c.requires.second c.hear.ensures.heard (ap (λ (z : Pass). z.view.parts) c.tell-messenger.ensures.told) e.table e.looks
+
+pub returns-clause-looked : goal.returns-clause-looked
+returns-clause-looked g c = let e = c.load-2.ensures in let p = g.P.Pass.knows c.args.pass.now in let q = g.Q.Pass.knows c.load-2.new.self in
+    let last : Step = record { word = claim_at 0; found = c.load-2.result; seen = q.view.seen } in (
+      subst (λ (z : Pass). Stepped p z) (sym c.tell-messenger.ensures.same) (stepped_once p (g.P.Pass.knows c.load.new.self) (claim_at 0) c.load.result c.load.ensures.step),
+      (last, [], e.step ∙ ap (λ (z : Pass). last ∷ z.view.steps) c.hear.ensures.heard, refl),
+    )
