@@ -3,7 +3,6 @@ pub mod Cutting
 pub mod Emptying
 pub mod Ending
 pub mod Going
-pub mod Handing
 pub mod Hearing
 pub mod Keeping
 pub mod Knowing

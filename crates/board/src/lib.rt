@@ -22,8 +22,3 @@ pub use poller::{Poller, Released};
 pub use shape::{RingShape, Shape};
 pub use submitter::Submitter;
 pub use work::{Busy, Pass, Ran, Worker};
-
-#[cfg(test)]
-mod board_tests;
-#[cfg(test)]
-mod end_tests;

@@ -1,0 +1,89 @@
+//! What the calls of a case answered.
+use board::{Completion, Phase, ReapError, Released, SubmitError};
+use entry::Cqe;
+use model::Req;
+use std::fmt;
+
+/// What a call answered.
+#[derive(Drop)]
+pub(crate) enum Answer {
+    Said(&'static str),
+    Next(u16, Req),
+    Stands(Phase),
+    Told(Released),
+    Submitted(Req),
+    NotSubmitted(SubmitError, Vec<u8>),
+    Ran(Cqe),
+    Reaped(Completion),
+    NotReaped(ReapError),
+}
+
+/// The pass doesn't exist, or runs a request.
+pub(crate) const NO_PASS: Answer = Answer::Said("no such pass");
+
+/// A request as the lines name it.
+#[derive(Clone, Copy)]
+pub(crate) struct Named(pub Req);
+
+impl fmt::Display for Named {
+    fn fmt<W: fmt::Write>(&self, f: &mut fmt::Formatter<W>) -> fmt::Result {
+        let Req { ring, k } = self.0;
+        write!(f, "{ring}.{k}")
+    }
+}
+
+/// The bytes of a buffer, `-` for none.
+#[derive(Clone, Copy)]
+pub(crate) struct Digits<'a>(pub &'a [u8]);
+
+impl fmt::Display for Digits<'_> {
+    fn fmt<W: fmt::Write>(&self, f: &mut fmt::Formatter<W>) -> fmt::Result {
+        if self.0.is_empty() {
+            return write!(f, "-");
+        }
+        for byte in self.0 {
+            write!(f, "{byte:02x}")?;
+        }
+        Ok(())
+    }
+}
+
+/// A completion with its buffer.
+#[derive(Clone, Copy)]
+pub(crate) struct Whole<'a>(pub &'a Completion);
+
+impl fmt::Display for Whole<'_> {
+    fn fmt<W: fmt::Write>(&self, f: &mut fmt::Formatter<W>) -> fmt::Result {
+        let Completion { req, cqe, buffer } = self.0;
+        let (req, buffer) = (Named(*req), Digits(buffer));
+        write!(f, "{req} {cqe} buffer {buffer}")
+    }
+}
+
+impl fmt::Display for Answer {
+    fn fmt<W: fmt::Write>(&self, f: &mut fmt::Formatter<W>) -> fmt::Result {
+        match self {
+            Answer::Said(words) => write!(f, "{words}"),
+            Answer::Next(ring, req) => {
+                let req = Named(*req);
+                write!(f, "ring {ring}, next {req}")
+            }
+            Answer::Stands(phase) => write!(f, "{phase:?}"),
+            Answer::Told(released) => write!(f, "{released:?}"),
+            Answer::Submitted(req) => {
+                let req = Named(*req);
+                write!(f, "{req}")
+            }
+            Answer::NotSubmitted(error, buffer) => {
+                let buffer = Digits(buffer);
+                write!(f, "{error}, buffer {buffer}")
+            }
+            Answer::Ran(cqe) => write!(f, "{cqe}"),
+            Answer::Reaped(completion) => {
+                let completion = Whole(completion);
+                write!(f, "{completion}")
+            }
+            Answer::NotReaped(error) => write!(f, "{error}"),
+        }
+    }
+}
