@@ -5,7 +5,7 @@ use std::alloc::{AllocError, Global};
 use text::{bytes_of, number_of};
 
 /// A pass, as a line names it: `poller`, `submitter0`, `worker0`.
-#[derive(Clone, Copy, PartialEq, Eq, Debug)]
+#[derive(Clone, Copy)]
 pub(crate) enum Name {
     Poller,
     Submitter(usize),
@@ -89,8 +89,10 @@ fn with_word(
         return Ok(None);
     };
     if key == "buffer" {
-        let buffer = bytes_of(alloc, value.as_bytes())?;
-        return Ok(buffer.map(|buffer| (sqe, buffer)));
+        return match bytes_of(alloc, value.as_bytes())? {
+            Some(buffer) => Ok(Some((sqe, buffer))),
+            None => Ok(None),
+        };
     }
     let Some(number) = number_of(value.as_bytes()) else {
         return Ok(None);
@@ -112,7 +114,10 @@ fn entry_of(alloc: Global, words: &[&str]) -> Result<Option<(Sqe, Vec<u8>)>, All
         },
         _ => (None, words),
     };
-    let mut entry = sqe.map(|sqe| (sqe, Vec::new(alloc)));
+    let mut entry = match sqe {
+        Some(sqe) => Some((sqe, Vec::new(alloc))),
+        None => None,
+    };
     for word in options {
         entry = match entry {
             Some(entry) => with_word(alloc, entry, word)?,

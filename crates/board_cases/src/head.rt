@@ -57,7 +57,15 @@ fn add_rings(
     let Some(cells) = count_of(cells) else {
         return Ok(false);
     };
-    let posts = posts.and_then(count_of);
+    let posts = match posts {
+        Some(posts) => {
+            let Some(posts) = count_of(posts) else {
+                return Ok(false);
+            };
+            Some(posts)
+        }
+        None => None,
+    };
     add_copies(&mut shape.rings, count, RingShape { cells, posts })?;
     Ok(true)
 }
