@@ -3,6 +3,7 @@ use super::*;
 use std::alloc::{AllocError, Global};
 use std::thread::Threads;
 
+mod events;
 mod histories;
 mod lines;
 mod outcomes;

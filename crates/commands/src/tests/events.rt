@@ -1,8 +1,8 @@
 //! Histories as text, at each event.
-use crate::history::write_history;
-use crate::reading::read_script;
+use entry::Sqe;
 use explore::Script;
 use model::{Bytes, Event, Req};
+use script::{read_script, write_history};
 use std::alloc::Global;
 use std::test::Fail;
 
@@ -27,7 +27,7 @@ fn events_of_one_request(rt: HostRuntime) -> Result<(), Fail> {
     let mut events = Vec::new(alloc);
     events.push(Event::Submit {
         req: A,
-        sqe: prep::nop(),
+        sqe: Sqe::of_bytes(&[255; 64]),
         bytes: Bytes::empty(alloc),
         last: true,
     })?;
