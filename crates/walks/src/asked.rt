@@ -1,80 +1,62 @@
 //! What a ring tells ahead of its next event.
 
-use crate::entry_line::{nop, read, timeout, write};
-use crate::step::Step::{Arm, Begin, Reply, Shut, Tick};
-use crate::step::{at, of};
+use crate::event::Row;
+use crate::slip::Slip;
 use crate::walk::Walk;
-use std::test::Fail;
+use crate::words::{Words, numbers_in};
 
-#[test]
-fn entries_and_the_clock_are_counted(rt: HostRuntime) -> Result<(), Fail> {
-    let mut walk = Walk::new(rt.alloc(), 2, &[])?;
-    assert_eq!(rt; walk.ring().clock(), 0);
-    assert_eq!(rt; walk.ring().submitted(1), 0);
-    walk.submit(1, &[nop(), nop()])?;
-    walk.submit(0, &[nop()])?;
-    walk.goes(&[Tick(3), Tick(7)])?;
-    assert_eq!(rt; walk.ring().clock(), 7);
-    assert_eq!(rt; walk.ring().submitted(0), 1);
-    assert_eq!(rt; walk.ring().submitted(1), 2);
-    assert_eq!(rt; walk.ring().submitted(2), 0);
-    Ok(())
-}
+impl Walk {
+    /// The ring tells this where it is asked.
+    pub fn asked(&self, what: &str, items: &str) -> Result<(), Slip> {
+        for (number, item) in (1..).zip(items.split(", ")) {
+            let told = match what {
+                "state" => self.has_state(item)?,
+                "answer" => self.has_answer(item)?,
+                _ => self.has_word(what, Words::of(item))?,
+            };
+            if !told {
+                return Err(Slip::Told(number));
+            }
+        }
+        Ok(())
+    }
 
-#[test]
-fn a_timer_is_due_from_now_until_it_is_armed(rt: HostRuntime) -> Result<(), Fail> {
-    let (t, n) = (at(0), at(1));
-    let mut walk = Walk::new(rt.alloc(), 1, &[])?;
-    walk.submit(0, &[timeout(5), nop()])?;
-    walk.goes(&[Tick(3)])?;
-    assert_eq!(rt; walk.ring().due_now(t), Some(8));
-    assert_eq!(rt; walk.ring().due_now(n), None);
-    assert_eq!(rt; walk.ring().deadline_of(t), None);
-    walk.goes(&[Arm(t, 8), Tick(4)])?;
-    assert_eq!(rt; walk.ring().deadline_of(t), Some(8));
-    assert_eq!(rt; walk.ring().deadline_of(of(1, 0)), None);
-    Ok(())
-}
+    /// The clock, how many entries a ring has handed in, a deadline, that a request has no answer now, or whether the end
+    /// has come.
+    fn has_word(&self, what: &str, mut words: Words<'_>) -> Result<bool, Slip> {
+        let ring = self.ring();
+        let told = match what {
+            "clock" => ring.clock() == words.short()?,
+            "submitted" => ring.submitted(words.ring()?) == words.number()?,
+            "due" => ring.due_now(words.req()?) == words.perhaps()?,
+            "deadline" => ring.deadline_of(words.req()?) == words.perhaps()?,
+            "no-answer" => ring.answer_now(words.req()?)?.is_none(),
+            "was-shut" => ring.was_shut() == words.yes()?,
+            _ => return Err(Slip::Unread),
+        };
+        words.end()?;
+        Ok(told)
+    }
 
-#[test]
-fn an_answer_is_told_once_there_is_one(rt: HostRuntime) -> Result<(), Fail> {
-    let (r, w) = (at(0), at(1));
-    let mut walk = Walk::new(rt.alloc(), 1, &[4])?;
-    walk.submit(0, &[read(0, 4), write(1, b"abc")])?;
-    assert!(rt; walk.ring().answer_now(w)?.is_none());
-    walk.goes(&[Begin(r), Begin(w)])?;
-    assert!(rt; walk.ring().answer_now(r)?.is_none());
-    let told = walk.ring().answer_now(w)?;
-    assert!(rt; matches!(&told, Some((3, data)) if data.as_slice().is_empty()));
-    walk.goes(&[Reply(w, 3, b"")])?;
-    let told = walk.ring().answer_now(r)?;
-    assert!(rt; matches!(&told, Some((3, data)) if data.as_slice() == b"abc".as_slice()));
-    assert!(rt; walk.ring().answer_now(w)?.is_none());
-    Ok(())
-}
+    /// The reply and the data that a worker may give to a request now.
+    fn has_answer(&self, item: &str) -> Result<bool, Slip> {
+        let row = Row::of(self.allocator(), Words::of(item))?;
+        match self.ring().answer_now(row.req)? {
+            Some((res, data)) => Ok(res == row.res && data.as_slice() == row.data.as_slice()),
+            None => Ok(false),
+        }
+    }
 
-#[test]
-fn the_end_is_told(rt: HostRuntime) -> Result<(), Fail> {
-    let mut walk = Walk::new(rt.alloc(), 1, &[])?;
-    assert!(rt; !walk.ring().was_shut());
-    walk.goes(&[Shut])?;
-    assert!(rt; walk.ring().was_shut());
-    Ok(())
-}
-
-/// The clock, the end, each pipe's ends and bytes, then each ring's requests.
-#[test]
-fn the_words_of_a_state_go_behind_others(rt: HostRuntime) -> Result<(), Fail> {
-    let t = at(0);
-    let mut walk = Walk::new(rt.alloc(), 1, &[4])?;
-    let mut words = Vec::new(rt.alloc());
-    words.push(9)?;
-    walk.ring().push_state(&mut words)?;
-    assert_eq!(rt; words.as_slice(), [9, 0, 0, 0, 0, 0, 0].as_slice());
-    walk.submit(0, &[timeout(5)])?;
-    walk.goes(&[Tick(3), Arm(t, 8)])?;
-    words.clear();
-    walk.ring().push_state(&mut words)?;
-    assert_eq!(rt; words.as_slice(), [3, 0, 0, 0, 0, 1, 3, 8, 0].as_slice());
-    Ok(())
+    /// The words of the state, which go behind others: `WORD .. behind WORD ..`.
+    fn has_state(&self, item: &str) -> Result<bool, Slip> {
+        let alloc = self.allocator();
+        let (state, mut wanted) = match item.split_once(" behind ") {
+            Some((state, others)) => (state, numbers_in(alloc, others)?),
+            None => (item, Vec::new(alloc)),
+        };
+        let mut told = Vec::from_slice(alloc, &wanted)?;
+        self.ring().push_state(&mut told)?;
+        wanted.extend_from_slice(&numbers_in(alloc, state)?)?;
+        Ok(told.as_slice() == wanted.as_slice())
+    }
 }

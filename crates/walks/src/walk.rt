@@ -1,40 +1,17 @@
 //! A walk through the one-thread ring.
 
-use crate::entry_line::Line;
-use crate::step::Step;
-use model::{Event, Req};
+use crate::event::{Row, event_of};
+use crate::request::Request;
+use crate::slip::Slip;
+use crate::words::{Words, number_in, ring_in, short_in};
+use entry::Sqe;
+use model::{Bytes, Event, Req};
 use prep::with_user_data;
-use ring::{Memory, Object, Refused};
+use ring::{Object, Refused};
 use std::alloc::{AllocError, Global};
 
-/// What went otherwise than the walk says, and at which of its steps, from 1.
-#[derive(Debug, Drop)]
-pub enum Slip {
-    /// A step that has to come next was refused.
-    Refused(usize),
-    /// A near miss was accepted.
-    Accepted(usize),
-    /// A refusal changed what is told of a request.
-    Changed(usize),
-    /// The line of the table is another, or one is missing (0).
-    Table(usize),
-    Memory,
-}
-
-impl From<AllocError> for Slip {
-    fn from(_: AllocError) -> Slip {
-        Slip::Memory
-    }
-}
-
-impl From<Memory> for Slip {
-    fn from(_: Memory) -> Slip {
-        Slip::Memory
-    }
-}
-
-/// A line of a table: a request, its reply and its data.
-pub type Row<'a> = (Req, i32, &'a [u8]);
+/// The largest clock.
+const LAST_TICK: u32 = 2_147_483_647;
 
 /// The rings as far as the walk has come.
 #[derive(Drop)]
@@ -46,11 +23,25 @@ pub struct Walk {
 }
 
 impl Walk {
-    /// So many rings, and a pipe for each capacity.
-    pub fn new(alloc: Global, rings: u16, caps: &[u32]) -> Result<Walk, Slip> {
+    /// So many rings, and a pipe for each capacity: `rings COUNT`, or `rings COUNT pipes CAPACITY ..`.
+    pub fn of(alloc: Global, setup: &str) -> Result<Walk, Slip> {
+        let mut words = Words::of(setup);
+        if words.word()? != "rings" {
+            return Err(Slip::Unread);
+        }
+        let rings = words.ring()?;
+        match words.rest.next() {
+            None | Some("pipes") => {}
+            Some(_) => return Err(Slip::Unread),
+        }
+        let mut caps = Vec::new(alloc);
+        for word in words.rest {
+            let cap = short_in(word)?;
+            caps.push(cap).map_err(AllocError::from)?;
+        }
         Ok(Walk {
             alloc,
-            object: Object::new(alloc, rings, caps)?,
+            object: Object::new(alloc, rings, &caps)?,
             requests: Vec::new(alloc),
         })
     }
@@ -60,65 +51,97 @@ impl Walk {
         &self.object
     }
 
-    /// Hands the entries in as one batch of the ring. An entry with user_data 0 gets its number in the walk, from 1.
-    pub fn submit(&mut self, ring: u16, lines: &[Line<'_>]) -> Result<(), Slip> {
-        for (i, line) in lines.iter().enumerate() {
-            self.submit_one(ring, line, i + 1 == lines.len())?;
+    /// The allocator of the rings.
+    pub fn allocator(&self) -> Global {
+        self.alloc
+    }
+
+    /// Plays a line.
+    pub fn play(&mut self, line: &str) -> Result<(), Slip> {
+        let (call, items) = line.split_once(' ').ok_or(Slip::Unread)?;
+        match call {
+            "submit" => self.submit(items, true),
+            "part" => self.submit(items, false),
+            "goes" => self.goes(items),
+            "refuses" => self.refuses(items),
+            "tells" => self.tells(items),
+            "open" => self.leaves_open(items),
+            "ends" => self.ends(items),
+            "nops" => self.nops(number_in(items)?),
+            _ => self.asked(call, items),
+        }
+    }
+
+    /// Hands the entries in as a batch of the ring, or as a part of one that goes on.
+    fn submit(&mut self, items: &str, whole: bool) -> Result<(), Slip> {
+        let (ring, items) = items.split_once(' ').ok_or(Slip::Unread)?;
+        let ring = ring_in(ring)?;
+        let count = items.split(", ").count();
+        for (number, item) in (1..).zip(items.split(", ")) {
+            let request = Request::of(self.alloc, Words::of(item))?;
+            self.submit_one(number, ring, request, whole && number == count)?;
         }
         Ok(())
     }
 
-    /// Hands one entry in. `last` ends the batch.
-    pub fn submit_one(&mut self, ring: u16, line: &Line<'_>, last: bool) -> Result<(), Slip> {
+    /// Hands one entry in. `last` ends the batch. An entry with user_data 0 gets its number in the walk, from 1.
+    fn submit_one(
+        &mut self,
+        number: usize,
+        ring: u16,
+        request: Request,
+        last: bool,
+    ) -> Result<(), Slip> {
         let req = self.next_of(ring);
-        self.goes(&[Step::Submit(req, self.numbered(line), line.bytes, last)])?;
+        let Request { sqe, buffer } = request;
+        let event = Event::Submit {
+            req,
+            sqe: self.numbered(sqe),
+            bytes: Bytes::new(buffer),
+            last,
+        };
+        self.step(number, &event)?;
         self.requests.push(req).map_err(AllocError::from)?;
         Ok(())
     }
 
     /// Each of these events comes next.
-    pub fn goes(&mut self, steps: &[Step<'_>]) -> Result<(), Slip> {
-        for (i, step) in steps.iter().enumerate() {
-            let event = step.event(self.alloc)?;
-            if self.object.apply(&event).is_err() {
-                return Err(Slip::Refused(i + 1));
-            }
+    fn goes(&mut self, items: &str) -> Result<(), Slip> {
+        for (number, item) in (1..).zip(items.split(", ")) {
+            let event = event_of(self.alloc, item)?;
+            self.step(number, &event)?;
         }
         Ok(())
     }
 
     /// None of these events may come next: each is refused, and nothing changes.
-    pub fn refuses(&mut self, steps: &[Step<'_>]) -> Result<(), Slip> {
-        for (i, step) in steps.iter().enumerate() {
-            let event = step.event(self.alloc)?;
-            let before = self.object.try_clone()?;
-            if self.object.apply(&event) != Err(Refused::NotAllowed) {
-                return Err(Slip::Accepted(i + 1));
-            }
-            if !self.tells_as(&before) {
-                return Err(Slip::Changed(i + 1));
-            }
+    fn refuses(&mut self, items: &str) -> Result<(), Slip> {
+        for (number, item) in (1..).zip(items.split(", ")) {
+            let event = event_of(self.alloc, item)?;
+            self.miss(number, &event)?;
         }
         Ok(())
     }
 
     /// The table so far has these lines among its own, no request of which was answered otherwise.
-    pub fn tells(&self, rows: &[Row<'_>]) -> Result<(), Slip> {
-        for (i, (req, res, data)) in rows.iter().enumerate() {
-            if self.object.reply_of(*req) != Some(*res)
-                || self.object.data_of(*req) != Some(*data)
-            {
-                return Err(Slip::Table(i + 1));
+    fn tells(&self, items: &str) -> Result<(), Slip> {
+        for (number, item) in (1..).zip(items.split(", ")) {
+            let row = Row::of(self.alloc, Words::of(item))?;
+            if !self.is_told(row.req, row.res, &row.data) {
+                return Err(Slip::Told(number));
             }
         }
         Ok(())
     }
 
     /// None of these requests was answered so far.
-    pub fn leaves_open(&self, requests: &[Req]) -> Result<(), Slip> {
-        for (i, req) in requests.iter().enumerate() {
-            if self.object.reply_of(*req).is_some() || self.object.data_of(*req).is_some() {
-                return Err(Slip::Table(i + 1));
+    fn leaves_open(&self, items: &str) -> Result<(), Slip> {
+        for (number, item) in (1..).zip(items.split(", ")) {
+            let mut words = Words::of(item);
+            let req = words.req()?;
+            words.end()?;
+            if self.object.reply_of(req).is_some() || self.object.data_of(req).is_some() {
+                return Err(Slip::Told(number));
             }
         }
         Ok(())
@@ -126,20 +149,68 @@ impl Walk {
 
     /// The end: each completion is taken, once. Then Shut, and a Cut for each request without an answer. The table is just
     /// these lines, in the order of submission.
-    pub fn ends(&mut self, rows: &[Row<'_>]) -> Result<(), Slip> {
+    fn ends(&mut self, items: &str) -> Result<(), Slip> {
         self.reap_all()?;
-        self.goes(&[Step::Shut])?;
-        self.refuses(&[Step::Shut, Step::Tick(2_147_483_647)])?;
+        self.step(1, &Event::Shut)?;
+        self.miss(1, &Event::Shut)?;
+        self.miss(2, &Event::Tick(LAST_TICK))?;
         self.cut_all()?;
-        if rows.len() != self.requests.len() {
-            return Err(Slip::Table(0));
+        if items.split(", ").count() != self.requests.len() {
+            return Err(Slip::Requests);
         }
-        for (i, (row, req)) in rows.iter().zip(self.requests.iter()).enumerate() {
-            if row.0 != *req {
-                return Err(Slip::Table(i + 1));
+        for (number, (item, req)) in (1..).zip(items.split(", ").zip(self.requests.iter())) {
+            let row = Row::of(self.alloc, Words::of(item))?;
+            if row.req != *req || !self.is_told(row.req, row.res, &row.data) {
+                return Err(Slip::Told(number));
             }
         }
-        self.tells(rows)
+        Ok(())
+    }
+
+    /// So many NOPs, one after another, through Submit, Begin, Reply and Reap.
+    fn nops(&mut self, count: u64) -> Result<(), Slip> {
+        for k in 0..count {
+            let req = Req { ring: 0, k };
+            let entry = Event::Submit {
+                req,
+                sqe: prep::nop(),
+                bytes: Bytes::empty(self.alloc),
+                last: true,
+            };
+            let reply = Event::Reply {
+                req,
+                res: 0,
+                data: Bytes::empty(self.alloc),
+            };
+            self.step(1, &entry)?;
+            self.step(2, &Event::Begin(req))?;
+            self.step(3, &reply)?;
+            self.step(4, &Event::Reap(req))?;
+            if !self.is_told(req, 0, &[]) {
+                return Err(Slip::Told(5));
+            }
+        }
+        Ok(())
+    }
+
+    /// The event comes next.
+    fn step(&mut self, number: usize, event: &Event) -> Result<(), Slip> {
+        match self.object.apply(event) {
+            Ok(()) => Ok(()),
+            Err(_) => Err(Slip::Refused(number)),
+        }
+    }
+
+    /// The event may not come next: it is refused, and nothing changes.
+    fn miss(&mut self, number: usize, event: &Event) -> Result<(), Slip> {
+        let before = self.object.try_clone()?;
+        if self.object.apply(event) != Err(Refused::NotAllowed) {
+            return Err(Slip::Accepted(number));
+        }
+        if !self.tells_as(&before) {
+            return Err(Slip::Changed(number));
+        }
+        Ok(())
     }
 
     fn reap_all(&mut self) -> Result<(), Slip> {
@@ -148,9 +219,9 @@ impl Walk {
                 continue;
             };
             if self.object.reply_of(req).is_some() {
-                self.goes(&[Step::Reap(req)])?;
+                self.step(1, &Event::Reap(req))?;
             }
-            self.refuses(&[Step::Reap(req)])?;
+            self.miss(1, &Event::Reap(req))?;
         }
         Ok(())
     }
@@ -161,11 +232,16 @@ impl Walk {
                 continue;
             };
             if self.object.reply_of(req).is_none() {
-                self.goes(&[Step::Cut(req)])?;
+                self.step(1, &Event::Cut(req))?;
             }
-            self.refuses(&[Step::Cut(req)])?;
+            self.miss(1, &Event::Cut(req))?;
         }
         Ok(())
+    }
+
+    /// The request has this reply and data.
+    fn is_told(&self, req: Req, res: i32, data: &[u8]) -> bool {
+        self.object.reply_of(req) == Some(res) && self.object.data_of(req) == Some(data)
     }
 
     /// All requests have the same replies and data as in the other.
@@ -186,11 +262,11 @@ impl Walk {
         Req { ring, k }
     }
 
-    fn numbered(&self, line: &Line<'_>) -> entry::Sqe {
-        if line.sqe.user_data() == 0 {
-            with_user_data(line.sqe, self.requests.len().wrapping_add(1) as u64)
+    fn numbered(&self, sqe: Sqe) -> Sqe {
+        if sqe.user_data() == 0 {
+            with_user_data(sqe, self.requests.len().wrapping_add(1) as u64)
         } else {
-            line.sqe
+            sqe
         }
     }
 }
