@@ -1,62 +1,49 @@
 //! What a ring tells ahead of its next event.
 
-use crate::event::Row;
-use crate::slip::Slip;
+use crate::reader::Slip;
 use crate::walk::Walk;
-use crate::words::{Words, numbers_in};
 
-impl Walk {
+impl<'a> Walk<'a> {
     /// The ring tells this where it is asked.
-    pub fn asked(&self, what: &str, items: &str) -> Result<(), Slip> {
-        for (number, item) in (1..).zip(items.split(", ")) {
-            let told = match what {
-                "state" => self.has_state(item)?,
-                "answer" => self.has_answer(item)?,
-                _ => self.has_word(what, Words::of(item))?,
-            };
-            if !told {
-                return Err(Slip::Told(number));
-            }
-        }
-        Ok(())
-    }
-
-    /// The clock, how many entries a ring has handed in, a deadline, that a request has no answer now, or whether the end
-    /// has come.
-    fn has_word(&self, what: &str, mut words: Words<'_>) -> Result<bool, Slip> {
-        let ring = self.ring();
+    pub fn ask(&mut self, what: &str) {
         let told = match what {
-            "clock" => ring.clock() == words.short()?,
-            "submitted" => ring.submitted(words.ring()?) == words.number()?,
-            "due" => ring.due_now(words.req()?) == words.perhaps()?,
-            "deadline" => ring.deadline_of(words.req()?) == words.perhaps()?,
-            "no-answer" => ring.answer_now(words.req()?)?.is_none(),
-            "was-shut" => ring.was_shut() == words.yes()?,
-            _ => return Err(Slip::Unread),
+            "clock" => self.object.clock() == self.reader.short(),
+            "submitted" => self.object.submitted(self.reader.ring()) == self.reader.number(),
+            "due" => self.object.due_now(self.reader.req()) == self.reader.short_or_none(),
+            "deadline" => self.object.deadline_of(self.reader.req()) == self.reader.short_or_none(),
+            "no-answer" => matches!(self.object.answer_now(self.reader.req()), Ok(None)),
+            "answer" => self.has_answer(),
+            "was-shut" => self.object.was_shut() == self.reader.yes(),
+            "behind" => self.state.push(self.reader.number()).is_ok(),
+            "state" => self.has_state(),
+            _ => {
+                self.reader.note(Slip::Unread);
+                true
+            }
         };
-        words.end()?;
-        Ok(told)
+        if !told {
+            self.reader.note(Slip::Told);
+        }
     }
 
     /// The reply and the data that a worker may give to a request now.
-    fn has_answer(&self, item: &str) -> Result<bool, Slip> {
-        let row = Row::of(self.allocator(), Words::of(item))?;
-        match self.ring().answer_now(row.req)? {
-            Some((res, data)) => Ok(res == row.res && data.as_slice() == row.data.as_slice()),
-            None => Ok(false),
+    fn has_answer(&mut self) -> bool {
+        let req = self.reader.req();
+        let res = self.reader.signed();
+        let data = self.reader.bytes(self.alloc);
+        match self.object.answer_now(req) {
+            Ok(Some((told, bytes))) => told == res && bytes.as_slice() == data.as_slice(),
+            _ => false,
         }
     }
 
-    /// The words of the state, which go behind others: `WORD .. behind WORD ..`.
-    fn has_state(&self, item: &str) -> Result<bool, Slip> {
-        let alloc = self.allocator();
-        let (state, mut wanted) = match item.split_once(" behind ") {
-            Some((state, others)) => (state, numbers_in(alloc, others)?),
-            None => (item, Vec::new(alloc)),
-        };
-        let mut told = Vec::from_slice(alloc, &wanted)?;
-        self.ring().push_state(&mut told)?;
-        wanted.extend_from_slice(&numbers_in(alloc, state)?)?;
-        Ok(told.as_slice() == wanted.as_slice())
+    /// The words of the state, behind those that were given before.
+    fn has_state(&mut self) -> bool {
+        let mut told = self.object.push_state(&mut self.state).is_ok();
+        for word in self.state.iter() {
+            told &= self.reader.number() == *word;
+        }
+        self.state.clear();
+        told
     }
 }

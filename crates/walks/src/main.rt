@@ -5,42 +5,36 @@
 
 mod asked;
 mod event;
-mod request;
-mod slip;
+mod reader;
 mod walk;
-mod words;
 
-use slip::Slip;
-use std::alloc::Global;
+use reader::Slip;
+use ring::Memory;
+use std::alloc::{AllocError, Global};
 use std::io;
 use std::io::Read;
 use walk::Walk;
 
-/// Plays a walk on rings of this setup, line by line. Err says which line of the walk went otherwise, from 1 for its first,
-/// and how.
-fn play(alloc: Global, setup: &str, lines: &str) -> Result<(), (u64, Slip)> {
-    let mut walk = match Walk::of(alloc, setup) {
-        Ok(walk) => walk,
-        Err(slip) => return Err((1, slip)),
-    };
+/// Plays the lines of a walk on rings of this setup, and tells what goes otherwise first, at which line and item.
+fn play(alloc: Global, setup: &str, lines: &str) -> Result<Option<(Slip, u64, u64)>, Memory> {
+    let mut walk = Walk::new(alloc, setup)?;
     for (number, line) in (2..).zip(lines.split('\n')) {
-        if line.is_empty() || line.starts_with('#') {
-            continue;
-        }
-        if let Err(slip) = walk.play(line) {
-            return Err((number, slip));
-        }
+        walk.play(number, line);
     }
-    Ok(())
+    Ok(walk.reader.slip)
 }
 
 /// Plays the walk of this text, whose first line is `NAME SETUP`, and prints how it went.
 fn tell<R: AllocGlobal + Print>(rt: &R, text: &str) -> io::Result<()> {
     let (first, lines) = text.split_once('\n').unwrap_or((text, ""));
     let (name, setup) = first.split_once(' ').unwrap_or((first, ""));
-    match play(rt.alloc(), setup, lines) {
-        Ok(()) => println!(rt; "{name}: ok"),
-        Err((line, slip)) => println!(rt; "{name}: line {line} {slip}"),
+    match play(rt.alloc(), setup, lines).map_err(|_| AllocError)? {
+        None => println!(rt; "{name}: ok"),
+        Some((Slip::Unread, line, _)) => println!(rt; "{name}: line {line} can't be read"),
+        Some((slip, line, item)) => {
+            let told = slip.text();
+            println!(rt; "{name}: line {line}, item {item} {told}")
+        }
     }
 }
 

@@ -1,272 +1,259 @@
 //! A walk through the one-thread ring.
 
-use crate::event::{Row, event_of};
-use crate::request::Request;
-use crate::slip::Slip;
-use crate::words::{Words, number_in, ring_in, short_in};
-use entry::Sqe;
+use crate::event::{event_of, request_of};
+use crate::reader::{Reader, Slip};
 use model::{Bytes, Event, Req};
 use prep::with_user_data;
-use ring::{Object, Refused};
-use std::alloc::{AllocError, Global};
+use ring::{Memory, Object, Refused};
+use std::alloc::Global;
 
 /// The largest clock.
 const LAST_TICK: u32 = 2_147_483_647;
 
+/// The most pipes of a walk.
+const PIPES: u32 = 16;
+
 /// The rings as far as the walk has come.
 #[derive(Drop)]
-pub struct Walk {
-    alloc: Global,
-    object: Object,
+pub struct Walk<'a> {
+    pub alloc: Global,
+    pub object: Object,
     /// All requests in the order of submission.
     requests: Vec<Req>,
+    /// The ring to which entries are handed in.
+    ring: u16,
+    /// The words behind which a state goes.
+    pub state: Vec<u64>,
+    pub reader: Reader<'a>,
 }
 
-impl Walk {
+impl<'a> Walk<'a> {
     /// So many rings, and a pipe for each capacity: `rings COUNT`, or `rings COUNT pipes CAPACITY ..`.
-    pub fn of(alloc: Global, setup: &str) -> Result<Walk, Slip> {
-        let mut words = Words::of(setup);
-        if words.word()? != "rings" {
-            return Err(Slip::Unread);
-        }
-        let rings = words.ring()?;
-        match words.rest.next() {
-            None | Some("pipes") => {}
-            Some(_) => return Err(Slip::Unread),
-        }
+    pub fn new(alloc: Global, setup: &'a str) -> Result<Walk<'a>, Memory> {
+        let mut reader = Reader::new(setup);
+        let rings = if reader.option("rings") {
+            reader.ring()
+        } else {
+            0
+        };
         let mut caps = Vec::new(alloc);
-        for word in words.rest {
-            let cap = short_in(word)?;
-            caps.push(cap).map_err(AllocError::from)?;
+        if reader.option("pipes") {
+            for _ in 0..PIPES {
+                if !reader.rest.is_empty() && caps.push(reader.short()).is_err() {
+                    return Err(Memory);
+                }
+            }
         }
+        reader.end();
         Ok(Walk {
             alloc,
             object: Object::new(alloc, rings, &caps)?,
             requests: Vec::new(alloc),
+            ring: 0,
+            state: Vec::new(alloc),
+            reader,
         })
     }
 
-    /// The rings, to be asked.
-    pub fn ring(&self) -> &Object {
-        &self.object
+    /// Plays a line: a call, then a colon and its items.
+    pub fn play(&mut self, number: u64, line: &'a str) {
+        self.reader.line = number;
+        self.reader.item = 1;
+        if line.is_empty() || line.starts_with('#') {
+            return;
+        }
+        let (call, mut items) = line.split_once(": ").unwrap_or((line, ""));
+        self.reader.rest = call;
+        let call = self.reader.word();
+        if matches!(call, "submit" | "part") {
+            self.ring = self.reader.ring();
+        }
+        self.reader.end();
+        for number in 1..u64::MAX {
+            self.reader.item = number;
+            match items.split_once(", ") {
+                Some((item, others)) => {
+                    self.play_item(call, item, false);
+                    items = others;
+                }
+                None => {
+                    self.play_item(call, items, true);
+                    return;
+                }
+            }
+        }
     }
 
-    /// The allocator of the rings.
-    pub fn allocator(&self) -> Global {
-        self.alloc
-    }
-
-    /// Plays a line.
-    pub fn play(&mut self, line: &str) -> Result<(), Slip> {
-        let (call, items) = line.split_once(' ').ok_or(Slip::Unread)?;
+    /// Plays an item of a call.
+    fn play_item(&mut self, call: &str, item: &'a str, last: bool) {
+        self.reader.rest = item;
         match call {
-            "submit" => self.submit(items, true),
-            "part" => self.submit(items, false),
-            "goes" => self.goes(items),
-            "refuses" => self.refuses(items),
-            "tells" => self.tells(items),
-            "open" => self.leaves_open(items),
-            "ends" => self.ends(items),
-            "nops" => self.nops(number_in(items)?),
-            _ => self.asked(call, items),
+            "submit" => self.submit(last),
+            "part" => self.submit(false),
+            "goes" => {
+                let event = event_of(self.alloc, &mut self.reader);
+                self.step(&event);
+            }
+            "refuses" => {
+                let event = event_of(self.alloc, &mut self.reader);
+                self.miss(&event);
+            }
+            "tells" => {
+                let _req = self.tell();
+            }
+            "open" => self.leave_open(),
+            "ends" => self.end(last),
+            "nops" => self.nops(),
+            _ => self.ask(call),
         }
+        self.reader.end();
     }
 
-    /// Hands the entries in as a batch of the ring, or as a part of one that goes on.
-    fn submit(&mut self, items: &str, whole: bool) -> Result<(), Slip> {
-        let (ring, items) = items.split_once(' ').ok_or(Slip::Unread)?;
-        let ring = ring_in(ring)?;
-        let count = items.split(", ").count();
-        for (number, item) in (1..).zip(items.split(", ")) {
-            let request = Request::of(self.alloc, Words::of(item))?;
-            self.submit_one(number, ring, request, whole && number == count)?;
-        }
-        Ok(())
-    }
-
-    /// Hands one entry in. `last` ends the batch. An entry with user_data 0 gets its number in the walk, from 1.
-    fn submit_one(
-        &mut self,
-        number: usize,
-        ring: u16,
-        request: Request,
-        last: bool,
-    ) -> Result<(), Slip> {
-        let req = self.next_of(ring);
-        let Request { sqe, buffer } = request;
+    /// Hands an entry in. `last` ends the batch. An entry with user_data 0 gets its number in the walk, from 1.
+    fn submit(&mut self, last: bool) {
+        let (sqe, buffer) = request_of(self.alloc, &mut self.reader);
+        let number = self.requests.len().wrapping_add(1) as u64;
+        let req = self.next_req();
         let event = Event::Submit {
             req,
-            sqe: self.numbered(sqe),
+            sqe: if sqe.user_data() == 0 {
+                with_user_data(sqe, number)
+            } else {
+                sqe
+            },
             bytes: Bytes::new(buffer),
             last,
         };
-        self.step(number, &event)?;
-        self.requests.push(req).map_err(AllocError::from)?;
-        Ok(())
-    }
-
-    /// Each of these events comes next.
-    fn goes(&mut self, items: &str) -> Result<(), Slip> {
-        for (number, item) in (1..).zip(items.split(", ")) {
-            let event = event_of(self.alloc, item)?;
-            self.step(number, &event)?;
+        self.step(&event);
+        if self.requests.push(req).is_err() {
+            self.reader.note(Slip::Memory);
         }
-        Ok(())
     }
 
-    /// None of these events may come next: each is refused, and nothing changes.
-    fn refuses(&mut self, items: &str) -> Result<(), Slip> {
-        for (number, item) in (1..).zip(items.split(", ")) {
-            let event = event_of(self.alloc, item)?;
-            self.miss(number, &event)?;
-        }
-        Ok(())
-    }
-
-    /// The table so far has these lines among its own, no request of which was answered otherwise.
-    fn tells(&self, items: &str) -> Result<(), Slip> {
-        for (number, item) in (1..).zip(items.split(", ")) {
-            let row = Row::of(self.alloc, Words::of(item))?;
-            if !self.is_told(row.req, row.res, &row.data) {
-                return Err(Slip::Told(number));
+    /// The next request of the ring.
+    fn next_req(&self) -> Req {
+        let mut k = 0u64;
+        for req in self.requests.iter() {
+            if req.ring == self.ring {
+                k = k.wrapping_add(1);
             }
         }
-        Ok(())
-    }
-
-    /// None of these requests was answered so far.
-    fn leaves_open(&self, items: &str) -> Result<(), Slip> {
-        for (number, item) in (1..).zip(items.split(", ")) {
-            let mut words = Words::of(item);
-            let req = words.req()?;
-            words.end()?;
-            if self.object.reply_of(req).is_some() || self.object.data_of(req).is_some() {
-                return Err(Slip::Told(number));
-            }
-        }
-        Ok(())
-    }
-
-    /// The end: each completion is taken, once. Then Shut, and a Cut for each request without an answer. The table is just
-    /// these lines, in the order of submission.
-    fn ends(&mut self, items: &str) -> Result<(), Slip> {
-        self.reap_all()?;
-        self.step(1, &Event::Shut)?;
-        self.miss(1, &Event::Shut)?;
-        self.miss(2, &Event::Tick(LAST_TICK))?;
-        self.cut_all()?;
-        if items.split(", ").count() != self.requests.len() {
-            return Err(Slip::Requests);
-        }
-        for (number, (item, req)) in (1..).zip(items.split(", ").zip(self.requests.iter())) {
-            let row = Row::of(self.alloc, Words::of(item))?;
-            if row.req != *req || !self.is_told(row.req, row.res, &row.data) {
-                return Err(Slip::Told(number));
-            }
-        }
-        Ok(())
-    }
-
-    /// So many NOPs, one after another, through Submit, Begin, Reply and Reap.
-    fn nops(&mut self, count: u64) -> Result<(), Slip> {
-        for k in 0..count {
-            let req = Req { ring: 0, k };
-            let entry = Event::Submit {
-                req,
-                sqe: prep::nop(),
-                bytes: Bytes::empty(self.alloc),
-                last: true,
-            };
-            let reply = Event::Reply {
-                req,
-                res: 0,
-                data: Bytes::empty(self.alloc),
-            };
-            self.step(1, &entry)?;
-            self.step(2, &Event::Begin(req))?;
-            self.step(3, &reply)?;
-            self.step(4, &Event::Reap(req))?;
-            if !self.is_told(req, 0, &[]) {
-                return Err(Slip::Told(5));
-            }
-        }
-        Ok(())
+        Req { ring: self.ring, k }
     }
 
     /// The event comes next.
-    fn step(&mut self, number: usize, event: &Event) -> Result<(), Slip> {
-        match self.object.apply(event) {
-            Ok(()) => Ok(()),
-            Err(_) => Err(Slip::Refused(number)),
+    fn step(&mut self, event: &Event) {
+        if self.object.apply(event).is_err() {
+            self.reader.note(Slip::Refused);
         }
     }
 
     /// The event may not come next: it is refused, and nothing changes.
-    fn miss(&mut self, number: usize, event: &Event) -> Result<(), Slip> {
-        let before = self.object.try_clone()?;
-        if self.object.apply(event) != Err(Refused::NotAllowed) {
-            return Err(Slip::Accepted(number));
-        }
-        if !self.tells_as(&before) {
-            return Err(Slip::Changed(number));
-        }
-        Ok(())
-    }
-
-    fn reap_all(&mut self) -> Result<(), Slip> {
-        for i in 0..self.requests.len() {
-            let Some(req) = self.requests.get(i).copied() else {
-                continue;
-            };
-            if self.object.reply_of(req).is_some() {
-                self.step(1, &Event::Reap(req))?;
+    fn miss(&mut self, event: &Event) {
+        match self.object.try_clone() {
+            Ok(before) => {
+                if self.object.apply(event) != Err(Refused::NotAllowed) {
+                    self.reader.note(Slip::Accepted);
+                }
+                if !self.tells_as(&before) {
+                    self.reader.note(Slip::Changed);
+                }
             }
-            self.miss(1, &Event::Reap(req))?;
+            Err(_) => self.reader.note(Slip::Memory),
         }
-        Ok(())
-    }
-
-    fn cut_all(&mut self) -> Result<(), Slip> {
-        for i in 0..self.requests.len() {
-            let Some(req) = self.requests.get(i).copied() else {
-                continue;
-            };
-            if self.object.reply_of(req).is_none() {
-                self.step(1, &Event::Cut(req))?;
-            }
-            self.miss(1, &Event::Cut(req))?;
-        }
-        Ok(())
-    }
-
-    /// The request has this reply and data.
-    fn is_told(&self, req: Req, res: i32, data: &[u8]) -> bool {
-        self.object.reply_of(req) == Some(res) && self.object.data_of(req) == Some(data)
     }
 
     /// All requests have the same replies and data as in the other.
     fn tells_as(&self, other: &Object) -> bool {
-        self.requests.iter().all(|req| {
-            self.object.reply_of(*req) == other.reply_of(*req)
-                && self.object.data_of(*req) == other.data_of(*req)
-        })
-    }
-
-    fn next_of(&self, ring: u16) -> Req {
-        let mut k = 0u64;
         for req in self.requests.iter() {
-            if req.ring == ring {
-                k = k.wrapping_add(1);
+            if self.object.reply_of(*req) != other.reply_of(*req)
+                || self.object.data_of(*req) != other.data_of(*req)
+            {
+                return false;
             }
         }
-        Req { ring, k }
+        true
     }
 
-    fn numbered(&self, sqe: Sqe) -> Sqe {
-        if sqe.user_data() == 0 {
-            with_user_data(sqe, self.requests.len().wrapping_add(1) as u64)
-        } else {
-            sqe
+    /// The table so far has this row.
+    fn tell(&mut self) -> Req {
+        let req = self.reader.req();
+        let res = self.reader.signed();
+        let data = self.reader.bytes(self.alloc);
+        if self.object.reply_of(req) != Some(res)
+            || self.object.data_of(req) != Some(data.as_slice())
+        {
+            self.reader.note(Slip::Told);
+        }
+        req
+    }
+
+    /// The request was not answered so far.
+    fn leave_open(&mut self) {
+        let req = self.reader.req();
+        if self.object.reply_of(req).is_some() || self.object.data_of(req).is_some() {
+            self.reader.note(Slip::Told);
+        }
+    }
+
+    /// A row of the whole table, in the order of submission. Before the first comes the end: each completion is taken, once;
+    /// then Shut, and a Cut, once, for each request without an answer.
+    fn end(&mut self, last: bool) {
+        let row = self.reader.item;
+        if row == 1 {
+            self.end_each(false);
+            self.step(&Event::Shut);
+            self.miss(&Event::Shut);
+            self.miss(&Event::Tick(LAST_TICK));
+            self.end_each(true);
+        }
+        let req = self.tell();
+        if self.requests.get(row.wrapping_sub(1) as usize).copied() != Some(req) {
+            self.reader.note(Slip::Told);
+        }
+        if last && self.requests.len() as u64 != row {
+            self.reader.note(Slip::Missing);
+        }
+    }
+
+    /// Reaps each answered request, once, or cuts each other one, once.
+    fn end_each(&mut self, cuts: bool) {
+        for i in 0..self.requests.len() {
+            let Some(req) = self.requests.get(i).copied() else {
+                continue;
+            };
+            let event = if cuts {
+                Event::Cut(req)
+            } else {
+                Event::Reap(req)
+            };
+            if self.object.reply_of(req).is_none() == cuts {
+                self.step(&event);
+            }
+            self.miss(&event);
+        }
+    }
+
+    /// So many NOPs, one after another, through Submit, Begin, Reply and Reap.
+    fn nops(&mut self) {
+        for k in 0..self.reader.number() {
+            let req = Req { ring: 0, k };
+            self.step(&Event::Submit {
+                req,
+                sqe: prep::nop(),
+                bytes: Bytes::empty(self.alloc),
+                last: true,
+            });
+            self.step(&Event::Begin(req));
+            self.step(&Event::Reply {
+                req,
+                res: 0,
+                data: Bytes::empty(self.alloc),
+            });
+            self.step(&Event::Reap(req));
+            if self.object.reply_of(req) != Some(0) || self.object.data_of(req) != Some(&[]) {
+                self.reader.note(Slip::Told);
+            }
         }
     }
 }
