@@ -7,22 +7,29 @@ impl<'a> Walk<'a> {
     /// The ring tells this where it is asked.
     pub fn ask(&mut self, what: &str) {
         let told = match what {
-            "clock" => self.object.clock() == self.reader.short(),
-            "submitted" => self.object.submitted(self.reader.ring()) == self.reader.number(),
-            "due" => self.object.due_now(self.reader.req()) == self.reader.short_or_none(),
-            "deadline" => self.object.deadline_of(self.reader.req()) == self.reader.short_or_none(),
-            "no-answer" => matches!(self.object.answer_now(self.reader.req()), Ok(None)),
             "answer" => self.has_answer(),
-            "was-shut" => self.object.was_shut() == self.reader.yes(),
+            "no-answer" => matches!(self.object.answer_now(self.reader.req()), Ok(None)),
             "behind" => self.state.push(self.reader.number()).is_ok(),
             "state" => self.has_state(),
-            _ => {
-                self.reader.note(Slip::Unread);
-                true
-            }
+            _ => self.number_of(what) == self.reader.number_or_none(),
         };
         if !told {
             self.reader.note(Slip::Told);
+        }
+    }
+
+    /// The clock, how many entries a ring has handed in, a deadline, or 1 once the end has come.
+    fn number_of(&mut self, what: &str) -> Option<u64> {
+        match what {
+            "clock" => Some(u64::from(self.object.clock())),
+            "submitted" => Some(self.object.submitted(self.reader.ring())),
+            "due" => wide(self.object.due_now(self.reader.req())),
+            "deadline" => wide(self.object.deadline_of(self.reader.req())),
+            "was-shut" => Some(u64::from(self.object.was_shut())),
+            _ => {
+                self.reader.note(Slip::Unread);
+                None
+            }
         }
     }
 
@@ -45,5 +52,12 @@ impl<'a> Walk<'a> {
         }
         self.state.clear();
         told
+    }
+}
+
+fn wide(number: Option<u32>) -> Option<u64> {
+    match number {
+        Some(number) => Some(u64::from(number)),
+        None => None,
     }
 }

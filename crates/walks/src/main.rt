@@ -18,8 +18,8 @@ use walk::Walk;
 /// Plays the lines of a walk on rings of this setup, and tells what goes otherwise first, at which line and item.
 fn play(alloc: Global, setup: &str, lines: &str) -> Result<Option<(Slip, u64, u64)>, Memory> {
     let mut walk = Walk::new(alloc, setup)?;
-    for (number, line) in (2..).zip(lines.split('\n')) {
-        walk.play(number, line);
+    for line in lines.split('\n') {
+        walk.play(line);
     }
     Ok(walk.reader.slip)
 }
@@ -30,10 +30,9 @@ fn tell<R: AllocGlobal + Print>(rt: &R, text: &str) -> io::Result<()> {
     let (name, setup) = first.split_once(' ').unwrap_or((first, ""));
     match play(rt.alloc(), setup, lines).map_err(|_| AllocError)? {
         None => println!(rt; "{name}: ok"),
-        Some((Slip::Unread, line, _)) => println!(rt; "{name}: line {line} can't be read"),
         Some((slip, line, item)) => {
             let told = slip.text();
-            println!(rt; "{name}: line {line}, item {item} {told}")
+            println!(rt; "{name}: line {line} {told} at item {item}")
         }
     }
 }

@@ -46,7 +46,7 @@ impl Slip {
             Slip::Accepted => "was accepted",
             Slip::Changed => "changed what is told",
             Slip::Told => "is told otherwise",
-            Slip::Missing => "is the last, and requests are missing",
+            Slip::Missing => "misses requests",
             Slip::Memory => "ran out of memory",
         }
     }
@@ -131,22 +131,13 @@ impl<'a> Reader<'a> {
         self.number_before(' ', 0xffff_ffff) as u32
     }
 
-    /// A number of 32 bits, or `none`.
-    pub fn short_or_none(&mut self) -> Option<u32> {
+    /// A number of 64 bits, or `none`.
+    pub fn number_or_none(&mut self) -> Option<u64> {
         if self.option("none") {
             None
         } else {
-            Some(self.short())
+            Some(self.number())
         }
-    }
-
-    /// `yes` or `no`.
-    pub fn yes(&mut self) -> bool {
-        let yes = self.option("yes");
-        if !yes && !self.option("no") {
-            self.note(Slip::Unread);
-        }
-        yes
     }
 
     /// The number of a ring.

@@ -56,8 +56,8 @@ impl<'a> Walk<'a> {
     }
 
     /// Plays a line: a call, then a colon and its items.
-    pub fn play(&mut self, number: u64, line: &'a str) {
-        self.reader.line = number;
+    pub fn play(&mut self, line: &'a str) {
+        self.reader.line = self.reader.line.saturating_add(1);
         self.reader.item = 1;
         if line.is_empty() || line.starts_with('#') {
             return;
@@ -92,11 +92,11 @@ impl<'a> Walk<'a> {
             "part" => self.submit(false),
             "goes" => {
                 let event = event_of(self.alloc, &mut self.reader);
-                self.step(&event);
+                self.step(event);
             }
             "refuses" => {
                 let event = event_of(self.alloc, &mut self.reader);
-                self.miss(&event);
+                self.miss(event);
             }
             "tells" => {
                 let _req = self.tell();
@@ -124,7 +124,7 @@ impl<'a> Walk<'a> {
             bytes: Bytes::new(buffer),
             last,
         };
-        self.step(&event);
+        self.step(event);
         if self.requests.push(req).is_err() {
             self.reader.note(Slip::Memory);
         }
@@ -142,17 +142,17 @@ impl<'a> Walk<'a> {
     }
 
     /// The event comes next.
-    fn step(&mut self, event: &Event) {
-        if self.object.apply(event).is_err() {
+    fn step(&mut self, event: Event) {
+        if self.object.apply(&event).is_err() {
             self.reader.note(Slip::Refused);
         }
     }
 
     /// The event may not come next: it is refused, and nothing changes.
-    fn miss(&mut self, event: &Event) {
+    fn miss(&mut self, event: Event) {
         match self.object.try_clone() {
             Ok(before) => {
-                if self.object.apply(event) != Err(Refused::NotAllowed) {
+                if self.object.apply(&event) != Err(Refused::NotAllowed) {
                     self.reader.note(Slip::Accepted);
                 }
                 if !self.tells_as(&before) {
@@ -180,12 +180,15 @@ impl<'a> Walk<'a> {
         let req = self.reader.req();
         let res = self.reader.signed();
         let data = self.reader.bytes(self.alloc);
-        if self.object.reply_of(req) != Some(res)
-            || self.object.data_of(req) != Some(data.as_slice())
-        {
+        self.compare(req, res, &data);
+        req
+    }
+
+    /// The request has this reply and data.
+    fn compare(&mut self, req: Req, res: i32, data: &[u8]) {
+        if self.object.reply_of(req) != Some(res) || self.object.data_of(req) != Some(data) {
             self.reader.note(Slip::Told);
         }
-        req
     }
 
     /// The request was not answered so far.
@@ -202,9 +205,9 @@ impl<'a> Walk<'a> {
         let row = self.reader.item;
         if row == 1 {
             self.end_each(false);
-            self.step(&Event::Shut);
-            self.miss(&Event::Shut);
-            self.miss(&Event::Tick(LAST_TICK));
+            self.step(Event::Shut);
+            self.miss(Event::Shut);
+            self.miss(Event::Tick(LAST_TICK));
             self.end_each(true);
         }
         let req = self.tell();
@@ -222,15 +225,10 @@ impl<'a> Walk<'a> {
             let Some(req) = self.requests.get(i).copied() else {
                 continue;
             };
-            let event = if cuts {
-                Event::Cut(req)
-            } else {
-                Event::Reap(req)
-            };
             if self.object.reply_of(req).is_none() == cuts {
-                self.step(&event);
+                self.step(end_of(req, cuts));
             }
-            self.miss(&event);
+            self.miss(end_of(req, cuts));
         }
     }
 
@@ -238,22 +236,29 @@ impl<'a> Walk<'a> {
     fn nops(&mut self) {
         for k in 0..self.reader.number() {
             let req = Req { ring: 0, k };
-            self.step(&Event::Submit {
+            self.step(Event::Submit {
                 req,
                 sqe: prep::nop(),
                 bytes: Bytes::empty(self.alloc),
                 last: true,
             });
-            self.step(&Event::Begin(req));
-            self.step(&Event::Reply {
+            self.step(Event::Begin(req));
+            self.step(Event::Reply {
                 req,
                 res: 0,
                 data: Bytes::empty(self.alloc),
             });
-            self.step(&Event::Reap(req));
-            if self.object.reply_of(req) != Some(0) || self.object.data_of(req) != Some(&[]) {
-                self.reader.note(Slip::Told);
-            }
+            self.step(Event::Reap(req));
+            self.compare(req, 0, &[]);
         }
+    }
+}
+
+/// The Cut or the Reap of a request.
+fn end_of(req: Req, cuts: bool) -> Event {
+    if cuts {
+        Event::Cut(req)
+    } else {
+        Event::Reap(req)
     }
 }
