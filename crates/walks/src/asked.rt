@@ -11,7 +11,7 @@ impl<'a> Walk<'a> {
             "no-answer" => matches!(self.object.answer_now(self.reader.req()), Ok(None)),
             "behind" => self.state.push(self.reader.number()).is_ok(),
             "state" => self.has_state(),
-            _ => self.number_of(what) == self.reader.number_or_none(),
+            _ => self.number_of(what) == self.reader.short_or_none(),
         };
         if !told {
             self.reader.note(Slip::Told);
@@ -19,13 +19,13 @@ impl<'a> Walk<'a> {
     }
 
     /// The clock, how many entries a ring has handed in, a deadline, or 1 once the end has come.
-    fn number_of(&mut self, what: &str) -> Option<u64> {
+    fn number_of(&mut self, what: &str) -> Option<u32> {
         match what {
-            "clock" => Some(u64::from(self.object.clock())),
-            "submitted" => Some(self.object.submitted(self.reader.ring())),
-            "due" => wide(self.object.due_now(self.reader.req())),
-            "deadline" => wide(self.object.deadline_of(self.reader.req())),
-            "was-shut" => Some(u64::from(self.object.was_shut())),
+            "clock" => Some(self.object.clock()),
+            "submitted" => u32::try_from(self.object.submitted(self.reader.ring())).ok(),
+            "due" => self.object.due_now(self.reader.req()),
+            "deadline" => self.object.deadline_of(self.reader.req()),
+            "was-shut" => Some(u32::from(self.object.was_shut())),
             _ => {
                 self.reader.note(Slip::Unread);
                 None
@@ -52,12 +52,5 @@ impl<'a> Walk<'a> {
         }
         self.state.clear();
         told
-    }
-}
-
-fn wide(number: Option<u32>) -> Option<u64> {
-    match number {
-        Some(number) => Some(u64::from(number)),
-        None => None,
     }
 }

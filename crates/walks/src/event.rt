@@ -3,7 +3,7 @@
 use crate::reader::{Reader, Slip};
 use bitflags::Flags;
 use entry::Sqe;
-use model::{Bytes, Event};
+use model::{Bytes, Event, Req};
 use prep::{with_flags, with_user_data};
 use std::alloc::Global;
 
@@ -17,14 +17,35 @@ const ETIME_SUCCESS: u32 = 32;
 
 /// An event.
 pub fn event_of(alloc: Global, words: &mut Reader<'_>) -> Event {
-    let kind = words.word();
-    match kind {
-        "tick" => return Event::Tick(words.short()),
-        "shut" => return Event::Shut,
-        _ => {}
+    match words.word() {
+        "tick" => Event::Tick(words.short()),
+        "shut" => Event::Shut,
+        kind => {
+            let req = words.req();
+            event_at(alloc, kind, req, words)
+        }
     }
-    let req = words.req();
+}
+
+/// An event that happens to a request.
+fn event_at(alloc: Global, kind: &str, req: Req, words: &mut Reader<'_>) -> Event {
     match kind {
+        "begin" => Event::Begin(req),
+        "park" => Event::Park(req),
+        "expire" => Event::Expire(req),
+        "settle" => Event::Settle(req),
+        "sever" => Event::Sever(req),
+        "reap" => Event::Reap(req),
+        "cut" => Event::Cut(req),
+        "arm" => Event::Arm {
+            req,
+            deadline: words.short(),
+        },
+        "reply" => Event::Reply {
+            req,
+            res: words.signed(),
+            data: Bytes::new(words.bytes(alloc)),
+        },
         "submit" => {
             let (sqe, buffer) = request_of(alloc, words);
             Event::Submit {
@@ -34,38 +55,20 @@ pub fn event_of(alloc: Global, words: &mut Reader<'_>) -> Event {
                 last: true,
             }
         }
-        "begin" => Event::Begin(req),
-        "park" => Event::Park(req),
-        "reply" => Event::Reply {
-            req,
-            res: words.signed(),
-            data: Bytes::new(words.bytes(alloc)),
-        },
-        "take" => Event::Take {
-            cancel: req,
-            target: words.req(),
-        },
-        "miss" => Event::Miss {
-            cancel: req,
-            target: words.req(),
-        },
-        "arm" => Event::Arm {
-            req,
-            deadline: words.short(),
-        },
-        "expire" => Event::Expire(req),
-        "fire" => Event::Fire {
-            timer: req,
-            target: words.req(),
-        },
-        "fire-miss" => Event::FireMiss {
-            timer: req,
-            target: words.req(),
-        },
-        "settle" => Event::Settle(req),
-        "sever" => Event::Sever(req),
-        "reap" => Event::Reap(req),
-        "cut" => Event::Cut(req),
+        _ => {
+            let target = words.req();
+            event_between(kind, req, target, words)
+        }
+    }
+}
+
+/// An event that a cancel or a timer makes at its target.
+fn event_between(kind: &str, by: Req, target: Req, words: &mut Reader<'_>) -> Event {
+    match kind {
+        "take" => Event::Take { cancel: by, target },
+        "miss" => Event::Miss { cancel: by, target },
+        "fire" => Event::Fire { timer: by, target },
+        "fire-miss" => Event::FireMiss { timer: by, target },
         _ => {
             words.note(Slip::Unread);
             Event::Shut
@@ -99,8 +102,9 @@ pub fn request_of(alloc: Global, words: &mut Reader<'_>) -> (Sqe, Vec<u8>) {
 
 /// An entry without options, and the buffer of a READ or a WRITE.
 fn plain_request(alloc: Global, words: &mut Reader<'_>) -> (Sqe, Vec<u8>) {
-    let kind = words.word();
-    match kind {
+    match words.word() {
+        "nop" => (prep::nop(), Vec::new(alloc)),
+        "raw" => (raw_entry(alloc, words), Vec::new(alloc)),
         "read" => {
             let (fd, len) = (words.signed(), words.short());
             (prep::read(fd, len, 0), words.zeros(alloc, len))
@@ -109,32 +113,43 @@ fn plain_request(alloc: Global, words: &mut Reader<'_>) -> (Sqe, Vec<u8>) {
             let (fd, bytes) = (words.signed(), words.bytes(alloc));
             (prep::write(fd, bytes.len().min(65_535) as u32, 0), bytes)
         }
-        "raw" => {
-            let bytes = words.bytes(alloc);
-            let mut entry = [0u8; 64];
-            if bytes.len() == 64 {
-                entry.copy_from_slice(&bytes);
-            } else {
-                words.note(Slip::Unread);
-            }
-            (Sqe::of_bytes(&entry), Vec::new(alloc))
-        }
-        _ => (entry_of(kind, words), Vec::new(alloc)),
+        kind => (entry_of(kind, words), Vec::new(alloc)),
     }
+}
+
+/// The entry that 64 bytes say.
+fn raw_entry(alloc: Global, words: &mut Reader<'_>) -> Sqe {
+    let bytes = words.bytes(alloc);
+    let mut entry = [0u8; 64];
+    if bytes.len() == 64 {
+        entry.copy_from_slice(&bytes);
+    } else {
+        words.note(Slip::Unread);
+    }
+    Sqe::of_bytes(&entry)
 }
 
 /// An entry without a buffer.
 fn entry_of(kind: &str, words: &mut Reader<'_>) -> Sqe {
     match kind {
-        "nop" => prep::nop(),
         "read-at" => prep::read(words.signed(), words.short(), words.number()),
         "close" => prep::close(words.signed()),
         "poll" => prep::poll_add(words.signed(), words.short()),
-        "timeout" => prep::timeout(words.number(), 0),
-        "timeout-ok" => prep::timeout(words.number(), ETIME_SUCCESS),
-        "link-timeout" => prep::link_timeout(words.number()),
-        "cancel" => prep::cancel(words.number()),
-        "remove" => prep::timeout_remove(words.number()),
+        _ => {
+            let number = words.number();
+            entry_with(kind, number, words)
+        }
+    }
+}
+
+/// An entry of ticks or user_data.
+fn entry_with(kind: &str, number: u64, words: &mut Reader<'_>) -> Sqe {
+    match kind {
+        "timeout" => prep::timeout(number, 0),
+        "timeout-ok" => prep::timeout(number, ETIME_SUCCESS),
+        "link-timeout" => prep::link_timeout(number),
+        "cancel" => prep::cancel(number),
+        "remove" => prep::timeout_remove(number),
         _ => {
             words.note(Slip::Unread);
             prep::nop()

@@ -131,12 +131,12 @@ impl<'a> Reader<'a> {
         self.number_before(' ', 0xffff_ffff) as u32
     }
 
-    /// A number of 64 bits, or `none`.
-    pub fn number_or_none(&mut self) -> Option<u64> {
+    /// A number of 32 bits, or `none`.
+    pub fn short_or_none(&mut self) -> Option<u32> {
         if self.option("none") {
             None
         } else {
-            Some(self.number())
+            Some(self.short())
         }
     }
 

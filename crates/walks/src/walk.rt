@@ -90,14 +90,8 @@ impl<'a> Walk<'a> {
         match call {
             "submit" => self.submit(last),
             "part" => self.submit(false),
-            "goes" => {
-                let event = event_of(self.alloc, &mut self.reader);
-                self.step(event);
-            }
-            "refuses" => {
-                let event = event_of(self.alloc, &mut self.reader);
-                self.miss(event);
-            }
+            "goes" => self.event(true),
+            "refuses" => self.event(false),
             "tells" => {
                 let _req = self.tell();
             }
@@ -107,6 +101,16 @@ impl<'a> Walk<'a> {
             _ => self.ask(call),
         }
         self.reader.end();
+    }
+
+    /// An event that comes next, or may not.
+    fn event(&mut self, goes: bool) {
+        let event = event_of(self.alloc, &mut self.reader);
+        if goes {
+            self.step(event);
+        } else {
+            self.miss(event);
+        }
     }
 
     /// Hands an entry in. `last` ends the batch. An entry with user_data 0 gets its number in the walk, from 1.
