@@ -1,26 +1,26 @@
-//! Entries: read, made and told.
+//! Entries, their parts, and completions.
 
 use crate::builds::built;
 use crate::fault::Fault;
-use crate::words::{array, byte, number, short, signed};
 use bitflags::Flags;
-use entry::{Row, Sqe, SqeFlags, fails};
+use entry::{Cqe, Offset, Op, Row, Sqe, SqeFlags};
+use hex::FromHex;
 use prep::{with_flags, with_user_data};
 use std::alloc::Global;
 
 /// The entry of a line: read from its bytes, of a row with flags and a user_data, built, or the last one with other flags
 /// or another user_data.
-pub fn entry_of(alloc: Global, last: Sqe, words: &[&str]) -> Result<Sqe, Fault> {
+pub fn entry_of(last: Sqe, words: &[&str]) -> Result<Sqe, Fault> {
     Ok(match words {
-        ["sqe", digits] => Sqe::of_bytes(&array(alloc, digits)?),
+        ["sqe", digits] => Sqe::of_bytes(&<[u8; 64]>::from_hex(*digits)?),
         ["row", row @ .., flags, user_data] => Sqe::of_row(
             row_of(row)?,
-            byte(flags)?,
-            number(user_data)?,
+            flags.parse()?,
+            user_data.parse()?,
         ),
         ["build", words @ ..] => built(words)?,
-        ["with_flags", flags] => with_flags(last, byte(flags)?),
-        ["with_user_data", user_data] => with_user_data(last, number(user_data)?),
+        ["with_flags", flags] => with_flags(last, flags.parse()?),
+        ["with_user_data", user_data] => with_user_data(last, user_data.parse()?),
         _ => return Err(Fault::BadLine),
     })
 }
@@ -31,74 +31,69 @@ fn row_of(words: &[&str]) -> Result<Row, Fault> {
         return Err(Fault::BadLine);
     };
     Ok(Row {
-        opcode: byte(opcode)?,
-        fd: signed(fd)?,
-        off: number(off)?,
-        addr: number(addr)?,
-        len: short(len)?,
-        word: short(word)?,
+        opcode: opcode.parse()?,
+        fd: fd.parse()?,
+        off: off.parse()?,
+        addr: addr.parse()?,
+        len: len.parse()?,
+        word: word.parse()?,
     })
 }
 
-/// What is told of an entry: its texts, its flags, its row and the operation that this may be, and its bytes.
+/// What is told of an entry: its texts, its parts, its flags and what they ask for, its row and its bytes.
 pub fn told_of_entry(alloc: Global, sqe: Sqe) -> Result<String, Fault> {
-    let asked = told_of_flags(alloc, &sqe)?;
-    let row = told_of_row(alloc, sqe.row(), sqe.flags().bits())?;
-    let (user_data, op) = (sqe.user_data(), sqe.op());
+    let (user_data, flags, op, row) = (sqe.user_data(), sqe.flags(), sqe.op(), sqe.row());
+    let bits = flags.bits();
+    let (link, hard) = (
+        flags.contains(SqeFlags::IO_LINK),
+        flags.contains(SqeFlags::IO_HARDLINK),
+    );
+    let (drains, soft, hardens) = (sqe.drains(), sqe.links_soft(), sqe.links_hard());
     let bytes = sqe.to_bytes();
     let again = Sqe::of_bytes(&bytes) == sqe;
     let digits = hex::encode(alloc, bytes.as_slice())?;
     Ok(format!(in alloc;
-        "{sqe}\n{sqe:?}\nuser_data {user_data} op {op:?}\n{asked}\n{row}\n{digits} again {again}"
+        "{sqe}\n{sqe:?}\nuser_data {user_data} flags {bits} op {op:?}\ncontains link {link} hard {hard}\ndrains {drains} links_soft {soft} links_hard {hardens}\n{row:?}\n{digits} again {again}"
     )?)
 }
 
-/// What is told of an entry's flags: their bits, and what they ask for.
-fn told_of_flags(alloc: Global, sqe: &Sqe) -> Result<String, Fault> {
-    let flags = sqe.flags();
-    let bits = flags.bits();
-    let (drain, link, hard) = (
-        flags.contains(SqeFlags::IO_DRAIN),
-        flags.contains(SqeFlags::IO_LINK),
-        flags.contains(SqeFlags::IO_HARDLINK),
-    );
-    let (drains, soft, hard_link) = (sqe.drains(), sqe.links_soft(), sqe.links_hard());
-    Ok(format!(in alloc;
-        "flags {bits} contains {drain} {link} {hard} drains {drains} links_soft {soft} links_hard {hard_link}"
-    )?)
+/// What is told of an operation: its texts, whether its values fit, the flags that it may have, and its row.
+fn told_of_op(alloc: Global, op: Op) -> Result<String, Fault> {
+    let (fits, flags, row) = (op.fits(), op.allowed_flags(), op.row());
+    Ok(format!(in alloc; "{op}\n{op:?}\nfits {fits} allowed_flags {flags}\n{row:?}")?)
 }
 
-/// What is told of the columns of a row and a flags byte.
-pub fn told_of_columns(alloc: Global, words: &[&str]) -> Result<String, Fault> {
-    let [row @ .., flags] = words else {
-        return Err(Fault::BadLine);
-    };
-    told_of_row(alloc, row_of(row)?, byte(flags)?)
+/// What is told of a part of entries, or of a completion.
+pub fn told_of_part(alloc: Global, words: &[&str]) -> Result<String, Fault> {
+    match words {
+        ["near", digits] => told_of_neighbours(alloc, <[u8; 64]>::from_hex(*digits)?),
+        ["candidate", row @ ..] => told_of_op(alloc, row_of(row)?.candidate()),
+        ["is_written", row @ .., flags] => {
+            let row = row_of(row)?;
+            let is_written = row.candidate().is_written_as(&row, flags.parse()?);
+            Ok(format!(in alloc; "{is_written}")?)
+        }
+        ["ticks", ticks] => told_of_op(
+            alloc,
+            Op::LinkTimeout {
+                ticks: ticks.parse()?,
+            },
+        ),
+        ["constants"] => told_of_constants(alloc),
+        ["cqe", digits] => match Cqe::of_bytes(&<[u8; 16]>::from_hex(*digits)?) {
+            Some(cqe) => told_of_completion(alloc, cqe),
+            None => Ok(String::from_str(alloc, "none")?),
+        },
+        ["completion", user_data, res] => {
+            let (user_data, res) = (user_data.parse()?, res.parse()?);
+            told_of_completion(alloc, Cqe { user_data, res })
+        }
+        _ => Err(Fault::BadLine),
+    }
 }
 
-/// What is told of a row with these flags: its columns, the operation that it may be, and whether that is written so.
-fn told_of_row(alloc: Global, row: Row, flags: u8) -> Result<String, Fault> {
-    let op = row.candidate();
-    let is_written = op.is_written_as(&row, flags);
-    Ok(format!(in alloc; "{row:?}\ncandidate {op:?} is_written_as {is_written}")?)
-}
-
-/// Whether a reply to the entry is a failure.
-pub fn told_of_reply(alloc: Global, sqe: &Sqe, words: &[&str]) -> Result<String, Fault> {
-    let [res] = words else {
-        return Err(Fault::BadLine);
-    };
-    let fails = fails(sqe, signed(res)?);
-    Ok(format!(in alloc; "{fails}")?)
-}
-
-/// How many of the 512 entries that differ in one bit are valid, Invalid, or neither: a valid one is written back as read,
-/// an Invalid one keeps its link bits, and both keep their user_data.
-pub fn told_of_neighbours(alloc: Global, words: &[&str]) -> Result<String, Fault> {
-    let [digits] = words else {
-        return Err(Fault::BadLine);
-    };
-    let bytes: [u8; 64] = array(alloc, digits)?;
+/// How many of the 512 entries that differ in one bit are valid, Invalid, or neither.
+fn told_of_neighbours(alloc: Global, bytes: [u8; 64]) -> Result<String, Fault> {
     let (mut valid, mut invalid, mut wrong) = (0u32, 0u32, 0u32);
     for i in 0..512usize {
         let mut near = bytes;
@@ -112,12 +107,13 @@ pub fn told_of_neighbours(alloc: Global, words: &[&str]) -> Result<String, Fault
     Ok(format!(in alloc; "valid {valid} invalid {invalid} wrong {wrong}")?)
 }
 
-/// Whether the bytes are those of a valid entry. None where what is read of them isn't what stands there.
+/// Whether the bytes are those of a valid entry. None where a valid one isn't written back as read, an Invalid one doesn't
+/// keep its link bits, or its user_data is another.
 fn is_valid(bytes: &[u8; 64]) -> Option<bool> {
     let sqe = Sqe::of_bytes(bytes);
     let mut user_data = [0; 8];
     user_data.copy_from_slice(&bytes[32..40]);
-    let is_valid = sqe.op() != entry::Op::Invalid;
+    let is_valid = sqe.op() != Op::Invalid;
     let is_kept = if is_valid {
         sqe.to_bytes() == *bytes
     } else {
@@ -128,4 +124,26 @@ fn is_valid(bytes: &[u8; 64]) -> Option<bool> {
     } else {
         None
     }
+}
+
+/// The bits of the flags, and the numbers of the offsets.
+fn told_of_constants(alloc: Global) -> Result<String, Fault> {
+    let (drain, link, hard) = (
+        SqeFlags::IO_DRAIN.bits(),
+        SqeFlags::IO_LINK.bits(),
+        SqeFlags::IO_HARDLINK.bits(),
+    );
+    let all = SqeFlags::all().bits();
+    let (zero, current) = (Offset::Zero.number(), Offset::Current.number());
+    Ok(format!(in alloc;
+        "drain {drain} link {link} hard {hard} all {all}, zero {zero} current {current}"
+    )?)
+}
+
+/// What is told of a completion: its texts, and its bytes.
+fn told_of_completion(alloc: Global, cqe: Cqe) -> Result<String, Fault> {
+    let bytes = cqe.to_bytes();
+    let again = Cqe::of_bytes(&bytes) == Some(cqe);
+    let digits = hex::encode(alloc, bytes.as_slice())?;
+    Ok(format!(in alloc; "{cqe}\n{cqe:?}\n{digits} again {again}")?)
 }

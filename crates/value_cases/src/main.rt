@@ -1,14 +1,16 @@
 //! What calls of the lower crates answer, case by case: reads cases from standard input, a line a case, and prints each
-//! with what was answered. Of these, digits are hexadecimal, two a byte, and `-` is no byte:
+//! with what was answered. DIGITS are hexadecimal, two a byte, and none at all for no bytes.
 //!
 //! - `sqe DIGITS`, `row OPCODE FD OFF ADDR LEN WORD FLAGS USER_DATA`, `build BUILDER ARGUMENT..`, and of the last entry
 //!   `with_flags FLAGS`, `with_user_data USER_DATA`: an entry; `fails RES`: whether this reply to the last one fails;
 //! - `near DIGITS`: how many of the entries that differ in one bit are valid, Invalid, and neither;
-//! - `candidate OPCODE FD OFF ADDR LEN WORD FLAGS`, `op NAME VALUE..`, `offset NAME`, `flags`: parts of entries;
+//! - `candidate OPCODE FD OFF ADDR LEN WORD`, `ticks TICKS`: an operation, the second a LINK_TIMEOUT; `is_written` with a
+//!   row and FLAGS: whether they are those of an entry; `constants`: flags and offsets;
 //! - `cqe DIGITS`, `completion USER_DATA RES`: a completion;
-//! - `claim DIGITS`, `word TAG GENERATION ..`, `tag NUMBER`, `cause NAME`: a claim word and its parts;
-//! - `pipe CAPACITY`: a new pipe; `write DIGITS`, `read DIGITS` (of a buffer with these bytes), `close END`,
-//!   `poll END MASK`: a call of the last one; `memory`: the error for want of memory.
+//! - `claim DIGITS`, `word TAG GENERATION ..`, where a Done word with a failure has the TAG `failed`: a claim word;
+//!   `tag NUMBER`, `cause NAME`: its parts;
+//! - `pipe CAPACITY`: a new pipe; of the last one `write DIGITS`, `read DIGITS` (into a buffer with these bytes),
+//!   `close END`, `poll END MASK`: what this call answers; `memory`: the error for want of memory.
 //!
 //! A line that begins with `#` tells what the cases below it show.
 #![tactic(auto)]
@@ -17,21 +19,17 @@ mod builds;
 mod claims;
 mod entries;
 mod fault;
-mod parts;
 mod pipes;
-mod words;
 
 use claims::told_of_claim;
-use entries::{entry_of, told_of_columns, told_of_entry, told_of_neighbours, told_of_reply};
-use entry::Sqe;
+use entries::{entry_of, told_of_entry, told_of_part};
+use entry::{Sqe, fails};
 use fault::Fault;
-use parts::told_of_part;
 use pipe::Pipe;
 use pipes::told_of_pipe;
 use std::alloc::{AllocError, Global};
 use std::io;
 use std::io::Read;
-use words::words_of;
 
 /// What later lines speak of: the last entry and the last pipe.
 #[derive(Drop)]
@@ -40,33 +38,34 @@ struct Kept {
     pipe: Option<Pipe>,
 }
 
-/// What is told of an entry, which is kept for the lines behind it.
-fn told_of_kept(alloc: Global, kept: &mut Kept, words: &[&str]) -> Result<String, Fault> {
-    kept.entry = entry_of(alloc, kept.entry, words)?;
-    told_of_entry(alloc, kept.entry)
-}
-
-/// What is told of the words of a line.
+/// What is told of the words of a line, by the first of them.
 fn told_of_words(alloc: Global, kept: &mut Kept, words: &[&str]) -> Result<String, Fault> {
     let [kind, rest @ ..] = words else {
         return Err(Fault::BadLine);
     };
-    match *kind {
-        "pipe" | "write" | "read" | "close" | "poll" | "memory" => {
+    match (*kind, rest) {
+        ("sqe" | "row" | "build" | "with_flags" | "with_user_data", _) => {
+            kept.entry = entry_of(kept.entry, words)?;
+            told_of_entry(alloc, kept.entry)
+        }
+        ("fails", [res]) => {
+            let is_failure = fails(&kept.entry, res.parse()?);
+            Ok(format!(in alloc; "{is_failure}")?)
+        }
+        ("pipe" | "write" | "read" | "close" | "poll" | "memory", _) => {
             told_of_pipe(alloc, &mut kept.pipe, words)
         }
-        "claim" | "word" | "tag" | "cause" => told_of_claim(alloc, words),
-        "op" | "offset" | "flags" | "cqe" | "completion" => told_of_part(alloc, words),
-        "near" => told_of_neighbours(alloc, rest),
-        "candidate" => told_of_columns(alloc, rest),
-        "fails" => told_of_reply(alloc, &kept.entry, rest),
-        _ => told_of_kept(alloc, kept, words),
+        ("claim" | "word" | "tag" | "cause", _) => told_of_claim(alloc, words),
+        _ => told_of_part(alloc, words),
     }
 }
 
 /// What is told of a line.
 fn told(alloc: Global, kept: &mut Kept, line: &str) -> Result<String, AllocError> {
-    let words = words_of(alloc, line)?;
+    let mut words = Vec::new(alloc);
+    for word in line.split(' ') {
+        words.push(word)?;
+    }
     match told_of_words(alloc, kept, &words) {
         Ok(text) => Ok(text),
         Err(Fault::BadLine) => String::from_str(alloc, "bad line"),
