@@ -108,7 +108,7 @@ impl<'a> Reader<'a> {
         }
     }
 
-    /// A number up to this one, with a gap behind it.
+    /// A number that is at most `most`, in front of the next gap.
     fn number_before(&mut self, gap: char, most: u64) -> u64
         ensures { result ≤ most }
     {
