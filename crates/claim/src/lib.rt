@@ -2,8 +2,6 @@
 #![tactic(auto)]
 
 pub mod tag;
-#[cfg(test)]
-mod tests;
 pub mod word;
 
 pub use tag::{Cause, Tag};

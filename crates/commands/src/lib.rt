@@ -8,6 +8,4 @@ mod problem;
 
 pub use answer::perform;
 pub use job::{Job, Request, request_of};
-
-#[cfg(test)]
-mod tests;
+pub use problem::Problem;

@@ -16,6 +16,3 @@ mod window;
 
 pub use fault::RunFault;
 pub use run::run_script;
-
-#[cfg(test)]
-mod tests;

@@ -4,8 +4,8 @@ ghost use Rattle.std.specs.Prelude.{◌≡◌, length, IfOk};
 use crate::fault::RunFault;
 use board::Completion;
 use entry::Op;
-use explore::{Named, Script, Table};
 use model::Req;
+use script_rules::{Named, Script, Table};
 use std::alloc::{AllocError, Global};
 
 /// The table: for each entry its reply, and behind a READ the bytes that it got.

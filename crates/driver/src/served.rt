@@ -1,6 +1,6 @@
 //! Which lines of a script the board can serve.
 use entry::{Op, Sqe};
-use explore::{Act, Script};
+use script_rules::{Act, Script};
 
 /// The label of the first entry of the first line, ring by ring and then of the clock, that the board can't serve yet;
 /// `tick` for a line that sets the clock.

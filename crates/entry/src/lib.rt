@@ -11,8 +11,6 @@ pub mod row;
 mod shown;
 pub mod sqe;
 pub mod table;
-#[cfg(test)]
-mod tests;
 
 pub use cqe::Cqe;
 pub use flags::SqeFlags;

@@ -12,6 +12,3 @@ pub use ends::End;
 pub use error::PipeError;
 pub use pipe::Pipe;
 pub use ready::Ready;
-
-#[cfg(test)]
-mod tests;

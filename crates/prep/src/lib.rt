@@ -7,9 +7,6 @@ ghost use Rattle.entry.specs.Table.{no_fd, row as table_row};
 ghost use Rattle.entry.specs.Text.{Says, layout};
 ghost use Rattle.prep.specs.Built.{IsOfRow, flagged, link_timeout_op, plain, poll_op, read_op, timeout_op, write_op};
 
-#[cfg(test)]
-mod tests;
-
 use bitflags::Flags;
 use entry::{Op, Row, Sqe, by_opcode};
 

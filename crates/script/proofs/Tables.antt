@@ -5,7 +5,7 @@ use Rattle.std.specs.Global.{Vec}
 use Rattle.std.specs.String.{string_bytes}
 use Rattle.std.proofs.lemmas.List.{append-nil, map_push}
 use Rattle.std.proofs.Math.Seq.{drop-cons}
-use Rattle.explore.specs.declared.named.Named.{Named}
+use Rattle.script_rules.specs.declared.named.Named.{Named}
 use Rattle.text.specs.Line.{IsLine, line_text}
 use Rattle.script.specs.TableText.{is_read, shown_lines, table_text, IsTableText}
 

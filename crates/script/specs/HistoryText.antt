@@ -8,12 +8,12 @@ use Rattle.model.specs.declared.req.Req.{Req}
 use Rattle.model.specs.declared.event.Event.{Event}
 use Rattle.model.specs.declared.event.Event.TheVariants.{Submit, Begin, Park, Reply, Take, Miss, Tick, Arm, Expire, Fire, FireMiss, Settle, Sever, Reap, Shut, Cut}
 use Rattle.model.specs.History.{fires}
-use Rattle.explore.specs.declared.act.Act.{Act}
-use Rattle.explore.specs.declared.named.Named.{Named}
-use Rattle.explore.specs.declared.script.Script.{Script}
-use Rattle.explore.specs.declared.step.Step.{Step}
-use Rattle.explore.specs.declared.step.Step.TheVariants.{Hands}
-use Rattle.explore.specs.Steps.{step_at}
+use Rattle.script_rules.specs.declared.act.Act.{Act}
+use Rattle.script_rules.specs.declared.named.Named.{Named}
+use Rattle.script_rules.specs.declared.script.Script.{Script}
+use Rattle.script_rules.specs.declared.step.Step.{Step}
+use Rattle.script_rules.specs.declared.step.Step.TheVariants.{Hands}
+use Rattle.script_rules.specs.Steps.{step_at}
 
 -- ---- labels
 

@@ -4,7 +4,7 @@ use Rattle.std.specs.Global.{Vec}
 use Rattle.std.specs.String.{string_bytes}
 use Rattle.entry.specs.declared.op.Op.{Op}
 use Rattle.entry.specs.declared.op.Op.TheVariants.{Read}
-use Rattle.explore.specs.declared.named.Named.{Named}
+use Rattle.script_rules.specs.declared.named.Named.{Named}
 use Rattle.text.specs.Line.{IsLine, line_text}
 
 -- whether an entry is a READ

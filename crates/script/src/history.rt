@@ -6,9 +6,8 @@ ghost use Rattle.std.specs.String.{string_bytes};
 ghost use Rattle.model.specs.History.{fires};
 ghost use Rattle.script.specs.HistoryText.{label_in, label_of, short_line, long_line, settled, event_text, history_text};
 
-use explore::step::{Step, step_at};
-use explore::{Named, Script};
 use model::{Event, Req};
+use script_rules::{Named, Script, Step, step_at};
 use std::alloc::{AllocError, Global};
 use std::fmt::Write;
 

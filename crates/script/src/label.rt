@@ -1,7 +1,7 @@
 //! The form of labels.
 ghost use Rattle.std.specs.Prelude.{◌≡◌};
 ghost use Rattle.std.specs.List.{list_all};
-ghost use Rattle.explore.specs.Rules.{is_label, is_label_byte, is_letter};
+ghost use Rattle.script_rules.specs.Rules.{is_label, is_label_byte, is_letter};
 
 /// Whether a word has the form of a label: 1 to 16 of the characters a to z, 0 to 9, `_` and `-`, the first a letter.
 pub fn is_label(word: &[u8]) -> bool

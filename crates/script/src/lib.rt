@@ -14,8 +14,6 @@ mod raw;
 mod reading;
 mod request;
 pub mod table;
-#[cfg(test)]
-mod tests;
 mod words;
 
 pub use fault::{Fault, ScriptFault};

@@ -9,7 +9,7 @@ use crate::keyword::{Keyword, Kind};
 use crate::label::is_label;
 use crate::outline::Outline;
 use crate::request::{Request, request_of};
-use explore::{Act, Named, Script};
+use script_rules::{Act, Named, Script};
 use std::alloc::{AllocError, Global};
 
 /// The most entries that a script has.

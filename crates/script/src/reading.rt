@@ -7,7 +7,7 @@ use crate::faults::Faults;
 use crate::outline::Outline;
 use crate::parts::Parts;
 use crate::words::{first_word, is_plain, lines_of, words_of};
-use explore::Script;
+use script_rules::Script;
 use std::alloc::{AllocError, Global};
 
 /// The script that a text writes. Of all faults of all lines the one on the least line is told, and of one line's faults

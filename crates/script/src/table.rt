@@ -6,7 +6,7 @@ ghost use Rattle.script.specs.TableText.{AreLines, IsTableText, is_read, shown_l
 
 use crate::fault::{Fault, ScriptFault};
 use entry::Op;
-use explore::{Named, Script, Table};
+use script_rules::{Named, Script, Table};
 use std::alloc::{AllocError, Global};
 use text::{line_at, push_line};
 

@@ -6,9 +6,6 @@ use script::{read_script, read_table, write_table};
 use std::io;
 use std::io::Read;
 
-#[cfg(test)]
-mod shapes;
-
 /// A text with its lines' ends, which a case writes as `/`.
 fn unfolded<R: AllocGlobal>(rt: &R, text: &str) -> io::Result<Vec<u8>> {
     let mut bytes = Vec::from_slice(rt.alloc(), text.as_bytes())?;
@@ -26,6 +23,23 @@ fn told_of_script<R: AllocGlobal>(rt: &R, script: &[u8]) -> io::Result<String> {
         Ok(_) => Ok(String::from_str(rt.alloc(), "read")?),
         Err(fault) => Ok(format!(in rt.alloc(); "{fault}")?),
     }
+}
+
+/// What a script says: its rings, its entries, and the lines of each actor.
+fn said_by_script<R: AllocGlobal>(rt: &R, script: &[u8]) -> io::Result<String> {
+    let Ok(script) = read_script(rt.alloc(), script) else {
+        return Ok(String::from_str(rt.alloc(), "no script")?);
+    };
+    let mut said = format!(in rt.alloc(); "rings {:?}", script.rings)?;
+    for entry in &script.entries {
+        let (label, sqe, length) = (&entry.label, entry.sqe, entry.buffer.len());
+        said.push_str(format!(in rt.alloc(); "; {label}: {sqe}, {length} bytes")?.as_str())?;
+    }
+    for lines in &script.acts {
+        said.push_str(format!(in rt.alloc(); "; {lines:?}")?.as_str())?;
+    }
+    said.push_str(format!(in rt.alloc(); "; clock {:?}", script.clock)?.as_str())?;
+    Ok(said)
 }
 
 /// What is told of a whole script: as of any, if each of its beginnings is a script or has a fault.
@@ -63,6 +77,7 @@ fn told<R: AllocGlobal>(rt: &R, kind: &str, script: &[u8], text: &[u8]) -> io::R
     match kind {
         "table" => told_of_table(rt, script, text),
         "whole" => told_of_whole(rt, text),
+        "says" => said_by_script(rt, text),
         _ => told_of_script(rt, text),
     }
 }

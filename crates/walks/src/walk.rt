@@ -1,196 +1,268 @@
 //! A walk through the one-thread ring.
 
-use crate::entry_line::Line;
-use crate::step::Step;
-use model::{Event, Req};
+use crate::event::{event_of, request_of};
+use crate::reader::{Reader, Slip};
+use model::{Bytes, Event, Req};
 use prep::with_user_data;
 use ring::{Memory, Object, Refused};
-use std::alloc::{AllocError, Global};
+use std::alloc::Global;
 
-/// What went otherwise than the walk says, and at which of its steps, from 1.
-#[derive(Debug, Drop)]
-pub enum Slip {
-    /// A step that has to come next was refused.
-    Refused(usize),
-    /// A near miss was accepted.
-    Accepted(usize),
-    /// A refusal changed what is told of a request.
-    Changed(usize),
-    /// The line of the table is another, or one is missing (0).
-    Table(usize),
-    Memory,
-}
+/// The largest clock.
+const LAST_TICK: u32 = 2_147_483_647;
 
-impl From<AllocError> for Slip {
-    fn from(_: AllocError) -> Slip {
-        Slip::Memory
-    }
-}
-
-impl From<Memory> for Slip {
-    fn from(_: Memory) -> Slip {
-        Slip::Memory
-    }
-}
-
-/// A line of a table: a request, its reply and its data.
-pub type Row<'a> = (Req, i32, &'a [u8]);
+/// The most pipes of a walk.
+const PIPES: u32 = 16;
 
 /// The rings as far as the walk has come.
 #[derive(Drop)]
-pub struct Walk {
-    alloc: Global,
-    object: Object,
+pub struct Walk<'a> {
+    pub alloc: Global,
+    pub object: Object,
     /// All requests in the order of submission.
     requests: Vec<Req>,
+    /// The ring to which entries are handed in.
+    ring: u16,
+    /// The words behind which a state goes.
+    pub state: Vec<u64>,
+    pub reader: Reader<'a>,
 }
 
-impl Walk {
-    /// So many rings, and a pipe for each capacity.
-    pub fn new(alloc: Global, rings: u16, caps: &[u32]) -> Result<Walk, Slip> {
+impl<'a> Walk<'a> {
+    /// So many rings, and a pipe for each capacity: `rings COUNT`, or `rings COUNT pipes CAPACITY ..`.
+    pub fn new(alloc: Global, setup: &'a str) -> Result<Walk<'a>, Memory> {
+        let mut reader = Reader::new(setup);
+        let rings = if reader.option("rings") {
+            reader.ring()
+        } else {
+            0
+        };
+        let mut caps = Vec::new(alloc);
+        if reader.option("pipes") {
+            for _ in 0..PIPES {
+                if !reader.rest.is_empty() && caps.push(reader.short()).is_err() {
+                    return Err(Memory);
+                }
+            }
+        }
+        reader.end();
         Ok(Walk {
             alloc,
-            object: Object::new(alloc, rings, caps)?,
+            object: Object::new(alloc, rings, &caps)?,
             requests: Vec::new(alloc),
+            ring: 0,
+            state: Vec::new(alloc),
+            reader,
         })
     }
 
-    /// The rings, to be asked.
-    pub fn ring(&self) -> &Object {
-        &self.object
-    }
-
-    /// Hands the entries in as one batch of the ring. An entry with user_data 0 gets its number in the walk, from 1.
-    pub fn submit(&mut self, ring: u16, lines: &[Line<'_>]) -> Result<(), Slip> {
-        for (i, line) in lines.iter().enumerate() {
-            self.submit_one(ring, line, i + 1 == lines.len())?;
+    /// Plays a line: a call, then a colon and its items.
+    pub fn play(&mut self, line: &'a str) {
+        self.reader.line = self.reader.line.saturating_add(1);
+        self.reader.item = 1;
+        if line.is_empty() || line.starts_with('#') {
+            return;
         }
-        Ok(())
-    }
-
-    /// Hands one entry in. `last` ends the batch.
-    pub fn submit_one(&mut self, ring: u16, line: &Line<'_>, last: bool) -> Result<(), Slip> {
-        let req = self.next_of(ring);
-        self.goes(&[Step::Submit(req, self.numbered(line), line.bytes, last)])?;
-        self.requests.push(req).map_err(AllocError::from)?;
-        Ok(())
-    }
-
-    /// Each of these events comes next.
-    pub fn goes(&mut self, steps: &[Step<'_>]) -> Result<(), Slip> {
-        for (i, step) in steps.iter().enumerate() {
-            let event = step.event(self.alloc)?;
-            if self.object.apply(&event).is_err() {
-                return Err(Slip::Refused(i + 1));
+        let (call, mut items) = line.split_once(": ").unwrap_or((line, ""));
+        self.reader.rest = call;
+        let call = self.reader.word();
+        if matches!(call, "submit" | "part") {
+            self.ring = self.reader.ring();
+        }
+        self.reader.end();
+        for number in 1..u64::MAX {
+            self.reader.item = number;
+            match items.split_once(", ") {
+                Some((item, others)) => {
+                    self.play_item(call, item, false);
+                    items = others;
+                }
+                None => {
+                    self.play_item(call, items, true);
+                    return;
+                }
             }
         }
-        Ok(())
     }
 
-    /// None of these events may come next: each is refused, and nothing changes.
-    pub fn refuses(&mut self, steps: &[Step<'_>]) -> Result<(), Slip> {
-        for (i, step) in steps.iter().enumerate() {
-            let event = step.event(self.alloc)?;
-            let before = self.object.try_clone()?;
-            if self.object.apply(&event) != Err(Refused::NotAllowed) {
-                return Err(Slip::Accepted(i + 1));
+    /// Plays an item of a call.
+    fn play_item(&mut self, call: &str, item: &'a str, last: bool) {
+        self.reader.rest = item;
+        match call {
+            "submit" => self.submit(last),
+            "part" => self.submit(false),
+            "goes" => self.event(true),
+            "refuses" => self.event(false),
+            "tells" => {
+                let _req = self.tell();
             }
-            if !self.tells_as(&before) {
-                return Err(Slip::Changed(i + 1));
-            }
+            "open" => self.leave_open(),
+            "ends" => self.end(last),
+            "nops" => self.nops(),
+            _ => self.ask(call),
         }
-        Ok(())
+        self.reader.end();
     }
 
-    /// The table so far has these lines among its own, no request of which was answered otherwise.
-    pub fn tells(&self, rows: &[Row<'_>]) -> Result<(), Slip> {
-        for (i, (req, res, data)) in rows.iter().enumerate() {
-            if self.object.reply_of(*req) != Some(*res)
-                || self.object.data_of(*req) != Some(*data)
-            {
-                return Err(Slip::Table(i + 1));
-            }
+    /// An event that comes next, or may not.
+    fn event(&mut self, goes: bool) {
+        let event = event_of(self.alloc, &mut self.reader);
+        if goes {
+            self.step(event);
+        } else {
+            self.miss(event);
         }
-        Ok(())
     }
 
-    /// None of these requests was answered so far.
-    pub fn leaves_open(&self, requests: &[Req]) -> Result<(), Slip> {
-        for (i, req) in requests.iter().enumerate() {
-            if self.object.reply_of(*req).is_some() || self.object.data_of(*req).is_some() {
-                return Err(Slip::Table(i + 1));
-            }
+    /// Hands an entry in. `last` ends the batch. An entry with user_data 0 gets its number in the walk, from 1.
+    fn submit(&mut self, last: bool) {
+        let (sqe, buffer) = request_of(self.alloc, &mut self.reader);
+        let number = self.requests.len().wrapping_add(1) as u64;
+        let req = self.next_req();
+        let event = Event::Submit {
+            req,
+            sqe: if sqe.user_data() == 0 {
+                with_user_data(sqe, number)
+            } else {
+                sqe
+            },
+            bytes: Bytes::new(buffer),
+            last,
+        };
+        self.step(event);
+        if self.requests.push(req).is_err() {
+            self.reader.note(Slip::Memory);
         }
-        Ok(())
     }
 
-    /// The end: each completion is taken, once. Then Shut, and a Cut for each request without an answer. The table is just
-    /// these lines, in the order of submission.
-    pub fn ends(&mut self, rows: &[Row<'_>]) -> Result<(), Slip> {
-        self.reap_all()?;
-        self.goes(&[Step::Shut])?;
-        self.refuses(&[Step::Shut, Step::Tick(2_147_483_647)])?;
-        self.cut_all()?;
-        if rows.len() != self.requests.len() {
-            return Err(Slip::Table(0));
-        }
-        for (i, (row, req)) in rows.iter().zip(self.requests.iter()).enumerate() {
-            if row.0 != *req {
-                return Err(Slip::Table(i + 1));
+    /// The next request of the ring.
+    fn next_req(&self) -> Req {
+        let mut k = 0u64;
+        for req in self.requests.iter() {
+            if req.ring == self.ring {
+                k = k.wrapping_add(1);
             }
         }
-        self.tells(rows)
+        Req { ring: self.ring, k }
     }
 
-    fn reap_all(&mut self) -> Result<(), Slip> {
-        for i in 0..self.requests.len() {
-            let Some(req) = self.requests.get(i).copied() else {
-                continue;
-            };
-            if self.object.reply_of(req).is_some() {
-                self.goes(&[Step::Reap(req)])?;
-            }
-            self.refuses(&[Step::Reap(req)])?;
+    /// The event comes next.
+    fn step(&mut self, event: Event) {
+        if self.object.apply(&event).is_err() {
+            self.reader.note(Slip::Refused);
         }
-        Ok(())
     }
 
-    fn cut_all(&mut self) -> Result<(), Slip> {
-        for i in 0..self.requests.len() {
-            let Some(req) = self.requests.get(i).copied() else {
-                continue;
-            };
-            if self.object.reply_of(req).is_none() {
-                self.goes(&[Step::Cut(req)])?;
+    /// The event may not come next: it is refused, and nothing changes.
+    fn miss(&mut self, event: Event) {
+        match self.object.try_clone() {
+            Ok(before) => {
+                if self.object.apply(&event) != Err(Refused::NotAllowed) {
+                    self.reader.note(Slip::Accepted);
+                }
+                if !self.tells_as(&before) {
+                    self.reader.note(Slip::Changed);
+                }
             }
-            self.refuses(&[Step::Cut(req)])?;
+            Err(_) => self.reader.note(Slip::Memory),
         }
-        Ok(())
     }
 
     /// All requests have the same replies and data as in the other.
     fn tells_as(&self, other: &Object) -> bool {
-        self.requests.iter().all(|req| {
-            self.object.reply_of(*req) == other.reply_of(*req)
-                && self.object.data_of(*req) == other.data_of(*req)
-        })
-    }
-
-    fn next_of(&self, ring: u16) -> Req {
-        let mut k = 0u64;
         for req in self.requests.iter() {
-            if req.ring == ring {
-                k = k.wrapping_add(1);
+            if self.object.reply_of(*req) != other.reply_of(*req)
+                || self.object.data_of(*req) != other.data_of(*req)
+            {
+                return false;
             }
         }
-        Req { ring, k }
+        true
     }
 
-    fn numbered(&self, line: &Line<'_>) -> entry::Sqe {
-        if line.sqe.user_data() == 0 {
-            with_user_data(line.sqe, self.requests.len().wrapping_add(1) as u64)
-        } else {
-            line.sqe
+    /// The table so far has this row.
+    fn tell(&mut self) -> Req {
+        let req = self.reader.req();
+        let res = self.reader.signed();
+        let data = self.reader.bytes(self.alloc);
+        self.compare(req, res, &data);
+        req
+    }
+
+    /// The request has this reply and data.
+    fn compare(&mut self, req: Req, res: i32, data: &[u8]) {
+        if self.object.reply_of(req) != Some(res) || self.object.data_of(req) != Some(data) {
+            self.reader.note(Slip::Told);
         }
+    }
+
+    /// The request was not answered so far.
+    fn leave_open(&mut self) {
+        let req = self.reader.req();
+        if self.object.reply_of(req).is_some() || self.object.data_of(req).is_some() {
+            self.reader.note(Slip::Told);
+        }
+    }
+
+    /// A row of the whole table, in the order of submission. Before the first comes the end: each completion is taken, once;
+    /// then Shut, and a Cut, once, for each request without an answer.
+    fn end(&mut self, last: bool) {
+        let row = self.reader.item;
+        if row == 1 {
+            self.end_each(false);
+            self.step(Event::Shut);
+            self.miss(Event::Shut);
+            self.miss(Event::Tick(LAST_TICK));
+            self.end_each(true);
+        }
+        let req = self.tell();
+        if self.requests.get(row.wrapping_sub(1) as usize).copied() != Some(req) {
+            self.reader.note(Slip::Told);
+        }
+        if last && self.requests.len() as u64 != row {
+            self.reader.note(Slip::Missing);
+        }
+    }
+
+    /// Reaps each answered request, once, or cuts each other one, once.
+    fn end_each(&mut self, cuts: bool) {
+        for i in 0..self.requests.len() {
+            let Some(req) = self.requests.get(i).copied() else {
+                continue;
+            };
+            if self.object.reply_of(req).is_none() == cuts {
+                self.step(end_of(req, cuts));
+            }
+            self.miss(end_of(req, cuts));
+        }
+    }
+
+    /// So many NOPs, one after another, through Submit, Begin, Reply and Reap.
+    fn nops(&mut self) {
+        for k in 0..self.reader.number() {
+            let req = Req { ring: 0, k };
+            self.step(Event::Submit {
+                req,
+                sqe: prep::nop(),
+                bytes: Bytes::empty(self.alloc),
+                last: true,
+            });
+            self.step(Event::Begin(req));
+            self.step(Event::Reply {
+                req,
+                res: 0,
+                data: Bytes::empty(self.alloc),
+            });
+            self.step(Event::Reap(req));
+            self.compare(req, 0, &[]);
+        }
+    }
+}
+
+/// The Cut or the Reap of a request.
+fn end_of(req: Req, cuts: bool) -> Event {
+    if cuts {
+        Event::Cut(req)
+    } else {
+        Event::Reap(req)
     }
 }

@@ -1,0 +1,17 @@
+//! What a script is: its entries, the lines of its actors, and the rules that it keeps; and tables.
+#![tactic(auto)]
+
+pub mod act;
+pub mod homes;
+pub mod named;
+mod rules;
+pub mod script;
+pub mod step;
+pub mod table;
+
+pub use act::Act;
+pub use homes::homes_of;
+pub use named::Named;
+pub use script::Script;
+pub use step::{Step, step_at};
+pub use table::Table;
