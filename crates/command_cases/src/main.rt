@@ -1,22 +1,36 @@
-//! The commands as a user gives them, case by case: reads cases from standard input, and prints each that goes wrong and how
-//! many there were.
+//! The commands as a user gives them, and the scripts, tables and searches below them, case by case: reads cases from standard
+//! input, and prints each that goes wrong and how many there were.
 #![tactic(auto)]
 
 mod case;
 mod events;
+mod files;
 mod history;
 mod problems;
+mod scripts;
+mod searches;
 mod words;
 
 use case::Case;
 use std::alloc::AllocError;
 use std::io;
-use std::io::Read;
+use std::io::{Input, Read};
+use std::rt::Files;
 use std::thread::Threads;
 
 /// What is told of a case, by its kind.
-fn told<R: Threads + Sync + AllocGlobal>(rt: &R, case: &Case<'_>) -> Result<String, AllocError> {
+fn told<R: Threads + Sync + Files + Input + AllocGlobal>(
+    rt: &R,
+    case: &Case<'_>,
+) -> Result<String, AllocError> {
     match case.kind {
+        "script" => scripts::told(rt.alloc(), case.text),
+        "whole" => scripts::told_of_whole(rt.alloc(), case.text),
+        "says" => scripts::said(rt.alloc(), case.text),
+        "table" => scripts::told_of_table(rt.alloc(), case.text, case.second),
+        "states" => searches::told(rt.alloc(), case.text, case.second),
+        "example" => files::is_example(rt, case.text),
+        "files" => files::history(rt, case.text, case.second),
         "words" => words::asked(rt, case.text),
         "help" => words::helps(rt, case.text, case.second),
         "problem" => problems::told(rt, case.text),

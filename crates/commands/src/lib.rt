@@ -3,9 +3,11 @@
 
 mod answer;
 mod command_line;
+mod files;
 mod job;
 mod problem;
 
 pub use answer::perform;
+pub use files::serve;
 pub use job::{Job, Request, request_of};
 pub use problem::Problem;
