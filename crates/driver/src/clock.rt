@@ -7,7 +7,7 @@ use board::Poller;
 use script_rules::Act;
 
 /// How far the clock has come with its lines: which one is next, how often it was tried, and why it stopped, if it did.
-#[derive(Clone, Copy, PartialEq, Eq, Debug)]
+#[derive(Clone, Copy)]
 pub(crate) struct Clock {
     next: usize,
     tries: u32,

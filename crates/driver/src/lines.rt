@@ -8,7 +8,7 @@ use std::alloc::{AllocError, AllocFailed};
 use std::thread;
 
 /// Why a ring or the clock stopped before the end of its lines.
-#[derive(Clone, Copy, PartialEq, Eq, Debug)]
+#[derive(Clone, Copy)]
 pub(crate) enum Halt {
     /// A line ran out of tries: the place of the entry that it waits for, or of the first one that it submits.
     Stuck(u32),

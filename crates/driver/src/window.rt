@@ -5,7 +5,7 @@ use board::{Board, Phase, Poller, Released, Worker};
 use model::Req;
 
 /// The requests of a ring from `low` on: all before it have replied. Those before `tail` were submitted.
-#[derive(Clone, Copy, PartialEq, Eq, Debug)]
+#[derive(Clone, Copy)]
 pub(crate) struct Window {
     pub ring: u16,
     pub low: u64,

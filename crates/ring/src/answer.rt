@@ -9,7 +9,7 @@ use crate::pipe::{Pipe, tells_bad_end, tells_number};
 use entry::Op;
 
 /// The end of a pipe that is there.
-#[derive(Clone, Copy, PartialEq, Eq, Debug)]
+#[derive(Clone, Copy)]
 pub enum Reached {
     Nothing,
     Read(usize),

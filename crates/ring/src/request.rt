@@ -7,7 +7,7 @@ use entry::{Op, Sqe};
 use model::Bytes;
 
 /// Where a request stands. An unborn one is not kept.
-#[derive(Clone, Copy, PartialEq, Eq, Debug)]
+#[derive(Clone, Copy, PartialEq, Eq)]
 pub enum Stage {
     Waits,
     Runs,
@@ -20,7 +20,7 @@ pub enum Stage {
 }
 
 /// What a cancel has done so far.
-#[derive(Clone, Copy, PartialEq, Eq, Debug)]
+#[derive(Clone, Copy)]
 pub enum Found {
     Nothing,
     /// It ended its target.

@@ -15,7 +15,7 @@ pub fn empty(generation: u32) -> u64
 }
 
 /// The request of this generation was submitted.
-pub fn held(generation: u32) -> u64
+pub(crate) fn held(generation: u32) -> u64
     requires { generation < 16777216 }
     ensures { result ≡ word_of Held 0 generation 0 }
 {
@@ -23,7 +23,7 @@ pub fn held(generation: u32) -> u64
 }
 
 /// A worker may begin the request.
-pub fn ready(generation: u32) -> u64
+pub(crate) fn ready(generation: u32) -> u64
     requires { generation < 16777216 }
     ensures { result ≡ word_of Ready 0 generation 0 }
 {
@@ -31,7 +31,7 @@ pub fn ready(generation: u32) -> u64
 }
 
 /// A worker runs the request.
-pub fn running(generation: u32) -> u64
+pub(crate) fn running(generation: u32) -> u64
     requires { generation < 16777216 }
     ensures { result ≡ word_of Running 0 generation 0 }
 {
@@ -39,7 +39,7 @@ pub fn running(generation: u32) -> u64
 }
 
 /// A worker answered the request.
-pub fn done(generation: u32, fails: bool, res: i32) -> u64
+pub(crate) fn done(generation: u32, fails: bool, res: i32) -> u64
     requires { generation < 16777216 }
     ensures { (b : ℕ) → bits_of res b → result ≡ word_of Done (cause_bits by_reply fails) generation b }
 {
@@ -47,7 +47,7 @@ pub fn done(generation: u32, fails: bool, res: i32) -> u64
 }
 
 /// What the outcome word of a cell says: 1 where the last reply was a failure.
-pub fn outcome(failed: bool) -> u64
+pub(crate) fn outcome(failed: bool) -> u64
     ensures { result ≡ cond failed 1 0 }
 {
     if failed { 1 } else { 0 }
