@@ -9,7 +9,7 @@ use crate::call::call_of;
 use crate::carry::{carry, park};
 use crate::cast::{Away, Cast, Troop};
 use crate::head::shape_of;
-use board::{Board, BoardError, FinishError, Report, Shape, Submitter, Unfinished, Worker};
+use board::{Board, BoardError, FinishError, Pass, Report, Shape, Submitter, Unfinished, Worker};
 use std::alloc::{AllocError, Global};
 use std::io;
 
@@ -205,6 +205,22 @@ fn set_aside(board: &Board, troop: &mut Troop, words: &str) -> Aside
     Aside { submitter, worker }
 }
 
+/// Adds the pass, where there is one.
+fn put_back<P: Pass + Drop>(
+    board: &Board,
+    passes: &mut Vec<P>,
+    pass: Option<P>,
+) -> Result<(), AllocError>
+    requires passes { All (λ p. IsOf board.now (P.knows p)) passes.old.items }
+    requires pass { IfSome pass (λ p. IsOf board.now (P.knows p)) }
+    ensures { All (λ p. IsOf board.now (P.knows p)) passes.new.items }
+{
+    match pass {
+        Some(pass) => passes.push(pass).map_err(AllocError::from),
+        None => Ok(()),
+    }
+}
+
 /// Brings back what was set aside.
 fn bring_back(board: &Board, troop: &mut Troop, aside: Aside) -> Result<(), AllocError>
     requires troop { IsTroop board.now troop.old }
@@ -213,13 +229,8 @@ fn bring_back(board: &Board, troop: &mut Troop, aside: Aside) -> Result<(), Allo
     ensures { IsTroop board.now troop.new }
 {
     let Aside { submitter, worker } = aside;
-    if let Some(submitter) = submitter {
-        troop.submitters.push(submitter)?;
-    }
-    if let Some(worker) = worker {
-        troop.workers.push(worker)?;
-    }
-    Ok(())
+    put_back(board, &mut troop.submitters, submitter)?;
+    put_back(board, &mut troop.workers, worker)
 }
 
 /// Ends the board with the passes of the troop.
@@ -300,16 +311,16 @@ fn finish<R: AllocGlobal + Print>(
     }
 }
 
-/// Prints why the board was not ended, and brings back what was set aside.
+/// Brings back what was set aside, and prints why the board was not ended.
 fn take_up<R: Print>(rt: &R, words: &str, mut still: Still, aside: Aside) -> io::Result<Still>
     requires troop { IsTroop still.board still.troop }
     requires submitter { IfSome aside.submitter (λ p. IsOf still.board p) }
     requires worker { IfSome aside.worker (λ p. IsOf still.board p) }
     ensures { IfOk result (λ s. IsTroop s.board s.troop) }
 {
+    bring_back(&still.board, &mut still.troop, aside)?;
     let error = still.error;
     println!(rt; "finish{words} => {error}")?;
-    bring_back(&still.board, &mut still.troop, aside)?;
     Ok(still)
 }
 
