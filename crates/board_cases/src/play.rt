@@ -32,6 +32,22 @@ fn places_of<'a>(
     Ok((idle, busy))
 }
 
+/// Adds the pass, where there is one.
+fn put_back<P: Pass + Drop>(
+    board: &Board,
+    passes: &mut Vec<P>,
+    pass: Option<P>,
+) -> Result<(), AllocError>
+    requires passes { All (λ p. IsOf board.now (P.knows p)) passes.old.items }
+    requires pass { IfSome pass (λ p. IsOf board.now (P.knows p)) }
+    ensures { All (λ p. IsOf board.now (P.knows p)) passes.new.items }
+{
+    match pass {
+        Some(pass) => passes.push(pass).map_err(AllocError::from),
+        None => Ok(()),
+    }
+}
+
 /// The workers at these places.
 fn workers_at(
     alloc: Global,
@@ -43,9 +59,7 @@ fn workers_at(
 {
     let mut workers = Vec::new(alloc);
     while let Some(slot) = idle.pop() {
-        if let Some(worker) = slot {
-            workers.push(worker)?;
-        }
+        put_back(board, &mut workers, slot)?;
     }
     Ok(workers)
 }
@@ -185,6 +199,15 @@ fn turn(board: &Board, troop: &mut Troop)
     troop.submitters.reverse();
 }
 
+/// Takes the last pass away, where it is meant.
+fn last_if<P: Pass>(board: &Board, passes: &mut Vec<P>, is_meant: bool) -> Option<P>
+    requires { All (λ p. IsOf board.now (P.knows p)) passes.old.items }
+    ensures taken { IfSome result (λ p. IsOf board.now (P.knows p)) }
+    ensures left { All (λ p. IsOf board.now (P.knows p)) passes.new.items }
+{
+    if is_meant { passes.pop() } else { None }
+}
+
 /// Sets aside what the line leaves out: the last submitter, or the last worker.
 fn set_aside(board: &Board, troop: &mut Troop, words: &str) -> Aside
     requires { IsTroop board.now troop.old }
@@ -192,32 +215,9 @@ fn set_aside(board: &Board, troop: &mut Troop, words: &str) -> Aside
     ensures submitter { IfSome result.submitter (λ p. IsOf board.now p) }
     ensures worker { IfSome result.worker (λ p. IsOf board.now p) }
 {
-    let submitter = if words == " without submitter" {
-        troop.submitters.pop()
-    } else {
-        None
-    };
-    let worker = if words == " without worker" {
-        troop.workers.pop()
-    } else {
-        None
-    };
-    Aside { submitter, worker }
-}
-
-/// Adds the pass, where there is one.
-fn put_back<P: Pass + Drop>(
-    board: &Board,
-    passes: &mut Vec<P>,
-    pass: Option<P>,
-) -> Result<(), AllocError>
-    requires passes { All (λ p. IsOf board.now (P.knows p)) passes.old.items }
-    requires pass { IfSome pass (λ p. IsOf board.now (P.knows p)) }
-    ensures { All (λ p. IsOf board.now (P.knows p)) passes.new.items }
-{
-    match pass {
-        Some(pass) => passes.push(pass).map_err(AllocError::from),
-        None => Ok(()),
+    Aside {
+        submitter: last_if(board, &mut troop.submitters, words == " without submitter"),
+        worker: last_if(board, &mut troop.workers, words == " without worker"),
     }
 }
 
