@@ -1,5 +1,6 @@
 -- Lists of a board's passes.
-use Rattle.std.proofs.Common.{ℕ, zero, suc, List, [], ◌∷◌, All, ◌<◌, length, arith}
+use Rattle.std.proofs.Common.{ℕ, zero, suc, Bool, true, false, List, [], ◌∷◌, ◌++◌, All, if◌then◌else◌, arith}
+use Rattle.std.proofs.lemmas.List.Elements.{All-push}
 use Rattle.work.specs.Board.{Facts, IsOf}
 use Rattle.work.specs.Passes.{Pass}
 use Rattle.board.specs.New.{AreSubmitters, AreWorkers}
@@ -20,3 +21,8 @@ workers_of b (p ∷ ps) s (suc k) d lt = workers_of b ps s.1 k d (omega (arith, 
 pub are_of : (b : Facts) (ps : List Pass) → All (λ p. IsOf b p) ps → AreOf b ps
 are_of b [] all = tt
 are_of b (p ∷ ps) all = (all 0 p (omega arith), are_of b ps (λ k d lt. all (suc k) d (omega (arith, lt))))
+
+-- a push keeps what holds of each
+pub pushed : {X : Type 0} (P : X → Type 0) (taken : Bool) (xs : List X) (x : X) → All P xs → P x → All P (if taken then xs ++ x ∷ [] else xs)
+pushed P true xs x all p = All-push P xs x all p
+pushed P false xs x all p = all

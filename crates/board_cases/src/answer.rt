@@ -39,7 +39,7 @@ pub(crate) struct Digits<'a>(pub &'a [u8]);
 impl fmt::Display for Digits<'_> {
     fn fmt<W: fmt::Write>(&self, f: &mut fmt::Formatter<W>) -> fmt::Result {
         if self.0.is_empty() {
-            return write!(f, "-");
+            return f.write_str("-");
         }
         for byte in self.0 {
             write!(f, "{byte:02x}")?;
@@ -63,27 +63,21 @@ impl fmt::Display for Whole<'_> {
 impl fmt::Display for Answer {
     fn fmt<W: fmt::Write>(&self, f: &mut fmt::Formatter<W>) -> fmt::Result {
         match self {
-            Answer::Said(words) => write!(f, "{words}"),
+            Answer::Said(words) => f.write_str(*words),
             Answer::Next(ring, req) => {
                 let req = Named(*req);
                 write!(f, "ring {ring}, next {req}")
             }
-            Answer::Stands(phase) => write!(f, "{phase:?}"),
-            Answer::Told(released) => write!(f, "{released:?}"),
-            Answer::Submitted(req) => {
-                let req = Named(*req);
-                write!(f, "{req}")
-            }
+            Answer::Stands(phase) => fmt::Debug::fmt(phase, f),
+            Answer::Told(released) => fmt::Debug::fmt(released, f),
+            Answer::Submitted(req) => Named(*req).fmt(f),
             Answer::NotSubmitted(error, buffer) => {
                 let buffer = Digits(buffer);
                 write!(f, "{error}, buffer {buffer}")
             }
-            Answer::Ran(cqe) => write!(f, "{cqe}"),
-            Answer::Reaped(completion) => {
-                let completion = Whole(completion);
-                write!(f, "{completion}")
-            }
-            Answer::NotReaped(error) => write!(f, "{error}"),
+            Answer::Ran(cqe) => cqe.fmt(f),
+            Answer::Reaped(completion) => Whole(completion).fmt(f),
+            Answer::NotReaped(error) => error.fmt(f),
         }
     }
 }

@@ -1,4 +1,5 @@
 //! The calls of a case, as its lines write them.
+use crate::words::Words;
 use entry::Sqe;
 use model::Req;
 use std::alloc::{AllocError, Global};
@@ -35,30 +36,44 @@ pub(crate) enum Call {
     Reap(usize, Req),
 }
 
-/// The number that a word writes, as one of a list.
-pub(crate) fn place_of(word: &str) -> Option<usize> {
-    let number = number_of(word.as_bytes())?;
-    usize::try_from(number).ok()
+/// An entry with its buffer.
+#[derive(Drop)]
+struct Handed {
+    sqe: Sqe,
+    buffer: Vec<u8>,
 }
 
-/// The request that a word writes, as `0.3` for ring 0's request 3.
-fn request_of(word: &str) -> Option<Req> {
-    let (ring, k) = word.split_once('.')?;
-    let ring = u16::try_from(number_of(ring.as_bytes())?).ok()?;
-    let k = number_of(k.as_bytes())?;
-    Some(Req { ring, k })
-}
+impl Handed {
+    /// Takes in what a word says of them: `ud=NUMBER`, `flags=NUMBER` or `buffer=HEX`. False where it says nothing.
+    fn take_in(&mut self, alloc: Global, word: &str) -> Result<bool, AllocError> {
+        let (key, value) = word.split_once('=').unwrap_or((word, ""));
+        if key == "buffer" {
+            self.take_buffer(alloc, value)
+        } else {
+            Ok(self.take_number(key, number_of(value.as_bytes())))
+        }
+    }
 
-/// The pass that a word names.
-fn name_of(word: &str) -> Option<Name> {
-    if word == "poller" {
-        return Some(Name::Poller);
+    fn take_buffer(&mut self, alloc: Global, digits: &str) -> Result<bool, AllocError> {
+        match bytes_of(alloc, digits.as_bytes())? {
+            Some(buffer) => {
+                self.buffer = buffer;
+                Ok(true)
+            }
+            None => Ok(false),
+        }
     }
-    if let Some(number) = word.strip_prefix("submitter") {
-        return Some(Name::Submitter(place_of(number)?));
+
+    fn take_number(&mut self, key: &str, number: Option<u64>) -> bool {
+        match (key, number) {
+            ("ud", Some(number)) => self.sqe = prep::with_user_data(self.sqe, number),
+            ("flags", Some(flags)) if flags < 256 => {
+                self.sqe = prep::with_flags(self.sqe, flags as u8);
+            }
+            _ => return false,
+        }
+        true
     }
-    let number = word.strip_prefix("worker")?;
-    Some(Name::Worker(place_of(number)?))
 }
 
 /// The entry of these bytes, and of bytes 0 behind them.
@@ -67,95 +82,66 @@ fn raw_entry(bytes: &[u8]) -> Option<Sqe> {
         return None;
     }
     let mut all = [0; 64];
-    for (i, byte) in bytes.iter().enumerate() {
-        all[i] = *byte;
-    }
+    all[..bytes.len()].copy_from_slice(bytes);
     Some(Sqe::of_bytes(&all))
 }
 
-/// The words of a line.
-pub(crate) fn words_of<'a>(alloc: Global, line: &'a str) -> Result<Vec<&'a str>, AllocError> {
-    line.split(' ').collect(alloc)
-}
-
-/// The entry with its buffer, and what a word says of them: `ud=NUMBER`, `flags=NUMBER` or `buffer=HEX`.
-fn with_word(
-    alloc: Global,
-    entry: (Sqe, Vec<u8>),
-    word: &str,
-) -> Result<Option<(Sqe, Vec<u8>)>, AllocError> {
-    let (sqe, buffer) = entry;
-    let Some((key, value)) = word.split_once('=') else {
-        return Ok(None);
-    };
-    if key == "buffer" {
-        return match bytes_of(alloc, value.as_bytes())? {
-            Some(buffer) => Ok(Some((sqe, buffer))),
+/// The entry that the words of a `submit` line write behind the ring: `nop`, or `raw HEX`.
+fn entry_of(alloc: Global, words: &mut Words<'_>) -> Result<Option<Sqe>, AllocError> {
+    match words.word() {
+        "nop" => Ok(Some(prep::nop())),
+        "raw" => match bytes_of(alloc, words.word().as_bytes())? {
+            Some(bytes) => Ok(raw_entry(&bytes)),
             None => Ok(None),
-        };
+        },
+        _ => Ok(None),
     }
-    let Some(number) = number_of(value.as_bytes()) else {
+}
+
+/// The call that the words of a `submit` line make.
+fn submission_of(alloc: Global, mut words: Words<'_>) -> Result<Option<Call>, AllocError> {
+    let ring = words.place();
+    let Some(sqe) = entry_of(alloc, &mut words)? else {
         return Ok(None);
     };
-    match (key, u8::try_from(number)) {
-        ("ud", _) => Ok(Some((prep::with_user_data(sqe, number), buffer))),
-        ("flags", Ok(flags)) => Ok(Some((prep::with_flags(sqe, flags), buffer))),
-        _ => Ok(None),
-    }
-}
-
-/// The entry that a `submit` line writes, with its buffer.
-fn entry_of(alloc: Global, words: &[&str]) -> Result<Option<(Sqe, Vec<u8>)>, AllocError> {
-    let (sqe, options) = match words {
-        ["nop", options @ ..] => (Some(prep::nop()), options),
-        ["raw", digits, options @ ..] => match bytes_of(alloc, digits.as_bytes())? {
-            Some(bytes) => (raw_entry(&bytes), options),
-            None => (None, options),
-        },
-        _ => (None, words),
+    let mut handed = Handed {
+        sqe,
+        buffer: Vec::new(alloc),
     };
-    let mut entry = match sqe {
-        Some(sqe) => Some((sqe, Vec::new(alloc))),
-        None => None,
-    };
-    for word in options {
-        entry = match entry {
-            Some(entry) => with_word(alloc, entry, word)?,
-            None => None,
-        };
+    let Words { rest, mut is_bad } = words;
+    for word in rest {
+        is_bad |= !handed.take_in(alloc, word)?;
     }
-    Ok(entry)
-}
-
-/// The call that a `submit` line of the ring makes.
-fn submission_of(alloc: Global, ring: &str, words: &[&str]) -> Result<Option<Call>, AllocError> {
-    let entry = entry_of(alloc, words)?;
-    match (place_of(ring), entry) {
-        (Some(ring), Some((sqe, buffer))) => Ok(Some(Call::Submit(ring, sqe, buffer))),
-        _ => Ok(None),
+    let Handed { sqe, buffer } = handed;
+    if is_bad {
+        Ok(None)
+    } else {
+        Ok(Some(Call::Submit(ring, sqe, buffer)))
     }
 }
 
 /// The call that the words of another line make.
-fn plain_call(words: &[&str]) -> Option<Call> {
-    match words {
-        ["next", ring] => Some(Call::Next(place_of(ring)?)),
-        ["look", name, req] => Some(Call::Look(name_of(name)?, request_of(req)?)),
-        ["meet", first, second] => Some(Call::Meet(name_of(first)?, name_of(second)?)),
-        ["release", req] => Some(Call::Release(request_of(req)?)),
-        ["begin", worker, req] => Some(Call::Begin(place_of(worker)?, request_of(req)?)),
-        ["park", worker] => Some(Call::Park(place_of(worker)?)),
-        ["run", worker] => Some(Call::Run(place_of(worker)?)),
-        ["reap", ring, req] => Some(Call::Reap(place_of(ring)?, request_of(req)?)),
-        _ => None,
+fn plain_call(kind: &str, words: &mut Words<'_>) -> Call {
+    match kind {
+        "next" => Call::Next(words.place()),
+        "look" => Call::Look(words.name(), words.req()),
+        "meet" => Call::Meet(words.name(), words.name()),
+        "release" => Call::Release(words.req()),
+        "begin" => Call::Begin(words.place(), words.req()),
+        "park" => Call::Park(words.place()),
+        "run" => Call::Run(words.place()),
+        "reap" => Call::Reap(words.place(), words.req()),
+        _ => words.bad(Call::Park(0)),
     }
 }
 
 /// The call that a line writes.
 pub(crate) fn call_of(alloc: Global, line: &str) -> Result<Option<Call>, AllocError> {
-    let words = words_of(alloc, line)?;
-    match words.as_slice() {
-        ["submit", ring, entry @ ..] => submission_of(alloc, ring, entry),
-        words => Ok(plain_call(words)),
+    let mut words = Words::of(line);
+    let kind = words.word();
+    if kind == "submit" {
+        return submission_of(alloc, words);
     }
+    let call = plain_call(kind, &mut words);
+    Ok(if words.are_whole() { Some(call) } else { None })
 }

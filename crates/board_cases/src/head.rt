@@ -1,13 +1,40 @@
 //! The board of a case, as its line writes it.
-use crate::call::words_of;
+use crate::words::Words;
 use board::{RingShape, Shape};
 use std::alloc::{AllocError, Global};
-use text::number_of;
 
-/// A number of a shape.
-fn count_of(word: &str) -> Option<u32> {
-    let number = number_of(word.as_bytes())?;
-    u32::try_from(number).ok()
+/// What one part of the line says, with the numbers of these.
+#[derive(Clone, Copy)]
+enum Part {
+    Rings(u32, RingShape),
+    Pipes(u32, u32),
+    Workers(u32),
+}
+
+/// The part that the words write: `2 rings of 4`, `1 ring of 4 posts 8`, `1 pipe of 16` or `3 workers`.
+fn part_of(words: &mut Words<'_>) -> Part {
+    let count = words.count();
+    match words.word() {
+        "ring" | "rings" => Part::Rings(count, ring_of(words)),
+        "pipe" | "pipes" => {
+            words.expect("of");
+            Part::Pipes(count, words.count())
+        }
+        "worker" | "workers" => Part::Workers(count),
+        _ => words.bad(Part::Workers(0)),
+    }
+}
+
+/// A ring of so many cells, with room for so many completions.
+fn ring_of(words: &mut Words<'_>) -> RingShape {
+    words.expect("of");
+    let cells = words.count();
+    let posts = match words.rest.next() {
+        Some("posts") => Some(words.count()),
+        Some(_) => words.bad(None),
+        None => None,
+    };
+    RingShape { cells, posts }
 }
 
 /// Adds so many copies.
@@ -18,55 +45,28 @@ fn add_copies<T: Copy>(items: &mut Vec<T>, count: u32, item: T) -> Result<(), Al
     Ok(())
 }
 
-/// Adds what one part of the line says: `2 rings of 4`, `1 ring of 4 posts 8`, `1 pipe of 16` or `3 workers`. False where
-/// it says nothing.
-fn add_part(shape: &mut Shape, words: &[&str]) -> Result<bool, AllocError> {
-    let [count, kind, sizes @ ..] = words else {
-        return Ok(false);
-    };
-    let Some(count) = count_of(count) else {
-        return Ok(false);
-    };
-    match (*kind, sizes) {
-        ("ring" | "rings", ["of", cells]) => add_rings(shape, count, cells, None),
-        ("ring" | "rings", ["of", cells, "posts", posts]) => {
-            add_rings(shape, count, cells, Some(posts))
-        }
-        ("pipe" | "pipes", ["of", capacity]) => match count_of(capacity) {
-            Some(capacity) => {
-                add_copies(&mut shape.pipes, count, capacity)?;
-                Ok(true)
-            }
-            None => Ok(false),
-        },
-        ("worker" | "workers", []) => {
+/// Adds what a part says.
+fn add_part(shape: &mut Shape, part: Part) -> Result<(), AllocError> {
+    match part {
+        Part::Rings(count, ring) => add_copies(&mut shape.rings, count, ring),
+        Part::Pipes(count, capacity) => add_copies(&mut shape.pipes, count, capacity),
+        Part::Workers(count) => {
             shape.workers = count;
-            Ok(true)
+            Ok(())
         }
-        _ => Ok(false),
     }
 }
 
-/// Adds so many rings of so many cells, with room for so many completions.
-fn add_rings(
-    shape: &mut Shape,
-    count: u32,
-    cells: &str,
-    posts: Option<&str>,
-) -> Result<bool, AllocError> {
-    let Some(cells) = count_of(cells) else {
-        return Ok(false);
-    };
-    let posts = match posts {
-        Some(posts) => {
-            let Some(posts) = count_of(posts) else {
-                return Ok(false);
-            };
-            Some(posts)
+/// Adds the parts of the line. False where one says nothing.
+fn add_parts(shape: &mut Shape, parts: &str) -> Result<bool, AllocError> {
+    for part in parts.split(", ") {
+        let mut words = Words::of(part);
+        let part = part_of(&mut words);
+        if !words.are_whole() {
+            return Ok(false);
         }
-        None => None,
-    };
-    add_copies(&mut shape.rings, count, RingShape { cells, posts })?;
+        add_part(shape, part)?;
+    }
     Ok(true)
 }
 
@@ -80,11 +80,9 @@ pub(crate) fn shape_of(alloc: Global, line: &str) -> Result<Option<Shape>, Alloc
         pipes: Vec::new(alloc),
         workers: 0,
     };
-    for part in parts.split(", ") {
-        let words = words_of(alloc, part)?;
-        if !add_part(&mut shape, words.as_slice())? {
-            return Ok(None);
-        }
+    if add_parts(&mut shape, parts)? {
+        Ok(Some(shape))
+    } else {
+        Ok(None)
     }
-    Ok(Some(shape))
 }

@@ -22,6 +22,7 @@ mod carry;
 mod cast;
 mod head;
 mod play;
+mod words;
 
 use play::play_case;
 use std::io;

@@ -9,7 +9,7 @@ use crate::call::call_of;
 use crate::carry::{carry, park};
 use crate::cast::{Away, Cast, Troop};
 use crate::head::shape_of;
-use board::{Board, FinishError, Report, Submitter, Unfinished, Worker};
+use board::{Board, BoardError, FinishError, Pass, Report, Shape, Submitter, Unfinished, Worker};
 use std::alloc::{AllocError, Global};
 use std::io;
 
@@ -32,6 +32,22 @@ fn places_of<'a>(
     Ok((idle, busy))
 }
 
+/// Adds the pass, where there is one.
+fn put_back<P: Pass + Drop>(
+    board: &Board,
+    passes: &mut Vec<P>,
+    pass: Option<P>,
+) -> Result<(), AllocError>
+    requires passes { All (λ p. IsOf board.now (P.knows p)) passes.old.items }
+    requires pass { IfSome pass (λ p. IsOf board.now (P.knows p)) }
+    ensures { All (λ p. IsOf board.now (P.knows p)) passes.new.items }
+{
+    match pass {
+        Some(pass) => passes.push(pass).map_err(AllocError::from),
+        None => Ok(()),
+    }
+}
+
 /// The workers at these places.
 fn workers_at(
     alloc: Global,
@@ -43,9 +59,7 @@ fn workers_at(
 {
     let mut workers = Vec::new(alloc);
     while let Some(slot) = idle.pop() {
-        if let Some(worker) = slot {
-            workers.push(worker)?;
-        }
+        put_back(board, &mut workers, slot)?;
     }
     Ok(workers)
 }
@@ -115,7 +129,39 @@ fn answer_of<'a>(
     }
 }
 
-/// Makes the calls of these lines, and prints each with its answer.
+/// Makes the call of a line, and prints it with its answer.
+fn play_line<'a, R: AllocGlobal + Print>(
+    rt: &R,
+    board: &'a Board,
+    cast: &mut Cast<'a>,
+    line: &str,
+) -> io::Result<()>
+    requires { IsCast board.now cast.old }
+    ensures { IsCast board.now cast.new }
+{
+    let answer = answer_of(rt.alloc(), board, cast, line)?;
+    println!(rt; "{line} => {answer}")
+}
+
+/// Makes the calls of these lines.
+fn play_lines<'a, R: AllocGlobal + Print>(
+    rt: &R,
+    board: &'a Board,
+    cast: &mut Cast<'a>,
+    lines: &str,
+) -> io::Result<()>
+    requires { IsCast board.now cast.old }
+    ensures { IsCast board.now cast.new }
+{
+    for line in lines.split('\n') {
+        if !line.is_empty() {
+            play_line(rt, board, cast, line)?;
+        }
+    }
+    Ok(())
+}
+
+/// Makes the calls of these lines with the passes of a troop.
 fn play<R: AllocGlobal + Print>(
     rt: &R,
     board: &Board,
@@ -126,12 +172,7 @@ fn play<R: AllocGlobal + Print>(
     ensures { IfOk result (λ t. IsTroop board.now t) }
 {
     let mut cast = cast_of(rt.alloc(), board, troop)?;
-    for line in lines.split('\n') {
-        if !line.is_empty() {
-            let answer = answer_of(rt.alloc(), board, &mut cast, line)?;
-            println!(rt; "{line} => {answer}")?;
-        }
-    }
+    play_lines(rt, board, &mut cast, lines)?;
     Ok(troop_of(rt.alloc(), board, cast)?)
 }
 
@@ -150,38 +191,21 @@ struct Aside {
     worker: Option<Worker>,
 }
 
-/// The passes of a troop, the submitters in the other order.
-fn turned(alloc: Global, board: &Board, troop: Troop) -> Result<Troop, AllocError>
-    requires { IsTroop board.now troop }
-    ensures { IfOk result (λ t. IsTroop board.now t) }
+/// The submitters of a troop in the other order.
+fn turn(board: &Board, troop: &mut Troop)
+    requires { IsTroop board.now troop.old }
+    ensures { IsTroop board.now troop.new }
 {
-    let Troop {
-        poller,
-        submitters,
-        workers,
-    } = troop;
-    let submitters = reversed(alloc, board, submitters)?;
-    Ok(Troop {
-        poller,
-        submitters,
-        workers,
-    })
+    troop.submitters.reverse();
 }
 
-/// The submitters in the other order.
-fn reversed(
-    alloc: Global,
-    board: &Board,
-    mut submitters: Vec<Submitter>,
-) -> Result<Vec<Submitter>, AllocError>
-    requires { All (λ p. IsOf board.now p) submitters.items }
-    ensures { IfOk result (λ v. All (λ p. IsOf board.now p) v.items) }
+/// Takes the last pass away, where it is meant.
+fn last_if<P: Pass>(board: &Board, passes: &mut Vec<P>, is_meant: bool) -> Option<P>
+    requires { All (λ p. IsOf board.now (P.knows p)) passes.old.items }
+    ensures taken { IfSome result (λ p. IsOf board.now (P.knows p)) }
+    ensures left { All (λ p. IsOf board.now (P.knows p)) passes.new.items }
 {
-    let mut others = Vec::new(alloc);
-    while let Some(submitter) = submitters.pop() {
-        others.push(submitter)?;
-    }
-    Ok(others)
+    if is_meant { passes.pop() } else { None }
 }
 
 /// Sets aside what the line leaves out: the last submitter, or the last worker.
@@ -191,17 +215,10 @@ fn set_aside(board: &Board, troop: &mut Troop, words: &str) -> Aside
     ensures submitter { IfSome result.submitter (λ p. IsOf board.now p) }
     ensures worker { IfSome result.worker (λ p. IsOf board.now p) }
 {
-    let submitter = if words == " without submitter" {
-        troop.submitters.pop()
-    } else {
-        None
-    };
-    let worker = if words == " without worker" {
-        troop.workers.pop()
-    } else {
-        None
-    };
-    Aside { submitter, worker }
+    Aside {
+        submitter: last_if(board, &mut troop.submitters, words == " without submitter"),
+        worker: last_if(board, &mut troop.workers, words == " without worker"),
+    }
 }
 
 /// Brings back what was set aside.
@@ -212,13 +229,8 @@ fn bring_back(board: &Board, troop: &mut Troop, aside: Aside) -> Result<(), Allo
     ensures { IsTroop board.now troop.new }
 {
     let Aside { submitter, worker } = aside;
-    if let Some(submitter) = submitter {
-        troop.submitters.push(submitter)?;
-    }
-    if let Some(worker) = worker {
-        troop.workers.push(worker)?;
-    }
-    Ok(())
+    put_back(board, &mut troop.submitters, submitter)?;
+    put_back(board, &mut troop.workers, worker)
 }
 
 /// Ends the board with the passes of the troop.
@@ -268,17 +280,48 @@ fn print_report<R: Print>(rt: &R, words: &str, report: &Report) -> io::Result<()
     Ok(())
 }
 
-/// Prints why a board was not ended.
-fn print_refusal<R: Print>(rt: &R, words: &str, error: FinishError) -> io::Result<()> {
-    println!(rt; "finish{words} => {error}")
-}
-
 /// The first of some lines, and the others.
 fn first_line(lines: &str) -> (&str, &str) {
     match lines.split_once('\n') {
         Some(parts) => parts,
         None => (lines, ""),
     }
+}
+
+/// Ends the board as the words behind a `finish` say. Gives it back where it was not ended.
+fn finish<R: AllocGlobal + Print>(
+    rt: &R,
+    board: Board,
+    mut troop: Troop,
+    words: &str,
+) -> io::Result<Option<Still>>
+    requires { IsTroop board troop }
+    ensures { IfOk result (λ o. IfSome o (λ s. IsTroop s.board s.troop)) }
+{
+    if words == " turned" {
+        turn(&board, &mut troop);
+    }
+    let aside = set_aside(&board, &mut troop, words);
+    match end(rt.alloc(), board, troop) {
+        Ok(report) => {
+            print_report(rt, words, &report)?;
+            Ok(None)
+        }
+        Err(still) => Ok(Some(take_up(rt, words, still, aside)?)),
+    }
+}
+
+/// Brings back what was set aside, and prints why the board was not ended.
+fn take_up<R: Print>(rt: &R, words: &str, mut still: Still, aside: Aside) -> io::Result<Still>
+    requires troop { IsTroop still.board still.troop }
+    requires submitter { IfSome aside.submitter (λ p. IsOf still.board p) }
+    requires worker { IfSome aside.worker (λ p. IsOf still.board p) }
+    ensures { IfOk result (λ s. IsTroop s.board s.troop) }
+{
+    bring_back(&still.board, &mut still.troop, aside)?;
+    let error = still.error;
+    println!(rt; "finish{words} => {error}")?;
+    Ok(still)
 }
 
 /// Goes on with a case after its first `finish`: each part begins with what stands behind that word.
@@ -293,22 +336,26 @@ fn play_on<R: AllocGlobal + Print>(
     let (mut board, mut troop) = (board, troop);
     for part in parts {
         let (words, lines) = first_line(part);
-        if words == " turned" {
-            troop = turned(rt.alloc(), &board, troop)?;
-        }
-        let aside = set_aside(&board, &mut troop, words);
-        match end(rt.alloc(), board, troop) {
-            Ok(report) => return print_report(rt, words, &report),
-            Err(still) => {
-                print_refusal(rt, words, still.error)?;
-                board = still.board;
-                troop = still.troop;
-            }
-        }
-        bring_back(&board, &mut troop, aside)?;
-        troop = play(rt, &board, troop, lines)?;
+        let Some(still) = finish(rt, board, troop, words)? else {
+            return Ok(());
+        };
+        board = still.board;
+        troop = play(rt, &board, still.troop, lines)?;
     }
     Ok(())
+}
+
+/// A new board with its passes.
+fn board_of(alloc: Global, shape: Shape) -> Result<(Board, Troop), BoardError>
+    ensures { IfOk result (λ t. IsTroop t.0 t.1) }
+{
+    let (board, poller, submitters, workers) = Board::new(alloc, &shape)?;
+    let troop = Troop {
+        poller,
+        submitters,
+        workers,
+    };
+    Ok((board, troop))
 }
 
 /// Plays a case on a new board, whose line is the first, up to its first `finish` and from there on.
@@ -317,14 +364,9 @@ fn play_board<R: AllocGlobal + Print>(rt: &R, first: &str, others: &[&str]) -> i
     let Some(shape) = shape_of(rt.alloc(), line)? else {
         return println!(rt; "{line} => bad line");
     };
-    match Board::new(rt.alloc(), &shape) {
-        Ok((board, poller, submitters, workers)) => {
+    match board_of(rt.alloc(), shape) {
+        Ok((board, troop)) => {
             println!(rt; "{line} => made")?;
-            let troop = Troop {
-                poller,
-                submitters,
-                workers,
-            };
             let troop = play(rt, &board, troop, lines)?;
             play_on(rt, board, troop, others)
         }

@@ -36,7 +36,12 @@ fn ticks(op: Op) -> Option<u32> {
 impl<'a> List<'a> {
     /// An earlier member of the chain replied so that the rest is ended.
     fn is_severed(self, r: Req) -> bool {
-        (0..r.k).any(|k| self.is_severed_by(Req { ring: r.ring, k }, r))
+        for k in 0..r.k {
+            if self.is_severed_by(Req { ring: r.ring, k }, r) {
+                return true;
+            }
+        }
+        false
     }
 
     fn is_severed_by(self, q: Req, r: Req) -> bool {
@@ -66,8 +71,12 @@ impl<'a> List<'a> {
             return false;
         };
         let drains = placed.has(DRAIN);
+        for k in 0..r.k {
+            if self.is_held_by(Req { ring: r.ring, k }, r, drains) {
+                return false;
+            }
+        }
         !self.is_severed(r)
-            && !(0..r.k).any(|k| self.is_held_by(Req { ring: r.ring, k }, r, drains))
     }
 
     /// A LINK_TIMEOUT is open where its target is.
@@ -145,12 +154,7 @@ impl<'a> List<'a> {
     /// The same, of the events of one request.
     fn allows_single(self, event: &Event) -> bool {
         match event {
-            Event::Begin(r) => {
-                self.waits(*r)
-                    && self.is_open(*r)
-                    && !self.is_timeout(*r)
-                    && !self.is_link_timeout(*r)
-            }
+            Event::Begin(r) => self.begins(*r),
             Event::Park(r) => self.runs(*r),
             Event::Reply { req, res, data } => {
                 self.runs(*req) && self.answers(*req, *res, data.as_slice())
@@ -164,11 +168,19 @@ impl<'a> List<'a> {
         }
     }
 
+    fn begins(self, r: Req) -> bool {
+        self.waits(r) && self.is_open(r) && !self.is_timeout(r) && !self.is_link_timeout(r)
+    }
+
     fn any_runs(self) -> bool {
-        self.events.iter().any(|event| match *event {
-            Event::Submit { req, .. } => self.runs(*req),
-            _ => false,
-        })
+        for event in self.events {
+            if let Event::Submit { req, .. } = *event
+                && self.runs(*req)
+            {
+                return true;
+            }
+        }
+        false
     }
 
     /// The cancel runs, has found nothing yet, and means this request, which has no answer.

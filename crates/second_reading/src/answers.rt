@@ -92,21 +92,34 @@ impl<'a> List<'a> {
     /// The data are the first bytes of the pipe.
     fn is_front(self, p: usize, data: &[u8]) -> bool {
         let (_, out) = self.into_and_out(p);
-        data.iter().enumerate().all(|(i, byte)| self.byte(p, out.wrapping_add(i)) == Some(*byte))
+        for (i, byte) in data.iter().enumerate() {
+            if self.byte(p, out.wrapping_add(i)) != Some(*byte) {
+                return false;
+            }
+        }
+        true
     }
 
     /// A CLOSE of the end was answered with 0.
     fn is_closed(self, end: End) -> bool {
-        self.events.iter().any(|event| match *event {
-            Event::Reply { req, res: 0, .. } => match self.placed(*req) {
-                Some(placed) => match placed.op {
-                    Op::Close { fd } => self.end(fd) == end,
-                    _ => false,
-                },
-                None => false,
+        for event in self.events {
+            if let Event::Reply { req, res: 0, .. } = *event
+                && self.closes(*req, end)
+            {
+                return true;
+            }
+        }
+        false
+    }
+
+    fn closes(self, r: Req, end: End) -> bool {
+        match self.placed(r) {
+            Some(placed) => match placed.op {
+                Op::Close { fd } => self.end(fd) == end,
+                _ => false,
             },
-            _ => false,
-        })
+            None => false,
+        }
     }
 
     fn is_open_end(self, end: End) -> bool {
@@ -243,11 +256,25 @@ impl<'a> List<'a> {
     }
 
     pub fn has_taken(self, c: Req) -> bool {
-        self.events.iter().any(|event| matches!(*event, Event::Take { cancel, .. } if *cancel == c))
+        for event in self.events {
+            if let Event::Take { cancel, .. } = *event
+                && *cancel == c
+            {
+                return true;
+            }
+        }
+        false
     }
 
     pub fn has_missed(self, c: Req) -> bool {
-        self.events.iter().any(|event| matches!(*event, Event::Miss { cancel, .. } if *cancel == c))
+        for event in self.events {
+            if let Event::Miss { cancel, .. } = *event
+                && *cancel == c
+            {
+                return true;
+            }
+        }
+        false
     }
 
     fn answers_cancel(self, c: Req, res: i32) -> bool {

@@ -13,4 +13,6 @@ mod comparison;
 #[cfg(test)]
 mod list;
 #[cfg(test)]
+mod plan;
+#[cfg(test)]
 mod tests;

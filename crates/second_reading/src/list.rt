@@ -161,10 +161,14 @@ impl<'a> List<'a> {
 
     /// The timer ended its target or found it running.
     pub fn has_fired(self, l: Req) -> bool {
-        self.events.iter().any(|event| match *event {
-            Event::Fire { timer, .. } | Event::FireMiss { timer, .. } => *timer == l,
-            _ => false,
-        })
+        for event in self.events {
+            if let Event::Fire { timer, .. } | Event::FireMiss { timer, .. } = *event
+                && *timer == l
+            {
+                return true;
+            }
+        }
+        false
     }
 
     /// The reply that the event gives to the request.
@@ -246,15 +250,23 @@ impl<'a> List<'a> {
     }
 
     pub fn is_reaped(self, r: Req) -> bool {
-        self.events
-            .iter()
-            .any(|event| matches!(*event, Event::Reap(req) if *req == r))
+        for event in self.events {
+            if let Event::Reap(req) = *event
+                && *req == r
+            {
+                return true;
+            }
+        }
+        false
     }
 
     pub fn is_shut(self) -> bool {
-        self.events
-            .iter()
-            .any(|event| matches!(*event, Event::Shut))
+        for event in self.events {
+            if let Event::Shut = *event {
+                return true;
+            }
+        }
+        false
     }
 
     /// The value of the last Tick, or 0.

@@ -1,99 +1,72 @@
 //! Entries, their parts, and completions.
 
 use crate::builds::built;
-use crate::fault::Fault;
+use crate::claims::told_of_claim;
+use crate::shown::{show_bytes, show_each, show_texts};
+use crate::told::Told;
+use crate::words::Words;
 use bitflags::Flags;
 use entry::{Cqe, Offset, Op, Row, Sqe, SqeFlags};
-use hex::FromHex;
 use prep::{with_flags, with_user_data};
-use std::alloc::Global;
+use std::fmt;
+use std::fmt::Formatter;
 
-/// The entry of a line: read from its bytes, of a row with flags and a user_data, built, or the last one with other flags
+/// The entry of a line that tells one: read from its bytes, of a row with flags and a user_data, built, or the last one with other flags
 /// or another user_data.
-pub fn entry_of(last: Sqe, words: &[&str]) -> Result<Sqe, Fault> {
-    Ok(match words {
-        ["sqe", digits] => Sqe::of_bytes(&<[u8; 64]>::from_hex(*digits)?),
-        ["row", row @ .., flags, user_data] => Sqe::of_row(
-            row_of(row)?,
-            flags.parse()?,
-            user_data.parse()?,
-        ),
-        ["build", words @ ..] => built(words)?,
-        ["with_flags", flags] => with_flags(last, flags.parse()?),
-        ["with_user_data", user_data] => with_user_data(last, user_data.parse()?),
-        _ => return Err(Fault::BadLine),
+pub fn entry_of(last: Sqe, kind: &str, words: &mut Words<'_>) -> Option<Sqe> {
+    Some(match kind {
+        "sqe" => Sqe::of_bytes(&words.bytes()),
+        "row" => Sqe::of_row(row_of(words), words.number(), words.number()),
+        "build" => built(words),
+        "with_flags" => with_flags(last, words.number()),
+        "with_user_data" => with_user_data(last, words.number()),
+        _ => return None,
     })
 }
 
 /// A row by its columns.
-fn row_of(words: &[&str]) -> Result<Row, Fault> {
-    let [opcode, fd, off, addr, len, word] = words else {
-        return Err(Fault::BadLine);
-    };
-    Ok(Row {
-        opcode: opcode.parse()?,
-        fd: fd.parse()?,
-        off: off.parse()?,
-        addr: addr.parse()?,
-        len: len.parse()?,
-        word: word.parse()?,
-    })
+fn row_of(words: &mut Words<'_>) -> Row {
+    Row {
+        opcode: words.number(),
+        fd: words.number(),
+        off: words.number(),
+        addr: words.number(),
+        len: words.number(),
+        word: words.number(),
+    }
 }
 
-/// What is told of an entry: its texts, its parts, its flags and what they ask for, its row and its bytes.
-pub fn told_of_entry(alloc: Global, sqe: Sqe) -> Result<String, Fault> {
-    let (user_data, flags, op, row) = (sqe.user_data(), sqe.flags(), sqe.op(), sqe.row());
-    let bits = flags.bits();
-    let (link, hard) = (
-        flags.contains(SqeFlags::IO_LINK),
-        flags.contains(SqeFlags::IO_HARDLINK),
-    );
-    let (drains, soft, hardens) = (sqe.drains(), sqe.links_soft(), sqe.links_hard());
-    let bytes = sqe.to_bytes();
-    let again = Sqe::of_bytes(&bytes) == sqe;
-    let digits = hex::encode(alloc, bytes.as_slice())?;
-    Ok(format!(in alloc;
-        "{sqe}\n{sqe:?}\nuser_data {user_data} flags {bits} op {op:?}\ncontains link {link} hard {hard}\ndrains {drains} links_soft {soft} links_hard {hardens}\n{row:?}\n{digits} again {again}"
-    )?)
-}
-
-/// What is told of an operation: its texts, whether its values fit, the flags that it may have, and its row.
-fn told_of_op(alloc: Global, op: Op) -> Result<String, Fault> {
-    let (fits, flags, row) = (op.fits(), op.allowed_flags(), op.row());
-    Ok(format!(in alloc; "{op}\n{op:?}\nfits {fits} allowed_flags {flags}\n{row:?}")?)
-}
-
-/// What is told of a part of entries, or of a completion.
-pub fn told_of_part(alloc: Global, words: &[&str]) -> Result<String, Fault> {
-    match words {
-        ["near", digits] => told_of_neighbours(alloc, <[u8; 64]>::from_hex(*digits)?),
-        ["candidate", row @ ..] => told_of_op(alloc, row_of(row)?.candidate()),
-        ["is_written", row @ .., flags] => {
-            let row = row_of(row)?;
-            let is_written = row.candidate().is_written_as(&row, flags.parse()?);
-            Ok(format!(in alloc; "{is_written}")?)
+/// What is told of a part of entries, a completion, or what claim words are.
+pub fn told_of_part(kind: &str, words: &mut Words<'_>) -> Told {
+    match kind {
+        "near" => Told::Neighbours(neighbours_of(words.bytes())),
+        "candidate" => Told::Op(row_of(words).candidate()),
+        "is_written" => {
+            let row = row_of(words);
+            Told::Truth(row.candidate().is_written_as(&row, words.number()))
         }
-        ["ticks", ticks] => told_of_op(
-            alloc,
-            Op::LinkTimeout {
-                ticks: ticks.parse()?,
-            },
-        ),
-        ["constants"] => told_of_constants(alloc),
-        ["cqe", digits] => match Cqe::of_bytes(&<[u8; 16]>::from_hex(*digits)?) {
-            Some(cqe) => told_of_completion(alloc, cqe),
-            None => Ok(String::from_str(alloc, "none")?),
-        },
-        ["completion", user_data, res] => {
-            let (user_data, res) = (user_data.parse()?, res.parse()?);
-            told_of_completion(alloc, Cqe { user_data, res })
-        }
-        _ => Err(Fault::BadLine),
+        "ticks" => Told::Op(Op::LinkTimeout {
+            ticks: words.number(),
+        }),
+        "constants" => Told::Constants,
+        "cqe" => Told::Completion(Cqe::of_bytes(&words.bytes())),
+        "completion" => Told::Completion(Some(Cqe {
+            user_data: words.number(),
+            res: words.number(),
+        })),
+        _ => told_of_claim(kind, words),
     }
 }
 
 /// How many of the 512 entries that differ in one bit are valid, Invalid, or neither.
-fn told_of_neighbours(alloc: Global, bytes: [u8; 64]) -> Result<String, Fault> {
+#[derive(Clone, Copy)]
+pub struct Neighbours {
+    valid: u32,
+    invalid: u32,
+    wrong: u32,
+}
+
+fn neighbours_of(bytes: [u8; 64]) -> Neighbours {
     let (mut valid, mut invalid, mut wrong) = (0u32, 0u32, 0u32);
     for i in 0..512usize {
         let mut near = bytes;
@@ -104,7 +77,11 @@ fn told_of_neighbours(alloc: Global, bytes: [u8; 64]) -> Result<String, Fault> {
             None => wrong = wrong.saturating_add(1),
         }
     }
-    Ok(format!(in alloc; "valid {valid} invalid {invalid} wrong {wrong}")?)
+    Neighbours {
+        valid,
+        invalid,
+        wrong,
+    }
 }
 
 /// Whether the bytes are those of a valid entry. None where a valid one isn't written back as read, an Invalid one doesn't
@@ -126,24 +103,74 @@ fn is_valid(bytes: &[u8; 64]) -> Option<bool> {
     }
 }
 
-/// The bits of the flags, and the numbers of the offsets.
-fn told_of_constants(alloc: Global) -> Result<String, Fault> {
-    let (drain, link, hard) = (
-        SqeFlags::IO_DRAIN.bits(),
-        SqeFlags::IO_LINK.bits(),
-        SqeFlags::IO_HARDLINK.bits(),
-    );
-    let all = SqeFlags::all().bits();
-    let (zero, current) = (Offset::Zero.number(), Offset::Current.number());
-    Ok(format!(in alloc;
-        "drain {drain} link {link} hard {hard} all {all}, zero {zero} current {current}"
-    )?)
+/// The texts of an entry, its parts, its flags and what they ask for, its row and its bytes.
+pub fn show_entry<W: fmt::Write>(f: &mut Formatter<W>, sqe: Sqe) -> fmt::Result {
+    show_texts(f, &sqe)?;
+    let (user_data, bits, op) = (sqe.user_data(), sqe.flags().bits(), sqe.op());
+    write!(f, "user_data {user_data} flags {bits} op {op:?}\n")?;
+    show_flags(f, sqe)?;
+    let row = sqe.row();
+    write!(f, "{row:?}\n")?;
+    let bytes = sqe.to_bytes();
+    show_bytes(f, &bytes, Sqe::of_bytes(&bytes) == sqe)
 }
 
-/// What is told of a completion: its texts, and its bytes.
-fn told_of_completion(alloc: Global, cqe: Cqe) -> Result<String, Fault> {
+/// The flags of an entry, and what they ask for.
+fn show_flags<W: fmt::Write>(f: &mut Formatter<W>, sqe: Sqe) -> fmt::Result {
+    show_each(
+        f,
+        &[
+            ("contains link ", sqe.flags().contains(SqeFlags::IO_LINK)),
+            (" hard ", sqe.flags().contains(SqeFlags::IO_HARDLINK)),
+            ("\ndrains ", sqe.drains()),
+            (" links_soft ", sqe.links_soft()),
+            (" links_hard ", sqe.links_hard()),
+        ],
+    )?;
+    f.write_str("\n")
+}
+
+/// The texts of an operation, whether its values fit, the flags that it may have, and its row.
+pub fn show_op<W: fmt::Write>(f: &mut Formatter<W>, op: Op) -> fmt::Result {
+    show_texts(f, &op)?;
+    let (fits, flags, row) = (op.fits(), op.allowed_flags(), op.row());
+    write!(f, "fits {fits} allowed_flags {flags}\n{row:?}")
+}
+
+pub fn show_neighbours<W: fmt::Write>(f: &mut Formatter<W>, near: Neighbours) -> fmt::Result {
+    show_each(
+        f,
+        &[
+            ("valid ", near.valid),
+            (" invalid ", near.invalid),
+            (" wrong ", near.wrong),
+        ],
+    )
+}
+
+/// The bits of the flags, and the numbers of the offsets.
+pub fn show_constants<W: fmt::Write>(f: &mut Formatter<W>) -> fmt::Result {
+    show_each(
+        f,
+        &[
+            ("drain ", SqeFlags::IO_DRAIN.bits()),
+            (" link ", SqeFlags::IO_LINK.bits()),
+            (" hard ", SqeFlags::IO_HARDLINK.bits()),
+            (" all ", SqeFlags::all().bits()),
+        ],
+    )?;
+    show_each(
+        f,
+        &[
+            (", zero ", Offset::Zero.number()),
+            (" current ", Offset::Current.number()),
+        ],
+    )
+}
+
+/// The texts of a completion, and its bytes.
+pub fn show_completion<W: fmt::Write>(f: &mut Formatter<W>, cqe: Cqe) -> fmt::Result {
+    show_texts(f, &cqe)?;
     let bytes = cqe.to_bytes();
-    let again = Cqe::of_bytes(&bytes) == Some(cqe);
-    let digits = hex::encode(alloc, bytes.as_slice())?;
-    Ok(format!(in alloc; "{cqe}\n{cqe:?}\n{digits} again {again}")?)
+    show_bytes(f, &bytes, Cqe::of_bytes(&bytes) == Some(cqe))
 }

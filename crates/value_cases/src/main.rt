@@ -18,18 +18,20 @@
 mod builds;
 mod claims;
 mod entries;
-mod fault;
 mod pipes;
+mod shown;
+mod told;
+mod words;
 
-use claims::told_of_claim;
-use entries::{entry_of, told_of_entry, told_of_part};
+use entries::{entry_of, told_of_part};
 use entry::{Sqe, fails};
-use fault::Fault;
 use pipe::Pipe;
 use pipes::told_of_pipe;
-use std::alloc::{AllocError, Global};
+use std::alloc::{AllocError, AllocGlobal, Global};
 use std::io;
-use std::io::Read;
+use std::io::{Print, Read};
+use told::Told;
+use words::Words;
 
 /// What later lines speak of: the last entry and the last pipe.
 #[derive(Drop)]
@@ -38,39 +40,52 @@ struct Kept {
     pipe: Option<Pipe>,
 }
 
-/// What is told of the words of a line, by the first of them.
-fn told_of_words(alloc: Global, kept: &mut Kept, words: &[&str]) -> Result<String, Fault> {
-    let [kind, rest @ ..] = words else {
-        return Err(Fault::BadLine);
-    };
-    match (*kind, rest) {
-        ("sqe" | "row" | "build" | "with_flags" | "with_user_data", _) => {
-            kept.entry = entry_of(kept.entry, words)?;
-            told_of_entry(alloc, kept.entry)
-        }
-        ("fails", [res]) => {
-            let is_failure = fails(&kept.entry, res.parse()?);
-            Ok(format!(in alloc; "{is_failure}")?)
-        }
-        ("pipe" | "write" | "read" | "close" | "poll" | "memory", _) => {
-            told_of_pipe(alloc, &mut kept.pipe, words)
-        }
-        ("claim" | "word" | "tag" | "cause", _) => told_of_claim(alloc, words),
-        _ => told_of_part(alloc, words),
+/// What is told of a line.
+fn told_of_line(alloc: Global, kept: &mut Kept, line: &str) -> Result<Told, AllocError> {
+    let mut words = Words::of(line);
+    let told = told_of_words(alloc, kept, &mut words)?;
+    if words.are_whole() {
+        Ok(told)
+    } else {
+        Ok(Told::BadLine)
     }
 }
 
-/// What is told of a line.
-fn told(alloc: Global, kept: &mut Kept, line: &str) -> Result<String, AllocError> {
-    let mut words = Vec::new(alloc);
-    for word in line.split(' ') {
-        words.push(word)?;
+/// What is told of the words of a line, by the first of them.
+fn told_of_words(
+    alloc: Global,
+    kept: &mut Kept,
+    words: &mut Words<'_>,
+) -> Result<Told, AllocError> {
+    let kind = words.word();
+    match kind {
+        "pipe" | "write" | "read" | "close" | "poll" | "memory" => {
+            told_of_pipe(alloc, &mut kept.pipe, kind, words)
+        }
+        "fails" => Ok(Told::Truth(fails(&kept.entry, words.number()))),
+        _ => Ok(told_of_value(&mut kept.entry, kind, words)),
     }
-    match told_of_words(alloc, kept, &words) {
-        Ok(text) => Ok(text),
-        Err(Fault::BadLine) => String::from_str(alloc, "bad line"),
-        Err(Fault::Memory) => Err(AllocError),
+}
+
+/// What is told of an entry, which is kept for the lines behind it, or of another value.
+fn told_of_value(last: &mut Sqe, kind: &str, words: &mut Words<'_>) -> Told {
+    let Some(entry) = entry_of(*last, kind, words) else {
+        return told_of_part(kind, words);
+    };
+    if words.are_whole() {
+        *last = entry;
     }
+    Told::Entry(entry)
+}
+
+/// Prints the line and what is told of it.
+fn answer<R: AllocGlobal + Print>(rt: &R, kept: &mut Kept, line: &str) -> io::Result<()> {
+    println!(rt; "{line}")?;
+    if line.starts_with('#') {
+        return Ok(());
+    }
+    let told = told_of_line(rt.alloc(), kept, line)?;
+    println!(rt; "{told}")
 }
 
 fn main(rt: HostRuntime) -> io::Result<()> {
@@ -81,13 +96,8 @@ fn main(rt: HostRuntime) -> io::Result<()> {
         pipe: None,
     };
     for line in lines.as_str().split('\n') {
-        if line.is_empty() {
-            continue;
-        }
-        println!(rt; "{line}")?;
-        if !line.starts_with('#') {
-            let text = told(rt.alloc(), &mut kept, line)?;
-            println!(rt; "{text}")?;
+        if !line.is_empty() {
+            answer(&rt, &mut kept, line)?;
         }
     }
     Ok(())

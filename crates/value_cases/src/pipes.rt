@@ -1,74 +1,101 @@
 //! Pipes.
 
-use crate::fault::Fault;
+use crate::told::Told;
+use crate::words::Words;
+use hex::FromHexError;
 use pipe::{End, Pipe, PipeError};
-use std::alloc::Global;
+use std::alloc::{AllocError, Global};
 
 /// What is told of a new pipe, which is kept for the lines behind it, of a call of the last one, or of want of memory.
 pub fn told_of_pipe(
     alloc: Global,
     pipe: &mut Option<Pipe>,
-    words: &[&str],
-) -> Result<String, Fault> {
-    let made = match words {
-        ["pipe", capacity] => Pipe::new(alloc, capacity.parse()?),
-        ["memory"] => Err(PipeError::Memory),
-        _ => {
-            return match pipe {
-                Some(pipe) => told_of_call(alloc, pipe, words),
-                None => Err(Fault::BadLine),
-            };
-        }
-    };
-    match made {
+    kind: &str,
+    words: &mut Words<'_>,
+) -> Result<Told, AllocError> {
+    match kind {
+        "pipe" => Ok(told_of_new(alloc, pipe, words)),
+        "memory" => Ok(Told::Refused(PipeError::Memory)),
+        _ => match pipe {
+            Some(pipe) => told_of_call(alloc, pipe, kind, words),
+            None => Ok(Told::BadLine),
+        },
+    }
+}
+
+/// What is told of a new pipe.
+fn told_of_new(alloc: Global, pipe: &mut Option<Pipe>, words: &mut Words<'_>) -> Told {
+    let capacity = words.number();
+    if !words.are_whole() {
+        return Told::BadLine;
+    }
+    match Pipe::new(alloc, capacity) {
         Ok(made) => {
             *pipe = Some(made);
-            Ok(String::from_str(alloc, "made")?)
+            Told::Made
         }
-        Err(error) => Ok(format!(in alloc; "{error:?}: {error}")?),
+        Err(error) => Told::Refused(error),
     }
 }
 
-/// What a call of the pipe answers. Behind a read's answer stand the bytes of its buffer, which the line gives as they are
+/// What a call of the pipe answers.
+fn told_of_call(
+    alloc: Global,
+    pipe: &mut Pipe,
+    kind: &str,
+    words: &mut Words<'_>,
+) -> Result<Told, AllocError> {
+    match kind {
+        "close" => Ok(told_of_close(pipe, words)),
+        "poll" => Ok(Told::Polled(pipe.poll_mask(end_of(words), words.number()))),
+        _ => told_of_bytes(alloc, pipe, kind, words),
+    }
+}
+
+/// What a close answers.
+fn told_of_close(pipe: &mut Pipe, words: &mut Words<'_>) -> Told {
+    let end = end_of(words);
+    if words.are_whole() {
+        Told::Closed(pipe.close_end(end))
+    } else {
+        Told::BadLine
+    }
+}
+
+/// What a write or a read answers. Behind a read's answer stand the bytes of its buffer, which the line gives as they are
 /// before.
-fn told_of_call(alloc: Global, pipe: &mut Pipe, words: &[&str]) -> Result<String, Fault> {
-    match words {
-        ["write", digits @ ..] => {
-            let answer = pipe.write_from(&hex::decode(alloc, digits_of(digits)?)?);
-            Ok(format!(in alloc; "{answer:?}")?)
-        }
-        ["read", digits @ ..] => {
-            let mut buffer = hex::decode(alloc, digits_of(digits)?)?;
-            let answer = pipe.read_into(buffer.as_mut_slice());
-            let digits = hex::encode(alloc, buffer.as_slice())?;
-            Ok(format!(in alloc; "{answer:?} [{digits}]")?)
-        }
-        ["close", end] => {
-            let answer = pipe.close_end(end_of(end)?);
-            Ok(format!(in alloc; "{answer:?}")?)
-        }
-        ["poll", end, mask] => {
-            let answer = pipe.poll_mask(end_of(end)?, mask.parse()?);
-            Ok(format!(in alloc; "{answer:?}")?)
-        }
-        _ => Err(Fault::BadLine),
+fn told_of_bytes(
+    alloc: Global,
+    pipe: &mut Pipe,
+    kind: &str,
+    words: &mut Words<'_>,
+) -> Result<Told, AllocError> {
+    let mut bytes = bytes_of(alloc, words)?;
+    if !words.are_whole() {
+        return Ok(Told::BadLine);
+    }
+    if kind == "write" {
+        Ok(Told::Moved(pipe.write_from(bytes.as_slice())))
+    } else {
+        let answer = pipe.read_into(bytes.as_mut_slice());
+        Ok(Told::Read(answer, bytes))
     }
 }
 
-/// The digits of a line: none where it has no more words.
-fn digits_of<'a>(words: &[&'a str]) -> Result<&'a str, Fault> {
-    match words {
-        [] => Ok(""),
-        [digits] => Ok(*digits),
-        _ => Err(Fault::BadLine),
+/// The bytes of a line: none where it has no more words.
+fn bytes_of(alloc: Global, words: &mut Words<'_>) -> Result<Vec<u8>, AllocError> {
+    match hex::decode(alloc, words.word_or_none()) {
+        Ok(bytes) => Ok(bytes),
+        Err(FromHexError::OutOfMemory) => Err(AllocError),
+        Err(_) => Ok(words.bad(Vec::new(alloc))),
     }
 }
 
 /// An end by its name.
-fn end_of(name: &str) -> Result<End, Fault> {
-    match name {
-        "read" => Ok(End::Read),
-        "write" => Ok(End::Write),
-        _ => Err(Fault::BadLine),
+fn end_of(words: &mut Words<'_>) -> End {
+    match words.word() {
+        "read" => End::Read,
+        "write" => End::Write,
+        _ => words.bad(End::Read),
     }
 }
