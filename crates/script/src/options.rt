@@ -16,7 +16,7 @@ const LINK: u8 = 4;
 const HARD: u8 = 8;
 
 /// What the options of an entry line ask for.
-#[derive(Clone, Copy, Debug)]
+#[derive(Clone, Copy)]
 pub struct Options {
     pub flags: u8,
     pub etime_ok: bool,
