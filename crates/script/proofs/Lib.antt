@@ -1,2 +1,4 @@
+pub mod Items
 pub mod Tables
 pub mod PlainLines
+pub mod Histories

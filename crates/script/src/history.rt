@@ -4,7 +4,7 @@ ghost use Rattle.std.specs.List.{list_any};
 ghost use Rattle.std.specs.Fmt.{signed_decimal};
 ghost use Rattle.std.specs.String.{string_bytes};
 ghost use Rattle.model.specs.History.{fires};
-ghost use Rattle.script.specs.HistoryText.{label_in, label_of, short_line, long_line, settled, event_text, history_text};
+ghost use Rattle.script.specs.HistoryText.{label_in, label_by, label_of, short_line, long_line, settled, event_text, history_text};
 
 use model::{Event, Req};
 use script_rules::{Named, Script, Step, step_at};
@@ -122,8 +122,15 @@ fn label_of(script: &Script, req: Req) -> &str
     let Some(acts) = script.acts.get(req.ring as usize) else {
         return "";
     };
-    match step_at(acts, req.k) {
-        Some(Step::Hands { place, .. }) => label_at(&script.entries, place),
+    label_by(&script.entries, step_at(acts, req.k))
+}
+
+/// The label of the entry that a step hands in.
+fn label_by(entries: &[Named], step: Option<Step>) -> &str
+    ensures { result.now ≡ label_by entries.now step }
+{
+    match step {
+        Some(Step::Hands { place, .. }) => label_at(entries, place),
         _ => "",
     }
 }

@@ -1,13 +1,13 @@
 //! The words of a line.
-ghost use Rattle.std.specs.Prelude.{◌≡◌, IfOk, map};
+ghost use Rattle.std.specs.Prelude.{◌≡◌, IfOk};
 ghost use Rattle.std.specs.List.{list_all};
-ghost use Rattle.script.specs.Kept.{is_plain_byte, text_lines};
+ghost use Rattle.script.specs.Kept.{is_plain_byte, text_lines, texts};
 
 use std::alloc::{AllocError, Global};
 
 /// The lines of a text: what stands between its line feeds.
 pub fn lines_of(alloc: Global, bytes: &[u8]) -> Result<Vec<&[u8]>, AllocError>
-    ensures { IfOk result (λ lines. map (λ line. line.now) lines.items ≡ text_lines bytes.now) }
+    ensures { IfOk result (λ lines. texts lines.items ≡ text_lines bytes.now) }
 {
     bytes.split(|byte| *byte == b'\n').collect(alloc)
 }
