@@ -93,7 +93,7 @@ fn take_words(
 {
     let words = words_of(alloc, text)?;
     match first_word(&words) {
-        Some(_) => parts.take(alloc, faults, outline, line, &words),
+        Some(first) => parts.take(alloc, faults, outline, line, first, &words),
         None => Ok(()),
     }
 }
