@@ -14,13 +14,9 @@ pub fn lines_of(alloc: Global, bytes: &[u8]) -> Result<Vec<&[u8]>, AllocError>
 
 /// The words of a line: what stands between its spaces.
 pub fn words_of(alloc: Global, line: &[u8]) -> Result<Vec<&[u8]>, AllocError> {
-    let mut words = Vec::new(alloc);
-    for word in line.split(|byte| *byte == b' ') {
-        if !word.is_empty() {
-            words.push(word)?;
-        }
-    }
-    Ok(words)
+    line.split(|byte| *byte == b' ')
+        .filter(|word| !word.is_empty())
+        .collect(alloc)
 }
 
 /// Whether a line says something: it has a first word, and that begins no comment.
