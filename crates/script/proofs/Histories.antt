@@ -8,7 +8,7 @@ use Rattle.script_rules.specs.declared.act.Act.{Act}
 use Rattle.script_rules.specs.declared.script.Script.{Script}
 use Rattle.script_rules.specs.Steps.{step_at}
 use Rattle.script.specs.HistoryText.{label_among, label_by, label_of, event_text, history_text, text_behind}
-use Rattle.script.proofs.Items.{rest_at, front_at}
+use Rattle.script_rules.proofs.Items.{rest_at, front_at}
 
 pub event_more : (c : Script) (events : List Event) (i : ℕ) (e : Event) (old new : List ℕ) → i < length events → e ≡ get_or events i e
     → old ++ text_behind c (take i events) (drop i events) ≡ history_text c events

@@ -1,4 +1,3 @@
-pub mod Items
 pub mod Tables
 pub mod PlainLines
 pub mod Histories

@@ -49,8 +49,8 @@ impl<'a> Outline<'a> {
 
     fn take_line(&mut self, alloc: Global, line: u64, text: &'a [u8]) -> Result<(), AllocError> {
         let words = words_of(alloc, text)?;
-        match first_word(&words).and_then(Keyword::of) {
-            Some(keyword) => self.take(alloc, line, keyword, &words),
+        match first_word(&words) {
+            Some(first) => self.take(alloc, line, first, &words),
             None => Ok(()),
         }
     }
@@ -60,9 +60,12 @@ impl<'a> Outline<'a> {
         &mut self,
         alloc: Global,
         line: u64,
-        keyword: Keyword,
+        first: &[u8],
         words: &[&'a [u8]],
     ) -> Result<(), AllocError> {
+        let Some(keyword) = Keyword::of(first) else {
+            return Ok(());
+        };
         match (keyword, words.get(1)) {
             (Keyword::On, Some(name)) => self.actor = Actor::named(name, self.rings),
             (Keyword::Ring, _) => self.ring_declared(),

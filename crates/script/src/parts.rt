@@ -6,10 +6,9 @@ use crate::actor::Actor;
 use crate::fault::Fault;
 use crate::faults::Faults;
 use crate::keyword::{Keyword, Kind};
-use crate::label::is_label;
 use crate::outline::Outline;
 use crate::request::{Request, request_of};
-use script_rules::{Act, Named, Script};
+use script_rules::{Act, Named, Script, is_label};
 use std::alloc::{AllocError, Global};
 
 /// The most entries that a script has.
@@ -323,9 +322,12 @@ impl Parts {
 
     /// Whether an entry so far has this label.
     fn declares(&self, label: &[u8]) -> bool {
-        self.entries
-            .iter()
-            .any(|entry| entry.label.as_bytes() == label)
+        for entry in &self.entries {
+            if entry.label.as_bytes() == label {
+                return true;
+            }
+        }
+        false
     }
 
     fn submit(&mut self, alloc: Global, faults: &mut Faults) -> Result<(), AllocError>
@@ -348,7 +350,10 @@ impl Parts {
 
 /// Whether no entry line of another kind than a timer declares the label.
 fn is_no_other_kind(outline: &Outline<'_>, word: Option<&&[u8]>) -> bool {
-    match word.and_then(|label| outline.find(label)) {
+    let Some(label) = word else {
+        return true;
+    };
+    match outline.find(label) {
         Some((_, declared)) => declared.kind.is_timer(),
         None => true,
     }

@@ -4,11 +4,11 @@ ghost use Rattle.script.specs.Kept.{KeepsFault};
 use crate::fault::Fault;
 use crate::faults::Faults;
 use crate::keyword::Kind;
-use crate::label::is_label;
 use crate::options::{Options, options_in};
 use crate::outline::Outline;
 use crate::raw::raw_entry;
 use entry::{Op, Sqe};
+use script_rules::is_label;
 use std::alloc::{AllocError, Global};
 
 /// The largest buffer of an entry, in bytes.

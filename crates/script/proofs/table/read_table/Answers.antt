@@ -4,7 +4,7 @@ use Rattle.std.proofs.lemmas.Bool.{eqb-true}
 use Rattle.std.specs.Int.{w32}
 use Rattle.std.proofs.lemmas.Int.{to_z-of_z}
 use Rattle.script.proofs.Tables.{not_empty, only_line, pushed_line, so_far_none, so_far_more, so_far_ends, so_far_found, so_far_all}
-use Rattle.script.proofs.Items.{rest_at}
+use Rattle.script_rules.proofs.Items.{rest_at}
 use Rattle.script.proofs.table.read_table.Goals as goal
 
 pub loop-entry-init : goal.loop-entry-init
