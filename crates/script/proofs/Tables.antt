@@ -1,10 +1,9 @@
 -- Reading and writing a table's text line by line.
-use Rattle.std.proofs.Common.{◌≡◌, ℕ, suc, ◌+◌, ◌<◌, List, [], ◌∷◌, ◌++◌, length, drop, ℤ, refl, sym, ap, ◌∙◌, append_assoc, add-one, get_or, inl, inr, true, false}
+use Rattle.std.proofs.Common.{◌≡◌, ℕ, List, [], ◌∷◌, ◌++◌, length, ℤ, refl, sym, ap, ◌∙◌, append_assoc, inl, inr, true, false}
 use Rattle.std.specs.Prelude.{◌⊎◌, ◌==◌}
 use Rattle.std.specs.Global.{Vec}
 use Rattle.std.specs.String.{string_bytes}
 use Rattle.std.proofs.lemmas.List.{append-nil, map_push}
-use Rattle.std.proofs.Math.Seq.{drop-cons}
 use Rattle.script_rules.specs.declared.named.Named.{Named}
 use Rattle.text.specs.Line.{IsLine, line_text}
 use Rattle.script.specs.TableText.{is_read, shown_lines, table_text, IsTableText}
@@ -115,10 +114,6 @@ pub wrote_all : (es : List Named) (ls : List (ℤ × Vec ℕ)) (out total : List
 wrote_all es ls out total so_far end =
     let nothing = nothing_left es ls end in
     sym (append-nil out) ∙ ap (λ (x : List ℕ). out ++ x) (sym nothing) ∙ so_far
-
-pub next_entry : (es : List Named) (i : ℕ) (entry : Named) → i < length es → entry ≡ get_or es i entry → drop i es ≡ entry ∷ drop (i + 1) es
-next_entry es i entry lt is =
-    drop-cons es i entry lt ∙ ap (λ (e : Named). e ∷ drop (suc i) es) (sym is) ∙ ap (λ (n : ℕ). entry ∷ drop n es) (sym (add-one i))
 
 -- the lines with one more, as the code has them
 pub shown_lines-push : (lines : List (ℤ × Vec ℕ)) (line : ℤ × Vec ℕ) → shown_lines (lines ++ line ∷ []) ≡ shown_lines lines ++ (line.0, line.1.items) ∷ []

@@ -5,7 +5,7 @@ use text::number_of;
 pub const RINGS: usize = 16;
 
 /// Who does what a line says.
-#[derive(Clone, Copy, PartialEq, Eq, Debug)]
+#[derive(Clone, Copy, PartialEq, Eq)]
 pub enum Actor {
     /// Nobody yet: the lines before the first `on`.
     Start,

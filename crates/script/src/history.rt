@@ -4,7 +4,7 @@ ghost use Rattle.std.specs.List.{list_any};
 ghost use Rattle.std.specs.Fmt.{signed_decimal};
 ghost use Rattle.std.specs.String.{string_bytes};
 ghost use Rattle.model.specs.History.{fires};
-ghost use Rattle.script.specs.HistoryText.{label_in, label_of, short_line, long_line, settled, event_text, history_text};
+ghost use Rattle.script.specs.HistoryText.{label_in, label_by, label_of, short_line, long_line, settled, event_text, history_text};
 
 use model::{Event, Req};
 use script_rules::{Named, Script, Step, step_at};
@@ -32,45 +32,52 @@ fn write_event(
     ensures { OnOk result (string_bytes out.new ≡ string_bytes out.old ++ event_text script.now before.now event.now) }
 {
     match event {
-        Event::Submit { req, .. } => write_short(out, "submit", label_of(script, *req)),
-        Event::Begin(req) => write_short(out, "begin", label_of(script, *req)),
-        Event::Park(req) => write_short(out, "park", label_of(script, *req)),
-        Event::Expire(req) => write_short(out, "expire", label_of(script, *req)),
-        Event::Sever(req) => write_short(out, "sever", label_of(script, *req)),
-        Event::Reap(req) => write_short(out, "reap", label_of(script, *req)),
-        Event::Cut(req) => write_short(out, "cut", label_of(script, *req)),
-        Event::Reply { req, res, .. } => write_res(out, "reply", label_of(script, *req), *res),
-        Event::Settle(req) => {
-            write_res(out, "settle", label_of(script, *req), settled(before, *req))
-        }
+        Event::Submit { req, .. } => write_short(out, "submit", script, *req),
+        Event::Begin(req) => write_short(out, "begin", script, *req),
+        Event::Park(req) => write_short(out, "park", script, *req),
+        Event::Expire(req) => write_short(out, "expire", script, *req),
+        Event::Sever(req) => write_short(out, "sever", script, *req),
+        Event::Reap(req) => write_short(out, "reap", script, *req),
+        Event::Cut(req) => write_short(out, "cut", script, *req),
+        Event::Reply { req, res, .. } => write_res(out, "reply", script, *req, *res),
+        Event::Settle(req) => write_res(out, "settle", script, *req, settled(before, *req)),
         Event::Take { cancel, target } => write_pair(out, "take", script, *cancel, *target),
         Event::Miss { cancel, target } => write_pair(out, "miss", script, *cancel, *target),
         Event::Fire { timer, target } => write_pair(out, "fire", script, *timer, *target),
         Event::FireMiss { timer, target } => write_pair(out, "firemiss", script, *timer, *target),
         Event::Tick(now) => writeln!(out, "tick {now}"),
-        Event::Arm { req, deadline } => write_arm(out, label_of(script, *req), *deadline),
+        Event::Arm { req, deadline } => write_arm(out, script, *req, *deadline),
         Event::Shut => writeln!(out, "shut"),
     }
 }
 
 /// A line with one label.
-fn write_short(out: &mut String, word: &str, label: &str) -> Result<(), AllocError>
-    ensures { OnOk result (string_bytes out.new ≡ string_bytes out.old ++ short_line word.now label.now) }
+fn write_short(out: &mut String, word: &str, script: &Script, req: Req) -> Result<(), AllocError>
+    ensures { OnOk result (string_bytes out.new ≡ string_bytes out.old ++ short_line word.now (label_of script.now req)) }
 {
+    let label = label_of(script, req);
     writeln!(out, "{word} {label}")
 }
 
 /// A line with a label and a reply.
-fn write_res(out: &mut String, word: &str, label: &str, res: i32) -> Result<(), AllocError>
-    ensures { OnOk result (string_bytes out.new ≡ string_bytes out.old ++ long_line word.now label.now (signed_decimal res)) }
+fn write_res(
+    out: &mut String,
+    word: &str,
+    script: &Script,
+    req: Req,
+    res: i32,
+) -> Result<(), AllocError>
+    ensures { OnOk result (string_bytes out.new ≡ string_bytes out.old ++ long_line word.now (label_of script.now req) (signed_decimal res)) }
 {
+    let label = label_of(script, req);
     writeln!(out, "{word} {label} {res}")
 }
 
 /// The line of a timer that is armed.
-fn write_arm(out: &mut String, label: &str, deadline: u32) -> Result<(), AllocError>
-    ensures { OnOk result (string_bytes out.new ≡ string_bytes out.old ++ long_line (codes "arm") label.now (decimal deadline)) }
+fn write_arm(out: &mut String, script: &Script, req: Req, deadline: u32) -> Result<(), AllocError>
+    ensures { OnOk result (string_bytes out.new ≡ string_bytes out.old ++ long_line (codes "arm") (label_of script.now req) (decimal deadline)) }
 {
+    let label = label_of(script, req);
     writeln!(out, "arm {label} {deadline}")
 }
 
@@ -122,8 +129,15 @@ fn label_of(script: &Script, req: Req) -> &str
     let Some(acts) = script.acts.get(req.ring as usize) else {
         return "";
     };
-    match step_at(acts, req.k) {
-        Some(Step::Hands { place, .. }) => label_at(&script.entries, place),
+    label_by(&script.entries, step_at(acts, req.k))
+}
+
+/// The label of the entry that a step hands in.
+fn label_by(entries: &[Named], step: Option<Step>) -> &str
+    ensures { result.now ≡ label_by entries.now step }
+{
+    match step {
+        Some(Step::Hands { place, .. }) => label_at(entries, place),
         _ => "",
     }
 }

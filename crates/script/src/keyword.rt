@@ -2,7 +2,7 @@
 ghost use Rattle.std.specs.Prelude.{◌≤◌};
 
 /// The kind of an entry line.
-#[derive(Clone, Copy, PartialEq, Eq, Debug)]
+#[derive(Clone, Copy, PartialEq, Eq)]
 pub enum Kind {
     Nop,
     Read,
@@ -17,7 +17,7 @@ pub enum Kind {
 }
 
 /// The first word of a line.
-#[derive(Clone, Copy, PartialEq, Eq, Debug)]
+#[derive(Clone, Copy)]
 pub enum Keyword {
     Pipe,
     Ring,
@@ -28,6 +28,27 @@ pub enum Keyword {
     Armed,
     Entry(Kind),
 }
+
+/// Each first word, and the keyword that it is.
+const WORDS: [(&[u8], Keyword); 17] = [
+    (b"pipe", Keyword::Pipe),
+    (b"ring", Keyword::Ring),
+    (b"on", Keyword::On),
+    (b"submit", Keyword::Submit),
+    (b"wait", Keyword::Wait),
+    (b"tick", Keyword::Tick),
+    (b"armed", Keyword::Armed),
+    (b"nop", Keyword::Entry(Kind::Nop)),
+    (b"read", Keyword::Entry(Kind::Read)),
+    (b"write", Keyword::Entry(Kind::Write)),
+    (b"close", Keyword::Entry(Kind::Close)),
+    (b"poll", Keyword::Entry(Kind::Poll)),
+    (b"timeout", Keyword::Entry(Kind::Timeout)),
+    (b"link-timeout", Keyword::Entry(Kind::LinkTimeout)),
+    (b"cancel", Keyword::Entry(Kind::Cancel)),
+    (b"remove", Keyword::Entry(Kind::Remove)),
+    (b"raw", Keyword::Entry(Kind::Raw)),
+];
 
 impl Kind {
     /// How many words an entry line has behind its first, options left out.
@@ -55,19 +76,12 @@ impl Kind {
 impl Keyword {
     /// The keyword that a word is.
     pub fn of(word: &[u8]) -> Option<Keyword> {
-        match word {
-            b"pipe" => Some(Keyword::Pipe),
-            b"ring" => Some(Keyword::Ring),
-            b"on" => Some(Keyword::On),
-            b"submit" => Some(Keyword::Submit),
-            b"wait" => Some(Keyword::Wait),
-            b"tick" => Some(Keyword::Tick),
-            b"armed" => Some(Keyword::Armed),
-            _ => match Kind::of(word) {
-                Some(kind) => Some(Keyword::Entry(kind)),
-                None => None,
-            },
+        for (name, keyword) in &WORDS {
+            if *name == word {
+                return Some(*keyword);
+            }
         }
+        None
     }
 
     /// How many words have to stand behind it, and how many may.
@@ -78,25 +92,6 @@ impl Keyword {
             Keyword::Entry(Kind::Raw) => (2, 2),
             Keyword::Entry(kind) => (kind.arguments(), usize::MAX),
             _ => (1, 1),
-        }
-    }
-}
-
-impl Kind {
-    /// The kind of entry that a first word is.
-    fn of(word: &[u8]) -> Option<Kind> {
-        match word {
-            b"nop" => Some(Kind::Nop),
-            b"read" => Some(Kind::Read),
-            b"write" => Some(Kind::Write),
-            b"close" => Some(Kind::Close),
-            b"poll" => Some(Kind::Poll),
-            b"timeout" => Some(Kind::Timeout),
-            b"link-timeout" => Some(Kind::LinkTimeout),
-            b"cancel" => Some(Kind::Cancel),
-            b"remove" => Some(Kind::Remove),
-            b"raw" => Some(Kind::Raw),
-            _ => None,
         }
     }
 }

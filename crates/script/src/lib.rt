@@ -6,7 +6,6 @@ pub mod fault;
 mod faults;
 pub mod history;
 mod keyword;
-mod label;
 mod options;
 mod outline;
 mod parts;

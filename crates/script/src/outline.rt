@@ -13,12 +13,15 @@ pub struct Declared<'a> {
     pub user_data: u64,
 }
 
-/// The entry lines of a script in order, where each ring submits last, and whether any ring is declared.
+/// The entry lines of a script in order, where each ring submits last, how many rings the script's head declares, and
+/// whether any line declares one. While the lines are read, whose lines they are.
 #[derive(Drop)]
 pub struct Outline<'a> {
     declared: Vec<Declared<'a>>,
     last_submits: [u64; RINGS],
+    rings: usize,
     has_ring: bool,
+    actor: Actor,
 }
 
 impl<'a> Outline<'a> {
@@ -27,36 +30,65 @@ impl<'a> Outline<'a> {
         let mut outline = Outline {
             declared: Vec::new(alloc),
             last_submits: [0; RINGS],
+            rings: 0,
             has_ring: false,
+            actor: Actor::Start,
         };
-        let mut actor = Actor::Start;
-        let mut rings = 0usize;
-        let mut line = 0u64;
-        for text in lines {
-            let words = words_of(alloc, text)?;
-            line = line.saturating_add(1);
-            let Some(keyword) = first_word(&words).and_then(Keyword::of) else {
-                continue;
-            };
-            match (keyword, words.get(1)) {
-                (Keyword::On, Some(name)) => actor = Actor::named(name, rings),
-                (Keyword::Ring, _) => {
-                    outline.has_ring = true;
-                    if actor == Actor::Start {
-                        rings = rings.saturating_add(1);
-                    }
-                }
-                (Keyword::Submit, _) => outline.submitted(actor, line),
-                (Keyword::Entry(kind), Some(label)) => outline.declare(alloc, kind, label, &words)?,
-                _ => {}
-            }
-        }
+        outline.take_lines(alloc, lines)?;
         Ok(outline)
     }
 
+    fn take_lines(&mut self, alloc: Global, lines: &[&'a [u8]]) -> Result<(), AllocError> {
+        let mut line = 0u64;
+        for text in lines {
+            line = line.saturating_add(1);
+            self.take_line(alloc, line, text)?;
+        }
+        Ok(())
+    }
+
+    fn take_line(&mut self, alloc: Global, line: u64, text: &'a [u8]) -> Result<(), AllocError> {
+        let words = words_of(alloc, text)?;
+        match first_word(&words) {
+            Some(first) => self.take(alloc, line, first, &words),
+            None => Ok(()),
+        }
+    }
+
+    /// Takes a line with this first word in.
+    fn take(
+        &mut self,
+        alloc: Global,
+        line: u64,
+        first: &[u8],
+        words: &[&'a [u8]],
+    ) -> Result<(), AllocError> {
+        let Some(keyword) = Keyword::of(first) else {
+            return Ok(());
+        };
+        match (keyword, words.get(1)) {
+            (Keyword::On, Some(name)) => self.actor = Actor::named(name, self.rings),
+            (Keyword::Ring, _) => self.ring_declared(),
+            (Keyword::Submit, _) => self.submitted(line),
+            (Keyword::Entry(kind), Some(label)) => {
+                return self.declare(alloc, kind, label, words);
+            }
+            _ => {}
+        }
+        Ok(())
+    }
+
+    /// Takes a `ring` line in.
+    fn ring_declared(&mut self) {
+        self.has_ring = true;
+        if self.actor == Actor::Start {
+            self.rings = self.rings.saturating_add(1);
+        }
+    }
+
     /// Takes a `submit` line in.
-    fn submitted(&mut self, actor: Actor, line: u64) {
-        if let Actor::Ring(ring) = actor {
+    fn submitted(&mut self, line: u64) {
+        if let Actor::Ring(ring) = self.actor {
             if let Some(last) = self.last_submits.get_mut(ring) {
                 *last = line;
             }

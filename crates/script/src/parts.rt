@@ -6,10 +6,9 @@ use crate::actor::Actor;
 use crate::fault::Fault;
 use crate::faults::Faults;
 use crate::keyword::{Keyword, Kind};
-use crate::label::is_label;
 use crate::outline::Outline;
 use crate::request::{Request, request_of};
-use script_rules::{Act, Named, Script};
+use script_rules::{Act, Named, Script, is_label};
 use std::alloc::{AllocError, Global};
 
 /// The most entries that a script has.
@@ -75,41 +74,53 @@ impl Parts {
         Script::new(alloc, pipes, rings, entries, acts, clock)
     }
 
-    /// Takes a line in, whose number and words these are, and notes its faults. With a fault the parts are of no use
-    /// any more.
+    /// Takes a line in, whose number, first word and words these are, and notes its faults. With a fault the parts are of
+    /// no use any more.
     pub fn take(
         &mut self,
         alloc: Global,
         faults: &mut Faults,
         outline: &Outline<'_>,
         line: u64,
+        first: &[u8],
         words: &[&[u8]],
     ) -> Result<(), AllocError>
         ensures faults { KeepsFault faults.old.least faults.new.least }
         ensures entries { OnOk result (length self.new.entries.items ≤ length self.old.entries.items + 1) }
     {
-        let Some(keyword) = words.first().and_then(|word| Keyword::of(word)) else {
+        let Some(keyword) = Keyword::of(first) else {
             faults.note(Fault::UnknownWord);
             return Ok(());
         };
-        let (least, most) = keyword.arguments();
-        faults.note_if(
-            !self.is_in_place(outline, keyword, words.get(1)),
-            Fault::OutOfPlace,
-        );
-        faults.note_if(words.len() <= least, Fault::MissingArgument);
-        faults.note_if(words.len().saturating_sub(1) > most, Fault::ExtraArgument);
-        if words.len() <= least {
+        if !self.has_its_words(faults, outline, keyword, words) {
             return Ok(());
         }
         match keyword {
             Keyword::Entry(kind) => self.entry(alloc, faults, outline, kind, line, words),
             Keyword::Submit => self.submit(alloc, faults),
-            _ => match words.get(1) {
-                Some(word) => self.short_line(alloc, faults, outline, keyword, word, words.get(2)),
-                None => Ok(()),
-            },
+            _ => self.short_line(alloc, faults, outline, keyword, words),
         }
+    }
+
+    /// Whether a line has all the words that its first asks for. Notes the faults of its place and its number of words.
+    fn has_its_words(
+        &self,
+        faults: &mut Faults,
+        outline: &Outline<'_>,
+        keyword: Keyword,
+        words: &[&[u8]],
+    ) -> bool
+        ensures { KeepsFault faults.old.least faults.new.least }
+    {
+        let (least, most) = keyword.arguments();
+        let given = words.len().saturating_sub(1);
+        faults.note_if(
+            !self.is_in_place(outline, keyword, words.get(1)),
+            Fault::OutOfPlace,
+        );
+        faults.note_if(given < least, Fault::MissingArgument);
+        faults.note_if(given > most, Fault::ExtraArgument);
+        least <= given
     }
 
     /// Whether a line with this first word may stand here.
@@ -146,33 +157,47 @@ impl Parts {
         faults: &mut Faults,
         outline: &Outline<'_>,
         keyword: Keyword,
-        word: &[u8],
-        second: Option<&&[u8]>,
+        words: &[&[u8]],
     ) -> Result<(), AllocError>
         ensures faults { KeepsFault faults.old.least faults.new.least }
         ensures entries { self.new.entries ≡ self.old.entries }
     {
+        let Some(word) = words.get(1) else {
+            return Ok(());
+        };
         match keyword {
             Keyword::Pipe => self.pipe(faults, word),
-            Keyword::Ring => self.ring(alloc, faults, word, second),
+            Keyword::Ring => self.ring(alloc, faults, word, words.get(2)),
             Keyword::On => {
                 self.actor = Actor::named(word, self.rings.len());
                 Ok(())
             }
-            Keyword::Wait => {
-                let place = place_of(faults, outline, word);
-                self.push_act(Act::Wait(place))
-            }
-            Keyword::Armed => {
-                let place = place_of(faults, outline, word);
-                self.push_act(Act::Armed(place))
-            }
+            _ => match self.act_of(faults, outline, keyword, word) {
+                Some(act) => self.push_act(act),
+                None => Ok(()),
+            },
+        }
+    }
+
+    /// What the actor waits for, or sets the clock to.
+    fn act_of(
+        &mut self,
+        faults: &mut Faults,
+        outline: &Outline<'_>,
+        keyword: Keyword,
+        word: &[u8],
+    ) -> Option<Act>
+        ensures faults { KeepsFault faults.old.least faults.new.least }
+        ensures entries { self.new.entries ≡ self.old.entries }
+    {
+        match keyword {
+            Keyword::Wait => Some(Act::Wait(place_of(faults, outline, word))),
+            Keyword::Armed => Some(Act::Armed(place_of(faults, outline, word))),
             Keyword::Tick => {
-                let now = faults.number(word, self.now, LARGEST_TICK);
-                self.now = now;
-                self.push_act(Act::Tick(now))
+                self.now = faults.number(word, self.now, LARGEST_TICK);
+                Some(Act::Tick(self.now))
             }
-            _ => Ok(()),
+            _ => None,
         }
     }
 
@@ -219,6 +244,12 @@ impl Parts {
             Some(word) => Some(faults.number(word, 1, LARGEST_POSTS)),
             None => None,
         };
+        self.push_ring(alloc, cells, posts)
+    }
+
+    fn push_ring(&mut self, alloc: Global, cells: u32, posts: Option<u32>) -> Result<(), AllocError>
+        ensures { self.new.entries ≡ self.old.entries }
+    {
         self.rings.push((cells, posts))?;
         self.acts.push(Vec::new(alloc))?;
         self.pending.push(Vec::new(alloc))?;
@@ -237,13 +268,22 @@ impl Parts {
         ensures faults { KeepsFault faults.old.least faults.new.least }
         ensures entries { OnOk result (length self.new.entries.items ≤ length self.old.entries.items + 1) }
     {
-        let place = self.entries.len();
-        let number = (place as u64).saturating_add(1);
-        let Request { sqe, buffer } = request_of(alloc, faults, outline, kind, words, number)?;
-        faults.note_if(place >= ENTRIES, Fault::OutOfRange);
         let Some(label) = words.get(1) else {
             return Ok(());
         };
+        self.note_entry(faults, outline, line, label);
+        let place = self.entries.len();
+        let number = (place as u64).saturating_add(1);
+        let request = request_of(alloc, faults, outline, kind, words, number)?;
+        self.push_entry(alloc, label, request)?;
+        self.push_pending(u32::try_from(place).unwrap_or(0))
+    }
+
+    /// Notes the faults of an entry line but those of its request.
+    fn note_entry(&self, faults: &mut Faults, outline: &Outline<'_>, line: u64, label: &[u8])
+        ensures { KeepsFault faults.old.least faults.new.least }
+    {
+        faults.note_if(self.entries.len() >= ENTRIES, Fault::OutOfRange);
         faults.note_if(!is_label(label), Fault::BadLabel);
         faults.note_if(self.declares(label), Fault::DuplicateLabel);
         if let Actor::Ring(ring) = self.actor {
@@ -251,20 +291,43 @@ impl Parts {
                 outline.is_unsubmitted(ring, line),
                 Fault::UnsubmittedEntries,
             );
-            if let Some(pending) = self.pending.get_mut(ring) {
-                pending.push(u32::try_from(place).unwrap_or(0))?;
-            }
         }
+    }
+
+    fn push_entry(
+        &mut self,
+        alloc: Global,
+        label: &[u8],
+        request: Request,
+    ) -> Result<(), AllocError>
+        ensures { OnOk result (length self.new.entries.items ≡ length self.old.entries.items + 1) }
+    {
+        let Request { sqe, buffer } = request;
         let label = String::from_utf8_lossy(alloc, label)?;
         self.entries.push(Named { label, sqe, buffer })?;
         Ok(())
     }
 
+    /// The entry at a place waits for its ring's `submit`.
+    fn push_pending(&mut self, place: u32) -> Result<(), AllocError>
+        ensures { self.new.entries ≡ self.old.entries }
+    {
+        if let Actor::Ring(ring) = self.actor {
+            if let Some(pending) = self.pending.get_mut(ring) {
+                pending.push(place)?;
+            }
+        }
+        Ok(())
+    }
+
     /// Whether an entry so far has this label.
     fn declares(&self, label: &[u8]) -> bool {
-        self.entries
-            .iter()
-            .any(|entry| entry.label.as_bytes() == label)
+        for entry in &self.entries {
+            if entry.label.as_bytes() == label {
+                return true;
+            }
+        }
+        false
     }
 
     fn submit(&mut self, alloc: Global, faults: &mut Faults) -> Result<(), AllocError>
@@ -287,7 +350,10 @@ impl Parts {
 
 /// Whether no entry line of another kind than a timer declares the label.
 fn is_no_other_kind(outline: &Outline<'_>, word: Option<&&[u8]>) -> bool {
-    match word.and_then(|label| outline.find(label)) {
+    let Some(label) = word else {
+        return true;
+    };
+    match outline.find(label) {
         Some((_, declared)) => declared.kind.is_timer(),
         None => true,
     }

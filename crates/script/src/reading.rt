@@ -1,6 +1,6 @@
 //! Scripts read from their text.
-ghost use Rattle.std.specs.Prelude.{◌≤◌, ◌+◌, length, IfOk, IfErr, IfNone, IfSome, OnOk, All};
-ghost use Rattle.script.specs.Kept.{IsFaultOf, IsOfScript, IsPlain, text_lines};
+ghost use Rattle.std.specs.Prelude.{◌≤◌, ◌+◌, length, IfOk, IfErr, OnOk, All};
+ghost use Rattle.script.specs.Kept.{IsFaultAmong, IsFaultOf, IsPlain, KeepsFault, text_lines, texts};
 
 use crate::fault::{Fault, ScriptFault};
 use crate::faults::Faults;
@@ -20,15 +20,18 @@ pub fn read_script(alloc: Global, bytes: &[u8]) -> Result<Script, ScriptFault>
     ensures fault { IfErr result (IsFaultOf bytes.now) }
 {
     let lines = lines_of(alloc, bytes)?;
-    let outline = Outline::of(alloc, &lines)?;
+    script_of(alloc, &lines)
+}
+
+/// The script that lines write.
+fn script_of(alloc: Global, lines: &[&[u8]]) -> Result<Script, ScriptFault>
+    requires { 1 ≤ length (texts lines.now) }
+    ensures plain { OnOk result (All IsPlain (texts lines.now)) }
+    ensures entries { IfOk result (λ script. length script.entries.items ≤ length (texts lines.now)) }
+    ensures fault { IfErr result (IsFaultAmong (length (texts lines.now))) }
+{
     let mut parts = Parts::new(alloc);
-    let mut line = 0u64;
-    for text in &lines {
-        line = line.saturating_add(1);
-        if let Some(fault) = fault_of(alloc, &mut parts, &outline, line, text)? {
-            return Err(ScriptFault::Line { line, fault });
-        }
-    }
+    take_lines(alloc, &mut parts, lines)?;
     match parts.script(alloc)? {
         Some(script) => Ok(script),
         None => Err(ScriptFault::Line {
@@ -38,24 +41,59 @@ pub fn read_script(alloc: Global, bytes: &[u8]) -> Result<Script, ScriptFault>
     }
 }
 
-/// The first fault of a line. Where it has none, the parts have taken it in.
-fn fault_of(
+/// Takes the lines of a script in.
+fn take_lines(alloc: Global, parts: &mut Parts, lines: &[&[u8]]) -> Result<(), ScriptFault>
+    ensures plain { OnOk result (All IsPlain (texts lines.now)) }
+    ensures entries { OnOk result (length parts.new.entries.items ≤ length parts.old.entries.items + length (texts lines.now)) }
+    ensures fault { IfErr result (IsFaultAmong (length (texts lines.now))) }
+{
+    let outline = Outline::of(alloc, lines)?;
+    let mut line = 0u64;
+    for text in lines {
+        line = line.saturating_add(1);
+        take_line(alloc, parts, &outline, line, text)?;
+    }
+    Ok(())
+}
+
+/// Takes a line in, or tells its first fault.
+fn take_line(
     alloc: Global,
     parts: &mut Parts,
     outline: &Outline<'_>,
     line: u64,
     text: &[u8],
-) -> Result<Option<Fault>, AllocError>
-    ensures plain { IfOk result (λ fault. IfNone fault (IsPlain text.now)) }
-    ensures fault { IfOk result (λ fault. IfSome fault IsOfScript) }
+) -> Result<(), ScriptFault>
+    requires { 1 ≤ line }
+    ensures plain { OnOk result (IsPlain text.now) }
     ensures entries { OnOk result (length parts.new.entries.items ≤ length parts.old.entries.items + 1) }
+    ensures fault { IfErr result (IsFaultAmong line) }
 {
     let mut faults = Faults::new();
     faults.note_if(!is_plain(text), Fault::NotAscii);
     faults.note_if(line == 1 && !outline.has_ring(), Fault::OutOfPlace);
-    let words = words_of(alloc, text)?;
-    if first_word(&words).is_some() {
-        parts.take(alloc, &mut faults, outline, line, &words)?;
+    take_words(alloc, parts, &mut faults, outline, line, text)?;
+    match faults.least() {
+        Some(fault) => Err(ScriptFault::Line { line, fault }),
+        None => Ok(()),
     }
-    Ok(faults.least())
+}
+
+/// Takes the words of a line in, if it says something.
+fn take_words(
+    alloc: Global,
+    parts: &mut Parts,
+    faults: &mut Faults,
+    outline: &Outline<'_>,
+    line: u64,
+    text: &[u8],
+) -> Result<(), AllocError>
+    ensures faults { KeepsFault faults.old.least faults.new.least }
+    ensures entries { OnOk result (length parts.new.entries.items ≤ length parts.old.entries.items + 1) }
+{
+    let words = words_of(alloc, text)?;
+    match first_word(&words) {
+        Some(first) => parts.take(alloc, faults, outline, line, first, &words),
+        None => Ok(()),
+    }
 }

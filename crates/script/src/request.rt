@@ -4,11 +4,11 @@ ghost use Rattle.script.specs.Kept.{KeepsFault};
 use crate::fault::Fault;
 use crate::faults::Faults;
 use crate::keyword::Kind;
-use crate::label::is_label;
 use crate::options::{Options, options_in};
 use crate::outline::Outline;
 use crate::raw::raw_entry;
 use entry::{Op, Sqe};
+use script_rules::is_label;
 use std::alloc::{AllocError, Global};
 
 /// The largest buffer of an entry, in bytes.
@@ -143,46 +143,34 @@ fn target_of(faults: &mut Faults, outline: &Outline<'_>, word: &[u8]) -> u64
 
 /// The buffer of an entry: zeros for a READ, the text for a WRITE, else empty.
 fn buffer_of(alloc: Global, kind: Kind, sqe: Sqe, words: &[&[u8]]) -> Result<Vec<u8>, AllocError> {
-    match sqe.op() {
-        Op::Write { len, .. } if kind == Kind::Write && len > 0 => {
-            Vec::from_slice(alloc, text_of(argument(words, 3)))
-        }
-        op => zeros_of(alloc, op),
+    let len = buffer_len(sqe.op());
+    if kind == Kind::Write && len > 0 {
+        Vec::from_slice(alloc, text_of(argument(words, 3)))
+    } else {
+        vec![in alloc; 0u8; len as usize]
     }
 }
 
-/// As many zeros as the entry's buffer has bytes.
-fn zeros_of(alloc: Global, op: Op) -> Result<Vec<u8>, AllocError> {
+/// How many bytes the entry's buffer has.
+fn buffer_len(op: Op) -> u32 {
     match op {
-        Op::Read { len, .. } | Op::Write { len, .. } => vec![in alloc; 0u8; len as usize],
-        _ => Ok(Vec::new(alloc)),
+        Op::Read { len, .. } | Op::Write { len, .. } => len,
+        _ => 0,
     }
 }
 
-/// The request of a `raw` line.
+/// The request of a `raw` line. A buffer that is too long is left empty.
 fn raw_request(alloc: Global, faults: &mut Faults, digits: &[u8]) -> Result<Request, AllocError>
     ensures { KeepsFault faults.old.least faults.new.least }
 {
-    let sqe = match raw_entry(alloc, digits)? {
-        Some(sqe) => sqe,
-        None => {
-            faults.note(Fault::BadBytes);
-            prep::nop()
-        }
-    };
-    let too_long = match sqe.op() {
-        Op::Read { len, .. } | Op::Write { len, .. } => len > LARGEST_BUFFER,
-        _ => false,
-    };
-    if too_long {
-        faults.note(Fault::OutOfRange);
-        return Ok(Request {
-            sqe,
-            buffer: Vec::new(alloc),
-        });
-    }
+    let given = raw_entry(alloc, digits)?;
+    faults.note_if(given.is_none(), Fault::BadBytes);
+    let sqe = given.unwrap_or(prep::nop());
+    let len = buffer_len(sqe.op());
+    faults.note_if(len > LARGEST_BUFFER, Fault::OutOfRange);
+    let len = if len > LARGEST_BUFFER { 0 } else { len };
     Ok(Request {
         sqe,
-        buffer: zeros_of(alloc, sqe.op())?,
+        buffer: vec![in alloc; 0u8; len as usize]?,
     })
 }

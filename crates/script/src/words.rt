@@ -1,26 +1,22 @@
 //! The words of a line.
-ghost use Rattle.std.specs.Prelude.{◌≡◌, IfOk, map};
+ghost use Rattle.std.specs.Prelude.{◌≡◌, IfOk};
 ghost use Rattle.std.specs.List.{list_all};
-ghost use Rattle.script.specs.Kept.{is_plain_byte, text_lines};
+ghost use Rattle.script.specs.Kept.{is_plain_byte, text_lines, texts};
 
 use std::alloc::{AllocError, Global};
 
 /// The lines of a text: what stands between its line feeds.
 pub fn lines_of(alloc: Global, bytes: &[u8]) -> Result<Vec<&[u8]>, AllocError>
-    ensures { IfOk result (λ lines. map (λ line. line.now) lines.items ≡ text_lines bytes.now) }
+    ensures { IfOk result (λ lines. texts lines.items ≡ text_lines bytes.now) }
 {
     bytes.split(|byte| *byte == b'\n').collect(alloc)
 }
 
 /// The words of a line: what stands between its spaces.
 pub fn words_of(alloc: Global, line: &[u8]) -> Result<Vec<&[u8]>, AllocError> {
-    let mut words = Vec::new(alloc);
-    for word in line.split(|byte| *byte == b' ') {
-        if !word.is_empty() {
-            words.push(word)?;
-        }
-    }
-    Ok(words)
+    line.split(|byte| *byte == b' ')
+        .filter(|word| !word.is_empty())
+        .collect(alloc)
 }
 
 /// Whether a line says something: it has a first word, and that begins no comment.

@@ -3,6 +3,7 @@
 
 pub mod act;
 pub mod homes;
+pub mod label;
 pub mod named;
 mod rules;
 pub mod script;
@@ -11,6 +12,7 @@ pub mod table;
 
 pub use act::Act;
 pub use homes::homes_of;
+pub use label::is_label;
 pub use named::Named;
 pub use script::Script;
 pub use step::{Step, step_at};

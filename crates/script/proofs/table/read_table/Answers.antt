@@ -3,7 +3,8 @@ use Rattle.std.proofs.lemmas.List.{drop_all, nil_from_length}
 use Rattle.std.proofs.lemmas.Bool.{eqb-true}
 use Rattle.std.specs.Int.{w32}
 use Rattle.std.proofs.lemmas.Int.{to_z-of_z}
-use Rattle.script.proofs.Tables.{not_empty, only_line, pushed_line, so_far_none, so_far_more, so_far_ends, so_far_found, so_far_all, next_entry}
+use Rattle.script.proofs.Tables.{not_empty, only_line, pushed_line, so_far_none, so_far_more, so_far_ends, so_far_found, so_far_all}
+use Rattle.script_rules.proofs.Items.{rest_at}
 use Rattle.script.proofs.table.read_table.Goals as goal
 
 pub loop-entry-init : goal.loop-entry-init
@@ -14,7 +15,7 @@ loop-entry-preserved c =
     let es = c.args.script.now.entries.items in
     let lt : c.loop-entry.entry-index < length es = rw c.deref-entry-items.ensures.value at c.loop-entry-test.true in
     let is : c.entry-item.result ≡ get_or es c.loop-entry.entry-index c.entry-item.result = rw c.deref-entry-items.ensures.value at c.entry-item.is in
-    let next = next_entry es c.loop-entry.entry-index c.entry-item.result lt is in
+    let next = rest_at es c.loop-entry.entry-index c.entry-item.result lt is in
     let so_far = rw next at c.loop-entry.invariant in
     let found = rw c.in-Some.is at c.in_ok-reply.ensures.found in
     let only = rw c.in-Some.is at c.in_ok-reply.ensures.only in
@@ -27,7 +28,7 @@ returns-in_default-clause-only c = λ lines h.
     let es = c.args.script.now.entries.items in
     let lt : c.loop-entry.entry-index < length es = rw c.deref-entry-items.ensures.value at c.loop-entry-test.true in
     let is : c.entry-item.result ≡ get_or es c.loop-entry.entry-index c.entry-item.result = rw c.deref-entry-items.ensures.value at c.entry-item.is in
-    let next = next_entry es c.loop-entry.entry-index c.entry-item.result lt is in
+    let next = rest_at es c.loop-entry.entry-index c.entry-item.result lt is in
     let so_far = rw next at c.loop-entry.invariant in
     let none = rw c.in_default.is at c.in_ok-reply.ensures.only in
     absurd (so_far_ends _ _ c.entry-item.result _ lines _ _ so_far none h)
