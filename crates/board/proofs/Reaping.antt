@@ -1,12 +1,12 @@
 -- What a submitter knows of a request that it reaps, or that it can't reap.
 use Rattle.std.proofs.Common.{◌≡◌, ◌⊎◌, ℕ, ◌+◌, ◌<◌, ◌≤◌, Bool, true, false, cond, ℤ, List, [], ◌∷◌, ◌++◌, Some, sym, refl, ap, ◌∙◌, subst, eq-eqb, of_z, w32}
 use mir.Val.{to_z}
-use Rattle.model.specs.declared.req.Req.{Req}
-use Rattle.model.specs.declared.event.Event.TheVariants.{Reap}
-use Rattle.model.specs.History.{Cause, Phase, unborn, replied, reaped, phase, submits, same, after_reap, data_of, reply, reply_in, submission, was_shut, IsReplied}
-use Rattle.model.specs.Legal.{Setup, Legal}
-use Rattle.model.proofs.Growth.{unborn_yet}
-use Rattle.model.proofs.Requests.{same_itself}
+use Rattle.history.specs.declared.req.Req.{Req}
+use Rattle.history.specs.declared.event.Event.TheVariants.{Reap}
+use Rattle.history.specs.History.{Cause, Phase, unborn, replied, reaped, phase, submits, same, after_reap, data_of, reply, reply_in, submission, was_shut, IsReplied}
+use Rattle.history.specs.Legal.{Setup, Legal}
+use Rattle.history.proofs.Growth.{unborn_yet}
+use Rattle.history.proofs.Requests.{same_itself}
 use Rattle.steps.specs.declared.line.Line.{Line}
 use Rattle.steps.specs.declared.line.Line.TheVariants.{Did, Lent}
 use Rattle.steps.specs.declared.parcel.Parcel.{Parcel}
@@ -15,20 +15,21 @@ use Rattle.steps.specs.declared.view.Role.{Role}
 use Rattle.steps.specs.declared.view.Role.TheVariants.{Submitter, Lending}
 use Rattle.steps.specs.declared.view.View.{View}
 use Rattle.steps.specs.Journal.{events_of}
-use Rattle.steps.specs.Cells.{setup_of, held, CellOk, IsParcel, over}
+use Rattle.steps.specs.Cells.{setup_of, request_at, CellOk, IsParcel, over}
 use Rattle.steps.specs.Rule.{rings, stands_for, Extends, ExtendsTwice, Shown, IsDone}
-use Rattle.steps.proofs.Growing.{legal_tail, live_tail, still_replied, still_data}
-use Rattle.steps.proofs.Words.{done_word}
+use Rattle.steps.proofs.JournalGrowth.{legal_tail, live_tail, still_replied, still_data}
+use Rattle.steps.proofs.ClaimWords.{done_word}
 use Rattle.work.specs.Board.{Facts, IsOf}
 use Rattle.work.specs.Passes.{Pass, seen_of}
 use Rattle.board.specs.declared.phase.Phase.{Phase as Standing}
 use Rattle.board.specs.declared.phase.Phase.TheVariants.{Unborn, Held, Ready, Running, Armed, Done, Gone}
-use Rattle.board.specs.Calls.{Stands, IsReaped, next_of}
-use Rattle.board.proofs.Telling.{signed_is}
-use Rattle.board.proofs.Keeping.{submits_it, lends_it}
+use Rattle.steps.specs.Fairness.{IsReaped}
+use Rattle.board.specs.Calls.{Stands, next_of}
+use Rattle.board.proofs.Standings.{signed_is}
+use Rattle.board.proofs.SubmitterSeats.{submits_it, lends_it}
 
 -- what the claim word of an answered request tells its submitter
-pub is_done : (K : List ℕ) (j : List Line) (x w g : ℕ) (c : Cause) (res : ℤ) → Shown K j x w → phase (events_of j) (held K x g) ≡ replied c res → IsDone j (held K x g) g w
+pub is_done : (K : List ℕ) (j : List Line) (x w g : ℕ) (c : Cause) (res : ℤ) → Shown K j x w → phase (events_of j) (request_at K x g) ≡ replied c res → IsDone j (request_at K x g) g w
 is_done K j x w g c res shown is = let d = done_word K j x w shown.0 shown.1 g c res is in record {
   cause = c;
   res = res;
@@ -41,7 +42,7 @@ is_done K j x w g c res shown is = let d = done_word K j x w shown.0 shown.1 g c
 }
 
 -- and its reply is one of 32 bits
-pub signed_reply : (K : List ℕ) (j : List Line) (x w g : ℕ) (c : Cause) (res : ℤ) → Shown K j x w → phase (events_of j) (held K x g) ≡ replied c res → to_z w32 (of_z w32 res) ≡ res
+pub signed_reply : (K : List ℕ) (j : List Line) (x w g : ℕ) (c : Cause) (res : ℤ) → Shown K j x w → phase (events_of j) (request_at K x g) ≡ replied c res → to_z w32 (of_z w32 res) ≡ res
 signed_reply K j x w g c res shown is = let d = done_word K j x w shown.0 shown.1 g c res is in signed_is res d.payload d.bits
 
 -- the lines of others leave an answered request and its data as they are

@@ -1,28 +1,24 @@
 -- What a call makes of its pass, and what its answers say.
 use Rattle.std.specs.Prelude.{◌≡◌, ℕ, ◌+◌, ◌≤◌, ◌<◌, ◌⊎◌, cond, Bool, true, false, ℤ, List, [], ◌∷◌, ◌++◌, length, IsTrue}
 use Rattle.claim.specs.Claim.{Claim, fits, packed}
-use Rattle.model.specs.declared.req.Req.{Req}
-use Rattle.model.specs.declared.event.Event.{Event}
-use Rattle.model.specs.History.{Cause, Phase, phase, unborn, waits, runs, armed, replied, reaped, submits, IsReplied}
-use Rattle.model.specs.Chains.{Open, is_timer, IsChainBefore}
-use Rattle.model.specs.Legal.{IsOf as IsOfKind}
+use Rattle.claim.specs.declared.tag.Tag.TheVariants.{Held as HeldTag}
+use Rattle.history.specs.declared.req.Req.{Req}
+use Rattle.history.specs.declared.event.Event.{Event}
+use Rattle.history.specs.History.{Cause, Phase, phase, unborn, waits, runs, armed, replied, reaped, submits, IsReplied}
+use Rattle.history.specs.Chains.{Open, is_timer}
+use Rattle.history.specs.Legal.{IsOf as IsOfKind}
 use Rattle.steps.specs.declared.line.Line.{Line}
 use Rattle.steps.specs.declared.view.Role.{Role}
 use Rattle.steps.specs.declared.view.Role.TheVariants.{Poller, Submitter, Idle}
 use Rattle.steps.specs.declared.view.Step.{Step}
 use Rattle.steps.specs.declared.view.View.{View}
-use Rattle.steps.specs.Journal.{event_of, events_of, freed}
-use Rattle.steps.specs.Cells.{cells_in}
-use Rattle.steps.specs.Rule.{owns, Begins}
+use Rattle.steps.specs.Journal.{events_of, freed}
+use Rattle.steps.specs.Cells.{IsCell, request_at, claim_at, word_of}
+use Rattle.steps.specs.Rule.{owns, Begins, Shown}
 use Rattle.work.specs.Board.{Facts, IsOf}
 use Rattle.board.specs.declared.phase.Phase.{Phase as Standing}
 use Rattle.board.specs.declared.phase.Phase.TheVariants.{Unborn, Held, Ready, Running, Armed, Done, Gone}
-use Rattle.work.specs.Passes.{Pass, seen_of}
-
--- the events of these lines that only a pass with this role can cause, the newest first
-abbrev pub own_of : Role → List Line → List Event
-own_of role [] = []
-own_of role (l ∷ j) = cond (owns role l) (event_of l (own_of role j)) (own_of role j)
+use Rattle.work.specs.Passes.{Pass, seen_of, own_of}
 
 abbrev pub EndsWith : List Event → List Event → Type 0
 EndsWith [] h = Unit {0}
@@ -38,8 +34,22 @@ pub record Goes (b : Facts) (p : Pass) (es : List Event) (q : Pass) : Type 0 whe
   pub last : EndsWith es (events_of later)
 
 -- the last step of the pass was made in this call, and after it the pass had seen all that it has
-abbrev pub Stepped : Pass → Pass → Type 0
-Stepped p q = (last : Step) × (others : List Step) × (q.view.steps ≡ last ∷ (others ++ p.view.steps)) × (last.seen ≡ q.view.seen)
+abbrev pub HasLooked : Pass → Pass → Type 0
+HasLooked p q = (last : Step) × (others : List Step) × (q.view.steps ≡ last ∷ (others ++ p.view.steps)) × (last.seen ≡ q.view.seen)
+
+-- the last step of the pass was made in this call, at the request's claim word. After it the pass had seen all that it has
+pub record LastAt (K : List ℕ) (r : Req) (p q : Pass) (cell gen found : ℕ) : Type 0 where
+  pub others : List Step
+  pub cell_is : IsCell K cell × (request_at K cell gen ≡ r)
+  pub last : q.view.steps ≡ record { word = claim_at cell; found = found; seen = q.view.seen } ∷ (others ++ p.view.steps)
+
+-- and it found there what the pass now knows of the cell
+abbrev pub Stepped : List ℕ → Req → Pass → Pass → Type 0
+Stepped K r p q = (cell : ℕ) × (gen : ℕ) × (found : ℕ) × LastAt K r p q cell gen found × Shown K q.view.seen cell found
+
+-- and it found there that the request was Held
+abbrev pub FoundHeld : List ℕ → Req → Pass → Pass → Type 0
+FoundHeld K r p q = (cell : ℕ) × (gen : ℕ) × LastAt K r p q cell gen (word_of HeldTag 0 gen 0)
 
 -- the request stands so, as this journal tells
 abbrev pub Stands : List Line → Req → Standing → Type 0
@@ -63,7 +73,7 @@ IsWord word = (c : Claim) × IsTrue (fits c) × (word ≡ packed c)
 
 -- the request stands so after the last step of this call, which only a missing ring doesn't need
 abbrev pub Finds : Facts → Req → Standing → Pass → Pass → Type 0
-Finds b r s p q = Stands q.view.seen r s × ((length b.layout.cells ≤ r.ring) ⊎ Stepped p q)
+Finds b r s p q = Stands q.view.seen r s × ((length b.layout.cells ≤ r.ring) ⊎ Stepped b.layout.cells r p q)
 
 -- the request is unborn, replied, armed, or was moved to Ready
 abbrev pub IsUnheld : List Line → Req → Type 0
@@ -72,18 +82,6 @@ IsUnheld j r = ((phase (events_of j) r ≡ unborn) ⊎ IsReplied (phase (events_
 -- the request waits, is open and may be begun
 abbrev pub MayStart : List Line → Req → Type 0
 MayStart j r = (phase (events_of j) r ≡ waits) × Open (events_of j) r × IsOfKind (events_of j) r is_timer false
-
-abbrev pub IsReaped : Phase → Type 0
-IsReaped (reaped c res) = Unit {0}
-IsReaped _ = ⊥
-
--- one of the two is the other, or an earlier member of its chain
-abbrev pub AreChained : List Event → Req → Req → Type 0
-AreChained h q m = (q ≡ m) ⊎ (IsChainBefore h q m ⊎ IsChainBefore h m q)
-
--- the cell of the request r is free for it: the request that had the cell before was reaped, and its whole chain has replied
-abbrev pub IsFree : List ℕ → List Event → Req → Type 0
-IsFree K h r = (q : Req) → q.ring ≡ r.ring → q.k + cells_in K r.ring ≡ r.k → IsReaped (phase h q) × ((m : Req) → AreChained h q m → IsReplied (phase h m))
 
 -- the ring's next request
 abbrev pub next_of : Pass → ℕ → Req

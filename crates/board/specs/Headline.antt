@@ -1,11 +1,11 @@
 -- What a completion is, and what a report is.
 use Rattle.std.specs.Prelude.{◌≡◌, ℕ, ◌+◌, ◌<◌, ◌⊎◌, ◌↔◌, cond, Bool, true, false, ℤ, List, [], ◌∷◌, ◌++◌, Some, None, Contains}
 use Rattle.entry.specs.Entry.{Entry}
-use Rattle.model.specs.declared.req.Req.{Req}
-use Rattle.model.specs.declared.event.Event.{Event}
-use Rattle.model.specs.declared.event.Event.TheVariants.{Submit, Reap, Shut, Cut}
-use Rattle.model.specs.History.{same, phase, reply, answers, data_of, submission, submits}
-use Rattle.model.specs.Legal.{Setup, Legal}
+use Rattle.history.specs.declared.req.Req.{Req}
+use Rattle.history.specs.declared.event.Event.{Event}
+use Rattle.history.specs.declared.event.Event.TheVariants.{Submit, Reap, Shut, Cut}
+use Rattle.history.specs.History.{same, phase, reply, answers, data_of, submission, submits}
+use Rattle.history.specs.Legal.{Setup, Legal}
 use Rattle.steps.specs.Cells.{over}
 use Rattle.board.specs.declared.completion.Completion.{Completion}
 

@@ -1,14 +1,15 @@
 -- When each refusal comes.
 use Rattle.std.specs.Prelude.{◌≡◌, ℕ, ◌/◌, ◌≤◌, ◌⊎◌, true, List}
 use Rattle.entry.specs.Entry.{Entry}
-use Rattle.model.specs.declared.req.Req.{Req}
-use Rattle.model.specs.History.{phase, IsReplied}
-use Rattle.model.specs.Legal.{Fits}
+use Rattle.history.specs.declared.req.Req.{Req}
+use Rattle.history.specs.History.{phase, IsReplied}
+use Rattle.history.specs.Legal.{Fits}
 use Rattle.steps.specs.declared.view.Role.{Role}
 use Rattle.steps.specs.declared.view.Role.TheVariants.{Submitter}
 use Rattle.steps.specs.Journal.{Serves}
 use Rattle.steps.specs.Cells.{cells_in}
-use Rattle.board.specs.Calls.{IsFree, IsReaped, Stepped}
+use Rattle.steps.specs.Fairness.{IsFree, IsReaped}
+use Rattle.board.specs.Calls.{Stepped}
 use Rattle.board.specs.declared.error.SubmitError.{SubmitError}
 use Rattle.board.specs.declared.error.SubmitError.TheVariants.{Full, BufferLength, Spent, Unserved}
 use Rattle.board.specs.declared.error.ReapError.{ReapError}
@@ -20,11 +21,11 @@ use Rattle.work.specs.Passes.{Pass, seen_of}
 abbrev pub RefusesEntry : Facts → Entry → List ℕ → Req → Pass → Pass → SubmitError → Type 0
 RefusesEntry b e bytes r p q Unserved = ¬ Serves e true
 RefusesEntry b e bytes r p q BufferLength = Serves e true × ¬ Fits e bytes
-RefusesEntry b e bytes r p q Full = (Serves e true × Fits e bytes) × (¬ IsFree b.layout.cells (seen_of q) r) × Stepped p q
+RefusesEntry b e bytes r p q Full = (Serves e true × Fits e bytes) × (¬ IsFree b.layout.cells (seen_of q) r) × Stepped b.layout.cells r p q
 RefusesEntry b e bytes r p q Spent = (Serves e true × Fits e bytes) × IsFree b.layout.cells (seen_of q) r × (r.k / cells_in b.layout.cells r.ring ≡ 16777215)
 
 -- why the request r is not reaped by the pass p, whose ring's next request is the k-th, and which became q
-abbrev pub RefusesReap : Req → ℕ → ℕ → Pass → Pass → ReapError → Type 0
-RefusesReap r ring k p q Foreign = ¬ (r.ring ≡ ring)
-RefusesReap r ring k p q NotYet = (r.ring ≡ ring) × (¬ IsReplied (phase (seen_of q) r)) × ((k ≤ r.k) ⊎ Stepped p q)
-RefusesReap r ring k p q Gone = (r.ring ≡ ring) × IsReaped (phase (seen_of q) r)
+abbrev pub RefusesReap : List ℕ → Req → ℕ → ℕ → Pass → Pass → ReapError → Type 0
+RefusesReap K r ring k p q Foreign = ¬ (r.ring ≡ ring)
+RefusesReap K r ring k p q NotYet = (r.ring ≡ ring) × (¬ IsReplied (phase (seen_of q) r)) × ((k ≤ r.k) ⊎ Stepped K r p q)
+RefusesReap K r ring k p q Gone = (r.ring ≡ ring) × IsReaped (phase (seen_of q) r)

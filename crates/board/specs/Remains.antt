@@ -3,25 +3,27 @@ use Rattle.std.specs.Prelude.{◌≡◌, ℕ, suc, ◌+◌, ◌<◌, ◌≤◌, 
 use mathlib.Core.Option.{some}
 use lib.ListN.{get_elem?}
 use Rattle.entry.specs.Entry.{Entry}
-use Rattle.model.specs.declared.req.Req.{Req}
-use Rattle.model.specs.declared.event.Event.{Event}
-use Rattle.model.specs.History.{Cause, Phase, waits, runs, armed, replied, phase, submission, data_of, IsIdle}
-use Rattle.model.specs.Legal.{Setup, Legal}
+use Rattle.history.specs.declared.req.Req.{Req}
+use Rattle.history.specs.declared.event.Event.{Event}
+use Rattle.history.specs.History.{Cause, Phase, waits, runs, armed, replied, phase, submission, data_of, IsIdle}
+use Rattle.history.specs.Legal.{Setup, Legal}
 use Rattle.steps.specs.declared.line.Line.{Line}
 use Rattle.steps.specs.declared.parcel.Parcel.{Parcel}
 use Rattle.steps.specs.declared.parcel.Thing.{Thing}
 use Rattle.steps.specs.declared.parcel.Thing.TheVariants.{Full}
+use Rattle.steps.specs.declared.view.Role.TheVariants.{Poller}
 use Rattle.steps.specs.declared.view.View.{View}
 use Rattle.steps.specs.Journal.{events_of}
-use Rattle.steps.specs.Cells.{IsCell, held, total, claim_at, slot_at, over, IsParcel}
-use Rattle.steps.specs.Rule.{Shown}
+use Rattle.steps.specs.Cells.{IsCell, request_at, total, claim_at, slot_at, over, IsParcel}
+use Rattle.steps.specs.Rule.{Shown, Ended}
+use Rattle.work.specs.Board.{Facts, IsBoard, IsOf}
 use Rattle.work.specs.Grid.{AreCells}
 use Rattle.work.specs.Passes.{Pass}
 use Rattle.board.specs.declared.completion.Completion.{Completion}
 use Rattle.board.specs.declared.phase.Phase.{Phase as Standing}
 use Rattle.board.specs.declared.phase.Phase.TheVariants.{Done}
 use Rattle.board.specs.Calls.{IsWord}
-use Rattle.board.specs.Reports.{IsBefore, Ordered, IsListed}
+use Rattle.board.specs.Reports.{AreOf, IsBefore, Ordered, IsListed}
 
 -- what the passes have seen and were told, before what was known
 abbrev pub told_by : List Pass → List (List Line) → List (List Line)
@@ -31,6 +33,17 @@ told_by (p ∷ ps) xs = p.view.seen ∷ (p.view.heard ++ told_by ps xs)
 -- the view after it heard passes of one part each
 abbrev pub hearing_all : View → List Pass → View
 hearing_all v ps = record v { parts = v.parts + length ps; heard = told_by ps v.heard }
+
+-- the end of a board's table, when all passes are back
+pub record Closing (b : Facts) (p : Pass) (ss ws : List Pass) (v : View) (words : List ℕ) (slots : List (Option Thing)) : Type 0 where
+  pub ours : IsOf b p
+  pub board : IsBoard b
+  pub rings : ℕ
+  pub role : p.view.role ≡ Poller rings
+  pub submitters : AreOf b ss × (length ss ≡ length b.layout.cells)
+  pub workers : AreOf b ws × (length ws ≡ b.workers)
+  pub view_is : v ≡ hearing_all (hearing_all p.view ss) ws
+  pub ended : Ended b.layout v words slots
 
 -- it was submitted, was not reaped and does not run
 abbrev pub IsLeft : Phase → Type 0
@@ -62,7 +75,7 @@ pub record Rests (s : Setup) (K : List ℕ) (j : List Line) (claims : List ℕ) 
 
 -- the slot of a cell, unless its request has a line
 abbrev pub IsKept : List ℕ → List Line → List (Option Thing) → ℕ → ℕ → Type 0
-IsKept K j slots x g = (p : Parcel) × (get_elem? slots x ≡ some (Some (Full p))) × IsParcel j (held K x g) (data_left (events_of j) (held K x g) (phase (events_of j) (held K x g))) p
+IsKept K j slots x g = (p : Parcel) × (get_elem? slots x ≡ some (Some (Full p))) × IsParcel j (request_at K x g) (data_left (events_of j) (request_at K x g) (phase (events_of j) (request_at K x g))) p
 
 -- what a line says of its request, by whether the request had a reply before the end
 abbrev pub IsCutOrNot : List Event → Req → ℤ → Bool → Type 0
@@ -94,7 +107,7 @@ AreEarlier r (x ∷ lines) = IsBefore x.0.req r × AreEarlier r lines
 pub record Reports (s : Setup) (K : List ℕ) (j : List Line) (claims : List ℕ) (slots : List (Option Thing)) (lines : List (Completion × Bool)) (space : ℕ) (reached : Req) : Type 0 where
   pub rests : Rests s K j claims
   pub wide : length slots ≡ total K
-  pub kept : (x g : ℕ) → IsCell K x → IsLeft (phase (events_of j) (held K x g)) → ¬ IsListed (held K x g) lines → IsKept K j slots x g
+  pub kept : (x g : ℕ) → IsCell K x → IsLeft (phase (events_of j) (request_at K x g)) → ¬ IsListed (request_at K x g) lines → IsKept K j slots x g
   pub room : length lines + full_slots slots ≤ space
   pub ordered : Ordered lines
   pub earlier : AreEarlier reached lines

@@ -1,18 +1,18 @@
 -- What a report tells of a board that was ended.
 use Rattle.std.specs.Prelude.{◌≡◌, ◌<◌, ◌⊎◌, ◌↔◌, cond, Bool, true, negsuc, List, [], ◌∷◌}
-use Rattle.model.specs.declared.req.Req.{Req}
-use Rattle.model.specs.declared.event.Event.{Event}
-use Rattle.model.specs.declared.event.Event.TheVariants.{Shut, Cut}
-use Rattle.model.specs.History.{by_cut, replied, phase, submits}
-use Rattle.model.specs.Legal.{Legal}
+use Rattle.history.specs.declared.req.Req.{Req}
+use Rattle.history.specs.declared.event.Event.{Event}
+use Rattle.history.specs.declared.event.Event.TheVariants.{Shut, Cut}
+use Rattle.history.specs.History.{by_cut, replied, phase, submits}
+use Rattle.history.specs.Legal.{Legal}
 use Rattle.steps.specs.declared.line.Line.{Line}
 use Rattle.steps.specs.Journal.{events_of}
 use Rattle.steps.specs.Cells.{setup_of}
 use Rattle.steps.specs.Rule.{Begins}
 use Rattle.work.specs.Board.{Facts, IsOf}
-use Rattle.work.specs.Passes.{Pass}
+use Rattle.work.specs.Passes.{Pass, seen_of}
 use Rattle.board.specs.declared.completion.Completion.{Completion}
-use Rattle.board.specs.Calls.{IsReaped}
+use Rattle.steps.specs.Fairness.{IsReaped}
 use Rattle.board.specs.Headline.{IsCompletion}
 
 abbrev pub AreOf : Facts → List Pass → Type 0
@@ -51,10 +51,10 @@ abbrev pub AllTell : List Event → List (Completion × Bool) → Type 0
 AllTell h [] = Unit {0}
 AllTell h (x ∷ lines) = Tells h x × AllTell h lines
 
--- one of the passes has seen just j
-abbrev pub IsSeen : List Line → List Pass → Type 0
-IsSeen j [] = ⊥
-IsSeen j (p ∷ ps) = (p.view.seen ≡ j) ⊎ IsSeen j ps
+-- one of the passes has seen just this history
+abbrev pub IsSeen : List Event → List Pass → Type 0
+IsSeen h [] = ⊥
+IsSeen h (p ∷ ps) = (seen_of p ≡ h) ⊎ IsSeen h ps
 
 -- j begins with what each pass has seen
 abbrev pub BeginsWith : List Line → List Pass → Type 0
@@ -64,7 +64,7 @@ BeginsWith j (p ∷ ps) = Begins j p.view.seen × BeginsWith j ps
 -- the report of the board b with these passes: the longest that they have seen, followed by Shut and the Cuts alone, is legal, and just its requests without Reap have a line
 pub record IsReport (b : Facts) (passes : List Pass) (lines : List (Completion × Bool)) : Type 0 where
   pub all : List Line
-  pub longest : IsSeen all passes
+  pub longest : IsSeen (events_of all) passes
   pub begins : BeginsWith all passes
   pub legal : Legal (setup_of b.layout) (ended lines (events_of all))
   pub ordered : Ordered lines

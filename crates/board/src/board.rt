@@ -1,37 +1,38 @@
 //! The board and its calls.
-ghost use Rattle.std.specs.Prelude.{◌≡◌, ◌≢◌, ℕ, ◌+◌, ◌-◌, ◌<◌, ◌≤◌, ◌⊎◌, ◌↔◌, cond, true, false, [], ◌∷◌, length, slice_index, IfOk, IfErr, IsTrue};
+ghost use Rattle.std.specs.Prelude.{◌≡◌, ◌≢◌, ℕ, ◌+◌, ◌-◌, ◌<◌, ◌≤◌, ◌⊎◌, cond, true, false, [], ◌∷◌, length, slice_index, IfOk, IfErr};
 ghost use Rattle.std.specs.declared.result.Result.TheVariants.{Err};
-ghost use Rattle.model.specs.declared.req.Req.{Req};
-ghost use Rattle.model.specs.declared.event.Event.TheVariants.{Submit, Begin, Reap};
-ghost use Rattle.model.specs.History.{same, phase, submits};
-ghost use Rattle.model.specs.Legal.{FitsOp};
+ghost use Rattle.history.specs.declared.req.Req.{Req};
+ghost use Rattle.history.specs.declared.event.Event.TheVariants.{Submit, Begin, Reap};
+ghost use Rattle.history.specs.History.{same, phase, submits};
 ghost use Rattle.steps.specs.declared.line.Line.TheVariants.{Did};
 ghost use Rattle.steps.specs.declared.view.Role.TheVariants.{Poller as PollerRole, Submitter as SubmitterRole, Busy as BusyRole};
-ghost use Rattle.steps.specs.Journal.{freed, Serves};
+ghost use Rattle.steps.specs.Fairness.{IsFree, IsReaped};
+ghost use Rattle.steps.specs.Journal.{freed};
 ghost use Rattle.steps.specs.Rule.{Looks, Extends, Begins};
 ghost use Rattle.work.specs.Board.{Facts, IsOf};
 ghost use Rattle.work.specs.Grid.{AreCellCounts};
-ghost use Rattle.work.specs.Passes.{seen_of, FoundNotReady};
+ghost use Rattle.work.specs.Passes.{seen_of, FoundNotReady, Took};
 ghost use Rattle.board.specs.declared.error.BoardError.TheVariants.{BadShape};
 ghost use Rattle.board.specs.declared.poller.Released.TheVariants.{Freed, NotHeld};
-ghost use Rattle.board.specs.Calls.{Goes, Finds, Stepped, IsFree, IsReaped, IsUnheld, MayStart, next_of};
+ghost use Rattle.board.specs.Calls.{Goes, Finds, HasLooked, Stepped, FoundHeld, IsUnheld, MayStart, next_of};
 ghost use Rattle.board.specs.Headline.{IsCompletion, HasOnce};
 ghost use Rattle.board.specs.Limits.{counts, is_shape};
 ghost use Rattle.board.specs.New.{IsNew, AreSubmitters, AreWorkers, IsCutting};
 ghost use Rattle.board.specs.Refusals.{RefusesEntry, RefusesReap};
 
+use crate::bounds::is_shape;
 use crate::completion::Completion;
 use crate::error::{BoardError, ReapError, SubmitError};
-use crate::limits::is_shape;
 use crate::phase::{Phase, has_failed, told};
 use crate::poller::{Poller, Released};
+use crate::served::{fits_length, is_served};
 use crate::shape::{RingShape, Shape};
 use crate::submitter::Submitter;
-use entry::{Cqe, Op, Sqe};
-use model::Req;
+use entry::{Cqe, Sqe};
+use history::Req;
 use std::alloc::{AllocError, Global};
 use std::marker::Model;
-use steps::{BoardTable, Parcel, Place, Words, claims, table};
+use steps::{BoardTable, Parcel, TableSeat, Words, table};
 use work::{Busy, Grid, Pass, Worker};
 
 /// Rings, pipes and workers over one shared table. Its passes may be used by several threads at once.
@@ -39,18 +40,19 @@ use work::{Busy, Grid, Pass, Worker};
 pub struct Board {
     pub(crate) table: BoardTable,
     pub(crate) grid: Grid,
+    pub(crate) pipes: usize,
     pub(crate) workers: u32,
 }
 
 impl Model for Board {
-    ghost use Rattle.std.specs.Prelude.{◌≡◌};
+    ghost use Rattle.std.specs.Prelude.{◌≡◌, length};
     ghost use Rattle.work.specs.Board.{Facts, IsBoard};
 
     ghost Value = { Facts };
 
     ghost view = { λ b. record { table = b.table.shared.table_id; layout = record { cells = b.grid; caps = b.table.shared.key.caps.value.items }; workers = b.workers } };
 
-    ghost invariant = { λ b. IsBoard (record { table = b.table.shared.table_id; layout = record { cells = b.grid; caps = b.table.shared.key.caps.value.items }; workers = b.workers }) × (b.table.shared.key.cells.value.items ≡ b.grid) };
+    ghost invariant = { λ b. IsBoard (record { table = b.table.shared.table_id; layout = record { cells = b.grid; caps = b.table.shared.key.caps.value.items }; workers = b.workers }) × (b.table.shared.key.cells.value.items ≡ b.grid) × (length b.table.shared.key.caps.value.items ≡ b.pipes) };
 }
 
 /// The last generation of a cell's word. No request has it.
@@ -71,20 +73,23 @@ fn cells_of(alloc: Global, rings: &[RingShape]) -> Result<Vec<u64>, AllocError>
 fn cut_submitters(
     alloc: Global,
     words: &Words,
-    seat: &mut Place,
-    rings: u16,
+    seat: &mut TableSeat,
+    grid: &Grid,
 ) -> Result<Vec<Submitter>, AllocError>
     requires seat { IsCutting seat.old.me.0.layout words.now.table_id 0 0 seat.old }
-    requires cells { AreCellCounts seat.old.me.0.layout.cells × (rings ≡ length seat.old.me.0.layout.cells) × (rings ≤ 16) }
+    requires cells { AreCellCounts grid.now × (grid.now ≡ seat.old.me.0.layout.cells) × (length grid.now ≤ 16) }
     requires words { 0 < words.now.table_id.words }
-    ensures seat { IfOk result (λ v. IsCutting seat.old.me.0.layout words.now.table_id rings 0 seat.new) }
-    ensures count { IfOk result (λ v. length v.items ≡ rings) }
+    ensures seat { IfOk result (λ v. IsCutting seat.old.me.0.layout words.now.table_id (length grid.now) 0 seat.new) }
+    ensures count { IfOk result (λ v. length v.items ≡ length grid.now) }
     ensures submitters { IfOk result (λ v. (b : Facts) → b.table ≡ words.now.table_id → b.layout ≡ seat.old.me.0.layout → AreSubmitters b 0 v.items) }
 {
     let mut submitters = Vec::new(alloc);
-    for ring in 0..rings {
-        let place = table::next_submitter(words, seat);
-        submitters.push(Submitter::new(place, ring))?;
+    for ring in 0..grid.rings() as u16 {
+        let cells = grid.cells_in(usize::from(ring)) as usize;
+        let ages = Vec::from_elem(alloc, 0u32, cells)?;
+        let facts = Vec::from_elem(alloc, 0u64, cells)?;
+        let cut = table::next_submitter(words, seat);
+        submitters.push(Submitter::new(cut, ring, ages, facts))?;
     }
     Ok(submitters)
 }
@@ -93,7 +98,7 @@ fn cut_submitters(
 fn cut_workers(
     alloc: Global,
     words: &Words,
-    seat: &mut Place,
+    seat: &mut TableSeat,
     count: u32,
 ) -> Result<Vec<Worker>, AllocError>
     requires seat { (n : ℕ) × IsCutting seat.old.me.0.layout words.now.table_id n 0 seat.old × (n ≤ 16) }
@@ -105,41 +110,10 @@ fn cut_workers(
 {
     let mut workers = Vec::new(alloc);
     for _ in 0..count {
-        let place = table::next_worker(words, seat);
-        workers.push(Worker::new(place))?;
+        let cut = table::next_worker(words, seat);
+        workers.push(Worker::new(cut))?;
     }
     Ok(workers)
-}
-
-/// Whether the board serves such an entry.
-fn is_served(sqe: &Sqe) -> bool
-    ensures { IsTrue result ↔ Serves sqe.now true }
-{
-    match sqe.op() {
-        Op::Nop => !sqe.drains(),
-        Op::Invalid => !sqe.drains(),
-        _ => false,
-    }
-}
-
-/// Whether a buffer of this length goes with the entry.
-fn fits_length(sqe: &Sqe, length: usize) -> bool
-    ensures { IsTrue result ↔ FitsOp sqe.now.op length }
-{
-    match sqe.op() {
-        Op::Read {
-            fd: _,
-            offset: _,
-            len,
-        } => length == len as usize,
-        Op::Write {
-            fd: _,
-            offset: _,
-            len,
-        } => length == len as usize,
-        Op::Invalid => true,
-        _ => length == 0,
-    }
 }
 
 impl Board {
@@ -158,12 +132,12 @@ impl Board {
         let cells = cells_of(alloc, shape.rings.as_slice())?;
         let grid = Grid::new(alloc, cells.as_slice())?;
         let (table, mut seat) = table::set_up(alloc, &cells, &shape.pipes, grid.total())?;
-        let rings = shape.rings.len() as u16;
-        let submitters = cut_submitters(alloc, &table.shared, &mut seat, rings)?;
+        let submitters = cut_submitters(alloc, &table.shared, &mut seat, &grid)?;
         let workers = cut_workers(alloc, &table.shared, &mut seat, shape.workers)?;
         let board = Board {
             table,
             grid,
+            pipes: shape.pipes.len(),
             workers: shape.workers,
         };
         Ok((board, Poller::new(seat), submitters, workers))
@@ -189,7 +163,7 @@ impl Board {
         ensures first { Goes self.now (P.knows pass.old) [] (P.knows pass.new) }
         ensures second { Goes self.now (Q.knows other.old) [] (Q.knows other.new) }
         ensures told { Begins (Q.knows other.new).view.seen (P.knows pass.new).view.seen }
-        ensures looked { Stepped (P.knows pass.old) (P.knows pass.new) × Stepped (Q.knows other.old) (Q.knows other.new) }
+        ensures looked { HasLooked (P.knows pass.old) (P.knows pass.new) × HasLooked (Q.knows other.old) (Q.knows other.new) }
     {
         let words = &self.table.shared;
         pass.load(words, 0);
@@ -208,6 +182,7 @@ impl Board {
         requires { IsOf self.now submitter.old }
         ensures submitted { (ring : ℕ) → submitter.old.view.role ≡ SubmitterRole ring → IfOk result (λ r. (r ≡ next_of submitter.old ring) × Goes self.now submitter.old (Submit r sqe buffer.items true ∷ []) submitter.new) }
         ensures free { IfOk result (λ r. IsFree self.now.layout.cells (seen_of submitter.new) r) }
+        ensures steps { IfOk result (λ r. Took submitter.old.view submitter.new.view 3) }
         ensures refused { IfErr result (λ e. Goes self.now submitter.old [] submitter.new × (e.1 ≡ buffer)) }
         ensures reason { (ring : ℕ) → submitter.old.view.role ≡ SubmitterRole ring → IfErr result (λ e. RefusesEntry self.now sqe buffer.items (next_of submitter.old ring) submitter.old submitter.new e.0) }
     {
@@ -222,7 +197,8 @@ impl Board {
             unreachable!()
         };
         let generation = spot.generation as u32;
-        if submitter.look_at(&self.table.shared, spot.cell) != claims::empty(generation) {
+        if !submitter.is_free(spot.number, generation) {
+            submitter.look_at(&self.table.shared, spot.cell);
             return Err((SubmitError::Full, buffer));
         }
         if generation == LAST_GENERATION {
@@ -233,7 +209,7 @@ impl Board {
             buffer,
             last: true,
         };
-        submitter.hand_in(&self.table.shared, spot.cell, generation, parcel);
+        submitter.submit(&self.table.shared, spot, parcel);
         Ok(req)
     }
 
@@ -242,7 +218,9 @@ impl Board {
         requires { IsOf self.now poller.old }
         ensures looks { Goes self.now poller.old [] poller.new }
         ensures freed { result ≡ Freed → (freed poller.new.view.seen req ≡ true) × MayStart poller.new.view.seen req }
-        ensures not_held { result ≡ NotHeld → IsUnheld poller.new.view.seen req × ((length self.now.layout.cells ≤ req.ring) ⊎ Stepped poller.old poller.new) }
+        ensures was_held { result ≡ Freed → (freed poller.old.view.seen req ≡ false) × FoundHeld self.now.layout.cells req poller.old poller.new }
+        ensures not_held { result ≡ NotHeld → IsUnheld poller.new.view.seen req × ((length self.now.layout.cells ≤ req.ring) ⊎ Stepped self.now.layout.cells req poller.old poller.new) }
+        ensures steps { result ≡ Freed → Took poller.old.view poller.new.view 2 }
         ensures alone { (q : Req) → (result ≡ NotHeld) ⊎ (same req q ≡ false) → freed poller.new.view.seen q ≡ freed poller.old.view.seen q }
     {
         let Some(spot) = self.grid.locate(req) else {
@@ -252,7 +230,7 @@ impl Board {
         let Phase::Held = told(word, spot.generation) else {
             return Released::NotHeld;
         };
-        if poller.free(&self.table.shared, spot.cell, spot.generation as u32) {
+        if poller.release(&self.table.shared, spot.cell, spot.generation as u32) {
             Released::Freed
         } else {
             Released::NotHeld
@@ -262,10 +240,11 @@ impl Board {
     /// Gives a request that is Ready to the worker.
     pub fn begin<'a>(&'a self, worker: Worker, req: Req) -> Result<Busy<'a>, Worker>
         requires { IsOf self.now worker }
+        ensures steps { IfOk result (λ b. Took worker.view b.pass.view 1) }
         ensures begun { IfOk result (λ b. (b.req ≡ req) × IsOf self.now b.pass × Extends worker.view (Did (Begin req)) (BusyRole req) b.pass.view) }
         ensures refused { IfErr result (λ w. IsOf self.now w × ((w.view ≡ worker.view) ⊎ Looks worker.view w.view) × ((length self.now.layout.cells ≤ req.ring) ⊎ FoundNotReady self.now.layout.cells req worker.view w.view)) }
     {
-        worker.begin(&self.table.shared, &self.grid, req)
+        worker.begin(&self.table.shared, &self.grid, self.pipes, req)
     }
 
     /// Takes the request's completion.
@@ -274,8 +253,9 @@ impl Board {
         ensures reaped { IfOk result (λ x. Goes self.now submitter.old (Reap req ∷ []) submitter.new) }
         ensures completion { IfOk result (λ x. IsCompletion (seen_of submitter.new) req x × IsReaped (phase (seen_of submitter.new) req)) }
         ensures once { IfOk result (λ x. HasOnce (seen_of submitter.new) req) }
+        ensures steps { IfOk result (λ x. Took submitter.old.view submitter.new.view 3) }
         ensures refused { IfErr result (λ e. Goes self.now submitter.old [] submitter.new) }
-        ensures reason { (ring : ℕ) → submitter.old.view.role ≡ SubmitterRole ring → IfErr result (λ e. RefusesReap req ring (submits (seen_of submitter.old) ring) submitter.old submitter.new e) }
+        ensures reason { (ring : ℕ) → submitter.old.view.role ≡ SubmitterRole ring → IfErr result (λ e. RefusesReap self.now.layout.cells req ring (submits (seen_of submitter.old) ring) submitter.old submitter.new e) }
     {
         if req.ring != submitter.ring() {
             return Err(ReapError::Foreign);
@@ -290,8 +270,7 @@ impl Board {
         let word = submitter.look_at(words, spot.cell);
         match told(word, spot.generation) {
             Phase::Done(res) => {
-                let generation = spot.generation as u32;
-                let parcel = submitter.take(words, spot.cell, generation, word, has_failed(word));
+                let parcel = submitter.reap(words, spot, word, has_failed(word));
                 let cqe = Cqe {
                     user_data: parcel.sqe.user_data(),
                     res,

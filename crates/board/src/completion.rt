@@ -2,7 +2,7 @@
 ghost use Rattle.std.specs.Prelude.{◌≡◌};
 
 use entry::Cqe;
-use model::Req;
+use history::Req;
 use std::marker::Model;
 
 /// A request's completion, and the buffer that was handed in with it. Of a READ the first `res` bytes are the data, and

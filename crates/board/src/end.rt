@@ -1,10 +1,12 @@
 //! The end of a board.
 ghost use Rattle.std.specs.Prelude.{◌≡◌, ◌≢◌, ◌+◌, ◌<◌, ◌≤◌, ◌⊎◌, ◌↔◌, [], ◌∷◌, ◌++◌, length, vec_capacity, IfOk, IfErr};
+ghost use Rattle.std.specs.Mem.Slots.{slots_items, slots_len, IsFull};
 ghost use Rattle.steps.specs.declared.view.Role.TheVariants.{Spent};
+ghost use Rattle.steps.specs.declared.view.View.{View};
 ghost use Rattle.steps.specs.Cells.{total};
 ghost use Rattle.work.specs.Board.{Facts, IsOf};
 ghost use Rattle.board.specs.declared.error.FinishError.TheVariants.{Missing};
-ghost use Rattle.board.specs.Remains.{hearing_all};
+ghost use Rattle.board.specs.Remains.{hearing_all, Closing};
 ghost use Rattle.board.specs.Reports.{AreOf, IsReport};
 
 use crate::board::Board;
@@ -14,9 +16,10 @@ use crate::poller::Poller;
 use crate::remains::{Remains, remains_of};
 use crate::report::add_rings;
 use crate::submitter::Submitter;
+use atomic_table::Closed;
 use std::alloc::{AllocError, Global};
-use steps::{Place, Words, table};
-use work::Worker;
+use steps::{TableSeat, Thing, Words, table};
+use work::{Grid, Worker};
 
 /// The board and its passes, which come back where it isn't ended.
 #[derive(Drop)]
@@ -48,7 +51,7 @@ impl Room {
 }
 
 /// The seat hears all submitters.
-fn hear_submitters(words: &Words, seat: &mut Place, mut submitters: Vec<Submitter>)
+fn hear_submitters(words: &Words, seat: &mut TableSeat, mut submitters: Vec<Submitter>)
     requires fits { (seat.old.table_id ≡ words.now.table_id) × (0 < words.now.table_id.words) }
     requires live { seat.old.me.0.role ≢ Spent }
     requires ours { (b : Facts) × (b.table ≡ words.now.table_id) × AreOf b submitters.items }
@@ -56,12 +59,12 @@ fn hear_submitters(words: &Words, seat: &mut Place, mut submitters: Vec<Submitte
     ensures heard { seat.new.me ≡ (hearing_all seat.old.me.0 submitters.items, seat.old.me.1) }
 {
     while let Some(submitter) = submitters.pop() {
-        table::hear(words, seat, submitter.into_place());
+        table::hear(words, seat, submitter.into_seat());
     }
 }
 
 /// The seat hears all workers.
-fn hear_workers(words: &Words, seat: &mut Place, mut workers: Vec<Worker>)
+fn hear_workers(words: &Words, seat: &mut TableSeat, mut workers: Vec<Worker>)
     requires fits { (seat.old.table_id ≡ words.now.table_id) × (0 < words.now.table_id.words) }
     requires live { seat.old.me.0.role ≢ Spent }
     requires ours { (b : Facts) × (b.table ≡ words.now.table_id) × AreOf b workers.items }
@@ -69,7 +72,7 @@ fn hear_workers(words: &Words, seat: &mut Place, mut workers: Vec<Worker>)
     ensures heard { seat.new.me ≡ (hearing_all seat.old.me.0 workers.items, seat.old.me.1) }
 {
     while let Some(worker) = workers.pop() {
-        table::hear(words, seat, worker.into_place());
+        table::hear(words, seat, worker.into_seat());
     }
 }
 
@@ -127,18 +130,37 @@ impl Board {
         requires lines { (room.lines.items ≡ []) × (total self.layout.cells ≤ vec_capacity room.lines) }
         ensures { IsReport self (poller ∷ (submitters.items ++ workers.items)) result }
     {
-        let Board {
-            table,
-            grid,
-            workers: _,
-        } = self;
+        let (grid, closed) = self.close(poller, submitters, workers);
         let Room { remains, mut lines } = room;
-        let mut seat = poller.into_place();
-        hear_submitters(&table.shared, &mut seat, submitters);
-        hear_workers(&table.shared, &mut seat, workers);
-        let closed = table::finish(table, seat);
         let mut remains = remains_of(closed, remains, grid.total());
         add_rings(&grid, &mut remains, &mut lines);
         Report::new(lines)
+    }
+
+    /// Takes in all passes, and ends the table.
+    fn close(
+        self,
+        poller: Poller,
+        submitters: Vec<Submitter>,
+        workers: Vec<Worker>,
+    ) -> (Grid, Closed<Option<Thing>, Global>)
+        requires poller { IsOf self poller }
+        requires submitters { AreOf self submitters.items × (length submitters.items ≡ length self.layout.cells) }
+        requires workers { AreOf self workers.items × (length workers.items ≡ self.workers) }
+        ensures grid { result.0 ≡ self.layout.cells }
+        ensures full { IsFull result.1.words × IsFull result.1.slots }
+        ensures counts { slots_len result.1.words ≡ self.table.words }
+        ensures closing { (v : View) × Closing self poller submitters.items workers.items v (slots_items result.1.words) (slots_items result.1.slots) }
+    {
+        let Board {
+            table,
+            grid,
+            pipes: _,
+            workers: _,
+        } = self;
+        let mut seat = poller.into_seat();
+        hear_submitters(&table.shared, &mut seat, submitters);
+        hear_workers(&table.shared, &mut seat, workers);
+        (grid, table::finish(table, seat))
     }
 }

@@ -2,14 +2,15 @@
 #![tactic(auto)]
 
 pub mod board;
+mod bounds;
 pub mod completion;
 pub mod end;
 pub mod error;
-mod limits;
 pub mod phase;
 pub mod poller;
 mod remains;
 mod report;
+pub mod served;
 pub mod shape;
 pub mod submitter;
 
@@ -19,6 +20,7 @@ pub use end::Unfinished;
 pub use error::{BoardError, FinishError, ReapError, SubmitError};
 pub use phase::Phase;
 pub use poller::{Poller, Released};
+pub use served::is_served;
 pub use shape::{RingShape, Shape};
 pub use submitter::Submitter;
-pub use work::{Busy, Pass, Ran, Worker};
+pub use work::{Busy, Parked, Pass, Ran, Worker};

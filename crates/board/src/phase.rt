@@ -1,8 +1,10 @@
 //! Where a request stands, as its claim word tells.
-ghost use Rattle.std.specs.Prelude.{◌≡◌, ℕ, ◌<◌, List, IsTrue};
+ghost use Rattle.std.specs.Prelude.{◌≡◌, ℕ, ◌<◌, Bool, List, IsTrue};
+ghost use Rattle.claim.specs.declared.tag.Tag.TheVariants.{Done};
 ghost use Rattle.claim.specs.Claim.{fits, packed};
 ghost use Rattle.steps.specs.declared.line.Line.{Line};
-ghost use Rattle.steps.specs.Cells.{held};
+ghost use Rattle.history.specs.History.{Cause};
+ghost use Rattle.steps.specs.Cells.{request_at, word_of, cause_bits};
 ghost use Rattle.steps.specs.Rule.{Shown};
 ghost use Rattle.board.specs.Calls.{Stands, IsWord, IsPresent};
 
@@ -41,7 +43,7 @@ fn parts(word: u64) -> ClaimWord
 /// Where the request of this generation stands, as the word of its cell tells.
 pub(crate) fn told(word: u64, generation: u64) -> Phase
     requires { IsWord word }
-    ensures stands { (K : List ℕ) (j : List Line) (x : ℕ) → Shown K j x word → Stands j (held K x generation) result }
+    ensures stands { (K : List ℕ) (j : List Line) (x : ℕ) → Shown K j x word → Stands j (request_at K x generation) result }
     ensures present { IsPresent result → generation < 16777216 }
 {
     let claim = parts(word);
@@ -65,6 +67,7 @@ pub(crate) fn told(word: u64, generation: u64) -> Phase
 /// Whether the word tells of a reply that is a failure.
 pub(crate) fn has_failed(word: u64) -> bool
     requires { IsWord word }
+    ensures { (c : Cause) (f : Bool) (g p : ℕ) → g < 16777216 → p < 4294967296 → word ≡ word_of Done (cause_bits c f) g p → result ≡ f }
 {
     parts(word).has_failed()
 }

@@ -6,6 +6,7 @@ ghost use Rattle.board.specs.Remains.{AreTaken, IsEmptied};
 use atomic_table::Closed;
 use std::alloc::{AllocError, Global};
 use steps::Thing;
+use steps::layout::{PIPES, claim_word, slot, slots_of};
 
 /// The claim word and the slot of each cell.
 #[derive(Drop)]
@@ -53,8 +54,8 @@ fn take_cells(closed: &mut Closed<Option<Thing>, Global>, remains: &mut Remains,
     ensures taken { AreTaken (slots_items closed.old.words) (slots_items closed.old.slots) cells remains.new.claims.items remains.new.slots.items }
 {
     for x in 0..cells {
-        let word = closed.word(8 * x + 72);
-        let thing = closed.take(x + 64);
+        let word = closed.word(claim_word(x));
+        let thing = closed.take(slot(x));
         let Ok(()) = remains.claims.push(word) else {
             unreachable!()
         };
@@ -78,9 +79,9 @@ pub(crate) fn remains_of(
     ensures { AreTaken (slots_items closed.words) (slots_items closed.slots) cells result.claims.items result.slots.items }
 {
     let count = closed.slot_count();
-    drop_slots(&mut closed, 0, 64);
+    drop_slots(&mut closed, 0, PIPES);
     take_cells(&mut closed, &mut remains, cells);
-    drop_slots(&mut closed, cells + 64, count);
+    drop_slots(&mut closed, slots_of(cells), count);
     closed.free();
     remains
 }

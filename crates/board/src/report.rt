@@ -2,7 +2,7 @@
 ghost use Rattle.std.specs.Prelude.{◌≡◌, ℕ, ◌+◌, ◌<◌, ◌≤◌, ◌↔◌, List, Some, None, IsTrue, length, slice_set, vec_capacity};
 ghost use mathlib.Core.Option.{some};
 ghost use lib.ListN.{get_elem?};
-ghost use Rattle.model.specs.Legal.{Setup};
+ghost use Rattle.history.specs.Legal.{Setup};
 ghost use Rattle.steps.specs.declared.line.Line.{Line};
 ghost use Rattle.steps.specs.declared.parcel.Parcel.{Parcel};
 ghost use Rattle.steps.specs.declared.parcel.Thing.TheVariants.{Full};
@@ -16,7 +16,7 @@ use crate::phase::{Phase, told};
 use crate::remains::Remains;
 use claim::unpack;
 use entry::Cqe;
-use model::Req;
+use history::Req;
 use steps::{Parcel, Thing};
 use work::Grid;
 

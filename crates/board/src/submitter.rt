@@ -1,29 +1,34 @@
 //! A submitter's pass.
-ghost use Rattle.std.specs.Prelude.{◌≡◌, ℕ, ℤ, ◌+◌, ◌*◌, ◌<◌, ◌≤◌, false, cond, length};
-ghost use Rattle.model.specs.declared.req.Req.{Req};
-ghost use Rattle.model.specs.declared.event.Event.TheVariants.{Submit, Reap};
-ghost use Rattle.model.specs.History.{submits, data_of};
-ghost use Rattle.model.specs.Legal.{Fits as FitsEntry};
-ghost use Rattle.steps.specs.declared.line.Line.TheVariants.{Did, Lent};
+ghost use Rattle.std.specs.Prelude.{◌≡◌, ℕ, ◌+◌, ◌*◌, ◌<◌, ◌≤◌, Bool, true, false, List, length};
+ghost use Rattle.claim.specs.declared.tag.Tag.TheVariants.{Done};
+ghost use Rattle.history.specs.declared.req.Req.{Req};
+ghost use Rattle.history.specs.declared.event.Event.TheVariants.{Submit, Reap};
+ghost use Rattle.history.specs.History.{Cause, phase, data_of};
+ghost use Rattle.history.specs.Legal.{Fits as FitsEntry};
+ghost use Rattle.steps.specs.declared.line.Line.TheVariants.{Did, Lent, Noted};
 ghost use Rattle.steps.specs.declared.view.Role.TheVariants.{Submitter as SubmitterRole, Lending};
-ghost use Rattle.steps.specs.Journal.{events_of, lent, Serves};
-ghost use Rattle.steps.specs.Cells.{claim_at, ring_of, held, cells_in, user_at, outcome_at, IsParcel};
-ghost use Rattle.steps.specs.Rule.{Looks, Shown, IsStep, ExtendsTwice, Vacant, IsDone};
+ghost use Rattle.steps.specs.Fairness.{IsReaped};
+ghost use Rattle.steps.specs.Journal.{Serves};
+ghost use Rattle.steps.specs.Cells.{claim_at, ring_of, place_of, request_at, cells_in, facts_at, user_at, word_of, cause_bits, IsParcel};
+ghost use Rattle.steps.specs.Rule.{Looks, Shown, IsStep, IsTwoSteps, IsThreeSteps, ExtendsTwice, ExtendsThrice, Vacant, IsDone};
 ghost use Rattle.work.specs.Passes.{pass_of, seen_of, CanReach};
 ghost use Rattle.board.specs.Calls.{next_of};
-ghost use Rattle.board.specs.Seats.{IsSubmitterSeat};
+ghost use Rattle.board.specs.Seats.{IsSubmitterSeat, IsNextCell};
 
-use model::Req;
+use claim::with_outcome;
+use history::Req;
 use std::marker::Model;
-use steps::{Parcel, Place, Words, seat, submitter, table};
-use work::{Messenger, Pass};
+use steps::{Parcel, TableSeat, Words, seat, submitter, table};
+use work::{Messenger, Pass, Spot};
 
 /// The pass of the submitter of one ring. Contracts see its table and what it knows.
 #[derive(Drop)]
 pub struct Submitter {
-    place: Place,
+    seat: TableSeat,
     ring: u16,
     next: u64,
+    ages: Vec<u32>,
+    facts: Vec<u64>,
 }
 
 impl Model for Submitter {
@@ -32,21 +37,24 @@ impl Model for Submitter {
 
     ghost Value = { Pass };
 
-    ghost view = { λ s. pass_of s.place };
+    ghost view = { λ s. pass_of s.seat };
 
-    ghost invariant = { λ s. IsSubmitterSeat s.place s.ring s.next };
+    ghost invariant = { λ s. IsSubmitterSeat s.seat s.ring s.next s.ages.items s.facts.items };
 }
 
 impl Submitter {
-    /// The pass of the seat of the ring's submitter, which has submitted nothing yet.
-    pub(crate) fn new(place: Place, ring: u16) -> Submitter
-        requires { IsSubmitterSeat place ring 0 }
-        ensures { result ≡ pass_of place }
+    /// The pass of the seat of the ring's submitter, which has submitted nothing yet: of each cell it has reaped nothing, and
+    /// noted nothing.
+    pub(crate) fn new(seat: TableSeat, ring: u16, ages: Vec<u32>, facts: Vec<u64>) -> Submitter
+        requires { IsSubmitterSeat seat ring 0 ages.items facts.items }
+        ensures { result ≡ pass_of seat }
     {
         Submitter {
-            place,
+            seat,
             ring,
             next: 0,
+            ages,
+            facts,
         }
     }
 
@@ -72,16 +80,12 @@ impl Submitter {
     }
 
     /// Its seat.
-    pub(crate) fn into_place(self) -> Place
-        ensures seat { (ring : ℕ) × (next : ℕ) × IsSubmitterSeat result ring next }
+    pub(crate) fn into_seat(self) -> TableSeat
+        ensures seat { (ring : ℕ) × (next : ℕ) × (ages : List ℕ) × (facts : List ℕ) × IsSubmitterSeat result ring next ages facts }
         ensures value { pass_of result ≡ self }
     {
-        let Submitter {
-            place,
-            ring: _,
-            next: _,
-        } = self;
-        place
+        let Submitter { seat, .. } = self;
+        seat
     }
 
     /// Loads the claim word of the cell.
@@ -92,44 +96,62 @@ impl Submitter {
         ensures shown { Shown self.old.view.layout.cells self.new.view.seen cell result }
         ensures step { IsStep (claim_at cell) result self.old.view self.new.view }
     {
-        seat::look(words, &mut self.place, cell)
+        seat::look(words, &mut self.seat, cell)
+    }
+
+    /// Whether the cell with this number in its ring waits for this generation, as the submitter's own reaping tells.
+    pub(crate) fn is_free(&self, number: usize, generation: u32) -> bool
+        requires there { (cell : ℕ) × IsNextCell self.now cell number generation }
+        ensures free { result ≡ true → (cell : ℕ) → IsNextCell self.now cell number generation → Vacant self.now.view.layout.cells self.now.view.seen cell generation }
+        ensures taken { result ≡ false → (cell : ℕ) → IsNextCell self.now cell number generation → ¬ ((n : ℕ) → n < generation → IsReaped (phase (seen_of self.now) (request_at self.now.view.layout.cells cell n))) }
+    {
+        self.ages[number] == generation
     }
 
     /// Submits its next request, whose cell is free.
-    pub(crate) fn hand_in(&mut self, words: &Words, cell: usize, generation: u32, parcel: Parcel)
-        requires reach { CanReach words.now.table_id self.old cell }
+    pub(crate) fn submit(&mut self, words: &Words, spot: Spot, parcel: Parcel)
+        requires reach { CanReach words.now.table_id self.old spot.cell }
         requires parts { 0 < self.old.view.parts }
-        requires small { generation < 16777215 }
-        requires mine { self.old.view.role ≡ SubmitterRole (ring_of self.old.view.layout.cells cell) }
-        requires free { Vacant self.old.view.layout.cells self.old.view.seen cell generation }
-        requires next { (held self.old.view.layout.cells cell generation).k ≡ submits (seen_of self.old) (ring_of self.old.view.layout.cells cell) }
+        requires small { spot.generation < 16777215 }
+        requires next { IsNextCell self.old spot.cell spot.number spot.generation }
+        requires free { Vacant self.old.view.layout.cells self.old.view.seen spot.cell spot.generation }
         requires served { Serves parcel.sqe parcel.last × FitsEntry parcel.sqe parcel.buffer.items }
         ensures table { self.new.table ≡ self.old.table }
-        ensures submits { ExtendsTwice self.old.view (Lent (held self.old.view.layout.cells cell generation) (user_at cell) parcel.sqe.user_data) (Lending (held self.old.view.layout.cells cell generation)) (Did (Submit (held self.old.view.layout.cells cell generation) parcel.sqe parcel.buffer.items parcel.last)) (SubmitterRole (ring_of self.old.view.layout.cells cell)) self.new.view }
+        ensures submits { let r : Req = request_at self.old.view.layout.cells spot.cell spot.generation in (facts : ℕ) × ExtendsThrice self.old.view (Lent r (facts_at spot.cell) facts) (Lending r) (Noted r (user_at spot.cell) parcel.sqe.user_data) (Lending r) (Did (Submit r parcel.sqe parcel.buffer.items parcel.last)) (SubmitterRole r.ring) self.new.view }
+        ensures steps { IsThreeSteps (facts_at spot.cell) (user_at spot.cell) (claim_at spot.cell) self.old.view self.new.view }
     {
-        submitter::submit(words, &mut self.place, cell, generation, parcel);
+        let facts = submitter::submit(
+            words,
+            &mut self.seat,
+            spot.cell,
+            spot.generation as u32,
+            parcel,
+        );
+        self.facts[spot.number] = facts;
         self.next += 1;
     }
 
     /// Takes what was handed in, with the data, of the request whose claim word was seen to be `done`, and ends the request.
-    pub(crate) fn take(
-        &mut self,
-        words: &Words,
-        cell: usize,
-        generation: u32,
-        done: u64,
-        failed: bool,
-    ) -> Parcel
-        requires reach { CanReach words.now.table_id self.old cell }
+    pub(crate) fn reap(&mut self, words: &Words, spot: Spot, done: u64, failed: bool) -> Parcel
+        requires reach { CanReach words.now.table_id self.old spot.cell }
         requires parts { 0 < self.old.view.parts }
-        requires small { generation + 1 < 16777216 }
-        requires mine { self.old.view.role ≡ SubmitterRole (ring_of self.old.view.layout.cells cell) }
-        requires done { IsDone self.old.view.seen (held self.old.view.layout.cells cell generation) generation done }
+        requires small { spot.generation + 1 < 16777216 }
+        requires number { spot.number ≡ place_of self.old.view.layout.cells spot.cell }
+        requires mine { self.old.view.role ≡ SubmitterRole (ring_of self.old.view.layout.cells spot.cell) }
+        requires done { IsDone self.old.view.seen (request_at self.old.view.layout.cells spot.cell spot.generation) spot.generation done }
+        requires failed { (c : Cause) (f : Bool) (g p : ℕ) → g < 16777216 → p < 4294967296 → done ≡ word_of Done (cause_bits c f) g p → failed ≡ f }
+        requires shown { Shown self.old.view.layout.cells self.old.view.seen spot.cell done }
         ensures table { self.new.table ≡ self.old.table }
-        ensures reaps { ExtendsTwice self.old.view (Lent (held self.old.view.layout.cells cell generation) (outcome_at cell) (cond failed 1 0)) (Lending (held self.old.view.layout.cells cell generation)) (Did (Reap (held self.old.view.layout.cells cell generation))) (SubmitterRole (ring_of self.old.view.layout.cells cell)) self.new.view }
-        ensures parcel { IsParcel self.new.view.seen (held self.old.view.layout.cells cell generation) (data_of (seen_of self.old) (held self.old.view.layout.cells cell generation)) result }
+        ensures reaps { let r : Req = request_at self.old.view.layout.cells spot.cell spot.generation in (outcome : ℕ) × ExtendsTwice self.old.view (Lent r (facts_at spot.cell) outcome) (Lending r) (Did (Reap r)) (SubmitterRole r.ring) self.new.view }
+        ensures steps { IsTwoSteps (facts_at spot.cell) (claim_at spot.cell) self.old.view self.new.view }
+        ensures parcel { IsParcel self.new.view.seen (request_at self.old.view.layout.cells spot.cell spot.generation) (data_of (seen_of self.old) (request_at self.old.view.layout.cells spot.cell spot.generation)) result }
     {
-        submitter::reap(words, &mut self.place, cell, generation, done, failed)
+        let outcome = with_outcome(self.facts[spot.number], failed);
+        let generation = spot.generation as u32;
+        let parcel = submitter::reap(words, &mut self.seat, spot.cell, generation, done, outcome);
+        self.facts[spot.number] = outcome;
+        self.ages[spot.number] += 1;
+        parcel
     }
 }
 
@@ -141,10 +163,10 @@ impl Pass for Submitter {
     }
 
     fn tell(&mut self, words: &Words) -> Messenger {
-        Messenger::new(table::tell(words, &mut self.place))
+        Messenger::new(table::tell(words, &mut self.seat))
     }
 
     fn hear(&mut self, words: &Words, messenger: Messenger) {
-        table::hear(words, &mut self.place, messenger.into_place());
+        table::hear(words, &mut self.seat, messenger.into_seat());
     }
 }

@@ -1,7 +1,6 @@
 -- When the passes of a case are those of one board.
 use Rattle.std.specs.Prelude.{All}
 use Rattle.work.specs.Board.{Facts, IsOf}
-use Rattle.work.specs.Passes.{Pass}
 use Rattle.board_cases.specs.declared.cast.Cast.{Cast}
 use Rattle.board_cases.specs.declared.cast.Troop.{Troop}
 use Rattle.board_cases.specs.Slots.{AreIn}

@@ -1,7 +1,7 @@
 //! What the calls of a case answered.
-use board::{Completion, Phase, ReapError, Released, SubmitError};
+use board::{Completion, Parked, Phase, ReapError, Released, SubmitError};
 use entry::Cqe;
-use model::Req;
+use history::Req;
 use std::fmt;
 
 /// What a call answered.
@@ -14,6 +14,7 @@ pub(crate) enum Answer {
     Submitted(Req),
     NotSubmitted(SubmitError, Vec<u8>),
     Ran(Cqe),
+    Parked(Parked),
     Reaped(Completion),
     NotReaped(ReapError),
 }
@@ -76,6 +77,7 @@ impl fmt::Display for Answer {
                 write!(f, "{error}, buffer {buffer}")
             }
             Answer::Ran(cqe) => cqe.fmt(f),
+            Answer::Parked(why) => write!(f, "parked: {why:?}"),
             Answer::Reaped(completion) => Whole(completion).fmt(f),
             Answer::NotReaped(error) => error.fmt(f),
         }

@@ -1,17 +1,10 @@
 //! The calls of a case, as its lines write them.
-use crate::words::Words;
+use crate::words::{Name, name_of};
+use cases::{Words, entry_of};
 use entry::Sqe;
-use model::Req;
+use history::Req;
 use std::alloc::{AllocError, Global};
 use text::{bytes_of, number_of};
-
-/// A pass, as a line names it: `poller`, `submitter0`, `worker0`.
-#[derive(Clone, Copy)]
-pub(crate) enum Name {
-    Poller,
-    Submitter(usize),
-    Worker(usize),
-}
 
 /// One call.
 #[derive(Drop)]
@@ -22,7 +15,7 @@ pub(crate) enum Call {
     Look(Name, Req),
     /// `meet NAME NAME`
     Meet(Name, Name),
-    /// `submit RING nop WORD..`, `submit RING raw HEX WORD..`
+    /// `submit RING ENTRY WORD..`
     Submit(usize, Sqe, Vec<u8>),
     /// `release REQUEST`
     Release(Req),
@@ -35,6 +28,9 @@ pub(crate) enum Call {
     /// `reap RING REQUEST`
     Reap(usize, Req),
 }
+
+/// The words that a `submit` line may have after its entry: a user_data, flags and a buffer.
+const OPTIONS: u32 = 3;
 
 /// An entry with its buffer.
 #[derive(Drop)]
@@ -86,51 +82,49 @@ fn raw_entry(bytes: &[u8]) -> Option<Sqe> {
     Some(Sqe::of_bytes(&all))
 }
 
-/// The entry that the words of a `submit` line write behind the ring: `nop`, or `raw HEX`.
-fn entry_of(alloc: Global, words: &mut Words<'_>) -> Result<Option<Sqe>, AllocError> {
-    match words.word() {
-        "nop" => Ok(Some(prep::nop())),
-        "raw" => match bytes_of(alloc, words.word().as_bytes())? {
-            Some(bytes) => Ok(raw_entry(&bytes)),
-            None => Ok(None),
-        },
-        _ => Ok(None),
-    }
+/// The entry that the words of a `submit` line write behind the ring, with its buffer: `raw HEX`, or one as `cases` reads it.
+fn handed_of(alloc: Global, words: &mut Words<'_>) -> Result<Handed, AllocError> {
+    let (sqe, buffer) = if words.option("raw") {
+        let bytes = words.bytes(alloc)?;
+        let sqe = match raw_entry(&bytes) {
+            Some(sqe) => sqe,
+            None => words.bad(prep::nop()),
+        };
+        (sqe, Vec::new(alloc))
+    } else {
+        entry_of(alloc, words)?
+    };
+    Ok(Handed { sqe, buffer })
 }
 
 /// The call that the words of a `submit` line make.
 fn submission_of(alloc: Global, mut words: Words<'_>) -> Result<Option<Call>, AllocError> {
-    let ring = words.place();
-    let Some(sqe) = entry_of(alloc, &mut words)? else {
-        return Ok(None);
-    };
-    let mut handed = Handed {
-        sqe,
-        buffer: Vec::new(alloc),
-    };
-    let Words { rest, mut is_bad } = words;
-    for word in rest {
-        is_bad |= !handed.take_in(alloc, word)?;
+    let ring = words.number();
+    let mut handed = handed_of(alloc, &mut words)?;
+    for _ in 0..OPTIONS {
+        if let Some(word) = words.next_word() {
+            words.is_bad |= !handed.take_in(alloc, word)?;
+        }
     }
     let Handed { sqe, buffer } = handed;
-    if is_bad {
-        Ok(None)
-    } else {
+    if words.are_whole() {
         Ok(Some(Call::Submit(ring, sqe, buffer)))
+    } else {
+        Ok(None)
     }
 }
 
 /// The call that the words of another line make.
 fn plain_call(kind: &str, words: &mut Words<'_>) -> Call {
     match kind {
-        "next" => Call::Next(words.place()),
-        "look" => Call::Look(words.name(), words.req()),
-        "meet" => Call::Meet(words.name(), words.name()),
+        "next" => Call::Next(words.number()),
+        "look" => Call::Look(name_of(words), words.req()),
+        "meet" => Call::Meet(name_of(words), name_of(words)),
         "release" => Call::Release(words.req()),
-        "begin" => Call::Begin(words.place(), words.req()),
-        "park" => Call::Park(words.place()),
-        "run" => Call::Run(words.place()),
-        "reap" => Call::Reap(words.place(), words.req()),
+        "begin" => Call::Begin(words.number(), words.req()),
+        "park" => Call::Park(words.number()),
+        "run" => Call::Run(words.number()),
+        "reap" => Call::Reap(words.number(), words.req()),
         _ => words.bad(Call::Park(0)),
     }
 }

@@ -5,11 +5,12 @@ ghost use Rattle.board_cases.specs.Cast.{IsCast};
 ghost use Rattle.board_cases.specs.Slots.{AreIn};
 
 use crate::answer::{Answer, NO_PASS};
-use crate::call::{Call, Name};
+use crate::call::Call;
 use crate::cast::{Away, Cast};
+use crate::words::Name;
 use board::{Board, Busy, Pass, Ran, Submitter, Worker};
 use entry::Sqe;
-use model::Req;
+use history::Req;
 
 /// Takes the worker without a request from its place.
 fn take_idle(board: &Board, idle: &mut Vec<Option<Worker>>, number: usize) -> Option<Worker>
@@ -250,9 +251,12 @@ fn run(board: &Board, cast: &mut Cast<'_>, number: usize) -> Answer
     let Some(busy) = take_busy(board, &mut cast.busy, number) else {
         return NO_PASS;
     };
-    let (worker, Ran::Replied { cqe }) = busy.run();
+    let (worker, ran) = busy.run();
     put_idle(board, &mut cast.idle, number, worker);
-    Answer::Ran(cqe)
+    match ran {
+        Ran::Replied { cqe } => Answer::Ran(cqe),
+        Ran::Parked(why) => Answer::Parked(why),
+    }
 }
 
 /// Makes a call.

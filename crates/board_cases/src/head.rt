@@ -1,6 +1,6 @@
 //! The board of a case, as its line writes it.
-use crate::words::Words;
 use board::{RingShape, Shape};
+use cases::Words;
 use std::alloc::{AllocError, Global};
 
 /// What one part of the line says, with the numbers of these.
@@ -13,12 +13,12 @@ enum Part {
 
 /// The part that the words write: `2 rings of 4`, `1 ring of 4 posts 8`, `1 pipe of 16` or `3 workers`.
 fn part_of(words: &mut Words<'_>) -> Part {
-    let count = words.count();
+    let count = words.number();
     match words.word() {
         "ring" | "rings" => Part::Rings(count, ring_of(words)),
         "pipe" | "pipes" => {
             words.expect("of");
-            Part::Pipes(count, words.count())
+            Part::Pipes(count, words.number())
         }
         "worker" | "workers" => Part::Workers(count),
         _ => words.bad(Part::Workers(0)),
@@ -28,11 +28,11 @@ fn part_of(words: &mut Words<'_>) -> Part {
 /// A ring of so many cells, with room for so many completions.
 fn ring_of(words: &mut Words<'_>) -> RingShape {
     words.expect("of");
-    let cells = words.count();
-    let posts = match words.rest.next() {
-        Some("posts") => Some(words.count()),
-        Some(_) => words.bad(None),
-        None => None,
+    let cells = words.number();
+    let posts = if words.option("posts") {
+        Some(words.number())
+    } else {
+        None
     };
     RingShape { cells, posts }
 }

@@ -7,9 +7,11 @@
 //! - `next RING`: the ring of the submitter, and its next request;
 //! - `look PASS REQUEST`, where a pass is `poller`, `submitter0` or `worker0`, and a request is `0.3`;
 //! - `meet PASS PASS`, which are of two kinds, or two workers;
-//! - `submit RING nop WORD..` or `submit RING raw HEX WORD..`, where bytes 0 at the entry's end are left out, and a word is
-//!   `ud=NUMBER`, `flags=NUMBER` or `buffer=HEX`;
-//! - `release REQUEST`, `begin WORKER REQUEST`, `park WORKER`, `run WORKER`, `reap RING REQUEST`;
+//! - `submit RING ENTRY WORD..`, where an entry is one of those that `cases` reads, as `nop`, `read FD LEN`, `write FD BYTES`,
+//!   `close FD` or `poll FD MASK`, or `raw HEX`, where bytes 0 at its end are left out, and a word is `ud=NUMBER`,
+//!   `flags=NUMBER` or `buffer=HEX`;
+//! - `release REQUEST`, `begin WORKER REQUEST`, `park WORKER`, `run WORKER`, which says `parked: NotReady` of a request without an
+//!   answer now, `reap RING REQUEST`;
 //! - `finish`, before which all workers put their requests back; with `turned` the submitters are handed in in the other
 //!   order, with `without submitter` or `without worker` the last of them isn't, and comes back where the end is refused.
 //!

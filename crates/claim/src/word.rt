@@ -157,8 +157,8 @@ impl ClaimWord {
     }
 }
 
-/// The word's tag, if its cause and payload are such as this tag may have. The test that most words meet comes first, since
-/// this stands on every request's path: nothing but a tag below 4 and the generation.
+/// The word's tag, if its cause and payload are such as this tag may have. The test that most words pass comes first, since
+/// this is on every request's path: nothing but a tag below 4 and the generation.
 #[inline(always)]
 fn tag_of(word: u64) -> Option<Tag>
     ensures refused { IsNone result ↔ IsTrue (is_refused word) }

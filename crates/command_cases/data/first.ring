@@ -1,3 +1,4 @@
+# One NOP, submitted and waited for.
 ring 4
 on 0
 nop a ud=7

@@ -2,6 +2,7 @@
 use commands::{Job, perform};
 use std::alloc::{AllocError, Global};
 use std::thread::Threads;
+use std::time::Clock;
 
 /// A case: `KIND TEXT ; SECOND => WANTED`. In texts a `/` stands for a line's end.
 #[derive(Drop)]
@@ -53,24 +54,25 @@ pub fn folded(alloc: Global, bytes: &mut [u8]) -> Result<String, AllocError> {
     String::from_utf8_lossy(alloc, bytes)
 }
 
-/// The job of a kind of case. A run tries each waiting line a thousand times, or without end to speak of.
-fn job_of(kind: &str) -> Job {
+/// The job of a kind of case. A run tries each waiting line a thousand times, or once, or without end to speak of.
+pub fn job_of(kind: &str) -> Job {
     match kind {
-        "outcomes" => Job::Outcomes,
+        "outcomes" => Job::Outcomes { stats: false },
+        "stats" => Job::Outcomes { stats: true },
         "history" => Job::History,
-        "stuck" => Job::Run {
-            workers: 2,
-            turns: 1000,
-        },
-        _ => Job::Run {
-            workers: 2,
-            turns: 10_000_000,
-        },
+        "stuck" => run_of(1000),
+        "once" => run_of(1),
+        _ => run_of(10_000_000),
     }
 }
 
+/// A run with two workers that tries each waiting line so often.
+fn run_of(turns: u32) -> Job {
+    Job::Run { workers: 2, turns }
+}
+
 /// The status of a job, and what it writes on standard output and then on standard error.
-pub fn written<R: Threads + Sync + AllocGlobal>(
+pub fn written<R: Threads + Sync + Clock + AllocGlobal>(
     rt: &R,
     job: &Job,
     script: &str,
@@ -87,7 +89,7 @@ pub fn written<R: Threads + Sync + AllocGlobal>(
 }
 
 /// The status that the case's command ends with, and what it writes.
-pub fn answered<R: Threads + Sync + AllocGlobal>(
+pub fn answered<R: Threads + Sync + Clock + AllocGlobal>(
     rt: &R,
     case: &Case<'_>,
 ) -> Result<String, AllocError> {
@@ -97,17 +99,58 @@ pub fn answered<R: Threads + Sync + AllocGlobal>(
     format!(in alloc; "{status} {text}")
 }
 
+/// The same, but for the number at its end: how fast the machine was.
+pub fn surveyed<R: Threads + Sync + Clock + AllocGlobal>(
+    rt: &R,
+    case: &Case<'_>,
+) -> Result<String, AllocError> {
+    let whole = answered(rt, case)?;
+    let (text, _) = whole
+        .as_str()
+        .rsplit_once(' ')
+        .unwrap_or((whole.as_str(), ""));
+    String::from_str(rt.alloc(), text)
+}
+
+/// Whether this table is among those of a list as `outcomes` writes it.
+pub fn has_table(alloc: Global, listed: &str, table: &str) -> Result<bool, AllocError> {
+    let listed = format!(in alloc; "//{listed}")?;
+    let wanted = format!(in alloc; "//{table}/")?;
+    Ok(listed.as_str().contains(wanted.as_str()))
+}
+
+/// Whether the script has this table, by what `outcomes` lists.
+fn is_listed<R: Threads + Sync + Clock + AllocGlobal>(
+    rt: &R,
+    script: &str,
+    table: &str,
+) -> Result<String, AllocError> {
+    let alloc = rt.alloc();
+    let (status, mut out) = written(rt, &job_of("outcomes"), script, "")?;
+    let listed = folded(alloc, &mut out)?;
+    let is_listed = status == 0 && has_table(alloc, listed.as_str(), table)?;
+    String::from_str(alloc, if is_listed { "yes" } else { "no" })
+}
+
 /// Whether the case's table is one of those that `outcomes` lists.
-pub fn is_among<R: Threads + Sync + AllocGlobal>(
+pub fn is_among<R: Threads + Sync + Clock + AllocGlobal>(
+    rt: &R,
+    case: &Case<'_>,
+) -> Result<String, AllocError> {
+    is_listed(rt, case.text, case.second)
+}
+
+/// Whether the table that `run` prints is one of those that `outcomes` lists. Where it prints none, the status and its text.
+pub fn prints_listed<R: Threads + Sync + Clock + AllocGlobal>(
     rt: &R,
     case: &Case<'_>,
 ) -> Result<String, AllocError> {
     let alloc = rt.alloc();
-    let (status, mut out) = written(rt, &Job::Outcomes, case.text, "")?;
-    let table = case.second;
-    let listed = folded(alloc, &mut out)?;
-    let listed = format!(in alloc; "//{listed}")?;
-    let wanted = format!(in alloc; "//{table}/")?;
-    let is_listed = status == 0 && listed.as_str().contains(wanted.as_str());
-    String::from_str(alloc, if is_listed { "yes" } else { "no" })
+    let (status, mut out) = written(rt, &job_of("run"), case.text, "")?;
+    let table = folded(alloc, &mut out)?;
+    if status == 0 {
+        is_listed(rt, case.text, table.as_str())
+    } else {
+        format!(in alloc; "{status} {table}")
+    }
 }

@@ -1,25 +1,26 @@
 //! Commands over files.
-use crate::case::folded;
-use commands::{Job, Request, serve};
+use crate::case::{folded, has_table, job_of};
+use commands::{Invocation, Job, serve};
 use std::alloc::AllocError;
 use std::io::Input;
 use std::rt::Files;
 use std::thread::Threads;
+use std::time::Clock;
 
-/// The status that a request ends with, and what it writes.
-fn served<R: Threads + Sync + Files + Input + AllocGlobal>(
+/// The status that an invocation ends with, and what it writes.
+fn served<R: Threads + Sync + Clock + Files + Input + AllocGlobal>(
     rt: &R,
-    request: &Request<'_>,
+    invocation: &Invocation<'_>,
 ) -> Result<(u8, Vec<u8>), AllocError> {
     let alloc = rt.alloc();
     let (mut out, mut err) = (Vec::new(alloc), Vec::new(alloc));
-    let status = serve(rt, rt, request, &mut out, &mut err);
+    let status = serve(rt, rt, invocation, &mut out, &mut err);
     out.append(&mut err)?;
     Ok((status, out))
 }
 
 /// The status that a search for a history of one file with the table of another ends with, and what it writes.
-pub fn history<R: Threads + Sync + Files + Input + AllocGlobal>(
+pub fn history<R: Threads + Sync + Clock + Files + Input + AllocGlobal>(
     rt: &R,
     script: &str,
     table: &str,
@@ -27,7 +28,7 @@ pub fn history<R: Threads + Sync + Files + Input + AllocGlobal>(
     let alloc = rt.alloc();
     let (status, mut out) = served(
         rt,
-        &Request {
+        &Invocation {
             job: Job::History,
             file: script,
             table: Some(table),
@@ -38,17 +39,17 @@ pub fn history<R: Threads + Sync + Files + Input + AllocGlobal>(
 }
 
 /// Whether the outcomes of an example are what stands beside it.
-pub fn is_example<R: Threads + Sync + Files + Input + AllocGlobal>(
+pub fn is_example<R: Threads + Sync + Clock + Files + Input + AllocGlobal>(
     rt: &R,
     name: &str,
 ) -> Result<String, AllocError> {
     let alloc = rt.alloc();
-    let script = format!(in alloc; "{name}.script")?;
+    let script = format!(in alloc; "{name}.ring")?;
     let wanted = format!(in alloc; "{name}.outcomes")?;
     let (status, out) = served(
         rt,
-        &Request {
-            job: Job::Outcomes,
+        &Invocation {
+            job: Job::Outcomes { stats: false },
             file: script.as_str(),
             table: None,
         },
@@ -58,4 +59,43 @@ pub fn is_example<R: Threads + Sync + Files + Input + AllocGlobal>(
         Err(_) => false,
     };
     String::from_str(alloc, if is_same { "yes" } else { "no" })
+}
+
+/// Whether the table that `run` prints of an example is one of those that stand beside it. Where it prints none, the status
+/// and its text.
+pub fn is_carried<R: Threads + Sync + Clock + Files + Input + AllocGlobal>(
+    rt: &R,
+    name: &str,
+) -> Result<String, AllocError> {
+    let alloc = rt.alloc();
+    let script = format!(in alloc; "{name}.ring")?;
+    let (status, mut out) = served(
+        rt,
+        &Invocation {
+            job: job_of("run"),
+            file: script.as_str(),
+            table: None,
+        },
+    )?;
+    let table = folded(alloc, &mut out)?;
+    if status == 0 {
+        stands_beside(rt, name, table.as_str())
+    } else {
+        format!(in alloc; "{status} {table}")
+    }
+}
+
+/// Whether the table is one of those that stand beside an example.
+fn stands_beside<R: Files + AllocGlobal>(
+    rt: &R,
+    name: &str,
+    table: &str,
+) -> Result<String, AllocError> {
+    let alloc = rt.alloc();
+    let beside = format!(in alloc; "{name}.outcomes")?;
+    let has_it = match std::fs::read(rt, beside.as_str()) {
+        Ok(mut listed) => has_table(alloc, folded(alloc, &mut listed)?.as_str(), table)?,
+        Err(_) => false,
+    };
+    String::from_str(alloc, if has_it { "yes" } else { "no" })
 }

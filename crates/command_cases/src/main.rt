@@ -5,7 +5,7 @@
 mod case;
 mod events;
 mod files;
-mod history;
+mod histories;
 mod problems;
 mod scripts;
 mod searches;
@@ -17,25 +17,31 @@ use std::io;
 use std::io::{Input, Read};
 use std::rt::Files;
 use std::thread::Threads;
+use std::time::Clock;
 
 /// What is told of a case, by its kind.
-fn told<R: Threads + Sync + Files + Input + AllocGlobal>(
+fn told<R: Threads + Sync + Clock + Files + Input + AllocGlobal>(
     rt: &R,
     case: &Case<'_>,
 ) -> Result<String, AllocError> {
     match case.kind {
         "script" => scripts::told(rt.alloc(), case.text),
         "whole" => scripts::told_of_whole(rt.alloc(), case.text),
+        "long" => scripts::told_of_long(rt.alloc(), case.text),
         "says" => scripts::said(rt.alloc(), case.text),
         "table" => scripts::told_of_table(rt.alloc(), case.text, case.second),
         "states" => searches::told(rt.alloc(), case.text, case.second),
+        "agrees" => searches::agrees(rt.alloc(), case.text, case.second),
         "example" => files::is_example(rt, case.text),
+        "carried" => files::is_carried(rt, case.text),
         "files" => files::history(rt, case.text, case.second),
         "words" => words::asked(rt, case.text),
         "help" => words::helps(rt, case.text, case.second),
         "problem" => problems::told(rt, case.text),
         "among" => case::is_among(rt, case),
-        "legal" => history::is_legal(rt, case),
+        "stats" => case::surveyed(rt, case),
+        "listed" => case::prints_listed(rt, case),
+        "legal" => histories::is_legal(rt, case),
         "events" => case::folded(rt.alloc(), &mut events::told(rt.alloc(), case.text)?),
         _ => case::answered(rt, case),
     }

@@ -2,7 +2,7 @@
 use commands::Problem;
 use driver::RunFault;
 use explore::ExploreError;
-use script::{Fault, ScriptFault};
+use script_text::{Fault, ScriptFault};
 use std::alloc::{AllocError, Global};
 use std::io;
 

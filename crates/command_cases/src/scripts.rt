@@ -1,6 +1,6 @@
 //! What is told of scripts, and of tables of scripts.
 use crate::case::unfolded;
-use script::{read_script, read_table, write_table};
+use script_text::{read_script, read_table, write_table};
 use std::alloc::{AllocError, Global};
 
 /// What is told of a script: `read`, or its fault.
@@ -25,6 +25,15 @@ pub fn told_of_whole(alloc: Global, text: &str) -> Result<String, AllocError> {
             return Ok(told);
         }
     }
+    told_of(alloc, &script)
+}
+
+/// What is told of a script whose one WRITE has a TEXT of so many bytes.
+pub fn told_of_long(alloc: Global, count: &str) -> Result<String, AllocError> {
+    let count = count.parse::<usize>().unwrap_or(0);
+    let mut script = Vec::from_slice(alloc, b"pipe 16\nring 8\non 0\nwrite w 1 ")?;
+    script.extend_from_slice(&vec![in alloc; b'x'; count]?)?;
+    script.extend_from_slice(b"\nsubmit\n")?;
     told_of(alloc, &script)
 }
 
@@ -54,7 +63,9 @@ pub fn told_of_table(alloc: Global, text: &str, table: &str) -> Result<String, A
     match read_table(alloc, &script, &table) {
         Err(fault) => format!(in alloc; "{fault}"),
         Ok(read) => {
-            let again = write_table(alloc, &script, &read)?;
+            let Ok(again) = write_table(alloc, &script, &read) else {
+                return Err(AllocError);
+            };
             let is_same = again.as_slice() == table.as_slice();
             String::from_str(alloc, if is_same { "read" } else { "written otherwise" })
         }

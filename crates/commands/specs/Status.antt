@@ -2,8 +2,8 @@
 use Rattle.std.specs.Prelude.{ℕ}
 use Rattle.commands.specs.declared.problem.Problem.{Problem}
 use Rattle.commands.specs.declared.problem.Problem.TheVariants.{Stuck, Line, Unserved, Workers, TooManyStates, Memory as OutOfMemory, Shared as BoardLeft}
-use Rattle.script.specs.declared.fault.ScriptFault.{ScriptFault}
-use Rattle.script.specs.declared.fault.ScriptFault.TheVariants.{Memory as NoMemory, Line as FaultyLine}
+use Rattle.script_text.specs.declared.fault.ScriptFault.{ScriptFault}
+use Rattle.script_text.specs.declared.fault.ScriptFault.TheVariants.{Memory as NoMemory, Line as FaultyLine}
 use Rattle.explore.specs.declared.error.ExploreError.{ExploreError}
 use Rattle.explore.specs.declared.error.ExploreError.TheVariants.{TooMany, Memory as SearchMemory}
 use Rattle.driver.specs.declared.fault.RunFault.{RunFault}

@@ -1,5 +1,6 @@
 //! The command line, as clap reads it.
 use clap::{Arg, ArgAction, Command, value_parser};
+use limits::WORKERS;
 use std::alloc::{AllocError, Global};
 
 /// The program's commands.
@@ -27,7 +28,7 @@ fn run<'a>(alloc: Global) -> Result<Command<'a>, AllocError> {
              requests, whatever the number of workers.",
         )
         .after_help(
-            "Example:\n  printf 'ring 4\\non 0\\nnop a\\nsubmit\\nwait a\\n' | ringrun run -\nprints\n  a 0\n\nStatus 0: the table was printed. 1: one line 'fault: ..' says why not. 2: the script has a fault, told as\n'line N: ..'. 3: a line ran out of turns, told as 'stuck L' with the label that it waits for.",
+            "Example:\n  printf 'ring 4\\non 0\\nnop a\\nsubmit\\nwait a\\n' | ringrun run -\nprints\n  a 0\n\nStatus 0: the table was printed. 1: one line 'fault: ..' says why not. 2: the script has a fault, printed as\n'line N: ..'. 3: a line ran out of turns, printed as 'stuck L' with the label that it waits for.",
         )
         .arg(workers(alloc))?
         .arg(turns(alloc))?
@@ -41,6 +42,7 @@ fn outcomes<'a>(alloc: Global) -> Result<Command<'a>, AllocError> {
         .after_help(
             "Example:\n  printf 'ring 4\\non 0\\nnop a\\nsubmit\\nwait a\\n' | ringrun outcomes -\nprints\n  a 0\n\n  tables 1",
         )
+        .arg(stats(alloc))?
         .arg(file(alloc))
 }
 
@@ -66,7 +68,7 @@ fn workers<'a>(alloc: Global) -> Arg<'a> {
     Arg::new(alloc, "workers")
         .long("workers")
         .value_name("N")
-        .value_parser(value_parser!(u32).range(1..=64))
+        .value_parser(value_parser!(u32).range(1..=i64::from(WORKERS)))
         .default_value("2")
         .help("How many workers the board has, 1 to 64; for now one of them answers all requests")
 }
@@ -78,6 +80,13 @@ fn turns<'a>(alloc: Global) -> Arg<'a> {
         .value_parser(value_parser!(u32).range(1..))
         .default_value("10000000")
         .help("How often a line that waits is tried, 1 to 4294967295")
+}
+
+fn stats<'a>(alloc: Global) -> Arg<'a> {
+    Arg::new(alloc, "stats")
+        .long("stats")
+        .action(ArgAction::SetTrue)
+        .help("Prints the number of states met, and the states a second, to standard error")
 }
 
 fn file<'a>(alloc: Global) -> Arg<'a> {

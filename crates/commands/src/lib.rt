@@ -9,5 +9,5 @@ mod problem;
 
 pub use answer::perform;
 pub use files::serve;
-pub use job::{Job, Request, request_of};
+pub use job::{Invocation, Job, invocation_of};
 pub use problem::Problem;

@@ -5,7 +5,7 @@ ghost use Rattle.commands.specs.Status.{of_script, of_search, of_run};
 
 use driver::RunFault;
 use explore::ExploreError;
-use script::ScriptFault;
+use script_text::{Memory, ScriptFault};
 use std::alloc::{AllocError, AllocFailed};
 use std::{fmt, io};
 
@@ -104,6 +104,14 @@ impl From<RunFault> for Problem {
             RunFault::Workers => Problem::Workers,
             RunFault::Shared => Problem::Shared,
         }
+    }
+}
+
+impl From<Memory> for Problem {
+    ghost from_gives = { λ _ p. p ≡ OutOfMemory };
+
+    fn from(_e: Memory) -> Problem {
+        Problem::Memory
     }
 }
 

@@ -1,5 +1,5 @@
 -- Passes that are a board's own, one by one and as a list.
-use Rattle.std.proofs.Common.{ℕ, zero, suc, List, [], ◌∷◌, ◌++◌, All, ◌<◌, ◌≡◌, length, map, arith, sym, subst}
+use Rattle.std.proofs.Common.{ℕ, zero, suc, List, [], ◌∷◌, ◌++◌, All, ◌≡◌, map, arith, sym, subst}
 use Rattle.std.proofs.lemmas.List.Elements.{All-append}
 use Rattle.work.specs.Board.{Facts, IsOf}
 use Rattle.work.specs.Passes.{Pass}

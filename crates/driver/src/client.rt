@@ -5,7 +5,7 @@ ghost use Rattle.work.specs.Board.{IsOf};
 use crate::lines::Halt;
 use board::{Board, Completion, SubmitError, Submitter};
 use entry::Sqe;
-use model::Req;
+use history::Req;
 use std::alloc::{AllocError, Global};
 use std::collections::VecDeque;
 

@@ -4,7 +4,7 @@ ghost use Rattle.work.specs.Board.{IsOf};
 use crate::lines::Halt;
 use crate::stage::{Stage, is_replied};
 use board::Poller;
-use script_rules::Act;
+use script::Act;
 
 /// How far the clock has come with its lines: which one is next, how often it was tried, and why it stopped, if it did.
 #[derive(Clone, Copy)]

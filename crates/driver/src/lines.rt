@@ -3,7 +3,7 @@ ghost use Rattle.work.specs.Board.{IsOf};
 
 use crate::client::{Client, Tried};
 use crate::stage::{Stage, is_replied};
-use script_rules::{Act, Named};
+use script::{Act, Named};
 use std::alloc::{AllocError, AllocFailed};
 use std::thread;
 

@@ -3,9 +3,9 @@ ghost use Rattle.std.specs.Prelude.{◌≡◌, length, IfOk};
 
 use crate::fault::RunFault;
 use board::Completion;
-use entry::Op;
-use model::Req;
-use script_rules::{Named, Script, Table};
+use entry::{Op, by_opcode};
+use history::Req;
+use script::{Named, Script, Table};
 use std::alloc::{AllocError, Global};
 
 /// The table: for each entry its reply, and behind a READ the bytes that it got.
@@ -83,10 +83,17 @@ fn row_of(
     Ok(Some((res, Vec::from_slice(alloc, data)?)))
 }
 
-/// How many bytes of data belong behind the reply: as many as it says behind a READ, and none behind another entry.
+macro_rules! data_work {
+    ((pipe read $fd:ident $len:ident) ($res:ident)) => { usize::try_from($res).unwrap_or(0) };
+    ((pipe write $fd:ident $len:ident) ($res:ident)) => { 0 };
+    ((pipe close $fd:ident) ($res:ident)) => { 0 };
+    ((pipe poll $fd:ident $mask:ident) ($res:ident)) => { 0 };
+    ((plain $kind:ident) ($res:ident)) => { 0 };
+    ((timer $kind:ident $ticks:ident) ($res:ident)) => { 0 };
+    ((cancel $kind:ident $target:ident) ($res:ident)) => { 0 };
+}
+
+/// How many bytes of data belong to the reply: as many as it says of a READ, and none of another entry.
 fn data_count(op: Op, res: i32) -> usize {
-    match op {
-        Op::Read { .. } => usize::try_from(res).unwrap_or(0),
-        _ => 0,
-    }
+    by_opcode!(op => data_work!(res))
 }

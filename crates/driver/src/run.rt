@@ -15,8 +15,8 @@ use crate::served::{first_unserved, label_at};
 use crate::stage::Stage;
 use crate::threads::run_all;
 use board::{Board, Completion, FinishError, Poller, Report, RingShape, Shape, Submitter, Worker};
-use model::Req;
-use script_rules::{Script, Table, homes_of};
+use history::Req;
+use script::{Script, Table, homes_of};
 use std::alloc::{AllocError, Global};
 use std::thread::Threads;
 

@@ -1,6 +1,6 @@
 //! Which lines of a script the board can serve.
-use entry::{Op, Sqe};
-use script_rules::{Act, Script};
+use board::is_served;
+use script::{Act, Script};
 
 /// The label of the first entry of the first line, ring by ring and then of the clock, that the board can't serve yet;
 /// `tick` for a line that sets the clock.
@@ -61,12 +61,4 @@ fn is_batch_served(script: &Script, places: &[u32]) -> bool {
         was_linked = entry.sqe.links_soft() || entry.sqe.links_hard();
     }
     true
-}
-
-/// Whether the board serves such an entry.
-fn is_served(sqe: &Sqe) -> bool {
-    match sqe.op() {
-        Op::Nop | Op::Invalid => !sqe.drains(),
-        _ => false,
-    }
 }

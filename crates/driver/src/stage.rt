@@ -3,8 +3,8 @@ ghost use Rattle.work.specs.Board.{IsOf};
 
 use crate::gate::Gate;
 use board::{Board, Pass, Phase};
-use model::Req;
-use script_rules::Script;
+use history::Req;
+use script::Script;
 
 /// What all threads of a run share: the board, the script, the request of each entry, how often a line is tried, and the
 /// gate.

@@ -1,8 +1,8 @@
 //! The requests of a ring that the poller's thread looks after.
 ghost use Rattle.work.specs.Board.{IsOf};
 
-use board::{Board, Phase, Poller, Released, Worker};
-use model::Req;
+use board::{Board, Phase, Poller, Ran, Released, Worker};
+use history::Req;
 
 /// The requests of a ring from `low` on: all before it have replied. Those before `tail` were submitted.
 #[derive(Clone, Copy)]
@@ -98,13 +98,16 @@ impl Window {
     }
 }
 
-/// Answers the request, where it is ready.
+/// Answers the request, where it is ready. False also where the worker put it back: it is tried again on a later turn.
 fn answer(board: &Board, worker: Worker, req: Req) -> (Worker, bool)
     requires { IsOf board.now worker }
     ensures { IsOf board.now result.0 }
 {
     match board.begin(worker, req) {
-        Ok(busy) => (busy.run().0, true),
+        Ok(busy) => {
+            let (worker, ran) = busy.run();
+            (worker, matches!(ran, Ran::Replied { .. }))
+        }
         Err(worker) => (worker, false),
     }
 }

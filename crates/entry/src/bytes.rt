@@ -23,7 +23,7 @@ fn row_at(bytes: &[u8; 64]) -> Row
     }
 }
 
-/// Whether all fields are zero that no row has: ioprio, buf_index with personality and splice_fd_in, and the last 16 bytes.
+/// Whether all fields that no row uses are zero: ioprio, buf_index with personality and splice_fd_in, and the last 16 bytes.
 fn is_plain(bytes: &[u8; 64]) -> bool
     ensures { result ≡ is_plain bytes.now }
 {
@@ -50,7 +50,7 @@ fn layout(row: &Row, flags: u8, user_data: u64) -> [u8; 64]
 }
 
 impl Sqe {
-    /// The entry that the bytes say: Invalid, with their user_data and link bits, where they fit no row.
+    /// The entry that the bytes stand for: Invalid, with their user_data and link bits, where they fit no row.
     pub fn of_bytes(bytes: &[u8; 64]) -> Sqe
         ensures says { Says bytes.now result }
         ensures fits { IsTrue (fits result) }

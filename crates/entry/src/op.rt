@@ -12,15 +12,15 @@ pub enum Offset {
 /// The operation of an entry, with the fields that its row of the table of opcodes leaves free.
 #[derive(Clone, Copy, PartialEq, Eq, Debug)]
 pub enum Op {
-    /// Does nothing, and answers 0.
+    /// Does nothing, and replies 0.
     Nop,
     /// Waits until an end of a pipe is ready for one of the events of `mask` (bits 1, 4, 8 and 16 of poll(2)).
     PollAdd { fd: i32, mask: u32 },
-    /// Answers -62 once `ticks` have passed since it was armed. With `etime_success` that is no failure.
+    /// Replies -62 (ETIME) once `ticks` have passed since it was armed. With `etime_success` that is no failure.
     Timeout { ticks: u32, etime_success: bool },
-    /// Takes the timer whose user_data is `user_data` back.
+    /// Cancels the TIMEOUT whose user_data is `user_data`.
     TimeoutRemove { user_data: u64 },
-    /// Cancels the request whose user_data is `user_data`.
+    /// Cancels the request whose user_data is `user_data`, unless that is a LINK_TIMEOUT.
     AsyncCancel { user_data: u64 },
     /// Cancels the entry before it in its chain once `ticks` have passed since it was armed.
     LinkTimeout { ticks: u32 },
@@ -30,6 +30,6 @@ pub enum Op {
     Read { fd: i32, offset: Offset, len: u32 },
     /// Writes `len` bytes to the write end of a pipe.
     Write { fd: i32, offset: Offset, len: u32 },
-    /// An entry that is none of the profile's, which answers -22.
+    /// An entry that is none of the profile's. It replies -22 (EINVAL).
     Invalid,
 }

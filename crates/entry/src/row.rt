@@ -1,11 +1,11 @@
-//! The fields of an entry's bytes that the table of opcodes speaks of, for each operation and back.
+//! The columns of the table of opcodes: of each operation, and back.
 ghost use Rattle.std.specs.Prelude.{◌≡◌, ◌↔◌, IsTrue, ◌&&◌, ◌==◌, bit_and};
-ghost use Rattle.entry.specs.Table.{allowed_flags, fits_op, place, row as table_row};
+ghost use Rattle.entry.specs.Table.{allowed_flags, fits_op, is_valid, place, row as table_row};
 
 use crate::op::{Offset, Op};
 use crate::{by_flag, by_opcode};
 
-/// The columns of the table of opcodes: the fields that tell the operations apart. All are as struct io_uring_sqe has
+/// The columns of the table of opcodes: the fields by which operations differ. All are as struct io_uring_sqe has
 /// them, `word` being the opcode's own flags.
 #[derive(Clone, Copy, PartialEq, Eq, Debug)]
 pub struct Row {
@@ -166,8 +166,11 @@ impl Op {
 
 impl Row {
     /// The operation of this opcode with the values that stand in its free places: the only one whose row this may be.
+    /// Invalid where no row of the table has this opcode.
     pub fn candidate(&self) -> Op
-        ensures { (op : Op) → IsTrue (fits_op op) → table_row op ≡ self.now → result ≡ op }
+        ensures only { (op : Op) → IsTrue (fits_op op) → table_row op ≡ self.now → result ≡ op }
+        ensures opcode { IsTrue (is_valid result) → (table_row result).opcode ≡ self.now.opcode }
+        ensures none { result ≡ Op.Invalid → (op : Op) → IsTrue (is_valid op) → (table_row op).opcode ≡ self.now.opcode → ⊥ }
     {
         by_opcode!(op_at!(self))
     }

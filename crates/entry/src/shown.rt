@@ -37,7 +37,7 @@ impl fmt::Display for Op {
     }
 }
 
-/// The words of the flags that are set, each behind a space.
+/// The words of the flags that are set, each with a space before it.
 #[derive(Clone, Copy)]
 struct Words(SqeFlags);
 

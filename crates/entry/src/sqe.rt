@@ -62,7 +62,7 @@ pub fn fails(sqe: &Sqe, res: i32) -> bool
 }
 
 impl Sqe {
-    /// The word that the completion gives back.
+    /// The number that the completion carries back.
     pub fn user_data(&self) -> u64
         ensures { result ≡ self.now.user_data }
     {

@@ -5,45 +5,55 @@
 ///
 /// `"text" Variant { fields } = opcode: [fd] [off] [addr] [len] [flags word] [flags] [fails];`
 ///
-/// where the text is a format of the fields, and a column tells what stands there: one value, or a word for the kind of value and the field of `Op` that has it.
+/// where the text is a format of the fields, and a column says what stands there: one value, or a word for the kind of value
+/// and the field of `Op` that has it.
+///
+/// After each row stands the work that the entry asks for, as `(class kind field ..)`: `plain` needs no pipe, `pipe` is done at
+/// an end of a pipe, a `timer` is armed, a `cancel` looks for another request. `by_opcode!(op => body!(args))` is a match of an
+/// operation by it: the arm of a row is `body!((work) (args))`, that of an Invalid entry `body!((plain invalid) (args))`. The body
+/// has a rule for each class or kind, so that a new one doesn't compile before each body says what it makes of it.
 #[macro_export]
 macro_rules! by_opcode {
     ($body:ident!($($args:tt)*)) => {
-        $crate::by_opcode!(@all [Nop PollAdd Timeout TimeoutRemove AsyncCancel LinkTimeout Close Read Write] [] $body ($($args)*))
+        $crate::by_opcode!(@over all [] $body ($($args)*))
     };
     ($variant:ident: $body:ident!($($args:tt)*)) => {
         $crate::by_opcode!(@row $variant [@all [] [] $body ($($args)*)])
     };
 
     (@row Nop [$($then:tt)*]) => {
-        $crate::by_opcode!($($then)* { "NOP" Nop {} = 0: [none] [zero] [zero] [zero] [zero] [drain] [negative] })
+        $crate::by_opcode!($($then)* { "NOP" Nop {} = 0: [none] [zero] [zero] [zero] [zero] [drain] [negative] } (plain nothing))
     };
     (@row PollAdd [$($then:tt)*]) => {
-        $crate::by_opcode!($($then)* { "POLL_ADD fd {fd} mask {mask}" PollAdd { fd, mask } = 6: [any fd] [zero] [zero] [zero] [mask mask] [drain] [negative] })
+        $crate::by_opcode!($($then)* { "POLL_ADD fd {fd} mask {mask}" PollAdd { fd, mask } = 6: [any fd] [zero] [zero] [zero] [mask mask] [drain] [negative] } (pipe poll fd mask))
     };
     (@row Timeout [$($then:tt)*]) => {
-        $crate::by_opcode!($($then)* { "TIMEOUT ticks {ticks} etime-ok {etime_success}" Timeout { ticks, etime_success } = 11: [none] [zero] [ticks ticks] [one] [etime etime_success] [drain] [unless_etime etime_success] })
+        $crate::by_opcode!($($then)* { "TIMEOUT ticks {ticks} etime-ok {etime_success}" Timeout { ticks, etime_success } = 11: [none] [zero] [ticks ticks] [one] [etime etime_success] [drain] [unless_etime etime_success] } (timer alone ticks))
     };
     (@row TimeoutRemove [$($then:tt)*]) => {
-        $crate::by_opcode!($($then)* { "TIMEOUT_REMOVE target {user_data}" TimeoutRemove { user_data } = 12: [none] [zero] [target user_data] [zero] [zero] [drain] [negative] })
+        $crate::by_opcode!($($then)* { "TIMEOUT_REMOVE target {user_data}" TimeoutRemove { user_data } = 12: [none] [zero] [target user_data] [zero] [zero] [drain] [negative] } (cancel timer user_data))
     };
     (@row AsyncCancel [$($then:tt)*]) => {
-        $crate::by_opcode!($($then)* { "ASYNC_CANCEL target {user_data}" AsyncCancel { user_data } = 14: [none] [zero] [target user_data] [zero] [zero] [drain] [negative] })
+        $crate::by_opcode!($($then)* { "ASYNC_CANCEL target {user_data}" AsyncCancel { user_data } = 14: [none] [zero] [target user_data] [zero] [zero] [drain] [negative] } (cancel any user_data))
     };
     (@row LinkTimeout [$($then:tt)*]) => {
-        $crate::by_opcode!($($then)* { "LINK_TIMEOUT ticks {ticks}" LinkTimeout { ticks } = 15: [none] [zero] [ticks ticks] [one] [zero] [no_drain] [never] })
+        $crate::by_opcode!($($then)* { "LINK_TIMEOUT ticks {ticks}" LinkTimeout { ticks } = 15: [none] [zero] [ticks ticks] [one] [zero] [no_drain] [never] } (timer linked ticks))
     };
     (@row Close [$($then:tt)*]) => {
-        $crate::by_opcode!($($then)* { "CLOSE fd {fd}" Close { fd } = 19: [any fd] [zero] [zero] [zero] [zero] [drain] [negative] })
+        $crate::by_opcode!($($then)* { "CLOSE fd {fd}" Close { fd } = 19: [any fd] [zero] [zero] [zero] [zero] [drain] [negative] } (pipe close fd))
     };
     (@row Read [$($then:tt)*]) => {
-        $crate::by_opcode!($($then)* { "READ fd {fd}{offset} len {len}" Read { fd, offset, len } = 22: [any fd] [place offset] [zero] [count len] [zero] [drain] [short len] })
+        $crate::by_opcode!($($then)* { "READ fd {fd}{offset} len {len}" Read { fd, offset, len } = 22: [any fd] [place offset] [zero] [count len] [zero] [drain] [short len] } (pipe read fd len))
     };
     (@row Write [$($then:tt)*]) => {
-        $crate::by_opcode!($($then)* { "WRITE fd {fd}{offset} len {len}" Write { fd, offset, len } = 23: [any fd] [place offset] [zero] [count len] [zero] [drain] [short len] })
+        $crate::by_opcode!($($then)* { "WRITE fd {fd}{offset} len {len}" Write { fd, offset, len } = 23: [any fd] [place offset] [zero] [count len] [zero] [drain] [short len] } (pipe write fd len))
     };
 
-    (@all [$($rest:ident)*] [$($rows:tt)*] $body:ident ($($args:tt)*) { $($row:tt)* }) => {
+    (@over $walk:tt $($then:tt)*) => {
+        $crate::by_opcode!(@$walk [Nop PollAdd Timeout TimeoutRemove AsyncCancel LinkTimeout Close Read Write] $($then)*)
+    };
+
+    (@all [$($rest:ident)*] [$($rows:tt)*] $body:ident ($($args:tt)*) { $($row:tt)* } $work:tt) => {
         $crate::by_opcode!(@all [$($rest)*] [$($rows)* $($row)*;] $body ($($args)*))
     };
     (@all [$next:ident $($rest:ident)*] [$($rows:tt)*] $body:ident ($($args:tt)*)) => {
@@ -51,6 +61,23 @@ macro_rules! by_opcode {
     };
     (@all [] [$($rows:tt)*] $body:ident ($($args:tt)*)) => {
         $body! { ($($args)*) $($rows)* }
+    };
+
+    (@match [$($rest:ident)*] [$($arms:tt)*] $op:tt $body:ident $args:tt { $text:literal $name:ident $fields:tt = $($columns:tt)* } $work:tt) => {
+        $crate::by_opcode!(@match [$($rest)*] [$($arms)* [$name $fields $work]] $op $body $args)
+    };
+    (@match [$next:ident $($rest:ident)*] [$($arms:tt)*] $op:tt $body:ident $args:tt) => {
+        $crate::by_opcode!(@row $next [@match [$($rest)*] [$($arms)*] $op $body $args])
+    };
+    (@match [] [$([$name:ident { $($field:ident),* } $work:tt])*] ($op:expr) $body:ident $args:tt) => {
+        match $op {
+            $($crate::Op::$name { $($field),* } => $body!($work $args),)*
+            $crate::Op::Invalid => $body!((plain invalid) $args),
+        }
+    };
+
+    ($op:expr => $body:ident!$args:tt) => {
+        $crate::by_opcode!(@over match [] ($op) $body $args)
     };
 }
 

@@ -1,10 +1,29 @@
-//! The definitions of the one-thread ring, and what holds of every legal history.
+//! The one-thread ring, which carries events out and accepts exactly the legal histories.
 #![tactic(auto)]
 
-pub mod bytes;
-pub mod event;
-pub mod req;
+mod answer;
+mod answering;
+mod asked;
+mod cancel;
+mod chain;
+mod copy;
+pub mod error;
+mod kind;
+mod moves;
+pub mod object;
+mod past;
+mod pipe;
+mod reads;
+mod reply;
+mod request;
+mod ring;
+mod shared;
+mod state;
+mod steps;
+mod timing;
+mod whole;
+mod worded;
 
-pub use bytes::Bytes;
-pub use event::Event;
-pub use req::Req;
+pub use error::{Memory, Refused};
+pub use history::{Bytes, Event, Req};
+pub use object::Object;

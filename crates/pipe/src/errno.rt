@@ -1,7 +1,7 @@
 //! The numbers of errors (errno(3)).
 
-/// The end is closed.
+/// The end is closed (EBADF).
 pub const EBADF: i32 = 9;
 
-/// Nobody can read what is written.
+/// Nobody can read what is written (EPIPE).
 pub const EPIPE: i32 = 32;

@@ -9,11 +9,9 @@ use crate::error::PipeError;
 use crate::poll::{ALWAYS, POLLERR, POLLHUP, POLLIN, POLLOUT};
 use crate::ready::Ready;
 use circular_buffer::HeapCircularBuffer;
+use limits::CAPACITY;
 use std::alloc::Global;
 use std::marker::Model;
-
-/// The largest capacity of a pipe, in bytes.
-pub const MAX_CAPACITY: u32 = 65536;
 
 /// A pipe of a fixed capacity. Contracts see its bytes and its ends as a `Conduit`.
 #[derive(Drop)]
@@ -42,7 +40,7 @@ impl Pipe {
         ensures empty { IfOk result (λ pipe. pipe ≡ new_conduit cap) }
         ensures limits { IfOk result (λ pipe. IsConduit pipe) }
     {
-        if cap == 0 || cap > MAX_CAPACITY {
+        if cap == 0 || cap > CAPACITY {
             return Err(PipeError::BadCapacity);
         }
         let bytes = HeapCircularBuffer::with_capacity(alloc, cap as usize)?;
@@ -76,7 +74,7 @@ impl Pipe {
         }
     }
 
-    /// Puts bytes in behind those that are there (write(2)). At most the capacity goes in whole or not at all, more
+    /// Puts bytes in after those that are there (write(2)). At most the capacity goes in whole or not at all, more
     /// than that as far as there is room.
     pub fn write_from(&mut self, bytes: &[u8]) -> Ready<usize>
         ensures answer { result ≡ answer_write self.old (length bytes.now) }

@@ -1,5 +1,5 @@
 //! Builders of entries, with the names and the order of arguments of liburing's io_uring_prep_* functions. Each gives
-//! the entry that its row of the table of opcodes reads with these values: Invalid where the row doesn't allow them.
+//! the entry that its row of the table of opcodes stands for with these values: Invalid where the row doesn't allow them.
 #![tactic(auto)]
 
 ghost use Rattle.std.specs.Prelude.{◌≡◌, pos, negsuc};
@@ -31,7 +31,7 @@ macro_rules! given {
     ($value:expr, $kind:ident $field:ident) => { $value };
 }
 
-/// The entry that a row reads, without flags and user_data.
+/// The entry that a row stands for, without flags and user_data.
 fn entry_of(row: Row) -> Sqe
     ensures { IsOfRow row result }
 {
@@ -99,14 +99,14 @@ pub fn cancel(user_data: u64) -> Sqe
     entry_of(by_opcode!(AsyncCancel: filled!(-1, 0, user_data, 0, 0)))
 }
 
-/// io_uring_prep_timeout_remove(3): takes back the timer with this user_data.
+/// io_uring_prep_timeout_remove(3): cancels the TIMEOUT with this user_data.
 pub fn timeout_remove(user_data: u64) -> Sqe
     ensures { result ≡ plain (Op.TimeoutRemove user_data) }
 {
     entry_of(by_opcode!(TimeoutRemove: filled!(-1, 0, user_data, 0, 0)))
 }
 
-/// The entry that its bytes say with this flags byte: io_uring_sqe_set_flags(3).
+/// The entry that its bytes stand for with this flags byte: io_uring_sqe_set_flags(3).
 pub fn with_flags(sqe: Sqe, flags: u8) -> Sqe
     ensures says { Says (layout (table_row sqe.op) flags sqe.user_data) result }
     ensures entry { result ≡ flagged sqe flags }

@@ -1,24 +1,25 @@
-//! The program: scripts of submissions, carried out.
+//! The program: reads the command line, carries it out, and ends with the status.
 #![tactic(auto)]
 
 use clap::error::ErrorKind;
-use commands::{request_of, serve};
+use commands::{invocation_of, serve};
 use std::io;
 use std::process::ExitCode;
 use std::thread::Threads;
+use std::time::Clock;
 
 /// Reads the command line and carries it out. The answer is the program's status.
-fn run<T: Threads + Sync>(threads: &T, rt: &HostRuntime) -> io::Result<u8> {
+fn run<T: Threads + Sync + Clock>(threads: &T, rt: &HostRuntime) -> io::Result<u8> {
     let alloc = rt.alloc();
     let words: Vec<String> = std::env::args(rt)?.collect(alloc)?;
     let mut texts = Vec::new(alloc);
     for word in &words {
         texts.push(word.as_str())?;
     }
-    match request_of(alloc, &texts) {
-        Ok(request) => {
+    match invocation_of(alloc, &texts) {
+        Ok(invocation) => {
             let (mut out, mut err) = (rt.stdout(), rt.stderr());
-            Ok(serve(threads, rt, &request, &mut out, &mut err))
+            Ok(serve(threads, rt, &invocation, &mut out, &mut err))
         }
         Err(error) => {
             error.print(rt)?;

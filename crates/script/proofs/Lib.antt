@@ -1,3 +1,3 @@
-pub mod Tables
-pub mod PlainLines
-pub mod Histories
+mod LongerLists
+pub mod Items
+pub mod Kept

@@ -1,3 +1,3 @@
-pub mod TableText
-pub mod Kept
-pub mod HistoryText
+pub mod Homes
+pub mod Rules
+pub mod Steps

@@ -1,21 +1,19 @@
-//! The texts of the program: tables written and read, histories written, and scripts read.
+//! What a script is: its entries, the lines of its actors, and the rules that it keeps; and tables.
 #![tactic(auto)]
 
-mod actor;
-pub mod fault;
-mod faults;
-pub mod history;
-mod keyword;
-mod options;
-mod outline;
-mod parts;
-mod raw;
-mod reading;
-mod request;
+pub mod act;
+pub mod homes;
+pub mod label;
+pub mod named;
+mod rules;
+pub mod script;
+pub mod step;
 pub mod table;
-mod words;
 
-pub use fault::{Fault, ScriptFault};
-pub use history::write_history;
-pub use reading::read_script;
-pub use table::{read_table, write_table};
+pub use act::Act;
+pub use homes::homes_of;
+pub use label::is_label;
+pub use named::Named;
+pub use script::Script;
+pub use step::{Step, step_at};
+pub use table::Table;

@@ -1,25 +1,25 @@
 -- A line about one request leaves all other cells and pipes as they were.
 use Rattle.std.specs.Prelude.{◌==◌}
 use Rattle.std.proofs.Common.{◌≡◌, ◌≢◌, ℕ, ◌<◌, Bool, true, false, cond, List, [], ◌∷◌, ◌++◌, Option, Some, None, sym, refl, ap, ◌∙◌, subst, ⊎_elim, arith, true≢false}
-use Rattle.model.specs.declared.req.Req.{Req}
-use Rattle.model.specs.declared.event.Event.{Event}
-use Rattle.model.specs.History.{Phase, unborn, waits, runs, armed, replied, same, answers, data_in, data_of, phase, submission, submits}
-use Rattle.model.specs.Chains.{is_timer, IsPlaced, Open}
-use Rattle.model.specs.Pipes.{flow}
-use Rattle.model.specs.Legal.{Setup, Legal, IsOf}
-use Rattle.model.proofs.Requests.{bool_cases}
+use Rattle.history.specs.declared.req.Req.{Req}
+use Rattle.history.specs.declared.event.Event.{Event}
+use Rattle.history.specs.History.{Phase, unborn, waits, runs, armed, replied, same, answers, data_in, data_of, phase, submission, submits}
+use Rattle.history.specs.Chains.{is_timer, IsPlaced, Open}
+use Rattle.history.specs.Pipes.{flow}
+use Rattle.history.specs.Legal.{Setup, Legal, IsOf}
+use Rattle.history.proofs.Requests.{bool_cases}
 use Rattle.claim.specs.declared.tag.Tag.TheVariants.{Empty, Held, Ready, Running, Armed, Done}
 use Rattle.claim.specs.declared.tag.Tag.{Tag}
 use Rattle.steps.specs.declared.line.Line.{Line}
 use Rattle.steps.specs.declared.line.Line.TheVariants.{Did, Hold, Free}
 use Rattle.steps.specs.declared.view.Role.{Role}
 use Rattle.steps.specs.Journal.{events_of, holder}
-use Rattle.steps.specs.Cells.{held, Home, IsParcel, Keeps, Ages, MayBegin, Says, CellOk, PipeIs, PipeSays, PipeOk}
+use Rattle.steps.specs.Cells.{request_at, Home, IsParcel, Keeps, Ages, MayBegin, Says, CellOk, PipeIs, PipeSays, PipeOk}
 use Rattle.steps.specs.Rule.{workers, stands_for, NoneOf}
-use Rattle.steps.proofs.Growing.{about, phase_stays, data_stays, freed_stays, lent_stays, counted_in, lasts_by, lasts, submission_lasts, placed_lasts, open_lasts, kind_lasts}
+use Rattle.steps.proofs.JournalGrowth.{about, phase_stays, data_stays, freed_stays, lent_stays, counted_in, lasts_by, lasts, submission_lasts, placed_lasts, open_lasts, kind_lasts}
 
 abbrev pub Quiet : List ℕ → Line → ℕ → Type 0
-Quiet K l y = (n : ℕ) → about l (held K y n) ≡ false
+Quiet K l y = (n : ℕ) → about l (request_at K y n) ≡ false
 
 module _ (s : Setup) (l : Line) (j : List Line) (legal : Legal s (events_of (l ∷ j))) where
   parcel_stays : (r : Req) (data' : List ℕ) (p : _) → r.k < submits (events_of j) r.ring → IsParcel j r data' p → IsParcel (l ∷ j) r data' p
@@ -32,7 +32,7 @@ module _ (s : Setup) (l : Line) (j : List Line) (legal : Legal s (events_of (l �
   may_stays r c m = (lasts_by s (λ h. Open h r) r (open_lasts s r) l j legal c m.0, lasts_by s (λ h. IsOf h r is_timer false) r (kind_lasts s r is_timer false) l j legal c m.1)
 
   before : Legal s (events_of j)
-  before = Rattle.steps.proofs.Growing.legal_tail s l j legal
+  before = Rattle.steps.proofs.JournalGrowth.legal_tail s l j legal
 
   born : (r : Req) (p : Phase) → phase (events_of j) r ≡ p → p ≢ unborn → r.k < submits (events_of j) r.ring
   born r p is n = counted_in s j r p before is n
@@ -54,12 +54,12 @@ module _ (s : Setup) (l : Line) (j : List Line) (legal : Legal s (events_of (l �
     λ o. subst (Keeps (l ∷ j) r home) (sym (data_stays l j r a)) (keeps_stays r home _ c (x.7 (sym (lent_stays l j r a) ∙ o))),
   )
 
-  pub ages_stay : (K : List ℕ) (x g : ℕ) → ((n : ℕ) → ¬ (n ≡ g) → about l (held K x n) ≡ false) → Ages K j x g → Ages K (l ∷ j) x g
+  pub ages_stay : (K : List ℕ) (x g : ℕ) → ((n : ℕ) → ¬ (n ≡ g) → about l (request_at K x n) ≡ false) → Ages K j x g → Ages K (l ∷ j) x g
   ages_stay K x g quiet a = record {
-    before = λ n lt. (let b = a.before n lt in (b.0, b.1, phase_stays l j (held K x n) (quiet n (omega arith)) ∙ b.2));
-    after = λ n lt. phase_stays l j (held K x n) (quiet n (omega arith)) ∙ a.after n lt;
-    unfreed = λ n lt. freed_stays l j (held K x n) (quiet n (omega arith)) ∙ a.unfreed n lt;
-    unlent = λ n lt. lent_stays l j (held K x n) (quiet n (omega arith)) ∙ a.unlent n lt;
+    before = λ n lt. (let b = a.before n lt in (b.0, b.1, phase_stays l j (request_at K x n) (quiet n (omega arith)) ∙ b.2));
+    after = λ n lt. phase_stays l j (request_at K x n) (quiet n (omega arith)) ∙ a.after n lt;
+    unfreed = λ n lt. freed_stays l j (request_at K x n) (quiet n (omega arith)) ∙ a.unfreed n lt;
+    unlent = λ n lt. lent_stays l j (request_at K x n) (quiet n (omega arith)) ∙ a.unlent n lt;
   }
 
   pub cell_stays : (K : List ℕ) (y word : ℕ) (home : Home) → Quiet K l y → CellOk K j y word home → CellOk K (l ∷ j) y word home
@@ -70,7 +70,7 @@ module _ (s : Setup) (l : Line) (j : List Line) (legal : Legal s (events_of (l �
     payload = c.payload;
     fits = c.fits;
     word_is = c.word_is;
-    says = says_stays (held K y c.gen) home c.cause c.payload (q c.gen) c.tag c.says;
+    says = says_stays (request_at K y c.gen) home c.cause c.payload (q c.gen) c.tag c.says;
     ages = ages_stay K y c.gen (λ n _. q n) c.ages;
   }
 

@@ -1,13 +1,13 @@
 -- Whose lines are whose: two roles that are apart own no line together.
-use Rattle.std.proofs.Common.{◌≡◌, ◌⊎◌, true, false, not, sym, refl, ap, ◌∙◌, subst, inl, inr, true≢false, arith}
+use Rattle.std.proofs.Common.{◌≡◌, ◌⊎◌, List, [], ◌∷◌, true, false, not, sym, refl, ap, ◌∙◌, subst, inl, inr, true≢false, arith}
 use Rattle.std.proofs.lemmas.Bool.Decides.{nat_tests}
-use Rattle.model.specs.declared.req.Req.{Req}
-use Rattle.model.specs.History.{same}
-use Rattle.model.proofs.Requests.{same_itself, same_true}
+use Rattle.history.specs.declared.req.Req.{Req}
+use Rattle.history.specs.History.{same}
+use Rattle.history.proofs.Requests.{same_itself, same_true}
 use Rattle.steps.specs.declared.line.Line.{Line}
 use Rattle.steps.specs.declared.view.Role.{Role}
 use Rattle.steps.specs.declared.view.Role.TheVariants.{Poller, Submitter, Lending, Idle, Busy, Leaving, Spent}
-use Rattle.steps.specs.Rule.{Owner, nobody, pollers, rings, workers, owner, stands_for, owns, apart}
+use Rattle.steps.specs.Rule.{Owner, nobody, pollers, rings, workers, owner, stands_for, owns, apart, NoneOf}
 
 pub same_sym : (a b : Req) → same a b ≡ same b a
 same_sym a b = grind (arith, nat_tests)
@@ -95,3 +95,18 @@ worker_is (Submitter i) q h = absurd (true≢false (sym h))
 worker_is (Lending r) q h = absurd (true≢false (sym h))
 worker_is Idle q h = absurd (true≢false (sym h))
 worker_is Spent q h = absurd (true≢false (sym h))
+
+idle_owns : (o : Owner) → stands_for Idle o ≡ false
+idle_owns nobody = refl
+idle_owns o = refl
+
+pub idle_none : (l : List Line) → NoneOf Idle l
+idle_none [] = tt
+idle_none (e ∷ l) = (idle_owns (owner e), idle_none l)
+
+-- a worker that has replied stays apart from the same seats
+pub leaving_apart : (q : Req) (u : Role) → apart (Busy q) u ≡ true → apart (Leaving q) u ≡ true
+leaving_apart q (Poller n) h = refl
+leaving_apart q (Busy r) h = h
+leaving_apart q (Leaving r) h = h
+leaving_apart q u h = refl

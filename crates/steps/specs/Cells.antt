@@ -8,11 +8,11 @@ use Rattle.claim.specs.declared.tag.Tag.{Tag}
 use Rattle.claim.specs.declared.tag.Tag.TheVariants.{Empty, Held, Ready, Running, Armed, Done}
 use Rattle.claim.specs.Claim.{packed}
 use Rattle.entry.specs.Entry.{Entry, fails}
-use Rattle.model.specs.declared.req.Req.{Req}
-use Rattle.model.specs.History.{Cause, by_reply, by_take, by_expire, by_fire, by_settle, by_sever, by_cut, submission, unborn, waits, runs, armed, replied, reaped, phase, data_of}
-use Rattle.model.specs.Chains.{is_timer, IsPlaced, Open}
-use Rattle.model.specs.Pipes.{Flow, flow, content, untouched}
-use Rattle.model.specs.Legal.{Setup, IsOf}
+use Rattle.history.specs.declared.req.Req.{Req}
+use Rattle.history.specs.History.{Cause, by_reply, by_take, by_expire, by_fire, by_settle, by_sever, by_cut, submission, unborn, waits, runs, armed, replied, reaped, phase, data_of}
+use Rattle.history.specs.Chains.{is_timer, IsPlaced, Open}
+use Rattle.history.specs.Pipes.{Flow, flow, content, untouched}
+use Rattle.history.specs.Legal.{Setup, IsOf}
 use Rattle.steps.specs.declared.line.Line.{Line}
 use Rattle.steps.specs.declared.parcel.Parcel.{Parcel}
 use Rattle.steps.specs.declared.parcel.Thing.{Thing}
@@ -27,13 +27,17 @@ setup_of L = record { rings = length L.cells; caps = L.caps }
 abbrev pub claim_at : ℕ → ℕ
 claim_at x = 8 * x + 72
 
--- the user_data of the cell's request stands here from before its Submit on
-abbrev pub user_at : ℕ → ℕ
-user_at x = 8 * x + 73
+-- the note word of the cell with this number
+abbrev pub note_at : ℕ → ℕ → ℕ
+note_at x i = 8 * x + (73 + i)
 
--- here stands, from before its Reap on, whether the reply of the cell's last request failed
-abbrev pub outcome_at : ℕ → ℕ
-outcome_at x = 8 * x + 74
+-- the facts of the cell's request stand here from before its Submit on, and from before its Reap on with the outcome
+abbrev pub facts_at : ℕ → ℕ
+facts_at x = note_at x 0
+
+-- its user_data stands here from before its Submit on
+abbrev pub user_at : ℕ → ℕ
+user_at x = note_at x 1
 
 abbrev pub pipe_at : ℕ → ℕ
 pipe_at p = p + 1
@@ -62,17 +66,17 @@ abbrev pub IsCell : List ℕ → ℕ → Type 0
 IsCell K x = x < total K
 
 -- the request of generation g in the cell x
-abbrev pub held : List ℕ → ℕ → ℕ → Req
-held K x g = record { ring = ring_of K x; k = g * cells_in K (ring_of K x) + place_of K x }
+abbrev pub request_at : List ℕ → ℕ → ℕ → Req
+request_at K x g = record { ring = ring_of K x; k = g * cells_in K (ring_of K x) + place_of K x }
 
 -- a claim word: tag, cause, generation and payload, one above the other
 abbrev pub word_of : Tag → ℕ → ℕ → ℕ → ℕ
 word_of tag cause gen payload = packed (record { tag = tag; cause = cause; generation = gen; payload = payload })
 
 -- the 32 bits of a reply
-abbrev pub bits_of : ℤ → ℕ → Type 0
-bits_of (pos n) b = (n < 2147483648) × (b ≡ n)
-bits_of (negsuc n) b = (n < 2147483648) × (b + n + 1 ≡ 4294967296)
+abbrev pub reply_bits : ℤ → ℕ → Type 0
+reply_bits (pos n) b = (n < 2147483648) × (b ≡ n)
+reply_bits (negsuc n) b = (n < 2147483648) × (b + n + 1 ≡ 4294967296)
 
 -- how a claim word names the event that answered: bit 3 says that the reply is a failure
 abbrev pub cause_number : Cause → ℕ
@@ -104,10 +108,10 @@ Keeps j r home data' = (p : Parcel) × (home ≡ some (some (Some (Full p)))) ×
 
 -- earlier generations were reaped, and later ones not yet submitted
 pub record Ages (K : List ℕ) (j : List Line) (x g : ℕ) : Type 0 where
-  pub before : (n : ℕ) → n < g → (c : Cause) × (res : ℤ) × (phase (events_of j) (held K x n) ≡ reaped c res)
-  pub after : (n : ℕ) → g < n → phase (events_of j) (held K x n) ≡ unborn
-  pub unfreed : (n : ℕ) → g < n → freed j (held K x n) ≡ false
-  pub unlent : (n : ℕ) → g < n → lent j (held K x n) ≡ false
+  pub before : (n : ℕ) → n < g → (c : Cause) × (res : ℤ) × (phase (events_of j) (request_at K x n) ≡ reaped c res)
+  pub after : (n : ℕ) → g < n → phase (events_of j) (request_at K x n) ≡ unborn
+  pub unfreed : (n : ℕ) → g < n → freed j (request_at K x n) ≡ false
+  pub unlent : (n : ℕ) → g < n → lent j (request_at K x n) ≡ false
 
 -- a worker may begin it
 abbrev pub MayBegin : List Line → Req → Type 0
@@ -121,7 +125,7 @@ module _ (j : List Line) (r : Req) (home : Home) (cause payload : ℕ) where
   Says Ready = (cause ≡ 0) × (payload ≡ 0) × (phase (events_of j) r ≡ waits) × (freed j r ≡ true) × (lent j r ≡ false) × Keeps j r home [] × MayBegin j r
   Says Running = (cause ≡ 0) × (payload ≡ 0) × (phase (events_of j) r ≡ runs) × (freed j r ≡ true) × (lent j r ≡ false) × MayBegin j r
   Says Armed = (cause ≡ 0) × (phase (events_of j) r ≡ armed payload) × (freed j r ≡ false) × (lent j r ≡ false) × Keeps j r home []
-  Says Done = (c : Cause) × (res : ℤ) × (e : Entry) × (phase (events_of j) r ≡ replied c res) × bits_of res payload × IsPlaced (events_of j) r e × (cause ≡ cause_bits c (fails e res)) × (lent j r ≡ false → Keeps j r home (data_of (events_of j) r))
+  Says Done = (c : Cause) × (res : ℤ) × (e : Entry) × (phase (events_of j) r ≡ replied c res) × reply_bits res payload × IsPlaced (events_of j) r e × (cause ≡ cause_bits c (fails e res)) × (lent j r ≡ false → Keeps j r home (data_of (events_of j) r))
 
 -- what the claim word and the slot of the cell x say
 pub record CellOk (K : List ℕ) (j : List Line) (x word : ℕ) (home : Home) : Type 0 where
@@ -131,7 +135,7 @@ pub record CellOk (K : List ℕ) (j : List Line) (x word : ℕ) (home : Home) : 
   pub payload : ℕ
   pub fits : (cause < 16) × (gen < 16777216) × (payload < 4294967296)
   pub word_is : word ≡ word_of tag cause gen payload
-  pub says : Says j (held K x gen) home cause payload tag
+  pub says : Says j (request_at K x gen) home cause payload tag
   pub ages : Ages K j x gen
 
 -- the pipe in the slot is the pipe that the history tells; there is none where the layout has none

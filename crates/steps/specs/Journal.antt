@@ -3,13 +3,11 @@ use Rattle.std.specs.Prelude.{◌≡◌, ℕ, ◌==◌, Bool, true, false, cond,
 use Rattle.entry.specs.declared.op.Op.{Op}
 use Rattle.entry.specs.declared.op.Op.TheVariants.{Nop, Close, Read, Write, PollAdd, Invalid}
 use Rattle.entry.specs.Entry.{Entry, drains}
-use Rattle.model.specs.declared.req.Req.{Req}
-use Rattle.model.specs.declared.event.Event.{Event}
-use Rattle.model.specs.declared.event.Event.TheVariants.{Submit, Reply, Reap}
-use Rattle.model.specs.History.{same, phase, waits}
-use Rattle.model.specs.Chains.{placed, Open, is_timer}
-use Rattle.model.specs.Legal.{IsOf}
-use Rattle.model.specs.Pipes.{End, no_end, read_end, write_end, end_of}
+use Rattle.history.specs.declared.req.Req.{Req}
+use Rattle.history.specs.declared.event.Event.{Event}
+use Rattle.history.specs.declared.event.Event.TheVariants.{Submit, Reap}
+use Rattle.history.specs.History.{same}
+use Rattle.history.specs.Pipes.{End, no_end, read_end, write_end, end_of}
 use Rattle.steps.specs.declared.line.Line.{Line}
 use Rattle.steps.specs.declared.line.Line.TheVariants.{Did, Freed, Lent, Noted, Hold, Free}
 
@@ -79,30 +77,15 @@ abbrev pub touches : Option Entry → ℕ → Bool
 touches None p = false
 touches (Some e) p = uses e.op p
 
--- what the board serves so far: batches of one, of NOP and Invalid entries, without IO_DRAIN
+-- what the board serves so far: batches of one, of NOP, READ, WRITE, CLOSE, POLL_ADD and Invalid entries, without IO_DRAIN
 abbrev pub is_served : Op → Bool
 is_served Nop = true
+is_served (Read fd offset len) = true
+is_served (Write fd offset len) = true
+is_served (Close fd) = true
+is_served (PollAdd fd mask) = true
 is_served Invalid = true
 is_served _ = false
 
 abbrev pub Serves : Entry → Bool → Type 0
 Serves e last = (is_served e.op ≡ true) × (drains e ≡ false) × (last ≡ true)
-
--- the reply of an operation that needs no pipe and no clock
-abbrev pub PlainAnswer : Op → ℤ → Type 0
-PlainAnswer Nop res = res ≡ pos 0
-PlainAnswer Invalid res = res ≡ negsuc 21
-PlainAnswer _ res = ⊥
-
--- only who has a pipe changes it or gives it back, and nobody takes it from him; only what waits, is open and is a worker's to run is moved to Ready
-abbrev pub Fair : List Line → Line → Type 0
-Fair j (Did (Submit r e bytes last)) = Serves e last
-Fair j (Did (Reply r res data')) = (p : ℕ) → touches (placed (events_of j) r) p ≡ true → holder j p ≡ Some r
-Fair j (Freed r) = (phase (events_of j) r ≡ waits) × Open (events_of j) r × IsOf (events_of j) r is_timer false
-Fair j (Hold r p) = holder j p ≡ None
-Fair j (Free r p) = holder j p ≡ Some r
-Fair j _ = Unit {0}
-
-abbrev pub Orderly : List Line → Type 0
-Orderly [] = Unit {0}
-Orderly (l ∷ j) = Fair j l × Orderly j

@@ -1,4 +1,6 @@
 pub mod Cells
+pub mod Fairness
 pub mod Journal
+pub mod Notes
 pub mod Plays
 pub mod Rule

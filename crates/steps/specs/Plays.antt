@@ -1,20 +1,29 @@
 -- What each kind of step tells its seat.
-use Rattle.std.specs.Prelude.{◌≡◌, ◌≢◌, ℕ, ◌<◌, ℤ, List, [], ◌∷◌, Option, Some, None}
+use Rattle.std.specs.Prelude.{◌≡◌, ◌≢◌, ℕ, ◌<◌, true, ℤ, List, [], ◌∷◌, length, Option, Some, None}
 use Rattle.atomic_table.specs.Table.{Me, Step, rest}
+use Rattle.atomic_table.specs.Seated.{TableId}
+use Rattle.atomic_table.specs.declared.shared.Seat.{Seat}
 use Rattle.claim.specs.declared.tag.Tag.{Tag}
-use Rattle.claim.specs.declared.tag.Tag.TheVariants.{Done}
-use Rattle.model.specs.declared.req.Req.{Req}
-use Rattle.model.specs.declared.event.Event.TheVariants.{Submit, Begin, Park, Reply, Reap}
-use Rattle.model.specs.History.{Cause, phase, replied, data_of}
-use Rattle.steps.specs.declared.line.Line.TheVariants.{Did, Freed, Lent}
+use Rattle.claim.specs.declared.tag.Tag.TheVariants.{Running, Done}
+use Rattle.entry.specs.Entry.{Entry}
+use Rattle.history.specs.declared.req.Req.{Req}
+use Rattle.history.specs.declared.event.Event.TheVariants.{Submit, Begin, Park, Reply, Reap}
+use Rattle.history.specs.History.{Cause, phase, replied, data_of, submission}
+use Rattle.history.specs.Chains.{IsPlaced}
+use Rattle.history.specs.Pipes.{flow, flows_as}
+use Rattle.history.specs.Answers.{OpAnswers, is_pipe}
+use Rattle.pipe.specs.Pipe.{Conduit}
+use Rattle.steps.specs.declared.line.Line.{Line}
+use Rattle.steps.specs.declared.line.Line.TheVariants.{Did, Freed, Lent, Noted, Hold, Free}
 use Rattle.steps.specs.declared.parcel.Parcel.{Parcel}
 use Rattle.steps.specs.declared.parcel.Thing.{Thing}
-use Rattle.steps.specs.declared.parcel.Thing.TheVariants.{Full}
-use Rattle.steps.specs.declared.view.Role.TheVariants.{Submitter, Lending, Idle, Busy}
+use Rattle.steps.specs.declared.parcel.Thing.TheVariants.{Full, Piped}
+use Rattle.steps.specs.declared.view.Role.{Role}
+use Rattle.steps.specs.declared.view.Role.TheVariants.{Submitter, Lending, Idle, Busy, Leaving}
 use Rattle.steps.specs.declared.view.View.{View}
-use Rattle.steps.specs.Journal.{events_of, holder}
-use Rattle.steps.specs.Cells.{IsCell, held, word_of, claim_at, user_at, outcome_at, slot_at, bits_of, IsParcel}
-use Rattle.steps.specs.Rule.{Looks, Extends, Shown, Vacant, IsStep}
+use Rattle.steps.specs.Journal.{events_of, noted, holder, uses}
+use Rattle.steps.specs.Cells.{IsCell, request_at, word_of, claim_at, note_at, facts_at, user_at, pipe_at, slot_at, reply_bits, IsParcel, PipeIs}
+use Rattle.steps.specs.Rule.{Looks, Extends, Shown, Vacant, IsStep, leaves}
 
 abbrev pub Seated : Type 0
 Seated = Me (Option Thing) View
@@ -22,19 +31,29 @@ Seated = Me (Option Thing) View
 abbrev pub At : Type 0
 At = Step (Option Thing)
 
--- of a load: the history so far, and what the claim word says of it
+-- of a load: the history so far, what the claim word says of it, and that a note word has what was stored there last
 abbrev pub looked : At → Seated → ℕ → Seated → Type 0
 looked st m n m' = Looks m.0 m'.0 × (m'.1 ≡ m.1) × ((x : ℕ) → st.word ≡ claim_at x → IsCell m.0.layout.cells x → Shown m.0.layout.cells m'.0.seen x n) × IsStep st.word n m.0 m'.0
+
+abbrev pub noticed : At → Seated → ℕ → Seated → Type 0
+noticed st m n m' = Looks m.0 m'.0 × (m'.1 ≡ m.1) × ((x i : ℕ) → st.word ≡ note_at x i → IsCell m.0.layout.cells x → i < 7 → n ≡ noted m'.0.seen (note_at x i)) × IsStep st.word n m.0 m'.0
 
 -- of an exchange of a claim word with this tag: P of the cell and the request where it was found, else what a load tells
 abbrev pub tried : Tag → (At → Seated → ℕ → Req → Seated → Type 0) → At → Seated → ℕ → Seated → Type 0
 tried tag P st m n m' =
-    (n ≡ st.first → (x g p : ℕ) → st.word ≡ claim_at x → IsCell m.0.layout.cells x → g < 16777216 → p < 4294967296 → st.first ≡ word_of tag 0 g p → P st m x (held m.0.layout.cells x g) m')
+    (n ≡ st.first → (x g p : ℕ) → st.word ≡ claim_at x → IsCell m.0.layout.cells x → g < 16777216 → p < 4294967296 → st.first ≡ word_of tag 0 g p → P st m x (request_at m.0.layout.cells x g) m')
     × (n ≢ st.first → looked st m n m') × IsStep st.word n m.0 m'.0
+
+-- of an exchange with this tag at the word of a request that may be running: P where it was found with the tag, Q where a refused exchange found it Running, else what a load tells. A cancel and a firing step so
+abbrev pub tried_running : Tag → (At → Seated → ℕ → Req → Seated → Type 0) → (At → Seated → ℕ → Req → Seated → Type 0) → At → Seated → ℕ → Seated → Type 0
+tried_running tag P Q st m n m' =
+    (n ≡ st.first → (x g p : ℕ) → st.word ≡ claim_at x → IsCell m.0.layout.cells x → g < 16777216 → p < 4294967296 → st.first ≡ word_of tag 0 g p → P st m x (request_at m.0.layout.cells x g) m')
+    × ((x g p : ℕ) → st.word ≡ claim_at x → IsCell m.0.layout.cells x → g < 16777216 → p < 4294967296 → st.first ≡ word_of tag 0 g p → n ≡ word_of Running 0 g 0 → Q st m x (request_at m.0.layout.cells x g) m')
+    × (n ≢ st.first → ((x g p : ℕ) → st.word ≡ claim_at x → g < 16777216 → p < 4294967296 → st.first ≡ word_of tag 0 g p → n ≢ word_of Running 0 g 0) → looked st m n m') × IsStep st.word n m.0 m'.0
 
 -- of an exchange of a claim word that is known: P of the cell and the request
 abbrev pub sure : Tag → (At → Seated → ℕ → Req → Seated → Type 0) → At → Seated → ℕ → Seated → Type 0
-sure tag P st m n m' = (n ≡ st.first) × ((x c g p : ℕ) → st.word ≡ claim_at x → IsCell m.0.layout.cells x → c < 16 → g < 16777216 → p < 4294967296 → st.first ≡ word_of tag c g p → P st m x (held m.0.layout.cells x g) m') × IsStep st.word n m.0 m'.0
+sure tag P st m n m' = (n ≡ st.first) × ((x c g p : ℕ) → st.word ≡ claim_at x → IsCell m.0.layout.cells x → c < 16 → g < 16777216 → p < 4294967296 → st.first ≡ word_of tag c g p → P st m x (request_at m.0.layout.cells x g) m') × IsStep st.word n m.0 m'.0
 
 abbrev pub released : At → Seated → ℕ → Req → Seated → Type 0
 released st m x r m' = Extends m.0 (Freed r) m.0.role m'.0 × (m'.1 ≡ m.1)
@@ -50,9 +69,10 @@ began st m x r m' = Extends m.0 (Did (Begin r)) (Busy r) m'.0 × Hands m' x r []
 abbrev pub submitted : At → Seated → ℕ → Req → Seated → Type 0
 submitted st m x r m' = (p : Parcel) → m.1 ≡ (slot_at x, Some (Full p)) ∷ rest m.1 → Extends m.0 (Did (Submit r p.sqe p.buffer.items p.last)) (Submitter r.ring) m'.0 × (m'.1 ≡ rest m.1)
 
--- the new word has the result
-abbrev pub replied_with : At → Seated → ℕ → Req → Seated → Type 0
-replied_with st m x r m' = (g c b : ℕ) (res : ℤ) → g < 16777216 → c < 16 → b < 4294967296 → bits_of res b → st.second ≡ word_of Done c g b → Extends m.0 (Did (Reply r res [])) Idle m'.0 × (m'.1 ≡ rest m.1)
+-- the new word has the result, which is the entry's reply with these data; the seat has this role after it
+abbrev pub replied_with : (Req → Role) → At → Seated → ℕ → Req → Seated → Type 0
+replied_with after st m x r m' = (g c b : ℕ) (res : ℤ) (e : Entry) (data' : List ℕ) → g < 16777216 → c < 16 → b < 4294967296 → reply_bits res b → st.second ≡ word_of Done c g b
+    → IsPlaced (events_of m.0.seen) r e → OpAnswers m.0.layout.caps (events_of m.0.seen) r e.op res data' → Extends m.0 (Did (Reply r res data')) (after r) m'.0 × (m'.1 ≡ rest m.1)
 
 abbrev pub parked : At → Seated → ℕ → Req → Seated → Type 0
 parked st m x r m' = Extends m.0 (Did (Park r)) Idle m'.0 × (m'.1 ≡ rest m.1)
@@ -60,11 +80,52 @@ parked st m x r m' = Extends m.0 (Did (Park r)) Idle m'.0 × (m'.1 ≡ rest m.1)
 abbrev pub reaps : At → Seated → ℕ → Req → Seated → Type 0
 reaps st m x r m' = Extends m.0 (Did (Reap r)) (Submitter r.ring) m'.0 × (m'.1 ≡ rest m.1)
 
--- of a store in the user word before the Submit of generation g: the empty slot is taken
+-- of a store of the facts before the Submit of generation g: the empty slot is taken
 abbrev pub opened : At → Seated → ℕ → Seated → Type 0
-opened st m n m' = (x g : ℕ) → st.word ≡ user_at x → IsCell m.0.layout.cells x → Vacant m.0.layout.cells m.0.seen x g → (Extends m.0 (Lent (held m.0.layout.cells x g) st.word st.first) (Lending (held m.0.layout.cells x g)) m'.0 × (m'.1 ≡ (slot_at x, None) ∷ m.1)) × ((found : ℕ) × IsStep st.word found m.0 m'.0)
+opened st m n m' = (x g : ℕ) → st.word ≡ facts_at x → IsCell m.0.layout.cells x → Vacant m.0.layout.cells m.0.seen x g → (Extends m.0 (Lent (request_at m.0.layout.cells x g) st.word st.first) (Lending (request_at m.0.layout.cells x g)) m'.0 × (m'.1 ≡ (slot_at x, None) ∷ m.1)) × ((found : ℕ) × IsStep st.word found m.0 m'.0)
 
--- of a store in the outcome word before the Reap of generation g: the slot is taken, with the buffer and the data
+-- of a store of the user_data before the Submit of generation g, by who has the slot
+abbrev pub noted_user : At → Seated → ℕ → Seated → Type 0
+noted_user st m n m' = (x g : ℕ) → st.word ≡ user_at x → IsCell m.0.layout.cells x → m.0.role ≡ Lending (request_at m.0.layout.cells x g) → (Extends m.0 (Noted (request_at m.0.layout.cells x g) st.word st.first) m.0.role m'.0 × (m'.1 ≡ m.1)) × ((found : ℕ) × IsStep st.word found m.0 m'.0)
+
+-- of a store of the facts with the outcome before the Reap of generation g: the slot is taken, with the buffer and the data
 abbrev pub emptied : At → Seated → ℕ → Seated → Type 0
-emptied st m n m' = (x g : ℕ) (c : Cause) (res : ℤ) → st.word ≡ outcome_at x → IsCell m.0.layout.cells x → phase (events_of m.0.seen) (held m.0.layout.cells x g) ≡ replied c res
-    → (Extends m.0 (Lent (held m.0.layout.cells x g) st.word st.first) (Lending (held m.0.layout.cells x g)) m'.0 × Hands m' x (held m.0.layout.cells x g) (data_of (events_of m.0.seen) (held m.0.layout.cells x g)) m.1) × ((found : ℕ) × IsStep st.word found m.0 m'.0)
+emptied st m n m' = (x g : ℕ) (c : Cause) (res : ℤ) → st.word ≡ facts_at x → IsCell m.0.layout.cells x → phase (events_of m.0.seen) (request_at m.0.layout.cells x g) ≡ replied c res
+    → (Extends m.0 (Lent (request_at m.0.layout.cells x g) st.word st.first) (Lending (request_at m.0.layout.cells x g)) m'.0 × Hands m' x (request_at m.0.layout.cells x g) (data_of (events_of m.0.seen) (request_at m.0.layout.cells x g)) m.1) × ((found : ℕ) × IsStep st.word found m.0 m'.0)
+
+-- the worker of q has the pipe p, and no other
+abbrev pub HasAlone : List Line → ℕ → Req → Type 0
+HasAlone j p q = (holder j p ≡ Some q) × ((n : ℕ) → n ≢ p → holder j n ≢ Some q)
+
+-- the pipe lies in the seat's hand, as what it has seen tells
+abbrev pub HasPipe : Seated → ℕ → List (ℕ × Option Thing) → Type 0
+HasPipe m p others = (c : Conduit) × (m.1 ≡ (p, Some (Piped c)) ∷ others) × PipeIs m.0.layout.caps p (Some (Piped c)) (flow (events_of m.0.seen) p)
+
+-- the same, as the reply res to q, placed as e, will make it
+abbrev pub HasPipeAfter : Seated → ℕ → Req → Entry → ℤ → Type 0
+HasPipeAfter m p q e res = (c : Conduit) × (rest m.1 ≡ (p, Some (Piped c)) ∷ rest (rest m.1)) × PipeIs m.0.layout.caps p (Some (Piped c)) (flows_as (Some e) (submission (events_of m.0.seen) q) res p (flow (events_of m.0.seen) p))
+
+-- the pipe is one of the seat's table
+abbrev pub FitsPipe : TableId → Seat (Option Thing) View → ℕ → Type 0
+FitsPipe table seat p = (seat.table_id ≡ table) × (p < 64) × (p < length seat.me.0.layout.caps) × (pipe_at p < table.words)
+
+-- of an exchange of a pipe's word: the pipe was at home and is taken, or else another worker has it
+abbrev pub pipe_taken : At → Seated → ℕ → Seated → Type 0
+pipe_taken st m n m' =
+    (n ≡ st.first → (p : ℕ) (q : Req) → st.word ≡ pipe_at p → p < length m.0.layout.caps → m.0.role ≡ Busy q → Extends m.0 (Hold q p) m.0.role m'.0 × HasPipe m' p m.1)
+    × (n ≢ st.first → Looks m.0 m'.0 × (m'.1 ≡ m.1) × ((p : ℕ) → st.word ≡ pipe_at p → (o : Req) × (holder m'.0.seen p ≡ Some o))) × IsStep st.word n m.0 m'.0
+
+-- of a store at a pipe's word by a worker that has the pipe and has not replied: it is given back
+abbrev pub pipe_returned : At → Seated → ℕ → Seated → Type 0
+pipe_returned st m n m' = (p : ℕ) (q : Req) → st.word ≡ pipe_at p → m.0.role ≡ Busy q → holder m.0.seen p ≡ Some q → Extends m.0 (Free q p) m.0.role m'.0 × (m'.1 ≡ rest m.1) × ((found : ℕ) × IsStep st.word found m.0 m'.0)
+
+-- the same by a worker that has replied: it saw no more than its reply
+abbrev pub pipe_left : At → Seated → ℕ → Seated → Type 0
+pipe_left st m n m' = (p : ℕ) (q : Req) → st.word ≡ pipe_at p → m.0.role ≡ Leaving q → holder m.0.seen p ≡ Some q → (found : ℕ) × (m'.0 ≡ leaves st.word found m.0) × (m'.1 ≡ rest m.1)
+
+-- the seat may reply so to the request in the cell x: this is the answer, the data lie over the front of the buffer in hand, and it has the pipe that the entry names, if it is one of the board's
+pub record MayReply (m : Seated) (x : ℕ) (q : Req) (e : Entry) (res : ℤ) (data' : List ℕ) : Type 0 where
+  pub placed_is : IsPlaced (events_of m.0.seen) q e
+  pub answers : OpAnswers m.0.layout.caps (events_of m.0.seen) q e.op res data'
+  pub has : (p : ℕ) → is_pipe m.0.layout.caps p ≡ true → uses e.op p ≡ true → holder m.0.seen p ≡ Some q
+  pub parcel : Hands m x q data' (rest m.1)

@@ -5,13 +5,14 @@ use lib.ListN.{get_elem?}
 use Rattle.atomic_table.specs.Table.{State}
 use Rattle.atomic_table.specs.Seated.{TableId}
 use Rattle.atomic_table.specs.declared.shared.Seat.{Seat}
-use Rattle.model.specs.declared.req.Req.{Req}
-use Rattle.model.specs.declared.event.Event.TheVariants.{Submit, Begin, Park, Reply, Take, Miss, Reap}
-use Rattle.model.specs.History.{Cause, same, phase, runs, replied, reaped, submits, clock_of, was_shut, IsReplied}
+use Rattle.history.specs.declared.req.Req.{Req}
+use Rattle.history.specs.declared.event.Event.{Event}
+use Rattle.history.specs.declared.event.Event.TheVariants.{Submit, Begin, Park, Reply, Take, Miss, Reap}
+use Rattle.history.specs.History.{Cause, same, phase, runs, replied, reaped, submits, clock_of, was_shut, IsReplied}
 use Rattle.claim.specs.declared.tag.Tag.TheVariants.{Done}
 use Rattle.entry.specs.Entry.{Entry, fails}
-use Rattle.model.specs.Chains.{IsPlaced}
-use Rattle.model.specs.Legal.{Legal}
+use Rattle.history.specs.Chains.{IsPlaced}
+use Rattle.history.specs.Legal.{Legal}
 use Rattle.steps.specs.declared.line.Line.{Line}
 use Rattle.steps.specs.declared.line.Line.TheVariants.{Did, Freed, Lent, Noted, Hold, Free}
 use Rattle.steps.specs.declared.parcel.Thing.{Thing}
@@ -20,8 +21,10 @@ use Rattle.steps.specs.declared.view.Role.{Role}
 use Rattle.steps.specs.declared.view.Role.TheVariants.{Poller, Submitter, Lending, Idle, Busy, Leaving, Spent}
 use Rattle.steps.specs.declared.view.Step.{Step}
 use Rattle.steps.specs.declared.view.View.{View}
-use Rattle.steps.specs.Journal.{events_of, lent, noted, holder, Orderly}
-use Rattle.steps.specs.Cells.{setup_of, IsCell, ring_of, held, claim_at, pipe_at, slot_at, CellOk, PipeOk, Home, word_of, bits_of, cause_bits}
+use Rattle.steps.specs.Fairness.{Orderly}
+use Rattle.steps.specs.Notes.{outcome_of}
+use Rattle.steps.specs.Journal.{events_of, lent, noted, holder}
+use Rattle.steps.specs.Cells.{setup_of, IsCell, ring_of, request_at, note_at, facts_at, claim_at, pipe_at, slot_at, CellOk, PipeOk, Home, word_of, reply_bits, cause_bits}
 
 -- whose a line is: a seat of no other kind makes it
 pub data Owner : Type 0 where
@@ -116,25 +119,25 @@ IsHeldBy vs q = (i : ℕ) × (v : View) × (get_elem? vs i ≡ some v) × (stand
 abbrev pub IsLentBy : List View → Req → Type 0
 IsLentBy vs q = (i : ℕ) × (v : View) × (get_elem? vs i ≡ some v) × (v.role ≡ Lending q)
 
--- the seat has seen all of j, or was told of it
-abbrev pub IsOneOf : List Line → List (List Line) → Type 0
-IsOneOf j [] = ⊥
-IsOneOf j (x ∷ xs) = (x ≡ j) ⊎ IsOneOf j xs
+-- the seat has seen all of these events, or was told of them. A pipe that was given back after its reply is seen by nobody, so journals may go on further
+abbrev pub IsOneOf : List Event → List (List Line) → Type 0
+IsOneOf h [] = ⊥
+IsOneOf h (x ∷ xs) = (events_of x ≡ h) ⊎ IsOneOf h xs
 
-abbrev pub Knows : View → List Line → Type 0
-Knows v j = (v.seen ≡ j) ⊎ IsOneOf j v.heard
+abbrev pub Knows : View → List Event → Type 0
+Knows v h = (events_of v.seen ≡ h) ⊎ IsOneOf h v.heard
 
 -- what holds between any two steps
 pub record Ruled (L : Layout) (s : State (Option Thing) View) : Type 0 where
   pub past : List Line
   pub legal : Legal (setup_of L) (events_of past)
   pub live : was_shut (events_of past) ≡ false
-  pub orderly : Orderly past
+  pub orderly : Orderly L past
   pub wide : (x : ℕ) → IsCell L.cells x → claim_at x + 7 < length s.words
   pub deep : (x : ℕ) → IsCell L.cells x → slot_at x < length s.homes
   pub room : (72 ≤ length s.words) × (64 ≤ length s.homes)
   pub cells : (x : ℕ) → IsCell L.cells x → CellOk L.cells past x (slice_index s.words (claim_at x)) (get_elem? s.homes (slot_at x))
-  pub notes : (x i : ℕ) → IsCell L.cells x → i < 7 → slice_index s.words (8 * x + (73 + i)) ≡ noted past (8 * x + (73 + i))
+  pub notes : (x i : ℕ) → IsCell L.cells x → i < 7 → slice_index s.words (note_at x i) ≡ noted past (note_at x i)
   pub clock : slice_index s.words 0 ≡ clock_of (events_of past)
   pub pipes : (p : ℕ) → p < 64 → PipeOk L.caps past p (slice_index s.words (pipe_at p)) (get_elem? s.homes p)
   pub seats : (i : ℕ) (v : View) → get_elem? s.views i ≡ some v → SeatOk L past v
@@ -143,7 +146,7 @@ pub record Ruled (L : Layout) (s : State (Option Thing) View) : Type 0 where
   pub held_by : (p : ℕ) (q : Req) → holder past p ≡ Some q → IsHeldBy s.views q
   pub lent_by : (q : Req) → lent past q ≡ true → IsLentBy s.views q
   pub parts : parts_of s.views ≡ 9223372036854775808
-  pub newest : (i : ℕ) × (v : View) × (get_elem? s.views i ≡ some v) × (0 < v.parts) × Knows v past
+  pub newest : (i : ℕ) × (v : View) × (get_elem? s.views i ≡ some v) × (0 < v.parts) × Knows v (events_of past)
 
 abbrev pub opening_view : Layout → View
 opening_view L = record { layout = L; role = Poller 0; parts = 9223372036854775808; seen = []; heard = []; steps = [] }
@@ -156,9 +159,12 @@ seeing v role j t = record { layout = v.layout; role = role; parts = v.parts; se
 abbrev pub IsStep : ℕ → ℕ → View → View → Type 0
 IsStep word found v w = w.steps ≡ record { word = word; found = found; seen = w.seen } ∷ v.steps
 
--- the seat made two steps more, at these words
+-- the seat made two steps more, or three, at these words
 abbrev pub IsTwoSteps : ℕ → ℕ → View → View → Type 0
 IsTwoSteps first second v w = (mid : View) × ((n : ℕ) × IsStep first n v mid) × ((n : ℕ) × IsStep second n mid w)
+
+abbrev pub IsThreeSteps : ℕ → ℕ → ℕ → View → View → Type 0
+IsThreeSteps first second third v w = (mid : View) × ((n : ℕ) × IsStep first n v mid) × IsTwoSteps second third mid w
 
 -- the seat saw the journal so far, which has no further line of its own
 pub record Looks (v w : View) : Type 0 where
@@ -167,7 +173,7 @@ pub record Looks (v w : View) : Type 0 where
   pub heard : AllBegin now v.heard
   pub legal : Legal (setup_of v.layout) (events_of now)
   pub live : was_shut (events_of now) ≡ false
-  pub orderly : Orderly now
+  pub orderly : Orderly v.layout now
   pub steps : List Step
   pub is : w ≡ seeing v v.role now steps
 
@@ -178,13 +184,17 @@ pub record Extends (v : View) (l : Line) (role : Role) (w : View) : Type 0 where
   pub heard : AllBegin mid v.heard
   pub legal : Legal (setup_of v.layout) (events_of (l ∷ mid))
   pub live : was_shut (events_of (l ∷ mid)) ≡ false
-  pub orderly : Orderly (l ∷ mid)
+  pub orderly : Orderly v.layout (l ∷ mid)
   pub steps : List Step
   pub is : w ≡ seeing v role (l ∷ mid) steps
 
 -- the seat added two lines, and others may stand between
 abbrev pub ExtendsTwice : View → Line → Role → Line → Role → View → Type 0
 ExtendsTwice v k between l role w = (mid : View) × Extends v k between mid × Extends mid l role w
+
+-- the seat added three lines, and others may stand between
+abbrev pub ExtendsThrice : View → Line → Role → Line → Role → Line → Role → View → Type 0
+ExtendsThrice v k first l second n role w = (mid : View) × Extends v k first mid × ExtendsTwice mid l second n role w
 
 -- what a claim word tells
 abbrev pub Shown : List ℕ → List Line → ℕ → ℕ → Type 0
@@ -199,8 +209,8 @@ IsSameSeat s t = (t.table_id ≡ s.table_id) × (t.id ≡ s.id)
 
 -- the cell is Empty at generation g, as its submitter knows
 pub record Vacant (K : List ℕ) (seen : List Line) (x g : ℕ) : Type 0 where
-  pub next : submits (events_of seen) (ring_of K x) ≤ (held K x g).k
-  pub gone_by : (n : ℕ) → n < g → (c : Cause) × (res : ℤ) × (phase (events_of seen) (held K x n) ≡ reaped c res)
+  pub next : submits (events_of seen) (ring_of K x) ≤ (request_at K x g).k
+  pub gone_by : (n : ℕ) → n < g → (c : Cause) × (res : ℤ) × (phase (events_of seen) (request_at K x n) ≡ reaped c res)
 
 -- the claim word of a request that has replied
 pub record IsDone (seen : List Line) (r : Req) (g word : ℕ) : Type 0 where
@@ -210,8 +220,12 @@ pub record IsDone (seen : List Line) (r : Req) (g word : ℕ) : Type 0 where
   pub bits : ℕ
   pub replied_is : phase (events_of seen) r ≡ replied cause res
   pub placed_is : IsPlaced (events_of seen) r entry
-  pub bits_are : bits_of res bits
+  pub bits_are : reply_bits res bits
   pub word_is : word ≡ word_of Done (cause_bits cause (fails entry res)) g bits
+
+-- the facts of the request in the cell x with the outcome of its reply
+abbrev pub IsOutcome : List Line → Req → ℕ → ℕ → Type 0
+IsOutcome j r x value = (c : Cause) × (res : ℤ) × (e : Entry) × (phase (events_of j) r ≡ replied c res) × IsPlaced (events_of j) r e × (value ≡ outcome_of (noted j (facts_at x)) (fails e res))
 
 -- how the poller's seat is cut: the submitter of the next ring leaves it, or a worker
 abbrev pub next_poller : Role → Role
@@ -242,6 +256,10 @@ messenger v = record v { role = Idle; parts = 0; heard = []; steps = [] }
 abbrev pub hearing : View → View → View
 hearing v w = record v { parts = v.parts + w.parts; heard = w.seen ∷ (w.heard ++ v.heard) }
 
+-- a worker that has replied gives its pipe back: it is idle, and has seen no more
+abbrev pub leaves : ℕ → ℕ → View → View
+leaves word found v = record v { role = Idle; steps = record { word = word; found = found; seen = v.seen } ∷ v.steps }
+
 abbrev pub spent_view : View
 spent_view = record { layout = record { cells = []; caps = [] }; role = Spent; parts = 0; seen = []; heard = []; steps = [] }
 
@@ -250,10 +268,10 @@ pub record Ended (L : Layout) (v : View) (words : List ℕ) (slots : List (Optio
   pub all : List Line
   pub legal : Legal (setup_of L) (events_of all)
   pub live : was_shut (events_of all) ≡ false
-  pub orderly : Orderly all
+  pub orderly : Orderly L all
   pub seen : Begins all v.seen
   pub heard : AllBegin all v.heard
-  pub known : v.parts ≡ 9223372036854775808 → Knows v all
+  pub known : v.parts ≡ 9223372036854775808 → Knows v (events_of all)
   pub still : v.parts ≡ 9223372036854775808 → ((r : Req) → v.role ≢ Busy r) → (q : Req) → ¬ (phase (events_of all) q ≡ runs)
   pub unlent : v.parts ≡ 9223372036854775808 → ((r : Req) → v.role ≢ Lending r) → (q : Req) → ¬ (lent all q ≡ true)
   pub cells : (x : ℕ) → IsCell L.cells x → (home : Home) × CellOk L.cells all x (slice_index words (claim_at x)) home × ((y : Option Thing) → home ≡ some (some y) → get_elem? slots (slot_at x) ≡ some y)

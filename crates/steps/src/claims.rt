@@ -1,8 +1,8 @@
 //! The claim words that steps write and look for.
-ghost use Rattle.std.specs.Prelude.{◌≡◌, ◌<◌, cond, ℕ};
+ghost use Rattle.std.specs.Prelude.{◌≡◌, ◌<◌, ℕ};
 ghost use Rattle.claim.specs.declared.tag.Tag.TheVariants.{Empty, Held, Ready, Running, Done};
-ghost use Rattle.model.specs.History.{by_reply};
-ghost use Rattle.steps.specs.Cells.{word_of, bits_of, cause_bits};
+ghost use Rattle.history.specs.History.{by_reply};
+ghost use Rattle.steps.specs.Cells.{word_of, reply_bits, cause_bits};
 
 use claim::{Cause, ClaimWord, pack};
 
@@ -41,14 +41,7 @@ pub(crate) fn running(generation: u32) -> u64
 /// A worker answered the request.
 pub(crate) fn done(generation: u32, fails: bool, res: i32) -> u64
     requires { generation < 16777216 }
-    ensures { (b : ℕ) → bits_of res b → result ≡ word_of Done (cause_bits by_reply fails) generation b }
+    ensures { (b : ℕ) → reply_bits res b → result ≡ word_of Done (cause_bits by_reply fails) generation b }
 {
     pack(ClaimWord::done(generation, Cause::Reply, fails, res))
-}
-
-/// What the outcome word of a cell says: 1 where the last reply was a failure.
-pub(crate) fn outcome(failed: bool) -> u64
-    ensures { result ≡ cond failed 1 0 }
-{
-    if failed { 1 } else { 0 }
 }

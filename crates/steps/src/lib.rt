@@ -2,9 +2,12 @@
 #![tactic(auto)]
 
 pub mod claims;
+pub mod facts;
 pub mod law;
+pub mod layout;
 pub mod line;
 pub mod parcel;
+pub mod pipes;
 mod plays;
 pub mod seat;
 pub mod submitter;
@@ -14,5 +17,5 @@ pub mod view;
 pub use law::{About, Law};
 pub use line::Line;
 pub use parcel::{Parcel, Thing};
-pub use table::{BoardTable, Place, Words};
+pub use table::{BoardTable, TableSeat, Words};
 pub use view::{Layout, Role, Step, View};

@@ -1,5 +1,5 @@
 //! What the journal of the table is made of.
-use model::{Event, Req};
+use history::{Event, Req};
 
 /// A line of the journal: an event, or what else a seat did that others can tell. No value of it is made.
 pub enum Line {

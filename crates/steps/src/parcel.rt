@@ -1,7 +1,8 @@
 //! What lies in a slot of the table.
 ghost use Rattle.std.specs.Prelude.{◌≡◌, Some};
 ghost use Rattle.steps.specs.declared.parcel.Parcel.{Parcel};
-ghost use Rattle.steps.specs.declared.parcel.Thing.TheVariants.{Full};
+ghost use Rattle.pipe.specs.Pipe.{Conduit};
+ghost use Rattle.steps.specs.declared.parcel.Thing.TheVariants.{Full, Piped};
 
 use entry::Sqe;
 use pipe::Pipe;
@@ -32,4 +33,16 @@ pub fn parcel_of(thing: Option<Thing>) -> Parcel
         unreachable!()
     };
     parcel
+}
+
+/// The pipe that a slot has.
+pub fn pipe_of(thing: Option<Thing>) -> Pipe
+    requires piped { (c : Conduit) × (thing ≡ Some (Piped c)) }
+    ensures is { thing ≡ Some (Piped result) }
+{
+    let Some(thing) = thing else { unreachable!() };
+    let Thing::Piped(pipe) = thing else {
+        unreachable!()
+    };
+    pipe
 }

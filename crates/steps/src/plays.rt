@@ -1,6 +1,7 @@
 //! What each kind of step tells its seat, as the table takes it.
 ghost use Rattle.claim.specs.declared.tag.Tag.TheVariants.{Empty, Held, Ready, Running, Done};
-ghost use Rattle.steps.specs.Plays.{looked, tried, sure, released, began, submitted, replied_with, parked, reaps, opened, emptied};
+ghost use Rattle.steps.specs.declared.view.Role.TheVariants.{Idle, Leaving};
+ghost use Rattle.steps.specs.Plays.{looked, tried, sure, released, began, submitted, replied_with, parked, reaps, noticed, opened, noted_user, emptied, pipe_taken, pipe_returned, pipe_left};
 ghost use Rattle.steps.specs.Rule.{without_next, without_one, next_submitter, idle_one, messenger, hearing, spent_view};
 
 use crate::parcel::Thing;
@@ -11,6 +12,12 @@ pub(crate) struct Look;
 
 impl Play<Option<Thing>, View> for Look {
     ghost then = { looked };
+}
+
+pub(crate) struct LookAtNote;
+
+impl Play<Option<Thing>, View> for LookAtNote {
+    ghost then = { noticed };
 }
 
 pub(crate) struct Release;
@@ -28,7 +35,13 @@ impl Play<Option<Thing>, View> for Begin {
 pub(crate) struct Reply;
 
 impl Play<Option<Thing>, View> for Reply {
-    ghost then = { sure Running replied_with };
+    ghost then = { sure Running (replied_with (λ r. Idle)) };
+}
+
+pub(crate) struct ReplyWithPipe;
+
+impl Play<Option<Thing>, View> for ReplyWithPipe {
+    ghost then = { sure Running (replied_with Leaving) };
 }
 
 pub(crate) struct Park;
@@ -37,10 +50,34 @@ impl Play<Option<Thing>, View> for Park {
     ghost then = { sure Running parked };
 }
 
+pub(crate) struct Hold;
+
+impl Play<Option<Thing>, View> for Hold {
+    ghost then = { pipe_taken };
+}
+
+pub(crate) struct Free;
+
+impl Play<Option<Thing>, View> for Free {
+    ghost then = { pipe_returned };
+}
+
+pub(crate) struct Leave;
+
+impl Play<Option<Thing>, View> for Leave {
+    ghost then = { pipe_left };
+}
+
 pub(crate) struct OpenCell;
 
 impl Play<Option<Thing>, View> for OpenCell {
     ghost then = { opened };
+}
+
+pub(crate) struct NoteUserData;
+
+impl Play<Option<Thing>, View> for NoteUserData {
+    ghost then = { noted_user };
 }
 
 pub(crate) struct EmptyCell;

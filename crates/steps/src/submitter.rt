@@ -1,127 +1,161 @@
 //! The steps of a submitter: it notes, submits, notes again and reaps.
-ghost use Rattle.std.specs.Prelude.{◌≡◌, ℕ, ℤ, ◌+◌, ◌<◌, false, cond, ◌∷◌, Some, None};
+ghost use Rattle.std.specs.Prelude.{◌≡◌, ℕ, ℤ, ◌+◌, ◌<◌, false, ◌∷◌, Some, None};
 ghost use Rattle.atomic_table.specs.Table.{rest};
 ghost use Rattle.claim.specs.declared.tag.Tag.TheVariants.{Empty};
-ghost use Rattle.model.specs.declared.event.Event.TheVariants.{Submit, Reap};
-ghost use Rattle.model.specs.History.{Cause, phase, replied, data_of, submits};
-ghost use Rattle.model.specs.Legal.{Fits as FitsEntry};
-ghost use Rattle.steps.specs.declared.line.Line.TheVariants.{Did, Lent};
+ghost use Rattle.history.specs.declared.event.Event.TheVariants.{Submit, Reap};
+ghost use Rattle.history.specs.History.{data_of, submits};
+ghost use Rattle.history.specs.Legal.{Fits as FitsEntry};
+ghost use Rattle.steps.specs.declared.line.Line.TheVariants.{Did, Lent, Noted};
 ghost use Rattle.steps.specs.declared.parcel.Parcel.{Parcel};
 ghost use Rattle.steps.specs.declared.parcel.Thing.TheVariants.{Full};
 ghost use Rattle.steps.specs.declared.view.Role.TheVariants.{Submitter, Lending};
-ghost use Rattle.steps.specs.Journal.{events_of, lent, Serves};
-ghost use Rattle.steps.specs.Cells.{ring_of, held, claim_at, user_at, outcome_at, slot_at, word_of, IsParcel};
-ghost use Rattle.steps.specs.Rule.{Extends, ExtendsTwice, IsStep, IsTwoSteps, Vacant, Fits, IsSameSeat, IsDone};
+ghost use Rattle.steps.specs.Journal.{events_of, lent, noted, Serves};
+ghost use Rattle.steps.specs.Cells.{ring_of, request_at, claim_at, facts_at, user_at, slot_at, word_of, IsParcel};
+ghost use Rattle.steps.specs.Notes.{facts_of};
+ghost use Rattle.steps.specs.Rule.{Extends, ExtendsTwice, ExtendsThrice, IsStep, IsTwoSteps, IsThreeSteps, Vacant, Fits, IsSameSeat, IsDone, IsOutcome};
 
+use crate::facts::facts;
+use crate::layout::{claim_word, note_word, slot};
 use crate::parcel::{Parcel, Thing, parcel_of};
-use crate::table::{Place, Words};
+use crate::table::{TableSeat, Words};
 use crate::{claims, plays};
 
-/// Notes the user_data, takes the slot of a cell that is free, and puts the parcel there.
-fn fill(words: &Words, seat: &mut Place, cell: usize, generation: u32, parcel: Parcel)
+/// The note word with the facts of a request.
+const FACTS: usize = 0;
+
+/// The note word with its user_data.
+const USER_DATA: usize = 1;
+
+/// Notes the facts, takes the slot of a cell that is free, and puts the parcel there.
+fn fill(words: &Words, seat: &mut TableSeat, cell: usize, generation: u32, parcel: Parcel) -> u64
     requires fits { Fits words.now.table_id seat.old cell }
     requires small { generation < 16777216 }
     requires submitter { (seat.old.me.0.role ≡ Submitter (ring_of seat.old.me.0.layout.cells cell)) × (0 < seat.old.me.0.parts) }
     requires free { Vacant seat.old.me.0.layout.cells seat.old.me.0.seen cell generation }
-    requires home { lent seat.old.me.0.seen (held seat.old.me.0.layout.cells cell generation) ≡ false }
+    requires home { lent seat.old.me.0.seen (request_at seat.old.me.0.layout.cells cell generation) ≡ false }
+    ensures facts { result ≡ facts_of generation parcel.sqe parcel.last }
     ensures seat { IsSameSeat seat.old seat.new × (seat.new.me.1 ≡ (slot_at cell, Some (Full parcel)) ∷ seat.old.me.1) }
-    ensures lends { Extends seat.old.me.0 (Lent (held seat.old.me.0.layout.cells cell generation) (user_at cell) parcel.sqe.user_data) (Lending (held seat.old.me.0.layout.cells cell generation)) seat.new.me.0 }
-    ensures step { (found : ℕ) × IsStep (user_at cell) found seat.old.me.0 seat.new.me.0 }
+    ensures lends { Extends seat.old.me.0 (Lent (request_at seat.old.me.0.layout.cells cell generation) (facts_at cell) result) (Lending (request_at seat.old.me.0.layout.cells cell generation)) seat.new.me.0 }
+    ensures step { (found : ℕ) × IsStep (facts_at cell) found seat.old.me.0 seat.new.me.0 }
 {
-    let user_data = parcel.sqe.user_data();
-    words.store::<plays::OpenCell>(seat, 8 * cell + 73, user_data);
-    let None = words.exchange(seat, cell + 64, Some(Thing::Full(parcel))) else {
+    let facts = facts(generation, &parcel.sqe, parcel.last);
+    words.store::<plays::OpenCell>(seat, note_word(cell, FACTS), facts);
+    let None = words.exchange(seat, slot(cell), Some(Thing::Full(parcel))) else {
         unreachable!()
     };
+    facts
 }
 
-/// Submits the parcel in the slot.
-fn hand_in(words: &Words, seat: &mut Place, cell: usize, generation: u32)
+/// Notes the user_data of the parcel in the slot.
+fn note_user_data(words: &Words, seat: &mut TableSeat, cell: usize, generation: u32, user_data: u64)
     requires fits { Fits words.now.table_id seat.old cell }
     requires small { generation < 16777216 }
-    requires submitter { (seat.old.me.0.role ≡ Lending (held seat.old.me.0.layout.cells cell generation)) × (0 < seat.old.me.0.parts) }
+    requires submitter { (seat.old.me.0.role ≡ Lending (request_at seat.old.me.0.layout.cells cell generation)) × (0 < seat.old.me.0.parts) }
     requires free { Vacant seat.old.me.0.layout.cells seat.old.me.0.seen cell generation }
-    requires next { (held seat.old.me.0.layout.cells cell generation).k ≡ submits (events_of seat.old.me.0.seen) (ring_of seat.old.me.0.layout.cells cell) }
-    requires filled { (p : Parcel) × (seat.old.me.1 ≡ (slot_at cell, Some (Full p)) ∷ rest seat.old.me.1) × Serves p.sqe p.last × FitsEntry p.sqe p.buffer.items }
+    ensures seat { IsSameSeat seat.old seat.new × (seat.new.me.1 ≡ seat.old.me.1) }
+    ensures notes { Extends seat.old.me.0 (Noted (request_at seat.old.me.0.layout.cells cell generation) (user_at cell) user_data) seat.old.me.0.role seat.new.me.0 }
+    ensures step { (found : ℕ) × IsStep (user_at cell) found seat.old.me.0 seat.new.me.0 }
+{
+    words.store::<plays::NoteUserData>(seat, note_word(cell, USER_DATA), user_data);
+}
+
+/// Submits the parcel in the slot, whose notes are stored.
+fn submit_filled(words: &Words, seat: &mut TableSeat, cell: usize, generation: u32)
+    requires fits { Fits words.now.table_id seat.old cell }
+    requires small { generation < 16777216 }
+    requires submitter { (seat.old.me.0.role ≡ Lending (request_at seat.old.me.0.layout.cells cell generation)) × (0 < seat.old.me.0.parts) }
+    requires free { Vacant seat.old.me.0.layout.cells seat.old.me.0.seen cell generation }
+    requires next { (request_at seat.old.me.0.layout.cells cell generation).k ≡ submits (events_of seat.old.me.0.seen) (ring_of seat.old.me.0.layout.cells cell) }
+    requires filled { (p : Parcel) × (seat.old.me.1 ≡ (slot_at cell, Some (Full p)) ∷ rest seat.old.me.1) × Serves p.sqe p.last × FitsEntry p.sqe p.buffer.items × (noted seat.old.me.0.seen (facts_at cell) ≡ facts_of generation p.sqe p.last) × (noted seat.old.me.0.seen (user_at cell) ≡ p.sqe.user_data) }
     ensures seat { IsSameSeat seat.old seat.new × (seat.new.me.1 ≡ rest seat.old.me.1) }
-    ensures submits { (p : Parcel) → seat.old.me.1 ≡ (slot_at cell, Some (Full p)) ∷ rest seat.old.me.1 → Extends seat.old.me.0 (Did (Submit (held seat.old.me.0.layout.cells cell generation) p.sqe p.buffer.items p.last)) (Submitter (ring_of seat.old.me.0.layout.cells cell)) seat.new.me.0 }
+    ensures submits { (p : Parcel) → seat.old.me.1 ≡ (slot_at cell, Some (Full p)) ∷ rest seat.old.me.1 → Extends seat.old.me.0 (Did (Submit (request_at seat.old.me.0.layout.cells cell generation) p.sqe p.buffer.items p.last)) (Submitter (ring_of seat.old.me.0.layout.cells cell)) seat.new.me.0 }
     ensures step { IsStep (claim_at cell) (word_of Empty 0 generation 0) seat.old.me.0 seat.new.me.0 }
 {
     let empty = claims::empty(generation);
     let held = claims::held(generation);
-    words.compare_exchange::<plays::Submit>(seat, 8 * cell + 72, empty, held);
+    words.compare_exchange::<plays::Submit>(seat, claim_word(cell), empty, held);
 }
 
-/// Submits to a cell that is free.
-pub fn submit(words: &Words, seat: &mut Place, cell: usize, generation: u32, parcel: Parcel)
+/// Submits to a cell that is free: two notes, and the exchange of its claim word. Gives the facts that were noted.
+pub fn submit(
+    words: &Words,
+    seat: &mut TableSeat,
+    cell: usize,
+    generation: u32,
+    parcel: Parcel,
+) -> u64
     requires fits { Fits words.now.table_id seat.old cell }
     requires small { generation < 16777216 }
     requires submitter { (seat.old.me.0.role ≡ Submitter (ring_of seat.old.me.0.layout.cells cell)) × (0 < seat.old.me.0.parts) }
     requires free { Vacant seat.old.me.0.layout.cells seat.old.me.0.seen cell generation }
-    requires next { (held seat.old.me.0.layout.cells cell generation).k ≡ submits (events_of seat.old.me.0.seen) (ring_of seat.old.me.0.layout.cells cell) }
-    requires home { lent seat.old.me.0.seen (held seat.old.me.0.layout.cells cell generation) ≡ false }
+    requires next { (request_at seat.old.me.0.layout.cells cell generation).k ≡ submits (events_of seat.old.me.0.seen) (ring_of seat.old.me.0.layout.cells cell) }
+    requires home { lent seat.old.me.0.seen (request_at seat.old.me.0.layout.cells cell generation) ≡ false }
     requires served { Serves parcel.sqe parcel.last × FitsEntry parcel.sqe parcel.buffer.items }
+    ensures facts { result ≡ facts_of generation parcel.sqe parcel.last }
     ensures seat { IsSameSeat seat.old seat.new × (seat.new.me.1 ≡ seat.old.me.1) }
-    ensures submits { ExtendsTwice seat.old.me.0 (Lent (held seat.old.me.0.layout.cells cell generation) (user_at cell) parcel.sqe.user_data) (Lending (held seat.old.me.0.layout.cells cell generation)) (Did (Submit (held seat.old.me.0.layout.cells cell generation) parcel.sqe parcel.buffer.items parcel.last)) (Submitter (ring_of seat.old.me.0.layout.cells cell)) seat.new.me.0 }
-    ensures steps { IsTwoSteps (user_at cell) (claim_at cell) seat.old.me.0 seat.new.me.0 }
+    ensures submits { ExtendsThrice seat.old.me.0 (Lent (request_at seat.old.me.0.layout.cells cell generation) (facts_at cell) result) (Lending (request_at seat.old.me.0.layout.cells cell generation)) (Noted (request_at seat.old.me.0.layout.cells cell generation) (user_at cell) parcel.sqe.user_data) (Lending (request_at seat.old.me.0.layout.cells cell generation)) (Did (Submit (request_at seat.old.me.0.layout.cells cell generation) parcel.sqe parcel.buffer.items parcel.last)) (Submitter (ring_of seat.old.me.0.layout.cells cell)) seat.new.me.0 }
+    ensures steps { IsThreeSteps (facts_at cell) (user_at cell) (claim_at cell) seat.old.me.0 seat.new.me.0 }
 {
-    fill(words, seat, cell, generation, parcel);
-    hand_in(words, seat, cell, generation);
+    let user_data = parcel.sqe.user_data();
+    let facts = fill(words, seat, cell, generation, parcel);
+    note_user_data(words, seat, cell, generation, user_data);
+    submit_filled(words, seat, cell, generation);
+    facts
 }
 
-/// Notes whether the reply was a failure, takes the slot of a request that has replied, and empties it.
-fn empty(words: &Words, seat: &mut Place, cell: usize, generation: u32, failed: bool) -> Parcel
+/// Notes the outcome, takes the slot of a request that has replied, and empties it.
+fn empty(words: &Words, seat: &mut TableSeat, cell: usize, generation: u32, outcome: u64) -> Parcel
     requires fits { Fits words.now.table_id seat.old cell }
     requires small { generation < 16777216 }
     requires submitter { (seat.old.me.0.role ≡ Submitter (ring_of seat.old.me.0.layout.cells cell)) × (0 < seat.old.me.0.parts) }
-    requires done { (cause : Cause) × (res : ℤ) × (phase (events_of seat.old.me.0.seen) (held seat.old.me.0.layout.cells cell generation) ≡ replied cause res) }
-    requires home { lent seat.old.me.0.seen (held seat.old.me.0.layout.cells cell generation) ≡ false }
+    requires done { IsOutcome seat.old.me.0.seen (request_at seat.old.me.0.layout.cells cell generation) cell outcome }
+    requires home { lent seat.old.me.0.seen (request_at seat.old.me.0.layout.cells cell generation) ≡ false }
     ensures seat { IsSameSeat seat.old seat.new × (seat.new.me.1 ≡ (slot_at cell, None) ∷ seat.old.me.1) }
-    ensures lends { Extends seat.old.me.0 (Lent (held seat.old.me.0.layout.cells cell generation) (outcome_at cell) (cond failed 1 0)) (Lending (held seat.old.me.0.layout.cells cell generation)) seat.new.me.0 }
-    ensures step { (found : ℕ) × IsStep (outcome_at cell) found seat.old.me.0 seat.new.me.0 }
-    ensures parcel { IsParcel seat.new.me.0.seen (held seat.old.me.0.layout.cells cell generation) (data_of (events_of seat.old.me.0.seen) (held seat.old.me.0.layout.cells cell generation)) result }
+    ensures lends { Extends seat.old.me.0 (Lent (request_at seat.old.me.0.layout.cells cell generation) (facts_at cell) outcome) (Lending (request_at seat.old.me.0.layout.cells cell generation)) seat.new.me.0 }
+    ensures step { (found : ℕ) × IsStep (facts_at cell) found seat.old.me.0 seat.new.me.0 }
+    ensures parcel { IsParcel seat.new.me.0.seen (request_at seat.old.me.0.layout.cells cell generation) (data_of (events_of seat.old.me.0.seen) (request_at seat.old.me.0.layout.cells cell generation)) result }
 {
-    let outcome = claims::outcome(failed);
-    words.store::<plays::EmptyCell>(seat, 8 * cell + 74, outcome);
-    let thing = words.exchange(seat, cell + 64, None);
+    words.store::<plays::EmptyCell>(seat, note_word(cell, FACTS), outcome);
+    let thing = words.exchange(seat, slot(cell), None);
     parcel_of(thing)
 }
 
 /// Ends a request whose slot was emptied.
-fn close(words: &Words, seat: &mut Place, cell: usize, generation: u32, done: u64)
+fn reap_emptied(words: &Words, seat: &mut TableSeat, cell: usize, generation: u32, done: u64)
     requires fits { Fits words.now.table_id seat.old cell }
     requires small { generation + 1 < 16777216 }
-    requires submitter { (seat.old.me.0.role ≡ Lending (held seat.old.me.0.layout.cells cell generation)) × (0 < seat.old.me.0.parts) }
-    requires done { IsDone seat.old.me.0.seen (held seat.old.me.0.layout.cells cell generation) generation done }
+    requires submitter { (seat.old.me.0.role ≡ Lending (request_at seat.old.me.0.layout.cells cell generation)) × (0 < seat.old.me.0.parts) }
+    requires done { IsDone seat.old.me.0.seen (request_at seat.old.me.0.layout.cells cell generation) generation done }
     requires emptied { seat.old.me.1 ≡ (slot_at cell, None) ∷ rest seat.old.me.1 }
     ensures seat { IsSameSeat seat.old seat.new × (seat.new.me.1 ≡ rest seat.old.me.1) }
-    ensures reaps { Extends seat.old.me.0 (Did (Reap (held seat.old.me.0.layout.cells cell generation))) (Submitter (ring_of seat.old.me.0.layout.cells cell)) seat.new.me.0 }
+    ensures reaps { Extends seat.old.me.0 (Did (Reap (request_at seat.old.me.0.layout.cells cell generation))) (Submitter (ring_of seat.old.me.0.layout.cells cell)) seat.new.me.0 }
     ensures step { IsStep (claim_at cell) done seat.old.me.0 seat.new.me.0 }
 {
     let empty = claims::empty(generation + 1);
-    words.compare_exchange::<plays::Reap>(seat, 8 * cell + 72, done, empty);
+    words.compare_exchange::<plays::Reap>(seat, claim_word(cell), done, empty);
 }
 
-/// Reaps the request whose claim word was seen to be `done`.
+/// Reaps the request whose claim word was seen to be `done`, after its facts were noted with its outcome.
 pub fn reap(
     words: &Words,
-    seat: &mut Place,
+    seat: &mut TableSeat,
     cell: usize,
     generation: u32,
     done: u64,
-    failed: bool,
+    outcome: u64,
 ) -> Parcel
     requires fits { Fits words.now.table_id seat.old cell }
     requires small { generation + 1 < 16777216 }
     requires submitter { (seat.old.me.0.role ≡ Submitter (ring_of seat.old.me.0.layout.cells cell)) × (0 < seat.old.me.0.parts) }
-    requires done { IsDone seat.old.me.0.seen (held seat.old.me.0.layout.cells cell generation) generation done }
-    requires home { lent seat.old.me.0.seen (held seat.old.me.0.layout.cells cell generation) ≡ false }
+    requires done { IsDone seat.old.me.0.seen (request_at seat.old.me.0.layout.cells cell generation) generation done }
+    requires outcome { IsOutcome seat.old.me.0.seen (request_at seat.old.me.0.layout.cells cell generation) cell outcome }
+    requires home { lent seat.old.me.0.seen (request_at seat.old.me.0.layout.cells cell generation) ≡ false }
     ensures seat { IsSameSeat seat.old seat.new × (seat.new.me.1 ≡ seat.old.me.1) }
-    ensures reaps { ExtendsTwice seat.old.me.0 (Lent (held seat.old.me.0.layout.cells cell generation) (outcome_at cell) (cond failed 1 0)) (Lending (held seat.old.me.0.layout.cells cell generation)) (Did (Reap (held seat.old.me.0.layout.cells cell generation))) (Submitter (ring_of seat.old.me.0.layout.cells cell)) seat.new.me.0 }
-    ensures steps { IsTwoSteps (outcome_at cell) (claim_at cell) seat.old.me.0 seat.new.me.0 }
-    ensures parcel { IsParcel seat.new.me.0.seen (held seat.old.me.0.layout.cells cell generation) (data_of (events_of seat.old.me.0.seen) (held seat.old.me.0.layout.cells cell generation)) result }
+    ensures reaps { ExtendsTwice seat.old.me.0 (Lent (request_at seat.old.me.0.layout.cells cell generation) (facts_at cell) outcome) (Lending (request_at seat.old.me.0.layout.cells cell generation)) (Did (Reap (request_at seat.old.me.0.layout.cells cell generation))) (Submitter (ring_of seat.old.me.0.layout.cells cell)) seat.new.me.0 }
+    ensures steps { IsTwoSteps (facts_at cell) (claim_at cell) seat.old.me.0 seat.new.me.0 }
+    ensures parcel { IsParcel seat.new.me.0.seen (request_at seat.old.me.0.layout.cells cell generation) (data_of (events_of seat.old.me.0.seen) (request_at seat.old.me.0.layout.cells cell generation)) result }
 {
-    let parcel = empty(words, seat, cell, generation, failed);
-    close(words, seat, cell, generation, done);
+    let parcel = empty(words, seat, cell, generation, outcome);
+    reap_emptied(words, seat, cell, generation, done);
     parcel
 }

@@ -1,13 +1,14 @@
 //! The table, from its making to its end, and how seats are cut and joined.
 ghost use Rattle.std.specs.Prelude.{◌≡◌, ◌≢◌, ℕ, ◌+◌, ◌*◌, ◌<◌, ◌≤◌, false, [], IfOk, length, slice_index};
 ghost use Rattle.std.specs.Mem.Slots.{slots_items, slots_len, IsFull};
-ghost use Rattle.model.specs.declared.req.Req.{Req};
+ghost use Rattle.history.specs.declared.req.Req.{Req};
 ghost use Rattle.steps.specs.declared.view.Role.TheVariants.{Poller, Lending, Spent};
 ghost use Rattle.pipe.specs.Answers.{new_conduit};
 ghost use Rattle.steps.specs.Cells.{total, IsCapacity, AreNewSlots};
 ghost use Rattle.steps.specs.Rule.{stands_for, workers, IsSameSeat, Ended, opening_view, without_next, without_one, next_submitter, idle_one, hearing, messenger};
 
 use crate::law::{About, Law};
+use crate::layout::{PIPES, words_of};
 use crate::parcel::Thing;
 use crate::plays::{CutMessenger, CutSubmitter, CutWorker, Hear};
 use crate::view::View;
@@ -23,7 +24,7 @@ pub type BoardTable = Table<Option<Thing>, View, About, Law, Global>;
 pub type Words = Shared<Option<Thing>, View, About, Law>;
 
 /// A seat of the table.
-pub type Place = Seat<Option<Thing>, View>;
+pub type TableSeat = Seat<Option<Thing>, View>;
 
 /// The slots of a new table: a pipe for each capacity, nothing in the slots of the other pipes, and nothing in those of
 /// the cells.
@@ -33,7 +34,7 @@ fn new_slots(alloc: Global, caps: &[u32], rows: usize) -> Result<Vec<Option<Thin
     ensures { IfOk result (λ v. AreNewSlots caps.now rows v.items) }
 {
     let mut slots = Vec::new(alloc);
-    for p in 0..64usize {
+    for p in 0..PIPES {
         let pipe = match caps.get(p) {
             Some(cap) => Some(Thing::Piped(new_pipe(alloc, *cap)?)),
             None => None,
@@ -65,13 +66,13 @@ pub fn set_up(
     cells: &Vec<u64>,
     caps: &Vec<u32>,
     rows: usize,
-) -> Result<(BoardTable, Place), AllocError>
+) -> Result<(BoardTable, TableSeat), AllocError>
     requires rows { (rows ≤ 16384) × (rows ≡ total cells.now.items) }
     requires pipes { length caps.now.items ≤ 64 }
     requires caps { (p : ℕ) → p < length caps.now.items → IsCapacity (slice_index caps.now.items p) }
     ensures { IfOk result (λ t. (t.1.table_id ≡ t.0.shared.table_id) × (t.1.me ≡ (opening_view (record { cells = cells.now.items; caps = caps.now.items }), [])) × (t.0.shared.key.cells.value.items ≡ cells.now.items) × (t.0.shared.key.caps.value.items ≡ caps.now.items) × (t.0.shared.table_id.words ≡ 8 * rows + 72)) }
 {
-    let words = Vec::from_elem(alloc, 0u64, 8 * rows + 72)?;
+    let words = Vec::from_elem(alloc, 0u64, words_of(rows))?;
     let slots = new_slots(alloc, caps.as_slice(), rows)?;
     let about = About {
         cells: Snapshot::of(cells),
@@ -84,7 +85,7 @@ pub fn set_up(
 }
 
 /// The seat of the next ring's submitter, which leaves the poller's.
-pub fn next_submitter(words: &Words, seat: &mut Place) -> Place
+pub fn next_submitter(words: &Words, seat: &mut TableSeat) -> TableSeat
     requires fits { (seat.old.table_id ≡ words.now.table_id) × (0 < words.now.table_id.words) }
     requires poller { ((n : ℕ) × (seat.old.me.0.role ≡ Poller n)) × (1 < seat.old.me.0.parts) }
     ensures seat { IsSameSeat seat.old seat.new × (seat.new.me ≡ (without_next seat.old.me.0, seat.old.me.1)) }
@@ -94,7 +95,7 @@ pub fn next_submitter(words: &Words, seat: &mut Place) -> Place
 }
 
 /// The seat of a worker without a request.
-pub fn next_worker(words: &Words, seat: &mut Place) -> Place
+pub fn next_worker(words: &Words, seat: &mut TableSeat) -> TableSeat
     requires fits { (seat.old.table_id ≡ words.now.table_id) × (0 < words.now.table_id.words) }
     requires live { (seat.old.me.0.role ≢ Spent) × (1 < seat.old.me.0.parts) }
     ensures seat { IsSameSeat seat.old seat.new × (seat.new.me ≡ (without_one seat.old.me.0, seat.old.me.1)) }
@@ -104,7 +105,7 @@ pub fn next_worker(words: &Words, seat: &mut Place) -> Place
 }
 
 /// A seat that carries what this one has seen, and does nothing.
-pub fn tell(words: &Words, seat: &mut Place) -> Place
+pub fn tell(words: &Words, seat: &mut TableSeat) -> TableSeat
     requires fits { (seat.old.table_id ≡ words.now.table_id) × (0 < words.now.table_id.words) }
     requires live { seat.old.me.0.role ≢ Spent }
     ensures seat { IsSameSeat seat.old seat.new × (seat.new.me ≡ seat.old.me) }
@@ -114,7 +115,7 @@ pub fn tell(words: &Words, seat: &mut Place) -> Place
 }
 
 /// Takes in another seat, which has no work: this one was then told what that one had seen.
-pub fn hear(words: &Words, seat: &mut Place, other: Place)
+pub fn hear(words: &Words, seat: &mut TableSeat, other: TableSeat)
     requires fits { (seat.old.table_id ≡ words.now.table_id) × (other.table_id ≡ words.now.table_id) × (0 < words.now.table_id.words) }
     requires live { seat.old.me.0.role ≢ Spent }
     requires bare { (other.me.1 ≡ []) × ((r : Req) → stands_for other.me.0.role (workers r) ≡ false) × ((r : Req) → other.me.0.role ≢ Lending r) }
@@ -124,7 +125,7 @@ pub fn hear(words: &Words, seat: &mut Place, other: Place)
 }
 
 /// Ends the table.
-pub fn finish(board: BoardTable, seat: Place) -> Closed<Option<Thing>, Global>
+pub fn finish(board: BoardTable, seat: TableSeat) -> Closed<Option<Thing>, Global>
     requires fits { seat.table_id ≡ board.shared.table_id }
     ensures full { IsFull result.words × IsFull result.slots }
     ensures counts { slots_len result.words ≡ board.shared.table_id.words }

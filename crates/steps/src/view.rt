@@ -1,6 +1,6 @@
 //! What a seat of the table knows. All of it exists in proofs alone: no value of these types is made.
 use crate::line::Line;
-use model::Req;
+use history::Req;
 use std::collections::LinkedList;
 
 /// How many cells each ring has, and how many bytes each pipe holds.

@@ -1,5 +1,5 @@
 -- The decimal text of a number is read as that number.
-use Rattle.std.proofs.Common.{Option, to_z, of_z, ◌≡◌, ℕ, Bool, true, false, Some, ◌<◌, ◌^◌, List, Result, Ok, ℤ, pos, negsuc, arith, decimal}
+use Rattle.std.proofs.Common.{Option, to_z, of_z, ◌≡◌, ℕ, Bool, true, false, None, Some, refl, sym, ◌&&◌, ◌<◌, ◌^◌, List, Result, Ok, ℤ, pos, negsuc, arith, decimal}
 use Rattle.std.specs.Prelude.{FitsSigned}
 use Rattle.std.specs.Int.{w32}
 use Rattle.std.specs.Fmt.{signed_decimal}
@@ -8,6 +8,13 @@ use Rattle.std.proofs.lemmas.Str.{IsUtf8-from_ascii}
 use Rattle.std.proofs.lemmas.Fmt.{IsAscii-decimal, IsAscii-signed}
 use Rattle.std.proofs.lemmas.Int.{to_z-of_z}
 use lib.Signed.{mag}
+use Rattle.std.specs.Prelude.{IfSome, nat_eq, nat_lt}
+use Rattle.std.specs.Str.Parse.{digits_value}
+use Rattle.std.proofs.lemmas.Fmt.{decimal_is_IsNumeral}
+use Rattle.std.proofs.lemmas.Bool.{and_parts, lt-ltb}
+use borrow.Author.Tests.{ltb-true}
+use lib.Pointwise.{bytes_decides, pointwise}
+use Rattle.text.specs.Number.{number_in}
 
 pub mag_small : (z : ℤ) → FitsSigned w32 z → mag z < 2 ^ 63
 mag_small (pos n) h = omega (arith, h)
@@ -37,3 +44,33 @@ some_is e = cc
 -- a value of 32 bits that is read back is itself
 pub kept_reply : (x z : ℤ) → FitsSigned w32 z → x ≡ z → to_z w32 (of_z w32 x) ≡ z
 kept_reply x z fits e = rw e (to_z-of_z w32 z fits)
+
+abbrev none_at : Option ℕ
+none_at = None
+
+-- the number of a decimal text
+pub number_in-decimal : (n : ℕ) (word : List ℕ) → n < 2 ^ 64 → word ≡ decimal n → number_in word ≡ Some n
+unfolding number_in
+number_in-decimal n word lt e =
+    let v : digits_value 10 (decimal n) ≡ n = (decimal_is_IsNumeral n lt).1 in
+    let same : pointwise nat_eq (decimal n) (decimal n) ≡ true = (bytes_decides (decimal n) (decimal n)).1 refl in
+    rw (e, v, same, lt-ltb n 18446744073709551616 lt) refl
+
+number_in-cases : (word : List ℕ) (b : Bool) → (pointwise nat_eq word (decimal (digits_value 10 word)) && nat_lt (digits_value 10 word) 18446744073709551616) ≡ b
+    → ((n : ℕ) → n < 2 ^ 64 → word ≡ decimal n → ⊥) → number_in word ≡ None
+unfolding number_in
+number_in-cases word false e none = rw e refl
+number_in-cases word true e none =
+    let both = and_parts (pointwise nat_eq word (decimal (digits_value 10 word))) (nat_lt (digits_value 10 word) 18446744073709551616) e in
+    absurd (none (digits_value 10 word) (ltb-true (digits_value 10 word) 18446744073709551616 both.1) ((bytes_decides word (decimal (digits_value 10 word))).0 both.0))
+
+pub number_in-none : (word : List ℕ) → ((n : ℕ) → n < 2 ^ 64 → word ≡ decimal n → ⊥) → number_in word ≡ None
+number_in-none word none = number_in-cases word _ refl none
+
+none_is_some : (n : ℕ) → none_at ≡ Some n → ⊥
+none_is_some n e = cc
+
+pub value_from : (word : List ℕ) (r : Option ℕ) → IfSome r (λ n. (word ≡ decimal n) × (n < 2 ^ 64))
+    → ((n : ℕ) → n < 2 ^ 64 → word ≡ decimal n → r ≡ Some n) → r ≡ number_in word
+value_from word (Some n) found only = sym (number_in-decimal n word found.1 found.0)
+value_from word None found only = sym (number_in-none word (λ n lt e. none_is_some n (only n lt e)))

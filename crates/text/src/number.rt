@@ -2,12 +2,13 @@
 ghost use Rattle.std.specs.Prelude.{◌≡◌, ℕ, ◌<◌, ◌^◌, ℤ, IfSome, Some, decimal, FitsSigned};
 ghost use Rattle.std.specs.Int.{w32};
 ghost use Rattle.std.specs.Fmt.{signed_decimal};
+ghost use Rattle.text.specs.Number.{number_in};
 
 use itoa::Buffer;
 
-/// The number that the word writes in decimal, without a zero or a sign in front. None where it writes none of 64 bits.
-pub fn number_of(word: &[u8]) -> Option<u64>
-    ensures found { IfSome result (λ n. word.now ≡ decimal n) }
+/// The number of 64 bits whose decimal digits the word is.
+fn digits_of(word: &[u8]) -> Option<u64>
+    ensures found { IfSome result (λ n. (word.now ≡ decimal n) × (n < 2 ^ 64)) }
     ensures only { (n : ℕ) → n < 2 ^ 64 → word.now ≡ decimal n → result ≡ Some n }
 {
     let Ok(text) = str::from_utf8(word) else {
@@ -22,6 +23,15 @@ pub fn number_of(word: &[u8]) -> Option<u64>
     } else {
         None
     }
+}
+
+/// The number that the word writes in decimal, without a zero or a sign in front. None where it writes none of 64 bits.
+pub fn number_of(word: &[u8]) -> Option<u64>
+    ensures found { IfSome result (λ n. word.now ≡ decimal n) }
+    ensures only { (n : ℕ) → n < 2 ^ 64 → word.now ≡ decimal n → result ≡ Some n }
+    ensures value { result ≡ number_in word.now }
+{
+    digits_of(word)
 }
 
 /// The reply that the word writes in decimal, with `-` in front of a negative one. None where it writes none of 32 bits.

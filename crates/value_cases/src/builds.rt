@@ -1,6 +1,6 @@
 //! Entries that builders make.
 
-use crate::words::Words;
+use cases::Words;
 use entry::Sqe;
 
 /// The entry that a builder makes, by the builder's name and its arguments in their order.

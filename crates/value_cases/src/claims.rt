@@ -2,14 +2,15 @@
 
 use crate::shown::{show_bytes, show_texts};
 use crate::told::Told;
-use crate::words::Words;
+use crate::words::array_of;
+use cases::Words;
 use claim::{Cause, ClaimWord, GENERATIONS, Tag, pack, unpack};
 use std::fmt;
 
 /// What is told of 64 bits, a claim word, a cause or the number of a tag.
 pub fn told_of_claim(kind: &str, words: &mut Words<'_>) -> Told {
     match kind {
-        "claim" => Told::Claim(unpack(u64::from_be_bytes(words.bytes()))),
+        "claim" => Told::Claim(unpack(u64::from_be_bytes(array_of(words)))),
         "word" => Told::Claim(Some(word_of(words))),
         "cause" => Told::Cause(cause_of(words)),
         "tag" => Told::Tag(Tag::of_number(words.number())),

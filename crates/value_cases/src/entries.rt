@@ -4,8 +4,9 @@ use crate::builds::built;
 use crate::claims::told_of_claim;
 use crate::shown::{show_bytes, show_each, show_texts};
 use crate::told::Told;
-use crate::words::Words;
+use crate::words::array_of;
 use bitflags::Flags;
+use cases::Words;
 use entry::{Cqe, Offset, Op, Row, Sqe, SqeFlags};
 use prep::{with_flags, with_user_data};
 use std::fmt;
@@ -15,7 +16,7 @@ use std::fmt::Formatter;
 /// or another user_data.
 pub fn entry_of(last: Sqe, kind: &str, words: &mut Words<'_>) -> Option<Sqe> {
     Some(match kind {
-        "sqe" => Sqe::of_bytes(&words.bytes()),
+        "sqe" => Sqe::of_bytes(&array_of(words)),
         "row" => Sqe::of_row(row_of(words), words.number(), words.number()),
         "build" => built(words),
         "with_flags" => with_flags(last, words.number()),
@@ -39,7 +40,7 @@ fn row_of(words: &mut Words<'_>) -> Row {
 /// What is told of a part of entries, a completion, or what claim words are.
 pub fn told_of_part(kind: &str, words: &mut Words<'_>) -> Told {
     match kind {
-        "near" => Told::Neighbours(neighbours_of(words.bytes())),
+        "near" => Told::Neighbours(neighbours_of(array_of(words))),
         "candidate" => Told::Op(row_of(words).candidate()),
         "is_written" => {
             let row = row_of(words);
@@ -49,7 +50,7 @@ pub fn told_of_part(kind: &str, words: &mut Words<'_>) -> Told {
             ticks: words.number(),
         }),
         "constants" => Told::Constants,
-        "cqe" => Told::Completion(Cqe::of_bytes(&words.bytes())),
+        "cqe" => Told::Completion(Cqe::of_bytes(&array_of(words))),
         "completion" => Told::Completion(Some(Cqe {
             user_data: words.number(),
             res: words.number(),

@@ -23,6 +23,7 @@ mod shown;
 mod told;
 mod words;
 
+use cases::Words;
 use entries::{entry_of, told_of_part};
 use entry::{Sqe, fails};
 use pipe::Pipe;
@@ -31,7 +32,6 @@ use std::alloc::{AllocError, AllocGlobal, Global};
 use std::io;
 use std::io::{Print, Read};
 use told::Told;
-use words::Words;
 
 /// What later lines speak of: the last entry and the last pipe.
 #[derive(Drop)]

@@ -1,8 +1,7 @@
 //! Pipes.
 
 use crate::told::Told;
-use crate::words::Words;
-use hex::FromHexError;
+use cases::Words;
 use pipe::{End, Pipe, PipeError};
 use std::alloc::{AllocError, Global};
 
@@ -70,7 +69,7 @@ fn told_of_bytes(
     kind: &str,
     words: &mut Words<'_>,
 ) -> Result<Told, AllocError> {
-    let mut bytes = bytes_of(alloc, words)?;
+    let mut bytes = words.bytes(alloc)?;
     if !words.are_whole() {
         return Ok(Told::BadLine);
     }
@@ -79,15 +78,6 @@ fn told_of_bytes(
     } else {
         let answer = pipe.read_into(bytes.as_mut_slice());
         Ok(Told::Read(answer, bytes))
-    }
-}
-
-/// The bytes of a line: none where it has no more words.
-fn bytes_of(alloc: Global, words: &mut Words<'_>) -> Result<Vec<u8>, AllocError> {
-    match hex::decode(alloc, words.word_or_none()) {
-        Ok(bytes) => Ok(bytes),
-        Err(FromHexError::OutOfMemory) => Err(AllocError),
-        Err(_) => Ok(words.bad(Vec::new(alloc))),
     }
 }
 

@@ -1,12 +1,12 @@
 -- What contracts see of a board, and when a pass is one of its own.
 use Rattle.std.specs.Prelude.{◌≡◌, ℕ, ◌+◌, ◌-◌, ◌*◌, ◌<◌, ◌≤◌, false, [], length}
 use Rattle.atomic_table.specs.Seated.{TableId}
-use Rattle.model.specs.History.{was_shut}
-use Rattle.model.specs.Legal.{Legal}
+use Rattle.history.specs.History.{was_shut}
+use Rattle.history.specs.Legal.{Legal}
 use Rattle.steps.specs.declared.view.Layout.{Layout}
 use Rattle.steps.specs.declared.view.Role.{Role}
 use Rattle.steps.specs.declared.view.Role.TheVariants.{Poller}
-use Rattle.steps.specs.Journal.{Orderly}
+use Rattle.steps.specs.Fairness.{Orderly}
 use Rattle.steps.specs.Cells.{setup_of, total}
 use Rattle.work.specs.Grid.{AreCells}
 use Rattle.work.specs.Passes.{Pass, seen_of}
@@ -21,6 +21,7 @@ pub record IsBoard (b : Facts) : Type 0 where
   pub wide : b.table.words ≡ 8 * total b.layout.cells + 72
   pub cells : AreCells b.layout.cells
   pub rings : (0 < length b.layout.cells) × (length b.layout.cells ≤ 16)
+  pub pipes : length b.layout.caps ≤ 64
   pub workers : b.workers ≤ 64
 
 -- the parts that the pass with this role has: the poller's has all that the others don't, so who has all parts has all passes
@@ -35,5 +36,5 @@ pub record IsOf (b : Facts) (p : Pass) : Type 0 where
   pub share_is : p.view.parts ≡ share_of b p.view.role
   pub legal : Legal (setup_of b.layout) (seen_of p)
   pub live : was_shut (seen_of p) ≡ false
-  pub orderly : Orderly p.view.seen
+  pub orderly : Orderly b.layout p.view.seen
   pub looked : p.view.heard ≡ []

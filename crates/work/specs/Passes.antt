@@ -1,17 +1,26 @@
 -- What contracts see of a pass, and when it belongs to a board.
-use Rattle.std.specs.Prelude.{◌≡◌, ◌≢◌, ℕ, ◌+◌, ◌*◌, ◌<◌, List, [], ◌∷◌, Option, Some, None}
+use Rattle.std.specs.Prelude.{◌≡◌, ◌≢◌, ℕ, ◌+◌, ◌*◌, ◌<◌, ◌≤◌, cond, List, [], ◌∷◌, ◌++◌, length, slice_index, Option, Some, None}
 use Rattle.atomic_table.specs.Seated.{TableId}
 use Rattle.atomic_table.specs.declared.shared.Seat.{Seat}
-use Rattle.model.specs.declared.req.Req.{Req}
-use Rattle.model.specs.declared.event.Event.{Event}
+use Rattle.history.specs.declared.req.Req.{Req}
+use Rattle.history.specs.declared.event.Event.{Event}
+use Rattle.history.specs.Pipes.{flow}
+use Rattle.pipe.specs.Pipe.{Conduit}
+use Rattle.answers.specs.Answered.{IsPipe}
+use Rattle.answers.specs.Ends.{pipe_in}
+use Rattle.steps.specs.declared.line.Line.{Line}
 use Rattle.steps.specs.declared.parcel.Parcel.{Parcel}
 use Rattle.steps.specs.declared.parcel.Thing.{Thing}
+use Rattle.steps.specs.declared.view.Role.{Role}
 use Rattle.steps.specs.declared.view.Role.TheVariants.{Idle, Busy}
+use Rattle.steps.specs.declared.view.Step.{Step}
 use Rattle.steps.specs.declared.view.View.{View}
-use Rattle.steps.specs.Journal.{events_of, holder, Orderly}
-use Rattle.steps.specs.Cells.{setup_of, IsCell, held, total, claim_at, slot_at, word_of, IsParcel}
-use Rattle.steps.specs.Rule.{IsStep}
-use Rattle.model.specs.Legal.{Legal}
+use Rattle.steps.specs.Fairness.{Orderly}
+use Rattle.steps.specs.Journal.{event_of, events_of, holder}
+use Rattle.steps.specs.Cells.{setup_of, IsCell, request_at, total, claim_at, slot_at, word_of, IsParcel}
+use Rattle.steps.specs.Plays.{HasAlone}
+use Rattle.steps.specs.Rule.{owns, IsStep}
+use Rattle.history.specs.Legal.{Legal}
 use Rattle.claim.specs.declared.tag.Tag.TheVariants.{Ready}
 
 -- the table that a pass is of, and what it knows
@@ -26,10 +35,12 @@ seen_of p = events_of p.view.seen
 abbrev pub pass_of : Seat (Option Thing) View → Pass
 pass_of s = record { table = s.table_id; view = s.me.0 }
 
--- the pass is of this table, whose rings have so many cells
-pub record IsOn (table : TableId) (K : List ℕ) (p : Pass) : Type 0 where
+-- the pass is of this table, whose rings have so many cells, and which has so many pipes
+pub record IsOn (table : TableId) (K : List ℕ) (pipes : ℕ) (p : Pass) : Type 0 where
   pub table_is : p.table ≡ table
   pub cells_are : p.view.layout.cells ≡ K
+  pub pipes_are : length p.view.layout.caps ≡ pipes
+  pub few : pipes ≤ 64
   pub wide : table.words ≡ 8 * total K + 72
 
 -- an idle worker's seat: it has no request, and no slot
@@ -53,18 +64,47 @@ pub record Running : Type 0 where
   pub pass : Pass
   pub req : Req
 
--- the seat of a worker that runs the request r of this cell and generation, and has its parcel in hand
-pub record IsBusySeat (table : TableId) (s : Seat (Option Thing) View) (x g : ℕ) (r : Req) (p : Parcel) : Type 0 where
+-- the view of a worker that runs the request r of this cell and generation, whose parcel is p, on a board of so many pipes
+pub record RunsIt (table : TableId) (v : View) (x g : ℕ) (r : Req) (p : Parcel) (pipes : ℕ) : Type 0 where
+  pub req_is : request_at v.layout.cells x g ≡ r
+  pub fits : (x < 16384) × IsCell v.layout.cells x × (claim_at x + 7 < table.words) × (g < 16777216)
+  pub pipes_are : (length v.layout.caps ≡ pipes) × (pipes ≤ 64)
+  pub role : v.role ≡ Busy r
+  pub parts : 0 < v.parts
+  pub parcel : IsParcel v.seen r [] p
+  pub orderly : Orderly v.layout v.seen
+  pub legal : Legal (setup_of v.layout) (events_of v.seen)
+
+-- its seat, with the parcel in hand, and no pipe
+pub record IsBusySeat (table : TableId) (s : Seat (Option Thing) View) (x g : ℕ) (r : Req) (p : Parcel) (pipes : ℕ) : Type 0 where
   pub table_is : s.table_id ≡ table
-  pub req_is : held s.me.0.layout.cells x g ≡ r
-  pub fits : (x < 16384) × IsCell s.me.0.layout.cells x × (claim_at x + 7 < table.words) × (g < 16777216)
-  pub role : s.me.0.role ≡ Busy r
-  pub parts : 0 < s.me.0.parts
+  pub runs : RunsIt table s.me.0 x g r p pipes
   pub out : s.me.1 ≡ (slot_at x, None) ∷ []
-  pub parcel : IsParcel s.me.0.seen r [] p
   pub bare : (n : ℕ) → holder s.me.0.seen n ≢ Some r
-  pub orderly : Orderly s.me.0.seen
-  pub legal : Legal (setup_of s.me.0.layout) (events_of s.me.0.seen)
+
+-- the same with the pipe that the entry names in hand, as what was seen tells, and no other
+pub record IsHoldingSeat (table : TableId) (s : Seat (Option Thing) View) (x g : ℕ) (r : Req) (p : Parcel) (pipes n : ℕ) (c : Conduit) : Type 0 where
+  pub table_is : s.table_id ≡ table
+  pub runs : RunsIt table s.me.0 x g r p pipes
+  pub out : s.me.1 ≡ (n, None) ∷ (slot_at x, None) ∷ []
+  pub alone : HasAlone s.me.0.seen n r
+  pub named : (pipe_in p.sqe.op ≡ Some n) × (n < pipes)
+  pub pipe_is : IsPipe (slice_index s.me.0.layout.caps n) c (flow (events_of s.me.0.seen) n)
+
+-- a worker that runs a request and has this pipe of the board in hand, as contracts see it
+pub record Holding : Type 0 where
+  pub pass : Pass
+  pub req : Req
+  pub pipe : ℕ
+
+-- the events of these lines that only a pass with this role can cause, the newest first
+abbrev pub own_of : Role → List Line → List Event
+own_of role [] = []
+own_of role (l ∷ j) = cond (owns role l) (event_of l (own_of role j)) (own_of role j)
+
+-- the seat made exactly n steps more
+abbrev pub Took : View → View → ℕ → Type 0
+Took old new n = (steps : List Step) × (length steps ≡ n) × (new.steps ≡ steps ++ old.steps)
 
 -- the last step of the pass read this word, and found this there
 abbrev pub LastStep : View → View → ℕ → ℕ → Type 0
@@ -72,4 +112,4 @@ LastStep old new word found = IsStep word found old new
 
 -- the request's claim word was found not to be Ready, by the one step that the pass took
 abbrev pub FoundNotReady : List ℕ → Req → View → View → Type 0
-FoundNotReady K r old new = (x : ℕ) × (g : ℕ) × (n : ℕ) × IsCell K x × (held K x g ≡ r) × LastStep old new (claim_at x) n × (n ≢ word_of Ready 0 g 0)
+FoundNotReady K r old new = (x : ℕ) × (g : ℕ) × (n : ℕ) × IsCell K x × (request_at K x g ≡ r) × LastStep old new (claim_at x) n × (n ≢ word_of Ready 0 g 0)

@@ -1,15 +1,79 @@
 -- What a run does.
-use Rattle.std.specs.Prelude.{◌≡◌, []}
+use Rattle.std.specs.Prelude.{◌≡◌, ◌≢◌, ℕ, ◌<◌, Bool, true, false, ℤ, List, [], ◌∷◌, ◌++◌, length, Option, Some, None}
+use Rattle.entry.specs.declared.op.Op.{Op}
 use Rattle.entry.specs.Entry.{Entry}
-use Rattle.model.specs.declared.event.Event.TheVariants.{Reply}
-use Rattle.model.specs.Chains.{IsPlaced}
+use Rattle.history.specs.declared.req.Req.{Req}
+use Rattle.history.specs.declared.event.Event.{Event}
+use Rattle.history.specs.declared.event.Event.TheVariants.{Park, Reply}
+use Rattle.history.specs.Answers.{OpAnswers, is_pipe}
+use Rattle.history.specs.Chains.{IsPlaced}
+use Rattle.history.specs.Legal.{Legal}
+use Rattle.answers.specs.Ends.{pipe_in}
+use Rattle.steps.specs.declared.line.Line.{Line}
 use Rattle.steps.specs.declared.line.Line.TheVariants.{Did}
-use Rattle.steps.specs.declared.view.Role.TheVariants.{Idle}
-use Rattle.steps.specs.Rule.{Extends}
-use Rattle.work.specs.declared.worker.Ran.{Ran}
-use Rattle.work.specs.declared.worker.Ran.TheVariants.{Replied}
-use Rattle.work.specs.Passes.{Pass, Running, seen_of}
+use Rattle.steps.specs.declared.view.Role.TheVariants.{Idle, Busy}
+use Rattle.steps.specs.declared.view.Step.{Step}
+use Rattle.steps.specs.declared.view.View.{View}
+use Rattle.steps.specs.Journal.{events_of, holder}
+use Rattle.steps.specs.Cells.{setup_of, pipe_at}
+use Rattle.steps.specs.Rule.{Begins, IsStep}
+use Rattle.work.specs.declared.run.Parked.{Parked as Reason}
+use Rattle.work.specs.declared.run.Parked.TheVariants.{NotReady, PipeBusy}
+use Rattle.work.specs.declared.run.Ran.{Ran}
+use Rattle.work.specs.declared.run.Ran.TheVariants.{Replied, Parked}
+use Rattle.work.specs.Passes.{Pass, Running, seen_of, own_of}
 
--- the pass goes on by the reply that the completion tells, which has the entry's user_data
+-- the worker of r went on by one event of its own, the last that it has seen, and is idle
+pub record EndsBy (v w : View) (r : Req) (e : Event) : Type 0 where
+  pub later : List Line
+  pub seen_is : w.seen ≡ Did e ∷ (later ++ v.seen)
+  pub own : own_of (Busy r) later ≡ []
+  pub role_is : w.role ≡ Idle
+
+-- in a legal history between what was seen before and after there was no answer
+pub record NoAnswer (v w : View) (r : Req) (e : Entry) : Type 0 where
+  pub at : List Line
+  pub after : Begins at v.seen
+  pub before : Begins w.seen at
+  pub legal : Legal (setup_of v.layout) (events_of at)
+  pub none : (res : ℤ) (data' : List ℕ) → ¬ OpAnswers v.layout.caps (events_of at) r e.op res data'
+
+-- there is no answer in what was seen
+abbrev pub Unanswered : View → Req → Entry → Type 0
+Unanswered v r e = (res : ℤ) (data' : List ℕ) → ¬ OpAnswers v.layout.caps (events_of v.seen) r e.op res data'
+
+-- the one step found the pipe's word out, with another worker
+abbrev pub MissedPipe : View → View → ℕ → Req → Type 0
+MissedPipe v w p r = (n : ℕ) × IsStep (pipe_at p) n v w × (n ≢ 0) × (other : Req) × (holder w.seen p ≡ Some other) × (other ≢ r)
+
+-- a step of the run found the pipe's word out, with another worker
+pub record FoundOut (v w : View) (r : Req) (p : ℕ) : Type 0 where
+  pub step : Step
+  pub after : List Step
+  pub steps : w.steps ≡ after ++ (step ∷ v.steps)
+  pub word_is : step.word ≡ pipe_at p
+  pub out : step.found ≢ 0
+  pub other : Req
+  pub holds : holder step.seen p ≡ Some other
+  pub is_other : other ≢ r
+
+abbrev pub IsReason : View → View → Req → Entry → ℕ → Reason → Type 0
+IsReason v w r e p NotReady = NoAnswer v w r e
+IsReason v w r e p PipeBusy = FoundOut v w r p
+
+-- the operation names a pipe among these
+abbrev pub names : List ℕ → Option ℕ → Bool
+names caps None = false
+names caps (Some p) = is_pipe caps p
+
+-- a reply is the one that the completion reports, which has the entry's user_data. What is parked names a pipe of the board
 abbrev pub IsRun : Running → Pass → Ran → Type 0
-IsRun b w (Replied cqe) = Extends b.pass.view (Did (Reply b.req cqe.res [])) Idle w.view × ((e : Entry) → IsPlaced (seen_of b.pass) b.req e → cqe.user_data ≡ e.user_data)
+IsRun b w (Replied cqe) = ((data' : List ℕ) × EndsBy b.pass.view w.view b.req (Reply b.req cqe.res data')) × ((e : Entry) → IsPlaced (seen_of b.pass) b.req e → cqe.user_data ≡ e.user_data)
+IsRun b w (Parked why) = EndsBy b.pass.view w.view b.req (Park b.req) × ((e : Entry) → IsPlaced (seen_of b.pass) b.req e → (p : ℕ) × (pipe_in e.op ≡ Some p) × (p < length b.pass.view.layout.caps) × IsReason b.pass.view w.view b.req e p why)
+
+-- how many steps a run takes, by whether the entry names a pipe of the board
+abbrev pub run_steps : Bool → Ran → ℕ
+run_steps false (Replied cqe) = 1
+run_steps true (Replied cqe) = 3
+run_steps b (Parked NotReady) = 3
+run_steps b (Parked PipeBusy) = 2

@@ -1,16 +1,17 @@
 //! Where the requests of the rings lie among the cells of the table.
 ghost use Rattle.std.specs.Prelude.{◌≡◌, ◌<◌, ◌≤◌, length, IfOk, IfSome, IfNone};
-ghost use Rattle.steps.specs.Cells.{IsCell, cells_in, held, total};
+ghost use Rattle.steps.specs.Cells.{IsCell, cells_in, place_of, request_at, total};
 
-use model::Req;
+use history::Req;
 use std::alloc::{AllocError, Global};
 use std::marker::Model;
 
-/// A request's cell, and which generation of it the request is.
+/// A request's cell, which generation of it the request is, and the cell's number within its ring.
 #[derive(Clone, Copy, PartialEq, Eq, Debug)]
 pub struct Spot {
     pub cell: usize,
     pub generation: u64,
+    pub number: usize,
 }
 
 /// The cells of one ring: the number of its first one, and how many there are.
@@ -83,13 +84,16 @@ impl Grid {
 
     /// Where the request lies: None for a ring that isn't there.
     pub fn locate(&self, req: Req) -> Option<Spot>
-        ensures some { IfSome result (λ s. IsCell self.now s.cell × (held self.now s.cell s.generation ≡ req) × (s.cell < 16384)) }
+        ensures some { IfSome result (λ s. IsCell self.now s.cell × (request_at self.now s.cell s.generation ≡ req) × (s.cell < 16384)) }
+        ensures number { IfSome result (λ s. s.number ≡ place_of self.now s.cell) }
         ensures none { IfNone result (length self.now ≤ req.ring) }
     {
         let row = self.rows.get(usize::from(req.ring))?;
+        let number = (req.k % row.cells) as usize;
         Some(Spot {
-            cell: row.first + (req.k % row.cells) as usize,
+            cell: row.first + number,
             generation: req.k / row.cells,
+            number,
         })
     }
 }

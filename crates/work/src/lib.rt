@@ -1,10 +1,15 @@
 //! What a worker does with a request: it begins it, and answers it or puts it back.
 #![tactic(auto)]
 
+pub mod busy;
 pub mod grid;
+mod holding;
 pub mod pass;
+pub mod run;
 pub mod worker;
 
+pub use busy::Busy;
 pub use grid::{Grid, Spot};
 pub use pass::{Messenger, Pass};
-pub use worker::{Busy, Ran, Worker};
+pub use run::{Parked, Ran};
+pub use worker::Worker;

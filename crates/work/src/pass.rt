@@ -5,11 +5,11 @@ ghost use Rattle.steps.specs.Cells.{claim_at};
 ghost use Rattle.steps.specs.Rule.{Looks, Shown, IsStep, messenger, hearing};
 
 use std::marker::Model;
-use steps::{Place, Words};
+use steps::{TableSeat, Words};
 
 /// What a pass has seen, on its way to another pass. Contracts see what it carries.
 pub struct Messenger {
-    place: Place,
+    seat: TableSeat,
 }
 
 impl Model for Messenger {
@@ -17,29 +17,29 @@ impl Model for Messenger {
 
     ghost Value = { Pass };
 
-    ghost view = { λ m. pass_of m.place };
+    ghost view = { λ m. pass_of m.seat };
 
-    ghost invariant = { λ m. IsMessengerSeat m.place };
+    ghost invariant = { λ m. IsMessengerSeat m.seat };
 }
 
 impl Messenger {
     ghost use Rattle.work.specs.Passes.{pass_of, IsMessengerSeat};
 
     /// The messenger with this seat.
-    pub fn new(place: Place) -> Messenger
-        requires { IsMessengerSeat place }
-        ensures { result ≡ pass_of place }
+    pub fn new(seat: TableSeat) -> Messenger
+        requires { IsMessengerSeat seat }
+        ensures { result ≡ pass_of seat }
     {
-        Self { place }
+        Self { seat }
     }
 
     /// Its seat.
-    pub fn into_place(self) -> Place
+    pub fn into_seat(self) -> TableSeat
         ensures seat { IsMessengerSeat result }
         ensures value { pass_of result ≡ self }
     {
-        let Messenger { place } = self;
-        place
+        let Messenger { seat } = self;
+        seat
     }
 }
 

@@ -1,16 +1,16 @@
 use Rattle.std.proofs.Common.{◌≡◌, ℕ, List, get_or, sym, ◌∙◌, subst, arith, true≢false}
-use Rattle.model.specs.Legal.{Setup}
-use Rattle.model.specs.History.{phase}
+use Rattle.history.specs.Legal.{Setup}
+use Rattle.history.specs.History.{phase}
 use Rattle.steps.specs.declared.line.Line.{Line}
 use Rattle.steps.specs.declared.parcel.Parcel.{Parcel}
 use Rattle.steps.specs.declared.parcel.Thing.TheVariants.{Full}
 use Rattle.steps.specs.Journal.{events_of}
-use Rattle.steps.specs.Cells.{held}
+use Rattle.steps.specs.Cells.{request_at}
 use Rattle.steps.specs.Rule.{Shown}
 use Rattle.board.specs.Calls.{IsWord, IsPresent}
 use Rattle.board.specs.Remains.{IsLeft}
-use Rattle.board.proofs.Emptying.{word_at}
-use Rattle.board.proofs.Listing.{line_skipped, line_added, present_left, absent_left, is_line, has_slot, one_full}
+use Rattle.board.proofs.TakenCells.{word_at}
+use Rattle.board.proofs.ReportLines.{line_skipped, line_added, present_left, absent_left, is_line, has_slot, one_full}
 use Rattle.board.proofs.report.add_line.Goals as goal
 
 pub told-phase-requires : goal.told-phase-requires
@@ -25,7 +25,7 @@ returns-then-not-is_present c = λ s j so.
     let e : c.index.result.now ≡ get_or c.args.remains.now.claims.items x 0 = word_at c.args.remains.now.claims.items x c.index.result.now c.index.ensures (omega arith) in
     let stands = c.told-phase.ensures.stands c.args.grid.now j x (subst (Shown c.args.grid.now j x) (sym e) (so.rests.shown x inside)) in
     let absent : ¬ IsPresent c.told-phase.result = λ p. true≢false (sym (c.is_present.ensures.1 p) ∙ c.if-not-is_present.true) in
-    line_skipped s c.args.grid.now j _ _ _ _ c.args.req so (subst (λ z. ¬ IsLeft (phase (events_of j) z)) at (absent_left j (held c.args.grid.now x c.in-Some.spot.generation) c.told-phase.result stands absent)))
+    line_skipped s c.args.grid.now j _ _ _ _ c.args.req so (subst (λ z. ¬ IsLeft (phase (events_of j) z)) at (absent_left j (request_at c.args.grid.now x c.in-Some.spot.generation) c.told-phase.result stands absent)))
 
 pub take_parcel-parcel-requires : goal.take_parcel-parcel-requires
 take_parcel-parcel-requires c =
@@ -33,7 +33,7 @@ take_parcel-parcel-requires c =
     let x = c.in-Some.spot.cell in let inside = c.in-Some.ensures.some.0 in let at = c.in-Some.ensures.some.1 in let long = so.rests.long in
     let e : c.index.result.now ≡ get_or c.args.remains.now.claims.items x 0 = word_at c.args.remains.now.claims.items x c.index.result.now c.index.ensures (omega arith) in
     let stands = c.told-phase.ensures.stands c.args.grid.now j x (subst (Shown c.args.grid.now j x) (sym e) (so.rests.shown x inside)) in
-    let left = present_left j (held c.args.grid.now x c.in-Some.spot.generation) c.told-phase.result (so.rests.still _) stands (c.is_present.ensures.0 c.if-not-is_present.false) in
+    let left = present_left j (request_at c.args.grid.now x c.in-Some.spot.generation) c.told-phase.result (so.rests.still _) stands (c.is_present.ensures.0 c.if-not-is_present.false) in
     let k = has_slot s c.args.grid.now j _ _ _ _ c.args.req so x c.in-Some.spot.generation inside at left in (k.0, k.1)
 
 pub unreachable-requires-in_default-push : goal.unreachable-requires-in_default-push
@@ -46,7 +46,7 @@ returns c = λ s j so.
     (let x = c.in-Some.spot.cell in let g = c.in-Some.spot.generation in let inside = c.in-Some.ensures.some.0 in let at = c.in-Some.ensures.some.1 in let long = so.rests.long in let K : List ℕ = c.args.grid.now in
     let e : c.index.result.now ≡ get_or c.args.remains.now.claims.items x 0 = word_at c.args.remains.now.claims.items x c.index.result.now c.index.ensures (omega arith) in
     let stands = c.told-phase.ensures.stands K j x (subst (Shown K j x) (sym e) (so.rests.shown x inside)) in let present = c.is_present.ensures.0 c.if-not-is_present.false in
-    let left = present_left j (held K x g) c.told-phase.result (so.rests.still _) stands present in
+    let left = present_left j (request_at K x g) c.told-phase.result (so.rests.still _) stands present in
     let parcel : Parcel = c.take_parcel-parcel.result in let line = c.line_of.ensures in
     let right = is_line s K j _ _ _ _ c.args.req so x g inside at left parcel c.take_parcel-parcel.ensures.parcel c.told-phase.result stands present c.line_of.result line.req line.user_data line.buffer line.reply in
     line_added s K j _ _ _ _ c.args.req so x g (Full parcel) c.line_of.result c.push.new.self.items c.take_parcel-parcel.new.slots.items _ inside at (subst (λ z. IsLeft (phase (events_of j) z)) at left) line.req right c.take_parcel-parcel.ensures.parcel c.in-Ok.ensures.items c.take_parcel-parcel.ensures.slots c.push.ensures.capacity)

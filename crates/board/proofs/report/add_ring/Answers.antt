@@ -2,11 +2,11 @@ use Rattle.std.proofs.Common.{◌≡◌, ◌≤◌, ◌+◌, ◌*◌, ◌-◌, �
 use Rattle.std.proofs.Math.Facts.{Fits-of_lt}
 use Rattle.steps.specs.Cells.{cells_in}
 use Rattle.steps.specs.Rule.{Shown}
-use Rattle.work.proofs.Rows.{counts_at}
+use Rattle.work.proofs.GridRows.{counts_at}
 use Rattle.board.specs.Calls.{IsWord}
 use Rattle.board.specs.Remains.{Reports}
-use Rattle.board.proofs.Emptying.{word_at}
-use Rattle.board.proofs.Listing.{ring_opens, ring_closes, few_rows}
+use Rattle.board.proofs.TakenCells.{word_at}
+use Rattle.board.proofs.ReportLines.{ring_opens, ring_closes, few_rows}
 use Rattle.board.proofs.report.add_ring.Goals as goal
 
 pub age_of-age-requires : goal.age_of-age-requires

@@ -1,5 +1,5 @@
 use Rattle.std.specs.Prelude.{List, vec_capacity}
-use Rattle.model.specs.Legal.{Setup}
+use Rattle.history.specs.Legal.{Setup}
 use Rattle.steps.specs.declared.line.Line.{Line}
 use Rattle.board.specs.Remains.{Reports}
 use Rattle.board.proofs.report.add_ring.Given as goal

@@ -1,7 +1,7 @@
 use Rattle.std.proofs.Common.{sym, ap, ◌∙◌, subst}
 use Rattle.claim.specs.Claim.{Claim}
 use Rattle.steps.specs.Cells.{Ages}
-use Rattle.board.proofs.Telling.{parts_tell}
+use Rattle.board.proofs.Standings.{parts_tell}
 use Rattle.board.proofs.report.age_of.Goals as goal
 
 pub returns-clause-ages : goal.returns-clause-ages

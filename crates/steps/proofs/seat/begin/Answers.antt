@@ -1,17 +1,16 @@
 use Rattle.std.proofs.Common.{ℕ, sym, ◌∙◌, eq-eqb, refl, subst, arith, eqb-true}
-use Rattle.steps.specs.Cells.{claim_at}
 use Rattle.steps.specs.Rule.{IsStep}
-use Rattle.steps.proofs.Path.{begin_allows}
+use Rattle.steps.proofs.LoadReleaseBegin.{begin_allows}
 use Rattle.steps.proofs.seat.begin.Goals as goal
 
 pub compare_exchange-requires : goal.compare_exchange-requires
-compare_exchange-requires c = let f = c.requires.fits in (f.0, omega arith, begin_allows _ _ _ _ c.args.cell c.args.generation _ _ c.requires.idle.0 c.requires.idle.1 f.2 c.requires.small c.ready-ready.ensures c.running-running.ensures)
+compare_exchange-requires c = let f = c.requires.fits in rw c.claim_word.ensures (f.0, omega arith, begin_allows _ _ _ _ c.args.cell c.args.generation _ _ c.requires.idle.0 c.requires.idle.1 f.2 c.requires.small c.ready-ready.ensures c.running-running.ensures)
 
 pub returns-clause-begins : goal.returns-clause-begins
-returns-clause-begins c = let f = c.requires.fits in let p = c.compare_exchange.ensures.2.0 in λ e. p (eqb-true _ _ e) c.args.cell c.args.generation 0 refl f.2 c.requires.small (omega arith) c.ready-ready.ensures
+returns-clause-begins c = let f = c.requires.fits in let p = c.compare_exchange.ensures.2.0 in λ e. p (eqb-true _ _ e) c.args.cell c.args.generation 0 c.claim_word.ensures f.2 c.requires.small (omega arith) c.ready-ready.ensures
 
 pub returns-clause-missed : goal.returns-clause-missed
-returns-clause-missed c = let f = c.requires.fits in λ ne. let m = c.compare_exchange.ensures.2.1 (λ hit. ne (eq-eqb _ _ hit)) in (c.compare_exchange.result, m.3, m.2 c.args.cell refl f.2, λ e. ne (eq-eqb _ _ (e ∙ sym c.ready-ready.ensures)))
+returns-clause-missed c = let f = c.requires.fits in λ ne. let m = c.compare_exchange.ensures.2.1 (λ hit. ne (eq-eqb _ _ hit)) in (c.compare_exchange.result, subst (λ (i : ℕ). IsStep i c.compare_exchange.result c.args.seat.now.me.0 c.compare_exchange.new.seat.me.0) c.claim_word.ensures m.3, m.2 c.args.cell c.claim_word.ensures f.2, λ e. ne (eq-eqb _ _ (e ∙ sym c.ready-ready.ensures)))
 
 pub returns-clause-step : goal.returns-clause-step
-returns-clause-step c = λ e. subst (λ (n : ℕ). IsStep (claim_at c.args.cell) n c.args.seat.now.me.0 c.compare_exchange.new.seat.me.0) (eqb-true _ _ e ∙ c.ready-ready.ensures) c.compare_exchange.ensures.2.2
+returns-clause-step c = λ e. subst (λ (z : ℕ × ℕ). IsStep z.0 z.1 c.args.seat.now.me.0 c.compare_exchange.new.seat.me.0) (λ i. (c.claim_word.ensures i, (eqb-true _ _ e ∙ c.ready-ready.ensures) i)) c.compare_exchange.ensures.2.2

@@ -1,25 +1,24 @@
 use Rattle.std.proofs.Common.{ℕ, ◌∙◌, eq-eqb, ◌≡◌, true, sym, refl, subst, arith, eqb-true}
-use Rattle.steps.specs.Cells.{claim_at}
 use Rattle.steps.specs.Rule.{pollers, stands_for, IsStep}
-use Rattle.steps.proofs.Combining.{either_way}
-use Rattle.steps.proofs.Path.{release_allows}
+use Rattle.steps.proofs.StepKinds.{either_way}
+use Rattle.steps.proofs.LoadReleaseBegin.{release_allows}
 use Rattle.steps.proofs.seat.release.Goals as goal
 
 pub compare_exchange-requires : goal.compare_exchange-requires
 compare_exchange-requires c = let f = c.requires.fits in let role = c.requires.poller.0.1 in
-    (f.0, omega arith, release_allows _ _ _ _ c.args.cell c.args.generation _ _ (subst (λ z. stands_for z pollers ≡ true) (sym role) refl) c.requires.poller.1 (λ e. (let y = sym role in cc)) (λ q e. (let y = sym role in cc)) f.2 c.requires.small c.held-held.ensures c.ready-ready.ensures c.requires.submitted c.requires.may)
+    rw c.claim_word.ensures (f.0, omega arith, release_allows _ _ _ _ c.args.cell c.args.generation _ _ (subst (λ z. stands_for z pollers ≡ true) (sym role) refl) c.requires.poller.1 (λ e. (let y = sym role in cc)) (λ q e. (let y = sym role in cc)) f.2 c.requires.small c.held-held.ensures c.ready-ready.ensures c.requires.submitted c.requires.may)
 
 pub returns-clause-frees : goal.returns-clause-frees
-returns-clause-frees c = let f = c.requires.fits in let p = c.compare_exchange.ensures.2.0 in λ e. (p (eqb-true _ _ e) c.args.cell c.args.generation 0 refl f.2 c.requires.small (omega arith) c.held-held.ensures).0
+returns-clause-frees c = let f = c.requires.fits in let p = c.compare_exchange.ensures.2.0 in λ e. (p (eqb-true _ _ e) c.args.cell c.args.generation 0 c.claim_word.ensures f.2 c.requires.small (omega arith) c.held-held.ensures).0
 
 pub returns-clause-seat : goal.returns-clause-seat
 returns-clause-seat c = let f = c.requires.fits in let p = c.compare_exchange.ensures.2.0 in let m = c.compare_exchange.ensures.2.1 in (
   (c.compare_exchange.ensures.0, c.compare_exchange.ensures.1),
-  either_way c.compare_exchange.result c.held-held.result _ (λ hit. (p hit c.args.cell c.args.generation 0 refl f.2 c.requires.small (omega arith) c.held-held.ensures).1) (λ miss. (m miss).1),
+  either_way c.compare_exchange.result c.held-held.result _ (λ hit. (p hit c.args.cell c.args.generation 0 c.claim_word.ensures f.2 c.requires.small (omega arith) c.held-held.ensures).1) (λ miss. (m miss).1),
 )
 
 pub returns-clause-missed : goal.returns-clause-missed
-returns-clause-missed c = let f = c.requires.fits in λ ne. let m = c.compare_exchange.ensures.2.1 (λ hit. ne (eq-eqb _ _ hit)) in (c.compare_exchange.result, m.3, m.2 c.args.cell refl f.2, λ e. ne (eq-eqb _ _ (e ∙ sym c.held-held.ensures)))
+returns-clause-missed c = let f = c.requires.fits in λ ne. let m = c.compare_exchange.ensures.2.1 (λ hit. ne (eq-eqb _ _ hit)) in (c.compare_exchange.result, subst (λ (i : ℕ). IsStep i c.compare_exchange.result c.args.seat.now.me.0 c.compare_exchange.new.seat.me.0) c.claim_word.ensures m.3, m.2 c.args.cell c.claim_word.ensures f.2, λ e. ne (eq-eqb _ _ (e ∙ sym c.held-held.ensures)))
 
 pub returns-clause-step : goal.returns-clause-step
-returns-clause-step c = λ e. subst (λ (n : ℕ). IsStep (claim_at c.args.cell) n c.args.seat.now.me.0 c.compare_exchange.new.seat.me.0) (eqb-true _ _ e ∙ c.held-held.ensures) c.compare_exchange.ensures.2.2
+returns-clause-step c = λ e. subst (λ (z : ℕ × ℕ). IsStep z.0 z.1 c.args.seat.now.me.0 c.compare_exchange.new.seat.me.0) (λ i. (c.claim_word.ensures i, (eqb-true _ _ e ∙ c.held-held.ensures) i)) c.compare_exchange.ensures.2.2

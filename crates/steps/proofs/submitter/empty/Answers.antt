@@ -1,37 +1,36 @@
-use Rattle.std.proofs.Common.{ℕ, ◌∷◌, Some, None, sym, refl, ap, ◌∙◌, subst, arith, cond}
+use Rattle.std.proofs.Common.{ℕ, ◌∷◌, Some, None, sym, refl, ap, ◌∙◌, subst, arith}
 use Rattle.atomic_table.specs.Table.{rest}
-use Rattle.model.specs.declared.req.Req.{Req}
-use Rattle.model.specs.History.{data_of}
+use Rattle.history.specs.declared.req.Req.{Req}
+use Rattle.history.specs.History.{data_of}
 use Rattle.steps.specs.declared.line.Line.TheVariants.{Lent}
 use Rattle.steps.specs.declared.parcel.Parcel.{Parcel}
 use Rattle.steps.specs.declared.parcel.Thing.TheVariants.{Full}
 use Rattle.steps.specs.declared.view.View.{View}
 use Rattle.steps.specs.declared.view.Role.TheVariants.{Lending}
 use Rattle.steps.specs.Journal.{events_of}
-use Rattle.steps.specs.Cells.{slot_at, outcome_at, held, IsParcel}
+use Rattle.steps.specs.Cells.{slot_at, facts_at, request_at, IsParcel}
 use Rattle.steps.specs.Rule.{Extends, IsStep}
-use Rattle.steps.proofs.Combining.{in_hand, same_parcel}
-use Rattle.steps.proofs.Lending.{empty_allows}
+use Rattle.steps.proofs.StepKinds.{in_hand, same_parcel}
+use Rattle.steps.proofs.Notes.{empty_allows}
 use Rattle.steps.proofs.submitter.empty.Goals as goal
 
 pub store-requires : goal.store-requires
 store-requires c = let f = c.requires.fits in let s = c.requires.submitter in let d = c.requires.done in
-    (f.0, omega arith, empty_allows _ _ c.args.seat.now.me c.args.cell c.args.generation s.0 s.1 f.2 c.requires.small _ _ d.0 d.1 d.2 c.requires.home)
+    rw c.note_word.ensures (f.0, omega arith, empty_allows _ _ c.args.seat.now.me c.args.cell c.args.generation s.0 s.1 f.2 c.requires.small _ _ d.0 d.1 d.2 d.3 d.4 d.5 c.requires.home)
 
 pub exchange-thing-requires : goal.exchange-thing-requires
-exchange-thing-requires c = let f = c.requires.fits in let d = c.requires.done in let t = (c.store.ensures.2 c.args.cell c.args.generation d.0 d.1 refl f.2 d.2).0 in let took = t.1 in
-    (c.store.ensures.0 ∙ f.0, (Some (Full took.0), took.1 ∙ ap (λ cs. (slot_at c.args.cell, Some (Full took.0)) ∷ rest cs) (sym took.1)))
+exchange-thing-requires c = let f = c.requires.fits in let d = c.requires.done in let took = (c.store.ensures.2 c.args.cell c.args.generation d.0 d.1 c.note_word.ensures f.2 d.3).0.1 in
+    rw c.slot.ensures (c.store.ensures.0 ∙ f.0, (Some (Full took.0), took.1 ∙ ap (λ cs. (slot_at c.args.cell, Some (Full took.0)) ∷ rest cs) (sym took.1)))
 
 pub parcel_of-requires : goal.parcel_of-requires
-parcel_of-requires c = let f = c.requires.fits in let d = c.requires.done in let took = (c.store.ensures.2 c.args.cell c.args.generation d.0 d.1 refl f.2 d.2).0.1 in record { full = (took.0, sym (ap in_hand (sym took.1 ∙ c.exchange-thing.ensures.2))) }
+parcel_of-requires c = let f = c.requires.fits in let d = c.requires.done in let took = (c.store.ensures.2 c.args.cell c.args.generation d.0 d.1 c.note_word.ensures f.2 d.3).0.1 in record { full = (took.0, sym (ap in_hand (sym took.1 ∙ c.exchange-thing.ensures.2))) }
 
 pub returns : goal.returns
-returns c = let f = c.requires.fits in let d = c.requires.done in let v = c.args.seat.now.me.0 in let q : Req = held v.layout.cells c.args.cell c.args.generation in
-    let t = (c.store.ensures.2 c.args.cell c.args.generation d.0 d.1 refl f.2 d.2).0 in let took = t.1 in let now = c.exchange-thing.ensures.3 in
+returns c = let f = c.requires.fits in let d = c.requires.done in let v = c.args.seat.now.me.0 in let q : Req = request_at v.layout.cells c.args.cell c.args.generation in
+    let t = c.store.ensures.2 c.args.cell c.args.generation d.0 d.1 c.note_word.ensures f.2 d.3 in let took = t.0.1 in let now = c.exchange-thing.ensures.3 in
     let same = same_parcel _ _ (ap in_hand (sym took.1 ∙ c.exchange-thing.ensures.2) ∙ c.parcel_of.ensures.is) in record {
-      seat = ((c.exchange-thing.ensures.0 ∙ c.store.ensures.0, c.exchange-thing.ensures.1 ∙ c.store.ensures.1), ap (λ m. m.1) now ∙ ap (λ cs. (slot_at c.args.cell, None) ∷ rest cs) took.1);
-      lends = subst (λ (w : View). Extends v (Lent q (outcome_at c.args.cell) (cond c.args.failed 1 0)) (Lending q) w) (sym (ap (λ m. m.0) now))
-          (subst (λ (n : ℕ). Extends v (Lent q (outcome_at c.args.cell) n) (Lending q) c.store.new.seat.me.0) c.outcome-outcome.ensures t.0);
+      seat = ((c.exchange-thing.ensures.0 ∙ c.store.ensures.0, c.exchange-thing.ensures.1 ∙ c.store.ensures.1), ap (λ m. m.1) now ∙ (λ i. (c.slot.ensures i, None) ∷ rest (took.1 i)));
+      lends = subst (λ (w : View). Extends v (Lent q (facts_at c.args.cell) c.args.outcome) (Lending q) w) (sym (ap (λ m. m.0) now)) (subst (λ (i : ℕ). Extends v (Lent q i c.args.outcome) (Lending q) c.store.new.seat.me.0) c.note_word.ensures t.0.0);
       parcel = subst (λ (w : View). IsParcel w.seen q (data_of (events_of v.seen) q) c.parcel_of.result) (sym (ap (λ m. m.0) now)) (subst (λ (z : Parcel). IsParcel c.store.new.seat.me.0.seen q (data_of (events_of v.seen) q) z) same took.2);
-      step = subst (λ (w : View). (found : ℕ) × IsStep (outcome_at c.args.cell) found v w) (sym (ap (λ m. m.0) now)) (c.store.ensures.2 c.args.cell c.args.generation d.0 d.1 refl f.2 d.2).1;
+      step = subst (λ (w : View). (found : ℕ) × IsStep (facts_at c.args.cell) found v w) (sym (ap (λ m. m.0) now)) (subst (λ (i : ℕ). (found : ℕ) × IsStep i found v c.store.new.seat.me.0) c.note_word.ensures t.1);
     }

@@ -1,33 +1,60 @@
-use Rattle.std.proofs.Common.{◌≡◌, ℕ, ◌<◌, ◌∷◌, Some, sym, ap, ◌∙◌, subst}
+use Rattle.std.proofs.Common.{ℕ, ◌<◌, ◌≡◌, ◌∷◌, Some, true, cond, sym, refl, ap, ◌∙◌, subst, eq-eqb, ne_eqb, arith, Bool}
 use Rattle.atomic_table.specs.Table.{rest}
-use Rattle.model.specs.declared.req.Req.{Req}
-use Rattle.model.specs.declared.event.Event.TheVariants.{Submit}
-use Rattle.model.specs.History.{submits}
-use Rattle.steps.specs.declared.line.Line.TheVariants.{Did}
+use Rattle.history.specs.declared.req.Req.{Req}
+use Rattle.history.specs.declared.event.Event.TheVariants.{Submit}
+use Rattle.history.specs.History.{submits}
+use Rattle.steps.specs.declared.line.Line.TheVariants.{Did, Lent, Noted}
 use Rattle.steps.specs.declared.parcel.Thing.TheVariants.{Full}
 use Rattle.steps.specs.declared.view.Layout.{Layout}
+use Rattle.steps.specs.declared.view.Role.{Role}
 use Rattle.steps.specs.declared.view.Role.TheVariants.{Submitter, Lending}
-use Rattle.steps.specs.Journal.{events_of}
-use Rattle.steps.specs.Cells.{slot_at, held, ring_of, IsCell}
+use Rattle.steps.specs.Journal.{events_of, noted}
+use Rattle.steps.specs.Cells.{IsCell, slot_at, request_at, ring_of, facts_at, user_at}
 use Rattle.steps.specs.Rule.{Extends, Vacant}
-use Rattle.steps.proofs.Views.{layout_after, role_after, parts_after, submits_after, vacant_after, submitter_can}
+use Rattle.steps.proofs.ViewsKept.{layout_after, role_after, parts_after, submits_after, noted_after, vacant_after, fits_after, submitter_can, lender_can}
 use Rattle.steps.proofs.submitter.submit.Goals as goal
 
-pub hand_in-requires : goal.hand_in-requires
-hand_in-requires c = let f = c.requires.fits in let s = c.requires.submitter in let v = c.args.seat.now.me.0 in let w = c.fill.new.seat.me.0 in let r : Req = held v.layout.cells c.args.cell c.args.generation in let x = c.fill.ensures.lends in
-    let layout : w.layout ≡ v.layout = layout_after v w _ _ x in let mine = submitter_can v _ s.0 in record {
-      fits = (c.fill.ensures.seat.0.0 ∙ f.0, f.1, subst (λ (M : Layout). IsCell M.cells c.args.cell) (sym layout) f.2, f.3);
+pub note_user_data-requires : goal.note_user_data-requires
+note_user_data-requires c = let s = c.requires.submitter in let v = c.args.seat.now.me.0 in let w = c.fill-facts.new.seat.me.0 in let x = c.fill-facts.ensures.lends in
+    let layout : w.layout ≡ v.layout = layout_after v w _ _ x in record {
+      fits = fits_after _ c.args.seat.now c.fill-facts.new.seat _ _ c.args.cell x c.fill-facts.ensures.seat.0.0 c.requires.fits;
       small = c.requires.small;
-      submitter = (subst (λ (M : Layout). w.role ≡ Lending (held M.cells c.args.cell c.args.generation)) (sym layout) (role_after v w _ _ x), subst (λ (n : ℕ). 0 < n) (sym (parts_after v w _ _ x)) s.1);
-      free = subst (λ (M : Layout). Vacant M.cells w.seen c.args.cell c.args.generation) (sym layout) (vacant_after v w r _ _ _ x c.args.cell c.args.generation mine c.requires.free);
-      next = subst (λ (M : Layout). (held M.cells c.args.cell c.args.generation).k ≡ submits (events_of w.seen) (ring_of M.cells c.args.cell)) (sym layout) (c.requires.next ∙ sym (submits_after v w r _ _ _ x (ring_of v.layout.cells c.args.cell) mine));
-      filled = (c.args.parcel, c.fill.ensures.seat.1 ∙ ap (λ cs. (slot_at c.args.cell, Some (Full c.args.parcel)) ∷ rest cs) (sym c.fill.ensures.seat.1), c.requires.served.0, c.requires.served.1);
+      submitter = (subst (λ (M : Layout). w.role ≡ Lending (request_at M.cells c.args.cell c.args.generation)) (sym layout) (role_after v w _ _ x), subst (λ (n : ℕ). 0 < n) (sym (parts_after v w _ _ x)) s.1);
+      free = subst (λ (M : Layout). Vacant M.cells w.seen c.args.cell c.args.generation) (sym layout) (vacant_after v w _ _ (λ j. refl) x c.args.cell c.args.generation (submitter_can v _ s.0) c.requires.free);
+    }
+
+pub submit_filled-requires : goal.submit_filled-requires
+submit_filled-requires c = let f = c.requires.fits in let s = c.requires.submitter in let v = c.args.seat.now.me.0 in let w = c.fill-facts.new.seat.me.0 in let u = c.note_user_data.new.seat.me.0 in let x = c.fill-facts.ensures.lends in
+    let cell = c.args.cell in let g = c.args.generation in let p = c.args.parcel in let r : Req = request_at v.layout.cells cell g in
+    let layout : w.layout ≡ v.layout = layout_after v w _ _ x in let y = c.note_user_data.ensures.notes in
+    let same' : u.layout ≡ w.layout = layout_after w u _ _ y in let both : u.layout ≡ v.layout = same' ∙ layout in
+    let role : w.role ≡ Lending r = role_after v w _ _ x in
+    let first = submitter_can v _ s.0 in let second = lender_can w r role in
+    let second' = subst (λ (M : Layout). ◌≡◌ (Rattle.steps.specs.Rule.stands_for w.role (Rattle.steps.specs.Rule.rings (ring_of M.cells cell))) true) (sym layout) second in
+    let inside' : IsCell w.layout.cells cell = subst (λ (M : Layout). IsCell M.cells cell) (sym layout) f.2 in
+    let free' : Vacant w.layout.cells w.seen cell g = subst (λ (M : Layout). Vacant M.cells w.seen cell g) (sym layout) (vacant_after v w _ _ (λ j. refl) x cell g first c.requires.free) in
+    let next' : (request_at v.layout.cells cell g).k ≡ submits (events_of u.seen) (ring_of v.layout.cells cell) = c.requires.next ∙ (sym (submits_after v w _ _ (λ j. refl) x (ring_of v.layout.cells cell) first) ∙ sym (submits_after w u _ _ (λ j. refl) y (ring_of v.layout.cells cell) second)) in
+    let facts = noted_after w u _ _ (λ j. refl) y cell 0 (omega arith) inside' second' ∙ (ap (λ (b : Bool). cond b c.user_data-user_data.result (noted w.seen (facts_at cell))) (ne_eqb (user_at cell) (facts_at cell) (λ e. omega arith))
+    ∙ (noted_after v w _ _ (λ j. refl) x cell 0 (omega arith) f.2 first ∙ (ap (λ (b : Bool). cond b c.fill-facts.result (noted v.seen (facts_at cell))) (eq-eqb (facts_at cell) (facts_at cell) refl) ∙ c.fill-facts.ensures.facts))) in
+    let user = noted_after w u _ _ (λ j. refl) y cell 1 (omega arith) inside' second' ∙ (ap (λ (b : Bool). cond b c.user_data-user_data.result (noted w.seen (user_at cell))) (eq-eqb (user_at cell) (user_at cell) refl) ∙ c.user_data-user_data.ensures) in record {
+      fits = fits_after _ c.fill-facts.new.seat c.note_user_data.new.seat _ _ cell y c.note_user_data.ensures.seat.0.0 (fits_after _ c.args.seat.now c.fill-facts.new.seat _ _ cell x c.fill-facts.ensures.seat.0.0 f);
+      small = c.requires.small;
+      submitter = (subst (λ (M : Layout). u.role ≡ Lending (request_at M.cells cell g)) (sym both) (role_after w u _ _ y ∙ role), subst (λ (n : ℕ). 0 < n) (sym (parts_after w u _ _ y ∙ parts_after v w _ _ x)) s.1);
+      free = subst (λ (M : Layout). Vacant M.cells u.seen cell g) (sym same') (vacant_after w u _ _ (λ j. refl) y cell g second' free');
+      next = subst (λ (M : Layout). (request_at M.cells cell g).k ≡ submits (events_of u.seen) (ring_of M.cells cell)) (sym both) next';
+      filled = (p, (c.note_user_data.ensures.seat.1 ∙ c.fill-facts.ensures.seat.1) ∙ ap (λ cs. (slot_at cell, Some (Full p)) ∷ rest cs) (sym (c.note_user_data.ensures.seat.1 ∙ c.fill-facts.ensures.seat.1)), c.requires.served.0, c.requires.served.1, facts, user);
     }
 
 pub returns : goal.returns
-returns c = let v = c.args.seat.now.me.0 in let w = c.fill.new.seat.me.0 in let x = c.fill.ensures.lends in let p = c.args.parcel in
-    let out = c.fill.ensures.seat.1 ∙ ap (λ cs. (slot_at c.args.cell, Some (Full c.args.parcel)) ∷ rest cs) (sym c.fill.ensures.seat.1) in record {
-      seat = ((c.hand_in.ensures.seat.0.0 ∙ c.fill.ensures.seat.0.0, c.hand_in.ensures.seat.0.1 ∙ c.fill.ensures.seat.0.1), c.hand_in.ensures.seat.1 ∙ ap rest c.fill.ensures.seat.1);
-      submits = (w, x, subst (λ (M : Layout). Extends w (Did (Submit (held M.cells c.args.cell c.args.generation) p.sqe p.buffer.items p.last)) (Submitter (ring_of M.cells c.args.cell)) c.hand_in.new.seat.me.0) (layout_after v w _ _ x) (c.hand_in.ensures.submits p out));
-      steps = (w, c.fill.ensures.step, (_, c.hand_in.ensures.step));
+returns c = let v = c.args.seat.now.me.0 in let w = c.fill-facts.new.seat.me.0 in let u = c.note_user_data.new.seat.me.0 in let t = c.submit_filled.new.seat.me.0 in let x = c.fill-facts.ensures.lends in let p = c.args.parcel in
+    let cell = c.args.cell in let g = c.args.generation in let r : Req = request_at v.layout.cells cell g in let ring = ring_of v.layout.cells cell in
+    let layout : w.layout ≡ v.layout = layout_after v w _ _ x in let role : w.role ≡ Lending r = role_after v w _ _ x in
+    let y = c.note_user_data.ensures.notes in let same' : u.layout ≡ w.layout = layout_after w u _ _ y in
+    let bare = c.note_user_data.ensures.seat.1 ∙ c.fill-facts.ensures.seat.1 in let out = bare ∙ ap (λ cs. (slot_at cell, Some (Full p)) ∷ rest cs) (sym bare) in
+    let y' : Extends w (Noted r (user_at cell) p.sqe.user_data) (Lending r) u = subst (λ (z : Req × ℕ × Role). Extends w (Noted z.0 (user_at cell) z.1) z.2 u) (λ i. (request_at ((layout i).cells) cell g, c.user_data-user_data.ensures i, role i)) y in
+    let z' = subst (λ (M : Layout). Extends u (Did (Submit (request_at M.cells cell g) p.sqe p.buffer.items p.last)) (Submitter (ring_of M.cells cell)) t) (same' ∙ layout) (c.submit_filled.ensures.submits p out) in record {
+      facts = c.fill-facts.ensures.facts;
+      seat = ((c.submit_filled.ensures.seat.0.0 ∙ (c.note_user_data.ensures.seat.0.0 ∙ c.fill-facts.ensures.seat.0.0), c.submit_filled.ensures.seat.0.1 ∙ (c.note_user_data.ensures.seat.0.1 ∙ c.fill-facts.ensures.seat.0.1)), c.submit_filled.ensures.seat.1 ∙ ap rest bare);
+      submits = (w, x, (u, y', z'));
+      steps = (w, c.fill-facts.ensures.step, (u, c.note_user_data.ensures.step, (_, c.submit_filled.ensures.step)));
     }

@@ -1,4 +1,4 @@
-use Rattle.steps.proofs.Ends.{ends}
+use Rattle.steps.proofs.CutsJoinsEnd.{ends}
 use Rattle.steps.proofs.table.finish.Goals as goal
 
 pub returns : goal.returns

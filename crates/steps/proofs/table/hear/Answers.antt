@@ -1,4 +1,4 @@
-use Rattle.steps.proofs.Ends.{hears}
+use Rattle.steps.proofs.CutsJoinsEnd.{hears}
 use Rattle.steps.proofs.table.hear.Goals as goal
 
 pub join_seat-requires : goal.join_seat-requires

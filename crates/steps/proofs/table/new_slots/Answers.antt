@@ -1,8 +1,8 @@
 use Rattle.std.proofs.Common.{◌≤◌, sym, subst, arith, Option, length}
-use Rattle.model.specs.Pipes.{untouched}
+use Rattle.history.specs.Pipes.{untouched}
 use Rattle.steps.specs.declared.parcel.Thing.{Thing}
 use Rattle.steps.specs.Cells.{PipeIs}
-use Rattle.steps.proofs.Setting.{pipe_pushed, cell_pushed, new_pipe_is}
+use Rattle.steps.proofs.NewSlots.{pipe_pushed, cell_pushed, new_pipe_is}
 use Rattle.steps.proofs.table.new_slots.Goals as goal
 use Rattle.steps.proofs.table.new_slots.Goals.{in-Some+in_ok-new_pipe-in-Some, in-None}
 

@@ -1,4 +1,4 @@
-use Rattle.steps.proofs.Setting.{PipesUpTo, CellsUpTo}
+use Rattle.steps.proofs.NewSlots.{PipesUpTo, CellsUpTo}
 use Rattle.steps.proofs.table.new_slots.Given as goal
 
 abbrev pub invariant-loop-p : goal.invariant-loop-p

@@ -1,4 +1,4 @@
-use Rattle.steps.proofs.Ends.{cuts_submitter}
+use Rattle.steps.proofs.CutsJoinsEnd.{cuts_submitter}
 use Rattle.steps.proofs.table.next_submitter.Goals as goal
 
 pub split_seat-requires : goal.split_seat-requires

@@ -1,4 +1,4 @@
-use Rattle.steps.proofs.Ends.{cuts_idle}
+use Rattle.steps.proofs.CutsJoinsEnd.{cuts_idle}
 use Rattle.steps.proofs.table.next_worker.Goals as goal
 
 pub split_seat-requires : goal.split_seat-requires

@@ -3,10 +3,10 @@ use Rattle.std.proofs.lemmas.Grind.{common_steps}
 use Rattle.steps.specs.declared.view.Layout.{Layout}
 use mathlib.Core.Option.{some}
 use lib.ListN.{get_elem?}
-use Rattle.model.specs.Pipes.{untouched}
+use Rattle.history.specs.Pipes.{untouched}
 use Rattle.steps.specs.declared.parcel.Thing.{Thing}
 use Rattle.steps.specs.Cells.{total, PipeIs}
-use Rattle.steps.proofs.Ends.{starts}
+use Rattle.steps.proofs.CutsJoinsEnd.{starts}
 use Rattle.steps.proofs.table.set_up.Goals as goal
 
 pub new-requires : goal.new-requires

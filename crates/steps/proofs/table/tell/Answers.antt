@@ -1,4 +1,4 @@
-use Rattle.steps.proofs.Ends.{cuts_messenger}
+use Rattle.steps.proofs.CutsJoinsEnd.{cuts_messenger}
 use Rattle.steps.proofs.table.tell.Goals as goal
 
 pub split_seat-requires : goal.split_seat-requires

@@ -1,13 +1,12 @@
-use Rattle.std.proofs.Common.{◌≡◌, ◌<◌, List, [], ◌∷◌, refl, sym, ap, ◌∙◌, subst}
+use Rattle.std.proofs.Common.{[], ◌∷◌, refl, sym, ap, ◌∙◌, subst}
 use Rattle.steps.specs.declared.view.Step.{Step}
 use Rattle.steps.specs.Cells.{claim_at}
-use Rattle.steps.specs.Rule.{Looks, hearing}
-use Rattle.work.specs.Board.{Facts, IsBoard, IsOf}
+use Rattle.work.specs.Board.{Facts, IsBoard}
 use Rattle.work.specs.Passes.{Pass, CanReach}
-use Rattle.work.proofs.Kept.{looked_of}
-use Rattle.board.proofs.Going.{goes_looked}
-use Rattle.board.specs.Calls.{Stepped}
-use Rattle.board.proofs.Knowing.{first_cell_reached, goes_told, stepped_once}
+use Rattle.work.proofs.PassesKept.{looked_of}
+use Rattle.board.proofs.GoesLaws.{goes_looked}
+use Rattle.board.specs.Calls.{HasLooked}
+use Rattle.board.proofs.PassFacts.{first_cell_reached, goes_told, has_looked}
 use Rattle.board.proofs.board.Board.meet.Goals as goal
 
 pub load-requires : goal.load-requires
@@ -36,6 +35,6 @@ returns-clause-second g c = let e = c.load-2.ensures in let p = g.Q.Pass.knows c
 pub returns-clause-looked : goal.returns-clause-looked
 returns-clause-looked g c = let e = c.load-2.ensures in let p = g.P.Pass.knows c.args.pass.now in let q = g.Q.Pass.knows c.load-2.new.self in
     let last : Step = record { word = claim_at 0; found = c.load-2.result; seen = q.view.seen } in (
-      subst (λ (z : Pass). Stepped p z) (sym c.tell-messenger.ensures.same) (stepped_once p (g.P.Pass.knows c.load.new.self) (claim_at 0) c.load.result c.load.ensures.step),
+      subst (λ (z : Pass). HasLooked p z) (sym c.tell-messenger.ensures.same) (has_looked p (g.P.Pass.knows c.load.new.self) (claim_at 0) c.load.result c.load.ensures.step),
       (last, [], e.step ∙ ap (λ (z : Pass). last ∷ z.view.steps) c.hear.ensures.heard, refl),
     )

@@ -1,18 +1,17 @@
-use Rattle.std.proofs.Common.{◌≡◌, ◌<◌, ◌≤◌, ◌+◌, ◌*◌, ◌-◌, ℕ, List, [], Option, length, true, refl, sym, ap, ◌∙◌, subst, arith}
+use Rattle.std.proofs.Common.{◌≡◌, ◌≤◌, ◌+◌, ◌*◌, ℕ, List, Option, length, refl, sym, ap, ◌∙◌, subst, arith}
 use Rattle.atomic_table.specs.Table.{Me}
 use Rattle.steps.specs.declared.parcel.Thing.{Thing}
 use Rattle.steps.specs.declared.view.View.{View}
 use Rattle.steps.specs.declared.view.Layout.{Layout}
-use Rattle.steps.specs.declared.view.Role.{Role}
 use Rattle.steps.specs.declared.view.Role.TheVariants.{Poller}
 use Rattle.steps.specs.Cells.{total}
 use Rattle.work.specs.Grid.{AreCells, AreCellCounts}
 use Rattle.work.specs.Board.{Facts}
 use Rattle.work.specs.Passes.{Pass, pass_of}
-use Rattle.board.specs.Limits.{is_shape, counts}
+use Rattle.board.specs.Limits.{counts}
 use Rattle.board.specs.New.{IsCutting, IsFresh}
-use Rattle.board.proofs.Bounds.{ShapeSays, shape_says}
-use Rattle.board.proofs.Cutting.{cut_all, poller_fresh}
+use Rattle.board.proofs.ShapeBounds.{shape_says}
+use Rattle.board.proofs.NewPasses.{cut_all, poller_fresh}
 use Rattle.board.proofs.board.Board.new.Goals as goal
 
 pub new-requires : goal.new-requires
@@ -31,8 +30,8 @@ pub cut_submitters-requires-clause-cells : goal.cut_submitters-requires-clause-c
 cut_submitters-requires-clause-cells c = let s = shape_says c.args.shape.now (sym c.if-not-is_shape.ensures) in let e = c.in_ok-table.ensures in
     let items : c.in_ok-cells.cells.items ≡ counts c.args.shape.now.rings.items = c.in_ok-cells.ensures ∙ ap counts c.as_slice.ensures.value in
     let first : c.in_ok-table.seat.me.0.layout.cells ≡ counts c.args.shape.now.rings.items = ap (λ (m : Me (Option Thing) View). m.0.layout.cells) e.1 ∙ items in
-    let n : c.len-rings.result ≡ length c.args.shape.now.rings.items = c.len-rings.ensures ∙ c.args.shape.now.rings.ok.0 in let r = s.rings in
-    (subst AreCellCounts (sym first) s.cells.0, n ∙ (sym s.long ∙ sym (ap (λ (K : List ℕ). length K) first)), omega arith)
+    let grid : c.in_ok-grid.grid ≡ counts c.args.shape.now.rings.items = c.in_ok-grid.ensures ∙ (c.as_slice-2.ensures.value ∙ items) in let r = s.rings in let l = s.long in let g = ap (λ (K : List ℕ). length K) grid in
+    (subst AreCellCounts (sym grid) s.cells.0, grid ∙ sym first, omega arith)
 
 pub invariant_of-board : goal.invariant_of-board
 invariant_of-board c = let s = shape_says c.args.shape.now (sym c.if-not-is_shape.ensures) in let e = c.in_ok-table.ensures in
@@ -43,31 +42,33 @@ invariant_of-board c = let s = shape_says c.args.shape.now (sym c.if-not-is_shap
         wide = e.4 ∙ ap (λ (z : ℕ). 8 * z + 72) c.total.ensures;
         cells = subst AreCells (sym grid) s.cells;
         rings = (omega arith, omega arith);
+        pipes = subst (λ (caps : List ℕ). length caps ≤ 64) (sym e.3) s.pipes;
         workers = s.workers;
       },
       e.2 ∙ (items ∙ sym grid),
+      ap (λ (caps : List ℕ). length caps) e.3 ∙ (sym c.args.shape.now.pipes.ok.0 ∙ sym c.len.ensures),
     )
 
 pub new-requires-2 : goal.new-requires-2
 new-requires-2 c = let s = shape_says c.args.shape.now (sym c.if-not-is_shape.ensures) in let e = c.in_ok-table.ensures in
     let items : c.in_ok-cells.cells.items ≡ counts c.args.shape.now.rings.items = c.in_ok-cells.ensures ∙ ap counts c.as_slice.ensures.value in
     let first : c.in_ok-table.seat.me.0.layout.cells ≡ counts c.args.shape.now.rings.items = ap (λ (m : Me (Option Thing) View). m.0.layout.cells) e.1 ∙ items in
-    let k = cut_all c.in_ok-table.seat.me.0.layout c.in_ok-table.table.shared.table_id c.len-rings.result c.args.shape.now.workers c.cut_submitters.new.seat c.cut_workers.new.seat c.in_ok-submitters.ensures.seat c.in_ok-workers.ensures.seat in let n : c.len-rings.result ≡ length c.args.shape.now.rings.items = c.len-rings.ensures ∙ c.args.shape.now.rings.ok.0 in
+    let k = cut_all c.in_ok-table.seat.me.0.layout c.in_ok-table.table.shared.table_id (length c.in_ok-grid.grid) c.args.shape.now.workers c.cut_submitters.new.seat c.cut_workers.new.seat c.in_ok-submitters.ensures.seat c.in_ok-workers.ensures.seat in let grid : c.in_ok-grid.grid ≡ counts c.args.shape.now.rings.items = c.in_ok-grid.ensures ∙ (c.as_slice-2.ensures.value ∙ items) in let n : length c.in_ok-grid.grid ≡ length c.args.shape.now.rings.items = ap (λ (K : List ℕ). length K) grid ∙ s.long in
     record { role = k.role ∙ ap Poller (n ∙ (sym s.long ∙ (sym (ap (λ (K : List ℕ). length K) first) ∙ sym (ap (λ (L : Layout). length L.cells) k.layout_is)))); bare = k.bare }
 
 pub returns-clause-new : goal.returns-clause-new
 returns-clause-new c = let s = shape_says c.args.shape.now (sym c.if-not-is_shape.ensures) in let e = c.in_ok-table.ensures in
     let items : c.in_ok-cells.cells.items ≡ counts c.args.shape.now.rings.items = c.in_ok-cells.ensures ∙ ap counts c.as_slice.ensures.value in
     let first : c.in_ok-table.seat.me.0.layout.cells ≡ counts c.args.shape.now.rings.items = ap (λ (m : Me (Option Thing) View). m.0.layout.cells) e.1 ∙ items in
-    let n : c.len-rings.result ≡ length c.args.shape.now.rings.items = c.len-rings.ensures ∙ c.args.shape.now.rings.ok.0 in let r = s.rings in let l = s.long in
-    let grid : c.in_ok-grid.grid ≡ counts c.args.shape.now.rings.items = c.in_ok-grid.ensures ∙ (c.as_slice-2.ensures.value ∙ items) in
+    let grid : c.in_ok-grid.grid ≡ counts c.args.shape.now.rings.items = c.in_ok-grid.ensures ∙ (c.as_slice-2.ensures.value ∙ items) in let r = s.rings in let l = s.long in
+    let n : length c.in_ok-grid.grid ≡ length c.args.shape.now.rings.items = ap (λ (K : List ℕ). length K) grid ∙ s.long in
     let b : Facts = record { table = c.in_ok-table.table.shared.table_id; layout = record { cells = c.in_ok-grid.grid; caps = c.in_ok-table.table.shared.key.caps.value.items }; workers = c.args.shape.now.workers } in
     let L : Layout = c.in_ok-table.seat.me.0.layout in
     let cells' : c.in_ok-grid.grid ≡ L.cells = grid ∙ sym first in let caps' : c.in_ok-table.table.shared.key.caps.value.items ≡ L.caps = e.3 ∙ sym (ap (λ (m : Me (Option Thing) View). m.0.layout.caps) e.1) in
     let layout : b.layout ≡ L = λ i. record { cells = cells' i; caps = caps' i } in
-    let k = cut_all c.in_ok-table.seat.me.0.layout c.in_ok-table.table.shared.table_id c.len-rings.result c.args.shape.now.workers c.cut_submitters.new.seat c.cut_workers.new.seat c.in_ok-submitters.ensures.seat c.in_ok-workers.ensures.seat in let g = ap (λ (K : List ℕ). length K) grid in
-    let same : length b.layout.cells ≡ c.len-rings.result = omega arith in
-    let poller = poller_fresh b L b.table c.len-rings.result c.cut_workers.new.seat k refl layout same (omega arith) s.workers in
+    let k = cut_all c.in_ok-table.seat.me.0.layout c.in_ok-table.table.shared.table_id (length c.in_ok-grid.grid) c.args.shape.now.workers c.cut_submitters.new.seat c.cut_workers.new.seat c.in_ok-submitters.ensures.seat c.in_ok-workers.ensures.seat in let g = ap (λ (K : List ℕ). length K) grid in
+    let same : length b.layout.cells ≡ length c.in_ok-grid.grid = refl in
+    let poller = poller_fresh b L b.table (length c.in_ok-grid.grid) c.cut_workers.new.seat k refl layout same (omega arith) s.workers in
     let sub : b.layout ≡ c.cut_submitters.new.seat.me.0.layout = layout ∙ sym c.in_ok-submitters.ensures.seat.layout_is in record {
       cells = grid;
       caps = e.3;
@@ -76,3 +77,9 @@ returns-clause-new c = let s = shape_says c.args.shape.now (sym c.if-not-is_shap
       submitters_are = (c.in_ok-submitters.ensures.count ∙ n, c.in_ok-submitters.ensures.submitters b refl layout);
       workers_are = (c.in_ok-workers.ensures.count, c.in_ok-workers.ensures.workers b refl sub);
     }
+
+pub cut_workers-requires-clause-seat : goal.cut_workers-requires-clause-seat
+cut_workers-requires-clause-seat c = let s = shape_says c.args.shape.now (sym c.if-not-is_shape.ensures) in
+    let items : c.in_ok-cells.cells.items ≡ counts c.args.shape.now.rings.items = c.in_ok-cells.ensures ∙ ap counts c.as_slice.ensures.value in
+    let grid : c.in_ok-grid.grid ≡ counts c.args.shape.now.rings.items = c.in_ok-grid.ensures ∙ (c.as_slice-2.ensures.value ∙ items) in let r = s.rings in let l = s.long in let g = ap (λ (K : List ℕ). length K) grid in let k = c.in_ok-submitters.ensures.seat in
+    (length c.in_ok-grid.grid, subst (λ (L : Layout). Rattle.board.specs.New.IsCutting L c.in_ok-table.table.shared.table_id (length c.in_ok-grid.grid) 0 c.cut_submitters.new.seat) (sym k.layout_is) k, omega arith)

@@ -1,23 +1,24 @@
-use Rattle.std.proofs.Common.{◌≡◌, ◌⊎◌, inl, inr, ℕ, ℤ, ◌<◌, ◌≤◌, List, [], ◌∷◌, Some, cond, length, refl, sym, ap, ◌∙◌, subst, arith, of_z, w32}
+use Rattle.std.proofs.Common.{◌≡◌, inl, inr, ℕ, ◌≤◌, List, [], ◌∷◌, Some, refl, sym, ap, ◌∙◌, subst, arith, of_z, w32}
 use mir.Val.{to_z}
-use Rattle.model.specs.declared.req.Req.{Req}
-use Rattle.model.specs.declared.event.Event.TheVariants.{Reap}
-use Rattle.model.specs.History.{phase, submits, replied, reaped, submission, reply, data_of, IsReplied}
+use Rattle.history.specs.declared.req.Req.{Req}
+use Rattle.history.specs.declared.event.Event.TheVariants.{Reap}
+use Rattle.history.specs.History.{phase, submits, replied, data_of}
 use Rattle.steps.specs.declared.line.Line.TheVariants.{Did, Lent}
 use Rattle.steps.specs.declared.view.Layout.{Layout}
 use Rattle.steps.specs.declared.view.Role.TheVariants.{Submitter as SubmitterRole, Lending}
 use Rattle.steps.specs.declared.view.View.{View}
-use Rattle.steps.specs.Cells.{IsCell, held, claim_at, outcome_at, setup_of, over, IsParcel}
-use Rattle.steps.specs.Rule.{ExtendsTwice, IsDone}
+use Rattle.steps.specs.Cells.{IsCell, request_at, facts_at, place_of, setup_of, over, IsParcel}
+use Rattle.steps.specs.Rule.{ExtendsTwice, IsDone, Shown}
 use Rattle.work.specs.Board.{Facts, IsOf}
-use Rattle.work.specs.Passes.{Pass, seen_of}
-use Rattle.work.proofs.Kept.{looked_of}
+use Rattle.work.specs.Passes.{seen_of}
+use Rattle.work.proofs.PassesKept.{looked_of}
 use Rattle.board.specs.declared.phase.Phase.{Phase as Standing}
 use Rattle.board.specs.declared.phase.Phase.TheVariants.{Done, Gone}
-use Rattle.board.specs.Calls.{Goes, Stands, Stepped, IsReaped, next_of}
-use Rattle.board.proofs.Going.{goes_looked, goes_then, goes_twice}
-use Rattle.board.proofs.Knowing.{found_word, stepped_once}
-use Rattle.board.proofs.Once.{reaped_once}
+use Rattle.steps.specs.Fairness.{IsReaped}
+use Rattle.board.specs.Calls.{Goes, Stands}
+use Rattle.board.proofs.GoesLaws.{goes_looked, goes_then, goes_twice}
+use Rattle.board.proofs.PassFacts.{found_word, stepped_once, took_three}
+use Rattle.board.proofs.OnceEach.{reaped_once}
 use Rattle.board.proofs.Reaping.{is_done, signed_reply, reaped_now, data_now, reply_now, unreplied, unreplied_yet}
 use Rattle.board.proofs.board.Board.reap.Goals as goal
 
@@ -35,72 +36,52 @@ told-requires c = let e = c.look_at-word.ensures in found_word c.args.self.now c
 pub has_failed-requires : goal.has_failed-requires
 has_failed-requires c = let e = c.look_at-word.ensures in found_word c.args.self.now c.args.submitter.now c.look_at-word.new.self c.in-Some.spot.cell c.look_at-word.result c.requires e.table e.looks e.shown
 
-pub take-parcel-requires-clause-done : goal.take-parcel-requires-clause-done
-take-parcel-requires-clause-done c = let e = c.look_at-word.ensures in let b = c.args.self.now in let p = c.args.submitter.now in let m = c.look_at-word.new.self in let s = c.in-Some.spot in
+pub reap-parcel-requires-clause-done : goal.reap-parcel-requires-clause-done
+reap-parcel-requires-clause-done c = let e = c.look_at-word.ensures in let b = c.args.self.now in let p = c.args.submitter.now in let m = c.look_at-word.new.self in let s = c.in-Some.spot in
     let grid : c.self.inside.grid ≡ b.layout.cells = ap (λ (z : Facts). z.layout.cells) c.self.view_is in
-    let at : held b.layout.cells s.cell s.generation ≡ c.args.req = subst (λ (K : List ℕ). held K s.cell s.generation ≡ c.args.req) grid c.in-Some.ensures.some.1 in
-    let there : held p.view.layout.cells s.cell s.generation ≡ c.args.req = ap (λ (L : Layout). held L.cells s.cell s.generation) c.requires.layout_is ∙ at in
+    let at : request_at b.layout.cells s.cell s.generation ≡ c.args.req = subst (λ (K : List ℕ). request_at K s.cell s.generation ≡ c.args.req) grid c.in-Some.ensures.some.1 in
+    let there : request_at p.view.layout.cells s.cell s.generation ≡ c.args.req = ap (λ (L : Layout). request_at L.cells s.cell s.generation) c.requires.layout_is ∙ at in
     let stands : Stands m.view.seen c.args.req c.told.result = subst (λ (r : Req). Stands m.view.seen r c.told.result) there (c.told.ensures.stands p.view.layout.cells m.view.seen s.cell e.shown) in
     let done : Stands m.view.seen c.args.req (Done c.in-Done.res) = subst (λ (z : Standing). Stands m.view.seen c.args.req z) c.in-Done.is stands in
     let layout : p.view.layout ≡ m.view.layout = sym (ap (λ (z : View). z.layout) e.looks.is) in
-    subst (λ (L : Layout). IsDone m.view.seen (held L.cells s.cell s.generation) s.generation c.look_at-word.result) layout
+    subst (λ (L : Layout). IsDone m.view.seen (request_at L.cells s.cell s.generation) s.generation c.look_at-word.result) layout
     (is_done p.view.layout.cells m.view.seen s.cell c.look_at-word.result s.generation done.0 c.in-Done.res e.shown (subst (λ (r : Req). phase (seen_of m) r ≡ replied done.0 c.in-Done.res) (sym there) done.1))
 
-pub returns-in-Done-clause-reaped : goal.returns-in-Done-clause-reaped
-returns-in-Done-clause-reaped c = let e = c.look_at-word.ensures in let b = c.args.self.now in let p = c.args.submitter.now in let m = c.look_at-word.new.self in let s = c.in-Some.spot in
+pub returns-in-Done : goal.returns-in-Done
+returns-in-Done c = let e = c.look_at-word.ensures in let b = c.args.self.now in let p = c.args.submitter.now in let m = c.look_at-word.new.self in let s = c.in-Some.spot in
     let grid : c.self.inside.grid ≡ b.layout.cells = ap (λ (z : Facts). z.layout.cells) c.self.view_is in
-    let at : held b.layout.cells s.cell s.generation ≡ c.args.req = subst (λ (K : List ℕ). held K s.cell s.generation ≡ c.args.req) grid c.in-Some.ensures.some.1 in
-    let there : held p.view.layout.cells s.cell s.generation ≡ c.args.req = ap (λ (L : Layout). held L.cells s.cell s.generation) c.requires.layout_is ∙ at in
-    let stands : Stands m.view.seen c.args.req c.told.result = subst (λ (r : Req). Stands m.view.seen r c.told.result) there (c.told.ensures.stands p.view.layout.cells m.view.seen s.cell e.shown) in
-    let role : p.view.role ≡ SubmitterRole c.args.req.ring = c.ring.ensures.role ∙ ap SubmitterRole (sym c.if-req-ring.false) in
-    let q = c.take-parcel.new.self in let km : IsOf b m = looked_of b p m c.requires e.table e.looks in let here : held m.view.layout.cells s.cell s.generation ≡ c.args.req = ap (λ (L : Layout). held L.cells s.cell s.generation) km.layout_is ∙ at in
-    let role' : m.view.role ≡ SubmitterRole c.args.req.ring = ap (λ (z : View). z.role) e.looks.is ∙ role in
-    let x : ExtendsTwice m.view (Lent c.args.req (outcome_at s.cell) (cond c.has_failed.result 1 0)) (Lending c.args.req) (Did (Reap c.args.req)) (SubmitterRole c.args.req.ring) q.view = subst (λ (r : Req). ExtendsTwice m.view (Lent r (outcome_at s.cell) (cond c.has_failed.result 1 0)) (Lending r) (Did (Reap r)) (SubmitterRole r.ring) q.view) here c.take-parcel.ensures.reaps in
-    let goes : Goes b m (Reap c.args.req ∷ []) q = goes_twice b m q c.args.req.ring c.args.req (outcome_at s.cell) (cond c.has_failed.result 1 0) (Reap c.args.req) km c.take-parcel.ensures.table role' refl refl x in
-    goes_then b p m q (Reap c.args.req ∷ []) (goes_looked b p m c.requires e.table e.looks) goes
-
-pub returns-in-Done-clause-completion : goal.returns-in-Done-clause-completion
-returns-in-Done-clause-completion c = let e = c.look_at-word.ensures in let b = c.args.self.now in let p = c.args.submitter.now in let m = c.look_at-word.new.self in let s = c.in-Some.spot in
-    let grid : c.self.inside.grid ≡ b.layout.cells = ap (λ (z : Facts). z.layout.cells) c.self.view_is in
-    let at : held b.layout.cells s.cell s.generation ≡ c.args.req = subst (λ (K : List ℕ). held K s.cell s.generation ≡ c.args.req) grid c.in-Some.ensures.some.1 in
-    let there : held p.view.layout.cells s.cell s.generation ≡ c.args.req = ap (λ (L : Layout). held L.cells s.cell s.generation) c.requires.layout_is ∙ at in
+    let at : request_at b.layout.cells s.cell s.generation ≡ c.args.req = subst (λ (K : List ℕ). request_at K s.cell s.generation ≡ c.args.req) grid c.in-Some.ensures.some.1 in
+    let there : request_at p.view.layout.cells s.cell s.generation ≡ c.args.req = ap (λ (L : Layout). request_at L.cells s.cell s.generation) c.requires.layout_is ∙ at in
     let stands : Stands m.view.seen c.args.req c.told.result = subst (λ (r : Req). Stands m.view.seen r c.told.result) there (c.told.ensures.stands p.view.layout.cells m.view.seen s.cell e.shown) in
     let role : p.view.role ≡ SubmitterRole c.args.req.ring = c.ring.ensures.role ∙ ap SubmitterRole (sym c.if-req-ring.false) in
     let done : Stands m.view.seen c.args.req (Done c.in-Done.res) = subst (λ (z : Standing). Stands m.view.seen c.args.req z) c.in-Done.is stands in
-    let q = c.take-parcel.new.self in let km : IsOf b m = looked_of b p m c.requires e.table e.looks in let here : held m.view.layout.cells s.cell s.generation ≡ c.args.req = ap (λ (L : Layout). held L.cells s.cell s.generation) km.layout_is ∙ at in
+    let q = c.reap-parcel.new.self in let z = c.reap-parcel.ensures.reaps in let km : IsOf b m = looked_of b p m c.requires e.table e.looks in let here : request_at m.view.layout.cells s.cell s.generation ≡ c.args.req = ap (λ (L : Layout). request_at L.cells s.cell s.generation) km.layout_is ∙ at in
     let role' : m.view.role ≡ SubmitterRole c.args.req.ring = ap (λ (z : View). z.role) e.looks.is ∙ role in
-    let x : ExtendsTwice m.view (Lent c.args.req (outcome_at s.cell) (cond c.has_failed.result 1 0)) (Lending c.args.req) (Did (Reap c.args.req)) (SubmitterRole c.args.req.ring) q.view = subst (λ (r : Req). ExtendsTwice m.view (Lent r (outcome_at s.cell) (cond c.has_failed.result 1 0)) (Lending r) (Did (Reap r)) (SubmitterRole r.ring) q.view) here c.take-parcel.ensures.reaps in
-    let goes : Goes b m (Reap c.args.req ∷ []) q = goes_twice b m q c.args.req.ring c.args.req (outcome_at s.cell) (cond c.has_failed.result 1 0) (Reap c.args.req) km c.take-parcel.ensures.table role' refl refl x in
-    let now = reaped_now m.view q.view c.args.req (outcome_at s.cell) (cond c.has_failed.result 1 0) done.0 c.in-Done.res role' x done.1 in
-    let f = c.take-parcel.ensures.parcel in
-    let parcel : IsParcel q.view.seen c.args.req (data_of (seen_of m) c.args.req) c.take-parcel.result = subst (λ (r : Req). IsParcel q.view.seen r (data_of (seen_of m) r) c.take-parcel.result) here f in
-    let signed : to_z w32 (of_z w32 c.in-Done.res) ≡ c.in-Done.res = signed_reply p.view.layout.cells m.view.seen s.cell c.look_at-word.result s.generation done.0 c.in-Done.res e.shown (subst (λ (r : Req). phase (seen_of m) r ≡ replied done.0 c.in-Done.res) (sym there) done.1) in (
-      record {
-        entry = c.take-parcel.result.sqe;
-        bytes = parcel.0;
-        end_of_batch = c.take-parcel.result.last;
-        handed_in = parcel.1;
-        req_is = refl;
-        user_data = c.user_data.ensures;
-        reply_is = reply_now m.view q.view c.args.req (outcome_at s.cell) (cond c.has_failed.result 1 0) done.0 c.in-Done.res role' x done.1 ∙ ap Some (sym signed);
-        buffer = parcel.2 ∙ ap (λ (d : List ℕ). over d parcel.0) (sym (data_now m.view q.view c.args.req (outcome_at s.cell) (cond c.has_failed.result 1 0) done.0 c.in-Done.res role' x done.1));
-      },
-      subst IsReaped (sym now) tt,
-    )
-
-pub returns-in-Done-clause-once : goal.returns-in-Done-clause-once
-returns-in-Done-clause-once c = let e = c.look_at-word.ensures in let b = c.args.self.now in let p = c.args.submitter.now in let m = c.look_at-word.new.self in let s = c.in-Some.spot in
-    let grid : c.self.inside.grid ≡ b.layout.cells = ap (λ (z : Facts). z.layout.cells) c.self.view_is in
-    let at : held b.layout.cells s.cell s.generation ≡ c.args.req = subst (λ (K : List ℕ). held K s.cell s.generation ≡ c.args.req) grid c.in-Some.ensures.some.1 in
-    let there : held p.view.layout.cells s.cell s.generation ≡ c.args.req = ap (λ (L : Layout). held L.cells s.cell s.generation) c.requires.layout_is ∙ at in
-    let stands : Stands m.view.seen c.args.req c.told.result = subst (λ (r : Req). Stands m.view.seen r c.told.result) there (c.told.ensures.stands p.view.layout.cells m.view.seen s.cell e.shown) in
-    let role : p.view.role ≡ SubmitterRole c.args.req.ring = c.ring.ensures.role ∙ ap SubmitterRole (sym c.if-req-ring.false) in
-    let done : Stands m.view.seen c.args.req (Done c.in-Done.res) = subst (λ (z : Standing). Stands m.view.seen c.args.req z) c.in-Done.is stands in
-    let q = c.take-parcel.new.self in let km : IsOf b m = looked_of b p m c.requires e.table e.looks in let here : held m.view.layout.cells s.cell s.generation ≡ c.args.req = ap (λ (L : Layout). held L.cells s.cell s.generation) km.layout_is ∙ at in
-    let role' : m.view.role ≡ SubmitterRole c.args.req.ring = ap (λ (z : View). z.role) e.looks.is ∙ role in
-    let x : ExtendsTwice m.view (Lent c.args.req (outcome_at s.cell) (cond c.has_failed.result 1 0)) (Lending c.args.req) (Did (Reap c.args.req)) (SubmitterRole c.args.req.ring) q.view = subst (λ (r : Req). ExtendsTwice m.view (Lent r (outcome_at s.cell) (cond c.has_failed.result 1 0)) (Lending r) (Did (Reap r)) (SubmitterRole r.ring) q.view) here c.take-parcel.ensures.reaps in
-    let goes : Goes b m (Reap c.args.req ∷ []) q = goes_twice b m q c.args.req.ring c.args.req (outcome_at s.cell) (cond c.has_failed.result 1 0) (Reap c.args.req) km c.take-parcel.ensures.table role' refl refl x in
-    reaped_once (setup_of b.layout) (seen_of q) c.args.req done.0 c.in-Done.res goes.kept.legal (reaped_now m.view q.view c.args.req (outcome_at s.cell) (cond c.has_failed.result 1 0) done.0 c.in-Done.res role' x done.1)
+    let x : ExtendsTwice m.view (Lent c.args.req (facts_at s.cell) z.0) (Lending c.args.req) (Did (Reap c.args.req)) (SubmitterRole c.args.req.ring) q.view = subst (λ (r : Req). ExtendsTwice m.view (Lent r (facts_at s.cell) z.0) (Lending r) (Did (Reap r)) (SubmitterRole r.ring) q.view) here z.1 in
+    let goes : Goes b m (Reap c.args.req ∷ []) q = goes_twice b m q c.args.req (Lent c.args.req (facts_at s.cell) z.0) (Reap c.args.req) (λ h. refl) km c.reap-parcel.ensures.table role' refl x in
+    let now = reaped_now m.view q.view c.args.req (facts_at s.cell) z.0 done.0 c.in-Done.res role' x done.1 in
+    let f = c.reap-parcel.ensures.parcel in
+    let parcel : IsParcel q.view.seen c.args.req (data_of (seen_of m) c.args.req) c.reap-parcel.result = subst (λ (r : Req). IsParcel q.view.seen r (data_of (seen_of m) r) c.reap-parcel.result) here f in
+    let signed : to_z w32 (of_z w32 c.in-Done.res) ≡ c.in-Done.res = signed_reply p.view.layout.cells m.view.seen s.cell c.look_at-word.result s.generation done.0 c.in-Done.res e.shown (subst (λ (r : Req). phase (seen_of m) r ≡ replied done.0 c.in-Done.res) (sym there) done.1) in record {
+      reaped = goes_then b p m q (Reap c.args.req ∷ []) (goes_looked b p m c.requires e.table e.looks) goes;
+      completion = (
+        record {
+          entry = c.reap-parcel.result.sqe;
+          bytes = parcel.0;
+          end_of_batch = c.reap-parcel.result.last;
+          handed_in = parcel.1;
+          req_is = refl;
+          user_data = c.user_data.ensures;
+          reply_is = reply_now m.view q.view c.args.req (facts_at s.cell) z.0 done.0 c.in-Done.res role' x done.1 ∙ ap Some (sym signed);
+          buffer = parcel.2 ∙ ap (λ (d : List ℕ). over d parcel.0) (sym (data_now m.view q.view c.args.req (facts_at s.cell) z.0 done.0 c.in-Done.res role' x done.1));
+        },
+        subst IsReaped (sym now) tt,
+      );
+      once = reaped_once (setup_of b.layout) (seen_of q) c.args.req done.0 c.in-Done.res goes.kept.legal (reaped_now m.view q.view c.args.req (facts_at s.cell) z.0 done.0 c.in-Done.res role' x done.1);
+      steps = (let z = c.reap-parcel.ensures.steps in took_three c.args.submitter.now.view c.look_at-word.new.self.view z.0 c.reap-parcel.new.self.view _ _ c.look_at-word.ensures.step z.1.0 _ z.1.1 z.2.0 _ z.2.1);
+      refused = tt;
+      reason = λ ring role. tt;
+    }
 
 pub returns-in-Gone-clause-refused : goal.returns-in-Gone-clause-refused
 returns-in-Gone-clause-refused c = let e = c.look_at-word.ensures in goes_looked c.args.self.now c.args.submitter.now c.look_at-word.new.self c.requires e.table e.looks
@@ -108,8 +89,8 @@ returns-in-Gone-clause-refused c = let e = c.look_at-word.ensures in goes_looked
 pub returns-in-Gone-clause-reason : goal.returns-in-Gone-clause-reason
 returns-in-Gone-clause-reason c = let e = c.look_at-word.ensures in let b = c.args.self.now in let p = c.args.submitter.now in let m = c.look_at-word.new.self in let s = c.in-Some.spot in
     let grid : c.self.inside.grid ≡ b.layout.cells = ap (λ (z : Facts). z.layout.cells) c.self.view_is in
-    let at : held b.layout.cells s.cell s.generation ≡ c.args.req = subst (λ (K : List ℕ). held K s.cell s.generation ≡ c.args.req) grid c.in-Some.ensures.some.1 in
-    let there : held p.view.layout.cells s.cell s.generation ≡ c.args.req = ap (λ (L : Layout). held L.cells s.cell s.generation) c.requires.layout_is ∙ at in
+    let at : request_at b.layout.cells s.cell s.generation ≡ c.args.req = subst (λ (K : List ℕ). request_at K s.cell s.generation ≡ c.args.req) grid c.in-Some.ensures.some.1 in
+    let there : request_at p.view.layout.cells s.cell s.generation ≡ c.args.req = ap (λ (L : Layout). request_at L.cells s.cell s.generation) c.requires.layout_is ∙ at in
     let stands : Stands m.view.seen c.args.req c.told.result = subst (λ (r : Req). Stands m.view.seen r c.told.result) there (c.told.ensures.stands p.view.layout.cells m.view.seen s.cell e.shown) in
     let gone : Stands m.view.seen c.args.req Gone = subst (λ (z : Standing). Stands m.view.seen c.args.req z) c.in-Gone.is stands in
     λ ring role'. (let r = c.ring.ensures.role in let one : c.ring.result ≡ ring = cc in (c.if-req-ring.false ∙ one, subst IsReaped (sym gone.2) tt))
@@ -117,14 +98,22 @@ returns-in-Gone-clause-reason c = let e = c.look_at-word.ensures in let b = c.ar
 pub returns-in_default-told : goal.returns-in_default-told
 returns-in_default-told c = let e = c.look_at-word.ensures in let b = c.args.self.now in let p = c.args.submitter.now in let m = c.look_at-word.new.self in let s = c.in-Some.spot in
     let grid : c.self.inside.grid ≡ b.layout.cells = ap (λ (z : Facts). z.layout.cells) c.self.view_is in
-    let at : held b.layout.cells s.cell s.generation ≡ c.args.req = subst (λ (K : List ℕ). held K s.cell s.generation ≡ c.args.req) grid c.in-Some.ensures.some.1 in
-    let there : held p.view.layout.cells s.cell s.generation ≡ c.args.req = ap (λ (L : Layout). held L.cells s.cell s.generation) c.requires.layout_is ∙ at in
+    let at : request_at b.layout.cells s.cell s.generation ≡ c.args.req = subst (λ (K : List ℕ). request_at K s.cell s.generation ≡ c.args.req) grid c.in-Some.ensures.some.1 in
+    let there : request_at p.view.layout.cells s.cell s.generation ≡ c.args.req = ap (λ (L : Layout). request_at L.cells s.cell s.generation) c.requires.layout_is ∙ at in
     let stands : Stands m.view.seen c.args.req c.told.result = subst (λ (r : Req). Stands m.view.seen r c.told.result) there (c.told.ensures.stands p.view.layout.cells m.view.seen s.cell e.shown) in
     record {
       reaped = tt;
       completion = tt;
       once = tt;
+      steps = tt;
       refused = goes_looked b p m c.requires e.table e.looks;
       reason = λ ring role'. (let r = c.ring.ensures.role in let one : c.ring.result ≡ ring = cc in
-          (c.if-req-ring.false ∙ one, unreplied m.view.seen c.args.req c.told.result stands c.in_default-told.not-Done c.in_default-told.not-Gone, inr (stepped_once p m (claim_at s.cell) c.look_at-word.result e.step)));
+          (c.if-req-ring.false ∙ one, unreplied m.view.seen c.args.req c.told.result stands c.in_default-told.not-Done c.in_default-told.not-Gone, inr (stepped_once b.layout.cells c.args.req p m s.cell s.generation c.look_at-word.result (subst (λ (f : Facts). IsCell f.layout.cells s.cell) c.self.view_is c.in-Some.ensures.some.0) at e.step (subst (λ (L : Layout). Shown L.cells m.view.seen s.cell c.look_at-word.result) c.requires.layout_is e.shown))));
     }
+
+pub reap-parcel-requires-clause-shown : goal.reap-parcel-requires-clause-shown
+reap-parcel-requires-clause-shown c = let e = c.look_at-word.ensures in subst (λ (L : Layout). Shown L.cells c.look_at-word.new.self.view.seen c.in-Some.spot.cell c.look_at-word.result) (sym (ap (λ (z : View). z.layout) e.looks.is)) e.shown
+
+pub reap-parcel-requires-clause-number : goal.reap-parcel-requires-clause-number
+reap-parcel-requires-clause-number c = let e = c.look_at-word.ensures in let s = c.in-Some.spot in
+    subst (λ (K : List ℕ). s.number ≡ place_of K s.cell) (ap (λ (z : Facts). z.layout.cells) c.self.view_is ∙ sym (ap (λ (z : View). z.layout.cells) e.looks.is ∙ ap (λ (L : Layout). L.cells) c.requires.layout_is)) c.in-Some.ensures.number

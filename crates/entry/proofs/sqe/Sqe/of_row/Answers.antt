@@ -16,10 +16,10 @@ returns-then-is_written_as-clause-says c =
 pub returns-else-is_written_as-clause-says : goal.returns-else-is_written_as-clause-says
 returns-else-is_written_as-clause-says c =
     let types : InTypes c.args.row c.args.flags c.args.user_data = search rules in
-    let says = Says-none c.args.row c.args.flags c.args.user_data types (λ e valid fit row flags. refused c.args.row c.args.flags c.candidate-op.result c.is_written_as.result c.is_written_as.ensures c.if-is_written_as.false c.candidate-op.ensures e fit row flags) in
+    let says = Says-none c.args.row c.args.flags c.args.user_data types (λ e valid fit row flags. refused c.args.row c.args.flags c.candidate-op.result c.is_written_as.result c.is_written_as.ensures c.if-is_written_as.false c.candidate-op.ensures.only e fit row flags) in
     let P : Entry → Type 0 = Says (layout c.args.row c.args.flags c.args.user_data) in
     subst P (sym c.invalid.ensures) says
 
 pub returns-else-is_written_as-clause-again : goal.returns-else-is_written_as-clause-again
 returns-else-is_written_as-clause-again c e fit row flags user_data =
-    absurd (refused c.args.row c.args.flags c.candidate-op.result c.is_written_as.result c.is_written_as.ensures c.if-is_written_as.false c.candidate-op.ensures e fit row flags)
+    absurd (refused c.args.row c.args.flags c.candidate-op.result c.is_written_as.result c.is_written_as.ensures c.if-is_written_as.false c.candidate-op.ensures.only e fit row flags)

@@ -1,7 +1,7 @@
 use Rattle.std.proofs.Common.{List, ℕ, ◌<◌, length, get_or, ap, sym, subst, arith, ◌∙◌, ltb-true, ltb-false}
 use Rattle.steps.specs.Cells.{cells_in}
 use Rattle.work.specs.declared.grid.Row.{Row}
-use Rattle.work.proofs.Rows.{cells_long, cells_found, cells_lost}
+use Rattle.work.proofs.GridRows.{cells_long, cells_found, cells_lost}
 use Rattle.work.proofs.grid.Grid.cells_in.Goals as goal
 
 pub returns-in-Some : goal.returns-in-Some

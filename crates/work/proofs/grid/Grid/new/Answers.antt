@@ -3,7 +3,7 @@ use Rattle.std.proofs.lemmas.List.{take_more}
 use Rattle.steps.specs.Cells.{total}
 use Rattle.work.specs.declared.grid.Row.{Row}
 use Rattle.work.specs.Grid.{cells_of, RowsFrom}
-use Rattle.work.proofs.Rows.{cells_more, total_more, rows_more, counts_at, total_at}
+use Rattle.work.proofs.GridRows.{cells_more, total_more, rows_more, counts_at, total_at}
 use Rattle.work.proofs.grid.Grid.new.Goals as goal
 
 pub overflow_add-first : goal.overflow_add-first

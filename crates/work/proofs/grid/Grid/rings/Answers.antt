@@ -1,5 +1,5 @@
 use Rattle.std.proofs.Common.{List, ℕ, length, ap, sym, ◌∙◌}
-use Rattle.work.proofs.Rows.{cells_long}
+use Rattle.work.proofs.GridRows.{cells_long}
 use Rattle.work.proofs.grid.Grid.rings.Goals as goal
 
 pub returns : goal.returns

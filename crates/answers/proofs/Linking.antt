@@ -1,0 +1,61 @@
+-- The answers of a pipe in hand are those of the definitions: READ, WRITE, CLOSE and POLL_ADD, case by case.
+use Rattle.std.proofs.Common.{◌≡◌, ℕ, not, take, Bool, true, false, cond, pos, negsuc, List, [], refl, sym, ap, arith}
+use Rattle.std.proofs.lemmas.List.{take_min, take_all}
+use Rattle.pipe.specs.declared.ends.End.TheVariants.{Read, Write}
+use Rattle.pipe.specs.declared.ready.Ready.{Ready}
+use Rattle.pipe.specs.declared.ready.Ready.TheVariants.{Now, Wait, Fail}
+use Rattle.pipe.specs.Pipe.{Conduit}
+use Rattle.pipe.specs.Answers as piped
+use Rattle.history.specs.Pipes.{Flow}
+use Rattle.history.specs.Answers as told
+use Rattle.history.specs.Answers.{Answer, now, later}
+use Rattle.answers.specs.Answered.{IsPipe}
+use Rattle.answers.specs.PipeReplies.{below}
+
+-- the answer with the first bytes of these as its data
+abbrev pub said : Ready ℕ → List ℕ → Answer
+said (Now n) xs = now (pos n) (take n xs)
+said Wait xs = later
+said (Fail errno) xs = now (below errno) []
+
+none : (n : ℕ) → ◌≡◌ {A = List ℕ} (take n []) []
+none n = take_all n [] (omega arith)
+
+-- a choice of answers is made before what is said of them
+said_if : (b : Bool) (x y : Ready ℕ) (xs : List ℕ) → said (cond b x y) xs ≡ cond b (said x xs) (said y xs)
+said_if true x y xs = refl
+said_if false x y xs = refl
+
+read_cases : (a b d e : Bool) (m : ℕ) (xs ys : List ℕ) → ys ≡ take m xs → cond a (now (negsuc 8) []) (cond b (now (pos 0) []) (cond d (now (pos m) ys) (cond e (now (pos 0) []) later))) ≡ said (cond a (Fail (pos 9)) (cond b (Now 0) (cond d (Now m) (cond e (Now 0) Wait)))) xs
+read_cases true b d e m xs ys t = refl
+read_cases false true d e m xs ys t = refl
+read_cases false false true e m xs ys t = ap (now (pos m)) t
+read_cases false false false true m xs ys t = refl
+read_cases false false false false m xs ys t = refl
+
+write_cases : (a b d e f g : Bool) (n m : ℕ) → cond a (now (negsuc 8) []) (cond b (now (pos 0) []) (cond d (now (negsuc 31) []) (cond e (cond f (now (pos n) []) later) (cond g (now (pos m) []) later)))) ≡ said (cond a (Fail (pos 9)) (cond b (Now 0) (cond d (Fail (pos 32)) (cond e (cond f (Now n) Wait) (cond g (Now m) Wait))))) []
+write_cases true b d e f g n m = refl
+write_cases false true d e f g n m = refl
+write_cases false false true e f g n m = refl
+write_cases false false false true true g n m = ap (now (pos n)) (sym (none n))
+write_cases false false false true false g n m = refl
+write_cases false false false false f true n m = ap (now (pos m)) (sym (none m))
+write_cases false false false false f false n m = refl
+
+poll_cases : (a b : Bool) (n : ℕ) → cond (not a) (cond b later (now (pos n) [])) (now (negsuc 8) []) ≡ said (cond a (Fail (pos 9)) (cond b Wait (Now n))) []
+poll_cases true b n = refl
+poll_cases false true n = refl
+poll_cases false false n = ap (now (pos n)) (sym (none n))
+
+module _ (cap : ℕ) (c : Conduit) (w : Flow) (s : IsPipe cap c w) where
+  pub read_said : (len : ℕ) → told.answer_read w len ≡ said (piped.answer_read c len) c.content
+  read_said len = rw (← s.content_is, ← s.read_is, ← s.write_is) (read_cases c.read_shut _ _ c.write_shut _ c.content _ (sym (take_min len c.content)))
+
+  pub write_said : (len : ℕ) → told.answer_write cap w len ≡ said (piped.answer_write c len) []
+  write_said len = rw (← s.content_is, ← s.read_is, ← s.write_is, ← s.cap_is) (write_cases c.write_shut _ c.read_shut _ _ _ len _)
+
+  pub poll_read_said : (mask : ℕ) → cond (not w.read_shut) (told.answer_poll (told.read_events w) mask) (now (negsuc 8) []) ≡ said (piped.answer_poll c Read mask) []
+  poll_read_said mask = rw (← s.content_is, ← s.read_is, ← s.write_is) (poll_cases c.read_shut _ _)
+
+  pub poll_write_said : (mask : ℕ) → cond (not w.write_shut) (told.answer_poll (told.write_events cap w) mask) (now (negsuc 8) []) ≡ said (piped.answer_poll c Write mask) []
+  poll_write_said mask = rw (← s.content_is, ← s.read_is, ← s.write_is, ← s.cap_is) (poll_cases c.write_shut _ _)

@@ -1,0 +1,104 @@
+//! Operations on a pipe in hand.
+ghost use Rattle.std.specs.Prelude.{◌≡◌, ◌≤◌, length};
+ghost use Rattle.entry.specs.declared.op.Offset.{Offset};
+ghost use Rattle.history.specs.Legal.{FitsOp};
+ghost use Rattle.history.specs.Pipes.{end_of};
+ghost use Rattle.answers.specs.Ends.{pipe_with, pipe_in, IsSide};
+ghost use Rattle.answers.specs.Answered.{Answered, IsSome};
+
+use entry::{Op, by_opcode};
+use pipe::errno::EBADF;
+use pipe::{End, Pipe, Ready};
+
+macro_rules! answer_by_row {
+    (($op:expr, $pipe:expr, $buffer:expr) $($text:literal $name:ident { $($field:ident),* } = $code:literal: $fd:tt $off:tt $addr:tt $len:tt $word:tt $flags:tt $fails:tt;)*) => {
+        match $op {
+            $(Op::$name { $($field),* } => operation!($name ($($field),*) $pipe, $buffer),)*
+            Op::Invalid => unreachable!(),
+        }
+    };
+}
+
+macro_rules! operation {
+    (Read ($fd:ident, $offset:ident, $len:ident) $pipe:expr, $buffer:expr) => { read($fd, $len, $pipe, $buffer) };
+    (Write ($fd:ident, $offset:ident, $len:ident) $pipe:expr, $buffer:expr) => { write($fd, $len, $pipe, $buffer) };
+    (Close ($fd:ident) $pipe:expr, $buffer:expr) => { close($fd, $pipe, $buffer) };
+    (PollAdd ($fd:ident, $mask:ident) $pipe:expr, $buffer:expr) => { poll($fd, $mask, $pipe, $buffer) };
+    (Nop () $pipe:expr, $buffer:expr) => { unreachable!() };
+    (Timeout ($ticks:ident, $etime:ident) $pipe:expr, $buffer:expr) => { unreachable!() };
+    (LinkTimeout ($ticks:ident) $pipe:expr, $buffer:expr) => { unreachable!() };
+    (AsyncCancel ($target:ident) $pipe:expr, $buffer:expr) => { unreachable!() };
+    (TimeoutRemove ($target:ident) $pipe:expr, $buffer:expr) => { unreachable!() };
+}
+
+/// Answers READ, WRITE, CLOSE or POLL_ADD from the pipe that its fd names (read(2), write(2), close(2), poll(2)). Gives
+/// the reply, with a READ's bytes at the front of `buffer`; or None, and changes nothing, where there is no answer now.
+pub fn answer_with(op: Op, pipe: &mut Pipe, buffer: &mut [u8]) -> Option<i32>
+    requires named { IsSome (pipe_in op) }
+    requires fits { FitsOp op (length buffer.old) }
+    ensures { Answered op result pipe.old pipe.new buffer.old buffer.new }
+{
+    by_opcode!(answer_by_row!(op, pipe, buffer))
+}
+
+/// The end that `fd` names.
+fn side_of(fd: i32) -> End
+    requires { IsSome (pipe_with (end_of fd)) }
+    ensures { IsSide result (end_of fd) }
+{
+    if fd % 2 == 0 { End::Read } else { End::Write }
+}
+
+fn read(fd: i32, len: u32, pipe: &mut Pipe, buffer: &mut [u8]) -> Option<i32>
+    requires named { IsSome (pipe_with (end_of fd)) }
+    requires fits { length buffer.old ≡ len }
+    ensures { (offset : Offset) → Answered (Op.Read fd offset len) result pipe.old pipe.new buffer.old buffer.new }
+{
+    match side_of(fd) {
+        End::Write => Some(-EBADF),
+        End::Read => match pipe.read_into(buffer) {
+            Ready::Now(n) => Some(n as i32),
+            Ready::Wait => None,
+            Ready::Fail(errno) => Some(-errno),
+        },
+    }
+}
+
+fn write(fd: i32, len: u32, pipe: &mut Pipe, buffer: &[u8]) -> Option<i32>
+    requires named { IsSome (pipe_with (end_of fd)) }
+    requires fits { length buffer.now ≡ len }
+    ensures { (offset : Offset) → Answered (Op.Write fd offset len) result pipe.old pipe.new buffer.now buffer.now }
+{
+    match side_of(fd) {
+        End::Read => Some(-EBADF),
+        End::Write => match pipe.write_from(buffer) {
+            Ready::Now(n) => Some(n as i32),
+            Ready::Wait => None,
+            Ready::Fail(errno) => Some(-errno),
+        },
+    }
+}
+
+fn close(fd: i32, pipe: &mut Pipe, buffer: &[u8]) -> Option<i32>
+    requires named { IsSome (pipe_with (end_of fd)) }
+    ensures { Answered (Op.Close fd) result pipe.old pipe.new buffer.now buffer.now }
+{
+    let _ = buffer;
+    match pipe.close_end(side_of(fd)) {
+        Ready::Now(()) => Some(0),
+        Ready::Wait => None,
+        Ready::Fail(errno) => Some(-errno),
+    }
+}
+
+fn poll(fd: i32, mask: u32, pipe: &Pipe, buffer: &[u8]) -> Option<i32>
+    requires named { IsSome (pipe_with (end_of fd)) }
+    ensures { Answered (Op.PollAdd fd mask) result pipe.now pipe.now buffer.now buffer.now }
+{
+    let _ = buffer;
+    match pipe.poll_mask(side_of(fd), mask) {
+        Ready::Now(events) => Some(events as i32),
+        Ready::Wait => None,
+        Ready::Fail(errno) => Some(-errno),
+    }
+}

@@ -1,0 +1,3 @@
+pub mod RingerSteps
+pub mod SleeperSteps
+pub mod AllTails

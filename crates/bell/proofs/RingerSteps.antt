@@ -1,0 +1,152 @@
+-- The steps of a ringer keep the rule: its store of a tail, and its look at the wake word.
+use Rattle.std.proofs.Common.{◌≡◌, ◌≢◌, ℕ, zero, suc, ◌+◌, ◌<◌, ◌≤◌, ◌⊎◌, ⊎_elim, inl, inr, ◌==◌, Bool, true, false, cond, List, [], ◌∷◌, length, slice_index, slice_set, set, sym, refl, ap, ◌∙◌, subst, arith, eq-eqb, length-set, get_or-set_same, get_or-set_other}
+use mathlib.Core.Option.{some, none, some-injective, some-ne-none}
+use mathlib.Core.Logic.{dite}
+use native.Mathlib.Decide.{ℕ_discrete}
+use lib.ListN.{get_elem?}
+use Rattle.atomic_table.specs.Table.{State, step, Me, keeps, Allows}
+use Rattle.atomic_table.proofs.Lists.{at_set, set_else}
+use Rattle.bell.specs.declared.view.Role.TheVariants.{Sleeper, Ringer}
+use Rattle.bell.specs.declared.view.View.{View}
+use Rattle.bell.specs.Rule.{Ruled, IsBetween, IsRung, IsHeeded}
+use Rattle.bell.specs.Plays.{storing, stored, looking, looked}
+
+pub same_ring : (r q : ℕ) → Ringer r ≡ Ringer q → r ≡ q
+same_ring r q e = cc
+
+-- a ringer is not the sleeper
+pub not_first : (vs : List View) (id r : ℕ) (v s : View) → get_elem? vs 0 ≡ some s → s.role ≡ Sleeper → get_elem? vs id ≡ some v → v.role ≡ Ringer r → ¬ (0 ≡ id)
+not_first vs id r v s there z at role e = let same : s ≡ v = some-injective s v (sym there ∙ subst (λ (i : ℕ). get_elem? vs i ≡ some v) (sym e) at) in let k : s.role ≡ Ringer r = subst (λ (u : View). u.role ≡ Ringer r) (sym same) role in absurd cc
+
+pub at_now : (vs : List View) (id : ℕ) (v w : View) → get_elem? vs id ≡ some v → get_elem? (set vs id w) id ≡ some w
+at_now [] id v w e = absurd (some-ne-none v (sym e))
+at_now (x ∷ vs) zero v w e = refl
+at_now (x ∷ vs) (suc id) v w e = at_now vs id v w e
+
+-- the seat id goes on with w, whose role is that of v
+module _ (vs : List View) (id : ℕ) (v w : View) (at : get_elem? vs id ≡ some v) (role : w.role ≡ v.role) where
+  pub between_stays : (q : ℕ) → (v.role ≡ Ringer q → v.between ≡ true → w.between ≡ true) → IsBetween vs q → IsBetween (set vs id w) q
+  between_stays q still b = dite (ℕ_discrete b.0 id)
+      (λ e. let one : b.1 ≡ v = some-injective b.1 v (sym (subst (λ (i : ℕ). get_elem? vs i ≡ some b.1) e b.2) ∙ at) in
+      let mine : v.role ≡ Ringer q = subst (λ (u : View). u.role ≡ Ringer q) one b.3 in
+      (id, w, at_now vs id v w at, role ∙ mine, still mine (subst (λ (u : View). u.between ≡ true) one b.4)))
+      (λ n. (b.0, b.1, set_else vs id b.0 w n ∙ b.2, b.3, b.4))
+
+  pub rung_stays : (d : ℕ) → ((r : ℕ) → v.role ≡ Ringer r → v.rung ≡ d → w.rung ≡ d) → IsRung vs d → IsRung (set vs id w) d
+  rung_stays d still b = dite (ℕ_discrete b.0 id)
+      (λ e. let one : b.2 ≡ v = some-injective b.2 v (sym (subst (λ (i : ℕ). get_elem? vs i ≡ some b.2) e b.3) ∙ at) in
+      let mine : v.role ≡ Ringer b.1 = subst (λ (u : View). u.role ≡ Ringer b.1) one b.4 in
+      (id, b.1, w, at_now vs id v w at, role ∙ mine, still b.1 mine (subst (λ (u : View). u.rung ≡ d) one b.5)))
+      (λ n. (b.0, b.1, b.2, set_else vs id b.0 w n ∙ b.3, b.4, b.5))
+
+  -- no two ringers of one ring
+  pub apart_stays : ((i l r : ℕ) (x y : View) → get_elem? vs i ≡ some x → get_elem? vs l ≡ some y → x.role ≡ Ringer r → y.role ≡ Ringer r → i ≡ l) → (i l r : ℕ) (x y : View) → get_elem? (set vs id w) i ≡ some x → get_elem? (set vs id w) l ≡ some y → x.role ≡ Ringer r → y.role ≡ Ringer r → i ≡ l
+  apart_stays were i l r x y p q e f =
+      let old : (i : ℕ) (x : View) → get_elem? (set vs id w) i ≡ some x → x.role ≡ Ringer r → (z : View) × (get_elem? vs i ≡ some z) × (z.role ≡ Ringer r) = λ i x p e. ⊎_elim
+      (λ (h : (i ≡ id) × (w ≡ x)). (v, subst (λ (k : ℕ). get_elem? vs k ≡ some v) (sym h.0) at, sym role ∙ (ap (λ (u : View). u.role) h.1 ∙ e)))
+      (λ (h : (i ≢ id) × (get_elem? vs i ≡ some x)). (x, h.1, e))
+      (at_set vs id i w x p) in
+      let a = old i x p e in let b = old l y q f in were i l r a.0 b.0 a.1 b.1 a.2 b.2
+
+-- the value of a word after a store
+word_set : (ws : List ℕ) (i n : ℕ) → i < length ws → slice_index (slice_set ws i n) i ≡ n
+word_set ws i n h = get_or-set_same ws i n 0 h
+
+word_other : (ws : List ℕ) (i l n : ℕ) → l ≢ i → slice_index (slice_set ws i n) l ≡ slice_index ws l
+word_other ws i l n h = get_or-set_other ws i l n 0 h
+
+-- a ringer's store of a tail that isn't below its last one
+pub store_allows : (n slots id r t : ℕ) (me : Me ℕ View) → me.0.role ≡ Ringer r → me.0.tail ≤ t → Allows (Ruled n) slots id me (r + 1) (λ _. t) (λ _. stored (step slots (r + 1) t 0 none) me t)
+store_allows n slots id r t me role up = λ s k long at fits.
+    let v : View = me.0 in
+    let w : View = storing t v in
+    let ne : ¬ (0 ≡ id) = not_first s.views id r v k.sleeper k.there k.role at role in
+    let mine : (r < k.sleeper.rings) × (slice_index s.words (r + 1) ≡ v.tail) = ⊎_elim (λ (e : id ≡ 0). absurd (ne (sym e))) (λ (h : (q : ℕ) × (v.role ≡ Ringer q) × (q < k.sleeper.rings) × (slice_index s.words (q + 1) ≡ v.tail)). (let e : h.0 ≡ r = same_ring h.0 r (sym h.1 ∙ role) in subst (λ (q : ℕ). (q < k.sleeper.rings) × (slice_index s.words (q + 1) ≡ v.tail)) e (h.2, h.3))) (k.ringers id v at) in
+    let within : r + 1 < length s.words = (let a = mine.0 in let b = k.made in let c = k.wide in omega arith) in
+    let ws : List ℕ = slice_set s.words (r + 1) t in
+    let new : slice_index ws (r + 1) ≡ t = word_set s.words (r + 1) t within in
+    let others : (q : ℕ) → q ≢ r → slice_index ws (q + 1) ≡ slice_index s.words (q + 1) = λ q d. word_other s.words (r + 1) (q + 1) t (λ e. d (let f : q ≡ r = omega arith in f)) in
+    let zero' : slice_index ws 0 ≡ slice_index s.words 0 = word_other s.words (r + 1) 0 t (λ e. absurd (omega arith)) in (
+      w,
+      keeps,
+      tt,
+      record {
+        sleeper = k.sleeper;
+        there = set_else s.views id 0 w ne ∙ k.there;
+        role = k.role;
+        wide = length-set s.words (r + 1) t ∙ k.wide;
+        made = k.made;
+        long = k.long;
+        least = k.least;
+        read = λ q h. dite (ℕ_discrete q r) (λ e. (let a = k.read q h in let b : slice_index s.words (q + 1) ≡ v.tail = subst (λ (z : ℕ). slice_index s.words (z + 1) ≡ v.tail) (sym e) mine.1 in subst (λ (z : ℕ). slice_index k.sleeper.tails q ≤ z) (sym (subst (λ (z : ℕ). slice_index ws (z + 1) ≡ t) (sym e) new)) (omega arith))) (λ d. subst (λ (z : ℕ). slice_index k.sleeper.tails q ≤ z) (sym (others q d)) (k.read q h));
+        fresh = λ q a b. (let l = mine.0 in others q (λ e. absurd (omega arith)) ∙ k.fresh q a b);
+        ringers = λ i u p. ⊎_elim
+            (λ (h : (i ≡ id) × (w ≡ u)). inr (r, subst (λ (z : View). z.role ≡ Ringer r) h.1 role, mine.0, subst (λ (z : View). slice_index ws (r + 1) ≡ z.tail) h.1 new))
+            (λ (h : (i ≢ id) × (get_elem? s.views i ≡ some u)). ⊎_elim (λ (z : i ≡ 0). inl z) (λ (g : (q : ℕ) × (u.role ≡ Ringer q) × (q < k.sleeper.rings) × (slice_index s.words (q + 1) ≡ u.tail)). inr (g.0, g.1, g.2, others g.0 (λ e. h.0 (k.apart i id r u v h.1 at (subst (λ (z : ℕ). u.role ≡ Ringer z) e g.1) role)) ∙ g.3)) (k.ringers i u h.1))
+            (at_set s.views id i w u p);
+        apart = apart_stays s.views id v w at refl k.apart;
+        awake = λ e. zero' ∙ k.awake e;
+        sound = λ e. ⊎_elim
+            (λ (h : (slice_index s.words 0 ≡ 1) × ((q : ℕ) → q < k.sleeper.checked → IsHeeded s.words s.views k.sleeper q)). inl (
+              zero' ∙ h.0,
+              λ q lt. ⊎_elim
+                  (λ (a : slice_index k.sleeper.tails q ≡ slice_index s.words (q + 1)). dite (ℕ_discrete q r)
+                  (λ e. inr (id, w, at_now s.views id v w at, subst (λ (z : ℕ). v.role ≡ Ringer z) (sym e) role, refl))
+                  (λ d. inl (a ∙ sym (others q d))))
+                  (λ (b : IsBetween s.views q). inr (between_stays s.views id v w at refl q (λ _ _. refl) b))
+                  (h.1 q lt),
+            ))
+            (λ (h : (slice_index s.words 0 ≡ 0) × IsRung s.views k.sleeper.doze). inr (zero' ∙ h.0, rung_stays s.views id v w at refl k.sleeper.doze (λ _ _ z. z) h.1))
+            (k.sound e);
+      },
+      (refl, refl),
+    )
+
+-- the wake word is 0 or 1
+pub one_bit : (n : ℕ) (s : State ℕ View) → Ruled n s → (slice_index s.words 0 ≡ 0) ⊎ (slice_index s.words 0 ≡ 1)
+one_bit n s k = by k.sleeper.armed refl where
+  by : (b : Bool) → k.sleeper.armed ≡ b → (slice_index s.words 0 ≡ 0) ⊎ (slice_index s.words 0 ≡ 1)
+  by false e = inl (k.awake e)
+  by true e = ⊎_elim (λ (h : (slice_index s.words 0 ≡ 1) × ((q : ℕ) → q < k.sleeper.checked → IsHeeded s.words s.views k.sleeper q)). inr h.0) (λ (h : (slice_index s.words 0 ≡ 0) × IsRung s.views k.sleeper.doze). inl h.0) (k.sound e)
+
+-- a ringer's look at the wake word, which it leaves at 0
+pub look_allows : (n slots id r : ℕ) (me : Me ℕ View) → me.0.role ≡ Ringer r → Allows (Ruled n) slots id me 0 (λ _. 0) (looked (step slots 0 0 0 none) me)
+look_allows n slots id r me role = λ s k long at fits.
+    let v : View = me.0 in
+    let m : ℕ = slice_index s.words 0 in
+    let d : ℕ = cond (m == 1) k.sleeper.doze v.rung in
+    let w : View = looking (m == 1) d v in
+    let ne : ¬ (0 ≡ id) = not_first s.views id r v k.sleeper k.there k.role at role in
+    let within : 0 < length s.words = (let c = k.wide in omega arith) in
+    let ws : List ℕ = slice_set s.words 0 0 in
+    let new : slice_index ws 0 ≡ 0 = word_set s.words 0 0 within in
+    let others : (q : ℕ) → slice_index ws (q + 1) ≡ slice_index s.words (q + 1) = λ q. word_other s.words 0 (q + 1) 0 (λ e. absurd (omega arith)) in (
+      w,
+      keeps,
+      tt,
+      record {
+        sleeper = k.sleeper;
+        there = set_else s.views id 0 w ne ∙ k.there;
+        role = k.role;
+        wide = length-set s.words 0 0 ∙ k.wide;
+        made = k.made;
+        long = k.long;
+        least = k.least;
+        read = λ q h. subst (λ (z : ℕ). slice_index k.sleeper.tails q ≤ z) (sym (others q)) (k.read q h);
+        fresh = λ q a b. others q ∙ k.fresh q a b;
+        ringers = λ i u p. ⊎_elim
+            (λ (h : (i ≡ id) × (w ≡ u)). ⊎_elim (λ (z : id ≡ 0). inl (h.0 ∙ z)) (λ (g : (q : ℕ) × (v.role ≡ Ringer q) × (q < k.sleeper.rings) × (slice_index s.words (q + 1) ≡ v.tail)). inr (g.0, subst (λ (z : View). z.role ≡ Ringer g.0) h.1 g.1, g.2, subst (λ (z : View). slice_index ws (g.0 + 1) ≡ z.tail) h.1 (others g.0 ∙ g.3))) (k.ringers id v at))
+            (λ (h : (i ≢ id) × (get_elem? s.views i ≡ some u)). ⊎_elim (λ (z : i ≡ 0). inl z) (λ (g : (q : ℕ) × (u.role ≡ Ringer q) × (q < k.sleeper.rings) × (slice_index s.words (q + 1) ≡ u.tail)). inr (g.0, g.1, g.2, others g.0 ∙ g.3)) (k.ringers i u h.1))
+            (at_set s.views id i w u p);
+        apart = apart_stays s.views id v w at refl k.apart;
+        awake = λ e. new;
+        sound = λ e. inr (
+          new,
+          ⊎_elim
+              (λ (h : (m ≡ 1) × ((q : ℕ) → q < k.sleeper.checked → IsHeeded s.words s.views k.sleeper q)). (id, r, w, at_now s.views id v w at, role, ap (λ (b : Bool). cond b k.sleeper.doze v.rung) (eq-eqb m 1 h.0)))
+              (λ (h : (m ≡ 0) × IsRung s.views k.sleeper.doze). rung_stays s.views id v w at refl k.sleeper.doze (λ _ _ z. ap (λ (b : Bool). cond b k.sleeper.doze v.rung) (ap (λ (x : ℕ). x == 1) h.0) ∙ z) h.1)
+              (k.sound e),
+        );
+      },
+      (one_bit n s k, (d, refl), refl),
+    )

@@ -1,0 +1,9 @@
+use Rattle.std.proofs.Common.{◌≡◌, ℕ, ◌<◌, length}
+use mathlib.Core.Option.{some}
+use lib.ListN.{get_elem?}
+use Rattle.bell.specs.Rule.{opening_view}
+use Rattle.bell.specs.Passes.{new_ringing}
+use Rattle.bell.proofs.bell.Bell.new.Given as goal
+
+abbrev pub invariant-loop-ring : goal.invariant-loop-ring
+invariant-loop-ring l = (l.seat.table_id ≡ l.initial.seat.table_id) × (l.seat.me.0 ≡ (record (opening_view l.initial.rings) { rings = l.ring })) × (length l.ringers.items ≡ l.ring) × ((r : ℕ) → r < l.ring → get_elem? l.ringers.items r ≡ some (new_ringing l.initial.seat.table_id r))

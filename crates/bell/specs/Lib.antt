@@ -1,0 +1,3 @@
+pub mod Plays
+pub mod Rule
+pub mod Passes

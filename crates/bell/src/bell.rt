@@ -1,0 +1,104 @@
+//! The bell and its calls.
+ghost use Rattle.std.specs.Prelude.{◌≡◌, ◌≢◌, ◌↔◌, ◌⊎◌, ◌≤◌, ◌<◌, ◌∷◌, true, false, IfOk, IsErrOf};
+ghost use Rattle.bell.specs.Passes.{IsRingerOf, IsSleeperOf, HasLoaded, HaveRisen, IsNew};
+
+use crate::error::BellError;
+use crate::law::Law;
+use crate::plays::CutRinger;
+use crate::ringer::{MustWake, Ringer};
+use crate::sleeper::{Nap, Sleeper};
+use crate::view::View;
+use atomic_table::Table;
+use std::alloc::Global;
+use std::marker::Model;
+use std::sync::Wait;
+
+/// The most rings of a bell.
+pub const MAX_RINGS: u16 = 16;
+
+/// A doorbell for so many rings. A pass belongs to the bell that made it.
+#[derive(Drop)]
+pub struct Bell {
+    table: Table<u8, View, u64, Law, Global>,
+}
+
+impl Model for Bell {
+    ghost use Rattle.bell.specs.Passes.{Facts, IsBell};
+
+    ghost Value = { Facts };
+
+    ghost view = { λ b. record { table = b.table.shared.table_id; rings = b.table.shared.key } };
+
+    ghost invariant = { λ b. IsBell b.table.shared.table_id b.table.shared.key };
+}
+
+impl Bell {
+    /// A bell, the ringer of each ring in order, and the sleeper. No tail was stored, and none read.
+    /// `BadShape` outside 1 to 16 rings.
+    pub fn new(alloc: Global, rings: u16) -> Result<(Bell, Vec<Ringer>, Sleeper), BellError>
+        ensures bad_shape { IsErrOf result BellError.BadShape ↔ ((rings ≡ 0) ⊎ (16 < rings)) }
+        ensures new { IfOk result (λ t. IsNew rings t.0 t.1.items t.2) }
+    {
+        if rings == 0 || rings > MAX_RINGS {
+            return Err(BellError::BadShape);
+        }
+        let words = Vec::from_elem(alloc, 0u64, usize::from(rings) + 1)?;
+        let tails = Vec::from_elem(alloc, 0u64, usize::from(rings))?;
+        let mut ringers = Vec::new(alloc);
+        let (table, mut seat) = Table::of_words(alloc, words.as_slice(), &u64::from(rings))?;
+        for ring in 0..rings {
+            let cut = table.shared.split_seat::<CutRinger>(&mut seat);
+            ringers.push(Ringer::new(cut, ring))?;
+        }
+        Ok((Bell { table }, ringers, Sleeper::new(seat, tails)))
+    }
+
+    /// Stores the ring's tail, and then clears the wake bit: the answer says whether it was set, and has to be spent by
+    /// `ring` (io_uring_enter(2) on IORING_ENTER_SQ_WAKEUP). Tails don't fall.
+    pub fn publish(&self, ringer: &mut Ringer, tail: u64) -> MustWake
+        requires own { IsRingerOf self.now ringer.old }
+        requires rising { ringer.old.tail ≤ tail }
+        ensures { ringer.new ≡ record ringer.old { tail = tail; found = result.owed ∷ ringer.old.found } }
+    {
+        ringer.publish(&self.table.shared, tail)
+    }
+
+    /// Wakes the sleeper, where that is owed.
+    pub fn ring(&self, wake: MustWake) {
+        let MustWake { owed } = wake;
+        if owed {
+            self.table.shared.wake_one(0);
+        }
+    }
+
+    /// Reads all tails.
+    pub fn collect(&self, sleeper: &mut Sleeper)
+        requires own { IsSleeperOf self.now sleeper.old }
+        ensures pass { (sleeper.new.table ≡ sleeper.old.table) × (sleeper.new.dozes ≡ sleeper.old.dozes) }
+        ensures read { HasLoaded sleeper.old sleeper.new }
+        ensures risen { HaveRisen sleeper.old.tails sleeper.new.tails }
+    {
+        sleeper.collect(&self.table.shared);
+    }
+
+    /// Sets the wake bit, and reads all tails again: `Dozed` where none has changed since it was read last, else `Work`,
+    /// and the bit is cleared.
+    pub fn doze(&self, sleeper: &mut Sleeper) -> Nap
+        requires own { IsSleeperOf self.now sleeper.old }
+        ensures table { sleeper.new.table ≡ sleeper.old.table }
+        ensures dozed { result ≡ Nap.Dozed → (sleeper.new.dozes ≡ true) × (sleeper.new.tails ≡ sleeper.old.tails) }
+        ensures work { result ≡ Nap.Work → (sleeper.new.dozes ≡ false) × (sleeper.new.tails ≢ sleeper.old.tails) }
+        ensures read { HasLoaded sleeper.old sleeper.new }
+        ensures risen { HaveRisen sleeper.old.tails sleeper.new.tails }
+    {
+        sleeper.doze(&self.table.shared)
+    }
+
+    /// Waits until the wake bit is clear: at once, but for a sleeper that dozed and wasn't woken. It parks, and burns no time.
+    pub fn sleep<R: Wait>(&self, rt: &R, sleeper: &mut Sleeper)
+        requires own { IsSleeperOf self.now sleeper.old }
+        ensures { sleeper.new ≡ record sleeper.old { dozes = false } }
+    {
+        sleeper.sleep(rt, &self.table.shared);
+    }
+}

@@ -1,0 +1,41 @@
+//! What a seat of the bell's table knows. All of it exists in proofs alone: no value of these types is made.
+use std::collections::LinkedList;
+
+/// Whose seat it is.
+pub enum Role {
+    /// The one who dozes and is woken: the poller.
+    Sleeper,
+    /// The one who stores the tail of this ring: its submitter.
+    Ringer(u64),
+}
+
+/// A load of a ring's tail: the ring, and what stood there.
+pub struct Load {
+    pub ring: u64,
+    pub tail: u64,
+}
+
+/// What a seat knows. The fields from `tail` to `found` are a ringer's, those from `rings` on the sleeper's.
+pub struct View {
+    pub role: Role,
+    /// The tail that it stored last.
+    pub tail: u64,
+    /// It has stored a tail, and has not looked at the wake word since.
+    pub between: bool,
+    /// The number of the doze whose bit it found set last. Dozes count from 1.
+    pub rung: u64,
+    /// Whether it found the bit set, look by look, the newest first.
+    pub found: LinkedList<bool>,
+    /// How many rings have a ringer.
+    pub rings: u64,
+    /// The tail that it read last of each ring.
+    pub tails: LinkedList<u64>,
+    /// Its loads of tails, the newest first.
+    pub loads: LinkedList<Load>,
+    /// How often it has set the bit.
+    pub doze: u64,
+    /// It has set the bit, and has not woken since.
+    pub armed: bool,
+    /// How many tails it has read since it set the bit, from ring 0 on.
+    pub checked: u64,
+}

@@ -1,0 +1,110 @@
+//! The completion ring.
+ghost use Rattle.std.specs.Prelude.{◌≡◌, ◌↔◌, ◌⊎◌, ◌≢◌, ℕ, ◌+◌, ◌%◌, ◌^◌, ◌<◌, ◌≤◌, ◌++◌, ◌∷◌, [], List, length, take, drop, IfOk, OnOk, OnErr, IsErrOf, IsTrue, MatchOption, Some, None, slice_get};
+ghost use Rattle.history.specs.declared.req.Req.{Req};
+ghost use Rattle.compring.specs.Posts.{Posts, IsKept, StandsFor, waiting, new_posts, place_in};
+
+use crate::error::PostError;
+use history::Req;
+use std::alloc::Global;
+use std::collections::VecDeque;
+use std::marker::Model;
+
+/// The largest size of a completion ring.
+pub const MAX_SIZE: u32 = 2048;
+
+/// Where a post went.
+#[derive(Clone, Copy, PartialEq, Eq, Debug)]
+pub enum Place {
+    /// Into the ring.
+    Ring,
+    /// Into the overflow, since the ring is full (io_uring(7), CQ overflow).
+    Overflow,
+}
+
+/// Posts in their order. Contracts see what waits in the ring and in its overflow, and the number of the next to be taken.
+#[derive(Drop)]
+pub struct CompletionRing {
+    size: usize,
+    taken: u64,
+    ring: VecDeque<Req>,
+    overflow: VecDeque<Req>,
+}
+
+impl Model for CompletionRing {
+    ghost use Rattle.std.specs.Prelude.{◌≤◌};
+    ghost use Rattle.std.specs.VecDeque.{deque_capacity};
+    ghost use Rattle.compring.specs.Posts.{Posts, IsKept};
+
+    ghost Value = { Posts };
+
+    ghost view = { λ c. record { size = c.size; taken = c.taken; ring = c.ring.items; overflow = c.overflow.items } };
+
+    ghost invariant = { λ c. IsKept (record { size = c.size; taken = c.taken; ring = c.ring.items; overflow = c.overflow.items }) × (c.size ≤ deque_capacity c.ring) };
+}
+
+impl CompletionRing {
+    /// An empty ring for `size` posts. Its room is made here, once.
+    pub fn new(alloc: Global, size: u32) -> Result<CompletionRing, PostError>
+        ensures bad_size { IsErrOf result PostError.BadSize ↔ ((size ≡ 0) ⊎ (2048 < size)) }
+        ensures empty { IfOk result (λ c. c ≡ new_posts size) }
+        ensures stands { IfOk result (λ c. StandsFor [] 0 c) }
+    {
+        if size == 0 || size > MAX_SIZE {
+            return Err(PostError::BadSize);
+        }
+        let size = size as usize;
+        let ring = VecDeque::with_capacity(alloc, size)?;
+        Ok(CompletionRing {
+            size,
+            taken: 0,
+            ring,
+            overflow: VecDeque::new(alloc),
+        })
+    }
+
+    /// Posts a request after all that wait: into the ring where that has room, else into the overflow. `Memory` comes only
+    /// where the ring is full, and changes nothing.
+    pub fn post(&mut self, req: Req) -> Result<Place, PostError>
+        ensures place { IfOk result (λ place. place ≡ place_in self.old) }
+        ensures posted { OnOk result (waiting self.new ≡ waiting self.old ++ req ∷ []) }
+        ensures stands { OnOk result ((posts : List Req) (taken : ℕ) → StandsFor posts taken self.old → StandsFor (posts ++ req ∷ []) taken self.new) }
+        ensures size { self.new.size ≡ self.old.size }
+        ensures taken { self.new.taken ≡ self.old.taken }
+        ensures memory { OnErr result ((length self.old.ring ≡ self.old.size) × IsErrOf result PostError.Memory) }
+        ensures unchanged { OnErr result (self.new ≡ self.old) }
+    {
+        if self.ring.len() < self.size {
+            self.ring.push_back_reserved(req);
+            return Ok(Place::Ring);
+        }
+        match self.overflow.push_back(req) {
+            Ok(()) => Ok(Place::Overflow),
+            Err(_) => Err(PostError::Memory),
+        }
+    }
+
+    /// Takes the oldest post, with its number: the first post has the number 0, and after 2^64 of them the numbers begin
+    /// again. The oldest of the overflow then moves into the ring.
+    pub fn take(&mut self) -> Option<(u64, Req)>
+        ensures oldest { MatchOption result (waiting self.old ≡ []) (λ post. waiting self.old ≡ post.1 ∷ waiting self.new) }
+        ensures number { MatchOption result (self.new ≡ self.old) (λ post. (post.0 ≡ self.old.taken) × (self.new.taken ≡ (self.old.taken + 1) % 2 ^ 64)) }
+        ensures stands { (posts : List Req) (taken : ℕ) → StandsFor posts taken self.old → MatchOption result (length posts ≡ taken) (λ post. (slice_get posts taken ≡ Some post.1) × (post.0 ≡ taken % 2 ^ 64) × StandsFor posts (taken + 1) self.new) }
+        ensures size { self.new.size ≡ self.old.size }
+    {
+        let req = self.ring.pop_front()?;
+        let number = self.taken;
+        self.taken = number.wrapping_add(1);
+        if let Some(next) = self.overflow.pop_front() {
+            self.ring.push_back_reserved(next);
+        }
+        Some((number, req))
+    }
+
+    /// The overflow isn't empty (io_uring(7), IORING_SQ_CQ_OVERFLOW).
+    pub fn overflowed(&self) -> bool
+        ensures overflowed { IsTrue result ↔ (0 < length self.now.overflow) }
+        ensures kept { IsKept self.now }
+    {
+        self.overflow.len() > 0
+    }
+}

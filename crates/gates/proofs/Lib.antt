@@ -1,0 +1,17 @@
+pub mod Adding
+pub mod Agreement
+pub mod Asking
+pub mod Blocking
+pub mod Bridge
+pub mod Carried
+pub mod GateAnswers
+pub mod Freeing
+pub mod Gates
+pub mod Links
+pub mod Lists
+pub mod Marks
+pub mod Mirroring
+pub mod Replies
+pub mod Standing
+pub mod TrailLaws
+pub mod Trailing

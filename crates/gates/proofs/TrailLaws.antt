@@ -1,0 +1,125 @@
+-- What keeps a list trailing its history: growth of the history, a slot more, and an outcome that was looked for.
+use Rattle.std.proofs.Common.{◌≡◌, ℕ, ◌+◌, ◌<◌, ◌≤◌, ◌==◌, ◌++◌, true, false, Bool, List, [], ◌∷◌, length, set, Some, None, Option, refl, sym, ap, ◌∙◌, subst, ⊎_elim, inl, inr, true≢false, eqb-true, arith, length-append}
+use Rattle.std.specs.List.{slice_get}
+use Rattle.std.proofs.lemmas.Bool.{cases_lt}
+use Rattle.std.proofs.lemmas.Option.{slice_get_within, none-some}
+use Rattle.entry.specs.Entry.{Entry}
+use Rattle.history.specs.declared.req.Req.{Req}
+use Rattle.history.specs.declared.event.Event.{Event}
+use Rattle.history.specs.History.{Submission, submission, submits, phase, unborn, IsReplied}
+use Rattle.history.specs.Chains.{joins, IsPlaced, IsChainBefore}
+use Rattle.history.specs.Legal.{Setup, MayCome, Legal}
+use Rattle.history.proofs.Requests.{bool_cases}
+use Rattle.history.proofs.Growth.{counted, submission_none, submission_stays, reply_stays, replied_stays}
+use Rattle.history.proofs.Opening.{placed_stays}
+use Rattle.gates.specs.declared.traits.Traits.{Traits}
+use Rattle.gates.specs.Slots.{Slot, traits_of, is_unanswered, is_pending, passes, test_at}
+use Rattle.gates.specs.Rows.{Kept, Stands, slot_with, stand_in, with_reply, answered}
+use Rattle.gates.specs.Shows.{nth, IsChained, IsOfChain, StandsIn, IsDone, IsOutcome, TrailedAt, TrailsAt, Trails}
+use Rattle.gates.proofs.Lists.{get_before, get_last, get_set_same, get_set_other, one_some}
+use Rattle.gates.proofs.Links.{ne_of}
+use Rattle.gates.proofs.Trailing.{trailed}
+
+pub trails_none : (h : List Event) (i : ℕ) → Trails h i []
+trails_none h i k s e = absurd (none-some s e)
+
+-- a request of which the traits are known trails, and so does a stand-in for one whose whole chain has replied
+pub met_trails : (h : List Event) (q : Req) (x : Submission) (e : Entry) (t : Traits) (last : Bool) → submission h q ≡ Some x → IsPlaced h q e → traits_of e ≡ t → x.last ≡ last → TrailsAt h q (slot_with t last)
+met_trails h q x e t last sub placed traits ends = inl (record { handed = (x, sub, ends); placed = (e, placed, traits); outcome = λ f u. absurd (none-some f u) })
+
+pub stand_in_trails : (h : List Event) (q : Req) → IsDone h q → TrailsAt h q stand_in
+stand_in_trails h q d = inr (record { plain = record { drains = refl; links_soft = refl; links_hard = refl }; done = refl; replied = d.replied; chain = d.chain })
+
+-- who is of a chain that has replied has replied
+pub of_chain_replied : (h : List Event) (p q : Req) → IsDone h q → IsOfChain h p q → IsReplied (phase h p)
+of_chain_replied h p q d = ⊎_elim (λ e. subst (λ z. IsReplied (phase h z)) (sym e) d.replied) (λ c. d.chain p c)
+
+-- a slot more
+pub trails_more : (h : List Event) (i : ℕ) (xs : List Slot) (s : Slot) → Trails h i xs → TrailsAt h (nth i (length xs)) s → Trails h i (xs ++ s ∷ [])
+trails_more h i xs s trails here k x e =
+    let n = slice_get_within (xs ++ s ∷ []) k x e in let l : length (xs ++ s ∷ []) ≡ length xs + 1 = length-append xs (s ∷ []) in ⊎_elim
+    (λ (a : k < length xs). trails k x (sym (get_before xs s k a) ∙ e))
+    (λ (a : length xs ≤ k). let at : k ≡ length xs = omega arith in let same : s ≡ x = one_some s x (sym (ap (slice_get (xs ++ s ∷ [])) at ∙ get_last xs s) ∙ e) in
+    subst (λ z. TrailsAt h (nth i z) x) (sym at) (subst (λ z. TrailsAt h (nth i (length xs)) z) same here))
+    (cases_lt k (length xs))
+
+-- an outcome of a request that is pending in the list
+pub trails_replied : (h : List Event) (i : ℕ) (xs : List Slot) (k : ℕ) (f : Bool) → Trails h i xs → passes is_pending xs k ≡ true → IsOutcome h (nth i k) f → Trails h i (with_reply xs k f)
+trails_replied h i xs k f trails pending outcome = by_slot (slice_get xs k) refl where
+  by_slot : (o : Option Slot) → slice_get xs k ≡ o → Trails h i (answered o f xs k)
+  by_slot None u = trails
+  by_slot (Some s) u = λ m x e. (let lt = slice_get_within xs k s u in let v : Slot = record s { reply = Some f } in ⊎_elim
+      (λ (w : (m == k) ≡ true). let at : m ≡ k = eqb-true m k w in let same : v ≡ x = one_some v x (sym (ap (slice_get (set xs k v)) at ∙ get_set_same xs k v lt) ∙ e) in
+      let t = trailed_at s u in subst (λ z. TrailsAt h (nth i z) x) (sym at) (subst (λ z. TrailsAt h (nth i k) z) same (inl (record {
+        handed = t.handed;
+        placed = t.placed;
+        outcome = λ g is. subst (IsOutcome h (nth i k)) (one_some f g is) outcome;
+      }))))
+      (λ (w : (m == k) ≡ false). trails m x (sym (get_set_other xs k m v (ne_of m k w)) ∙ e))
+      (bool_cases (m == k))) where
+        trailed_at : (s : Slot) → slice_get xs k ≡ Some s → TrailedAt h (nth i k) s
+        trailed_at s u = ⊎_elim (λ t. t) (λ d. absurd (true≢false (sym (sym (ap (test_at is_pending) u) ∙ pending) ∙ ap is_unanswered d.done))) (trails k s u)
+
+-- a request whose cell went to a later one has replied
+pub lost_replied : (h : List Event) (i : ℕ) (xs : List Slot) (r : Kept) (k : ℕ) → Stands xs r → Trails h i xs → k < r.lost → IsReplied (phase h (nth i k))
+lost_replied h i xs r k stands trails lt = (trailed h i xs trails).replied_is k (let n : r.lost + length r.cells ≡ length xs = stands.count in omega arith) (stands.gone k lt)
+
+-- ---- one event more
+
+replied_born : (h : List Event) (q : Req) → IsReplied (phase h q) → ¬ (phase h q ≡ unborn)
+replied_born h q is e = subst IsReplied e is
+
+module _ (s : Setup) (e : Event) (h : List Event) (l : Legal s h) (a : MayCome s h e) where
+  -- of what was handed in it was counted
+  submitted : (q : Req) (x : Submission) → submission h q ≡ Some x → q.k < submits h q.ring
+  submitted q x is = ⊎_elim (λ (c : q.k < submits h q.ring). c) (λ (c : submits h q.ring ≤ q.k). absurd (none-some x (sym (submission_none s h q l c) ∙ is))) (cases_lt q.k (submits h q.ring))
+
+  joins_was : (i m : ℕ) → m < submits h i → joins (submission (e ∷ h) (nth i m)) ≡ true → joins (submission h (nth i m)) ≡ true
+  joins_was i m lt is = sym (ap joins (submission_stays s e h (nth i m) a lt)) ∙ is
+
+  -- a chain that has replied was handed in whole: nobody joins it later
+  pub done_stays : (q : Req) → IsDone h q → IsDone (e ∷ h) q
+  done_stays q d = record { replied = replied_stays s e h q l a d.replied; chain = λ p c. replied_stays s e h p l a (d.chain p (chained p c)) } where
+    n : ℕ
+    n = submits h q.ring
+
+    in_time : q.k < n
+    in_time = counted s h q l (replied_born h q d.replied)
+
+    earlier : (p : Req) → IsChainBefore (e ∷ h) p q → IsChainBefore h p q
+    earlier p c = (c.0, λ m x y. joins_was q.ring m (omega (arith, in_time)) (c.1 m x y))
+
+    -- a member after the last one that was submitted would have replied
+    none_later : (p : Req) → IsChainBefore (e ∷ h) q p → p.k ≤ n
+    none_later p c = ⊎_elim
+        (λ (x : n < p.k). let r : q.ring ≡ p.ring = c.0.0 in
+        let b : IsChainBefore h q (nth q.ring n) = ((refl, in_time), λ m y z. joins_was q.ring m z (subst (λ g. joins (submission (e ∷ h) (nth g m)) ≡ true) (sym r) (c.1 m y (omega (arith, x))))) in
+        let o : n < submits h q.ring = counted s h (nth q.ring n) l (replied_born h (nth q.ring n) (d.chain (nth q.ring n) (inr b))) in absurd (omega arith))
+        (λ (x : p.k ≤ n). x) (cases_lt n p.k)
+
+    later : (p : Req) → IsChainBefore (e ∷ h) q p → IsChainBefore h q p
+    later p c = let z = none_later p c in let r : q.ring ≡ p.ring = c.0.0 in (c.0, λ m x y. joins_was p.ring m (let t : submits h q.ring ≡ submits h p.ring = ap (submits h) r in omega (arith, y, z)) (c.1 m x y))
+
+    chained : (p : Req) → IsChained (e ∷ h) p q → IsChained h p q
+    chained p = ⊎_elim (λ c. inl (earlier p c)) (λ c. inr (later p c))
+
+  pub outcome_stays : (q : Req) (f : Bool) → q.k < submits h q.ring → IsOutcome h q f → IsOutcome (e ∷ h) q f
+  outcome_stays q f lt = ⊎_elim (λ o. inl (o.0, o.1, placed_stays s e h l a q lt ∙ o.2, reply_stays s e h q o.1 l a o.3, o.4)) (λ o. inr (o.0, done_stays q o.1))
+
+  trailed_stays : (q : Req) (x : Slot) → TrailedAt h q x → TrailedAt (e ∷ h) q x
+  trailed_stays q x t = let g = t.handed in let lt = submitted q g.0 g.1 in let p = t.placed in record {
+    handed = (g.0, submission_stays s e h q a lt ∙ g.1, g.2);
+    placed = (p.0, placed_stays s e h l a q lt ∙ p.1, p.2);
+    outcome = λ f is. outcome_stays q f lt (t.outcome f is);
+  }
+
+  stands_in_stays : (q : Req) (x : Slot) → StandsIn h q x → StandsIn (e ∷ h) q x
+  stands_in_stays q x t = let d = done_stays q (record { replied = t.replied; chain = t.chain }) in record { plain = t.plain; done = t.done; replied = d.replied; chain = d.chain }
+
+  pub trails_grows : (i : ℕ) (xs : List Slot) → Trails h i xs → Trails (e ∷ h) i xs
+  trails_grows i xs trails k x is = ⊎_elim (λ t. inl (trailed_stays (nth i k) x t)) (λ t. inr (stands_in_stays (nth i k) x t)) (trails k x is)
+
+-- any number of events more
+pub trails_later : (s : Setup) (later h : List Event) → Legal s (later ++ h) → (i : ℕ) (xs : List Slot) → Trails h i xs → Trails (later ++ h) i xs
+trails_later s [] h l i xs t = t
+trails_later s (e ∷ later) h l i xs t = trails_grows s e (later ++ h) l.1 l.0.1 i xs (trails_later s later h l.1 i xs t)

@@ -1,0 +1,15 @@
+use Rattle.std.proofs.Common.{◌≡◌, ◌≢◌, ℕ, ◌-◌, ◌<◌, ◌≤◌, length, map}
+use Rattle.std.specs.List.{slice_get}
+use Rattle.std.specs.VecDeque.{deque_capacity}
+use Rattle.gates.specs.Slots.{slot_of}
+use Rattle.gates.specs.Rows.{LinkedAt}
+use Rattle.gates.proofs.cells.spread.Given as goal
+
+abbrev pub invariant-loop-j : goal.invariant-loop-j
+invariant-loop-j l =
+    (l.from ≤ l.j) × (l.j < length l.cells.items) × ((i : ℕ) → i ≢ l.j → LinkedAt l.lost l.cells.items i)
+    × (map slot_of l.cells.items ≡ map slot_of l.fn.cells.items) × ((i : ℕ) → i ≤ l.from → slice_get l.cells.items i ≡ slice_get l.fn.cells.items i)
+    × (deque_capacity l.cells ≡ deque_capacity l.fn.cells) × (length l.cells.items ≡ length l.fn.cells.items)
+
+abbrev pub decreases-loop-j : goal.decreases-loop-j
+decreases-loop-j l = length l.fn.cells.items - l.j

@@ -1,0 +1,177 @@
+-- What is kept of a row of entries, and when it stands for a list of them.
+use Rattle.std.specs.Prelude.{IsTrue, ◌≡◌, ◌⊎◌, ℕ, suc, ◌+◌, ◌-◌, ◌<◌, ◌≤◌, ◌==◌, ◌&&◌, ◌||◌, not, nat_le, nat_lt, min, cond, Bool, true, false, List, [], ◌∷◌, length, map, drop, Option, Some, None, slice_get, slice_set}
+use Rattle.entry.specs.Entry.{Entry}
+use Rattle.gates.specs.declared.cell.Behind.{Behind}
+use Rattle.gates.specs.declared.cell.Cell.{Cell}
+use Rattle.gates.specs.declared.traits.Traits.{Traits}
+use Rattle.gates.specs.declared.gate.Gate.{Gate}
+use Rattle.gates.specs.declared.gate.Asked.{Asked}
+use Rattle.gates.specs.declared.gate.Asked.TheVariants.{Open as open_now, OpenWith as open_with, Blocked as blocked_by}
+use Rattle.gates.specs.declared.gate.Gate.TheVariants.{Open as open_gate, Shut as shut_gate, Severed as severed_gate}
+use Rattle.gates.specs.Slots.{Slot, slot_of, traits_of, is_pending, is_draining, is_target_timer, next_of, behind, passes}
+
+-- how many cells there are, how many entries have lost theirs to later ones, the cells of the others in order, and the places
+-- among them of the first that has not replied, and of the first drain that has not
+pub record Kept : Type 0 where
+  pub size : ℕ
+  pub lost : ℕ
+  pub cells : List Cell
+  pub oldest : ℕ
+  pub drain : ℕ
+
+-- how many entries were added
+abbrev pub added : Kept → ℕ
+added r = r.lost + length r.cells
+
+-- the entry k was added, and still has its cell
+pub record HasCell (r : Kept) (k : ℕ) : Type 0 where
+  pub kept : r.lost ≤ k
+  pub there : k < added r
+
+-- the place of the first slot that passes the test, or the length
+pub record IsFirst (p : Slot → Bool) (xs : List Slot) (n : ℕ) : Type 0 where
+  pub within : n ≤ length xs
+  pub before : (j : ℕ) → j < n → passes p xs j ≡ false
+  pub here : n < length xs → passes p xs n ≡ true
+
+-- what stands before the cell after j is told by the cell j; n entries have lost their cells
+abbrev pub LinkedAt : ℕ → List Cell → ℕ → Type 0
+LinkedAt n cs j = (c d : Cell) → slice_get cs j ≡ Some c → slice_get cs (suc j) ≡ Some d → d.behind ≡ next_of (n + j) (slot_of c) c.behind
+
+abbrev pub Linked : ℕ → List Cell → Type 0
+Linked n cs = (j : ℕ) → LinkedAt n cs j
+
+-- true of each row
+pub record IsSound (r : Kept) : Type 0 where
+  pub cell : 0 < r.size
+  pub fits : length r.cells ≤ r.size
+  pub few : added r < 18446744073709551616
+  pub linked : Linked r.lost r.cells
+  pub oldest : IsFirst is_pending (map slot_of r.cells) r.oldest
+  pub drain : IsFirst is_draining (map slot_of r.cells) r.drain
+
+-- the row was given these entries and replies
+pub record Stands (xs : List Slot) (r : Kept) : Type 0 where
+  pub count : added r ≡ length xs
+  pub slots : drop r.lost xs ≡ map slot_of r.cells
+  pub front : (c : Cell) → slice_get r.cells 0 ≡ Some c → c.behind ≡ behind xs r.lost
+  pub gone : (m : ℕ) → m < r.lost → passes is_pending xs m ≡ false
+  pub full : (r.lost ≡ 0) ⊎ (length r.cells ≡ r.size)
+
+-- an entry with these traits as it is added
+abbrev pub slot_with : Traits → Bool → Slot
+slot_with t last = record { traits = t; last = last; reply = None }
+
+-- an entry as it is added
+abbrev pub new_slot : Entry → Bool → Slot
+new_slot e last = slot_with (traits_of e) last
+
+abbrev pub answered : Option Slot → Bool → List Slot → ℕ → List Slot
+answered None fails xs k = xs
+answered (Some s) fails xs k = slice_set xs k (record s { reply = Some fails })
+
+-- the list after the entry k has replied
+abbrev pub with_reply : List Slot → ℕ → Bool → List Slot
+with_reply xs k fails = answered (slice_get xs k) fails xs k
+
+-- the request k has its cell, and is pending in the list
+pub record Waits (xs : List Slot) (r : Kept) (k : ℕ) : Type 0 where
+  pub cell : HasCell r k
+  pub pending : IsTrue (passes is_pending xs k)
+
+-- how many slots are pending
+abbrev pub waiting_in : List Slot → ℕ
+waiting_in [] = 0
+waiting_in (s ∷ xs) = cond (is_pending s) 1 0 + waiting_in xs
+
+-- how many requests with cells are pending
+abbrev pub waiting : Kept → ℕ
+waiting r = waiting_in (map slot_of r.cells)
+
+-- what a row keeps in place of a request whose whole chain has replied
+abbrev pub stand_in : Slot
+stand_in = record { traits = record { invalid = false; link_timeout = false; drains = false; links_soft = false; links_hard = false }; last = true; reply = Some false }
+
+abbrev pub held_of : Option Cell → Bool
+held_of None = false
+held_of (Some c) = c.behind.held
+
+-- an earlier member of the chain of the request at j has not replied
+abbrev pub held_at : List Cell → ℕ → Bool
+held_at cs j = held_of (slice_get cs j)
+
+-- the request at m is held up by nobody of its chain, and the next one is
+pub record IsTurn (cs : List Cell) (low high m : ℕ) : Type 0 where
+  pub least : low ≤ m
+  pub most : m < high
+  pub free : held_at cs m ≡ false
+  pub held : held_at cs (suc m) ≡ true
+
+-- what a row answers, from what is kept
+abbrev pub shut_or_open : Bool → Gate
+shut_or_open true = open_gate
+shut_or_open false = shut_gate
+
+abbrev pub clear_by : Kept → ℕ → Option Cell → Bool
+clear_by r j None = false
+clear_by r j (Some c) = not c.behind.severed && (not c.behind.held && (nat_le j r.drain && (not c.traits.drains || nat_le j r.oldest)))
+
+-- chains and drains let the request at the place j start
+abbrev pub clear_in : Kept → ℕ → Bool
+clear_in r j = clear_by r j (slice_get r.cells j)
+
+-- the place that decides for the request at j: its target's, if it is a LINK_TIMEOUT, and none where that has lost its cell
+abbrev pub place_by : ℕ → Cell → Option ℕ
+place_by j c = cond (is_target_timer c.behind.hosted (slot_of c)) (cond (j == 0) None (Some (j - 1))) (Some j)
+
+abbrev pub gate_by : Kept → Option ℕ → Gate
+gate_by r None = open_gate
+gate_by r (Some g) = shut_or_open (clear_in r g)
+
+abbrev pub gate_at : Kept → ℕ → Option Cell → Gate
+gate_at r j None = shut_gate
+gate_at r j (Some c) = cond c.behind.severed severed_gate (gate_by r (place_by j c))
+
+abbrev pub gate_in : Kept → ℕ → Gate
+gate_in r k = gate_at r (k - r.lost) (slice_get r.cells (k - r.lost))
+
+-- the first entry has lost its cell
+abbrev pub without_first : Kept → Kept
+without_first r = record { size = r.size; lost = r.lost + 1; cells = drop 1 r.cells; oldest = r.oldest - 1; drain = r.drain - 1 }
+
+-- it is what the last cell says of the next entry; n entries have lost their cells
+abbrev pub IsToldBy : ℕ → List Cell → Behind → Type 0
+IsToldBy n cs b = (c : Cell) → slice_get cs (length cs - 1) ≡ Some c → b ≡ next_of (n + (length cs - 1)) (slot_of c) c.behind
+
+abbrev pub begins_after : ℕ → Option Cell → Bool
+begins_after n None = false
+begins_after n (Some c) = nat_lt n c.behind.head
+
+-- the first request and its chain have replied: the first that has not is of another chain
+abbrev pub free_by : ℕ → List Cell → ℕ → Bool
+free_by n cs o = nat_lt 0 o && ((o == length cs) || begins_after n (slice_get cs o))
+
+-- the request that keeps the next one from its cell
+abbrev pub way_in : Kept → Option ℕ
+way_in r = cond (nat_lt (length r.cells) r.size) None (cond (free_by r.lost r.cells r.oldest) None (Some (r.lost + r.oldest)))
+
+-- the member of the chain of c, at g, that holds it up, or g where there is none
+abbrev pub IsMember : List Cell → ℕ → ℕ → Cell → ℕ → Type 0
+IsMember cs n g c m = (c.behind.held ≡ false → m ≡ g) × (c.behind.held ≡ true → c.behind.head - n < g → held_at cs (c.behind.head - n) ≡ false → IsTurn cs (c.behind.head - n) g m)
+
+-- m is the member of its chain that holds up c, at g
+abbrev pub blocker_by : ℕ → Cell → ℕ → ℕ → ℕ → Option ℕ
+blocker_by g c m oldest drain = let b : ℕ = cond c.traits.drains oldest (min drain m) in cond (nat_lt b g) (Some b) None
+
+-- the answer for the place j by the place g, which decides for it, where q is the first request in the way of that
+abbrev pub asked_by : Kept → ℕ → ℕ → Option ℕ → Asked
+asked_by r g j (Some b) = blocked_by b
+asked_by r g j None = cond (nat_lt g j && passes is_pending (map slot_of r.cells) g) (open_with (r.lost + g)) open_now
+
+abbrev pub numbered : ℕ → Option ℕ → Option ℕ
+numbered n None = None
+numbered n (Some b) = Some (n + b)
+
+-- what a row answers as the first request in the way of the place g
+abbrev pub IsBlockerAt : Kept → ℕ → Option ℕ → Type 0
+IsBlockerAt r g q = (d : Cell) → slice_get r.cells g ≡ Some d → (m : ℕ) × IsMember r.cells r.lost g d m × (q ≡ numbered r.lost (blocker_by g d m r.oldest r.drain))

@@ -1,0 +1,116 @@
+-- When a list of entries with their replies is what a history says of the first requests of a ring, and what a row then answers.
+use Rattle.std.specs.Prelude.{◌≡◌, ◌⊎◌, ℕ, ◌-◌, ◌<◌, ℤ, Bool, true, false, List, Option, Some, None, slice_get}
+use Rattle.entry.specs.Entry.{Entry, drains, fails}
+use Rattle.history.specs.declared.req.Req.{Req}
+use Rattle.history.specs.declared.event.Event.{Event}
+use Rattle.history.specs.History.{Submission, submission, phase, reply, IsReplied}
+use Rattle.history.specs.Chains.{IsPlaced, IsBefore, IsChainBefore, IsTarget, Severed, Open, gate_of}
+use Rattle.gates.specs.declared.gate.Gate.{Gate}
+use Rattle.gates.specs.declared.gate.Gate.TheVariants.{Open as open_gate, Shut as shut_gate, Severed as severed_gate}
+use Rattle.gates.specs.declared.gate.Asked.{Asked}
+use Rattle.gates.specs.declared.gate.Asked.TheVariants.{Severed as severed_now, Open as open_now, OpenWith as open_with, Blocked as blocked_by}
+use Rattle.gates.specs.Slots.{Slot, traits_of, IsPlain, is_pending}
+
+abbrev pub nth : ℕ → ℕ → Req
+nth i k = record { ring = i; k = k }
+
+-- the slot has the traits of the request's entry as it was handed in, and its reply
+pub record ShownAt (h : List Event) (q : Req) (s : Slot) : Type 0 where
+  pub handed : (x : Submission) × (submission h q ≡ Some x) × (traits_of x.entry ≡ s.traits) × (x.last ≡ s.last)
+  pub pending : is_pending s ≡ true → ¬ IsReplied (phase h q)
+  pub replied : (f : Bool) → s.reply ≡ Some f → (res : ℤ) × (reply h q ≡ Some res) × ((e : Entry) → IsPlaced h q e → fails e res ≡ f)
+
+-- the slots are those of the first requests of the ring i
+abbrev pub Shows : List Event → ℕ → List Slot → Type 0
+Shows h i xs = (k : ℕ) (s : Slot) → slice_get xs k ≡ Some s → ShownAt h (nth i k) s
+
+-- severed first, then open, else shut
+abbrev pub IsGate : List Event → Req → Gate → Type 0
+IsGate h r severed_gate = Severed h r
+IsGate h r open_gate = (¬ Severed h r) × Open h r
+IsGate h r shut_gate = (¬ Severed h r) × ¬ Open h r
+
+-- the request before a LINK_TIMEOUT in its chain
+abbrev pub IsTargetOf : List Event → Req → Option ℕ → Type 0
+IsTargetOf h l None = (t : Req) → ¬ IsTarget h l t
+IsTargetOf h l (Some k) = IsTarget h l (nth l.ring k)
+
+-- q has not replied, and stands in the way of a request whose place is g: as an earlier member of its chain, as an earlier
+-- drain, or as any earlier request where g drains (io_uring_enter(2), IOSQE_IO_LINK and IOSQE_IO_DRAIN)
+pub record Blocks (h : List Event) (g q : Req) : Type 0 where
+  pub earlier : IsBefore q g
+  pub unanswered : ¬ IsReplied (phase h q)
+  pub why : IsChainBefore h q g ⊎ (((e : Entry) × IsPlaced h q e × (drains e ≡ true)) ⊎ ((e : Entry) × IsPlaced h g e × (drains e ≡ true)))
+
+-- the first request that blocks r, or none where r is severed or open
+abbrev pub IsBlocker : List Event → Req → Option ℕ → Type 0
+IsBlocker h r None = Severed h r ⊎ Open h r
+IsBlocker h r (Some k) = (¬ Severed h r) × Blocks h (gate_of h r) (nth r.ring k) × ((m : ℕ) → m < k → ¬ Blocks h (gate_of h r) (nth r.ring m))
+
+-- p and q are members of one chain
+abbrev pub IsChained : List Event → Req → Req → Type 0
+IsChained h p q = IsChainBefore h p q ⊎ IsChainBefore h q p
+
+-- p is q, or a member of its chain
+abbrev pub IsOfChain : List Event → Req → Req → Type 0
+IsOfChain h p q = (p ≡ q) ⊎ IsChained h p q
+
+-- of n cells the one of the request r, which comes next, is free: no earlier request had it, or the last one that had it has
+-- replied, and each member of that one's chain (in a row a request counts as reaped once it has replied)
+abbrev pub IsFree : List Event → ℕ → Req → Type 0
+IsFree h n r = (r.k < n) ⊎ (IsReplied (phase h (nth r.ring (r.k - n))) × ((p : Req) → p.k < r.k → IsChained h p (nth r.ring (r.k - n)) → IsReplied (phase h p)))
+
+-- the slot has the traits of the request's entry as it was placed, and its reply
+pub record MirroredAt (h : List Event) (q : Req) (s : Slot) : Type 0 where
+  pub handed : (x : Submission) × (submission h q ≡ Some x) × (x.last ≡ s.last)
+  pub placed : (e : Entry) × IsPlaced h q e × (traits_of e ≡ s.traits)
+  pub pending : is_pending s ≡ true → ¬ IsReplied (phase h q)
+  pub replied : (f : Bool) → s.reply ≡ Some f → (res : ℤ) × (reply h q ≡ Some res) × (fails placed.0 res ≡ f)
+
+-- the slot stands in for a request whose whole chain has replied: it has no flags, and a reply that doesn't fail
+pub record StandsIn (h : List Event) (q : Req) (s : Slot) : Type 0 where
+  pub plain : IsPlain s.traits
+  pub done : s.reply ≡ Some false
+  pub replied : IsReplied (phase h q)
+  pub chain : (p : Req) → IsChained h p q → IsReplied (phase h p)
+
+-- the slots are those of the first requests of the ring i, with the entries as they were placed, but for stand-ins
+abbrev pub Mirrors : List Event → ℕ → List Slot → Type 0
+Mirrors h i xs = (k : ℕ) (s : Slot) → slice_get xs k ≡ Some s → MirroredAt h (nth i k) s ⊎ StandsIn h (nth i k) s
+
+-- the request has replied, and each member of its chain
+pub record IsDone (h : List Event) (q : Req) : Type 0 where
+  pub replied : IsReplied (phase h q)
+  pub chain : (p : Req) → IsChained h p q → IsReplied (phase h p)
+
+-- what may be kept as the outcome of q: whether its reply fails; or, once its whole chain has replied, that it doesn't
+abbrev pub IsOutcome : List Event → Req → Bool → Type 0
+IsOutcome h q f = ((e : Entry) × (res : ℤ) × IsPlaced h q e × (reply h q ≡ Some res) × (fails e res ≡ f)) ⊎ ((f ≡ false) × IsDone h q)
+
+-- the slot has the traits of the request's entry as it was placed, and, if it has one, the request's outcome. One that is
+-- pending in the slot may have replied
+pub record TrailedAt (h : List Event) (q : Req) (s : Slot) : Type 0 where
+  pub handed : (x : Submission) × (submission h q ≡ Some x) × (x.last ≡ s.last)
+  pub placed : (e : Entry) × IsPlaced h q e × (traits_of e ≡ s.traits)
+  pub outcome : (f : Bool) → s.reply ≡ Some f → IsOutcome h q f
+
+abbrev pub TrailsAt : List Event → Req → Slot → Type 0
+TrailsAt h q s = TrailedAt h q s ⊎ StandsIn h q s
+
+-- the slots are those of the first requests of the ring i, with the entries as they were placed, but for stand-ins, and the
+-- outcomes that were looked for: later replies are not among them
+abbrev pub Trails : List Event → ℕ → List Slot → Type 0
+Trails h i xs = (k : ℕ) (s : Slot) → slice_get xs k ≡ Some s → TrailsAt h (nth i k) s
+
+-- what a row that trails may answer of r. The history may know of replies that the row doesn't
+abbrev pub IsAsked : List Event → Req → Asked → Type 0
+IsAsked h r severed_now = Severed h r
+IsAsked h r open_now = (¬ Severed h r) × Open h r
+IsAsked h r (open_with t) = IsTarget h r (nth r.ring t) × Open h r × (¬ IsReplied (phase h (nth r.ring t)) → ¬ Severed h r)
+IsAsked h r (blocked_by b) = ¬ IsReplied (phase h (nth r.ring b)) → ¬ Open h r
+
+-- the request that an answer names
+abbrev pub named_in : Asked → Option ℕ
+named_in (open_with t) = Some t
+named_in (blocked_by b) = Some b
+named_in _ = None

@@ -1,0 +1,246 @@
+//! Rows by the rules of chains, drains and link timeouts, at their limits.
+ghost use Rattle.std.specs.Prelude.{◌≡◌, ◌+◌, ◌^◌, ◌<◌};
+ghost use Rattle.gates.specs.Rows.{added};
+
+use crate::{Asked, Gate, Row, RowFull, Traits};
+use entry::{Row as Columns, Sqe};
+use std::process::Abort;
+use std::test::Fail;
+
+const DRAIN: u8 = 2;
+
+const LINK: u8 = 4;
+
+const HARD: u8 = 8;
+
+fn entry_of(opcode: u8, fd: i32, addr: u64, len: u32, flags: u8) -> Sqe {
+    let columns = Columns {
+        opcode,
+        fd,
+        off: 0,
+        addr,
+        len,
+        word: 0,
+    };
+    Sqe::of_row(columns, flags, 0)
+}
+
+fn nop(flags: u8) -> Sqe {
+    entry_of(0, -1, 0, 0, flags)
+}
+
+fn read(flags: u8) -> Sqe {
+    entry_of(22, 0, 0, 4, flags)
+}
+
+fn link_timeout(flags: u8) -> Sqe {
+    entry_of(15, -1, 5, 1, flags)
+}
+
+fn invalid(flags: u8) -> Sqe {
+    entry_of(255, 0, 0, 0, flags)
+}
+
+/// Adds an entry, for which there is room.
+fn put(rt: &impl Abort, row: &mut Row, sqe: Sqe, last: bool) -> u64
+    requires { added row.old < 2 ^ 32 }
+    ensures { added row.new ≡ added row.old + 1 }
+{
+    match row.add(sqe, last) {
+        Ok(k) => k,
+        Err(RowFull) => panic!(rt; "the row is full"),
+    }
+}
+
+fn answer(rt: &impl Abort, row: &mut Row, k: u64, fails: bool)
+    ensures { added row.new ≡ added row.old }
+{
+    assert!(rt; row.has_cell(k));
+    row.replied(k, fails);
+}
+
+/// What the row says of a request: its gate, and the first request that blocks it.
+fn asked(rt: &impl Abort, row: &Row, k: u64) -> (Gate, Option<u64>) {
+    assert!(rt; row.has_cell(k));
+    (row.open(k), row.blocker(k))
+}
+
+fn target(rt: &impl Abort, row: &Row, k: u64) -> Option<u64> {
+    assert!(rt; row.has_cell(k));
+    row.target_of(k)
+}
+
+#[test]
+fn a_soft_chain_goes_on_until_a_reply_fails(rt: HostRuntime) -> Result<(), Fail> {
+    let mut row = Row::new(rt.alloc(), 4)?;
+    let first = put(&rt, &mut row, nop(LINK), false);
+    assert_eq!(rt; first, 0);
+    put(&rt, &mut row, read(LINK), false);
+    put(&rt, &mut row, nop(0), true);
+    assert_eq!(rt; asked(&rt, &row, 0), (Gate::Open, None));
+    assert_eq!(rt; asked(&rt, &row, 1), (Gate::Shut, Some(0)));
+    assert_eq!(rt; asked(&rt, &row, 2), (Gate::Shut, Some(0)));
+    answer(&rt, &mut row, 0, false);
+    assert_eq!(rt; asked(&rt, &row, 1), (Gate::Open, None));
+    assert_eq!(rt; asked(&rt, &row, 2), (Gate::Shut, Some(1)));
+    answer(&rt, &mut row, 1, true);
+    assert_eq!(rt; asked(&rt, &row, 2), (Gate::Severed, None));
+    Ok(())
+}
+
+#[test]
+fn severing_passes_hard_members(rt: HostRuntime) -> Result<(), Fail> {
+    let mut row = Row::new(rt.alloc(), 4)?;
+    put(&rt, &mut row, read(LINK), false);
+    put(&rt, &mut row, nop(HARD), false);
+    put(&rt, &mut row, nop(0), false);
+    answer(&rt, &mut row, 0, true);
+    assert_eq!(rt; asked(&rt, &row, 1), (Gate::Severed, None));
+    assert_eq!(rt; asked(&rt, &row, 2), (Gate::Severed, None));
+    Ok(())
+}
+
+#[test]
+fn a_hard_link_severs_after_an_invalid_member_alone(rt: HostRuntime) -> Result<(), Fail> {
+    let mut row = Row::new(rt.alloc(), 4)?;
+    put(&rt, &mut row, read(HARD), false);
+    put(&rt, &mut row, nop(0), true);
+    put(&rt, &mut row, invalid(HARD), false);
+    put(&rt, &mut row, nop(0), true);
+    answer(&rt, &mut row, 0, true);
+    answer(&rt, &mut row, 2, true);
+    assert_eq!(rt; asked(&rt, &row, 1), (Gate::Open, None));
+    assert_eq!(rt; asked(&rt, &row, 3), (Gate::Severed, None));
+    Ok(())
+}
+
+#[test]
+fn the_last_entry_of_a_batch_ends_its_chain(rt: HostRuntime) -> Result<(), Fail> {
+    let mut row = Row::new(rt.alloc(), 2)?;
+    put(&rt, &mut row, read(LINK), true);
+    put(&rt, &mut row, nop(0), true);
+    assert_eq!(rt; asked(&rt, &row, 1), (Gate::Open, None));
+    Ok(())
+}
+
+#[test]
+fn a_member_that_was_cancelled_early_holds_nobody_up(rt: HostRuntime) -> Result<(), Fail> {
+    let mut row = Row::new(rt.alloc(), 4)?;
+    put(&rt, &mut row, nop(HARD), false);
+    put(&rt, &mut row, nop(HARD), false);
+    put(&rt, &mut row, nop(HARD), false);
+    put(&rt, &mut row, nop(0), true);
+    answer(&rt, &mut row, 1, true);
+    assert_eq!(rt; asked(&rt, &row, 3), (Gate::Shut, Some(0)));
+    answer(&rt, &mut row, 0, false);
+    assert_eq!(rt; asked(&rt, &row, 2), (Gate::Open, None));
+    assert_eq!(rt; asked(&rt, &row, 3), (Gate::Shut, Some(2)));
+    Ok(())
+}
+
+#[test]
+fn a_drain_waits_for_all_and_holds_back_all(rt: HostRuntime) -> Result<(), Fail> {
+    let mut row = Row::new(rt.alloc(), 4)?;
+    put(&rt, &mut row, nop(0), true);
+    put(&rt, &mut row, nop(0), true);
+    put(&rt, &mut row, nop(DRAIN), true);
+    put(&rt, &mut row, nop(0), true);
+    answer(&rt, &mut row, 1, false);
+    assert_eq!(rt; asked(&rt, &row, 0), (Gate::Open, None));
+    assert_eq!(rt; asked(&rt, &row, 2), (Gate::Shut, Some(0)));
+    assert_eq!(rt; asked(&rt, &row, 3), (Gate::Shut, Some(2)));
+    answer(&rt, &mut row, 0, false);
+    assert_eq!(rt; asked(&rt, &row, 2), (Gate::Open, None));
+    assert_eq!(rt; asked(&rt, &row, 3), (Gate::Shut, Some(2)));
+    answer(&rt, &mut row, 2, true);
+    assert_eq!(rt; asked(&rt, &row, 3), (Gate::Open, None));
+    Ok(())
+}
+
+#[test]
+fn a_link_timeout_is_open_where_its_target_is(rt: HostRuntime) -> Result<(), Fail> {
+    let mut row = Row::new(rt.alloc(), 8)?;
+    put(&rt, &mut row, nop(LINK), false);
+    put(&rt, &mut row, read(LINK), false);
+    put(&rt, &mut row, link_timeout(LINK), false);
+    put(&rt, &mut row, link_timeout(0), true);
+    put(&rt, &mut row, link_timeout(0), true);
+    assert_eq!(rt; target(&rt, &row, 1), None);
+    assert_eq!(rt; target(&rt, &row, 2), Some(1));
+    assert_eq!(rt; target(&rt, &row, 3), None);
+    assert_eq!(rt; target(&rt, &row, 4), None);
+    assert_eq!(rt; asked(&rt, &row, 2), (Gate::Shut, Some(0)));
+    answer(&rt, &mut row, 0, false);
+    assert_eq!(rt; asked(&rt, &row, 1), (Gate::Open, None));
+    assert_eq!(rt; asked(&rt, &row, 2), (Gate::Open, None));
+    assert_eq!(rt; asked(&rt, &row, 3), (Gate::Shut, Some(1)));
+    Ok(())
+}
+
+#[test]
+fn a_cell_is_free_once_its_chain_has_replied(rt: HostRuntime) -> Result<(), Fail> {
+    let mut row = Row::new(rt.alloc(), 2)?;
+    put(&rt, &mut row, nop(LINK), false);
+    put(&rt, &mut row, nop(0), true);
+    assert_eq!(rt; row.add(nop(0), true), Err(RowFull));
+    answer(&rt, &mut row, 0, false);
+    assert_eq!(rt; row.add(nop(0), true), Err(RowFull));
+    answer(&rt, &mut row, 1, false);
+    let third = put(&rt, &mut row, nop(0), true);
+    assert_eq!(rt; third, 2);
+    assert!(rt; !row.has_cell(0));
+    assert!(rt; row.has_cell(1));
+    assert_eq!(rt; asked(&rt, &row, 2), (Gate::Open, None));
+    Ok(())
+}
+
+/// What a row that trails its ring says of a request.
+fn ask(rt: &impl Abort, row: &Row, k: u64) -> Asked {
+    assert!(rt; row.has_cell(k));
+    row.ask(k)
+}
+
+#[test]
+fn a_row_that_trails_names_who_is_to_be_looked_at(rt: HostRuntime) -> Result<(), Fail> {
+    let mut row = Row::new(rt.alloc(), 4)?;
+    put(&rt, &mut row, nop(LINK), false);
+    put(&rt, &mut row, read(LINK), false);
+    put(&rt, &mut row, link_timeout(0), true);
+    put(&rt, &mut row, nop(DRAIN), true);
+    assert_eq!(rt; ask(&rt, &row, 0), Asked::Open);
+    assert_eq!(rt; ask(&rt, &row, 1), Asked::Blocked(0));
+    assert_eq!(rt; ask(&rt, &row, 2), Asked::Blocked(0));
+    assert_eq!(rt; ask(&rt, &row, 3), Asked::Blocked(0));
+    answer(&rt, &mut row, 0, false);
+    assert_eq!(rt; ask(&rt, &row, 1), Asked::Open);
+    assert_eq!(rt; ask(&rt, &row, 2), Asked::OpenWith(1));
+    assert_eq!(rt; ask(&rt, &row, 3), Asked::Blocked(1));
+    answer(&rt, &mut row, 1, true);
+    assert_eq!(rt; ask(&rt, &row, 2), Asked::Severed);
+    assert_eq!(rt; ask(&rt, &row, 3), Asked::Blocked(2));
+    Ok(())
+}
+
+#[test]
+fn the_chain_of_the_first_request_is_in_the_way(rt: HostRuntime) -> Result<(), Fail> {
+    let mut row = Row::new(rt.alloc(), 3)?;
+    let linked = Traits::of(&read(LINK));
+    let alone = Traits::of(&nop(0));
+    assert_eq!(rt; row.in_the_way(), None);
+    assert_eq!(rt; row.count(), 0);
+    assert_eq!(rt; row.add_traits(linked, false), Ok(0));
+    assert_eq!(rt; row.add_traits(alone, true), Ok(1));
+    assert_eq!(rt; row.add_traits(alone, true), Ok(2));
+    assert_eq!(rt; row.in_the_way(), Some(0));
+    answer(&rt, &mut row, 0, false);
+    assert_eq!(rt; row.in_the_way(), Some(1));
+    assert_eq!(rt; row.add_traits(alone, true), Err(RowFull));
+    assert_eq!(rt; row.add_stand_in(), Err(RowFull));
+    answer(&rt, &mut row, 1, false);
+    assert_eq!(rt; row.in_the_way(), None);
+    assert_eq!(rt; row.add_stand_in(), Ok(3));
+    assert_eq!(rt; row.count(), 4);
+    assert_eq!(rt; row.in_the_way(), None);
+    assert_eq!(rt; ask(&rt, &row, 2), Asked::Open);
+    Ok(())
+}

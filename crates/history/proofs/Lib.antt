@@ -1,0 +1,10 @@
+pub mod Apart
+pub mod Alike
+pub mod Contents
+pub mod Growth
+pub mod Opening
+pub mod Requests
+pub mod Futures
+pub mod Swaps
+pub mod Untaken
+pub mod Words

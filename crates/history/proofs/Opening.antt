@@ -1,0 +1,65 @@
+-- What is severed stays severed, and what is open stays open.
+use Rattle.std.proofs.Common.{◌≡◌, ℕ, ◌-◌, ◌<◌, ◌==◌, Bool, true, false, cond, List, ◌∷◌, Some, None, sym, ap, ◌∙◌, subst, ⊎_elim, arith}
+use Rattle.history.specs.declared.req.Req.{Req}
+use Rattle.history.specs.declared.event.Event.{Event}
+use Rattle.history.specs.History.{submission, submits, phase, IsReplied}
+use Rattle.history.specs.Chains.{joins, previous, before_in, placed_from, placed, IsBefore, IsChainBefore, Severed, IsClear, is_link_timeout_in, gate_of, Open}
+use Rattle.history.specs.Legal.{Setup, MayCome, Legal}
+use Rattle.history.proofs.Requests.{bool_cases}
+use Rattle.history.proofs.Growth.{submission_stays, reply_of_replied, reply_stays, replied_stays}
+
+-- the request whose place decides was submitted too
+pub gate_counted : (h : List Event) (r : Req) → r.k < submits h r.ring → (gate_of h r).k < submits h (gate_of h r).ring
+gate_counted h r le = ⊎_elim
+    (λ (w : is_link_timeout_in (placed h r) ≡ true). let G : Bool → Type 0 = λ b. (cond b (previous r) r).k < submits h (cond b (previous r) r).ring in subst G (sym w) (let x : r.k - 1 < submits h r.ring = omega arith in x))
+    (λ (w : is_link_timeout_in (placed h r) ≡ false). let G : Bool → Type 0 = λ b. (cond b (previous r) r).k < submits h (cond b (previous r) r).ring in subst G (sym w) le)
+    (bool_cases (is_link_timeout_in (placed h r)))
+
+module _ (s : Setup) (e : Event) (h : List Event) (l : Legal s h) (a : MayCome s h e) where
+  before_stays : (q : Req) → q.k < submits h q.ring → before_in (e ∷ h) q ≡ before_in h q
+  before_stays q le = ⊎_elim
+      (λ (w : (q.k == 0) ≡ true). ap (λ b. cond b None (submission (e ∷ h) (previous q))) w ∙ sym (ap (λ b. cond b None (submission h (previous q))) w))
+      (λ (w : (q.k == 0) ≡ false). ap (λ x. cond (q.k == 0) None x) (submission_stays s e h (previous q) a (omega arith)))
+      (bool_cases (q.k == 0))
+
+  -- a request keeps its entry
+  pub placed_stays : (q : Req) → q.k < submits h q.ring → placed (e ∷ h) q ≡ placed h q
+  placed_stays q le = ap (λ x. placed_from x (submission (e ∷ h) q)) (before_stays q le) ∙ ap (λ x. placed_from (before_in h q) x) (submission_stays s e h q a le)
+
+  at : (r : Req) (m : ℕ) → m < r.k → r.k < submits h r.ring → submission (e ∷ h) (record { ring = r.ring; k = m }) ≡ submission h (record { ring = r.ring; k = m })
+  at r m lt le = submission_stays s e h (record { ring = r.ring; k = m }) a (omega arith)
+
+  -- a request keeps its chain
+  pub chain_stays : (q r : Req) → r.k < submits h r.ring → IsChainBefore h q r → IsChainBefore (e ∷ h) q r
+  chain_stays q r le c = (c.0, λ m x y. ap joins (at r m y le) ∙ c.1 m x y)
+
+  pub chain_was : (q r : Req) → r.k < submits h r.ring → IsChainBefore (e ∷ h) q r → IsChainBefore h q r
+  chain_was q r le c = (c.0, λ m x y. sym (ap joins (at r m y le)) ∙ c.1 m x y)
+
+  before_counted : (q r : Req) → r.k < submits h r.ring → IsBefore q r → q.k < submits h q.ring
+  before_counted q r le b = let n : submits h q.ring ≡ submits h r.ring = ap (submits h) b.0 in let m : q.k < r.k = b.1 in omega arith
+
+  pub severed_stays : (r : Req) → r.k < submits h r.ring → Severed h r → Severed (e ∷ h) r
+  severed_stays r le v = (v.0, v.1, v.2, chain_stays v.0 r le v.3, placed_stays v.0 (before_counted v.0 r le v.3.0) ∙ v.4, reply_stays s e h v.0 v.2 l a v.5, v.6)
+
+  -- where all earlier members of the chain have replied, no later event severs
+  severed_was : (r : Req) → r.k < submits h r.ring → ((q : Req) → IsChainBefore h q r → IsReplied (phase h q)) → Severed (e ∷ h) r → Severed h r
+  severed_was r le c v =
+      let b = chain_was v.0 r le v.3 in let x = reply_of_replied s (phase h v.0) (c v.0 b) in
+      let one : Some x.0 ≡ Some v.2 = sym (reply_stays s e h v.0 x.0 l a x.1) ∙ v.5 in
+      (v.0, v.1, v.2, b, sym (placed_stays v.0 (before_counted v.0 r le b.0)) ∙ v.4, x.1 ∙ one, v.6)
+
+  pub clear_stays : (r : Req) → r.k < submits h r.ring → IsClear h r → IsClear (e ∷ h) r
+  clear_stays r le c = record {
+    unsevered = λ v. c.unsevered (severed_was r le c.chain v);
+    chain = λ q b. replied_stays s e h q l a (c.chain q (chain_was q r le b));
+    drains_before = λ q d b p is. replied_stays s e h q l a (c.drains_before q d b (sym (placed_stays q (before_counted q r le b)) ∙ p) is);
+    drain = λ d p is q b. replied_stays s e h q l a (c.drain d (sym (placed_stays r le) ∙ p) is q b);
+  }
+
+  gate_stays : (r : Req) → r.k < submits h r.ring → gate_of (e ∷ h) r ≡ gate_of h r
+  gate_stays r le = ap (λ x. cond (is_link_timeout_in x) (previous r) r) (placed_stays r le)
+
+  -- once a request is open it is open for good
+  pub open_stays : (r : Req) → r.k < submits h r.ring → Open h r → Open (e ∷ h) r
+  open_stays r le o = subst (λ (g : Req). IsClear (e ∷ h) g) (sym (gate_stays r le)) (clear_stays (gate_of h r) (gate_counted h r le) o)

@@ -1,0 +1,118 @@
+-- The table of answers: what each operation replies, and when it has no answer yet.
+use Rattle.std.specs.Prelude.{◌≡◌, ℕ, ◌+◌, ◌-◌, ◌<◌, ◌==◌, ◌&&◌, not, nat_lt, nat_le, min, take, length, slice_index, bit_and, bit_or, Bool, true, false, cond, ℤ, pos, negsuc, List, []}
+use Rattle.entry.specs.declared.op.Op.{Op}
+use Rattle.entry.specs.declared.op.Op.TheVariants.{Nop, PollAdd, Timeout, TimeoutRemove, AsyncCancel, LinkTimeout, Close, Read, Write, Invalid}
+use Rattle.entry.specs.Entry.{Entry}
+use Rattle.history.specs.declared.req.Req.{Req}
+use Rattle.history.specs.declared.event.Event.{Event}
+use Rattle.history.specs.History.{Hit, nothing, took, missed, hit, phase, IsReplied}
+use Rattle.history.specs.Chains.{is_link_timeout, is_timeout, IsBefore, IsPlaced}
+use Rattle.history.specs.Pipes.{Flow, flow, content, End, no_end, read_end, write_end, end_of}
+
+-- the reply with its data, or none now
+pub data Answer : Type 0 where
+  now : ℤ → List ℕ → Answer
+  later : Answer
+
+-- -9: no end of a pipe, or a closed one (EBADF)
+abbrev pub bad_end : Answer
+bad_end = now (negsuc 8) []
+
+-- read(2) and pipe(7): what is there, at most len bytes; 0 at the end of the file; a pipe that is empty and open to writers gives no answer
+abbrev pub answer_read : Flow → ℕ → Answer
+answer_read w len =
+    cond w.read_shut bad_end
+    (cond (len == 0) (now (pos 0) [])
+    (cond (nat_lt 0 (length (content w))) (now (pos (min len (length (content w)))) (take len (content w)))
+    (cond w.write_shut (now (pos 0) []) later)))
+
+-- the bytes that still go in
+abbrev pub free_in : ℕ → Flow → ℕ
+free_in cap w = cap - length (content w)
+
+-- write(2) and pipe(7), with EPIPE (-32) where nobody can read. At most the capacity goes in whole or waits; more goes in once and in part (this profile)
+abbrev pub answer_write : ℕ → Flow → ℕ → Answer
+answer_write cap w len =
+    cond w.write_shut bad_end
+    (cond (len == 0) (now (pos 0) [])
+    (cond w.read_shut (now (negsuc 31) [])
+    (cond (nat_le len cap) (cond (nat_le len (free_in cap w)) (now (pos len) []) later)
+    (cond (nat_lt 0 (free_in cap w)) (now (pos (free_in cap w)) []) later))))
+
+-- the events of a read end: POLLIN (1) where there are bytes, POLLHUP (16) where nobody writes (poll(2))
+abbrev pub read_events : Flow → ℕ
+read_events w = cond (nat_lt 0 (length (content w))) 1 0 + cond w.write_shut 16 0
+
+-- the events of a write end: POLLOUT (4) where there is room for a byte, POLLERR (8) where nobody reads (poll(2))
+abbrev pub write_events : ℕ → Flow → ℕ
+write_events cap w = cond (nat_lt 0 (free_in cap w)) 4 0 + cond w.read_shut 8 0
+
+-- those that were asked for, and POLLERR and POLLHUP in any case (poll(2)); none is no answer
+abbrev pub answer_poll : ℕ → ℕ → Answer
+answer_poll events mask = let b : ℕ = bit_and events (bit_or mask 24) in cond (b == 0) later (now (pos b) [])
+
+-- the pipe is there: caps are the capacities
+abbrev pub is_pipe : List ℕ → ℕ → Bool
+is_pipe caps p = nat_lt p (length caps)
+
+module _ (caps : List ℕ) (flow_at : ℕ → Flow) where
+  abbrev pub read_from : End → ℕ → Answer
+  read_from (read_end p) len = cond (is_pipe caps p) (answer_read (flow_at p) len) bad_end
+  read_from _ len = bad_end
+
+  abbrev pub write_to : End → ℕ → Answer
+  write_to (write_end p) len = cond (is_pipe caps p) (answer_write (slice_index caps p) (flow_at p) len) bad_end
+  write_to _ len = bad_end
+
+  -- close(2): 0 the first time
+  abbrev pub close_of : End → Answer
+  close_of (read_end p) = cond (is_pipe caps p && not (flow_at p).read_shut) (now (pos 0) []) bad_end
+  close_of (write_end p) = cond (is_pipe caps p && not (flow_at p).write_shut) (now (pos 0) []) bad_end
+  close_of no_end = bad_end
+
+  abbrev pub poll_of : End → ℕ → Answer
+  poll_of (read_end p) mask = cond (is_pipe caps p && not (flow_at p).read_shut) (answer_poll (read_events (flow_at p)) mask) bad_end
+  poll_of (write_end p) mask = cond (is_pipe caps p && not (flow_at p).write_shut) (answer_poll (write_events (slice_index caps p) (flow_at p)) mask) bad_end
+  poll_of no_end mask = bad_end
+
+-- the cancel asks for such an entry: io_uring_prep_cancel64(3) for any but a LINK_TIMEOUT, io_uring_prep_timeout_remove(3) for a TIMEOUT
+abbrev pub asks_for : Op → Entry → Bool
+asks_for (AsyncCancel user_data) e = (e.user_data == user_data) && not (is_link_timeout e.op)
+asks_for (TimeoutRemove user_data) e = (e.user_data == user_data) && is_timeout e.op
+asks_for _ e = false
+
+-- the cancel c means t: an earlier request of its ring (this profile)
+abbrev pub Matches : List Event → Req → Req → Type 0
+Matches h c t = IsBefore t c × (d : Entry) × (e : Entry) × IsPlaced h c d × IsPlaced h t e × (asks_for d.op e ≡ true)
+
+-- the first submitted match that has not been answered
+pub record IsFirst (h : List Event) (c t : Req) : Type 0 where
+  pub matches : Matches h c t
+  pub unanswered : ¬ IsReplied (phase h t)
+  pub first : (q : Req) → Matches h c q → q.k < t.k → IsReplied (phase h q)
+
+-- every match has been answered
+abbrev pub NoneLeft : List Event → Req → Type 0
+NoneLeft h c = (q : Req) → Matches h c q → IsReplied (phase h q)
+
+-- 0 where it took its target, -114 (EALREADY) where that was found running, -2 (ENOENT) where there is none (io_uring_prep_cancel64(3))
+abbrev pub CancelAnswers : List Event → Req → Hit → ℤ → Type 0
+CancelAnswers h c (took t) res = res ≡ pos 0
+CancelAnswers h c (missed t) res = res ≡ negsuc 113
+CancelAnswers h c nothing res = (res ≡ negsuc 1) × NoneLeft h c
+
+abbrev pub OpAnswers : List ℕ → List Event → Req → Op → ℤ → List ℕ → Type 0
+OpAnswers caps h r Nop res data' = now (pos 0) [] ≡ now res data'
+OpAnswers caps h r Invalid res data' = now (negsuc 21) [] ≡ now res data'
+OpAnswers caps h r (Read fd offset len) res data' = read_from caps (flow h) (end_of fd) len ≡ now res data'
+OpAnswers caps h r (Write fd offset len) res data' = write_to caps (flow h) (end_of fd) len ≡ now res data'
+OpAnswers caps h r (Close fd) res data' = close_of caps (flow h) (end_of fd) ≡ now res data'
+OpAnswers caps h r (PollAdd fd mask) res data' = poll_of caps (flow h) (end_of fd) mask ≡ now res data'
+OpAnswers caps h r (AsyncCancel user_data) res data' = CancelAnswers h r (hit h r) res × (data' ≡ [])
+OpAnswers caps h r (TimeoutRemove user_data) res data' = CancelAnswers h r (hit h r) res × (data' ≡ [])
+OpAnswers caps h r (Timeout ticks etime_success) res data' = ⊥
+OpAnswers caps h r (LinkTimeout ticks) res data' = ⊥
+
+-- a worker may answer r with this reply and these data
+abbrev pub Answers : List ℕ → List Event → Req → ℤ → List ℕ → Type 0
+Answers caps h r res data' = (e : Entry) × IsPlaced h r e × OpAnswers caps h r e.op res data'

@@ -1,0 +1,6 @@
+pub mod Answers
+pub mod Chains
+pub mod History
+pub mod Legal
+pub mod Pipes
+pub mod State

@@ -1,0 +1,75 @@
+-- What is in a pipe and which of its ends are closed, as the history tells.
+use Rattle.std.specs.Prelude.{ℕ, ◌+◌, ◌/◌, ◌%◌, ◌==◌, ◌&&◌, ◌++◌, take, drop, Bool, true, false, cond, ℤ, pos, negsuc, List, [], ◌∷◌, Option, Some}
+use Rattle.entry.specs.declared.op.Op.{Op}
+use Rattle.entry.specs.declared.op.Op.TheVariants.{Close, Read, Write}
+use Rattle.entry.specs.Entry.{Entry}
+use Rattle.history.specs.declared.event.Event.{Event}
+use Rattle.history.specs.declared.event.Event.TheVariants.{Reply}
+use Rattle.history.specs.History.{Submission, submission}
+use Rattle.history.specs.Chains.{placed}
+
+-- all bytes that went in, the number that came out, and the closed ends (pipe(7))
+pub record Flow : Type 0 where
+  pub into : List ℕ
+  pub out : ℕ
+  pub read_shut : Bool
+  pub write_shut : Bool
+
+abbrev pub untouched : Flow
+untouched = record { into = []; out = 0; read_shut = false; write_shut = false }
+
+-- what is in the pipe
+abbrev pub content : Flow → List ℕ
+content w = drop w.out w.into
+
+-- an end of a pipe. The pipe p has the read end 2p and the write end 2p + 1 (this profile)
+pub data End : Type 0 where
+  no_end : End
+  read_end : ℕ → End
+  write_end : ℕ → End
+
+abbrev pub end_of : ℤ → End
+end_of (pos n) = cond (n % 2 == 0) (read_end (n / 2)) (write_end (n / 2))
+end_of (negsuc n) = no_end
+
+-- the bytes that a reply tells, 0 for an error
+abbrev pub size : ℤ → ℕ
+size (pos n) = n
+size (negsuc n) = 0
+
+abbrev pub is_zero : ℤ → Bool
+is_zero (pos n) = n == 0
+is_zero (negsuc n) = false
+
+abbrev pub reads : End → ℤ → ℕ → Flow → Flow
+reads (read_end x) res p w = cond (x == p) (record w { out = w.out + size res }) w
+reads _ res p w = w
+
+abbrev pub writes : End → List ℕ → ℤ → ℕ → Flow → Flow
+writes (write_end x) bytes res p w = cond (x == p) (record w { into = w.into ++ take (size res) bytes }) w
+writes _ bytes res p w = w
+
+abbrev pub closes : End → ℤ → ℕ → Flow → Flow
+closes (read_end x) res p w = cond ((x == p) && is_zero res) (record w { read_shut = true }) w
+closes (write_end x) res p w = cond ((x == p) && is_zero res) (record w { write_shut = true }) w
+closes no_end res p w = w
+
+-- what a reply to this operation makes of the pipe p
+abbrev pub flows : Op → List ℕ → ℤ → ℕ → Flow → Flow
+flows (Read fd offset len) bytes res p w = reads (end_of fd) res p w
+flows (Write fd offset len) bytes res p w = writes (end_of fd) bytes res p w
+flows (Close fd) bytes res p w = closes (end_of fd) res p w
+flows _ bytes res p w = w
+
+abbrev pub flows_as : Option Entry → Option Submission → ℤ → ℕ → Flow → Flow
+flows_as (Some e) (Some s) res p w = flows e.op s.bytes res p w
+flows_as _ _ res p w = w
+
+abbrev pub moves : List Event → Event → ℕ → Flow → Flow
+moves h (Reply r res data') p w = flows_as (placed h r) (submission h r) res p w
+moves h _ p w = w
+
+-- the pipe p after these events
+abbrev pub flow : List Event → ℕ → Flow
+flow [] p = untouched
+flow (e ∷ h) p = moves h e p (flow h p)

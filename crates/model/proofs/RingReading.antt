@@ -1,0 +1,67 @@
+-- Reading the requests of a ring.
+use Rattle.std.proofs.Common.{◌≡◌, ℕ, zero, suc, ◌-◌, ◌<◌, ◌==◌, ◌&&◌, ◌⊎◌, inl, inr, not, cond, sub-one, Bool, true, false, List, length, Option, Some, None, get_or, refl, sym, ap, subst, ◌∙◌, arith}
+use Rattle.std.specs.List.{slice_get}
+use Rattle.std.proofs.lemmas.Option.{slice_get_read}
+use Rattle.entry.specs.declared.op.Op.{Op}
+use Rattle.entry.specs.declared.op.Op.TheVariants.{Invalid}
+use Rattle.entry.specs.Entry.{Entry}
+use Rattle.model.specs.declared.request.Request.{Request}
+use Rattle.history.specs.History.{Submission}
+use Rattle.history.specs.Chains.{joins, hosts, is_link_timeout, placed_from}
+use Rattle.model.specs.Seen.{reply_at, handed_of, handed_at, handed_in, placed_in, with_op}
+use Rattle.model.specs.Decides.{reply_in_of, severs_by, severs_at, severed_in, pending_of, chain_done}
+
+pub kept : (xs : List Request) (k : ℕ) (x : Request) → k < length xs → x ≡ get_or xs k x → slice_get xs k ≡ Some x
+kept xs k x lt is = slice_get_read xs (length xs) k x refl lt is
+
+pub joins_kept : (xs : List Request) (k : ℕ) (x : Request) → k < length xs → x ≡ get_or xs k x → joins (handed_in xs k) ≡ joins (Some (handed_of x))
+joins_kept xs k x lt is = ap (λ o. joins (handed_at o)) (kept xs k x lt is)
+
+pub severs_kept : (xs : List Request) (k : ℕ) (x : Request) (op : Op) → k < length xs → x ≡ get_or xs k x → placed_in xs k ≡ with_op (handed_in xs k) op
+    → severs_at xs k ≡ severs_by (with_op (Some (handed_of x)) op) (reply_at x.stage)
+severs_kept xs k x op lt is p =
+    ap (λ z. severs_by z (reply_in_of (slice_get xs k))) p ∙ ap (λ o. severs_by (with_op (handed_at o) op) (reply_in_of o)) (kept xs k x lt is)
+
+-- an entry is placed as it was handed in, or as Invalid
+op_in : Op → Option Entry → Op
+op_in op None = op
+op_in op (Some e) = e.op
+
+op_case : (t : Bool) (e : Entry) (op : Op) → (cond t (record e { op = Invalid }) e).op ≡ op → (op ≡ e.op) ⊎ (op ≡ Invalid)
+op_case true e op is = inr (sym is)
+op_case false e op is = inl (sym is)
+
+pub placed_ops : (xs : List Request) (k : ℕ) (x : Request) (op : Op) → k < length xs → x ≡ get_or xs k x → placed_in xs k ≡ with_op (handed_in xs k) op
+    → (op ≡ x.sqe.op) ⊎ (op ≡ Invalid)
+unfolding op_in
+placed_ops xs k x op lt is p =
+    let before : Option Submission = cond (k == 0) None (handed_in xs (k - 1)) in
+    let here : placed_from before (Some (handed_of x)) ≡ with_op (Some (handed_of x)) op =
+    subst (λ o. placed_from before (handed_at o) ≡ with_op (handed_at o) op) (kept xs k x lt is) p in
+    op_case (is_link_timeout x.sqe.op && not (hosts before)) x.sqe op (ap (op_in op) here)
+
+-- one step back along the chain of m
+module _ (xs : List Request) where
+  pub severed_unjoined : (m : ℕ) → 0 < m → joins (handed_in xs (m - 1)) ≡ false → severed_in xs m ≡ false
+  severed_unjoined zero lt j = absurd (omega arith)
+  severed_unjoined (suc m) lt j = let e : joins (handed_in xs m) ≡ false = rw sub-one at j in rw e refl
+
+  pub severed_here : (m : ℕ) → 0 < m → joins (handed_in xs (m - 1)) ≡ true → severs_at xs (m - 1) ≡ true → severed_in xs m ≡ true
+  severed_here zero lt j v = absurd (omega arith)
+  severed_here (suc m) lt j v = let e : joins (handed_in xs m) ≡ true = rw sub-one at j in let f : severs_at xs m ≡ true = rw sub-one at v in rw (e, f) refl
+
+  pub severed_before : (m : ℕ) → 0 < m → joins (handed_in xs (m - 1)) ≡ true → severs_at xs (m - 1) ≡ false → severed_in xs m ≡ severed_in xs (m - 1)
+  severed_before zero lt j v = absurd (omega arith)
+  severed_before (suc m) lt j v = let e : joins (handed_in xs m) ≡ true = rw sub-one at j in let f : severs_at xs m ≡ false = rw sub-one at v in rw (e, f, sub-one) refl
+
+  pub done_unjoined : (m : ℕ) → 0 < m → joins (handed_in xs (m - 1)) ≡ false → chain_done xs m ≡ true
+  done_unjoined zero lt j = absurd (omega arith)
+  done_unjoined (suc m) lt j = let e : joins (handed_in xs m) ≡ false = rw sub-one at j in rw e refl
+
+  pub undone_here : (m : ℕ) → 0 < m → joins (handed_in xs (m - 1)) ≡ true → pending_of (slice_get xs (m - 1)) ≡ true → chain_done xs m ≡ false
+  undone_here zero lt j v = absurd (omega arith)
+  undone_here (suc m) lt j v = let e : joins (handed_in xs m) ≡ true = rw sub-one at j in let f : pending_of (slice_get xs m) ≡ true = rw sub-one at v in rw (e, f) refl
+
+  pub done_before : (m : ℕ) → 0 < m → joins (handed_in xs (m - 1)) ≡ true → pending_of (slice_get xs (m - 1)) ≡ false → chain_done xs m ≡ chain_done xs (m - 1)
+  done_before zero lt j v = absurd (omega arith)
+  done_before (suc m) lt j v = let e : joins (handed_in xs m) ≡ true = rw sub-one at j in let f : pending_of (slice_get xs m) ≡ false = rw sub-one at v in rw (e, f, sub-one) refl

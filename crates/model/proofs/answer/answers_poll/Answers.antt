@@ -1,0 +1,14 @@
+use Rattle.std.proofs.lemmas.Option.{slice_get_read}
+use Rattle.model.proofs.Ends.{poll_read_there, poll_write_there, told, reached_as}
+use Rattle.model.proofs.answer.answers_poll.Goals as goal
+use Rattle.std.proofs.Common.{refl}
+
+pub returns-in-Read : goal.returns-in-Read
+returns-in-Read c =
+    let is = slice_get_read _ _ _ _ refl c.in-Read.ensures.within c.index-pipes-p.is in
+    told _ _ _ c.args.res _ c.ranges.res c.tells_poll_read.ensures (poll_read_there _ _ _ _ is c.args.mask (reached_as _ c.args.fd _ c.ranges.fd c.in-Read.ensures.end))
+
+pub returns-in-Write : goal.returns-in-Write
+returns-in-Write c =
+    let is = slice_get_read _ _ _ _ refl c.in-Write.ensures.within c.index-pipes-p-in-Write.is in
+    told _ _ _ c.args.res _ c.ranges.res c.tells_poll_write.ensures (poll_write_there _ _ _ _ is c.args.mask (reached_as _ c.args.fd _ c.ranges.fd c.in-Write.ensures.end))

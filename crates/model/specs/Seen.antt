@@ -1,0 +1,84 @@
+-- What is kept of a request, beside what the history says of it.
+use Rattle.std.specs.Prelude.{ℕ, ◌-◌, ◌==◌, Bool, true, false, cond, ℤ, List, [], Option, Some, None, slice_get, get_or}
+use Rattle.entry.specs.Entry.{Entry}
+use Rattle.entry.specs.declared.op.Op.{Op}
+use Rattle.history.specs.declared.req.Req.{Req}
+use Rattle.history.specs.declared.event.Event.{Event}
+use Rattle.model.specs.declared.request.Stage.{Stage}
+use Rattle.model.specs.declared.request.Stage.TheVariants.{Waits, Runs, Armed, Replied, Reaped}
+use Rattle.model.specs.declared.request.Found.{Found}
+use Rattle.model.specs.declared.request.Found.TheVariants.{Nothing, Took, Missed}
+use Rattle.model.specs.declared.request.Request.{Request}
+use Rattle.history.specs.History.{Phase, unborn, waits, runs, armed, replied, reaped, Hit, nothing, took, missed, Submission, submission, phase, hit, fired, data_of}
+use Rattle.history.specs.Chains.{placed_from}
+
+abbrev pub is_pending : Stage → Bool
+is_pending Waits = true
+is_pending Runs = true
+is_pending (Armed d) = true
+is_pending (Replied res) = false
+is_pending (Reaped res) = false
+
+abbrev pub reply_at : Stage → Option ℤ
+reply_at (Replied res) = Some res
+reply_at (Reaped res) = Some res
+reply_at Waits = None
+reply_at Runs = None
+reply_at (Armed d) = None
+
+abbrev pub stage_of : Phase → Option Stage
+stage_of unborn = None
+stage_of waits = Some Waits
+stage_of runs = Some Runs
+stage_of (armed d) = Some (Armed d)
+stage_of (replied c res) = Some (Replied res)
+stage_of (reaped c res) = Some (Reaped res)
+
+abbrev pub found_of : Hit → Found
+found_of nothing = Nothing
+found_of (took t) = Took
+found_of (missed t) = Missed
+
+-- what later events ask of a request
+pub record Seen : Type 0 where
+  pub handed : Option Submission
+  pub stage : Option Stage
+  pub found : Found
+  pub fired : Bool
+  pub taken : List ℕ
+
+-- as the history says
+abbrev pub seen : List Event → Req → Seen
+seen h q = record { handed = submission h q; stage = stage_of (phase h q); found = found_of (hit h q); fired = fired h q; taken = data_of h q }
+
+abbrev pub handed_of : Request → Submission
+handed_of x = record { entry = x.sqe; bytes = x.bytes; last = x.last }
+
+-- as it is kept
+abbrev pub seen_of : Option Request → Seen
+seen_of None = record { handed = None; stage = None; found = Nothing; fired = false; taken = [] }
+seen_of (Some x) = record { handed = Some (handed_of x); stage = Some x.stage; found = x.found; fired = x.fired; taken = x.taken }
+
+abbrev pub handed_at : Option Request → Option Submission
+handed_at None = None
+handed_at (Some x) = Some (handed_of x)
+
+abbrev pub stage_at : Option Request → Option Stage
+stage_at None = None
+stage_at (Some x) = Some x.stage
+
+-- the requests of a ring, by number
+abbrev pub handed_in : List Request → ℕ → Option Submission
+handed_in xs k = handed_at (slice_get xs k)
+
+abbrev pub placed_in : List Request → ℕ → Option Entry
+placed_in xs k = placed_from (cond (k == 0) None (handed_in xs (k - 1))) (handed_in xs k)
+
+-- an entry that was placed with another operation
+abbrev pub with_op : Option Submission → Op → Option Entry
+with_op None op = None
+with_op (Some s) op = Some (record s.entry { op = op })
+
+-- the request of that name
+abbrev pub find : List (List Request) → Req → Option Request
+find rings q = slice_get (get_or rings q.ring []) q.k

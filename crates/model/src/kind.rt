@@ -1,0 +1,65 @@
+//! What kind of work an operation asks for.
+ghost use Rattle.std.specs.Prelude.{◌≡◌};
+ghost use Rattle.history.specs.Chains.{is_link_timeout, is_timeout};
+ghost use Rattle.history.specs.Legal.{ticks_of};
+ghost use Rattle.model.specs.Replies.{is_cancel};
+
+use entry::{Op, by_opcode};
+
+macro_rules! is_linked_timer {
+    ((timer linked $ticks:ident) ()) => { true };
+    ((timer alone $ticks:ident) ()) => { false };
+    ((plain $kind:ident) ()) => { false };
+    ((pipe $kind:ident $($field:ident)*) ()) => { false };
+    ((cancel $kind:ident $target:ident) ()) => { false };
+}
+
+macro_rules! is_lone_timer {
+    ((timer alone $ticks:ident) ()) => { true };
+    ((timer linked $ticks:ident) ()) => { false };
+    ((plain $kind:ident) ()) => { false };
+    ((pipe $kind:ident $($field:ident)*) ()) => { false };
+    ((cancel $kind:ident $target:ident) ()) => { false };
+}
+
+macro_rules! ticks_of_work {
+    ((timer $kind:ident $ticks:ident) ()) => { Some($ticks) };
+    ((plain $kind:ident) ()) => { None };
+    ((pipe $kind:ident $($field:ident)*) ()) => { None };
+    ((cancel $kind:ident $target:ident) ()) => { None };
+}
+
+macro_rules! is_search {
+    ((cancel $kind:ident $target:ident) ()) => { true };
+    ((plain $kind:ident) ()) => { false };
+    ((pipe $kind:ident $($field:ident)*) ()) => { false };
+    ((timer $kind:ident $ticks:ident) ()) => { false };
+}
+
+/// It cancels the entry before it in time.
+pub fn is_link_timeout(op: Op) -> bool
+    ensures { result ≡ is_link_timeout op }
+{
+    by_opcode!(op => is_linked_timer!())
+}
+
+/// It is a timer of its own.
+pub fn is_timeout(op: Op) -> bool
+    ensures { result ≡ is_timeout op }
+{
+    by_opcode!(op => is_lone_timer!())
+}
+
+/// The ticks after which a timer runs out.
+pub fn ticks_of(op: Op) -> Option<u32>
+    ensures { result ≡ ticks_of op }
+{
+    by_opcode!(op => ticks_of_work!())
+}
+
+/// It looks for another request.
+pub fn is_cancel(op: Op) -> bool
+    ensures { result ≡ is_cancel op }
+{
+    by_opcode!(op => is_search!())
+}

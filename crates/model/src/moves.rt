@@ -1,0 +1,100 @@
+//! What the events make of the requests of a ring.
+ghost use Rattle.std.specs.Prelude.{◌≡◌, ◌<◌, cond, length, slice_get};
+ghost use Rattle.model.specs.declared.request.Stage.TheVariants.{Waits, Runs, Armed, Replied, Reaped};
+ghost use Rattle.model.specs.Seen.{stage_at};
+ghost use Rattle.model.specs.Moves.{put_stage, put_reaped, may_begin, may_park, may_sever, may_reap, may_cut, open_in, cancelled};
+
+use crate::kind::{is_link_timeout, ticks_of};
+use crate::request::Stage;
+use crate::ring::Ring;
+
+/// ECANCELED: the reply to a request that something else has ended.
+pub const CANCELLED: i32 = -125;
+
+impl Ring {
+    /// Where the request stands, if it was submitted.
+    pub fn stage(&self, k: u64) -> Option<Stage>
+        ensures { result ≡ stage_at (slice_get self.now k) }
+    {
+        Some(self.get(k)?.stage)
+    }
+
+    /// Its chain and the drains let it start. The place of a LINK_TIMEOUT's target decides for it.
+    pub fn is_open(&self, k: usize) -> bool
+        requires { k < length self.now }
+        ensures { result ≡ open_in self.now k }
+    {
+        if is_link_timeout(self.op(k)) {
+            self.is_clear(k.saturating_sub(1))
+        } else {
+            self.is_clear(k)
+        }
+    }
+
+    #[tactic(auto, using(crate::proofs::Moving::stage_within))]
+    pub fn begin(&mut self, k: u64) -> bool
+        ensures may { result ≡ may_begin self.old k }
+        ensures after { self.new ≡ cond result (put_stage self.old k Runs) self.old }
+    {
+        if !matches!(self.stage(k), Some(Stage::Waits)) {
+            return false;
+        }
+        let k = k as usize;
+        if !self.is_open(k) || ticks_of(self.op(k)).is_some() {
+            return false;
+        }
+        self.set_stage(k, Stage::Runs);
+        true
+    }
+
+    #[tactic(auto, using(crate::proofs::Moving::stage_within))]
+    pub fn park(&mut self, k: u64) -> bool
+        ensures may { result ≡ may_park self.old k }
+        ensures after { self.new ≡ cond result (put_stage self.old k Waits) self.old }
+    {
+        if !matches!(self.stage(k), Some(Stage::Runs)) {
+            return false;
+        }
+        self.set_stage(k as usize, Stage::Waits);
+        true
+    }
+
+    #[tactic(auto, using(crate::proofs::Moving::stage_within))]
+    pub fn sever(&mut self, k: u64) -> bool
+        ensures may { result ≡ may_sever self.old k }
+        ensures after { self.new ≡ cond result (put_stage self.old k cancelled) self.old }
+    {
+        if !matches!(self.stage(k), Some(Stage::Waits)) || !self.is_severed(k as usize) {
+            return false;
+        }
+        self.set_stage(k as usize, Stage::Replied(CANCELLED));
+        true
+    }
+
+    #[tactic(auto, using(crate::proofs::Moving::stage_within, crate::proofs::Moving::put_reaped_is))]
+    pub fn reap(&mut self, k: u64) -> bool
+        ensures may { result ≡ may_reap self.old k }
+        ensures after { self.new ≡ cond result (put_reaped self.old k) self.old }
+    {
+        let Some(Stage::Replied(res)) = self.stage(k) else {
+            return false;
+        };
+        self.set_stage(k as usize, Stage::Reaped(res));
+        true
+    }
+
+    #[tactic(auto, using(crate::proofs::Moving::stage_within))]
+    pub fn cut(&mut self, k: u64) -> bool
+        ensures may { result ≡ may_cut self.old k }
+        ensures after { self.new ≡ cond result (put_stage self.old k cancelled) self.old }
+    {
+        let Some(stage) = self.stage(k) else {
+            return false;
+        };
+        if !stage.is_pending() {
+            return false;
+        }
+        self.set_stage(k as usize, Stage::Replied(CANCELLED));
+        true
+    }
+}

@@ -1,0 +1,83 @@
+//! What is kept of one request.
+ghost use Rattle.std.specs.Prelude.{◌≡◌, Some};
+ghost use Rattle.history.specs.Chains.{joins, hosts};
+ghost use Rattle.model.specs.Seen.{handed_of, is_pending, reply_at};
+
+use crate::kind::is_link_timeout;
+use crate::shared::Shared;
+use entry::Sqe;
+use history::Bytes;
+
+/// Where a request stands. An unborn one is not kept.
+#[derive(Clone, Copy, PartialEq, Eq)]
+pub enum Stage {
+    Waits,
+    Runs,
+    /// The deadline.
+    Armed(u32),
+    /// The reply.
+    Replied(i32),
+    /// The reply, after the completion was taken.
+    Reaped(i32),
+}
+
+/// What a cancel has done so far.
+#[derive(Clone, Copy)]
+pub enum Found {
+    Nothing,
+    /// It ended its target.
+    Took,
+    /// It found its target running.
+    Missed,
+}
+
+#[derive(Drop)]
+pub struct Request {
+    /// As it was handed in.
+    pub sqe: Sqe,
+    pub bytes: Shared,
+    pub last: bool,
+    pub stage: Stage,
+    pub found: Found,
+    /// A timer that ran out in time.
+    pub fired: bool,
+    /// What came with the reply.
+    pub taken: Bytes,
+}
+
+impl Stage {
+    /// It was not answered.
+    pub fn is_pending(self) -> bool
+        ensures { result ≡ is_pending self }
+    {
+        match self {
+            Stage::Waits | Stage::Runs | Stage::Armed(_) => true,
+            Stage::Replied(_) | Stage::Reaped(_) => false,
+        }
+    }
+
+    pub fn reply(self) -> Option<i32>
+        ensures { result ≡ reply_at self }
+    {
+        match self {
+            Stage::Replied(res) | Stage::Reaped(res) => Some(res),
+            Stage::Waits | Stage::Runs | Stage::Armed(_) => None,
+        }
+    }
+}
+
+impl Request {
+    /// The next request of the ring is in its chain.
+    pub fn joins(&self) -> bool
+        ensures { result ≡ joins (Some (handed_of self.now)) }
+    {
+        (self.sqe.links_soft() || self.sqe.links_hard()) && !self.last
+    }
+
+    /// A LINK_TIMEOUT may stand directly after it.
+    pub fn hosts(&self) -> bool
+        ensures { result ≡ hosts (Some (handed_of self.now)) }
+    {
+        self.joins() && !is_link_timeout(self.sqe.op())
+    }
+}

@@ -1,0 +1,132 @@
+//! What the timers' events make of the requests of a ring.
+ghost use Rattle.std.specs.Prelude.{◌≡◌, cond, slice_get};
+ghost use Rattle.model.specs.declared.request.Stage.TheVariants.{Armed};
+ghost use Rattle.model.specs.Moves.{put_stage, put_fired, put_settled, may_arm, may_expire, runs_out, may_fire, may_fire_miss, may_settle, cancelled, timed_out, is_due, fired_of, is_answered};
+ghost use Rattle.model.specs.Seen.{stage_at};
+
+use crate::kind::{is_link_timeout, is_timeout, ticks_of};
+use crate::moves::CANCELLED;
+use crate::request::Stage;
+use crate::ring::Ring;
+
+/// ETIME: the reply to a timer that ran out.
+const TIMED_OUT: i32 = -62;
+
+impl Ring {
+    #[tactic(auto, using(crate::proofs::Moving::stage_within))]
+    pub fn arm(&mut self, clock: u32, k: u64, deadline: u32) -> bool
+        ensures may { result ≡ may_arm clock self.old k deadline }
+        ensures after { self.new ≡ cond result (put_stage self.old k (Armed deadline)) self.old }
+    {
+        if !matches!(self.stage(k), Some(Stage::Waits)) || !self.is_open(k as usize) {
+            return false;
+        }
+        let Some(ticks) = ticks_of(self.op(k as usize)) else {
+            return false;
+        };
+        if u64::from(deadline) != u64::from(clock) + u64::from(ticks) {
+            return false;
+        }
+        self.set_stage(k as usize, Stage::Armed(deadline));
+        true
+    }
+
+    /// It is armed with a deadline that has come.
+    fn is_due(&self, clock: u32, k: u64) -> bool
+        ensures { result ≡ is_due clock (stage_at (slice_get self.now k)) }
+    {
+        match self.stage(k) {
+            Some(Stage::Armed(deadline)) => deadline <= clock,
+            _ => false,
+        }
+    }
+
+    #[tactic(auto, using(crate::proofs::Moving::due_within))]
+    pub fn expire(&mut self, clock: u32, k: u64) -> bool
+        ensures may { result ≡ may_expire clock self.old k }
+        ensures after { self.new ≡ cond result (put_stage self.old k timed_out) self.old }
+    {
+        if !self.is_due(clock, k) || !is_timeout(self.op(k as usize)) {
+            return false;
+        }
+        self.set_stage(k as usize, Stage::Replied(TIMED_OUT));
+        true
+    }
+
+    /// The timer runs out now, and `target` is its target.
+    #[tactic(auto, using(crate::proofs::Moving::due_within))]
+    fn runs_out(&self, clock: u32, timer: u64, target: u64) -> bool
+        ensures { result ≡ runs_out clock self.now timer target }
+    {
+        if !self.is_due(clock, timer) || self.has_fired(timer) {
+            return false;
+        }
+        is_link_timeout(self.op(timer as usize)) && target < timer && target + 1 == timer
+    }
+
+    fn has_fired(&self, k: u64) -> bool
+        ensures { result ≡ fired_of (slice_get self.now k) }
+    {
+        match self.get(k) {
+            Some(request) => request.fired,
+            None => false,
+        }
+    }
+
+    #[tactic(auto, using(crate::proofs::Moving::stage_within, crate::proofs::Moving::fired_length))]
+    pub fn fire(&mut self, clock: u32, timer: u64, target: u64) -> bool
+        ensures may { result ≡ may_fire clock self.old timer target }
+        ensures after { self.new ≡ cond result (put_stage (put_fired self.old timer) target cancelled) self.old }
+    {
+        if !self.runs_out(clock, timer, target)
+            || !matches!(self.stage(target), Some(Stage::Waits | Stage::Armed(_)))
+        {
+            return false;
+        }
+        self.set_fired(timer as usize);
+        self.set_stage(target as usize, Stage::Replied(CANCELLED));
+        true
+    }
+
+    #[tactic(auto, using(crate::proofs::Moving::stage_within))]
+    pub fn fire_miss(&mut self, clock: u32, timer: u64, target: u64) -> bool
+        ensures may { result ≡ may_fire_miss clock self.old timer target }
+        ensures after { self.new ≡ cond result (put_fired self.old timer) self.old }
+    {
+        if !self.runs_out(clock, timer, target)
+            || !matches!(self.stage(target), Some(Stage::Runs))
+        {
+            return false;
+        }
+        self.set_fired(timer as usize);
+        true
+    }
+
+    #[tactic(auto, using(crate::proofs::Moving::stage_within))]
+    pub fn settle(&mut self, k: u64) -> bool
+        ensures may { result ≡ may_settle self.old k }
+        ensures after { self.new ≡ cond result (put_settled self.old k) self.old }
+    {
+        if !matches!(self.stage(k), Some(Stage::Armed(_)))
+            || !is_link_timeout(self.op(k as usize))
+        {
+            return false;
+        }
+        let fired = self.has_fired(k);
+        if !fired && !self.is_answered(k.saturating_sub(1)) {
+            return false;
+        }
+        let res = if fired { TIMED_OUT } else { CANCELLED };
+        self.set_stage(k as usize, Stage::Replied(res));
+        true
+    }
+
+    fn is_answered(&self, k: u64) -> bool
+        ensures { result ≡ is_answered (stage_at (slice_get self.now k)) }
+    {
+        match self.stage(k) {
+            Some(stage) => !stage.is_pending(),
+            None => false,
+        }
+    }
+}

@@ -1,0 +1,12 @@
+//! The outbox: the requests that a thread's turn answered, until they are posted to the completion rings.
+#![tactic(auto)]
+
+pub mod delivery;
+pub mod error;
+pub mod requests;
+#[cfg(test)]
+mod tests;
+
+pub use delivery::{deliver, deliver_all};
+pub use error::Memory;
+pub use requests::Outbox;

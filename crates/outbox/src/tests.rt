@@ -1,0 +1,38 @@
+//! Six requests of two rings.
+use crate::{Outbox, deliver, deliver_all};
+use compring::{CompletionRing, Place};
+use history::Req;
+use std::test::Fail;
+
+fn of(ring: u16, k: u64) -> Req {
+    Req { ring, k }
+}
+
+#[test]
+fn requests_go_to_their_rings_in_order(rt: HostRuntime) -> Result<(), Fail> {
+    let mut outbox = Outbox::new(rt.alloc(), 6)?;
+    assert_eq!(rt; outbox.first(), None);
+    outbox.put(of(0, 0));
+    outbox.put(of(1, 0));
+    outbox.put(of(0, 1));
+    outbox.put(of(1, 1));
+    outbox.put(of(0, 2));
+    outbox.put(of(1, 2));
+    assert!(rt; outbox.is_full());
+    let mut zero = CompletionRing::new(rt.alloc(), 2)?;
+    let mut one = CompletionRing::new(rt.alloc(), 2)?;
+    assert_eq!(rt; outbox.first(), Some(of(0, 0)));
+    assert_eq!(rt; deliver(&mut outbox, &mut zero), Ok(Place::Ring));
+    assert_eq!(rt; outbox.first(), Some(of(1, 0)));
+    assert_eq!(rt; deliver_all(&mut outbox, 1, &mut one), Ok(()));
+    assert_eq!(rt; outbox.first(), Some(of(0, 1)));
+    assert_eq!(rt; deliver_all(&mut outbox, 0, &mut zero), Ok(()));
+    assert_eq!(rt; outbox.first(), None);
+    for k in 0..3 {
+        assert_eq!(rt; zero.take(), Some((k, of(0, k))));
+        assert_eq!(rt; one.take(), Some((k, of(1, k))));
+    }
+    assert_eq!(rt; zero.take(), None);
+    assert_eq!(rt; one.take(), None);
+    Ok(())
+}

@@ -1,0 +1,10 @@
+use Rattle.std.proofs.Common.{◌≡◌, ◌-◌, ◌<◌, ap, arith}
+use Rattle.crossbeam_queue.specs.Passes.{view}
+use Rattle.ready.specs.Rule.{all_shares, share_of}
+use Rattle.ready.proofs.Balance.{begins, forks}
+use Rattle.ready.proofs.queue.ReadyQueue.new.Goals as goal
+
+pub another-seat-requires-clause-rule : goal.another-seat-requires-clause-rule
+another-seat-requires-clause-rule c =
+    let p : (view c.loop-n.last).share ≡ all_shares - c.loop-n._n = ap share_of c.loop-n.invariant.view_is in
+    forks _ _ (omega arith)

@@ -1,0 +1,13 @@
+use Rattle.std.proofs.Common.{◌≡◌, ◌≤◌, ◌-◌, [], replicate, vec_capacity}
+use Rattle.crossbeam_queue.specs.Passes.{view, IsPassOf}
+use Rattle.ready.specs.Rule.{all_shares, tally}
+use Rattle.ready.specs.Ready.{unused}
+use Rattle.ready.proofs.queue.ReadyQueue.new.Given as goal
+
+abbrev pub invariant-loop-n : goal.invariant-loop-n
+invariant-loop-n l = record {
+  last : IsPassOf l.line l.last;
+  view_is : view l.last ≡ tally (all_shares - l._n) [] [];
+  given : l.given.items ≡ replicate l._n (unused l.line.table.shared.table_id 1);
+  room : l.passes ≤ vec_capacity l.given;
+}

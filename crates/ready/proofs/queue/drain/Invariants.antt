@@ -1,0 +1,12 @@
+use Rattle.std.proofs.Common.{◌≡◌, ◌≤◌, ◌++◌, length, vec_capacity}
+use Rattle.crossbeam_queue.specs.Passes.{view, IsPassOf, ruled_capacity}
+use Rattle.ready.specs.Rule.{tally}
+use Rattle.ready.proofs.queue.drain.Given as goal
+
+abbrev pub invariant-loop-n : goal.invariant-loop-n
+invariant-loop-n g l = record {
+  keeper : IsPassOf l.line l.keeper;
+  view_is : view l.keeper ≡ tally (view l.fn.keeper).share (view l.fn.keeper).put ((view l.fn.keeper).taken ++ l.left.items);
+  count : length l.left.items ≡ l._n;
+  room : ruled_capacity l.line ≤ vec_capacity l.left;
+}

@@ -1,0 +1,18 @@
+use Rattle.std.proofs.Common.{◌≡◌, ◌<◌, ◌+◌, ℕ, All, length, sum_by}
+use Rattle.history.specs.declared.req.Req.{Req}
+use Rattle.crossbeam_queue.specs.Passes.{view, IsPassOf, IsSamePass}
+use Rattle.ready.specs.Ready.{all_put, all_taken}
+use Rattle.ready.proofs.queue.take_in.Given as goal
+
+abbrev pub invariant-loop-pass : goal.invariant-loop-pass
+invariant-loop-pass l = record {
+  same : IsSamePass l.fn.keeper l.keeper;
+  some : 0 < (view l.keeper).share;
+  own : All (λ p. p.queue ≡ l.line.table.shared.table_id) l.passes.items;
+  share : (view l.keeper).share + sum_by (λ p. p.share) l.passes.items ≡ (view l.fn.keeper).share + sum_by (λ p. p.share) l.fn.passes.items;
+  put : (h : Req → ℕ) → sum_by h (view l.keeper).put + sum_by h (all_put l.passes.items) ≡ sum_by h (view l.fn.keeper).put + sum_by h (all_put l.fn.passes.items);
+  taken : (h : Req → ℕ) → sum_by h (view l.keeper).taken + sum_by h (all_taken l.passes.items) ≡ sum_by h (view l.fn.keeper).taken + sum_by h (all_taken l.fn.passes.items);
+}
+
+abbrev pub decreases-loop-pass : goal.decreases-loop-pass
+decreases-loop-pass l = goal.left-loop-pass l

@@ -1,0 +1,17 @@
+//! The ready queue: the requests that may begin, from the poller to the workers, without a lock.
+#![tactic(auto)]
+
+pub mod error;
+pub mod law;
+pub mod pass;
+mod plays;
+pub mod queue;
+pub mod tally;
+#[cfg(test)]
+mod tests;
+
+pub use error::{GatherError, Memory, Ungathered};
+pub use law::Law;
+pub use pass::ReadyPass;
+pub use queue::ReadyQueue;
+pub use tally::Tally;

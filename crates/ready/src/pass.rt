@@ -1,0 +1,42 @@
+//! The passes of the ready queue.
+ghost use Rattle.std.specs.Prelude.{◌↔◌, IsTrue};
+ghost use Rattle.ready.specs.Ready.{AreAll};
+
+use crate::tally::Tally;
+use crossbeam_queue::Pass;
+use history::Req;
+use std::marker::Model;
+
+/// How many shares all passes of a queue have.
+pub(crate) const ALL_SHARES: u32 = u32::MAX;
+
+/// What one thread holds that puts requests and takes them. Contracts see its queue, its shares of it, and what it put and took.
+#[derive(Drop)]
+pub struct ReadyPass {
+    pub(crate) seat: Pass<Req, Tally>,
+    pub(crate) share: u32,
+}
+
+impl Model for ReadyPass {
+    ghost use Rattle.ready.specs.Ready.{Moves, IsSeat, moves_of};
+
+    ghost Value = { Moves };
+
+    ghost view = { λ p. moves_of p.seat };
+
+    ghost invariant = { λ p. IsSeat p.seat p.share };
+}
+
+/// Whether these are all passes of a queue: together they have all shares.
+pub(crate) fn are_all(passes: &[ReadyPass]) -> bool
+    ensures { IsTrue result ↔ AreAll passes.now }
+{
+    let mut rest = ALL_SHARES;
+    for pass in passes {
+        if rest < pass.share {
+            return false;
+        }
+        rest -= pass.share;
+    }
+    rest == 0
+}

@@ -1,0 +1,289 @@
+//! What is in the pipes, and the table of answers.
+
+use crate::list::List;
+use entry::Op;
+use history::{Event, Req};
+
+#[derive(Clone, Copy, PartialEq, Eq)]
+pub enum End {
+    Nothing,
+    Read(usize),
+    Write(usize),
+}
+
+impl<'a> List<'a> {
+    /// The pipe p has the read end 2p and the write end 2p + 1.
+    fn end(self, fd: i32) -> End {
+        if fd < 0 {
+            return End::Nothing;
+        }
+        let n = fd.unsigned_abs() as usize;
+        if n / 2 >= self.caps.len() {
+            End::Nothing
+        } else if n % 2 == 0 {
+            End::Read(n / 2)
+        } else {
+            End::Write(n / 2)
+        }
+    }
+
+    /// How many bytes of this WRITE went into the pipe by this event.
+    fn put(self, event: &Event, p: usize) -> (usize, &'a [u8]) {
+        let Event::Reply { req, res, .. } = event else {
+            return (0, &[]);
+        };
+        match (self.placed(*req), self.handed(*req)) {
+            (Some(placed), Some(handed)) => match placed.op {
+                Op::Write { fd, .. } if *res > 0 && self.end(fd) == End::Write(p) => {
+                    let n = res.unsigned_abs() as usize;
+                    (n.min(handed.bytes.len()), handed.bytes)
+                }
+                _ => (0, &[]),
+            },
+            _ => (0, &[]),
+        }
+    }
+
+    /// How many bytes left the pipe by this event.
+    fn taken(self, event: &Event, p: usize) -> usize {
+        let Event::Reply { req, res, .. } = event else {
+            return 0;
+        };
+        match self.placed(*req) {
+            Some(placed) => match placed.op {
+                Op::Read { fd, .. } if *res > 0 && self.end(fd) == End::Read(p) => {
+                    res.unsigned_abs() as usize
+                }
+                _ => 0,
+            },
+            None => 0,
+        }
+    }
+
+    /// All bytes that went in, and all that came out.
+    fn into_and_out(self, p: usize) -> (usize, usize) {
+        let mut into = 0usize;
+        let mut out = 0usize;
+        for event in self.events {
+            into = into.wrapping_add(self.put(*event, p).0);
+            out = out.wrapping_add(self.taken(*event, p));
+        }
+        (into, out)
+    }
+
+    fn content_len(self, p: usize) -> usize {
+        let (into, out) = self.into_and_out(p);
+        into.saturating_sub(out)
+    }
+
+    /// The byte at this place of all that went in.
+    fn byte(self, p: usize, place: usize) -> Option<u8> {
+        let mut before = 0usize;
+        for event in self.events {
+            let (n, bytes) = self.put(*event, p);
+            if place >= before && place - before < n {
+                return bytes.get(place - before).copied();
+            }
+            before = before.wrapping_add(n);
+        }
+        None
+    }
+
+    /// The data are the first bytes of the pipe.
+    fn is_front(self, p: usize, data: &[u8]) -> bool {
+        let (_, out) = self.into_and_out(p);
+        for (i, byte) in data.iter().enumerate() {
+            if self.byte(p, out.wrapping_add(i)) != Some(*byte) {
+                return false;
+            }
+        }
+        true
+    }
+
+    /// A CLOSE of the end was answered with 0.
+    fn is_closed(self, end: End) -> bool {
+        for event in self.events {
+            if let Event::Reply { req, res: 0, .. } = *event
+                && self.closes(*req, end)
+            {
+                return true;
+            }
+        }
+        false
+    }
+
+    fn closes(self, r: Req, end: End) -> bool {
+        match self.placed(r) {
+            Some(placed) => match placed.op {
+                Op::Close { fd } => self.end(fd) == end,
+                _ => false,
+            },
+            None => false,
+        }
+    }
+
+    fn is_open_end(self, end: End) -> bool {
+        end != End::Nothing && !self.is_closed(end)
+    }
+
+    fn cap(self, p: usize) -> usize {
+        match self.caps.get(p) {
+            Some(cap) => *cap as usize,
+            None => 0,
+        }
+    }
+
+    fn free(self, p: usize) -> usize {
+        self.cap(p).saturating_sub(self.content_len(p))
+    }
+
+    /// The request, which runs, may be answered so.
+    pub fn answers(self, r: Req, res: i32, data: &[u8]) -> bool {
+        let Some(placed) = self.placed(r) else {
+            return false;
+        };
+        match placed.op {
+            Op::Read { fd, len, .. } => self.answers_read(self.end(fd), len as usize, res, data),
+            Op::AsyncCancel { .. } | Op::TimeoutRemove { .. } => {
+                data.is_empty() && self.answers_cancel(r, res)
+            }
+            op => data.is_empty() && self.number(op) == Some(i64::from(res)),
+        }
+    }
+
+    fn answers_read(self, end: End, len: usize, res: i32, data: &[u8]) -> bool {
+        let (End::Read(p), true) = (end, self.is_open_end(end)) else {
+            return res == -9 && data.is_empty();
+        };
+        let there = self.content_len(p);
+        if len > 0 && there > 0 {
+            let n = len.min(there);
+            return res > 0
+                && res.unsigned_abs() as usize == n
+                && data.len() == n
+                && self.is_front(p, data);
+        }
+        res == 0 && data.is_empty() && (len == 0 || self.is_closed(End::Write(p)))
+    }
+
+    /// The answer of an operation that is no READ and no cancel, if it has one now.
+    fn number(self, op: Op) -> Option<i64> {
+        match op {
+            Op::Nop => Some(0),
+            Op::Invalid => Some(-22),
+            Op::Write { fd, len, .. } => self.write(self.end(fd), len),
+            Op::Close { fd } => Some(if self.is_open_end(self.end(fd)) {
+                0
+            } else {
+                -9
+            }),
+            Op::PollAdd { fd, mask } => self.poll(self.end(fd), mask),
+            _ => None,
+        }
+    }
+
+    fn write(self, end: End, len: u32) -> Option<i64> {
+        let (End::Write(p), true) = (end, self.is_open_end(end)) else {
+            return Some(-9);
+        };
+        let free = self.free(p);
+        if len == 0 {
+            Some(0)
+        } else if self.is_closed(End::Read(p)) {
+            Some(-32)
+        } else if len as usize <= self.cap(p) {
+            if free >= len as usize {
+                Some(i64::from(len))
+            } else {
+                None
+            }
+        } else if free >= 1 {
+            i64::try_from(free).ok()
+        } else {
+            None
+        }
+    }
+
+    fn poll(self, end: End, mask: u32) -> Option<i64> {
+        if !self.is_open_end(end) {
+            return Some(-9);
+        }
+        let bits = match end {
+            End::Read(p) => self.bit(1, self.content_len(p) > 0)
+                | self.bit(16, self.is_closed(End::Write(p))),
+            End::Write(p) => self.bit(4, self.free(p) >= 1)
+                | self.bit(8, self.is_closed(End::Read(p))),
+            End::Nothing => 0,
+        };
+        match bits & (mask | 24) {
+            0 => None,
+            told => Some(i64::from(told)),
+        }
+    }
+
+    fn bit(self, bit: u32, holds: bool) -> u32 {
+        if holds { bit } else { 0 }
+    }
+
+    /// The cancel means this request: an earlier one of its ring with the user_data that it names.
+    fn is_match(self, c: Req, t: Req) -> bool {
+        let (Some(cancel), Some(placed)) = (self.placed(c), self.placed(t)) else {
+            return false;
+        };
+        if t.ring != c.ring || t.k >= c.k {
+            return false;
+        }
+        match cancel.op {
+            Op::AsyncCancel { user_data } => {
+                placed.user_data == user_data && !matches!(placed.op, Op::LinkTimeout { .. })
+            }
+            Op::TimeoutRemove { user_data } => {
+                placed.user_data == user_data && matches!(placed.op, Op::Timeout { .. })
+            }
+            _ => false,
+        }
+    }
+
+    /// The match of least number that has no answer.
+    pub fn first(self, c: Req) -> Option<Req> {
+        for k in 0..c.k {
+            let t = Req { ring: c.ring, k };
+            if self.is_match(c, t) && self.reply(t).is_none() {
+                return Some(t);
+            }
+        }
+        None
+    }
+
+    pub fn has_taken(self, c: Req) -> bool {
+        for event in self.events {
+            if let Event::Take { cancel, .. } = *event
+                && *cancel == c
+            {
+                return true;
+            }
+        }
+        false
+    }
+
+    pub fn has_missed(self, c: Req) -> bool {
+        for event in self.events {
+            if let Event::Miss { cancel, .. } = *event
+                && *cancel == c
+            {
+                return true;
+            }
+        }
+        false
+    }
+
+    fn answers_cancel(self, c: Req, res: i32) -> bool {
+        if self.has_taken(c) {
+            res == 0
+        } else if self.has_missed(c) {
+            res == -114
+        } else {
+            res == -2 && self.first(c).is_none()
+        }
+    }
+}

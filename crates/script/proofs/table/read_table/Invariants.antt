@@ -1,7 +1,0 @@
-use Rattle.std.proofs.Common.{drop}
-use Rattle.script.specs.TableText.{shown_lines}
-use Rattle.script.proofs.Tables.{IsSoFar}
-use Rattle.script.proofs.table.read_table.Given as goal
-
-abbrev pub invariant-loop-entry : goal.invariant-loop-entry
-invariant-loop-entry l = IsSoFar l.script.entries.items (drop l.entry-index l.script.entries.items) (shown_lines l.lines.items) l.rest l.bytes

@@ -1,3 +1,0 @@
-mod Ends
-pub mod Items
-pub mod Kept

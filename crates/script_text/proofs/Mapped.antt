@@ -1,0 +1,36 @@
+-- Words as the code has them, seen as their bytes.
+use Rattle.std.proofs.Common.{◌≡◌, ℕ, ◌||◌, Bool, true, false, List, [], ◌∷◌, Bor, Option, None, Some, cond, refl, ap}
+use Rattle.std.specs.List.{find, list_any}
+use Rattle.std.specs.Option.{option_map}
+use Rattle.script_text.specs.declared.declared_line.Declared.{Declared}
+use Rattle.script_text.specs.EntryLines.{found_stated, stated}
+use Rattle.script_text.specs.Options.{given_user_data, is_user_data, user_data_in}
+use Rattle.script_text.specs.Words.{now_of, texts}
+
+pub list_any-texts : (p : List ℕ → Bool) (ws : List (Bor (List ℕ))) → list_any p (texts ws) ≡ list_any (λ w. p w.now) ws
+list_any-texts p [] = refl
+list_any-texts p (w ∷ ws) = ap (λ (b : Bool). p w.now || b) (list_any-texts p ws)
+
+find_step : (b : Bool) (w : Bor (List ℕ)) (x : Option (List ℕ)) (y : Option (Bor (List ℕ))) → x ≡ now_of y
+    → cond b (Some w.now) x ≡ now_of (cond b (Some w) y)
+find_step true w x y e = refl
+find_step false w x y e = e
+
+pub find-texts : (p : List ℕ → Bool) (ws : List (Bor (List ℕ))) → find p (texts ws) ≡ now_of (find (λ w. p w.now) ws)
+find-texts p [] = refl
+find-texts p (w ∷ ws) = find_step (p w.now) w _ _ (find-texts p ws)
+
+-- the option that a search found, and what it gives
+pub user_data_found : (ws : List (Bor (List ℕ))) (r : Option (Bor (Bor (List ℕ)))) (w : Bor (Bor (List ℕ))) (n : Option ℕ) → r ≡ Some w
+    → option_map (λ x. x.now) r ≡ find (λ w. is_user_data w.now) ws → n ≡ user_data_in w.now.now → n ≡ given_user_data (texts ws)
+user_data_found ws r w n is found given = rw (find-texts is_user_data ws, ← found, is) given
+
+pub user_data_none : (ws : List (Bor (List ℕ))) (r : Option (Bor (Bor (List ℕ)))) → r ≡ None
+    → option_map (λ x. x.now) r ≡ find (λ w. is_user_data w.now) ws → None ≡ given_user_data (texts ws)
+user_data_none ws r is found = rw (find-texts is_user_data ws, ← found, is) refl
+
+-- ---- entry lines, without where they lie in memory
+
+pub stated_of_found : (r : Option (Bor Declared)) (x : Option Declared) → option_map (λ y. y.now) r ≡ x → found_stated r ≡ option_map stated x
+stated_of_found None x e = ap (option_map stated) e
+stated_of_found (Some y) x e = ap (option_map stated) e

@@ -1,0 +1,202 @@
+-- What the parts and the outline say, one line after the other.
+use Rattle.std.proofs.Common.{◌≡◌, ◌<◌, ◌≤◌, ◌+◌, ℕ, Bool, true, false, List, [], ◌∷◌, ◌++◌, ◌||◌, Option, None, Some, cond, length, refl, sym, ap, ◌∙◌, arith}
+use Rattle.std.specs.Prelude.{◌==◌, ◌&&◌, map, nat_lt, not, reverse, slice_get}
+use Rattle.std.specs.List.{list_any}
+use Rattle.std.proofs.lemmas.List.{length-map, length-append, map_push}
+use Rattle.entry.specs.Entry.{Entry}
+use Rattle.limits.specs.declared.TheConstants.{RINGS}
+use Rattle.script_text.specs.declared.actor.Actor.{Actor}
+use Rattle.script_text.specs.declared.actor.Actor.TheVariants as actor
+use Rattle.script_text.specs.declared.fault.ScriptFault.{ScriptFault}
+use Rattle.script_text.specs.declared.fault.ScriptFault.TheVariants.{Line, Memory}
+use Rattle.script_text.specs.declared.keyword.Keyword.{Keyword}
+use Rattle.script_text.specs.declared.keyword.Keyword.TheVariants.{Pipe, Ring, On, Submit, Wait, Tick, Armed, Entry as EntryLine}
+use Rattle.script_text.specs.declared.outline.Outline.{Outline}
+use Rattle.script_text.specs.declared.parts.Parts.{Parts}
+use Rattle.script_text.specs.Above.{Entered, actor_in, batch_in, entered_in, entered_with, is_of, is_same_actor, last_submit_with, rings_in, rings_with, stated_in, stated_with}
+use Rattle.script_text.specs.Acts.{pending_at}
+use Rattle.script_text.specs.Actors.{IsKnown}
+use Rattle.script_text.specs.EntryLines.{Stated, all_stated, declares}
+use Rattle.script_text.specs.LineFaults.{line_faults}
+use Rattle.script_text.specs.Outlined.{Notes, Outlines, faults_here, is_past, is_unsubmitted, last_of, more_with}
+use Rattle.script_text.proofs.NoFault.{IsCleanIf, clean_entry, clean_line, few_rings, is_ring_from_pending, long_entry}
+use Rattle.script_text.specs.Parts.{Fits, Stands, Takes, all_entered, entered, has_label, standing}
+use Rattle.script_text.specs.Scripts.{IsToldHere, IsToldOf, faults_at, faults_of, is_left, standing_in}
+use Rattle.script_text.specs.Sentences.{Sentence, above_of, first_of, line_at}
+use Rattle.script_text.specs.Words.{is_same}
+
+-- ---- labels
+
+abbrev pub label_of : Entered → List ℕ
+label_of e = e.label
+
+abbrev pub label_stated : Stated → List ℕ
+label_stated line = line.label
+
+push_if : (b : Bool) (es : List Entered) (ss : List Stated) (e : Entered) (s : Stated) → map label_of es ≡ map label_stated ss → label_of e ≡ label_stated s
+    → map label_of (cond b (es ++ e ∷ []) es) ≡ map label_stated (cond b (ss ++ s ∷ []) ss)
+push_if true es ss e s is same = rw (map_push label_of es e, map_push label_stated ss s, is, same) refl
+push_if false es ss e s is same = is
+
+labels_with : (lines : List Stated) (k : Option Keyword) (words : List (List ℕ)) (given : Option Entry) (es : List Entered) (ss : List Stated) → map label_of es ≡ map label_stated ss
+    → map label_of (entered_with lines k words given es) ≡ map label_stated (stated_with k words given ss)
+labels_with lines None words given es ss is = is
+labels_with lines (Some Pipe) words given es ss is = is
+labels_with lines (Some Ring) words given es ss is = is
+labels_with lines (Some On) words given es ss is = is
+labels_with lines (Some Submit) words given es ss is = is
+labels_with lines (Some Wait) words given es ss is = is
+labels_with lines (Some Tick) words given es ss is = is
+labels_with lines (Some Armed) words given es ss is = is
+labels_with lines (Some (EntryLine kind)) words given es ss is = push_if (nat_lt 1 (length words)) es ss _ _ is refl
+
+-- the entries have the labels of the entry lines
+pub labels_in : (lines : List Stated) (above : List Sentence) → map label_of (entered_in lines above) ≡ map label_stated (stated_in above)
+labels_in lines [] = refl
+labels_in lines (s ∷ above) = labels_with lines (first_of s) s.words s.given (entered_in lines above) (stated_in above) (labels_in lines above)
+
+pub as_many_entries : (lines : List Stated) (above : List Sentence) → length (entered_in lines above) ≡ length (stated_in above)
+as_many_entries lines above =
+    let a = length-map (entered_in lines above) label_of in
+    let b = length-map (stated_in above) label_stated in
+    let c = ap (λ (ls : List (List ℕ)). length ls) (labels_in lines above) in
+    cc
+
+pub any_map : {A B : Type 0} (p : B → Bool) (f : A → B) (xs : List A) → list_any p (map f xs) ≡ list_any (λ x. p (f x)) xs
+any_map p f [] = refl
+any_map p f (x ∷ xs) = ap (λ (b : Bool). p (f x) || b) (any_map p f xs)
+
+-- ---- parts
+
+pub entries_of_parts : (lines : List Stated) (above : List Sentence) (p : Parts) → Stands lines above p → length p.entries.items ≡ length (stated_in above)
+entries_of_parts lines above p st =
+    let a = length-map p.entries.items entered in
+    let b = ap (λ (es : List Entered). length es) st.entries in
+    let c = as_many_entries lines above in
+    cc
+
+pub stands_more : (lines : List Stated) (above : List Sentence) (s : Sentence) (old new : Parts) → Stands lines above old → Takes lines (first_of s) s old new → Stands lines (s ∷ above) new
+stands_more lines above s old new st t =
+    let many = entries_of_parts lines above old st in
+    record {
+      actor = rw (← st.rings, ← st.actor) t.actor;
+      time = rw (← st.time) t.time;
+      pipes = rw (← st.pipes) t.pipes;
+      rings = rw (← st.rings) t.rings;
+      entries = rw (← st.entries) t.entries;
+      acts = λ ring. rw (← st.actor, ← st.pending ring, ← st.acts ring) (t.acts ring);
+      clock = rw (← st.actor, ← st.clock) (t.clock (batch_in actor.Clock above));
+      pending = λ ring. rw (← st.actor, ← many, ← st.pending ring) (t.pending ring);
+      even = t.even;
+    }
+
+declares_same : (lines : List Stated) (above : List Sentence) (p : Parts) (label : List ℕ) → Stands lines above p → list_any (has_label label) p.entries.items ≡ list_any (declares label) (stated_in above)
+declares_same lines above p label st =
+    let same = λ (l : List ℕ). is_same l label in
+    let a : list_any same (map label_of (all_entered p.entries.items)) ≡ list_any (λ e. same (label_of e)) (all_entered p.entries.items) = any_map same label_of (all_entered p.entries.items) in
+    let b : list_any (λ e. same (label_of e)) (all_entered p.entries.items) ≡ list_any (has_label label) p.entries.items = any_map (λ e. same (label_of e)) entered p.entries.items in
+    let c : list_any same (map label_stated (stated_in above)) ≡ list_any (declares label) (stated_in above) = any_map same label_stated (stated_in above) in
+    let d : map label_of (all_entered p.entries.items) ≡ map label_stated (stated_in above) = ap (λ (es : List Entered). map label_of es) st.entries ∙ labels_in lines above in
+    sym b ∙ (sym a ∙ (ap (λ (ls : List (List ℕ)). list_any same ls) d ∙ c))
+
+pub standing_same : (lines : List Stated) (above : List Sentence) (p : Parts) → Stands lines above p → standing p ≡ standing_in above
+standing_same lines above p st =
+    let many = entries_of_parts lines above p st in
+    λ i. record {
+      actor = st.actor i;
+      time = st.time i;
+      pipes = length (st.pipes i);
+      rings = st.rings i;
+      entries = many i;
+      declares = λ label. declares_same lines above p label st i;
+      pending = λ ring. st.pending ring i;
+    }
+
+-- ---- faults
+
+left_same : (a : Actor) (rings : ℕ) (all : List Sentence) (o : Outline) (n : ℕ) → IsKnown a rings → rings ≤ RINGS → Outlines all o → is_unsubmitted a o.last_submits n ≡ is_left a all n
+left_same actor.Start rings all o n known few out = refl
+left_same (actor.Ring ring) rings all o n known few out = ap (λ (x : Option ℕ). is_past x n) (out.submits ring (omega (arith, known, few)))
+left_same actor.Clock rings all o n known few out = refl
+left_same actor.Stranger rings all o n known few out = refl
+
+pub faults_same : (all above : List Sentence) (p : Parts) (o : Outline) (n : ℕ) (s : Sentence) → Outlines all o → Stands (stated_in all) above p → faults_here p o n s ≡ faults_of all above n s
+faults_same all above p o n s out st =
+    let standing_is = standing_same (stated_in all) above p st in
+    let left = left_same p.actor (length p.rings.items) all o n st.even.known st.even.few out in
+    let left' : is_unsubmitted p.actor o.last_submits n ≡ is_left (actor_in above) all n = left ∙ ap (λ (a : Actor). is_left a all n) st.actor in
+    λ i. line_faults (standing_is i) (out.stated i) (left' i) ((n == 1) && not (out.has_ring i)) s.text s.words s.given
+
+-- ---- the outline
+
+rings_more : (k : Option Keyword) (words : List (List ℕ)) (rings : List (ℕ × Option ℕ)) → length (rings_with k words rings) ≤ length rings + 1
+rings_more None words rings = omega arith
+rings_more (Some Pipe) words rings = omega arith
+rings_more (Some Ring) words rings = simp length-append (omega arith)
+rings_more (Some On) words rings = omega arith
+rings_more (Some Submit) words rings = omega arith
+rings_more (Some Wait) words rings = omega arith
+rings_more (Some Tick) words rings = omega arith
+rings_more (Some Armed) words rings = omega arith
+rings_more (Some (EntryLine kind)) words rings = omega arith
+
+pub few_rings_above : (above : List Sentence) → length (rings_in above) ≤ length above
+few_rings_above [] = omega arith
+few_rings_above (s ∷ above) = let a = rings_more (first_of s) s.words (rings_in above) in let b = few_rings_above above in omega (arith, a, b)
+
+rings_as : (k : Option Keyword) (words : List (List ℕ)) (rings : List (ℕ × Option ℕ)) (n : ℕ) → n ≡ length rings → more_with k n ≡ length (rings_with k words rings)
+rings_as None words rings n e = e
+rings_as (Some Pipe) words rings n e = e
+rings_as (Some Ring) words rings n e = simp length-append (omega arith)
+rings_as (Some On) words rings n e = e
+rings_as (Some Submit) words rings n e = e
+rings_as (Some Wait) words rings n e = e
+rings_as (Some Tick) words rings n e = e
+rings_as (Some Armed) words rings n e = e
+rings_as (Some (EntryLine kind)) words rings n e = e
+
+pub outlines_more : (above : List Sentence) (s : Sentence) (n : ℕ) (old new : Outline) → Outlines above old → n ≡ length above + 1 → Notes s n old new → Outlines (s ∷ above) new
+outlines_more above s n old new out number t = record {
+  stated = rw (← out.stated) t.stated;
+  submits = λ ring lt. t.submits ring lt ∙ ap Some (
+      ap (λ (a : Actor). last_submit_with (first_of s) (is_same_actor (actor.Ring ring) a) n (last_of (slice_get old.last_submits ring))) out.actor
+      ∙ (ap (λ (m : ℕ). last_submit_with (first_of s) (is_of (actor.Ring ring) above) m (last_of (slice_get old.last_submits ring))) number
+      ∙ ap (λ (o : Option ℕ). last_submit_with (first_of s) (is_of (actor.Ring ring) above) (length above + 1) (last_of o)) (out.submits ring lt)));
+  rings = t.rings ∙ rings_as (first_of s) s.words (rings_in above) old.rings out.rings;
+  has_ring = rw (← out.has_ring) t.has_ring;
+  actor = rw (← out.rings, ← out.actor) t.actor;
+}
+
+-- ---- what a line without a fault has
+
+fits_with : (p : Parts) (lines : List Stated) (u : Bool) (k : Option Keyword) (words : List (List ℕ)) (given : Option Entry) → IsCleanIf (standing p) lines u k words given → Fits k words p
+fits_with p lines u None words given c = tt
+fits_with p lines u (Some Pipe) words given c = tt
+fits_with p lines u (Some Ring) words given c = few_rings (standing p) lines u words given c
+fits_with p lines u (Some On) words given c = tt
+fits_with p lines u (Some Submit) words given c = is_ring_from_pending p.actor (pending_at p.acts.pending.items) c.place
+fits_with p lines u (Some Wait) words given c = tt
+fits_with p lines u (Some Tick) words given c = tt
+fits_with p lines u (Some Armed) words given c = tt
+fits_with p lines u (Some (EntryLine kind)) words given c =
+    let e = clean_entry (standing p) lines u kind words given c in
+    (long_entry (standing p) lines u kind words given c, e.label, e.few)
+
+pub fits_of : (p : Parts) (o : Outline) (n : ℕ) (s : Sentence) → faults_here p o n s ≡ [] → Fits (first_of s) s.words p
+fits_of p o n s e =
+    let unsubmitted = is_unsubmitted p.actor o.last_submits n in
+    let lines = all_stated o.labels.lines.items in
+    fits_with p lines unsubmitted (first_of s) s.words s.given (clean_line (standing p) lines unsubmitted ((n == 1) && not o.has_ring) s.text s.words s.given e).known
+
+-- the fault that is told of a line, where those above it have none
+pub told_here : (ss : List Sentence) (i number : ℕ) (fault : ScriptFault) (s : Sentence) → i < length ss → number ≡ i + 1 → line_at ss i ≡ s → ((k : ℕ) → k < i → faults_at ss k ≡ [])
+    → IsToldHere number (faults_of (reverse ss) (above_of ss i) number s) fault → IsToldOf ss fault
+told_here ss i number (Line line fault) s lt is here above told = record {
+  place = i;
+  within = lt;
+  number = told.0 ∙ is;
+  least = above;
+  first = rw (here, ← is) told.1;
+  of_script = told.2;
+}
+told_here ss i number Memory s lt is here above told = tt

@@ -1,0 +1,18 @@
+-- The words of a line by their places, and the line as the code has it.
+use Rattle.std.proofs.Common.{◌≡◌, ℕ, true, false, List, [], Bor, None, Some, length, get_or, refl, sym, ap, ◌∙◌}
+use Rattle.std.specs.Prelude.{nat_lt, slice_get}
+use Rattle.std.proofs.lemmas.Option.{slice_get-get_or, slice_get-map, slice_get_past}
+use borrow.Author.Tests.{ltb-true, ltb-false}
+use Rattle.script_text.specs.Words.{texts, word_at}
+
+pub word_at-some : (ws : List (Bor (List ℕ))) (n : ℕ) (w : Bor (List ℕ)) → true ≡ nat_lt n (length ws) → w ≡ get_or ws n w → w.now ≡ word_at (texts ws) n
+word_at-some ws n w lt is =
+    let a = slice_get-map (λ (part : Bor (List ℕ)). part.now) ws n in
+    let b : slice_get ws n ≡ Some w = slice_get-get_or ws n w (ltb-true n (length ws) (sym lt)) ∙ ap Some (sym is) in
+    rw (a, b) refl
+
+pub word_at-none : (ws : List (Bor (List ℕ))) (n : ℕ) → false ≡ nat_lt n (length ws) → [] ≡ word_at (texts ws) n
+word_at-none ws n ge =
+    let a = slice_get-map (λ (part : Bor (List ℕ)). part.now) ws n in
+    let b : slice_get ws n ≡ None = slice_get_past ws n (ltb-false n (length ws) (sym ge)) in
+    rw (a, b) refl

@@ -1,0 +1,14 @@
+use Rattle.std.proofs.Common.{◌≡◌, ◌<◌, ℕ, []}
+use Rattle.std.specs.Prelude.{reverse}
+use Rattle.script_text.specs.Above.{stated_in}
+use Rattle.script_text.specs.Parts.{Stands}
+use Rattle.script_text.specs.Scripts.{faults_at}
+use Rattle.script_text.specs.Sentences.{above_of, sentences}
+use Rattle.script_text.proofs.reading.parts_of.Given as goal
+
+abbrev pub invariant-loop-line : goal.invariant-loop-line
+invariant-loop-line l = record {
+  number : l.number ≡ l.line-index;
+  faultless : (k : ℕ) → k < l.line-index → faults_at (sentences l.lines) k ≡ [];
+  stands : Stands (stated_in (reverse (sentences l.lines))) (above_of (sentences l.lines) l.line-index) l.parts;
+}

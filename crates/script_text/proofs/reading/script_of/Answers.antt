@@ -1,0 +1,11 @@
+use Rattle.std.specs.Prelude.{IsSome}
+use Rattle.std.proofs.lemmas.Bool.{false≢true}
+use Rattle.script_text.specs.Sentences.{sentences}
+use Rattle.script_text.proofs.Accepted.{parts_kept}
+use Rattle.script_text.proofs.reading.script_of.Goals as goal
+
+pub returns-clause-told : goal.returns-clause-told
+returns-clause-told c =
+    let kept = parts_kept (sentences c.args.lines.now) c.in_ok-parts.parts c.requires c.in_ok-parts.ensures.faultless c.in_ok-parts.ensures.stands in
+    let some : IsSome c.in_ok-script.field-0 = c.in_ok-script.ensures.kept.1 kept in
+    absurd (false≢true (rw c.in-None.is at some))

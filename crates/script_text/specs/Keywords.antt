@@ -1,0 +1,98 @@
+-- The first words of lines.
+use Rattle.std.specs.Prelude.{ℕ, List, Bool, true, false, Option, Some, None, codes, if◌then◌else◌}
+use Rattle.script_text.specs.declared.keyword.Kind.{Kind}
+use Rattle.script_text.specs.declared.keyword.Kind.TheVariants.{Nop, Read, Write, Close, Poll, Timeout, LinkTimeout, Cancel, Remove, Raw}
+use Rattle.script_text.specs.declared.keyword.Keyword.{Keyword}
+use Rattle.script_text.specs.declared.keyword.Keyword.TheVariants.{Pipe, Ring, On, Submit, Wait, Tick, Armed, Entry}
+use Rattle.script_text.specs.Words.{is_same}
+
+-- the first word of an entry line of each kind
+abbrev pub kind_name : Kind → List ℕ
+kind_name Nop = codes "nop"
+kind_name Read = codes "read"
+kind_name Write = codes "write"
+kind_name Close = codes "close"
+kind_name Poll = codes "poll"
+kind_name Timeout = codes "timeout"
+kind_name LinkTimeout = codes "link-timeout"
+kind_name Cancel = codes "cancel"
+kind_name Remove = codes "remove"
+kind_name Raw = codes "raw"
+
+-- the first word of each line
+abbrev pub name_of : Keyword → List ℕ
+name_of Pipe = codes "pipe"
+name_of Ring = codes "ring"
+name_of On = codes "on"
+name_of Submit = codes "submit"
+name_of Wait = codes "wait"
+name_of Tick = codes "tick"
+name_of Armed = codes "armed"
+name_of (Entry kind) = kind_name kind
+
+-- what a first word asks for, if it is one of those
+unfoldable pub kind_of : List ℕ → Option Kind
+kind_of word =
+    if is_same word (codes "nop") then Some Nop else
+    if is_same word (codes "read") then Some Read else
+    if is_same word (codes "write") then Some Write else
+    if is_same word (codes "close") then Some Close else
+    if is_same word (codes "poll") then Some Poll else
+    if is_same word (codes "timeout") then Some Timeout else
+    if is_same word (codes "link-timeout") then Some LinkTimeout else
+    if is_same word (codes "cancel") then Some Cancel else
+    if is_same word (codes "remove") then Some Remove else
+    if is_same word (codes "raw") then Some Raw else None
+
+abbrev pub entry_of_kind : Option Kind → Option Keyword
+entry_of_kind None = None
+entry_of_kind (Some kind) = Some (Entry kind)
+
+unfoldable pub keyword_of : List ℕ → Option Keyword
+keyword_of word =
+    if is_same word (codes "pipe") then Some Pipe else
+    if is_same word (codes "ring") then Some Ring else
+    if is_same word (codes "on") then Some On else
+    if is_same word (codes "submit") then Some Submit else
+    if is_same word (codes "wait") then Some Wait else
+    if is_same word (codes "tick") then Some Tick else
+    if is_same word (codes "armed") then Some Armed else
+    entry_of_kind (kind_of word)
+
+-- how many words stand behind the first of an entry line, options left out
+abbrev pub arguments_of : Kind → ℕ
+arguments_of Nop = 1
+arguments_of Read = 3
+arguments_of Write = 3
+arguments_of Close = 2
+arguments_of Poll = 3
+arguments_of Timeout = 2
+arguments_of LinkTimeout = 2
+arguments_of Cancel = 2
+arguments_of Remove = 2
+arguments_of Raw = 2
+
+-- how many words have to stand behind the first
+abbrev pub least_words : Keyword → ℕ
+least_words Submit = 0
+least_words (Entry kind) = arguments_of kind
+least_words _ = 1
+
+-- how many may; an entry line but `raw` has options, whose number has a limit of its own
+abbrev pub most_words : Keyword → Option ℕ
+most_words Submit = Some 0
+most_words Ring = Some 2
+most_words (Entry Raw) = Some 2
+most_words (Entry kind) = None
+most_words _ = Some 1
+
+-- `armed` can wait for such a line
+abbrev pub is_timer : Kind → Bool
+is_timer Timeout = true
+is_timer LinkTimeout = true
+is_timer _ = false
+
+-- the line gives its entry as bytes
+abbrev pub is_raw : Kind → Bool
+is_raw Raw = true
+is_raw _ = false

@@ -1,0 +1,75 @@
+-- The options of an entry line, in any order.
+use Rattle.std.specs.Prelude.{ℕ, ◌+◌, ◌&&◌, ◌||◌, ◌++◌, List, Bool, true, false, Option, Some, None, codes, count_by, drop, nat_eq, nat_lt, not, if◌then◌else◌}
+use Rattle.std.specs.List.{find, list_any, starts_with}
+use Rattle.text.specs.Number.{number_in}
+use Rattle.script_text.specs.declared.fault.Fault.{Fault}
+use Rattle.script_text.specs.declared.fault.Fault.TheVariants.{UnknownWord, ExtraArgument, BadNumber}
+use Rattle.script_text.specs.declared.keyword.Kind.{Kind}
+use Rattle.script_text.specs.declared.keyword.Kind.TheVariants.{Timeout}
+use Rattle.script_text.specs.Noted.{fault_if}
+use Rattle.script_text.specs.Words.{is_same}
+
+-- the option `ud=NUMBER`, whatever its number
+abbrev pub is_user_data : List ℕ → Bool
+is_user_data word = starts_with nat_eq word (codes "ud=")
+
+-- the number that stands behind `ud=`
+abbrev pub user_data_in : List ℕ → Option ℕ
+user_data_in word = number_in (drop 3 word)
+
+abbrev pub is_some : Option ℕ → Bool
+is_some None = false
+is_some (Some n) = true
+
+abbrev pub is_bad_user_data : List ℕ → Bool
+is_bad_user_data word = is_user_data word && not (is_some (user_data_in word))
+
+-- `etime-ok` is an option of `timeout` alone
+abbrev pub takes_etime : Kind → Bool
+takes_etime Timeout = true
+takes_etime _ = false
+
+-- the options of an entry line
+abbrev pub is_option : Kind → List ℕ → Bool
+is_option kind word = ((is_same word (codes "link") || is_same word (codes "hard")) || is_same word (codes "drain")) || ((takes_etime kind && is_same word (codes "etime-ok")) || is_user_data word)
+
+-- the option is among these, wherever it stands
+abbrev pub has_option : List ℕ → List (List ℕ) → Bool
+has_option name options = list_any (λ option. is_same option name) options
+
+-- it stands there more than once
+abbrev pub has_twice : List ℕ → List (List ℕ) → Bool
+has_twice name options = nat_lt 1 (count_by (λ option. is_same option name) options)
+
+abbrev pub has_user_data_twice : List (List ℕ) → Bool
+has_user_data_twice options = nat_lt 1 (count_by is_user_data options)
+
+abbrev pub repeats : Kind → List (List ℕ) → Bool
+repeats kind options =
+    ((has_twice (codes "link") options || has_twice (codes "hard") options) || has_twice (codes "drain") options)
+    || ((takes_etime kind && has_twice (codes "etime-ok") options) || has_user_data_twice options)
+
+-- the faults of options: one that isn't known, one that stands twice, and a number that is none
+abbrev pub option_faults : Kind → List (List ℕ) → List Fault
+option_faults kind options =
+    fault_if (list_any (λ option. not (is_option kind option)) options) UnknownWord
+    ++ (fault_if (repeats kind options) ExtraArgument
+    ++ fault_if (list_any is_bad_user_data options) BadNumber)
+
+abbrev pub bit_if : Bool → ℕ → ℕ
+bit_if is_set bit = if is_set then bit else 0
+
+-- the flags that options ask for: IO_DRAIN, IO_LINK and IO_HARDLINK of io_uring_enter(2)
+abbrev pub flags_in : List (List ℕ) → ℕ
+flags_in options = bit_if (has_option (codes "drain") options) 2 + (bit_if (has_option (codes "link") options) 4 + bit_if (has_option (codes "hard") options) 8)
+
+abbrev pub has_etime : Kind → List (List ℕ) → Bool
+has_etime kind options = takes_etime kind && has_option (codes "etime-ok") options
+
+abbrev pub user_data_of_word : Option (List ℕ) → Option ℕ
+user_data_of_word None = None
+user_data_of_word (Some word) = user_data_in word
+
+-- the user_data that options give
+abbrev pub given_user_data : List (List ℕ) → Option ℕ
+given_user_data options = user_data_of_word (find is_user_data options)

@@ -1,0 +1,179 @@
+//! The options of an entry line.
+ghost use Rattle.std.specs.Prelude.{◌≡◌, ◌+◌, drop, not};
+ghost use Rattle.std.specs.List.{list_any};
+ghost use Rattle.script_text.specs.Above.{user_data_of};
+ghost use Rattle.script_text.specs.Kept.{KeepsFault};
+ghost use Rattle.script_text.specs.Keywords.{arguments_of};
+ghost use Rattle.script_text.specs.Noted.{with_faults};
+ghost use Rattle.script_text.specs.Options.{bit_if, flags_in, given_user_data, has_etime, has_option, has_twice, has_user_data_twice, is_bad_user_data, is_option, is_user_data, option_faults, repeats, takes_etime, user_data_in};
+ghost use Rattle.script_text.specs.Words.{texts};
+
+use crate::fault::Fault;
+use crate::faults::Faults;
+use crate::keyword::Kind;
+use crate::words::is_same;
+use entry::Sqe;
+use text::number_of;
+
+/// What the options of an entry line ask for.
+#[derive(Clone, Copy)]
+pub struct Options {
+    pub flags: u8,
+    pub etime_ok: bool,
+    pub user_data: Option<u64>,
+}
+
+impl Options {
+    /// What these words ask for as options, in any order.
+    pub fn of(kind: Kind, options: &[&[u8]]) -> Options
+        ensures flags { result.flags ≡ flags_in (texts options.now) }
+        ensures etime_ok { result.etime_ok ≡ has_etime kind (texts options.now) }
+        ensures user_data { result.user_data ≡ given_user_data (texts options.now) }
+    {
+        Options {
+            flags: flags_in(options),
+            etime_ok: takes_etime(kind) && has_option(options, b"etime-ok"),
+            user_data: given_user_data(options),
+        }
+    }
+}
+
+/// Notes the faults of the options of an entry line.
+#[tactic(auto, using(crate::proofs::Noting::with_faults_append))]
+pub fn note_options(faults: &mut Faults, kind: Kind, options: &[&[u8]])
+    ensures stays { KeepsFault faults.old.least faults.new.least }
+    ensures is_first { faults.new.least ≡ with_faults faults.old.least (option_faults kind (texts options.now)) }
+{
+    faults.note_if(has_unknown(kind, options), Fault::UnknownWord);
+    faults.note_if(repeats(kind, options), Fault::ExtraArgument);
+    faults.note_if(has_bad_user_data(options), Fault::BadNumber);
+}
+
+/// Whether a word is `ud=NUMBER`, whatever its number.
+pub fn is_user_data(word: &[u8]) -> bool
+    ensures { result ≡ is_user_data word.now }
+{
+    word.starts_with(b"ud=")
+}
+
+/// The number that stands after `ud=`, or in place of other three bytes.
+pub fn user_data_in(word: &[u8]) -> Option<u64>
+    ensures { result ≡ user_data_in word.now }
+{
+    number_of(&word[3.min(word.len())..])
+}
+
+/// Whether a word is `ud=` and no number.
+fn is_bad_user_data(word: &[u8]) -> bool
+    ensures { result ≡ is_bad_user_data word.now }
+{
+    is_user_data(word) && user_data_in(word).is_none()
+}
+
+/// Whether `etime-ok` is an option of such a line.
+fn takes_etime(kind: Kind) -> bool
+    ensures { result ≡ takes_etime kind }
+{
+    matches!(kind, Kind::Timeout)
+}
+
+/// Whether a word is an option of such a line.
+fn is_option(kind: Kind, word: &[u8]) -> bool
+    ensures { result ≡ is_option kind word.now }
+{
+    let is_flag = (is_same(word, b"link") || is_same(word, b"hard")) || is_same(word, b"drain");
+    let is_etime = takes_etime(kind) && is_same(word, b"etime-ok");
+    is_flag || (is_etime || is_user_data(word))
+}
+
+fn has_unknown(kind: Kind, options: &[&[u8]]) -> bool
+    ensures { result ≡ list_any (λ option. not (is_option kind option)) (texts options.now) }
+{
+    options.iter().any(|option| !is_option(kind, option))
+}
+
+fn has_bad_user_data(options: &[&[u8]]) -> bool
+    ensures { result ≡ list_any is_bad_user_data (texts options.now) }
+{
+    options.iter().any(|option| is_bad_user_data(option))
+}
+
+fn has_option(options: &[&[u8]], name: &[u8]) -> bool
+    ensures { result ≡ has_option name.now (texts options.now) }
+{
+    options.iter().any(|option| is_same(option, name))
+}
+
+fn has_twice(options: &[&[u8]], name: &[u8]) -> bool
+    ensures { result ≡ has_twice name.now (texts options.now) }
+{
+    options
+        .iter()
+        .filter(|option| is_same(option, name))
+        .count()
+        > 1
+}
+
+fn has_user_data_twice(options: &[&[u8]]) -> bool
+    ensures { result ≡ has_user_data_twice (texts options.now) }
+{
+    options.iter().filter(|option| is_user_data(option)).count() > 1
+}
+
+/// Whether an option stands twice.
+fn repeats(kind: Kind, options: &[&[u8]]) -> bool
+    ensures { result ≡ repeats kind (texts options.now) }
+{
+    let flag = (has_twice(options, b"link") || has_twice(options, b"hard"))
+        || has_twice(options, b"drain");
+    let etime = takes_etime(kind) && has_twice(options, b"etime-ok");
+    flag || (etime || has_user_data_twice(options))
+}
+
+fn bit_if(is_set: bool, bit: u8) -> u8
+    ensures { result ≡ bit_if is_set bit }
+{
+    if is_set { bit } else { 0 }
+}
+
+/// The flags that options ask for: IOSQE_IO_DRAIN, IOSQE_IO_LINK and IOSQE_IO_HARDLINK of io_uring_enter(2).
+fn flags_in(options: &[&[u8]]) -> u8
+    ensures { result ≡ flags_in (texts options.now) }
+{
+    let drain = bit_if(has_option(options, b"drain"), 2);
+    let link = bit_if(has_option(options, b"link"), 4);
+    let hard = bit_if(has_option(options, b"hard"), 8);
+    drain + (link + hard)
+}
+
+/// The user_data that the first `ud=NUMBER` of these options gives.
+fn given_user_data(options: &[&[u8]]) -> Option<u64>
+    ensures { result ≡ given_user_data (texts options.now) }
+{
+    match options.iter().find(|option| is_user_data(option)) {
+        Some(option) => user_data_in(option),
+        None => None,
+    }
+}
+
+/// The user_data of an entry line that is the script's `number`-th, and whose digits write this entry.
+pub fn user_data_of(kind: Kind, words: &[&[u8]], given: Option<Sqe>, number: u64) -> u64
+    ensures { result ≡ user_data_of kind (texts words.now) given number }
+{
+    if kind.is_raw() {
+        match given {
+            Some(entry) => entry.user_data(),
+            None => number,
+        }
+    } else {
+        given_user_data(options_in(kind, words)).unwrap_or(number)
+    }
+}
+
+/// The words of an entry line after its arguments.
+pub fn options_in<'a, 'b>(kind: Kind, words: &'b [&'a [u8]]) -> &'b [&'a [u8]]
+    ensures { texts result.now ≡ drop (1 + arguments_of kind) (texts words.now) }
+{
+    let first = (1 + kind.arguments()).min(words.len());
+    &words[first..]
+}

@@ -1,0 +1,61 @@
+-- When a cell is free for its next request, and what others leave of its notes.
+use Rattle.std.proofs.Common.{◌≡◌, ◌⊎◌, ⊎_elim, ℕ, zero, suc, ◌+◌, ◌*◌, ◌<◌, ◌==◌, Bool, true, false, cond, true≢false, List, [], ◌∷◌, ◌++◌, sym, refl, ap, ◌∙◌, subst, arith, ne_eqb, suc-mul}
+use Rattle.history.specs.declared.req.Req.{Req}
+use Rattle.history.specs.History.{Phase, unborn, waits, runs, armed, replied, reaped, phase, IsReplied}
+use Rattle.steps.specs.declared.line.Line.{Line}
+use Rattle.steps.specs.declared.line.Line.TheVariants.{Did, Freed, Lent, Noted, Hold, Free}
+use Rattle.steps.specs.declared.view.Layout.{Layout}
+use Rattle.steps.specs.declared.view.Role.{Role}
+use Rattle.steps.specs.Journal.{events_of, noted}
+use Rattle.steps.specs.Cells.{IsCell, ring_of, place_of, cells_in, request_at, note_at, facts_at}
+use Rattle.steps.specs.Fairness.{IsReaped, IsFree, IsIn, IsFactsNote, Fair, Orderly}
+use Rattle.steps.specs.Rule.{rings, stands_for, owns, NoneOf}
+use Rattle.steps.proofs.CellNumbers.{located}
+use Rattle.steps.proofs.Served.{unchained}
+
+-- the request that had the cell before
+pub before_it : (K : List ℕ) (x g : ℕ) (q : Req) → IsCell K x → q.ring ≡ ring_of K x → q.k + cells_in K (ring_of K x) ≡ (request_at K x g).k → (n : ℕ) × (g ≡ suc n) × (q ≡ request_at K x n)
+before_it K x zero q inside ring k = (let n : ℕ = cells_in K (ring_of K x) in let lt = (located K x inside).1 in let z : q.k + n ≡ 0 * n + place_of K x = k in absurd (omega arith))
+before_it K x (suc n) q inside ring k =
+    let c : ℕ = cells_in K (ring_of K x) in let u : suc n * c ≡ n * c + c = suc-mul n c in let a : ℕ = suc n * c in let b : ℕ = n * c in let u' : a ≡ b + c = u in
+    let k' : q.k + c ≡ a + place_of K x = k in let e : q.k ≡ b + place_of K x = omega arith in (n, refl, λ i. record { ring = ring i; k = e i })
+
+pub replied_too : (p : Phase) → IsReaped p → IsReplied p
+replied_too (reaped c res) r = tt
+replied_too p r = absurd r
+
+-- where the request before was reaped the cell is free, since no request is behind another in a chain
+pub free_by : (L : Layout) (j : List Line) (x g : ℕ) → IsCell L.cells x → Orderly L j → ((n : ℕ) → n < g → IsReaped (phase (events_of j) (request_at L.cells x n))) → IsFree L.cells (events_of j) (request_at L.cells x g)
+free_by L j x g inside o gone q ring k =
+    let b = before_it L.cells x g q inside ring k in let is = b.1 in let r : IsReaped (phase (events_of j) q) = subst (λ (z : Req). IsReaped (phase (events_of j) z)) (sym b.2) (gone b.0 (omega arith)) in (
+      r,
+      λ m chained. ⊎_elim (λ (same' : q ≡ m). subst (λ (z : Req). IsReplied (phase (events_of j) z)) same' (replied_too (phase (events_of j) q) r))
+          (λ c. ⊎_elim (λ a. absurd (unchained L j q m o a)) (λ a. absurd (unchained L j m q o a)) c) chained,
+    )
+
+-- the word of a note, and whose cell it is of
+facts_word : (K : List ℕ) (j : List Line) (r : Req) (word value : ℕ) (p : Phase) → IsFactsNote K j r word value p → (x : ℕ) × (g : ℕ) × IsIn K r x g × (word ≡ facts_at x)
+facts_word K j r word value unborn n = (n.0, n.1, n.3, n.4)
+facts_word K j r word value (replied c res) n = (n.0, n.1, n.3, n.4)
+facts_word K j r word value p n = absurd n
+
+-- only the submitter of a ring stores in the notes of its cells
+module _ (L : Layout) (role : Role) (x k : ℕ) (small : k < 7) (inside : IsCell L.cells x) (mine : stands_for role (rings (ring_of L.cells x)) ≡ true) where
+  -- a note of another ring's cell
+  elsewhere : (r : Req) (word value n y g i : ℕ) → stands_for role (rings r.ring) ≡ false → IsIn L.cells r y g → i < 7 → word ≡ note_at y i → cond (word == note_at x k) value n ≡ n
+  elsewhere r word value n y g i other at few is =
+      let ne : ¬ (y ≡ x) = λ e. (let ring : ring_of L.cells x ≡ r.ring = ap (ring_of L.cells) (sym e) ∙ ap (λ (q : Req). q.ring) at.1 in
+      true≢false (sym mine ∙ subst (λ (z : ℕ). stands_for role (rings z) ≡ false) (sym ring) other)) in
+      let apart' : ¬ (word ≡ note_at x k) = λ e. ne (omega arith) in ap (λ (b : Bool). cond b value n) (ne_eqb word (note_at x k) apart')
+
+  noted_by : (l : Line) (j : List Line) → Fair L j l → owns role l ≡ false → noted (l ∷ j) (note_at x k) ≡ noted j (note_at x k)
+  noted_by (Lent r word value) j f n = let w = facts_word L.cells j r word value (phase (events_of j) r) f in elsewhere r word value (noted j (note_at x k)) w.0 w.1 0 n w.2 (omega arith) w.3
+  noted_by (Noted r word value) j f n = elsewhere r word value (noted j (note_at x k)) f.0 f.1 1 n f.2 (omega arith) f.3
+  noted_by (Did e) j f n = refl
+  noted_by (Freed r) j f n = refl
+  noted_by (Hold r p) j f n = refl
+  noted_by (Free r p) j f n = refl
+
+  pub same_noted : (later seen : List Line) → Orderly L (later ++ seen) → NoneOf role later → noted (later ++ seen) (note_at x k) ≡ noted seen (note_at x k)
+  same_noted [] seen o n = refl
+  same_noted (l ∷ later) seen o n = noted_by l (later ++ seen) o.0 n.0 ∙ same_noted later seen o.1 n.1

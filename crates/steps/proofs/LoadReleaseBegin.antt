@@ -1,0 +1,142 @@
+-- Loads, and the kinds of step that let a request start: release and begin.
+use Rattle.std.proofs.Common.{◌≡◌, ◌≢◌, ℕ, ◌<◌, true, false, cond, Option, Some, List, [], ◌∷◌, get_or, set, sym, refl, ap, ◌∙◌, subst, inl, inr, arith, eqb, true≢false, length-set}
+use mathlib.Core.Option.{some, none}
+use mathlib.Core.Option as maybe
+use mathlib.Core.Logic.{dite}
+use native.Mathlib.Decide.{ℕ_discrete}
+use lib.ListN.{get_elem?}
+use prog.Atomic.{either}
+use Rattle.atomic_table.specs.Table.{step, keeps, takes, Allows}
+use Rattle.atomic_table.proofs.Lists.{set_else}
+use Rattle.claim.specs.declared.tag.Tag.TheVariants.{Held, Ready, Running}
+use Rattle.history.specs.declared.req.Req.{Req}
+use Rattle.history.specs.declared.event.Event.TheVariants.{Begin}
+use Rattle.history.specs.History.{waits, runs, phase, submits, IsReplied}
+use Rattle.history.specs.Chains.{is_timer, Open}
+use Rattle.history.specs.Legal.{Legal, IsOf}
+use Rattle.history.proofs.Requests.{same_itself, same_false}
+use Rattle.steps.specs.declared.line.Line.{Line}
+use Rattle.steps.specs.declared.line.Line.TheVariants.{Did, Freed}
+use Rattle.steps.specs.declared.parcel.Thing.{Thing}
+use Rattle.steps.specs.declared.parcel.Thing.TheVariants.{Full}
+use Rattle.steps.specs.declared.view.Layout.{Layout}
+use Rattle.steps.specs.declared.view.Role.{Role}
+use Rattle.steps.specs.declared.view.View.{View}
+use Rattle.atomic_table.specs.Table.{State}
+use Rattle.history.specs.Legal.{Setup}
+use Rattle.history.specs.History.{was_shut, clock_of}
+use Rattle.history.specs.Pipes.{flow}
+use Rattle.steps.specs.Cells.{setup_of}
+use Rattle.steps.specs.Plays.{Seated}
+use Rattle.steps.specs.Fairness.{Fair}
+use Rattle.steps.specs.declared.view.Role.TheVariants.{Idle, Busy, Spent}
+use Rattle.steps.specs.Journal.{events_of, freed, holder}
+use Rattle.steps.specs.Cells.{IsCell, ring_of, request_at, Keeps, MayBegin, claim_at, note_at, slot_at, word_of}
+use Rattle.steps.specs.Rule.{pollers, workers, stands_for, Ruled}
+use Rattle.steps.specs.Plays.{looked, noticed, tried, released, began}
+use Rattle.steps.proofs.CellNumbers.{other_cell, other_age}
+use Rattle.steps.proofs.Roles.{unowned, busy_apart}
+use Rattle.steps.proofs.JournalGrowth.{counted_in, open_lasts, kind_lasts, phase_stays}
+use Rattle.steps.proofs.Frames.{may_stays, ages_stay}
+use Rattle.steps.proofs.ClaimWords.{says_of}
+use Rattle.steps.proofs.RuleKept.{Calm, adds_claim, owned}
+use Rattle.steps.proofs.StepKinds.{now_is, tick, with_line, Does, There, shaped, lasts_now, extends, same_turns, no_worker, looks_on, notices_on, tries}
+
+-- a line that leaves the clock and all pipes
+pub quiet_line : (L : Layout) (past : List Line) (l : Line) → Fair L past l → was_shut (events_of (l ∷ past)) ≡ false → clock_of (events_of (l ∷ past)) ≡ clock_of (events_of past)
+    → ((p : ℕ) → (holder (l ∷ past) p ≡ holder past p) × (flow (events_of (l ∷ past)) p ≡ flow (events_of past) p)) → Calm L past l
+quiet_line L past l fair live clock pipes = record { fair = fair; live = live; clock = clock; pipes = λ p. ((pipes p).0, λ _. (pipes p).1) }
+
+pub dec_req : {A : Type 0} (a b : Req) → (a ≡ b → A) → (a ≢ b → A) → A
+dec_req a b yes' no' = dite (ℕ_discrete a.ring b.ring) (λ p. dite (ℕ_discrete a.k b.k) (λ q. yes' (λ i. record { ring = p i; k = q i })) (λ n. no' (λ e. n (ap (λ (z : Req). z.k) e)))) (λ n. no' (λ e. n (ap (λ (z : Req). z.ring) e)))
+
+module _ (slots id : ℕ) (me : Seated) where
+  abbrev v : View
+  v = me.0
+
+  abbrev L : Layout
+  L = v.layout
+
+  abbrev K : List ℕ
+  K = L.cells
+
+  abbrev S : Setup
+  S = setup_of L
+
+  abbrev St : Type 0
+  St = State (Option Thing) View
+
+  -- LOAD
+  pub look_allows : (M : Layout) (x : ℕ) → v.role ≢ Spent → Allows (Ruled M) slots id me (claim_at x) (λ n. n) (looked (step slots (claim_at x) 0 0 none) me)
+  look_allows M x live = shaped slots id me M (claim_at x) (λ n. n) (looked (step slots (claim_at x) 0 0 none) me) live (looks_on slots id me x 0 0 none)
+
+  -- LOAD of a note
+  pub notice_allows : (M : Layout) (x i : ℕ) → v.role ≢ Spent → IsCell K x → i < 7 → Allows (Ruled M) slots id me (note_at x i) (λ n. n) (noticed (step slots (note_at x i) 0 0 none) me)
+  notice_allows M x i live inside small = shaped slots id me M (note_at x i) (λ n. n) (noticed (step slots (note_at x i) 0 0 none) me) live (notices_on slots id me x i inside small)
+
+  -- RELEASE
+  release_does : (x g old new : ℕ) → stands_for v.role pollers ≡ true → 0 < v.parts → ((q : Req) → v.role ≢ Busy q) → IsCell K x → g < 16777216 → new ≡ word_of Ready 0 g 0 → (request_at K x g).k < submits (events_of v.seen) (ring_of K x) → MayBegin v.seen (request_at K x g)
+      → (s : St) (r : Ruled L s) → There slots id me s → get_or s.words (claim_at x) 0 ≡ word_of Held 0 g 0 → Does slots id me L s (claim_at x) new (released (step slots (claim_at x) old new none) me x (request_at K x g))
+  release_does x g old new mine has lazy inside f is_new born may s r at is =
+      let q : Req = request_at K x g in let l : Line = Freed q in
+      let may' : MayBegin r.past q = (lasts_now slots id me s r at (λ h. Open h q) q (open_lasts S q) born may.0, lasts_now slots id me s r at (λ h. IsOf h q is_timer false) q (kind_lasts S q is_timer false) born may.1) in
+      let here = says_of K r.past x _ _ Held 0 g 0 (r.cells x inside) is (omega arith) f (omega arith) in (
+        with_line slots id me (claim_at x) s r.past l v.role,
+        keeps,
+        tt,
+        adds_claim L s r id v v.role x new s.homes l (tick slots id me (claim_at x) s (l ∷ r.past)) inside refl (quiet_line L r.past l (here.0.2, may'.0, may'.1, here.0.3) r.live refl (λ p. (refl, refl))) (same_turns slots id me s r at l refl r.legal has (λ _. refl) (λ q is. absurd (lazy q is))) r.legal at (owned L s r id v l at mine)
+            (λ y h other k. other_cell K x y g k inside h other) (λ w. refl) refl (λ y other. refl) record {
+              tag = Ready;
+              cause = 0;
+              gen = g;
+              payload = 0;
+              fits = (omega arith, f, omega arith);
+              word_is = is_new;
+              says = (refl, refl, here.0.2, ap (λ b. cond b true (freed r.past q)) (same_itself q), here.0.4, here.0.5, may');
+              ages = ages_stay S l r.past r.legal K x g (λ n other. other_age K x g n inside other) here.1;
+            },
+        (extends slots id me s r at l v.role r.legal r.live (here.0.2, may'.0, may'.1, here.0.3) (tick slots id me (claim_at x) s (l ∷ r.past)), refl),
+        refl,
+      )
+
+  pub release_allows : (M : Layout) (x g old new : ℕ) → stands_for v.role pollers ≡ true → 0 < v.parts → v.role ≢ Spent → ((q : Req) → v.role ≢ Busy q) → IsCell K x → g < 16777216 → old ≡ word_of Held 0 g 0 → new ≡ word_of Ready 0 g 0 → (request_at K x g).k < submits (events_of v.seen) (ring_of K x) → MayBegin v.seen (request_at K x g)
+      → Allows (Ruled M) slots id me (claim_at x) (λ n. either (eqb n old) new n) (tried Held released (step slots (claim_at x) old new none) me)
+  release_allows M x g old new mine has live lazy inside f is_old is_new born may = tries slots id me M Held released x g 0 old new live inside f (omega arith) is_old (release_does x g old new mine has lazy inside f is_new born may)
+
+  -- BEGIN
+  begin_does : (x g old new : ℕ) → v.role ≡ Idle → 0 < v.parts → IsCell K x → g < 16777216 → new ≡ word_of Running 0 g 0
+      → (s : St) (r : Ruled L s) → There slots id me s → get_or s.words (claim_at x) 0 ≡ word_of Ready 0 g 0 → Does slots id me L s (claim_at x) new (began (step slots (claim_at x) old new none) me x (request_at K x g))
+  begin_does x g old new idle has inside f is_new s r at is =
+      let q : Req = request_at K x g in let l : Line = Did (Begin q) in let here = says_of K r.past x _ _ Ready 0 g 0 (r.cells x inside) is (omega arith) f (omega arith) in
+      let waiting : phase (events_of r.past) q ≡ waits = here.0.2 in let parcel : Keeps r.past q (get_elem? s.homes (slot_at x)) [] = here.0.5 in
+      let legal : Legal S (events_of (l ∷ r.past)) = ((r.live, (waiting, here.0.6.0, here.0.6.1)), r.legal) in
+      let running : phase (events_of (l ∷ r.past)) q ≡ runs = now_is _ runs _ (same_itself q) in
+      let free : (i : ℕ) (u : View) → get_elem? s.views i ≡ some u → stands_for u.role (workers q) ≡ true → ⊥ = no_worker slots id me s r q (λ e. (let y = waiting in let z = sym y ∙ e in cc)) (λ d. subst IsReplied waiting d) in (
+        with_line slots id me (claim_at x) s r.past l (Busy q),
+        takes (slot_at x) (Some (Full parcel.0)),
+        parcel.1,
+        adds_claim L s r id v (Busy q) x new (set s.homes (slot_at x) maybe.none) l (tick slots id me (claim_at x) s (l ∷ r.past)) inside refl (quiet_line L r.past l tt r.live refl (λ p. (refl, refl))) record {
+          keeps = (λ p c is own. absurd (true≢false (sym own ∙ ap (λ (z : Role). stands_for z (workers c)) idle)));
+          has = has;
+          lends = (λ c is. inr (is, λ z. absurd (let y = sym idle ∙ z in cc)));
+          busy = (λ c is. (let same' : q ≡ c = cc in subst (λ (z : Req). phase (events_of (l ∷ r.past)) z ≡ runs) same' running));
+          leaving = (λ c is. absurd (cc));
+          running = (λ c is. dec_req q c (λ same'. inl (ap Busy same')) (λ ne. inr (sym (phase_stays l r.past c (same_false q c ne)) ∙ is, λ z. absurd (let y = sym idle ∙ z in cc))));
+        } legal at (λ i u other there. (unowned u.role, busy_apart q u.role (λ c own. same_false q c (λ e. free i u there (subst (λ (z : Req). stands_for u.role (workers z) ≡ true) (sym e) own)))))
+            (λ y h other k. other_cell K x y g k inside h other) (λ w. refl) (length-set s.homes (slot_at x) maybe.none) (λ y other. set_else s.homes (slot_at x) y maybe.none other) record {
+              tag = Running;
+              cause = 0;
+              gen = g;
+              payload = 0;
+              fits = (omega arith, f, omega arith);
+              word_is = is_new;
+              says = (refl, refl, running, here.0.3, here.0.4, may_stays S l r.past legal q (counted_in S r.past q waits r.legal waiting (λ e. cc)) here.0.6);
+              ages = ages_stay S l r.past legal K x g (λ n other. other_age K x g n inside other) here.1;
+            },
+        (extends slots id me s r at l (Busy q) legal r.live tt (tick slots id me (claim_at x) s (l ∷ r.past)), (parcel.0, refl, parcel.2), (λ n held'. (let by = r.held_by n q held' in free by.0 by.1 by.2 by.3))),
+        refl,
+      )
+
+  pub begin_allows : (M : Layout) (x g old new : ℕ) → v.role ≡ Idle → 0 < v.parts → IsCell K x → g < 16777216 → old ≡ word_of Ready 0 g 0 → new ≡ word_of Running 0 g 0
+      → Allows (Ruled M) slots id me (claim_at x) (λ n. either (eqb n old) new n) (tried Ready began (step slots (claim_at x) old new none) me)
+  begin_allows M x g old new idle has inside f is_old is_new = tries slots id me M Ready began x g 0 old new (λ e. (let y = sym idle ∙ e in cc)) inside f (omega arith) is_old (begin_does x g old new idle has inside f is_new)

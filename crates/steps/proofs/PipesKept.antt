@@ -1,0 +1,216 @@
+-- A pipe that a worker has stays with it, and nobody else changes what is in it. A reply hangs on the pipe that its entry names, and changes no other.
+use Rattle.std.specs.Prelude.{◌==◌, ◌&&◌}
+use Rattle.std.proofs.Common.{◌≡◌, ◌≢◌, ℕ, ◌+◌, ◌<◌, Bool, true, false, cond, not, ℤ, pos, negsuc, List, [], ◌∷◌, ◌++◌, length, slice_index, take, Option, Some, None, sym, refl, ap, ◌∙◌, subst, ⊎_elim, arith, true≢false, eqb-true, eq-eqb, ne_eqb, append-nil}
+use Rattle.entry.specs.declared.op.Op.{Op}
+use Rattle.entry.specs.declared.op.Op.TheVariants.{Nop, Close, Read, Write, PollAdd, Invalid}
+use Rattle.entry.specs.Entry.{Entry}
+use Rattle.history.specs.declared.req.Req.{Req}
+use Rattle.history.specs.declared.event.Event.{Event}
+use Rattle.history.specs.declared.event.Event.TheVariants.{Reply}
+use Rattle.history.specs.History.{Submission, submission, same}
+use Rattle.history.specs.Chains.{placed, IsPlaced}
+use Rattle.history.specs.Pipes.{Flow, flow, flows, flows_as, moves, End, no_end, read_end, write_end, end_of, reads, writes, closes, is_zero}
+use Rattle.history.specs.Answers.{Answer, now, bad_end, is_pipe, answer_read, answer_write, answer_poll, read_events, write_events, read_from, write_to, close_of, poll_of, OpAnswers}
+use Rattle.history.proofs.Requests.{bool_cases}
+use Rattle.steps.specs.declared.line.Line.{Line}
+use Rattle.steps.specs.declared.line.Line.TheVariants.{Did, Hold, Free}
+use Rattle.steps.specs.declared.view.Layout.{Layout}
+use Rattle.steps.specs.declared.view.Role.{Role}
+use Rattle.steps.specs.Fairness.{Fair, Orderly}
+use Rattle.steps.specs.Journal.{events_of, holder, is_end_of, uses, touches, is_served}
+use Rattle.steps.specs.Rule.{workers, stands_for, owns, NoneOf}
+
+-- ---- what a reply leaves alone
+
+unread : (x : End) (res : ℤ) (p : ℕ) (w : Flow) → is_end_of x p ≡ false → reads x res p w ≡ w
+unread (read_end n) res p w u = ap (λ b. cond b (let a : Flow = record w { out = w.out + Rattle.history.specs.Pipes.size res } in a) w) u
+unread (write_end n) res p w u = refl
+unread no_end res p w u = refl
+
+unwritten : (x : End) (bytes : List ℕ) (res : ℤ) (p : ℕ) (w : Flow) → is_end_of x p ≡ false → writes x bytes res p w ≡ w
+unwritten (write_end n) bytes res p w u = ap (λ b. cond b (let a : Flow = record w { into = w.into ++ take (Rattle.history.specs.Pipes.size res) bytes } in a) w) u
+unwritten (read_end n) bytes res p w u = refl
+unwritten no_end bytes res p w u = refl
+
+unclosed : (x : End) (res : ℤ) (p : ℕ) (w : Flow) → is_end_of x p ≡ false → closes x res p w ≡ w
+unclosed (read_end n) res p w u = ap (λ b. cond (b && is_zero res) (let a : Flow = record w { read_shut = true } in a) w) u
+unclosed (write_end n) res p w u = ap (λ b. cond (b && is_zero res) (let a : Flow = record w { write_shut = true } in a) w) u
+unclosed no_end res p w u = refl
+
+-- a pipe that the operation doesn't name
+pub unused : (op : Op) (bytes : List ℕ) (res : ℤ) (p : ℕ) (w : Flow) → uses op p ≡ false → flows op bytes res p w ≡ w
+unused (Read fd offset len) bytes res p w u = unread (end_of fd) res p w u
+unused (Write fd offset len) bytes res p w u = unwritten (end_of fd) bytes res p w u
+unused (Close fd) bytes res p w u = unclosed (end_of fd) res p w u
+unused op bytes res p w u = refl
+
+bad_read : (x : End) (n p : ℕ) (w : Flow) → reads x (negsuc n) p w ≡ w
+bad_read (read_end m) n p w = elim (m == p) as (λ b. cond b (let a : Flow = record w { out = w.out + 0 } in a) w ≡ w) [ true ↦ (let e : w.out + 0 ≡ w.out = omega arith in ap (λ (k : ℕ). (let a : Flow = record w { out = k } in a)) e) | false ↦ refl ]
+bad_read (write_end m) n p w = refl
+bad_read no_end n p w = refl
+
+bad_write : (x : End) (bytes : List ℕ) (n p : ℕ) (w : Flow) → writes x bytes (negsuc n) p w ≡ w
+bad_write (write_end m) bytes n p w = elim (m == p) as (λ b. cond b (let a : Flow = record w { into = w.into ++ [] } in a) w ≡ w) [ true ↦ ap (λ (k : List ℕ). (let a : Flow = record w { into = k } in a)) (append-nil w.into) | false ↦ refl ]
+bad_write (read_end m) bytes n p w = refl
+bad_write no_end bytes n p w = refl
+
+bad_close : (x : End) (n p : ℕ) (w : Flow) → closes x (negsuc n) p w ≡ w
+bad_close (read_end m) n p w = elim (m == p) as (λ b. cond (b && false) (let a : Flow = record w { read_shut = true } in a) w ≡ w) [ true ↦ refl | false ↦ refl ]
+bad_close (write_end m) n p w = elim (m == p) as (λ b. cond (b && false) (let a : Flow = record w { write_shut = true } in a) w ≡ w) [ true ↦ refl | false ↦ refl ]
+bad_close no_end n p w = refl
+
+-- a reply that is an error
+bad_flows : (op : Op) (bytes : List ℕ) (n p : ℕ) (w : Flow) → flows op bytes (negsuc n) p w ≡ w
+bad_flows (Read fd offset len) bytes n p w = bad_read (end_of fd) n p w
+bad_flows (Write fd offset len) bytes n p w = bad_write (end_of fd) bytes n p w
+bad_flows (Close fd) bytes n p w = bad_close (end_of fd) n p w
+bad_flows op bytes n p w = refl
+
+all_flows : (o : Option Entry) (s : Option Submission) (res : ℤ) (p : ℕ) (w : Flow) → ((e : Entry) (bytes : List ℕ) → o ≡ Some e → flows e.op bytes res p w ≡ w) → flows_as o s res p w ≡ w
+all_flows None s res p w k = refl
+all_flows (Some e) None res p w k = refl
+all_flows (Some e) (Some s) res p w k = k e s.bytes refl
+
+-- a reply leaves the pipes that its request doesn't name
+untouched_flow : (h : List Event) (q : Req) (res : ℤ) (p : ℕ) (w : Flow) → touches (placed h q) p ≡ false → flows_as (placed h q) (submission h q) res p w ≡ w
+untouched_flow h q res p w t = all_flows (placed h q) (submission h q) res p w (λ e bytes is. unused e.op bytes res p w (sym (ap (λ o. touches o p) is) ∙ t))
+
+-- ---- what a reply hangs on
+
+module _ (caps : List ℕ) (f : ℕ → Flow) where
+  -- G tells the answer of a pipe, by whether it is there
+  by_pipe : (f' : ℕ → Flow) (p : ℕ) (G : Bool → Flow → Answer) → ((w u : Flow) → G false w ≡ G false u) → (is_pipe caps p ≡ true → f' p ≡ f p) → G (is_pipe caps p) (f' p) ≡ G (is_pipe caps p) (f p)
+  by_pipe f' p G bad k = ⊎_elim
+      (λ (t : is_pipe caps p ≡ true). ap (G (is_pipe caps p)) (k t))
+      (λ (t : is_pipe caps p ≡ false). ap (λ b. G b (f' p)) t ∙ (bad (f' p) (f p) ∙ sym (ap (λ b. G b (f p)) t))) (bool_cases (is_pipe caps p))
+
+  -- a pipe that is not there
+  no_pipe : (m n : ℕ) (G : Bool → Flow → Answer) → ((w : Flow) → G false w ≡ bad_end) → (m == n) ≡ true → is_pipe caps n ≡ false → (res : ℤ) (data' : List ℕ) → G (is_pipe caps m) (f m) ≡ now res data' → res ≡ negsuc 8
+  no_pipe m n G bad same' none res data' is = let e : is_pipe caps m ≡ false = ap (is_pipe caps) (eqb-true m n same') ∙ none in
+      let z : bad_end ≡ now res data' = sym (bad (f m)) ∙ (sym (ap (λ b. G b (f m)) e) ∙ is) in cc
+
+abbrev reading : ℕ → Bool → Flow → Answer
+reading len b w = cond b (answer_read w len) bad_end
+
+abbrev writing : ℕ → ℕ → Bool → Flow → Answer
+writing cap len b w = cond b (answer_write cap w len) bad_end
+
+abbrev closing_read : Bool → Flow → Answer
+closing_read b w = cond (b && not w.read_shut) (now (pos 0) []) bad_end
+
+abbrev closing_write : Bool → Flow → Answer
+closing_write b w = cond (b && not w.write_shut) (now (pos 0) []) bad_end
+
+abbrev polling_read : ℕ → Bool → Flow → Answer
+polling_read mask b w = cond (b && not w.read_shut) (answer_poll (read_events w) mask) bad_end
+
+abbrev polling_write : ℕ → ℕ → Bool → Flow → Answer
+polling_write cap mask b w = cond (b && not w.write_shut) (answer_poll (write_events cap w) mask) bad_end
+
+module _ (caps : List ℕ) (f : ℕ → Flow) where
+  abbrev Same : (ℕ → Flow) → End → Type 0
+  Same f' x = (p : ℕ) → is_pipe caps p ≡ true → is_end_of x p ≡ true → f' p ≡ f p
+
+  read_same : (f' : ℕ → Flow) (x : End) (len : ℕ) → Same f' x → read_from caps f' x len ≡ read_from caps f x len
+  read_same f' (read_end p) len k = by_pipe caps f f' p (reading len) (λ w u. refl) (λ t. k p t (eq-eqb p p refl))
+  read_same f' (write_end p) len k = refl
+  read_same f' no_end len k = refl
+
+  write_same : (f' : ℕ → Flow) (x : End) (len : ℕ) → Same f' x → write_to caps f' x len ≡ write_to caps f x len
+  write_same f' (write_end p) len k = by_pipe caps f f' p (writing (slice_index caps p) len) (λ w u. refl) (λ t. k p t (eq-eqb p p refl))
+  write_same f' (read_end p) len k = refl
+  write_same f' no_end len k = refl
+
+  close_same : (f' : ℕ → Flow) (x : End) → Same f' x → close_of caps f' x ≡ close_of caps f x
+  close_same f' (read_end p) k = by_pipe caps f f' p closing_read (λ w u. refl) (λ t. k p t (eq-eqb p p refl))
+  close_same f' (write_end p) k = by_pipe caps f f' p closing_write (λ w u. refl) (λ t. k p t (eq-eqb p p refl))
+  close_same f' no_end k = refl
+
+  poll_same : (f' : ℕ → Flow) (x : End) (mask : ℕ) → Same f' x → poll_of caps f' x mask ≡ poll_of caps f x mask
+  poll_same f' (read_end p) mask k = by_pipe caps f f' p (polling_read mask) (λ w u. refl) (λ t. k p t (eq-eqb p p refl))
+  poll_same f' (write_end p) mask k = by_pipe caps f f' p (polling_write (slice_index caps p) mask) (λ w u. refl) (λ t. k p t (eq-eqb p p refl))
+  poll_same f' no_end mask k = refl
+
+  read_off : (x : End) (len n : ℕ) (res : ℤ) (data' : List ℕ) → is_end_of x n ≡ true → is_pipe caps n ≡ false → read_from caps f x len ≡ now res data' → res ≡ negsuc 8
+  read_off (read_end p) len n res d u none is = no_pipe caps f p n (reading len) (λ w. refl) u none res d is
+  read_off (write_end p) len n res d u none is = cc
+  read_off no_end len n res d u none is = cc
+
+  write_off : (x : End) (len n : ℕ) (res : ℤ) (data' : List ℕ) → is_end_of x n ≡ true → is_pipe caps n ≡ false → write_to caps f x len ≡ now res data' → res ≡ negsuc 8
+  write_off (write_end p) len n res d u none is = no_pipe caps f p n (writing (slice_index caps p) len) (λ w. refl) u none res d is
+  write_off (read_end p) len n res d u none is = cc
+  write_off no_end len n res d u none is = cc
+
+  close_off : (x : End) (n : ℕ) (res : ℤ) (data' : List ℕ) → is_end_of x n ≡ true → is_pipe caps n ≡ false → close_of caps f x ≡ now res data' → res ≡ negsuc 8
+  close_off (read_end p) n res d u none is = no_pipe caps f p n closing_read (λ w. refl) u none res d is
+  close_off (write_end p) n res d u none is = no_pipe caps f p n closing_write (λ w. refl) u none res d is
+  close_off no_end n res d u none is = cc
+
+  poll_off : (x : End) (mask n : ℕ) (res : ℤ) (data' : List ℕ) → is_end_of x n ≡ true → is_pipe caps n ≡ false → poll_of caps f x mask ≡ now res data' → res ≡ negsuc 8
+  poll_off (read_end p) mask n res d u none is = no_pipe caps f p n (polling_read mask) (λ w. refl) u none res d is
+  poll_off (write_end p) mask n res d u none is = no_pipe caps f p n (polling_write (slice_index caps p) mask) (λ w. refl) u none res d is
+  poll_off no_end mask n res d u none is = cc
+
+module _ (caps : List ℕ) (h : List Event) (r : Req) where
+  -- an answer stays where the pipes that the entry names are as they were
+  pub answer_stays : (h' : List Event) (op : Op) (res : ℤ) (data' : List ℕ) → is_served op ≡ true → ((p : ℕ) → is_pipe caps p ≡ true → uses op p ≡ true → flow h' p ≡ flow h p) → OpAnswers caps h r op res data' → OpAnswers caps h' r op res data'
+  answer_stays h' Nop res d s k a = a
+  answer_stays h' Invalid res d s k a = a
+  answer_stays h' (Read fd offset len) res d s k a = read_same caps (flow h) (flow h') (end_of fd) len k ∙ a
+  answer_stays h' (Write fd offset len) res d s k a = write_same caps (flow h) (flow h') (end_of fd) len k ∙ a
+  answer_stays h' (Close fd) res d s k a = close_same caps (flow h) (flow h') (end_of fd) k ∙ a
+  answer_stays h' (PollAdd fd mask) res d s k a = poll_same caps (flow h) (flow h') (end_of fd) mask k ∙ a
+  answer_stays h' op res d s k a = absurd (true≢false (sym s))
+
+  one_answer : (x : Answer) (res : ℤ) (c d : List ℕ) → x ≡ now res c → x ≡ now res d → c ≡ d
+  one_answer x res c d a b = let z : now res c ≡ now res d = sym a ∙ b in cc
+
+  -- the reply tells its data
+  pub one_data : (op : Op) (res : ℤ) (c d : List ℕ) → is_served op ≡ true → OpAnswers caps h r op res c → OpAnswers caps h r op res d → c ≡ d
+  one_data Nop res c d s a b = one_answer (now (pos 0) []) res c d a b
+  one_data Invalid res c d s a b = one_answer (now (negsuc 21) []) res c d a b
+  one_data (Read fd offset len) res c d s a b = one_answer (read_from caps (flow h) (end_of fd) len) res c d a b
+  one_data (Write fd offset len) res c d s a b = one_answer (write_to caps (flow h) (end_of fd) len) res c d a b
+  one_data (Close fd) res c d s a b = one_answer (close_of caps (flow h) (end_of fd)) res c d a b
+  one_data (PollAdd fd mask) res c d s a b = one_answer (poll_of caps (flow h) (end_of fd) mask) res c d a b
+  one_data op res c d s a b = absurd (true≢false (sym s))
+
+  -- a pipe that the entry names and that isn't there is answered by an error
+  off_board : (op : Op) (n : ℕ) (res : ℤ) (data' : List ℕ) → uses op n ≡ true → is_pipe caps n ≡ false → OpAnswers caps h r op res data' → res ≡ negsuc 8
+  off_board (Read fd offset len) n res d u none a = read_off caps (flow h) (end_of fd) len n res d u none a
+  off_board (Write fd offset len) n res d u none a = write_off caps (flow h) (end_of fd) len n res d u none a
+  off_board (Close fd) n res d u none a = close_off caps (flow h) (end_of fd) n res d u none a
+  off_board (PollAdd fd mask) n res d u none a = poll_off caps (flow h) (end_of fd) mask n res d u none a
+  off_board op n res d u none a = absurd (true≢false (sym u))
+
+  -- and so a reply leaves each pipe that its worker doesn't have
+  pub reply_leaves : (e : Entry) (n : ℕ) (res : ℤ) (data' : List ℕ) → IsPlaced h r e → OpAnswers caps h r e.op res data' → (is_pipe caps n ≡ true → uses e.op n ≡ true → ⊥) → (w : Flow) → flows_as (placed h r) (submission h r) res n w ≡ w
+  reply_leaves e n res d is a lacks w = all_flows (placed h r) (submission h r) res n w (λ e' bytes is'. (let same' : e ≡ e' = (let z = sym is ∙ is' in cc) in
+      subst (λ (z : Entry). flows z.op bytes res n w ≡ w) same' (⊎_elim
+      (λ (u : uses e.op n ≡ true). ⊎_elim (λ (t : is_pipe caps n ≡ true). absurd (lacks t u)) (λ (t : is_pipe caps n ≡ false). subst (λ (z : ℤ). flows e.op bytes z n w ≡ w) (sym (off_board e.op n res d u t a)) (bad_flows e.op bytes 8 n w)) (bool_cases (is_pipe caps n)))
+      (λ (u : uses e.op n ≡ false). unused e.op bytes res n w u) (bool_cases (uses e.op n)))))
+
+-- ---- who has a pipe keeps it
+
+module _ (L : Layout) (role : Role) (q : Req) (p : ℕ) (mine : stands_for role (workers q) ≡ true) (there : is_pipe L.caps p ≡ true) where
+  others : (c : Req) → stands_for role (workers c) ≡ false → Some q ≡ Some c → ⊥
+  others c n e = let same' : q ≡ c = cc in true≢false (sym mine ∙ (ap (λ (z : Req). stands_for role (workers z)) same' ∙ n))
+
+  abbrev Has : List Line → Flow → Type 0
+  Has j w = (holder j p ≡ Some q) × (flow (events_of j) p ≡ w)
+
+  has_by : (w : Flow) (l : Line) (j : List Line) → Fair L j l → owns role l ≡ false → Has j w → Has (l ∷ j) w
+  has_by w (Hold c n) j f o h = (ap (λ b. cond b (Some c) (holder j p)) (ne_eqb n p (λ e. (let z = sym f ∙ (ap (holder j) e ∙ h.0) in cc))) ∙ h.0, h.1)
+  has_by w (Free c n) j f o h = (ap (λ b. cond b None (holder j p)) (ne_eqb n p (λ e. others c o (sym h.0 ∙ (ap (holder j) (sym e) ∙ f)))) ∙ h.0, h.1)
+  has_by w (Did (Reply c res data')) j f o h = (
+    h.0,
+    ⊎_elim
+        (λ (t : touches (placed (events_of j) c) p ≡ true). absurd (others c o (sym h.0 ∙ f p there t)))
+        (λ (t : touches (placed (events_of j) c) p ≡ false). untouched_flow (events_of j) c res p (flow (events_of j) p) t ∙ h.1) (bool_cases (touches (placed (events_of j) c) p)),
+  )
+  has_by w (Did e) j f o h = h
+  has_by w l j f o h = h
+
+  pub still_has : (w : Flow) (later seen : List Line) → Orderly L (later ++ seen) → NoneOf role later → Has seen w → Has (later ++ seen) w
+  still_has w [] seen o n h = h
+  still_has w (l ∷ later) seen o n h = has_by w l (later ++ seen) o.0 n.0 (still_has w later seen o.1 n.1 h)

@@ -1,0 +1,201 @@
+-- How a worker ends with a request: by a reply, with the pipe that its entry names or without one, or by parking it.
+use Rattle.std.proofs.Common.{◌≡◌, ◌≢◌, ℕ, ◌<◌, true, false, Option, Some, None, ℤ, List, [], ◌∷◌, get_or, set, sym, refl, ap, ◌∙◌, subst, inr, arith, eqb, true≢false, length-set}
+use mathlib.Core.Option.{some, none}
+use prog.Atomic.{either}
+use Rattle.atomic_table.specs.Table.{step, gives, Allows, rest}
+use Rattle.atomic_table.proofs.Lists.{set_here, set_else}
+use Rattle.claim.specs.declared.tag.Tag.TheVariants.{Ready, Running, Done}
+use Rattle.entry.specs.Entry.{Entry, fails}
+use Rattle.history.specs.declared.req.Req.{Req}
+use Rattle.history.specs.declared.event.Event.{Event}
+use Rattle.history.specs.declared.event.Event.TheVariants.{Park, Reply}
+use Rattle.history.specs.History.{by_reply, waits, runs, replied, phase, submission, submits, IsReplied}
+use Rattle.history.specs.Chains.{IsPlaced}
+use Rattle.history.specs.Legal.{Legal}
+use Rattle.history.proofs.Requests.{same_itself}
+use Rattle.steps.specs.declared.line.Line.{Line}
+use Rattle.steps.specs.declared.line.Line.TheVariants.{Did}
+use Rattle.steps.specs.declared.parcel.Parcel.{Parcel}
+use Rattle.steps.specs.declared.parcel.Thing.{Thing}
+use Rattle.steps.specs.declared.parcel.Thing.TheVariants.{Full}
+use Rattle.steps.specs.declared.view.Layout.{Layout}
+use Rattle.steps.specs.declared.view.Role.{Role}
+use Rattle.steps.specs.declared.view.View.{View}
+use Rattle.atomic_table.specs.Table.{State}
+use Rattle.history.specs.Legal.{Setup}
+use Rattle.history.specs.Pipes.{flow}
+use Rattle.history.specs.Answers.{is_pipe, OpAnswers}
+use Rattle.steps.specs.Cells.{setup_of}
+use Rattle.steps.specs.Plays.{Seated}
+use Rattle.steps.specs.declared.view.Role.TheVariants.{Idle, Busy, Leaving}
+use Rattle.steps.specs.Journal.{events_of, lent, holder, uses, touches, is_served}
+use Rattle.steps.specs.Cells.{IsCell, request_at, IsParcel, claim_at, slot_at, word_of, reply_bits, cause_bits}
+use Rattle.steps.specs.Rule.{workers, stands_for, apart, owns, Ruled, Extends}
+use Rattle.steps.specs.Plays.{MayReply, sure, replied_with, parked}
+use Rattle.steps.proofs.CellNumbers.{other_cell, other_age, one_word, one_result}
+use Rattle.steps.proofs.Served.{served_placed, serves_is}
+use Rattle.steps.proofs.PipesKept.{answer_stays, one_data, reply_leaves}
+use Rattle.steps.proofs.PipeSteps.{has_now}
+use Rattle.steps.proofs.Roles.{idle_apart, leaving_apart}
+use Rattle.steps.proofs.JournalGrowth.{begins, ran, counted_in, submission_lasts, placed_lasts}
+use Rattle.steps.proofs.Frames.{may_stays, ages_stay, done_keeps}
+use Rattle.steps.proofs.ClaimWords.{says_of, running_word, cause_fits}
+use Rattle.steps.proofs.RuleKept.{Calm, Turns, adds_claim, owned}
+use Rattle.steps.proofs.StepKinds.{now_is, tick, with_line, Does, There, seen_legal, lasts_now, busy_now, extends, ends_run, sures, Out, home_again}
+use Rattle.steps.proofs.LoadReleaseBegin.{quiet_line}
+
+module _ (slots id : ℕ) (me : Seated) where
+  abbrev v : View
+  v = me.0
+
+  abbrev L : Layout
+  L = v.layout
+
+  abbrev K : List ℕ
+  K = L.cells
+
+  abbrev S : Setup
+  S = setup_of L
+
+  abbrev St : Type 0
+  St = State (Option Thing) View
+
+  -- the parcel in the hand, as it was handed in
+  parcel_now : (s : St) (r : Ruled L s) → There slots id me s → (q : Req) (data' : List ℕ) (p : Parcel) → q.k < submits (events_of v.seen) q.ring → IsParcel v.seen q data' p → IsParcel r.past q data' p
+  parcel_now s r at q data' p c k = (k.0, lasts_now slots id me s r at (λ h. submission h q ≡ Some (record { entry = p.sqe; bytes = k.0; last = p.last })) q (submission_lasts S q _) c k.1, k.2)
+
+  -- a worker that has its pipe leaves with the request that it ran
+  leaves_run : (s : St) (r : Ruled L s) → There slots id me s → (l : Line) (q : Req) → begins l ≡ false → Legal S (events_of (l ∷ r.past)) → v.role ≡ Busy q → IsReplied (phase (events_of (l ∷ r.past)) q) → ((c : Req) → lent (l ∷ r.past) c ≡ lent r.past c) → Turns r.past l v (Leaving q)
+  leaves_run s r at l q calm legal busy over quiet = record {
+    has = (busy_now slots id me s r at q busy).0;
+    lends = λ c is. inr (sym (quiet c) ∙ is, λ z. absurd (let y = sym busy ∙ z in cc));
+    keeps = λ p c is own. subst (λ (z : Role). stands_for z (workers c) ≡ true) busy own;
+    busy = λ c is. absurd (cc);
+    leaving = λ c is. (let same' : q ≡ c = cc in subst (λ (z : Req). IsReplied (phase (events_of (l ∷ r.past)) z)) same' over);
+    running = λ c is. inr (ran S l r.past c legal calm is, λ z. (let same' : q ≡ c = (let y = sym busy ∙ z in cc) in absurd (subst IsReplied (ap (phase (events_of (l ∷ r.past))) same' ∙ is) over)));
+  }
+
+  module _ (x g : ℕ) (p : Parcel) (data' : List ℕ) (busy : v.role ≡ Busy (request_at K x g)) (inside : IsCell K x) (f : g < 16777216) (out : Out slots id me x (Some (Full p))) (given : IsParcel v.seen (request_at K x g) data' p) where
+    abbrev q : Req
+    q = request_at K x g
+
+    running_now : (s : St) (r : Ruled L s) → There slots id me s → (q.k < submits (events_of v.seen) q.ring) × (phase (events_of r.past) q ≡ runs) × (get_or s.words (claim_at x) 0 ≡ word_of Running 0 g 0)
+    running_now s r at = let b = busy_now slots id me s r at q busy in
+        (counted_in S v.seen q runs (seen_legal slots id me s r at) ((r.seats id v at).busy q busy).1 (λ e. cc), b.1, running_word K r.past x _ _ (r.cells x inside) g b.1)
+
+    own_line : (l : Line) → owns (Busy q) l ≡ true → owns v.role l ≡ true
+    own_line l w = subst (λ (z : Role). owns z l ≡ true) (sym busy) w
+
+    -- REPLY: the seat ends with this role
+    module _ (after : Req → Role) (e : Entry) (res : ℤ) (may : MayReply me x q e res data') where
+      -- what the seat ends with
+      abbrev Ends : Type 0
+      Ends = (s : St) (r : Ruled L s) → There slots id me s → Legal S (events_of (Did (Reply q res data') ∷ r.past)) → Turns r.past (Did (Reply q res data')) v (after q)
+
+      done : (h : List Event) → phase (Reply q res data' ∷ h) q ≡ replied by_reply res
+      done h = now_is _ _ _ (same_itself q)
+
+      served_now : (s : St) (r : Ruled L s) → There slots id me s → IsPlaced (events_of r.past) q e × (is_served e.op ≡ true)
+      served_now s r at =
+          let now = running_now s r at in let given' = parcel_now s r at q data' p now.0 given in
+          let e_now : IsPlaced (events_of r.past) q e = lasts_now slots id me s r at (λ h. IsPlaced h q e) q (placed_lasts S q e) now.0 may.placed_is in
+          let serves = serves_is L r.past q _ r.orderly given'.1 in let own : IsPlaced (events_of r.past) q p.sqe = served_placed (events_of r.past) q _ given'.1 serves.0 in let same' : p.sqe ≡ e = (let z = sym own ∙ e_now in cc) in
+          (e_now, subst (λ (z : Entry). is_served z.op ≡ true) same' serves.0)
+
+      -- the pipes that the entry names are as the seat left them
+      has_pipe : (s : St) (r : Ruled L s) → There slots id me s → (n : ℕ) → is_pipe L.caps n ≡ true → uses e.op n ≡ true → (holder r.past n ≡ Some q) × (flow (events_of r.past) n ≡ flow (events_of v.seen) n)
+      has_pipe s r at n there u = has_now slots id me s r at q n (subst (λ (z : Role). stands_for z (workers q) ≡ true) (sym busy) (same_itself q)) there (may.has n there u)
+
+      calm : (s : St) (r : Ruled L s) → There slots id me s → Calm L r.past (Did (Reply q res data'))
+      calm s r at = let k = served_now s r at in let a = answer_stays L.caps (events_of v.seen) q (events_of r.past) e.op res data' k.1 (λ n there u. (has_pipe s r at n there u).1) may.answers in record {
+        fair = λ n there t. (has_pipe s r at n there (sym (ap (λ o. touches o n) k.0) ∙ t)).0;
+        live = r.live;
+        clock = refl;
+        pipes = λ n. (refl, λ none'. reply_leaves L.caps (events_of r.past) q e n res data' k.0 a (λ there u. (let z = sym none' ∙ (has_pipe s r at n there u).0 in cc)) (flow (events_of r.past) n));
+      }
+
+      legal_now' : (s : St) (r : Ruled L s) → There slots id me s → Legal S (events_of (Did (Reply q res data') ∷ r.past))
+      legal_now' s r at = let k = served_now s r at in
+          ((r.live, ((running_now s r at).1, (e, k.0, answer_stays L.caps (events_of v.seen) q (events_of r.past) e.op res data' k.1 (λ n there u. (has_pipe s r at n there u).1) may.answers))), r.legal)
+
+      reply_does : (b old new : ℕ) → Ends → ((u : Role) → apart (Busy q) u ≡ true → apart (after q) u ≡ true) → new ≡ word_of Done (cause_bits by_reply (fails e res)) g b → b < 4294967296 → reply_bits res b
+          → (s : St) (r : Ruled L s) → There slots id me s → (get_or s.words (claim_at x) 0 ≡ word_of Running 0 g 0) × Does slots id me L s (claim_at x) new (replied_with after (step slots (claim_at x) old new none) me x q)
+      reply_does b old new ends spread is_new fb bits s r at =
+          let l : Line = Did (Reply q res data') in let now = running_now s r at in let k = served_now s r at in let w : View = with_line slots id me (claim_at x) s r.past l (after q) in
+          let here = says_of K r.past x _ _ Running 0 g 0 (r.cells x inside) now.2 (omega arith) f (omega arith) in let given' = parcel_now s r at q data' p now.0 given in
+          let legal = legal_now' s r at in (
+            now.2,
+            (
+              w,
+              gives,
+              tt,
+              home_again slots id me x new (Some (Full p)) s w out (adds_claim L s r id v (after q) x new (set s.homes (slot_at x) (some (Some (Full p)))) l (tick slots id me (claim_at x) s (l ∷ r.past)) inside refl (calm s r at)
+                  (ends s r at legal) legal at
+                  (λ i u other there. (let o = owned L s r id v l at (own_line l (same_itself q)) i u other there in (o.0, spread u.role (subst (λ (z : Role). apart z u.role ≡ true) busy o.1))))
+                  (λ y h other m. other_cell K x y g m inside h other) (λ w. refl) (length-set s.homes (slot_at x) (some (Some (Full p)))) (λ y other. set_else s.homes (slot_at x) y (some (Some (Full p))) other) record {
+                    tag = Done;
+                    cause = cause_bits by_reply (fails e res);
+                    gen = g;
+                    payload = b;
+                    fits = (cause_fits by_reply (fails e res), f, fb);
+                    word_is = is_new;
+                    says = (by_reply, res, e, done (events_of r.past), bits, k.0, refl, λ _. done_keeps (Reply q res data') r.past q _ (same_itself q) (p, set_here s.homes (slot_at x) (some (Some (Full p))) (r.deep x inside), given'));
+                    ages = ages_stay S l r.past legal K x g (λ n other. other_age K x g n inside other) here.1;
+                  }),
+              (λ g' c' b' res' e' d fg' fc' fb' bits' second placed' answer'. let o = one_word Done Done (cause_bits by_reply (fails e res)) g b c' g' b' (cause_fits by_reply (fails e res)) f fb fc' fg' fb' (sym is_new ∙ second) in
+                  let same_res : res ≡ res' = one_result res res' b bits (subst (reply_bits res') (sym o.3) bits') in let same_entry : e ≡ e' = (let z = sym may.placed_is ∙ placed' in cc) in
+                  let a : OpAnswers L.caps (events_of v.seen) q e.op res d = subst (λ (z : ℤ). OpAnswers L.caps (events_of v.seen) q e.op z d) (sym same_res) (subst (λ (z : Entry). OpAnswers L.caps (events_of v.seen) q z.op res' d) (sym same_entry) answer') in
+                  let same_data : data' ≡ d = one_data L.caps (events_of v.seen) q e.op res data' d k.1 may.answers a in
+                  subst (λ (z : ℤ × List ℕ). Extends v (Did (Reply q z.0 z.1)) (after q) w × (rest me.1 ≡ rest me.1)) (λ i. (same_res i, same_data i)) (extends slots id me s r at l (after q) legal r.live (calm s r at).fair (tick slots id me (claim_at x) s (l ∷ r.past)), refl)),
+              refl,
+            ),
+          )
+
+      allows : (M : Layout) (b old new : ℕ) → Ends → ((u : Role) → apart (Busy q) u ≡ true → apart (after q) u ≡ true) → old ≡ word_of Running 0 g 0 → new ≡ word_of Done (cause_bits by_reply (fails e res)) g b → b < 4294967296 → reply_bits res b
+          → Allows (Ruled M) slots id me (claim_at x) (λ n. either (eqb n old) new n) (sure Running (replied_with after) (step slots (claim_at x) old new none) me)
+      allows M b old new ends spread is_old is_new fb bits =
+          sures slots id me M Running (replied_with after) x 0 g 0 old new (λ z. (let y = sym busy ∙ z in cc)) (omega arith) f (omega arith) is_old (reply_does b old new ends spread is_new fb bits)
+
+    -- a worker without a pipe is idle after its reply
+    pub reply_allows : (M : Layout) (e : Entry) (b old new : ℕ) (res : ℤ) → MayReply me x q e res data' → ((n : ℕ) → holder v.seen n ≢ Some q) → old ≡ word_of Running 0 g 0 → new ≡ word_of Done (cause_bits by_reply (fails e res)) g b → b < 4294967296 → reply_bits res b
+        → Allows (Ruled M) slots id me (claim_at x) (λ n. either (eqb n old) new n) (sure Running (replied_with (λ r. Idle)) (step slots (claim_at x) old new none) me)
+    reply_allows M e b old new res may bare is_old is_new fb bits = allows (λ r. Idle) e res may M b old new
+        (λ s r at legal. ends_run slots id me s r at (Did (Reply q res data')) q refl legal busy (λ u. (let z = sym (done (λ r. Idle) e res may (events_of r.past)) ∙ u in cc)) bare (λ _. refl)) (λ u _. idle_apart u) is_old is_new fb bits
+
+    -- and one with its pipe leaves
+    pub reply_holding_allows : (M : Layout) (e : Entry) (b old new : ℕ) (res : ℤ) → MayReply me x q e res data' → old ≡ word_of Running 0 g 0 → new ≡ word_of Done (cause_bits by_reply (fails e res)) g b → b < 4294967296 → reply_bits res b
+        → Allows (Ruled M) slots id me (claim_at x) (λ n. either (eqb n old) new n) (sure Running (replied_with Leaving) (step slots (claim_at x) old new none) me)
+    reply_holding_allows M e b old new res may is_old is_new fb bits = allows Leaving e res may M b old new
+        (λ s r at legal. leaves_run s r at (Did (Reply q res data')) q refl legal busy (subst IsReplied (sym (done Leaving e res may (events_of r.past))) tt) (λ _. refl)) (leaving_apart q) is_old is_new fb bits
+
+    -- PARK
+    park_does : (old new : ℕ) → data' ≡ [] → ((n : ℕ) → holder v.seen n ≢ Some q) → new ≡ word_of Ready 0 g 0 → (s : St) (r : Ruled L s) → There slots id me s → (get_or s.words (claim_at x) 0 ≡ word_of Running 0 g 0) × Does slots id me L s (claim_at x) new (parked (step slots (claim_at x) old new none) me x q)
+    park_does old new none' bare is_new s r at =
+        let l : Line = Did (Park q) in let now = running_now s r at in let running = now.1 in
+        let here = says_of K r.past x _ _ Running 0 g 0 (r.cells x inside) now.2 (omega arith) f (omega arith) in
+        let legal : Legal S (events_of (l ∷ r.past)) = ((r.live, running), r.legal) in let waiting : phase (events_of (l ∷ r.past)) q ≡ waits = now_is _ _ _ (same_itself q) in (
+          now.2,
+          (
+            with_line slots id me (claim_at x) s r.past l Idle,
+            gives,
+            tt,
+            home_again slots id me x new (Some (Full p)) s (with_line slots id me (claim_at x) s r.past l Idle) out (adds_claim L s r id v Idle x new (set s.homes (slot_at x) (some (Some (Full p)))) l (tick slots id me (claim_at x) s (l ∷ r.past)) inside refl (quiet_line L r.past l tt r.live refl (λ p. (refl, refl)))
+                (ends_run slots id me s r at l q refl legal busy (λ u. (let z = sym waiting ∙ u in cc)) bare (λ _. refl)) legal at
+                (λ i u other there. ((owned L s r id v l at (own_line l (same_itself q)) i u other there).0, idle_apart u.role))
+                (λ y h other k. other_cell K x y g k inside h other) (λ w. refl) (length-set s.homes (slot_at x) (some (Some (Full p)))) (λ y other. set_else s.homes (slot_at x) y (some (Some (Full p))) other) record {
+                  tag = Ready;
+                  cause = 0;
+                  gen = g;
+                  payload = 0;
+                  fits = (omega arith, f, omega arith);
+                  word_is = is_new;
+                  says = (refl, refl, waiting, here.0.3, here.0.4, (p, set_here s.homes (slot_at x) (some (Some (Full p))) (r.deep x inside), subst (λ (d : List ℕ). IsParcel r.past q d p) none' (parcel_now s r at q data' p now.0 given)), may_stays S l r.past legal q (counted_in S r.past q runs r.legal running (λ e. cc)) here.0.5);
+                  ages = ages_stay S l r.past legal K x g (λ n other. other_age K x g n inside other) here.1;
+                }),
+            (extends slots id me s r at l Idle legal r.live tt (tick slots id me (claim_at x) s (l ∷ r.past)), refl),
+            refl,
+          ),
+        )
+
+    pub park_allows : (M : Layout) (old new : ℕ) → data' ≡ [] → ((n : ℕ) → holder v.seen n ≢ Some q) → old ≡ word_of Running 0 g 0 → new ≡ word_of Ready 0 g 0 → Allows (Ruled M) slots id me (claim_at x) (λ n. either (eqb n old) new n) (sure Running parked (step slots (claim_at x) old new none) me)
+    park_allows M old new none' bare is_old is_new = sures slots id me M Running parked x 0 g 0 old new (λ z. (let y = sym busy ∙ z in cc)) (omega arith) f (omega arith) is_old (park_does old new none' bare is_new)

@@ -1,0 +1,241 @@
+-- A step of one seat keeps the rule where it is right for its own cell and its own view.
+use Rattle.std.proofs.Common.{◌≡◌, ℕ, zero, suc, ◌+◌, ◌*◌, ◌<◌, ◌≤◌, ◌⊎◌, true, false, Option, Some, None, List, [], ◌∷◌, length, get_or, set, sym, refl, ap, ◌∙◌, subst, inl, ⊎_elim, arith, length-set, get_or-set_same, get_or-set_other}
+use mathlib.Core.Logic.{dite}
+use mathlib.Core.Option.{some, none, some-injective, some-ne-none}
+use mathlib.Core.Option as maybe
+use native.Mathlib.Decide.{ℕ_discrete}
+use lib.ListN.{get_elem?}
+use Rattle.atomic_table.specs.Table.{State}
+use Rattle.atomic_table.proofs.Lists.{at_set, set_else}
+use Rattle.history.specs.declared.event.Event.{Event}
+use Rattle.history.specs.declared.req.Req.{Req}
+use Rattle.history.specs.History.{phase, runs, clock_of, was_shut, IsReplied}
+use Rattle.history.specs.Pipes.{flow}
+use Rattle.history.specs.Legal.{Legal}
+use Rattle.steps.specs.declared.line.Line.{Line}
+use Rattle.steps.specs.declared.parcel.Thing.{Thing}
+use Rattle.steps.specs.declared.view.Layout.{Layout}
+use Rattle.steps.specs.declared.view.Role.{Role}
+use Rattle.steps.specs.declared.view.Role.TheVariants.{Busy, Leaving, Lending}
+use Rattle.steps.specs.declared.view.Step.{Step}
+use Rattle.steps.specs.declared.view.View.{View}
+use Rattle.steps.specs.Fairness.{Fair}
+use Rattle.steps.specs.Journal.{events_of, lent, noted, holder}
+use Rattle.steps.specs.Cells.{setup_of, IsCell, CellOk, PipeOk, Home, claim_at, note_at, pipe_at, slot_at}
+use Rattle.steps.specs.Rule.{workers, stands_for, owns, apart, AllBegin, SeatOk, parts_of, IsRunBy, IsHeldBy, IsLentBy, Knows, Ruled, seeing}
+use Rattle.steps.proofs.Roles.{apart_sym, others_own}
+use Rattle.steps.proofs.JournalGrowth.{replied_later}
+use Rattle.steps.proofs.Frames.{Quiet, cell_stays, pipe_stays}
+
+pub heard_more : (l : Line) (j : List Line) (xs : List (List Line)) → AllBegin j xs → AllBegin (l ∷ j) xs
+heard_more l j [] a = tt
+heard_more l j (x ∷ xs) a = ((l ∷ a.0.0, ap (λ (z : List Line). l ∷ z) a.0.1), heard_more l j xs a.1)
+
+pub at_now : (vs : List View) (id : ℕ) (v w : View) → get_elem? vs id ≡ some v → get_elem? (set vs id w) id ≡ some w
+at_now [] id v w e = absurd (some-ne-none v (sym e))
+at_now (x ∷ vs) zero v w e = refl
+at_now (x ∷ vs) (suc id) v w e = at_now vs id v w e
+
+pub parts_set : (vs : List View) (id : ℕ) (v w : View) → get_elem? vs id ≡ some v → parts_of (set vs id w) + v.parts ≡ parts_of vs + w.parts
+parts_set [] id v w e = absurd (some-ne-none v (sym e))
+parts_set (x ∷ vs) zero v w e = let same : x.parts ≡ v.parts = ap (λ (z : View). z.parts) (some-injective x v e) in omega arith
+parts_set (x ∷ vs) (suc id) v w e = let i = parts_set vs id v w e in omega arith
+
+-- who ran or held goes on so where the one seat that changes keeps its part in it
+pub run_set : (vs : List View) (id : ℕ) (v w : View) (q : Req) → get_elem? vs id ≡ some v → (v.role ≡ Busy q → w.role ≡ Busy q) → IsRunBy vs q → IsRunBy (set vs id w) q
+run_set vs id v w q there same by = dite (ℕ_discrete by.0 id)
+    (λ e. let at : get_elem? vs id ≡ some by.1 = subst (λ (z : ℕ). get_elem? vs z ≡ some by.1) e by.2 in let one : by.1 ≡ v = some-injective by.1 v (sym at ∙ there) in
+    (id, w, at_now vs id v w there, same (ap (λ (z : View). z.role) (sym one) ∙ by.3)))
+    (λ n. (by.0, by.1, set_else vs id by.0 w n ∙ by.2, by.3))
+
+pub held_set : (vs : List View) (id : ℕ) (v w : View) (q : Req) → get_elem? vs id ≡ some v → (stands_for v.role (workers q) ≡ true → stands_for w.role (workers q) ≡ true) → IsHeldBy vs q → IsHeldBy (set vs id w) q
+held_set vs id v w q there same by = dite (ℕ_discrete by.0 id)
+    (λ e. let at : get_elem? vs id ≡ some by.1 = subst (λ (z : ℕ). get_elem? vs z ≡ some by.1) e by.2 in let one : by.1 ≡ v = some-injective by.1 v (sym at ∙ there) in
+    (id, w, at_now vs id v w there, same (subst (λ (z : View). stands_for z.role (workers q) ≡ true) one by.3)))
+    (λ n. (by.0, by.1, set_else vs id by.0 w n ∙ by.2, by.3))
+
+pub lent_set : (vs : List View) (id : ℕ) (v w : View) (q : Req) → get_elem? vs id ≡ some v → (v.role ≡ Lending q → w.role ≡ Lending q) → IsLentBy vs q → IsLentBy (set vs id w) q
+lent_set vs id v w q there same by = dite (ℕ_discrete by.0 id)
+    (λ e. let at : get_elem? vs id ≡ some by.1 = subst (λ (z : ℕ). get_elem? vs z ≡ some by.1) e by.2 in let one : by.1 ≡ v = some-injective by.1 v (sym at ∙ there) in
+    (id, w, at_now vs id v w there, same (ap (λ (z : View). z.role) (sym one) ∙ by.3)))
+    (λ n. (by.0, by.1, set_else vs id by.0 w n ∙ by.2, by.3))
+
+abbrev pub IsKnown : List View → List Event → Type 0
+IsKnown vs j = (i : ℕ) × (v : View) × (get_elem? vs i ≡ some v) × (0 < v.parts) × Knows v j
+
+-- who knew all still does where the one seat that changes goes on knowing it
+pub known_set : (vs : List View) (id : ℕ) (v w : View) (j : List Event) → get_elem? vs id ≡ some v → (0 < v.parts → Knows v j → (0 < w.parts) × Knows w j) → IsKnown vs j → IsKnown (set vs id w) j
+known_set vs id v w j there same by = dite (ℕ_discrete by.0 id)
+    (λ e. let at : get_elem? vs id ≡ some by.1 = subst (λ (z : ℕ). get_elem? vs z ≡ some by.1) e by.2 in let one : by.1 ≡ v = some-injective by.1 v (sym at ∙ there) in
+    let k = same (subst (λ (z : View). 0 < z.parts) one by.3) (subst (λ (z : View). Knows z j) one by.4) in (id, w, at_now vs id v w there, k.0, k.1))
+    (λ n. (by.0, by.1, set_else vs id by.0 w n ∙ by.2, by.3, by.4))
+
+-- the line leaves the clock and the pipes that are at home
+pub record Calm (L : Layout) (past : List Line) (l : Line) : Type 0 where
+  pub fair : Fair L past l
+  pub live : was_shut (events_of (l ∷ past)) ≡ false
+  pub clock : clock_of (events_of (l ∷ past)) ≡ clock_of (events_of past)
+  pub pipes : (p : ℕ) → (holder (l ∷ past) p ≡ holder past p) × (holder past p ≡ None → flow (events_of (l ∷ past)) p ≡ flow (events_of past) p)
+
+-- what the seat's new role owes: it keeps its pipes, runs only what runs, and leaves only what was answered
+pub record Turns (past : List Line) (l : Line) (v : View) (role : Role) : Type 0 where
+  pub keeps : (p : ℕ) (q : Req) → holder past p ≡ Some q → stands_for v.role (workers q) ≡ true → stands_for role (workers q) ≡ true
+  pub has : 0 < v.parts
+  pub busy : (q : Req) → role ≡ Busy q → phase (events_of (l ∷ past)) q ≡ runs
+  pub leaving : (q : Req) → role ≡ Leaving q → IsReplied (phase (events_of (l ∷ past)) q)
+  pub lends : (q : Req) → lent (l ∷ past) q ≡ true → (role ≡ Lending q) ⊎ ((lent past q ≡ true) × (v.role ≡ Lending q → role ≡ Lending q))
+  pub running : (q : Req) → phase (events_of (l ∷ past)) q ≡ runs → (role ≡ Busy q) ⊎ ((phase (events_of past) q ≡ runs) × (v.role ≡ Busy q → role ≡ Busy q))
+
+module _ (L : Layout) where
+  abbrev pub K : List ℕ
+  K = L.cells
+
+  abbrev pub St : Type 0
+  St = State (Option Thing) View
+
+  pub seat_stays : (l : Line) (j : List Line) (v : View) → owns v.role l ≡ false → SeatOk L j v → SeatOk L (l ∷ j) v
+  seat_stays l j v n s = record {
+    layout = s.layout;
+    saw = record { later = l ∷ s.saw.later; is = ap (λ (z : List Line). l ∷ z) s.saw.is; none = (n, s.saw.none) };
+    heard = heard_more l j v.heard s.heard;
+    busy = s.busy;
+    leaving = s.leaving;
+    lending = s.lending;
+  }
+
+  pub seat_sees : (j : List Line) (t : List Step) (v : View) (role : Role) → v.layout ≡ L → ((q : Req) → role ≡ Busy q → (0 < v.parts) × (phase (events_of j) q ≡ runs)) → ((q : Req) → role ≡ Leaving q → (0 < v.parts) × IsReplied (phase (events_of j) q)) → ((q : Req) → role ≡ Lending q → 0 < v.parts) → SeatOk L j (seeing v role j t)
+  seat_sees j t v role layout busy leaving lending = record { layout = λ _. layout; saw = record { later = []; is = refl; none = tt }; heard = tt; busy = busy; leaving = leaving; lending = lending }
+
+  -- what a seat that leaves its request is known to have
+  pub left_now : (s : St) (r : Ruled L s) (i : ℕ) (u : View) → get_elem? s.views i ≡ some u → (q : Req) → u.role ≡ Leaving q → (0 < u.parts) × IsReplied (phase (events_of r.past) q)
+  left_now s r i u at q is = let seat = r.seats i u at in let l = seat.leaving q is in
+      (l.0, subst (λ z. IsReplied (phase (events_of z) q)) (sym seat.saw.is) (replied_later (setup_of L) seat.saw.later u.seen q (subst (λ z. Legal (setup_of L) (events_of z)) seat.saw.is r.legal) l.1))
+
+  roles_set : (vs : List View) (id : ℕ) (w : View) → ((i l : ℕ) (a b : View) → get_elem? vs i ≡ some a → get_elem? vs l ≡ some b → ¬ (i ≡ l) → apart a.role b.role ≡ true)
+      → ((l : ℕ) (u : View) → ¬ (l ≡ id) → get_elem? vs l ≡ some u → apart w.role u.role ≡ true)
+      → (i l : ℕ) (a b : View) → get_elem? (set vs id w) i ≡ some a → get_elem? (set vs id w) l ≡ some b → ¬ (i ≡ l) → apart a.role b.role ≡ true
+  roles_set vs id w old new i l a b p q n = ⊎_elim
+      (λ (t : (i ≡ id) × (w ≡ a)). ⊎_elim
+      (λ (u : (l ≡ id) × (w ≡ b)). absurd (n (t.0 ∙ sym u.0)))
+      (λ (u : (¬ (l ≡ id)) × (get_elem? vs l ≡ some b)). subst (λ (z : View). apart z.role b.role ≡ true) t.1 (new l b u.0 u.1)) (at_set vs id l w b q))
+      (λ (t : (¬ (i ≡ id)) × (get_elem? vs i ≡ some a)). ⊎_elim
+      (λ (u : (l ≡ id) × (w ≡ b)). subst (λ (z : View). apart a.role z.role ≡ true) u.1 (apart_sym w.role a.role (new i a t.0 t.1)))
+      (λ (u : (¬ (l ≡ id)) × (get_elem? vs l ≡ some b)). old i l a b t.1 u.1 n) (at_set vs id l w b q)) (at_set vs id i w a p)
+
+  seats_set : (vs : List View) (id : ℕ) (w : View) (j : List Line) → SeatOk L j w → ((l : ℕ) (u : View) → ¬ (l ≡ id) → get_elem? vs l ≡ some u → SeatOk L j u)
+      → (l : ℕ) (u : View) → get_elem? (set vs id w) l ≡ some u → SeatOk L j u
+  seats_set vs id w j mine others l u p = ⊎_elim (λ (t : (l ≡ id) × (w ≡ u)). subst (SeatOk L j) t.1 mine) (λ (t : (¬ (l ≡ id)) × (get_elem? vs l ≡ some u)). others l u t.0 t.1) (at_set vs id l w u p)
+
+  -- one line more, about the cell x
+  pub adds : (s : St) (r : Ruled L s) (id : ℕ) (v : View) (role : Role) (x : ℕ) (words' : List ℕ) (homes' : List (maybe.Option (Option Thing))) (l : Line) (t : List Step)
+      → v.layout ≡ L → Calm L r.past l → Turns r.past l v role → Legal (setup_of L) (events_of (l ∷ r.past)) → get_elem? s.views id ≡ some v
+      → ((i : ℕ) (u : View) → ¬ (i ≡ id) → get_elem? s.views i ≡ some u → (owns u.role l ≡ false) × (apart role u.role ≡ true))
+      → ((y : ℕ) → IsCell K y → ¬ (y ≡ x) → Quiet K l y)
+      → length words' ≡ length s.words → ((y : ℕ) → ¬ (y ≡ x) → get_or words' (claim_at y) 0 ≡ get_or s.words (claim_at y) 0) → ((y : ℕ) → y < 72 → get_or words' y 0 ≡ get_or s.words y 0)
+      → ((y i : ℕ) → IsCell K y → i < 7 → get_or words' (note_at y i) 0 ≡ noted (l ∷ r.past) (note_at y i))
+      → length homes' ≡ length s.homes → ((y : ℕ) → ¬ (y ≡ slot_at x) → get_elem? homes' y ≡ get_elem? s.homes y)
+      → CellOk K (l ∷ r.past) x (get_or words' (claim_at x) 0) (get_elem? homes' (slot_at x))
+      → Ruled L record { words = words'; homes = homes'; views = set s.views id (seeing v role (l ∷ r.past) t) }
+  adds s r id v role x words' homes' l t layout calm turns legal there others quiet wide words low notes deep slots own = record {
+    past = l ∷ r.past;
+    legal = legal;
+    live = calm.live;
+    orderly = (calm.fair, r.orderly);
+    wide = λ y h. subst (λ (m : ℕ). claim_at y + 7 < m) (sym wide) (r.wide y h);
+    deep = λ y h. subst (λ (m : ℕ). slot_at y < m) (sym deep) (r.deep y h);
+    room = (let a = r.room in (omega arith, omega arith));
+    cells = λ y h. dite (ℕ_discrete y x)
+        (λ same. subst (λ (z : ℕ). CellOk K (l ∷ r.past) z (get_or words' (claim_at z) 0) (get_elem? homes' (slot_at z))) (sym same) own)
+        (λ other. subst (λ (z : ℕ × Home). CellOk K (l ∷ r.past) y z.0 z.1) (λ i. (sym (words y other) i, sym (slots (slot_at y) (omega arith)) i)) (cell_stays (setup_of L) l r.past legal K y _ _ (quiet y h other) (r.cells y h)));
+    notes = notes;
+    clock = low 0 (omega arith) ∙ (r.clock ∙ sym calm.clock);
+    pipes = λ p h. subst (λ (z : ℕ × Home). PipeOk L.caps (l ∷ r.past) p z.0 z.1) (λ i. (sym (low (pipe_at p) (omega arith)) i, sym (slots p (omega arith)) i)) (pipe_stays L.caps l r.past p _ _ (calm.pipes p).0 (calm.pipes p).1 (r.pipes p h));
+    seats = seats_set s.views id (seeing v role (l ∷ r.past) t) (l ∷ r.past) (seat_sees (l ∷ r.past) t v role layout (λ q is. (turns.has, turns.busy q is)) (λ q is. (turns.has, turns.leaving q is)) (λ q is. turns.has)) (λ i u apart' at. seat_stays l r.past u (others i u apart' at).0 (r.seats i u at));
+    roles = roles_set s.views id (seeing v role (l ∷ r.past) t) r.roles (λ i u apart' at. (others i u apart' at).1);
+    run = λ q is. ⊎_elim (λ (mine : role ≡ Busy q). (id, seeing v role (l ∷ r.past) t, at_now s.views id v (seeing v role (l ∷ r.past) t) there, mine))
+        (λ (k : (phase (events_of r.past) q ≡ runs) × (v.role ≡ Busy q → role ≡ Busy q)). run_set s.views id v (seeing v role (l ∷ r.past) t) q there k.1 (r.run q k.0)) (turns.running q is);
+    held_by = λ p q is. (let old : holder r.past p ≡ Some q = sym (calm.pipes p).0 ∙ is in held_set s.views id v (seeing v role (l ∷ r.past) t) q there (turns.keeps p q old) (r.held_by p q old));
+    lent_by = λ q is. ⊎_elim (λ (mine : role ≡ Lending q). (id, seeing v role (l ∷ r.past) t, at_now s.views id v (seeing v role (l ∷ r.past) t) there, mine))
+        (λ (k : (lent r.past q ≡ true) × (v.role ≡ Lending q → role ≡ Lending q)). lent_set s.views id v (seeing v role (l ∷ r.past) t) q there k.1 (r.lent_by q k.0)) (turns.lends q is);
+    parts = (let p = parts_set s.views id v (seeing v role (l ∷ r.past) t) there in let old = r.parts in omega arith);
+    newest = (id, seeing v role (l ∷ r.past) t, at_now s.views id v (seeing v role (l ∷ r.past) t) there, turns.has, inl refl);
+  }
+
+  -- the same where the claim word of x becomes n
+  pub adds_claim : (s : St) (r : Ruled L s) (id : ℕ) (v : View) (role : Role) (x n : ℕ) (homes' : List (maybe.Option (Option Thing))) (l : Line) (t : List Step)
+      → IsCell K x → v.layout ≡ L → Calm L r.past l → Turns r.past l v role → Legal (setup_of L) (events_of (l ∷ r.past)) → get_elem? s.views id ≡ some v
+      → ((i : ℕ) (u : View) → ¬ (i ≡ id) → get_elem? s.views i ≡ some u → (owns u.role l ≡ false) × (apart role u.role ≡ true))
+      → ((y : ℕ) → IsCell K y → ¬ (y ≡ x) → Quiet K l y) → ((w : ℕ) → noted (l ∷ r.past) w ≡ noted r.past w)
+      → length homes' ≡ length s.homes → ((y : ℕ) → ¬ (y ≡ slot_at x) → get_elem? homes' y ≡ get_elem? s.homes y)
+      → CellOk K (l ∷ r.past) x n (get_elem? homes' (slot_at x))
+      → Ruled L record { words = set s.words (claim_at x) n; homes = homes'; views = set s.views id (seeing v role (l ∷ r.past) t) }
+  adds_claim s r id v role x n homes' l t inside layout calm turns legal there others quiet silent deep slots own =
+      adds s r id v role x (set s.words (claim_at x) n) homes' l t layout calm turns legal there others quiet (length-set s.words (claim_at x) n)
+      (λ y other. get_or-set_other s.words (claim_at x) (claim_at y) n 0 (omega arith)) (λ y h. get_or-set_other s.words (claim_at x) y n 0 (omega arith))
+      (λ y i h small. get_or-set_other s.words (claim_at x) (note_at y i) n 0 (omega arith) ∙ (r.notes y i h small ∙ sym (silent (note_at y i)))) deep slots
+      (subst (λ (m : ℕ). CellOk K (l ∷ r.past) x m (get_elem? homes' (slot_at x))) (sym (get_or-set_same s.words (claim_at x) n 0 (let w = r.wide x inside in omega arith))) own)
+
+  -- one line more, about no cell: the words and slots of the cells stay, and the seat's view becomes w
+  pub adds_else : (s : St) (r : Ruled L s) (id : ℕ) (v w : View) (words' : List ℕ) (homes' : List (maybe.Option (Option Thing))) (l : Line)
+      → Fair L r.past l → Legal (setup_of L) (events_of (l ∷ r.past)) → was_shut (events_of (l ∷ r.past)) ≡ false → get_elem? s.views id ≡ some v → SeatOk L (l ∷ r.past) w → w.parts ≡ v.parts
+      → ((i : ℕ) (u : View) → ¬ (i ≡ id) → get_elem? s.views i ≡ some u → (owns u.role l ≡ false) × (apart w.role u.role ≡ true))
+      → ((y : ℕ) → IsCell K y → Quiet K l y)
+      → length words' ≡ length s.words → ((y : ℕ) → get_or words' (claim_at y) 0 ≡ get_or s.words (claim_at y) 0) → ((y i : ℕ) → IsCell K y → i < 7 → get_or words' (note_at y i) 0 ≡ noted (l ∷ r.past) (note_at y i))
+      → get_or words' 0 0 ≡ clock_of (events_of (l ∷ r.past))
+      → length homes' ≡ length s.homes → ((y : ℕ) → get_elem? homes' (slot_at y) ≡ get_elem? s.homes (slot_at y))
+      → ((p : ℕ) → p < 64 → PipeOk L.caps (l ∷ r.past) p (get_or words' (pipe_at p) 0) (get_elem? homes' p))
+      → ((q : Req) → phase (events_of (l ∷ r.past)) q ≡ runs → IsRunBy (set s.views id w) q)
+      → ((p : ℕ) (q : Req) → holder (l ∷ r.past) p ≡ Some q → IsHeldBy (set s.views id w) q)
+      → ((q : Req) → lent (l ∷ r.past) q ≡ true → IsLentBy (set s.views id w) q)
+      → IsKnown (set s.views id w) (events_of (l ∷ r.past))
+      → Ruled L record { words = words'; homes = homes'; views = set s.views id w }
+  adds_else s r id v w words' homes' l fair legal live there ok parts others quiet wide words notes clock deep slots pipes run held lent newest = record {
+    past = l ∷ r.past;
+    legal = legal;
+    live = live;
+    orderly = (fair, r.orderly);
+    wide = λ y h. subst (λ (m : ℕ). claim_at y + 7 < m) (sym wide) (r.wide y h);
+    deep = λ y h. subst (λ (m : ℕ). slot_at y < m) (sym deep) (r.deep y h);
+    room = (let a = r.room in (omega arith, omega arith));
+    cells = λ y h. subst (λ (z : ℕ × Home). CellOk K (l ∷ r.past) y z.0 z.1) (λ i. (sym (words y) i, sym (slots y) i)) (cell_stays (setup_of L) l r.past legal K y _ _ (quiet y h) (r.cells y h));
+    notes = notes;
+    clock = clock;
+    pipes = pipes;
+    seats = seats_set s.views id w (l ∷ r.past) ok (λ i u apart' at. seat_stays l r.past u (others i u apart' at).0 (r.seats i u at));
+    roles = roles_set s.views id w r.roles (λ i u apart' at. (others i u apart' at).1);
+    run = run;
+    held_by = held;
+    lent_by = lent;
+    parts = (let p = parts_set s.views id v w there in let old = r.parts in omega arith);
+    newest = newest;
+  }
+
+  -- the same by a seat that keeps its role, where the line is its own
+  pub owned : (s : St) (r : Ruled L s) (id : ℕ) (v : View) (l : Line) → get_elem? s.views id ≡ some v → owns v.role l ≡ true
+      → (i : ℕ) (u : View) → ¬ (i ≡ id) → get_elem? s.views i ≡ some u → (owns u.role l ≡ false) × (apart v.role u.role ≡ true)
+  owned s r id v l at own i u other there = let a : apart v.role u.role ≡ true = r.roles id i v u at there (λ e. other (sym e)) in (others_own v.role u.role l a own, a)
+
+  -- no line: no word changes
+  pub looks : (s : St) (r : Ruled L s) (id : ℕ) (v : View) (i n : ℕ) (t : List Step) → get_elem? s.views id ≡ some v → v.layout ≡ L
+      → ((q : Req) → v.role ≡ Busy q → (0 < v.parts) × (phase (events_of r.past) q ≡ runs)) → set s.words i n ≡ s.words
+      → Ruled L record { words = set s.words i n; homes = s.homes; views = set s.views id (seeing v v.role r.past t) }
+  looks s r id v i n t at layout busy same = record {
+    past = r.past;
+    legal = r.legal;
+    live = r.live;
+    orderly = r.orderly;
+    wide = λ y h. subst (λ (m : ℕ). claim_at y + 7 < m) (sym (length-set s.words i n)) (r.wide y h);
+    deep = r.deep;
+    room = subst (λ z. (72 ≤ length z) × (64 ≤ length s.homes)) (sym same) r.room;
+    cells = λ y h. subst (λ (m : ℕ). CellOk K r.past y m (get_elem? s.homes (slot_at y))) (sym (ap (λ z. get_or z (claim_at y) 0) same)) (r.cells y h);
+    notes = λ y k h small. ap (λ z. get_or z (note_at y k) 0) same ∙ r.notes y k h small;
+    clock = ap (λ z. get_or z 0 0) same ∙ r.clock;
+    pipes = λ p h. subst (λ z. PipeOk L.caps r.past p (get_or z (pipe_at p) 0) (get_elem? s.homes p)) (sym same) (r.pipes p h);
+    seats = seats_set s.views id (seeing v v.role r.past t) r.past (seat_sees r.past t v v.role layout busy (left_now s r id v at) (r.seats id v at).lending) (λ l u _ there. r.seats l u there);
+    roles = roles_set s.views id (seeing v v.role r.past t) r.roles (λ l u other there. r.roles id l v u at there (λ e. other (sym e)));
+    run = λ q is. run_set s.views id v (seeing v v.role r.past t) q at (λ z. z) (r.run q is);
+    held_by = λ p q is. held_set s.views id v (seeing v v.role r.past t) q at (λ z. z) (r.held_by p q is);
+    lent_by = λ q is. lent_set s.views id v (seeing v v.role r.past t) q at (λ z. z) (r.lent_by q is);
+    parts = (let p = parts_set s.views id v (seeing v v.role r.past t) at in let old = r.parts in omega arith);
+    newest = known_set s.views id v (seeing v v.role r.past t) (events_of r.past) at (λ has _. (has, inl refl)) r.newest;
+  }

@@ -1,0 +1,320 @@
+-- How a kind of step is proved: what the seat does at the state found is turned into what the table asks of the step.
+use Rattle.std.proofs.Common.{◌≡◌, ◌≢◌, ℕ, ◌+◌, ◌*◌, ◌<◌, ◌⊎◌, ⊎_elim, Bool, true, false, cond, Option, Some, None, ℤ, List, [], ◌∷◌, ◌++◌, get_or, set, sym, refl, ap, ◌∙◌, subst, arith, eqb, true≢false}
+use mathlib.Core.Option.{some, none}
+use mathlib.Core.Logic.{dite}
+use native.Mathlib.Decide.{ℕ_discrete}
+use lib.ListN.{get_elem?}
+use lib.Seq.{set-get_or}
+use prog.Atomic.{either}
+use Rattle.atomic_table.specs.Table.{State, step, Act, keeps, gives, stepped, Allows, Valid, carried_after, rest}
+use Rattle.atomic_table.proofs.Lists.{exchanged}
+use Rattle.claim.specs.declared.tag.Tag.{Tag}
+use Rattle.claim.specs.declared.tag.Tag.TheVariants.{Empty, Running}
+use Rattle.history.specs.declared.req.Req.{Req}
+use Rattle.history.specs.declared.event.Event.{Event}
+use Rattle.history.specs.History.{Cause, Phase, unborn, replied, reaped, same, phase, runs, submits, was_shut, data_of, IsReplied}
+use Rattle.history.specs.Legal.{Setup, Legal}
+use Rattle.history.proofs.Requests.{same_itself, same_true, same_false}
+use Rattle.history.proofs.Growth.{unborn_yet}
+use Rattle.steps.specs.declared.line.Line.{Line}
+use Rattle.steps.specs.declared.parcel.Parcel.{Parcel}
+use Rattle.steps.specs.declared.parcel.Thing.{Thing}
+use Rattle.steps.specs.declared.parcel.Thing.TheVariants.{Full}
+use Rattle.steps.specs.declared.view.Layout.{Layout}
+use Rattle.steps.specs.declared.view.Role.{Role}
+use Rattle.steps.specs.declared.view.Role.TheVariants.{Idle, Busy, Leaving, Spent}
+use Rattle.steps.specs.declared.view.Step.{Step}
+use Rattle.steps.specs.declared.view.View.{View}
+use Rattle.steps.specs.Fairness.{Fair, Orderly, IsFree, IsReaped}
+use Rattle.steps.specs.Journal.{events_of, freed, lent, noted, holder}
+use Rattle.steps.specs.Cells.{setup_of, IsCell, ring_of, request_at, CellOk, Ages, claim_at, note_at, slot_at, word_of}
+use Rattle.steps.specs.Rule.{workers, rings, stands_for, NoneOf, Vacant, Ruled, seeing, IsStep, Extends}
+use Rattle.steps.specs.Plays.{Seated, At, looked, noticed, tried, tried_running, sure}
+use Rattle.steps.proofs.CellNumbers.{one_word}
+use Rattle.steps.proofs.Roles.{same_sym, worker_is}
+use Rattle.steps.proofs.JournalGrowth.{begins, ran, replied_by, legal_before, still_runs, still_reaped, still_replied, still_data, same_submits, same_lent, Lasting, lasts}
+use Rattle.steps.proofs.Frames.{still_lacks}
+use Rattle.steps.proofs.FreeCells.{free_by, same_noted}
+use Rattle.steps.proofs.ClaimWords.{certain, empty_word, says_of}
+use Rattle.steps.proofs.RuleKept.{Turns, looks, left_now}
+
+abbrev pub in_hand : List (ℕ × Option Thing) → Option Thing
+in_hand [] = None
+in_hand (x ∷ xs) = x.1
+
+pub same_parcel : (p q : Parcel) → Some (Full p) ≡ Some (Full q) → p ≡ q
+same_parcel p q e = cc
+
+pub either_way : (n m : ℕ) (A : Type 0) → (n ≡ m → A) → (n ≢ m → A) → A
+either_way n m A hit miss = dite (ℕ_discrete n m) hit miss
+
+-- the place after an event of the request
+pub now_is : (b : Bool) (p q : Phase) → b ≡ true → cond b p q ≡ p
+now_is b p q e = ap (λ (z : Bool). cond z p q) e
+
+pub two_requests : (h : List Event) (a b : Req) (p q : Phase) → phase h a ≡ p → phase h b ≡ q → p ≢ q → same a b ≡ false
+two_requests h a b p q x y n = same_false a b (λ e. n (sym x ∙ (ap (phase h) e ∙ y)))
+
+module _ (slots id : ℕ) (me : Seated) where
+  abbrev pub v : View
+  v = me.0
+
+  abbrev pub L : Layout
+  L = v.layout
+
+  abbrev pub K : List ℕ
+  K = L.cells
+
+  abbrev pub S : Setup
+  S = setup_of L
+
+  abbrev pub St : Type 0
+  St = State (Option Thing) View
+
+  abbrev pub There : St → Type 0
+  There s = get_elem? s.views id ≡ some v
+
+  -- the steps of the seat with one more, at the word i
+  abbrev pub ticked : ℕ → ℕ → List Line → List Step
+  ticked i n j = record { word = i; found = n; seen = j } ∷ v.steps
+
+  abbrev pub tick : ℕ → St → List Line → List Step
+  tick i s j = ticked i (get_or s.words i 0) j
+
+  -- the view after a step that adds the line l
+  abbrev pub with_line : ℕ → St → List Line → Line → Role → View
+  with_line i s j l role = seeing v role (l ∷ j) (tick i s (l ∷ j))
+
+  -- what the seat does at the state s, where the word i becomes n
+  abbrev pub Does : Layout → St → ℕ → ℕ → (Seated → Type 0) → Type 0
+  Does M s i n then = (w : View) × (a : Act (Option Thing)) × Valid s.homes me.1 a × Ruled M (stepped s i n id me.1 w a) × then (w, carried_after me.1 a) × IsStep i (get_or s.words i 0) v w
+
+  -- the table's layout is the view's
+  pub shaped : (M : Layout) (i : ℕ) (f : ℕ → ℕ) (then : ℕ → Seated → Type 0) → v.role ≢ Spent
+      → ((s : St) → Ruled L s → There s → Does L s i (f (get_or s.words i 0)) (then (get_or s.words i 0))) → Allows (Ruled M) slots id me i f then
+  shaped M i f then live goes s r long at small = let e = (r.seats id v at).layout live in let g = goes s (subst (λ (z : Layout). Ruled z s) (sym e) r) at in
+      (g.0, g.1, g.2, subst (λ (z : Layout). Ruled z (stepped s i (f (get_or s.words i 0)) id me.1 g.0 g.1)) e g.3, g.4)
+
+  -- what the seat saw and is still so
+  module _ (s : St) (r : Ruled L s) (at : There s) where
+    abbrev pub later : List Line
+    later = (r.seats id v at).saw.later
+
+    pub past_is : r.past ≡ later ++ v.seen
+    past_is = (r.seats id v at).saw.is
+
+    pub legal_now : Legal S (events_of (later ++ v.seen))
+    legal_now = subst (λ z. Legal S (events_of z)) past_is r.legal
+
+    pub live_now : was_shut (events_of (later ++ v.seen)) ≡ false
+    live_now = subst (λ z. was_shut (events_of z) ≡ false) past_is r.live
+
+    pub none_now : NoneOf v.role later
+    none_now = (r.seats id v at).saw.none
+
+    pub seen_legal : Legal S (events_of v.seen)
+    seen_legal = legal_before S later v.seen legal_now
+
+    pub lasts_now : (P : List Event → Type 0) (q : Req) → Lasting S P q → q.k < submits (events_of v.seen) q.ring → P (events_of v.seen) → P (events_of r.past)
+    lasts_now P q k c p = subst (λ z. P (events_of z)) (sym past_is) (lasts S P q k later v.seen legal_now c p)
+
+    pub lent_now : (q : Req) (b : Bool) → stands_for v.role (rings q.ring) ≡ true → lent v.seen q ≡ b → lent r.past q ≡ b
+    lent_now q b mine is = ap (λ z. lent z q) past_is ∙ (same_lent v.role q.ring mine q refl later v.seen none_now ∙ is)
+
+    pub submits_now : (i : ℕ) → stands_for v.role (rings i) ≡ true → submits (events_of r.past) i ≡ submits (events_of v.seen) i
+    submits_now i mine = ap (λ z. submits (events_of z) i) past_is ∙ same_submits v.role i mine later v.seen none_now
+
+    pub reaped_now : (q : Req) (c : Cause) (res : ℤ) → phase (events_of v.seen) q ≡ reaped c res → phase (events_of r.past) q ≡ reaped c res
+    reaped_now q c res is = subst (λ z. phase (events_of z) q ≡ reaped c res) (sym past_is) (still_reaped S q v.role c res later v.seen legal_now live_now none_now is)
+
+    pub replied_now : (q : Req) (c : Cause) (res : ℤ) → stands_for v.role (rings q.ring) ≡ true → phase (events_of v.seen) q ≡ replied c res → phase (events_of r.past) q ≡ replied c res
+    replied_now q c res mine is = subst (λ z. phase (events_of z) q ≡ replied c res) (sym past_is) (still_replied S q v.role c res mine later v.seen legal_now live_now none_now is)
+
+    pub data_now : (q : Req) (c : Cause) (res : ℤ) → stands_for v.role (rings q.ring) ≡ true → phase (events_of v.seen) q ≡ replied c res → data_of (events_of r.past) q ≡ data_of (events_of v.seen) q
+    data_now q c res mine is = ap (λ z. data_of (events_of z) q) past_is ∙ still_data S q v.role c res mine later v.seen legal_now live_now none_now is
+
+    pub busy_now : (q : Req) → v.role ≡ Busy q → (0 < v.parts) × (phase (events_of r.past) q ≡ runs)
+    busy_now q is = let b = (r.seats id v at).busy q is in
+        (b.0, subst (λ z. phase (events_of z) q ≡ runs) (sym past_is) (still_runs S q later v.seen legal_now live_now (subst (λ (z : Role). NoneOf z later) is none_now) b.1))
+
+    pub lacks_now : (q : Req) (p : ℕ) → stands_for v.role (workers q) ≡ true → holder v.seen p ≢ Some q → holder r.past p ≢ Some q
+    lacks_now q p mine n = λ is. still_lacks v.role q p mine later v.seen none_now n (ap (λ z. holder z p) (sym past_is) ∙ is)
+
+    -- the notes of its own cells are as it left them
+    pub noted_now : (x k : ℕ) → k < 7 → IsCell K x → stands_for v.role (rings (ring_of K x)) ≡ true → noted r.past (note_at x k) ≡ noted v.seen (note_at x k)
+    noted_now x k small inside mine = ap (λ z. noted z (note_at x k)) past_is ∙ same_noted L v.role x k small inside mine later v.seen (subst (Orderly L) past_is r.orderly) none_now
+
+    -- a cell whose earlier requests were reaped is free
+    pub free_now : (x g : ℕ) → IsCell K x → Ages K r.past x g → IsFree K (events_of r.past) (request_at K x g)
+    free_now x g inside ages = free_by L r.past x g inside r.orderly (λ n lt. let b = ages.before n lt in subst IsReaped (sym b.2) tt)
+
+    -- an Empty cell is as its submitter left it
+    pub vacant_now : (x g : ℕ) → IsCell K x → g < 16777216 → stands_for v.role (rings (ring_of K x)) ≡ true → Vacant K v.seen x g
+        → (get_or s.words (claim_at x) 0 ≡ word_of Empty 0 g 0) × (phase (events_of r.past) (request_at K x g) ≡ unborn) × (lent r.past (request_at K x g) ≡ false → get_elem? s.homes (slot_at x) ≡ some (some None)) × Ages K r.past x g × (freed r.past (request_at K x g) ≡ false)
+    vacant_now x g inside f mine free = let le = free.next in let same' = submits_now (ring_of K x) mine in
+        let new : phase (events_of r.past) (request_at K x g) ≡ unborn = unborn_yet S (events_of r.past) (request_at K x g) r.legal (omega arith) in
+        let word = empty_word K r.past x _ _ (r.cells x inside) g new (λ n l. (let b = free.gone_by n l in (b.0, b.1, reaped_now (request_at K x n) b.0 b.1 b.2))) in
+        let here = says_of K r.past x _ _ Empty 0 g 0 (r.cells x inside) word (omega arith) f (omega arith) in (word, new, here.0.4, here.1, here.0.3)
+
+  pub extends : (s : St) (r : Ruled L s) → There s → (l : Line) (role : Role) → Legal S (events_of (l ∷ r.past)) → was_shut (events_of (l ∷ r.past)) ≡ false → Fair L r.past l → (t : List Step) → Extends v l role (seeing v role (l ∷ r.past) t)
+  extends s r at l role legal live fair t = let seat = r.seats id v at in record { mid = r.past; saw = seat.saw; heard = seat.heard; legal = legal; live = live; orderly = (fair, r.orderly); steps = t; is = refl }
+
+  -- who keeps his role keeps what it owes
+  pub same_turns : (s : St) (r : Ruled L s) → There s → (l : Line) → begins l ≡ false → Legal S (events_of (l ∷ r.past)) → 0 < v.parts → ((q : Req) → lent (l ∷ r.past) q ≡ lent r.past q) → ((q : Req) → v.role ≡ Busy q → phase (events_of (l ∷ r.past)) q ≡ runs) → Turns r.past l v v.role
+  same_turns s r at l calm legal has quiet going = record {
+    keeps = λ _ _ _ z. z;
+    has = has;
+    lends = λ q is. Rattle.std.proofs.Common.inr (sym (quiet q) ∙ is, λ z. z);
+    busy = going;
+    leaving = λ q is. replied_by S l r.past q legal (left_now L s r id v at q is).1;
+    running = λ q is. Rattle.std.proofs.Common.inr (ran S l r.past q legal calm is, λ z. z);
+  }
+
+  -- a worker that has no pipe ends with the request that it runs
+  pub ends_run : (s : St) (r : Ruled L s) → There s → (l : Line) (q : Req) → begins l ≡ false → Legal S (events_of (l ∷ r.past)) → v.role ≡ Busy q → phase (events_of (l ∷ r.past)) q ≢ runs → ((p : ℕ) → holder v.seen p ≢ Some q) → ((q : Req) → lent (l ∷ r.past) q ≡ lent r.past q) → Turns r.past l v Idle
+  ends_run s r at l q calm legal busy over bare quiet = record {
+    has = (busy_now s r at q busy).0;
+    lends = λ c is. Rattle.std.proofs.Common.inr (sym (quiet c) ∙ is, λ z. absurd (let y = sym busy ∙ z in cc));
+    keeps = λ p c is own. absurd (let same' : q ≡ c = same_true q c (same_sym q c ∙ subst (λ (z : Role). stands_for z (workers c) ≡ true) busy own) in
+        lacks_now s r at q p (subst (λ (z : Role). stands_for z (workers q) ≡ true) (sym busy) (same_itself q)) (bare p) (is ∙ ap Some (sym same')));
+    busy = λ c is. absurd (cc);
+    leaving = λ c is. absurd (cc);
+    running = λ c is. Rattle.std.proofs.Common.inr (ran S l r.past c legal calm is, λ z. (let same' : q ≡ c = cc in absurd (over (subst (λ (k : Req). phase (events_of (l ∷ r.past)) k ≡ runs) (sym same') is))));
+  }
+
+  -- who waits has no worker
+  pub no_worker : (s : St) (r : Ruled L s) (q : Req) → ¬ (phase (events_of r.past) q ≡ runs) → ¬ IsReplied (phase (events_of r.past) q) → (i : ℕ) (u : View) → get_elem? s.views i ≡ some u → stands_for u.role (workers q) ≡ true → ⊥
+  no_worker s r q idle open' i u at own = ⊎_elim
+      (λ (b : u.role ≡ Busy q). idle (let seat = r.seats i u at in let pi = seat.saw.is in subst (λ z. phase (events_of z) q ≡ runs) (sym pi)
+      (still_runs S q seat.saw.later u.seen (subst (λ z. Legal S (events_of z)) pi r.legal) (subst (λ z. was_shut (events_of z) ≡ false) pi r.live) (subst (λ (z : Role). NoneOf z seat.saw.later) b seat.saw.none) (seat.busy q b).1)))
+      (λ (b : u.role ≡ Leaving q). open' (left_now L s r i u at q b).1) (worker_is u.role q own)
+
+  pub looks_on : (x a b : ℕ) (said : _) (s : St) (r : Ruled L s) → There s → Does L s (claim_at x) (get_or s.words (claim_at x) 0) (looked (step slots (claim_at x) a b said) me (get_or s.words (claim_at x) 0))
+  looks_on x a b said s r at = (
+    seeing v v.role r.past (tick (claim_at x) s r.past),
+    keeps,
+    tt,
+    looks L s r id v (claim_at x) (get_or s.words (claim_at x) 0) (tick (claim_at x) s r.past) at refl (busy_now s r at) (set-get_or s.words (claim_at x) 0),
+    (
+      (let seat = r.seats id v at in record { now = r.past; saw = seat.saw; heard = seat.heard; legal = r.legal; live = r.live; orderly = r.orderly; steps = tick (claim_at x) s r.past; is = refl }),
+      refl,
+      (λ y e inside. let q : y ≡ x = omega arith in (get_elem? s.homes (slot_at y), subst (λ (z : ℕ). CellOk K r.past y (get_or s.words (claim_at z) 0) (get_elem? s.homes (slot_at y))) q (r.cells y inside))),
+      refl,
+    ),
+    refl,
+  )
+
+  -- a load of a note word
+  pub notices_on : (x i : ℕ) → IsCell K x → i < 7 → (s : St) (r : Ruled L s) → There s → Does L s (note_at x i) (get_or s.words (note_at x i) 0) (noticed (step slots (note_at x i) 0 0 none) me (get_or s.words (note_at x i) 0))
+  notices_on x i inside small s r at = (
+    seeing v v.role r.past (tick (note_at x i) s r.past),
+    keeps,
+    tt,
+    looks L s r id v (note_at x i) (get_or s.words (note_at x i) 0) (tick (note_at x i) s r.past) at refl (busy_now s r at) (set-get_or s.words (note_at x i) 0),
+    (
+      (let seat = r.seats id v at in record { now = r.past; saw = seat.saw; heard = seat.heard; legal = r.legal; live = r.live; orderly = r.orderly; steps = tick (note_at x i) s r.past; is = refl }),
+      refl,
+      (λ y k e inside' small'. ap (λ z. get_or s.words z 0) e ∙ (r.notes y k inside' small')),
+      refl,
+    ),
+    refl,
+  )
+
+  -- an exchange of the claim word of generation g with this tag, which may miss
+  pub tries : (M : Layout) (tag : Tag) (P : At → Seated → ℕ → Req → Seated → Type 0) (x g d old new : ℕ) → v.role ≢ Spent → IsCell K x → g < 16777216 → d < 4294967296 → old ≡ word_of tag 0 g d
+      → ((s : St) → Ruled L s → There s → get_or s.words (claim_at x) 0 ≡ word_of tag 0 g d → Does L s (claim_at x) new (P (step slots (claim_at x) old new none) me x (request_at K x g)))
+      → Allows (Ruled M) slots id me (claim_at x) (λ n. either (eqb n old) new n) (tried tag P (step slots (claim_at x) old new none) me)
+  tries M tag P x g pay old new live inside f fd is goes = shaped M (claim_at x) (λ n. either (eqb n old) new n) (tried tag P (step slots (claim_at x) old new none) me) live
+      (λ s r at. exchanged (get_or s.words (claim_at x) 0) old new (λ m. Does L s (claim_at x) m (tried tag P (step slots (claim_at x) old new none) me (get_or s.words (claim_at x) 0)))
+      (λ hit. let d = goes s r at (hit ∙ is) in (
+        d.0,
+        d.1,
+        d.2,
+        d.3,
+        (
+          (λ _ y h d' here inside' f' fd' is'. let o = one_word tag tag 0 g pay 0 h d' (omega arith) f fd (omega arith) f' fd' (sym is ∙ is') in let e : x ≡ y = omega arith in
+              subst (λ (z : ℕ × ℕ). P (step slots (claim_at x) old new none) me z.0 (request_at K z.0 z.1) (d.0, carried_after me.1 d.1)) (λ i. (e i, o.2 i)) d.4),
+          (λ ne. absurd (ne hit)),
+          d.5,
+        ),
+        d.5,
+      ))
+      (λ ne. let d = looks_on x old new none s r at in (d.0, d.1, d.2, d.3, ((λ e. absurd (ne e)), (λ _. d.4), d.5), d.5)))
+
+  -- the same where a refused exchange that finds the request Running is an event of its own, and leaves the word
+  pub tries_running : (M : Layout) (tag : Tag) (P Q : At → Seated → ℕ → Req → Seated → Type 0) (x g d old new : ℕ) → v.role ≢ Spent → IsCell K x → g < 16777216 → d < 4294967296 → old ≡ word_of tag 0 g d → tag ≢ Running
+      → ((s : St) → Ruled L s → There s → get_or s.words (claim_at x) 0 ≡ word_of tag 0 g d → Does L s (claim_at x) new (P (step slots (claim_at x) old new none) me x (request_at K x g)))
+      → ((s : St) → Ruled L s → There s → get_or s.words (claim_at x) 0 ≡ word_of Running 0 g 0 → Does L s (claim_at x) (get_or s.words (claim_at x) 0) (Q (step slots (claim_at x) old new none) me x (request_at K x g)))
+      → Allows (Ruled M) slots id me (claim_at x) (λ n. either (eqb n old) new n) (tried_running tag P Q (step slots (claim_at x) old new none) me)
+  tries_running M tag P Q x g pay old new live inside f fd is apart' goes misses = shaped M (claim_at x) (λ n. either (eqb n old) new n) (tried_running tag P Q (step slots (claim_at x) old new none) me) live
+      (λ s r at. let n : ℕ = get_or s.words (claim_at x) 0 in exchanged n old new (λ m. Does L s (claim_at x) m (tried_running tag P Q (step slots (claim_at x) old new none) me n))
+      (λ hit. let d = goes s r at (hit ∙ is) in (
+        d.0,
+        d.1,
+        d.2,
+        d.3,
+        (
+          (λ _ y h d' here inside' f' fd' is'. let o = one_word tag tag 0 g pay 0 h d' (omega arith) f fd (omega arith) f' fd' (sym is ∙ is') in let e : x ≡ y = omega arith in
+              subst (λ (z : ℕ × ℕ). P (step slots (claim_at x) old new none) me z.0 (request_at K z.0 z.1) (d.0, carried_after me.1 d.1)) (λ i. (e i, o.2 i)) d.4),
+          (λ y h d' here inside' f' fd' is' run. absurd (apart' (one_word tag Running 0 h d' 0 h 0 (omega arith) f' fd' (omega arith) f' (omega arith) (sym is' ∙ (sym hit ∙ run))).0)),
+          (λ ne. absurd (ne hit)),
+          d.5,
+        ),
+        d.5,
+      ))
+      (λ ne. dite (ℕ_discrete n (word_of Running 0 g 0))
+      (λ run. let d = misses s r at run in (
+        d.0,
+        d.1,
+        d.2,
+        d.3,
+        (
+          (λ hit. absurd (ne hit)),
+          (λ y h d' here inside' f' fd' is' _. let o = one_word tag tag 0 g pay 0 h d' (omega arith) f fd (omega arith) f' fd' (sym is ∙ is') in let e : x ≡ y = omega arith in
+              subst (λ (z : ℕ × ℕ). Q (step slots (claim_at x) old new none) me z.0 (request_at K z.0 z.1) (d.0, carried_after me.1 d.1)) (λ i. (e i, o.2 i)) d.4),
+          (λ _ other. absurd (other x g pay refl f fd is run)),
+          d.5,
+        ),
+        d.5,
+      ))
+      (λ else. let d = looks_on x old new none s r at in (
+        d.0,
+        d.1,
+        d.2,
+        d.3,
+        (
+          (λ hit. absurd (ne hit)),
+          (λ y h d' here inside' f' fd' is' run. let o = one_word tag tag 0 g pay 0 h d' (omega arith) f fd (omega arith) f' fd' (sym is ∙ is') in absurd (else (run ∙ ap (λ (z : ℕ). word_of Running 0 z 0) (sym o.2)))),
+          (λ _ _. d.4),
+          d.5,
+        ),
+        d.5,
+      ))))
+
+  -- an exchange of a claim word that is known
+  pub sures : (M : Layout) (tag : Tag) (P : At → Seated → ℕ → Req → Seated → Type 0) (x c g p old new : ℕ) → v.role ≢ Spent → c < 16 → g < 16777216 → p < 4294967296 → old ≡ word_of tag c g p
+      → ((s : St) → Ruled L s → There s → (get_or s.words (claim_at x) 0 ≡ word_of tag c g p) × Does L s (claim_at x) new (P (step slots (claim_at x) old new none) me x (request_at K x g)))
+      → Allows (Ruled M) slots id me (claim_at x) (λ n. either (eqb n old) new n) (sure tag P (step slots (claim_at x) old new none) me)
+  sures M tag P x c g p old new live fc f fp is goes = shaped M (claim_at x) (λ n. either (eqb n old) new n) (sure tag P (step slots (claim_at x) old new none) me) live
+      (λ s r at. let both = goes s r at in let d = both.1 in let found : get_or s.words (claim_at x) 0 ≡ old = both.0 ∙ sym is in
+      certain (get_or s.words (claim_at x) 0) old new (λ m. Does L s (claim_at x) m (sure tag P (step slots (claim_at x) old new none) me (get_or s.words (claim_at x) 0))) found (
+        d.0,
+        d.1,
+        d.2,
+        d.3,
+        (
+          found,
+          (λ y c' h p' here inside' fc' f' fp' is'. let o = one_word tag tag c g p c' h p' fc f fp fc' f' fp' (sym is ∙ is') in let e : x ≡ y = omega arith in
+              subst (λ (z : ℕ × ℕ). P (step slots (claim_at x) old new none) me z.0 (request_at K z.0 z.1) (d.0, carried_after me.1 d.1)) (λ i. (e i, o.2 i)) d.4),
+          d.5,
+        ),
+        d.5,
+      ))
+
+  -- the seat has the slot of the cell x, with y
+  abbrev pub Out : ℕ → Option Thing → Type 0
+  Out x y = me.1 ≡ (slot_at x, y) ∷ rest me.1
+
+  -- the slot x comes home with y
+  pub home_again : (x n : ℕ) (y : Option Thing) (s : St) (w : View) → Out x y → Ruled L record { words = set s.words (claim_at x) n; homes = set s.homes (slot_at x) (some y); views = set s.views id w } → Ruled L (stepped s (claim_at x) n id me.1 w gives)
+  home_again x n y s w out h = subst (λ (cs : List (ℕ × Option Thing)). Ruled L (stepped s (claim_at x) n id cs w gives)) (sym out) h

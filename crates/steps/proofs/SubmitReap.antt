@@ -1,0 +1,162 @@
+-- Submit and Reap: the submitter gives the slot of its cell back.
+use Rattle.std.proofs.Common.{◌≡◌, ℕ, suc, ◌<◌, Bool, true, false, cond, Option, Some, None, ℤ, List, ◌∷◌, get_or, set, sym, refl, ap, ◌∙◌, subst, inr, arith, eqb, eq-eqb, true≢false, length-set}
+use mathlib.Core.Option.{some, none}
+use mathlib.Core.Logic.{dite}
+use native.Mathlib.Decide.{ℕ_discrete}
+use lib.ListN.{get_elem?}
+use prog.Atomic.{either}
+use Rattle.atomic_table.specs.Table.{step, gives, Allows, rest}
+use Rattle.atomic_table.proofs.Lists.{set_here, set_else}
+use Rattle.claim.specs.declared.tag.Tag.TheVariants.{Empty, Held, Done}
+use Rattle.entry.specs.Entry.{Entry, fails}
+use Rattle.history.specs.declared.req.Req.{Req}
+use Rattle.history.specs.declared.event.Event.TheVariants.{Submit, Reap}
+use Rattle.history.specs.History.{Cause, replied, reaped, after_reap, same, phase, submission, submits}
+use Rattle.history.specs.Chains.{IsPlaced}
+use Rattle.history.specs.Legal.{Legal, Fits}
+use Rattle.history.proofs.Requests.{same_itself, same_false}
+use Rattle.steps.specs.declared.line.Line.{Line}
+use Rattle.steps.specs.declared.line.Line.TheVariants.{Did}
+use Rattle.steps.specs.declared.parcel.Parcel.{Parcel}
+use Rattle.steps.specs.declared.parcel.Thing.{Thing}
+use Rattle.steps.specs.declared.parcel.Thing.TheVariants.{Full}
+use Rattle.steps.specs.declared.view.Layout.{Layout}
+use Rattle.steps.specs.declared.view.Role.{Role}
+use Rattle.steps.specs.declared.view.View.{View}
+use Rattle.atomic_table.specs.Table.{State}
+use Rattle.history.specs.Legal.{Setup}
+use Rattle.steps.specs.Cells.{setup_of}
+use Rattle.steps.specs.Plays.{Seated}
+use Rattle.steps.specs.declared.view.Role.TheVariants.{Submitter, Lending}
+use Rattle.steps.specs.Fairness.{Fair}
+use Rattle.steps.specs.Notes.{facts_of}
+use Rattle.steps.specs.Journal.{events_of, lent, noted, Serves}
+use Rattle.steps.specs.Cells.{IsCell, ring_of, request_at, claim_at, facts_at, user_at, slot_at, word_of, reply_bits, cause_bits}
+use Rattle.steps.specs.Rule.{rings, workers, stands_for, owns, apart, Vacant, Ruled, Extends}
+use Rattle.steps.specs.Plays.{sure, submitted, reaps}
+use Rattle.steps.proofs.CellNumbers.{other_cell, other_age, same_bits, ring_in}
+use Rattle.steps.proofs.Roles.{as_lending}
+use Rattle.steps.proofs.JournalGrowth.{about, begins, lent_stays, counted_in, placed_lasts, phase_stays}
+use Rattle.steps.proofs.Frames.{ages_stay}
+use Rattle.steps.proofs.ClaimWords.{done_word, cause_fits}
+use Rattle.steps.proofs.Served.{served_placed}
+use Rattle.steps.proofs.RuleKept.{Turns, adds_claim, owned}
+use Rattle.steps.proofs.StepKinds.{in_hand, same_parcel, now_is, tick, with_line, Does, There, seen_legal, lasts_now, submits_now, replied_now, noted_now, free_now, vacant_now, extends, sures, Out, home_again}
+use Rattle.steps.proofs.LoadReleaseBegin.{quiet_line, dec_req}
+use Rattle.steps.proofs.Notes.{turns_by}
+
+module _ (slots id : ℕ) (me : Seated) where
+  abbrev v : View
+  v = me.0
+
+  abbrev L : Layout
+  L = v.layout
+
+  abbrev K : List ℕ
+  K = L.cells
+
+  abbrev S : Setup
+  S = setup_of L
+
+  abbrev St : Type 0
+  St = State (Option Thing) View
+
+  -- the seat gives the slot of its cell back
+  module _ (x g : ℕ) (mine : v.role ≡ Lending (request_at K x g)) (has : 0 < v.parts) (inside : IsCell K x) where
+    abbrev q : Req
+    q = request_at K x g
+
+    abbrev back : Role
+    back = Submitter (ring_of K x)
+
+    lends_here : stands_for v.role (rings (ring_of K x)) ≡ true
+    lends_here = ap (λ (z : Role). stands_for z (rings (ring_of K x))) mine ∙ eq-eqb (ring_of K x) (ring_of K x) refl
+
+    back_turns : (s : St) (r : Ruled L s) (l : Line) → begins l ≡ false → Legal S (events_of (l ∷ r.past)) → ((c : Req) → lent (l ∷ r.past) c ≡ cond (same q c) false (lent r.past c)) → Turns r.past l v back
+    back_turns s r l calm legal gives' = turns_by slots id me s r l back calm legal has (λ c. ap (λ (z : Role). stands_for z (workers c)) mine) (λ c e. cc) (λ c e. cc)
+        (λ c is. dec_req q c (λ same'. absurd (true≢false (sym is ∙ (gives' c ∙ ap (λ (b : Bool). cond b false (lent r.past c)) (subst (λ (z : Req). same q z ≡ true) same' (same_itself q))))))
+        (λ ne. inr (sym (gives' c ∙ ap (λ (b : Bool). cond b false (lent r.past c)) (same_false q c ne)) ∙ is, λ z. absurd (ne (let y = sym mine ∙ z in cc)))))
+
+    back_apart : (s : St) (r : Ruled L s) → There slots id me s → (l : Line) → owns (Lending q) l ≡ true → (i : ℕ) (u : View) → ¬ (i ≡ id) → get_elem? s.views i ≡ some u → (owns u.role l ≡ false) × (apart back u.role ≡ true)
+    back_apart s r at l own i u other there = let o = owned L s r id v l at (subst (λ (z : Role). owns z l ≡ true) (sym mine) own) i u other there in (o.0, as_lending q u.role ∙ subst (λ (z : Role). apart z u.role ≡ true) mine o.1)
+
+    -- SUBMIT
+    submit_does : (old new : ℕ) (p : Parcel) → g < 16777216 → new ≡ word_of Held 0 g 0 → Vacant K v.seen x g → (request_at K x g).k ≡ submits (events_of v.seen) (ring_of K x) → Serves p.sqe p.last → Fits p.sqe p.buffer.items → noted v.seen (facts_at x) ≡ facts_of g p.sqe p.last → noted v.seen (user_at x) ≡ p.sqe.user_data → Out slots id me x (Some (Full p))
+        → (s : St) (r : Ruled L s) → There slots id me s → (get_or s.words (claim_at x) 0 ≡ word_of Empty 0 g 0) × Does slots id me L s (claim_at x) new (submitted (step slots (claim_at x) old new none) me x q)
+    submit_does old new p f is_new free next serves fits facts user out s r at =
+        let l : Line = Did (Submit q p.sqe p.buffer.items p.last) in let now = vacant_now slots id me s r at x g inside f lends_here free in
+        let legal : Legal S (events_of (l ∷ r.past)) = ((r.live, (ring_in K x inside, next ∙ sym (submits_now slots id me s r at (ring_of K x) lends_here), fits)), r.legal) in
+        let given : submission (events_of (l ∷ r.past)) q ≡ Some (record { entry = p.sqe; bytes = p.buffer.items; last = p.last }) = ap (λ b. cond b (Some (record { entry = p.sqe; bytes = p.buffer.items; last = p.last })) (submission (events_of r.past) q)) (same_itself q) in
+        let fair : Fair L r.past l = (serves, free_now slots id me s r at x g inside now.3, (x, g, p.sqe, (inside, refl), served_placed (events_of (l ∷ r.past)) q _ given serves.0, noted_now slots id me s r at x 0 (omega arith) inside lends_here ∙ facts, noted_now slots id me s r at x 1 (omega arith) inside lends_here ∙ user)) in (
+          now.0,
+          (
+            with_line slots id me (claim_at x) s r.past l back,
+            gives,
+            tt,
+            home_again slots id me x new (Some (Full p)) s (with_line slots id me (claim_at x) s r.past l back) out (adds_claim L s r id v back x new (set s.homes (slot_at x) (some (Some (Full p)))) l (tick slots id me (claim_at x) s (l ∷ r.past)) inside refl (quiet_line L r.past l fair r.live refl (λ p. (refl, refl)))
+                (back_turns s r l refl legal (λ c. refl)) legal at (back_apart s r at l (eq-eqb (ring_of K x) (ring_of K x) refl))
+                (λ y h other k. other_cell K x y g k inside h other) (λ w. refl) (length-set s.homes (slot_at x) (some (Some (Full p)))) (λ y other. set_else s.homes (slot_at x) y (some (Some (Full p))) other) record {
+                  tag = Held;
+                  cause = 0;
+                  gen = g;
+                  payload = 0;
+                  fits = (omega arith, f, omega arith);
+                  word_is = is_new;
+                  says = (refl, refl, now_is _ _ _ (same_itself q), now.4, ap (λ b. cond b false (lent r.past q)) (same_itself q), (p, set_here s.homes (slot_at x) (some (Some (Full p))) (r.deep x inside), (p.buffer.items, given, refl)));
+                  ages = ages_stay S l r.past legal K x g (λ n other. other_age K x g n inside other) now.3;
+                }),
+            (λ p' out'. let same' : p ≡ p' = same_parcel p p' (ap in_hand (sym out ∙ out')) in subst (λ (z : Parcel). Extends v (Did (Submit q z.sqe z.buffer.items z.last)) back (with_line slots id me (claim_at x) s r.past l back) × (rest me.1 ≡ rest me.1)) same' (extends slots id me s r at l back legal r.live fair (tick slots id me (claim_at x) s (l ∷ r.past)), refl)),
+            refl,
+          ),
+        )
+
+    pub submit_allows : (M : Layout) (old new : ℕ) (p : Parcel) → g < 16777216 → old ≡ word_of Empty 0 g 0 → new ≡ word_of Held 0 g 0 → Vacant K v.seen x g → (request_at K x g).k ≡ submits (events_of v.seen) (ring_of K x) → Serves p.sqe p.last → Fits p.sqe p.buffer.items → noted v.seen (facts_at x) ≡ facts_of g p.sqe p.last → noted v.seen (user_at x) ≡ p.sqe.user_data → Out slots id me x (Some (Full p))
+        → Allows (Ruled M) slots id me (claim_at x) (λ n. either (eqb n old) new n) (sure Empty submitted (step slots (claim_at x) old new none) me)
+    submit_allows M old new p f is_old is_new free next serves fits facts user out =
+        sures slots id me M Empty submitted x 0 g 0 old new (λ z. (let y = sym mine ∙ z in cc)) (omega arith) f (omega arith) is_old (submit_does old new p f is_new free next serves fits facts user out)
+
+    -- REAP
+    reap_does : (b old new : ℕ) (c : Cause) (res : ℤ) (e : Entry) → suc g < 16777216 → IsPlaced (events_of v.seen) q e → new ≡ word_of Empty 0 (suc g) 0 → phase (events_of v.seen) q ≡ replied c res → reply_bits res b → Out slots id me x None
+        → (s : St) (r : Ruled L s) → There slots id me s → (get_or s.words (claim_at x) 0 ≡ word_of Done (cause_bits c (fails e res)) g b) × Does slots id me L s (claim_at x) new (reaps (step slots (claim_at x) old new none) me x q)
+    reap_does b old new c res e f is_e is_new done bits out s r at =
+        let l : Line = Did (Reap q) in let ok = r.cells x inside in let done' = replied_now slots id me s r at q c res lends_here done in
+        let word = done_word K r.past x _ _ ok g c res done' in let same' : word.payload ≡ b = same_bits res word.payload b word.bits bits in
+        let e_now : IsPlaced (events_of r.past) q e = lasts_now slots id me s r at (λ h. IsPlaced h q e) q (placed_lasts S q e) (counted_in S v.seen q (replied c res) (seen_legal slots id me s r at) done (λ e. cc)) is_e in
+        let entry : word.entry ≡ e = (let z = sym word.placed_is ∙ e_now in cc) in
+        let found : get_or s.words (claim_at x) 0 ≡ word_of Done (cause_bits c (fails e res)) g b = word.word_is ∙ (λ i. word_of Done (cause_bits c (fails (entry i) res)) g (same' i)) in
+        let legal : Legal S (events_of (l ∷ r.past)) = ((r.live, (c, res, done')), r.legal) in
+        let other : (n : ℕ) → ¬ (n ≡ g) → about l (request_at K x n) ≡ false = λ n ne. other_age K x g n inside ne in
+        let ages = word.ages in (
+          found,
+          (
+            with_line slots id me (claim_at x) s r.past l back,
+            gives,
+            tt,
+            home_again slots id me x new None s (with_line slots id me (claim_at x) s r.past l back) out (adds_claim L s r id v back x new (set s.homes (slot_at x) (some None)) l (tick slots id me (claim_at x) s (l ∷ r.past)) inside refl (quiet_line L r.past l tt r.live refl (λ p. (refl, refl)))
+                (back_turns s r l refl legal (λ c. refl)) legal at (back_apart s r at l (eq-eqb (ring_of K x) (ring_of K x) refl))
+                (λ y h other k. other_cell K x y g k inside h other) (λ w. refl) (length-set s.homes (slot_at x) (some None)) (λ y other. set_else s.homes (slot_at x) y (some None) other) record {
+                  tag = Empty;
+                  cause = 0;
+                  gen = suc g;
+                  payload = 0;
+                  fits = (omega arith, f, omega arith);
+                  word_is = is_new;
+                  says = (refl, refl, phase_stays l r.past (request_at K x (suc g)) (other (suc g) (omega arith)) ∙ ages.after (suc g) (omega arith), ages.unfreed (suc g) (omega arith), (λ _. set_here s.homes (slot_at x) (some None) (r.deep x inside)));
+                  ages = record {
+                    before = λ n lt. dite (ℕ_discrete n g)
+                        (λ is. subst (λ (z : ℕ). (c : Cause) × (res : ℤ) × (phase (events_of (l ∷ r.past)) (request_at K x z) ≡ reaped c res)) (sym is) (c, res, now_is _ _ _ (same_itself q) ∙ ap after_reap done'))
+                        (λ ne. (let b = ages.before n (omega arith) in (b.0, b.1, phase_stays l r.past (request_at K x n) (other n ne) ∙ b.2)));
+                    after = λ n lt. phase_stays l r.past (request_at K x n) (other n (omega arith)) ∙ ages.after n (omega arith);
+                    unfreed = λ n lt. ages.unfreed n (omega arith);
+                    unlent = λ n lt. lent_stays l r.past (request_at K x n) (other n (omega arith)) ∙ ages.unlent n (omega arith);
+                  };
+                }),
+            (extends slots id me s r at l back legal r.live tt (tick slots id me (claim_at x) s (l ∷ r.past)), refl),
+            refl,
+          ),
+        )
+
+    pub reap_allows : (M : Layout) (b old new : ℕ) (c : Cause) (res : ℤ) (e : Entry) → suc g < 16777216 → b < 4294967296 → IsPlaced (events_of v.seen) q e → old ≡ word_of Done (cause_bits c (fails e res)) g b → new ≡ word_of Empty 0 (suc g) 0 → phase (events_of v.seen) q ≡ replied c res → reply_bits res b → Out slots id me x None
+        → Allows (Ruled M) slots id me (claim_at x) (λ n. either (eqb n old) new n) (sure Done reaps (step slots (claim_at x) old new none) me)
+    reap_allows M b old new c res e f fb is_e is_old is_new done bits out =
+        sures slots id me M Done reaps x (cause_bits c (fails e res)) g b old new (λ z. (let y = sym mine ∙ z in cc)) (cause_fits c (fails e res)) (omega arith) fb is_old (reap_does b old new c res e f is_e is_new done bits out)

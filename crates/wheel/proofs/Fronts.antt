@@ -1,0 +1,61 @@
+-- The least of the fronts is the least of all timers.
+use Rattle.std.proofs.Common.{◌≡◌, ℕ, ◌+◌, ◌<◌, ◌≤◌, Bool, true, false, cond, List, [], ◌∷◌, length, Option, Some, None, refl, sym, ap, ◌∙◌, below_more, le_refl, arith}
+use Rattle.std.specs.Prelude.{◌%◌, nat_lt}
+use Rattle.std.proofs.lemmas.Bool.{ltb-false, ltb-true}
+use Rattle.std.proofs.lemmas.Nat.{mod_below}
+use Rattle.std.proofs.lemmas.Option.{none-some}
+use Rattle.history.specs.declared.req.Req.{Req}
+use Rattle.history.proofs.Requests.{same_itself}
+use Rattle.wheel.specs.declared.sorted.Timer.{Timer}
+use Rattle.wheel.specs.Deadlines.{IsFirstDue}
+use Rattle.wheel.specs.Lists.{InOrder, deadline_in}
+use Rattle.wheel.specs.Wheel.{Deadlines, IsLeast, IsWheel, deadline_at, earlier_of, front_of, in_slot, slot_list}
+use Rattle.wheel.proofs.Slotting.{from_slot, own_slot}
+use Rattle.wheel.proofs.Sorting.{from_first}
+
+-- the front of a slot, which has the least deadline there
+abbrev IsFront : List Timer → Option (Req × ℕ) → Type 0
+IsFront ts None = (q : Req) (e : ℕ) → deadline_in ts q ≡ Some e → ⊥
+IsFront ts (Some x) = (deadline_in ts x.0 ≡ Some x.1) × ((q : Req) (e : ℕ) → deadline_in ts q ≡ Some e → x.1 ≤ e)
+
+front_is : (ts : List Timer) → InOrder ts → IsFront ts (front_of ts)
+front_is [] o = λ q e u. none-some e u
+front_is (t ∷ ts) o = (ap (λ b. cond b (Some t.at) (deadline_in ts t.req)) (same_itself t.req), λ q e u. from_first t.at (t ∷ ts) q e (le_refl t.at, o.0) u)
+
+pub none_yet : (xs : List (List Timer)) → IsLeast xs 0 None
+none_yet xs s lt q e u = absurd (omega arith)
+
+module _ (xs : List (List Timer)) (n : ℕ) where
+  joined : (best y : Option (Req × ℕ)) → IsLeast xs n best → IsFront (slot_list xs n) y → IsLeast xs (n + 1) (earlier_of best y)
+  joined None None l f = below_more (λ s. (q : Req) (e : ℕ) → deadline_in (slot_list xs s) q ≡ Some e → ⊥) n l f
+  joined None (Some y) l f = ((n, f.0), below_more (λ s. (q : Req) (e : ℕ) → deadline_in (slot_list xs s) q ≡ Some e → y.1 ≤ e) n (λ s lt q e u. absurd (l s lt q e u)) f.1)
+  joined (Some x) None l f = (l.0, below_more (λ s. (q : Req) (e : ℕ) → deadline_in (slot_list xs s) q ≡ Some e → x.1 ≤ e) n l.1 (λ q e u. absurd (f q e u)))
+  joined (Some x) (Some y) l f = by (nat_lt y.1 x.1) refl where
+    by : (b : Bool) → nat_lt y.1 x.1 ≡ b → IsLeast xs (n + 1) (cond b (Some y) (Some x))
+    by true w = let lt : y.1 < x.1 = ltb-true y.1 x.1 w in
+        ((n, f.0), below_more (λ s. (q : Req) (e : ℕ) → deadline_in (slot_list xs s) q ≡ Some e → y.1 ≤ e) n (λ s below q e u. (let le : x.1 ≤ e = l.1 s below q e u in omega arith)) f.1)
+    by false w = let le : x.1 ≤ y.1 = ltb-false y.1 x.1 w in
+        (l.0, below_more (λ s. (q : Req) (e : ℕ) → deadline_in (slot_list xs s) q ≡ Some e → x.1 ≤ e) n l.1 (λ q e u. (let le2 : y.1 ≤ e = f.1 q e u in omega arith)))
+
+  -- one slot more
+  pub least_more : (best : Option (Req × ℕ)) → IsLeast xs n best → InOrder (slot_list xs n) → IsLeast xs (n + 1) (earlier_of best (front_of (slot_list xs n)))
+  least_more best l o = joined best (front_of (slot_list xs n)) l (front_is (slot_list xs n) o)
+
+-- there are no timers
+pub none_at_all : (es : Deadlines) (now : ℕ) → length es ≡ 0 → IsFirstDue (deadline_at es) now None
+none_at_all [] now e q d u = absurd (none-some d u)
+none_at_all (x ∷ es) now e q d u = absurd (omega arith)
+
+module _ (xs : List (List Timer)) (es : Deadlines) (wheel : IsWheel xs es) where
+  -- a timer is among those of the slot of its deadline
+  among : (q : Req) (e : ℕ) → deadline_at es q ≡ Some e → deadline_in (slot_list xs (e % 256)) q ≡ Some e
+  among q e u = wheel (e % 256) q ∙ ap (in_slot (e % 256)) u ∙ own_slot (e % 256) e refl
+
+  pub nothing_due : (now : ℕ) → IsLeast xs 256 None → IsFirstDue (deadline_at es) now None
+  nothing_due now l q e u = absurd (l (e % 256) (mod_below e 256 (omega arith)) q e (among q e u))
+
+  pub least_is_due : (now : ℕ) (x : Req × ℕ) → IsLeast xs 256 (Some x) → x.1 ≤ now → IsFirstDue (deadline_at es) now (Some x.0)
+  least_is_due now x l le = (x.1, from_slot l.0.0 (deadline_at es x.0) x.1 (sym (wheel l.0.0 x.0) ∙ l.0.1), le, λ q e u. l.1 (e % 256) (mod_below e 256 (omega arith)) q e (among q e u))
+
+  pub least_is_later : (now : ℕ) (x : Req × ℕ) → IsLeast xs 256 (Some x) → now < x.1 → IsFirstDue (deadline_at es) now None
+  least_is_later now x l lt q e u = let le : x.1 ≤ e = l.1 (e % 256) (mod_below e 256 (omega arith)) q e (among q e u) in omega arith

@@ -1,0 +1,4 @@
+pub mod Fronts
+pub mod RunSteps
+pub mod Slotting
+pub mod Sorting

@@ -1,0 +1,6 @@
+use Rattle.std.proofs.Common.{take}
+use Rattle.wheel.specs.Runs.{Runs}
+use Rattle.wheel.proofs.calls.run.Given as goal
+
+abbrev pub invariant-loop-call : goal.invariant-loop-call
+invariant-loop-call g l = Runs (g.T.TimerSet.deadline l.fn.timers) (take l.call-index l.calls) l.answers.items (g.T.TimerSet.deadline l.timers)

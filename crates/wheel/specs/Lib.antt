@@ -1,0 +1,4 @@
+pub mod Deadlines
+pub mod Lists
+pub mod Runs
+pub mod Wheel

@@ -1,0 +1,85 @@
+//! The slots of a wheel.
+ghost use Rattle.std.specs.Prelude.{◌≡◌, ℕ, ◌+◌, ◌≢◌, [], OnOk, OnErr};
+ghost use Rattle.wheel.specs.Deadlines.{armed, dropped};
+ghost use Rattle.wheel.specs.Lists.{InOrder, deadline_in};
+ghost use Rattle.wheel.specs.Wheel.{front_of, no_timers, slot_list};
+
+use crate::error::Memory;
+use crate::looks::Looks;
+use crate::set::TimerSet;
+use crate::sorted::SortedTimers;
+use history::Req;
+use std::alloc::Global;
+use std::array;
+use std::marker::Model;
+use std::sync::ledger::Ledger;
+
+/// The slots of a wheel, each a list of timers in the order of their deadlines. Contracts see the lists.
+#[derive(Drop)]
+pub struct Slots {
+    slots: [SortedTimers; 256],
+}
+
+impl Model for Slots {
+    ghost use Rattle.std.specs.Prelude.{List};
+    ghost use Rattle.wheel.specs.declared.sorted.Timer.{Timer};
+
+    ghost Value = { List (List Timer) };
+
+    ghost view = { λ s. s.slots };
+}
+
+impl Slots {
+    /// Slots without timers.
+    pub fn new(alloc: Global) -> Slots
+        ensures { (s : ℕ) → slot_list result s ≡ no_timers }
+    {
+        Slots {
+            slots: array::from_fn(
+                |_slot| -> SortedTimers
+                    ensures { result ≡ [] }
+                { SortedTimers::new(alloc) },
+            ),
+        }
+    }
+
+    /// The first timer of a slot and its deadline. No other call reads a slot through a shared reference.
+    pub fn front<L: Ledger>(&self, slot: u8, looks: &mut Looks<L>) -> Option<(Req, u32)>
+        ensures first { result ≡ front_of (slot_list self.now slot) }
+        ensures sorted { InOrder (slot_list self.now slot) }
+        ensures looked { looks.new ≡ looks.old + 1 }
+    {
+        looks.look();
+        match self.slots[slot as usize].first() {
+            None => None,
+            Some(timer) => Some((timer.req, timer.at)),
+        }
+    }
+
+    /// Arms a timer in a slot. The request's old deadline there, if it has one, is forgotten. Want of memory changes nothing.
+    pub fn arm<L: Ledger>(
+        &mut self,
+        slot: u8,
+        req: Req,
+        at: u32,
+        looks: &mut Looks<L>,
+    ) -> Result<(), Memory>
+        ensures ok { OnOk result (deadline_in (slot_list self.new slot) ≡ armed (deadline_in (slot_list self.old slot)) req at) }
+        ensures err { OnErr result (deadline_in (slot_list self.new slot) ≡ deadline_in (slot_list self.old slot)) }
+        ensures others { (s : ℕ) → s ≢ slot → slot_list self.new s ≡ slot_list self.old s }
+        ensures looked { looks.new ≡ looks.old + 1 }
+    {
+        looks.look();
+        self.slots[slot as usize].arm(req, at)
+    }
+
+    /// Forgets the timer of a request in a slot.
+    pub fn drop_timer<L: Ledger>(&mut self, slot: u8, req: Req, looks: &mut Looks<L>)
+        ensures dropped { deadline_in (slot_list self.new slot) ≡ dropped (deadline_in (slot_list self.old slot)) req }
+        ensures others { (s : ℕ) → s ≢ slot → slot_list self.new s ≡ slot_list self.old s }
+        ensures looked { looks.new ≡ looks.old + 1 }
+    {
+        looks.look();
+        let _was_there = self.slots[slot as usize].drop_timer(req);
+    }
+}

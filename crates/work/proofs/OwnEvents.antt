@@ -1,0 +1,26 @@
+-- Which events of a part of the journal are a role's own.
+use Rattle.std.proofs.Common.{◌≡◌, cond, List, [], ◌∷◌, ◌++◌, ap, ◌∙◌, refl, ⊎_elim}
+use Rattle.history.proofs.Requests.{bool_cases}
+use Rattle.history.specs.declared.event.Event.{Event}
+use Rattle.steps.specs.declared.line.Line.{Line}
+use Rattle.steps.specs.declared.view.Role.{Role}
+use Rattle.steps.specs.Journal.{event_of}
+use Rattle.steps.specs.Rule.{owns, NoneOf}
+use Rattle.work.specs.Passes.{own_of}
+
+-- lines of others have no own event
+pub own_none : (role : Role) (l : List Line) → NoneOf role l → own_of role l ≡ []
+own_none role [] n = refl
+own_none role (x ∷ l) n = ap (λ b. cond b (event_of x (own_of role l)) (own_of role l)) n.0 ∙ own_none role l n.1
+
+pub own_append : (role : Role) (k l : List Line) → NoneOf role k → own_of role (k ++ l) ≡ own_of role l
+own_append role [] l n = refl
+own_append role (x ∷ k) l n = ap (λ b. cond b (event_of x (own_of role (k ++ l))) (own_of role (k ++ l))) n.0 ∙ own_append role k l n.1
+
+pub own_before : (role : Role) (k l : List Line) → own_of role l ≡ [] → own_of role (k ++ l) ≡ own_of role k
+own_before role [] l n = n
+own_before role (x ∷ k) l n = let i = own_before role k l n in ap (λ (h : List Event). cond (owns role x) (event_of x h) h) i
+
+-- own lines that are no events
+pub silent_own : (role : Role) (l : Line) (j : List Line) → ((h : List Event) → event_of l h ≡ h) → own_of role j ≡ [] → own_of role (l ∷ j) ≡ []
+silent_own role l j silent none = ⊎_elim (λ w. ap (λ c. cond c (event_of l (own_of role j)) (own_of role j)) w ∙ (silent (own_of role j) ∙ none)) (λ w. ap (λ c. cond c (event_of l (own_of role j)) (own_of role j)) w ∙ none) (bool_cases (owns role l))

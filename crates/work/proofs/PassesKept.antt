@@ -1,0 +1,42 @@
+-- A pass of a board stays one of its own.
+use Rattle.std.proofs.Common.{◌≡◌, ℕ, List, [], ◌∷◌, false, sym, refl, ap, ◌∙◌, subst}
+use Rattle.history.specs.History.{was_shut}
+use Rattle.history.specs.Legal.{Legal}
+use Rattle.steps.specs.declared.line.Line.{Line}
+use Rattle.steps.specs.declared.view.Layout.{Layout}
+use Rattle.steps.specs.declared.view.Role.{Role}
+use Rattle.steps.specs.declared.view.View.{View}
+use Rattle.steps.specs.Fairness.{Orderly}
+use Rattle.steps.specs.Journal.{events_of}
+use Rattle.steps.specs.Cells.{setup_of}
+use Rattle.steps.specs.Rule.{Looks, Extends, IsStep}
+use Rattle.work.specs.Board.{Facts, IsOf, share_of}
+use Rattle.work.specs.Passes.{Pass, Took}
+
+pub looked_of : (b : Facts) (p q : Pass) → IsOf b p → q.table ≡ p.table → Looks p.view q.view → IsOf b q
+looked_of b p q o t x =
+    let seen : q.view.seen ≡ x.now = ap (λ (z : View). z.seen) x.is in record {
+      table_is = t ∙ o.table_is;
+      layout_is = ap (λ (z : View). z.layout) x.is ∙ o.layout_is;
+      share_is = ap (λ (z : View). z.parts) x.is ∙ (o.share_is ∙ ap (share_of b) (sym (ap (λ (z : View). z.role) x.is)));
+      legal = subst (λ (j : List Line). Legal (setup_of b.layout) (events_of j)) (sym seen) (subst (λ (L : Layout). Legal (setup_of L) (events_of x.now)) o.layout_is x.legal);
+      live = subst (λ (j : List Line). was_shut (events_of j) ≡ false) (sym seen) x.live;
+      orderly = subst (Orderly b.layout) (sym seen) (subst (λ (L : Layout). Orderly L x.now) o.layout_is x.orderly);
+      looked = ap (λ (z : View). z.heard) x.is;
+    }
+
+pub extended_of : (b : Facts) (p q : Pass) (l : Line) (role : Role) → IsOf b p → share_of b role ≡ share_of b p.view.role → q.table ≡ p.table → Extends p.view l role q.view → IsOf b q
+extended_of b p q l role o same t x =
+    let seen : q.view.seen ≡ l ∷ x.mid = ap (λ (z : View). z.seen) x.is in record {
+      table_is = t ∙ o.table_is;
+      layout_is = ap (λ (z : View). z.layout) x.is ∙ o.layout_is;
+      share_is = ap (λ (z : View). z.parts) x.is ∙ (o.share_is ∙ (sym same ∙ ap (share_of b) (sym (ap (λ (z : View). z.role) x.is))));
+      legal = subst (λ (j : List Line). Legal (setup_of b.layout) (events_of j)) (sym seen) (subst (λ (L : Layout). Legal (setup_of L) (events_of (l ∷ x.mid))) o.layout_is x.legal);
+      live = subst (λ (j : List Line). was_shut (events_of j) ≡ false) (sym seen) x.live;
+      orderly = subst (Orderly b.layout) (sym seen) (subst (λ (L : Layout). Orderly L (l ∷ x.mid)) o.layout_is x.orderly);
+      looked = ap (λ (z : View). z.heard) x.is;
+    }
+
+-- one step, with nothing before it
+pub took_one : (v m w u : View) (word n : ℕ) → m ≡ v → IsStep word n m w → u ≡ w → Took v u 1
+took_one v m w u word n e is same' = (record { word = word; found = n; seen = w.seen } ∷ [], refl, ap (λ (z : View). z.steps) same' ∙ (is ∙ ap (λ (z : View). record { word = word; found = n; seen = w.seen } ∷ z.steps) e))

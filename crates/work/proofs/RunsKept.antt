@@ -1,0 +1,259 @@
+-- What the single steps of a run come to: which events the pass went on by, how many steps it took, and whose pass it stays.
+use Rattle.std.proofs.Common.{◌≡◌, ℕ, suc, ◌+◌, ◌<◌, ◌≤◌, true, false, ℤ, List, [], ◌∷◌, ◌++◌, length, slice_index, Option, Some, None, sym, refl, ap, ◌∙◌, subst, arith, true≢false, eqb-true, length-append}
+use Rattle.std.proofs.lemmas.Bool.Decides.{nat_tests}
+use Rattle.std.proofs.lemmas.List.{append_assoc}
+use Rattle.atomic_table.specs.Table.{rest, turned}
+use Rattle.atomic_table.specs.Seated.{TableId}
+use Rattle.answers.specs.Answered.{IsPipe, is_plain, IsPast}
+use Rattle.answers.specs.Ends.{pipe_with, pipe_in}
+use Rattle.entry.specs.declared.op.Op.{Op}
+use Rattle.entry.specs.declared.op.Op.TheVariants.{Nop, Close, Read, Write, PollAdd, Invalid}
+use Rattle.entry.specs.Entry.{Entry}
+use Rattle.history.specs.declared.req.Req.{Req}
+use Rattle.history.specs.declared.event.Event.{Event}
+use Rattle.history.specs.Answers.{OpAnswers, is_pipe}
+use Rattle.history.specs.Chains.{IsPlaced}
+use Rattle.history.specs.History.{submission, Submission, was_shut}
+use Rattle.history.specs.Legal.{Legal, Setup, FitsOp}
+use Rattle.history.specs.Pipes.{flow, flows, flows_as, End, read_end, write_end, no_end, end_of}
+use Rattle.pipe.specs.Pipe.{Conduit}
+use Rattle.steps.specs.declared.line.Line.{Line}
+use Rattle.steps.specs.declared.line.Line.TheVariants.{Did}
+use Rattle.steps.specs.declared.parcel.Parcel.{Parcel}
+use Rattle.steps.specs.declared.parcel.Thing.{Thing}
+use Rattle.steps.specs.declared.parcel.Thing.TheVariants.{Full, Piped}
+use Rattle.steps.specs.declared.view.Layout.{Layout}
+use Rattle.steps.specs.declared.view.Role.{Role}
+use Rattle.steps.specs.declared.view.Role.TheVariants.{Idle, Busy, Leaving}
+use Rattle.steps.specs.declared.view.Step.{Step}
+use Rattle.steps.specs.declared.view.View.{View}
+use Rattle.steps.specs.Fairness.{Orderly}
+use Rattle.steps.specs.Journal.{event_of, events_of, holder, is_end_of, uses, is_served}
+use Rattle.steps.specs.Cells.{setup_of, IsCell, request_at, slot_at, over, IsParcel, PipeIs}
+use Rattle.steps.specs.Plays.{Seated, MayReply}
+use Rattle.steps.specs.Rule.{NoneOf, Begins, Looks, Extends, IsStep, leaves}
+use Rattle.steps.proofs.JournalGrowth.{lasts, placed_lasts, submission_lasts, submitted_in}
+use Rattle.steps.proofs.Served.{fits_is, serves_is, served_placed}
+use Rattle.steps.proofs.ViewsKept.{layout_after, role_after, parts_after, parcel_after}
+use Rattle.work.specs.Board.{Facts, IsOf, share_of}
+use Rattle.work.specs.Passes.{Pass, Took, RunsIt, own_of}
+use Rattle.work.specs.Runs.{EndsBy, names}
+use Rattle.work.proofs.OwnEvents.{own_none, own_append, silent_own}
+use Rattle.work.proofs.PassesKept.{extended_of}
+
+-- the parcel's entry is the one that was placed
+pub entry_is : (v : View) (r : Req) (data' : List ℕ) (p : Parcel) (e : Entry) → Orderly v.layout v.seen → IsParcel v.seen r data' p → IsPlaced (events_of v.seen) r e → p.sqe ≡ e
+entry_is v r d p e o k is = let s = serves_is v.layout v.seen r _ o k.1 in let own : IsPlaced (events_of v.seen) r p.sqe = served_placed (events_of v.seen) r _ k.1 s.0 in let z = sym own ∙ is in cc
+
+pub entry_placed : (v : View) (r : Req) (data' : List ℕ) (p : Parcel) → Orderly v.layout v.seen → IsParcel v.seen r data' p → IsPlaced (events_of v.seen) r p.sqe
+entry_placed v r d p o k = served_placed (events_of v.seen) r _ k.1 (serves_is v.layout v.seen r _ o k.1).0
+
+-- the worker of r went on without an event of its own
+pub record Quiet (v m : View) (r : Req) : Type 0 where
+  pub later : List Line
+  pub seen_is : m.seen ≡ later ++ v.seen
+  pub own : own_of (Busy r) later ≡ []
+  pub role_is : m.role ≡ Busy r
+
+pub quiet_still : (v : View) (r : Req) → v.role ≡ Busy r → Quiet v v r
+quiet_still v r busy = record { later = []; seen_is = refl; own = refl; role_is = busy }
+
+module _ (v m n : View) (r : Req) (q : Quiet v m r) where
+  further : (later : List Line) → NoneOf m.role later → own_of (Busy r) (later ++ q.later) ≡ []
+  further later none = own_append (Busy r) later q.later (subst (λ (z : Role). NoneOf z later) q.role_is none) ∙ q.own
+
+  behind : (later : List Line) → later ++ m.seen ≡ (later ++ q.later) ++ v.seen
+  behind later = ap (λ (j : List Line). later ++ j) q.seen_is ∙ sym (append_assoc later q.later v.seen)
+
+  pub quiet_look : Looks m n → Quiet v n r
+  quiet_look x = record { later = x.saw.later ++ q.later; seen_is = ap (λ (z : View). z.seen) x.is ∙ (x.saw.is ∙ behind x.saw.later); own = further x.saw.later x.saw.none; role_is = ap (λ (z : View). z.role) x.is ∙ q.role_is }
+
+  pub quiet_line : (l : Line) → ((h : List Event) → event_of l h ≡ h) → Extends m l (Busy r) n → Quiet v n r
+  quiet_line l silent x = record {
+    later = l ∷ (x.saw.later ++ q.later);
+    seen_is = ap (λ (z : View). z.seen) x.is ∙ ap (λ (j : List Line). l ∷ j) (x.saw.is ∙ behind x.saw.later);
+    own = silent_own (Busy r) l (x.saw.later ++ q.later) silent (further x.saw.later x.saw.none);
+    role_is = ap (λ (z : View). z.role) x.is;
+  }
+
+  -- and then by one
+  pub ends_by : (w : View) (e : Event) (role : Role) → Extends m (Did e) role n → w.seen ≡ n.seen → w.role ≡ Idle → EndsBy v w r e
+  ends_by w e role x same idle = record {
+    later = x.saw.later ++ q.later;
+    seen_is = same ∙ (ap (λ (z : View). z.seen) x.is ∙ ap (λ (j : List Line). Did e ∷ j) (x.saw.is ∙ behind x.saw.later));
+    own = further x.saw.later x.saw.none;
+    role_is = idle;
+  }
+
+-- one step more
+pub took_none : (v : View) → Took v v 0
+took_none v = ([], refl, refl)
+
+pub took_more : (u v w : View) (n : ℕ) (word found : ℕ) → Took u v n → IsStep word found v w → Took u w (suc n)
+took_more u v w n word found t is = let last : Step = record { word = word; found = found; seen = w.seen } in (last ∷ t.0, ap suc t.1, is ∙ ap (λ (s : List Step). last ∷ s) t.2)
+
+pub took_both : (u v w : View) (n m : ℕ) → Took u v n → Took v w m → Took u w (m + n)
+took_both u v w n m x y = (y.0 ++ x.0, length-append y.0 x.0 ∙ (λ i. y.1 i + x.1 i), y.2 ∙ (ap (λ (s : List Step). y.0 ++ s) x.2 ∙ sym (append_assoc y.0 x.0 u.steps)))
+
+-- a worker's pass stays one of the board's, whatever its role
+module _ (b : Facts) (p q : Pass) (r : Req) (o : IsOf b p) (same : q.table ≡ p.table) (busy : p.view.role ≡ Busy r) where
+  pub worker_on : (l : Line) → Extends p.view l (Busy r) q.view → IsOf b q
+  worker_on l x = extended_of b p q l (Busy r) o (ap (share_of b) (sym busy)) same x
+
+  pub worker_idle : (l : Line) → Extends p.view l Idle q.view → IsOf b q
+  worker_idle l x = extended_of b p q l Idle o (ap (share_of b) (sym busy)) same x
+
+pub worker_left : (b : Facts) (p q : Pass) (r : Req) (mid : View) (l : Line) (word found : ℕ) → IsOf b p → q.table ≡ p.table → p.view.role ≡ Busy r → Extends p.view l (Leaving r) mid → q.view ≡ leaves word found mid → IsOf b q
+worker_left b p q r mid l word found o same busy x is =
+    let m : Pass = record { table = p.table; view = mid } in let k = extended_of b p m l (Leaving r) o (ap (share_of b) (sym busy)) refl x in record {
+      table_is = same ∙ o.table_is;
+      layout_is = ap (λ (z : View). z.layout) is ∙ k.layout_is;
+      share_is = ap (λ (z : View). z.parts) is ∙ (k.share_is ∙ (ap (share_of b) (ap (λ (z : View). z.role) x.is) ∙ ap (share_of b) (sym (ap (λ (z : View). z.role) is))));
+      legal = subst (λ (j : List Line). Legal (setup_of b.layout) (events_of j)) (sym (ap (λ (z : View). z.seen) is)) k.legal;
+      live = ap (λ (j : List Line). was_shut (events_of j)) (ap (λ (z : View). z.seen) is) ∙ k.live;
+      orderly = subst (Orderly b.layout) (sym (ap (λ (z : View). z.seen) is)) k.orderly;
+      looked = ap (λ (z : View). z.heard) is ∙ k.looked;
+    }
+
+-- what was seen before an own line is a beginning of what was seen after it
+pub begins_on : (v w : View) (l : Line) (role : Role) → Extends v l role w → Begins w.seen v.seen
+begins_on v w l role x = (l ∷ x.saw.later, ap (λ (z : View). z.seen) x.is ∙ ap (λ (j : List Line). l ∷ j) x.saw.is)
+
+pub begins_both : (a b c : List Line) → Begins b a → Begins c b → Begins c a
+begins_both a b c x y = (y.0 ++ x.0, y.1 ∙ (ap (λ (j : List Line). y.0 ++ j) x.1 ∙ sym (append_assoc y.0 x.0 a)))
+
+pub names_past : (caps : List ℕ) (o : Option ℕ) → IsPast o (length caps) → names caps o ≡ false
+names_past caps None past = refl
+names_past caps (Some n) past = (let le : length caps ≤ n = past in grind (arith, nat_tests))
+
+pub names_one : (caps : List ℕ) (o : Option ℕ) (n : ℕ) → o ≡ Some n → n < length caps → names caps o ≡ true
+names_one caps o n is lt = ap (names caps) is ∙ grind (arith, nat_tests)
+
+-- ---- who runs a request goes on to run it
+
+module _ (table : TableId) (v w : View) (x g : ℕ) (r : Req) (p : Parcel) (pipes : ℕ) (k : RunsIt table v x g r p pipes) where
+  kept_by : w.layout ≡ v.layout → w.role ≡ Busy r → w.parts ≡ v.parts → IsParcel w.seen r [] p → Orderly w.layout w.seen → Legal (setup_of w.layout) (events_of w.seen) → RunsIt table w x g r p pipes
+  kept_by same role parts parcel orderly legal = record {
+    req_is = ap (λ (L : Layout). request_at L.cells x g) same ∙ k.req_is;
+    fits = (k.fits.0, subst (λ (L : Layout). IsCell L.cells x) (sym same) k.fits.1, k.fits.2, k.fits.3);
+    pipes_are = (ap (λ (L : Layout). length L.caps) same ∙ k.pipes_are.0, k.pipes_are.1);
+    role = role;
+    parts = subst (λ (n : ℕ). 0 < n) (sym parts) k.parts;
+    parcel = parcel;
+    orderly = orderly;
+    legal = legal;
+  }
+
+  pub runs_on : (l : Line) → Extends v l (Busy r) w → RunsIt table w x g r p pipes
+  runs_on l e = let same = layout_after v w l (Busy r) e in let seen = ap (λ (z : View). z.seen) e.is in
+      kept_by same (role_after v w l (Busy r) e) (parts_after v w l (Busy r) e) (parcel_after v w l (Busy r) e r [] p k.parcel)
+      (subst (λ (z : Layout × List Line). Orderly z.0 z.1) (λ i. (sym same i, sym seen i)) e.orderly) (subst (λ (z : Layout × List Line). Legal (setup_of z.0) (events_of z.1)) (λ i. (sym same i, sym seen i)) e.legal)
+
+  pub runs_look : Looks v w → RunsIt table w x g r p pipes
+  runs_look e = let same = ap (λ (z : View). z.layout) e.is in let seen = ap (λ (z : View). z.seen) e.is in let S : Setup = setup_of v.layout in
+      let legal : Legal S (events_of (e.saw.later ++ v.seen)) = subst (λ (j : List Line). Legal S (events_of j)) e.saw.is e.legal in
+      kept_by same (ap (λ (z : View). z.role) e.is ∙ k.role) (ap (λ (z : View). z.parts) e.is)
+      (k.parcel.0, subst (λ (j : List Line). submission (events_of j) r ≡ Some (record { entry = p.sqe; bytes = k.parcel.0; last = p.last })) (sym (seen ∙ e.saw.is)) (lasts S (λ h. submission h r ≡ Some (record { entry = p.sqe; bytes = k.parcel.0; last = p.last })) r (submission_lasts S r _) e.saw.later v.seen legal (submitted_in S v.seen r _ k.legal k.parcel.1) k.parcel.1), k.parcel.2)
+      (subst (λ (z : Layout × List Line). Orderly z.0 z.1) (λ i. (sym same i, sym seen i)) e.orderly) (subst (λ (z : Layout × List Line). Legal (setup_of z.0) (events_of z.1)) (λ i. (sym same i, sym seen i)) e.legal)
+
+  -- the entry that was placed, and its buffer
+  pub runs_placed : IsPlaced (events_of v.seen) r p.sqe
+  runs_placed = entry_placed v r [] p k.orderly k.parcel
+
+  pub runs_entry : (e : Entry) → IsPlaced (events_of v.seen) r e → p.sqe ≡ e
+  runs_entry e is = entry_is v r [] p e k.orderly k.parcel is
+
+  pub runs_fits : FitsOp p.sqe.op (length p.buffer.items)
+  runs_fits = subst (λ (bytes : List ℕ). FitsOp p.sqe.op (length bytes)) (sym k.parcel.2) (fits_is (setup_of v.layout) (events_of v.seen) r _ k.legal k.parcel.1)
+
+  pub runs_served : is_served p.sqe.op ≡ true
+  runs_served = (serves_is v.layout v.seen r _ k.orderly k.parcel.1).0
+
+  -- the same with another parcel of the same entry and bytes
+  pub runs_same : (c : Parcel) → c.sqe ≡ p.sqe → c.last ≡ p.last → c.buffer.items ≡ p.buffer.items → RunsIt table v x g r c pipes
+  runs_same c sqe last items = record {
+    req_is = k.req_is;
+    fits = k.fits;
+    pipes_are = k.pipes_are;
+    role = k.role;
+    parts = k.parts;
+    parcel = (k.parcel.0, k.parcel.1 ∙ (λ i. Some (record { entry = sym sqe i; bytes = k.parcel.0; last = sym last i })), items ∙ k.parcel.2);
+    orderly = k.orderly;
+    legal = k.legal;
+  }
+
+  -- what a contract may say of the pipe that the entry names
+  pub named_is : (n : ℕ) → pipe_in p.sqe.op ≡ Some n → n < pipes → (e : Entry) → IsPlaced (events_of v.seen) r e → (pipe_in e.op ≡ Some n) × (n < length v.layout.caps)
+  named_is n is lt e placed' = (ap (λ (d : Entry). pipe_in d.op) (sym (runs_entry e placed')) ∙ is, subst (λ (m : ℕ). n < m) (sym k.pipes_are.0) lt)
+
+  pub past_is : IsPast (pipe_in p.sqe.op) pipes → (e : Entry) → IsPlaced (events_of v.seen) r e → names v.layout.caps (pipe_in e.op) ≡ false
+  past_is past e placed' = names_past v.layout.caps (pipe_in e.op) (subst (λ (z : Option ℕ × ℕ). IsPast z.0 z.1) (λ i. (pipe_in ((runs_entry e placed') i).op, sym k.pipes_are.0 i)) past)
+
+  -- it is still placed so once others went on
+  pub placed_on : (l : Line) (role : Role) → Extends v l role w → (e : Entry) → IsPlaced (events_of v.seen) r e → IsPlaced (events_of w.seen) r e
+  placed_on l role x e is = let S : Setup = setup_of v.layout in let seen : w.seen ≡ (l ∷ x.saw.later) ++ v.seen = ap (λ (z : View). z.seen) x.is ∙ ap (λ (j : List Line). l ∷ j) x.saw.is in
+      subst (λ (j : List Line). IsPlaced (events_of j) r e) (sym seen) (lasts S (λ h. IsPlaced h r e) r (placed_lasts S r e) (l ∷ x.saw.later) v.seen (subst (λ (j : List Line). Legal S (events_of (l ∷ j))) x.saw.is x.legal) (submitted_in S v.seen r _ k.legal k.parcel.1) is)
+
+-- ---- which pipe an operation names
+
+pub served_plain : (op : Op) → is_served op ≡ true → is_plain op ≡ true
+served_plain Nop s = refl
+served_plain (Read fd offset len) s = refl
+served_plain (Write fd offset len) s = refl
+served_plain (Close fd) s = refl
+served_plain (PollAdd fd mask) s = refl
+served_plain Invalid s = refl
+served_plain op s = absurd (true≢false (sym s))
+
+end_in_use : (z : End) (n : ℕ) → is_end_of z n ≡ true → pipe_with z ≡ Some n
+end_in_use (read_end m) n u = ap Some (eqb-true m n u)
+end_in_use (write_end m) n u = ap Some (eqb-true m n u)
+end_in_use no_end n u = absurd (true≢false (sym u))
+
+pub pipe_used : (op : Op) (n : ℕ) → uses op n ≡ true → pipe_in op ≡ Some n
+pipe_used (Read fd offset len) n u = end_in_use (end_of fd) n u
+pipe_used (Write fd offset len) n u = end_in_use (end_of fd) n u
+pipe_used (Close fd) n u = end_in_use (end_of fd) n u
+pipe_used (PollAdd fd mask) n u = end_in_use (end_of fd) n u
+pipe_used op n u = absurd (true≢false (sym u))
+
+pub past_unused : (op : Op) (caps : List ℕ) (n : ℕ) → IsPast (pipe_in op) (length caps) → is_pipe caps n ≡ true → uses op n ≡ true → ⊥
+past_unused op caps n past there u = let le : length caps ≤ n = subst (λ (o : Option ℕ). IsPast o (length caps)) (pipe_used op n u) past in let lt : n < length caps = grind (arith, nat_tests) in omega arith
+
+-- ---- when a worker may reply
+
+module _ (table : TableId) (me : Seated) (x g : ℕ) (r : Req) (p : Parcel) (pipes : ℕ) (k : RunsIt table me.0 x g r p pipes) where
+  abbrev q : Req
+  q = request_at me.0.layout.cells x g
+
+  may_by : (c : Parcel) (res : ℤ) (data' : List ℕ) → me.1 ≡ (slot_at x, Some (Full c)) ∷ rest me.1 → c.sqe ≡ p.sqe → c.last ≡ p.last → c.buffer.items ≡ over data' p.buffer.items
+      → OpAnswers me.0.layout.caps (events_of me.0.seen) r p.sqe.op res data' → ((n : ℕ) → is_pipe me.0.layout.caps n ≡ true → uses p.sqe.op n ≡ true → holder me.0.seen n ≡ Some r) → MayReply me x q p.sqe res data'
+  may_by c res data' out sqe last items answers has = subst (λ (z : Req). MayReply me x z p.sqe res data') (sym k.req_is) record {
+    placed_is = runs_placed table me.0 me.0 x g r p pipes k;
+    answers = answers;
+    has = has;
+    parcel = (c, out, (k.parcel.0, k.parcel.1 ∙ (λ i. Some (record { entry = sym sqe i; bytes = k.parcel.0; last = sym last i })), items ∙ ap (over data') k.parcel.2));
+  }
+
+  -- a request that names no pipe of the board
+  pub plain_may : (res : ℤ) → me.1 ≡ (slot_at x, Some (Full p)) ∷ rest me.1 → IsPast (pipe_in p.sqe.op) (length me.0.layout.caps) → OpAnswers me.0.layout.caps (events_of me.0.seen) r p.sqe.op res [] → MayReply me x q p.sqe res []
+  plain_may res out past answers = may_by p res [] out refl refl refl answers (λ n there u. absurd (past_unused p.sqe.op me.0.layout.caps n past there u))
+
+  -- a request whose pipe is in hand
+  pub pipe_may : (c : Parcel) (n : ℕ) (res : ℤ) (data' : List ℕ) → me.1 ≡ (slot_at x, Some (Full c)) ∷ rest me.1 → c.sqe ≡ p.sqe → c.last ≡ p.last → c.buffer.items ≡ over data' p.buffer.items
+      → OpAnswers me.0.layout.caps (events_of me.0.seen) r p.sqe.op res data' → pipe_in p.sqe.op ≡ Some n → holder me.0.seen n ≡ Some r → MayReply me x q p.sqe res data'
+  pipe_may c n res data' out sqe last items answers named has = may_by c res data' out sqe last items answers
+      (λ m there u. (let one : n ≡ m = (let z = sym named ∙ pipe_used p.sqe.op m u in cc) in subst (λ (z : ℕ). holder me.0.seen z ≡ Some r) one has))
+
+  -- the pipe in hand is what the reply makes of it
+  pub pipe_after : (n : ℕ) (c : Conduit) (res : ℤ) → IsPipe (slice_index me.0.layout.caps n) c (flows p.sqe.op p.buffer.items res n (flow (events_of me.0.seen) n)) → PipeIs me.0.layout.caps n (Some (Piped c)) (flows_as (Some p.sqe) (submission (events_of me.0.seen) q) res n (flow (events_of me.0.seen) n))
+  pipe_after n c res is =
+      let given : submission (events_of me.0.seen) q ≡ Some (record { entry = p.sqe; bytes = p.buffer.items; last = p.last }) = subst (λ (z : Req). submission (events_of me.0.seen) z ≡ Some (record { entry = p.sqe; bytes = p.buffer.items; last = p.last })) (sym k.req_is) (k.parcel.1 ∙ (λ i. Some (record { entry = p.sqe; bytes = sym k.parcel.2 i; last = p.last }))) in
+      subst (λ (o : Option Submission). PipeIs me.0.layout.caps n (Some (Piped c)) (flows_as (Some p.sqe) o res n (flow (events_of me.0.seen) n))) (sym given) (is.cap_is, is.content_is, is.read_is, is.write_is)
+
+-- what a worker has in hand once its pipe was put back, and then its parcel
+pub in_both_hands : (old a b c : Seated) (n s : ℕ) (x y : Option Thing) → old.1 ≡ (n, None) ∷ (s, None) ∷ [] → a ≡ (old.0, (n, x) ∷ rest old.1) → b ≡ (a.0, turned a.1) → c ≡ (b.0, (s, y) ∷ rest b.1) → c ≡ (old.0, (s, y) ∷ (n, x) ∷ [])
+in_both_hands old a b c n s x y out ea eb ec =
+    let first : a ≡ (old.0, (n, x) ∷ (s, None) ∷ []) = ea ∙ ap (λ (cs : List (ℕ × Option Thing)). (let m : Seated = (old.0, (n, x) ∷ rest cs) in m)) out in
+    let second : b ≡ (old.0, (s, None) ∷ (n, x) ∷ []) = eb ∙ ap (λ (z : Seated). (let m : Seated = (z.0, turned z.1) in m)) first in
+    ec ∙ ap (λ (z : Seated). (let m : Seated = (z.0, (s, y) ∷ rest z.1) in m)) second

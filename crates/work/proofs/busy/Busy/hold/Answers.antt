@@ -1,0 +1,64 @@
+use Rattle.std.proofs.Common.{◌≡◌, ◌≢◌, ℕ, ◌+◌, ◌*◌, ◌<◌, ◌≤◌, false, true, true≢false, List, [], ◌∷◌, length, slice_index, Option, Some, None, sym, refl, ap, ◌∙◌, subst, arith}
+use Rattle.atomic_table.specs.Table.{rest}
+use Rattle.answers.specs.Answered.{IsPipe}
+use Rattle.answers.specs.Ends.{pipe_in}
+use Rattle.entry.specs.Entry.{Entry}
+use Rattle.history.specs.Chains.{IsPlaced}
+use Rattle.history.specs.Pipes.{flow}
+use Rattle.pipe.specs.Pipe.{Conduit}
+use Rattle.steps.specs.declared.line.Line.TheVariants.{Hold}
+use Rattle.steps.specs.declared.parcel.Thing.{Thing}
+use Rattle.steps.specs.declared.parcel.Thing.TheVariants.{Piped}
+use Rattle.steps.specs.declared.view.Role.TheVariants.{Busy as RoleBusy}
+use Rattle.steps.specs.declared.view.View.{View}
+use Rattle.steps.specs.Journal.{events_of}
+use Rattle.steps.specs.Cells.{slot_at}
+use Rattle.steps.specs.Plays.{Seated, HasAlone}
+use Rattle.steps.specs.Rule.{Looks}
+use Rattle.steps.proofs.StepKinds.{in_hand}
+use Rattle.steps.proofs.PipeSteps.{lacks_after}
+use Rattle.work.specs.Passes.{Running, RunsIt, seen_of}
+use Rattle.work.specs.Runs.{MissedPipe}
+use Rattle.work.proofs.RunsKept.{runs_on, runs_look, runs_placed}
+use Rattle.work.proofs.busy.Busy.hold.Goals as goal
+
+same_conduit : (a b : Conduit) → ◌≡◌ {A = Option Thing} (Some (Piped a)) (Some (Piped b)) → a ≡ b
+same_conduit a b e = cc
+
+pub hold-requires-clause-fits : goal.hold-requires-clause-fits
+hold-requires-clause-fits c = let b = c.self.inside in let i = c.self.invariant in let a = i.runs.pipes_are in let f = i.runs.fits in
+    let named = subst (λ (k : Running). (e : Entry) → IsPlaced (seen_of k.pass) k.req e → (pipe_in e.op ≡ Some c.args.pipe) × (c.args.pipe < length k.pass.view.layout.caps)) (sym c.self.view_is) c.requires.named b.parcel.sqe (runs_placed b.words.now.table_id b.seat.me.0 b.seat.me.0 b.cell b.generation b.req b.parcel b.pipes i.runs) in
+    (i.table_is, (let n = named.1 in omega arith), named.1, (let n = named.1 in omega arith))
+
+pub invariant_of-result : goal.invariant_of-result
+invariant_of-result c = let b = c.self.inside in let i = c.self.invariant in let k = c.if-not-hold.ensures in let x = k.looks (λ e. true≢false (sym e)) in record {
+  table_is = k.seat.0 ∙ i.table_is;
+  runs = runs_look b.words.now.table_id b.seat.me.0 c.hold.new.seat.me.0 b.cell b.generation b.req b.parcel b.pipes i.runs x.0;
+  out = x.1 ∙ i.out;
+  bare = λ n. lacks_after b.seat.me.0 c.hold.new.seat.me.0 b.req n i.runs.role (i.bare n) x.0;
+}
+
+pub returns-then-not-hold-clause-busy : goal.returns-then-not-hold-clause-busy
+returns-then-not-hold-clause-busy c = let b = c.self.inside in let i = c.self.invariant in let k = c.if-not-hold.ensures in let x = k.looks (λ e. true≢false (sym e)) in let m = k.missed (λ e. true≢false (sym e)) in let w : View = c.hold.new.seat.me.0 in
+    subst (λ (r : Running). (b.req ≡ r.req) × (c.hold.new.seat.table_id ≡ r.pass.table) × Looks r.pass.view w × MissedPipe r.pass.view w c.args.pipe r.req) c.self.view_is
+    (refl, k.seat.0, x.0, (m.0, m.1, m.2, m.3, m.4, λ e. m.5 (ap (λ (z : View). z.role) x.0.is ∙ (i.runs.role ∙ ap RoleBusy (sym e)))))
+
+pub exchange-thing-requires : goal.exchange-thing-requires
+exchange-thing-requires c = let b = c.self.inside in let i = c.self.invariant in let k = c.if-not-hold.ensures in let h = (k.holds refl b.req i.runs.role).2 in
+    (k.seat.0 ∙ i.table_is, (Some (Piped h.0), h.1 ∙ ap (λ (cs : List (ℕ × Option Thing)). (c.args.pipe, Some (Piped h.0)) ∷ rest cs) (sym h.1)))
+
+pub pipe_of-requires : goal.pipe_of-requires
+pipe_of-requires c = let b = c.self.inside in let i = c.self.invariant in let h = (c.if-not-hold.ensures.holds refl b.req i.runs.role).2 in record { piped = (h.0, sym (ap in_hand (sym h.1 ∙ c.exchange-thing.ensures.2))) }
+
+pub invariant_of-result-2 : goal.invariant_of-result-2
+invariant_of-result-2 c = let b = c.self.inside in let i = c.self.invariant in let k = c.if-not-hold.ensures in let x = k.holds refl b.req i.runs.role in let h = x.2 in let m = c.exchange-thing.ensures.3 in let v : View = c.hold.new.seat.me.0 in
+    let named = subst (λ (k : Running). (e : Entry) → IsPlaced (seen_of k.pass) k.req e → (pipe_in e.op ≡ Some c.args.pipe) × (c.args.pipe < length k.pass.view.layout.caps)) (sym c.self.view_is) c.requires.named b.parcel.sqe (runs_placed b.words.now.table_id b.seat.me.0 b.seat.me.0 b.cell b.generation b.req b.parcel b.pipes i.runs) in
+    let same : h.0 ≡ c.pipe_of.result = same_conduit h.0 c.pipe_of.result (ap in_hand (sym h.1 ∙ c.exchange-thing.ensures.2) ∙ c.pipe_of.ensures.is) in
+    let runs = runs_on b.words.now.table_id b.seat.me.0 v b.cell b.generation b.req b.parcel b.pipes i.runs (Hold b.req c.args.pipe) x.0 in record {
+      table_is = c.exchange-thing.ensures.0 ∙ (k.seat.0 ∙ i.table_is);
+      runs = subst (λ (z : Seated). RunsIt b.words.now.table_id z.0 b.cell b.generation b.req b.parcel b.pipes) (sym m) runs;
+      out = ap (λ (z : Seated). z.1) m ∙ ap (λ (cs : List (ℕ × Option Thing)). (c.args.pipe, None) ∷ cs) (ap rest h.1 ∙ i.out);
+      alone = subst (λ (z : Seated). HasAlone z.0.seen c.args.pipe b.req) (sym m) x.1;
+      named = (named.0, subst (λ (n : ℕ). c.args.pipe < n) i.runs.pipes_are.0 named.1);
+      pipe_is = subst (λ (z : Seated × Conduit). IsPipe (slice_index z.0.0.layout.caps c.args.pipe) z.1 (flow (events_of z.0.0.seen) c.args.pipe)) (λ i. (sym m i, same i)) (record { cap_is = h.2.0; content_is = h.2.1; read_is = h.2.2; write_is = h.2.3 });
+    }

@@ -1,0 +1,93 @@
+//! A worker that runs a request and has its pipe in hand.
+ghost use Rattle.std.specs.Prelude.{◌≡◌, ℕ, List, Some, None, IfOk, IfErr};
+ghost use Rattle.entry.specs.Entry.{Entry};
+ghost use Rattle.history.specs.declared.event.Event.TheVariants.{Reply};
+ghost use Rattle.history.specs.Chains.{IsPlaced};
+ghost use Rattle.steps.specs.declared.line.Line.TheVariants.{Did, Free};
+ghost use Rattle.steps.specs.declared.view.Role.TheVariants.{Busy as RoleBusy, Leaving};
+ghost use Rattle.steps.specs.declared.view.View.{View};
+ghost use Rattle.steps.specs.Cells.{claim_at, pipe_at};
+ghost use Rattle.steps.specs.Rule.{Extends, IsStep, IsTwoSteps, leaves};
+
+use crate::busy::{Busy, put_back};
+use crate::worker::Worker;
+use answers::answer_with;
+use entry::{Cqe, fails};
+use history::Req;
+use pipe::Pipe;
+use std::marker::Model;
+use steps::{Parcel, TableSeat, Thing, Words, pipes};
+
+/// A worker that runs a request, and has taken the pipe that its entry names.
+pub(crate) struct Holding<'a> {
+    pub(crate) words: &'a Words,
+    pub(crate) seat: TableSeat,
+    pub(crate) cell: usize,
+    pub(crate) generation: u32,
+    pub(crate) req: Req,
+    pub(crate) parcel: Parcel,
+    pub(crate) pipes: usize,
+    pub(crate) pipe: usize,
+    pub(crate) conduit: Pipe,
+}
+
+impl<'a> Model for Holding<'a> {
+    ghost use Rattle.work.specs.Passes.{Holding as Held, pass_of, IsHoldingSeat};
+
+    ghost Value = { Held };
+
+    ghost view = { λ h. record { pass = pass_of h.seat; req = h.req; pipe = h.pipe } };
+
+    ghost invariant = { λ h. IsHoldingSeat h.words.now.table_id h.seat h.cell h.generation h.req h.parcel h.pipes h.pipe h.conduit };
+}
+
+impl<'a> Holding<'a> {
+    ghost use Rattle.work.specs.Passes.{seen_of};
+    ghost use Rattle.work.specs.Runs.{Unanswered};
+
+    /// Answers the request by its pipe, and gives the pipe back; or gives it back as it was, where there is no answer now.
+    pub(crate) fn answer(self) -> Result<(Worker, Cqe), Busy<'a>>
+        ensures replied { IfOk result (λ t. (t.0.table ≡ self.entry.pass.table) × (data' : List ℕ) × (mid : View) × Extends self.entry.pass.view (Did (Reply self.entry.req t.1.res data')) (Leaving self.entry.req) mid × (found : ℕ) × (t.0.view ≡ leaves (pipe_at self.entry.pipe) found mid)) }
+        ensures steps { IfOk result (λ t. (word : ℕ) × IsTwoSteps word (pipe_at self.entry.pipe) self.entry.pass.view t.0.view) }
+        ensures user_data { IfOk result (λ t. (e : Entry) → IsPlaced (seen_of self.entry.pass) self.entry.req e → t.1.user_data ≡ e.user_data) }
+        ensures waits { IfErr result (λ b. (b.req ≡ self.entry.req) × (b.pass.table ≡ self.entry.pass.table) × Extends self.entry.pass.view (Free self.entry.req self.entry.pipe) (RoleBusy self.entry.req) b.pass.view × ((found : ℕ) × IsStep (pipe_at self.entry.pipe) found self.entry.pass.view b.pass.view)) }
+        ensures unanswered { IfErr result (λ b. (e : Entry) → IsPlaced (seen_of self.entry.pass) self.entry.req e → Unanswered self.entry.pass.view self.entry.req e) }
+    {
+        let Holding {
+            words,
+            mut seat,
+            cell,
+            generation,
+            req,
+            mut parcel,
+            pipes,
+            pipe,
+            mut conduit,
+        } = self;
+        let answer = answer_with(parcel.sqe.op(), &mut conduit, parcel.buffer.as_mut_slice());
+        let None = words.exchange(&mut seat, pipe, Some(Thing::Piped(conduit))) else {
+            unreachable!()
+        };
+        let Some(res) = answer else {
+            pipes::free(words, &mut seat, pipe);
+            return Err(Busy {
+                words,
+                seat,
+                cell,
+                generation,
+                req,
+                parcel,
+                pipes,
+            });
+        };
+        seat.turn();
+        let fails = fails(&parcel.sqe, res);
+        let cqe = Cqe {
+            user_data: parcel.sqe.user_data(),
+            res,
+        };
+        put_back(words, &mut seat, cell, parcel);
+        pipes::reply(words, &mut seat, cell, generation, fails, res, pipe);
+        Ok((Worker::new(seat), cqe))
+    }
+}

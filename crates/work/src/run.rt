@@ -1,0 +1,22 @@
+//! What a run ends with.
+use entry::Cqe;
+
+/// What a run ended with.
+#[derive(Drop)]
+pub enum Ran {
+    /// The request was answered, with this completion.
+    Replied { cqe: Cqe },
+    /// The request was put back to Ready. Only READ, WRITE, CLOSE and POLL_ADD are, whose fd is an end of one of the
+    /// board's pipes.
+    Parked(Parked),
+}
+
+/// Why a request was put back.
+#[derive(Clone, Copy, PartialEq, Eq, Debug)]
+pub enum Parked {
+    /// There was no answer now: a READ of an empty pipe, a WRITE without room, a POLL_ADD without an event (read(2),
+    /// write(2), poll(2)).
+    NotReady,
+    /// Its pipe was out with another worker.
+    PipeBusy,
+}
