@@ -3,7 +3,7 @@ use Rattle.std.proofs.Common.{◌≡◌, ◌<◌, ◌≤◌, ◌+◌, ℕ, zero,
 use Rattle.std.specs.Prelude.{◌==◌, MatchOption, nat_le, nat_lt, not, slice_get}
 use Rattle.std.specs.List.{list_all, position_or_len}
 use Rattle.std.proofs.lemmas.Bool.{and_from, and_parts, cond_both, eqb-true, le-leb, lt-ltb, ltb-false, ltb-true}
-use Rattle.std.proofs.lemmas.List.{length-append, length_push}
+use Rattle.std.proofs.lemmas.List.{length_push}
 use Rattle.std.proofs.lemmas.List.Folds.{find_at, list_all-append}
 use Rattle.std.proofs.lemmas.Option.{slice_get-get_or, slice_get_within}
 use Rattle.entry.specs.Entry.{Entry}
@@ -21,6 +21,7 @@ use Rattle.script_text.specs.Sentences.{Sentence, first_of}
 use Rattle.script_text.specs.Words.{word_at}
 use Rattle.script_text.proofs.CleanLines.{AreClean, is_clean}
 use Rattle.script_text.proofs.NoFault.{IsClean, IsCleanIf, both_nil, no_fault_if}
+use Rattle.script_text.proofs.Steps.{stated_bounds}
 
 -- ---- actors
 
@@ -121,19 +122,8 @@ below_step (Some Tick) words given own ss batch n le all = all
 below_step (Some Armed) words given own ss batch n le all = all
 below_step (Some (EntryLine kind)) words given own ss batch n le all = push_below own (nat_lt 1 (length words)) ss _ batch n le all
 
-stated_grows : (k : Option Keyword) (words : List (List ℕ)) (given : Option Entry) (ss : List Stated) → length ss ≤ length (stated_with k words given ss)
-stated_grows None words given ss = omega arith
-stated_grows (Some Pipe) words given ss = omega arith
-stated_grows (Some Ring) words given ss = omega arith
-stated_grows (Some On) words given ss = omega arith
-stated_grows (Some Submit) words given ss = omega arith
-stated_grows (Some Wait) words given ss = omega arith
-stated_grows (Some Tick) words given ss = omega arith
-stated_grows (Some Armed) words given ss = omega arith
-stated_grows (Some (EntryLine kind)) words given ss = cond_both (nat_lt 1 (length words)) _ ss (λ (ls : List Stated). length ss ≤ length ls) (λ e. simp length-append (omega arith)) (λ e. omega arith)
-
 pub stated_above : (s : Sentence) (above : List Sentence) → length (stated_in above) ≤ length (stated_in (s ∷ above))
-stated_above s above = stated_grows (first_of s) s.words s.given (stated_in above)
+stated_above s above = (stated_bounds (first_of s) s.words s.given (stated_in above)).0
 
 batch_below : (a : Actor) (above : List Sentence) (n : ℕ) → length (stated_in above) ≤ n → list_all (λ q. nat_lt q n) (batch_in a above) ≡ true
 batch_below a [] n le = refl

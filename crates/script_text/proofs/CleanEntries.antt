@@ -43,9 +43,6 @@ flag_bits false true false = refl
 flag_bits false false true = refl
 flag_bits false false false = refl
 
-keeps_op : (o : Op) (flags : ℕ) → (bit_and flags (allowed_flags o) == flags) ≡ true → (flagged (plain o) flags).op ≡ o
-keeps_op o flags e = rw e refl
-
 -- ---- buffers
 
 fits_none : (o : Op) (flags : ℕ) → fits_buffer o 0 ≡ true → fits_buffer (flagged (plain o) flags).op 0 ≡ true

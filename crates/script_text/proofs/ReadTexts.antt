@@ -1,17 +1,12 @@
 -- What is read of a text, by what is read of its lines.
-use Rattle.std.proofs.Common.{◌≡◌, ◌<◌, ◌≤◌, ◌+◌, ℕ, zero, suc, All, List, [], ◌∷◌, Option, None, Some, length, get_or, ap, subst, arith}
-use Rattle.std.specs.Prelude.{◌==◌, nat_lt, reverse}
-use Rattle.std.proofs.lemmas.Bool.{cond_both}
-use Rattle.std.proofs.lemmas.List.{length-append, length-map, length-reverse}
+use Rattle.std.proofs.Common.{◌≡◌, ◌<◌, ◌≤◌, ◌+◌, ℕ, zero, suc, All, List, [], ◌∷◌, length, get_or, ap, subst, arith}
+use Rattle.std.specs.Prelude.{◌==◌, reverse}
+use Rattle.std.proofs.lemmas.List.{length-map, length-reverse}
 use Rattle.std.proofs.lemmas.List.Splits.{length-slice_split}
-use Rattle.entry.specs.Entry.{Entry}
 use Rattle.script.specs.declared.script.Script.{Script}
 use Rattle.script_text.specs.declared.fault.ScriptFault.{ScriptFault}
 use Rattle.script_text.specs.declared.fault.ScriptFault.TheVariants.{Line, Memory}
-use Rattle.script_text.specs.declared.keyword.Keyword.{Keyword}
-use Rattle.script_text.specs.declared.keyword.Keyword.TheVariants.{Pipe, Ring, On, Submit, Wait, Tick, Armed, Entry as EntryLine}
-use Rattle.script_text.specs.Above.{Entered, actor_in, stated_in, stated_with}
-use Rattle.script_text.specs.EntryLines.{Stated}
+use Rattle.script_text.specs.Above.{Entered, actor_in, stated_in}
 use Rattle.script_text.specs.Kept.{IsFaultAmong}
 use Rattle.script_text.specs.Parts.{entered}
 use Rattle.script_text.specs.Scripts.{IsFaultless, IsScriptOf, IsToldOf, is_headless, is_left, standing_in}
@@ -19,7 +14,7 @@ use Rattle.script_text.specs.Sentences.{AreSentences, Sentence, above_of, first_
 use Rattle.script_text.specs.Words.{IsPlain, text_lines, without_end}
 use Rattle.script_text.proofs.LinesAbove.{sentences_all}
 use Rattle.script_text.proofs.NoFault.{clean_line}
-use Rattle.script_text.proofs.Steps.{as_many_entries}
+use Rattle.script_text.proofs.Steps.{as_many_entries, stated_bounds}
 
 pub some_line : (bytes : List ℕ) → 1 ≤ length (text_lines bytes)
 unfolding text_lines
@@ -43,20 +38,9 @@ all_plain ts ss are none k d lt =
     let clean = clean_line (standing_in above) (stated_in all) (is_left (actor_in above) all (k + 1)) (is_headless all (k + 1)) (line_at ss k).text (line_at ss k).words (line_at ss k).given (none k (omega (arith, many, lt))) in
     subst IsPlain (text_at ts ss k d are lt) clean.plain
 
-stated_more : (k : Option Keyword) (words : List (List ℕ)) (given : Option Entry) (lines : List Stated) → length (stated_with k words given lines) ≤ length lines + 1
-stated_more None words given lines = omega arith
-stated_more (Some Pipe) words given lines = omega arith
-stated_more (Some Ring) words given lines = omega arith
-stated_more (Some On) words given lines = omega arith
-stated_more (Some Submit) words given lines = omega arith
-stated_more (Some Wait) words given lines = omega arith
-stated_more (Some Tick) words given lines = omega arith
-stated_more (Some Armed) words given lines = omega arith
-stated_more (Some (EntryLine kind)) words given lines = cond_both (nat_lt 1 (length words)) _ _ (λ (ls : List Stated). length ls ≤ length lines + 1) (λ e. simp length-append (omega arith)) (λ e. omega arith)
-
 stated_few : (above : List Sentence) → length (stated_in above) ≤ length above
 stated_few [] = omega arith
-stated_few (s ∷ above) = let a = stated_more (first_of s) s.words s.given (stated_in above) in let b = stated_few above in omega (arith, a, b)
+stated_few (s ∷ above) = let a = (stated_bounds (first_of s) s.words s.given (stated_in above)).1 in let b = stated_few above in omega (arith, a, b)
 
 -- each entry has its own line
 pub entries_few : (ts : List (List ℕ)) (ss : List Sentence) (script : Script) → AreSentences ts ss → IsScriptOf ss script → length script.entries.items ≤ length ts

@@ -2,6 +2,7 @@
 use Rattle.std.proofs.Common.{◌≡◌, ◌<◌, ◌≤◌, ◌+◌, ℕ, Bool, true, false, List, [], ◌∷◌, ◌++◌, ◌||◌, Option, None, Some, cond, length, refl, sym, ap, ◌∙◌, arith}
 use Rattle.std.specs.Prelude.{◌==◌, ◌&&◌, map, nat_lt, not, reverse, slice_get}
 use Rattle.std.specs.List.{list_any}
+use Rattle.std.proofs.lemmas.Bool.{cond_both}
 use Rattle.std.proofs.lemmas.List.{length-map, length-append, map_push}
 use Rattle.entry.specs.Entry.{Entry}
 use Rattle.limits.specs.declared.TheConstants.{RINGS}
@@ -126,6 +127,23 @@ faults_same all above p o n s out st =
     let left = left_same p.actor (length p.rings.items) all o n st.even.known st.even.few out in
     let left' : is_unsubmitted p.actor o.last_submits n ≡ is_left (actor_in above) all n = left ∙ ap (λ (a : Actor). is_left a all n) st.actor in
     λ i. line_faults (standing_is i) (out.stated i) (left' i) ((n == 1) && not (out.has_ring i)) s.text s.words s.given
+
+-- ---- how many entry lines
+
+-- a line adds an entry line, or none
+pub stated_bounds : (k : Option Keyword) (words : List (List ℕ)) (given : Option Entry) (lines : List Stated)
+    → (length lines ≤ length (stated_with k words given lines)) × (length (stated_with k words given lines) ≤ length lines + 1)
+stated_bounds None words given lines = (omega arith, omega arith)
+stated_bounds (Some Pipe) words given lines = (omega arith, omega arith)
+stated_bounds (Some Ring) words given lines = (omega arith, omega arith)
+stated_bounds (Some On) words given lines = (omega arith, omega arith)
+stated_bounds (Some Submit) words given lines = (omega arith, omega arith)
+stated_bounds (Some Wait) words given lines = (omega arith, omega arith)
+stated_bounds (Some Tick) words given lines = (omega arith, omega arith)
+stated_bounds (Some Armed) words given lines = (omega arith, omega arith)
+stated_bounds (Some (EntryLine kind)) words given lines =
+    cond_both (nat_lt 1 (length words)) _ lines (λ (ls : List Stated). (length lines ≤ length ls) × (length ls ≤ length lines + 1))
+    (λ e. (simp length-append (omega arith), simp length-append (omega arith))) (λ e. (omega arith, omega arith))
 
 -- ---- the outline
 

@@ -6,30 +6,6 @@ use Rattle.script_text.specs.declared.keyword.Keyword.{Keyword}
 use Rattle.script_text.specs.declared.keyword.Keyword.TheVariants.{Pipe, Ring, On, Submit, Wait, Tick, Armed, Entry}
 use Rattle.script_text.specs.Words.{is_same}
 
--- the first word of an entry line of each kind
-abbrev pub kind_name : Kind → List ℕ
-kind_name Nop = codes "nop"
-kind_name Read = codes "read"
-kind_name Write = codes "write"
-kind_name Close = codes "close"
-kind_name Poll = codes "poll"
-kind_name Timeout = codes "timeout"
-kind_name LinkTimeout = codes "link-timeout"
-kind_name Cancel = codes "cancel"
-kind_name Remove = codes "remove"
-kind_name Raw = codes "raw"
-
--- the first word of each line
-abbrev pub name_of : Keyword → List ℕ
-name_of Pipe = codes "pipe"
-name_of Ring = codes "ring"
-name_of On = codes "on"
-name_of Submit = codes "submit"
-name_of Wait = codes "wait"
-name_of Tick = codes "tick"
-name_of Armed = codes "armed"
-name_of (Entry kind) = kind_name kind
-
 -- what a first word asks for, if it is one of those
 unfoldable pub kind_of : List ℕ → Option Kind
 kind_of word =
