@@ -1,12 +1,13 @@
 -- What is severed stays severed, and what is open stays open.
-use Rattle.std.proofs.Common.{◌≡◌, ℕ, ◌-◌, ◌<◌, ◌==◌, Bool, true, false, cond, List, ◌∷◌, Some, None, sym, ap, ◌∙◌, subst, ⊎_elim, arith}
+use Rattle.std.proofs.Common.{◌≡◌, ℕ, ◌-◌, ◌<◌, ◌==◌, Bool, true, false, cond, ℤ, List, [], ◌∷◌, Some, None, sym, ap, ◌∙◌, subst, ⊎_elim, arith, true≢false}
 use Rattle.history.specs.declared.req.Req.{Req}
 use Rattle.history.specs.declared.event.Event.{Event}
-use Rattle.history.specs.History.{submission, submits, phase, IsReplied}
+use Rattle.history.specs.declared.event.Event.TheVariants.{Submit, Begin, Park, Reply, Take, Miss, Tick, Arm, Expire, Fire, FireMiss, Settle, Sever, Reap, Shut, Cut}
+use Rattle.history.specs.History.{Phase, Cause, unborn, waits, runs, replied, reaped, after_reap, becomes, concerns, submission, submits, phase, IsReplied}
 use Rattle.history.specs.Chains.{joins, previous, before_in, placed_from, placed, IsBefore, IsChainBefore, Severed, IsClear, is_link_timeout_in, gate_of, Open}
 use Rattle.history.specs.Legal.{Setup, MayCome, Legal}
-use Rattle.history.proofs.Requests.{bool_cases}
-use Rattle.history.proofs.Growth.{submission_stays, reply_of_replied, reply_stays, replied_stays}
+use Rattle.history.proofs.Requests.{bool_cases, same_true}
+use Rattle.history.proofs.Growth.{at_request, counted, unchanged, changed, submission_stays, reply_of_replied, reply_stays, replied_stays}
 
 -- the request whose place decides was submitted too
 pub gate_counted : (h : List Event) (r : Req) → r.k < submits h r.ring → (gate_of h r).k < submits h (gate_of h r).ring
@@ -63,3 +64,42 @@ module _ (s : Setup) (e : Event) (h : List Event) (l : Legal s h) (a : MayCome s
   -- once a request is open it is open for good
   pub open_stays : (r : Req) → r.k < submits h r.ring → Open h r → Open (e ∷ h) r
   open_stays r le o = subst (λ (g : Req). IsClear (e ∷ h) g) (sym (gate_stays r le)) (clear_stays (gate_of h r) (gate_counted h r le) o)
+
+-- ---- what runs is open
+
+no_run : {X : Type 0} → (p : Phase) → p ≡ runs → (p ≡ runs → ⊥) → X
+no_run p e n = absurd (n e)
+
+-- an event after which the request runs has started it
+begun_open : (s : Setup) (e : Event) (h : List Event) (r : Req) → Legal s h → MayCome s h e → concerns e r ≡ true → becomes h e (phase h r) ≡ runs → Open (e ∷ h) r
+begun_open s (Begin z) h r l a w is = open_stays s (Begin z) h l a r (counted s h r l (λ u. waits_born (sym (at_request h z r waits w a.0) ∙ u))) (subst (Open h) (same_true z r w) a.1) where
+  waits_born : waits ≡ unborn → ⊥
+  waits_born e = cc
+begun_open s (Reap z) h r l a w is = absurd (reaped_runs a.0 a.1 (sym (ap after_reap (at_request h z r (replied a.0 a.1) w a.2)) ∙ is)) where
+  reaped_runs : (c : Cause) (res : ℤ) → reaped c res ≡ runs → ⊥
+  reaped_runs c res e = cc
+begun_open s (Miss c t) h r l a w is = absurd (true≢false (sym w))
+begun_open s (Tick n) h r l a w is = absurd (true≢false (sym w))
+begun_open s (FireMiss t c) h r l a w is = absurd (true≢false (sym w))
+begun_open s Shut h r l a w is = absurd (true≢false (sym w))
+begun_open s (Submit z d bytes last) h r l a w is = no_run _ is (λ u. cc)
+begun_open s (Park z) h r l a w is = no_run _ is (λ u. cc)
+begun_open s (Reply z res data') h r l a w is = no_run _ is (λ u. cc)
+begun_open s (Take c t) h r l a w is = no_run _ is (λ u. cc)
+begun_open s (Arm z d) h r l a w is = no_run _ is (λ u. cc)
+begun_open s (Expire z) h r l a w is = no_run _ is (λ u. cc)
+begun_open s (Fire t c) h r l a w is = no_run _ is (λ u. cc)
+begun_open s (Settle z) h r l a w is = no_run _ is (λ u. cc)
+begun_open s (Sever z) h r l a w is = no_run _ is (λ u. cc)
+begun_open s (Cut z) h r l a w is = no_run _ is (λ u. cc)
+
+pub running_open : (s : Setup) (h : List Event) (r : Req) → Legal s h → phase h r ≡ runs → Open h r
+running_open s [] r l is = no_run unborn is (λ u. cc)
+running_open s (e ∷ h) r l is = ⊎_elim
+    (λ (w : concerns e r ≡ true). begun_open s e h r l.1 l.0.1 w (sym (changed s e h r w) ∙ is))
+    (λ (w : concerns e r ≡ false).
+    (let here : phase h r ≡ runs = sym (unchanged s e h r w) ∙ is in
+    open_stays s e h l.1 l.0.1 r (counted s h r l.1 (λ u. runs_born (sym here ∙ u))) (running_open s h r l.1 here)))
+    (bool_cases (concerns e r)) where
+      runs_born : runs ≡ unborn → ⊥
+      runs_born e = cc

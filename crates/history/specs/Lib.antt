@@ -4,3 +4,4 @@ pub mod History
 pub mod Legal
 pub mod Pipes
 pub mod State
+pub mod Users
