@@ -1,5 +1,5 @@
 -- A pass that looked, or went on by one event of its own, from what the single steps of its seat tell.
-use Rattle.std.proofs.Common.{◌≡◌, ◌≢◌, ◌==◌, ℕ, ◌+◌, ◌<◌, ◌≤◌, Bool, true, false, cond, List, [], ◌∷◌, ◌++◌, sym, refl, ap, ◌∙◌, subst, ⊎_elim, arith, true≢false, eq-eqb}
+use Rattle.std.proofs.Common.{◌≡◌, ◌==◌, ℕ, true, cond, List, [], ◌∷◌, ◌++◌, sym, refl, ap, ◌∙◌, subst, ⊎_elim, eq-eqb}
 use Rattle.std.proofs.lemmas.List.{append_assoc}
 use Rattle.history.specs.declared.req.Req.{Req}
 use Rattle.history.specs.declared.event.Event.{Event}
@@ -7,7 +7,7 @@ use Rattle.history.proofs.Requests.{bool_cases}
 use Rattle.steps.specs.declared.line.Line.{Line}
 use Rattle.steps.specs.declared.line.Line.TheVariants.{Did, Freed}
 use Rattle.steps.specs.declared.view.Role.{Role}
-use Rattle.steps.specs.declared.view.Role.TheVariants.{Poller, Submitter, Lending}
+use Rattle.steps.specs.declared.view.Role.TheVariants.{Submitter, Lending}
 use Rattle.steps.specs.declared.view.View.{View}
 use Rattle.steps.specs.Journal.{event_of, events_of}
 use Rattle.steps.specs.Rule.{Owner, nobody, pollers, rings, workers, owner, stands_for, owns, NoneOf, Looks, Extends, ExtendsTwice, ExtendsThrice}
@@ -32,15 +32,15 @@ goes_looked b p q o t x = record {
 pub goes_still : (b : Facts) (p : Pass) → IsOf b p → Goes b p [] p
 goes_still b p o = record { kept = o; role_is = refl; later = []; seen_is = refl; own = refl; last = tt }
 
-event_before : (x : Line) (h g : List Event) → event_of x (h ++ g) ≡ event_of x h ++ g
+pub event_before : (x : Line) (h g : List Event) → event_of x (h ++ g) ≡ event_of x h ++ g
 event_before (Did e) h g = refl
 event_before x h g = refl
 
-events_before : (k l : List Line) → events_of (k ++ l) ≡ events_of k ++ events_of l
+pub events_before : (k l : List Line) → events_of (k ++ l) ≡ events_of k ++ events_of l
 events_before [] l = refl
 events_before (x ∷ k) l = ap (event_of x) (events_before k l) ∙ event_before x (events_of k) (events_of l)
 
-ends_before : (es : List Event) (h g : List Event) → EndsWith es h → EndsWith es (h ++ g)
+pub ends_before : (es : List Event) (h g : List Event) → EndsWith es h → EndsWith es (h ++ g)
 ends_before [] h g w = tt
 ends_before (e ∷ es) h g w = (w.0 ++ g, ap (λ (z : List Event). z ++ g) w.1)
 

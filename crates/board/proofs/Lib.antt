@@ -14,3 +14,15 @@ pub mod TableEnd
 pub mod Submitting
 pub mod Standings
 pub mod OwnCells
+pub mod LanesKept
+pub mod FactsWords
+pub mod LaneWalks
+pub mod LaneSeats
+pub mod BatchesKept
+pub mod Watching
+pub mod PutBack
+pub mod FactsRead
+pub mod WordOutcomes
+pub mod RowLaws
+pub mod Deciding
+pub mod RowsKept

@@ -1,5 +1,5 @@
 -- How the passes of a new board are cut off the poller's seat.
-use Rattle.std.proofs.Common.{◌≡◌, ◌≢◌, ℕ, zero, suc, ◌+◌, ◌-◌, ◌*◌, ◌<◌, ◌≤◌, false, Option, List, [], ◌∷◌, ◌++◌, length, replicate, get_or, sym, refl, ap, ◌∙◌, subst, arith}
+use Rattle.std.proofs.Common.{◌≡◌, ℕ, suc, ◌+◌, ◌<◌, ◌≤◌, Option, List, [], ◌∷◌, ◌++◌, length, replicate, sym, refl, ap, ◌∙◌, subst, arith}
 use lib.ListN.{length-replicate}
 use Rattle.atomic_table.specs.Seated.{TableId}
 use Rattle.atomic_table.specs.Table.{Me}
@@ -10,15 +10,15 @@ use Rattle.steps.specs.declared.line.Line.{Line}
 use Rattle.steps.specs.declared.parcel.Thing.{Thing}
 use Rattle.steps.specs.declared.view.Layout.{Layout}
 use Rattle.steps.specs.declared.view.Role.{Role}
-use Rattle.steps.specs.declared.view.Role.TheVariants.{Poller, Submitter, Idle, Spent}
+use Rattle.steps.specs.declared.view.Role.TheVariants.{Poller, Submitter, Idle}
 use Rattle.steps.specs.declared.view.View.{View}
 use Rattle.steps.specs.Fairness.{Orderly}
 use Rattle.steps.specs.Journal.{events_of, lent}
 use Rattle.steps.specs.Cells.{setup_of, cells_in}
 use Rattle.steps.specs.Rule.{IsSameSeat, without_next, without_one, next_submitter, idle_one, submitter_of, next_poller}
-use Rattle.work.specs.Board.{Facts, IsOf, share_of}
+use Rattle.work.specs.Board.{Facts, share_of}
 use Rattle.work.specs.Grid.{AreCellCounts}
-use Rattle.work.specs.Passes.{Pass, pass_of, IsIdleSeat}
+use Rattle.work.specs.Passes.{Pass, pass_of}
 use Rattle.work.proofs.GridRows.{counts_at}
 use Rattle.board.specs.Seats.{IsSubmitterSeat, KnowsCells}
 use Rattle.board.proofs.OwnCells.{knows_fresh}
@@ -73,6 +73,9 @@ module _ (L : Layout) (t : TableId) (n m : ℕ) (s s' w : TableSeat) (c : IsCutt
 
     seen : w.me.0.seen ≡ []
     seen = ap (λ (x : Me (Option Thing) View). x.0.seen) cut ∙ c.seen
+
+    pub submitter_seen : w.me.0.seen ≡ []
+    submitter_seen = seen
 
     pub submitter_seat : (ages facts : List ℕ) → AreCellCounts L.cells → n < length L.cells → ages ≡ replicate (cells_in L.cells n) 0 → facts ≡ replicate (cells_in L.cells n) 0 → IsSubmitterSeat w n 0 ages facts
     submitter_seat ages facts k lt a f = record {

@@ -1,9 +1,9 @@
 -- A legal history submits, answers and reaps a request at most once, as its place tells.
-use Rattle.std.proofs.Common.{◌≡◌, ℕ, ◌+◌, Bool, true, false, cond, ℤ, List, [], ◌∷◌, sym, refl, ap, ◌∙◌, subst, ⊎_elim, arith}
+use Rattle.std.proofs.Common.{◌≡◌, ℕ, Bool, true, false, cond, ℤ, List, [], ◌∷◌, sym, refl, ap, subst, ⊎_elim, arith}
 use Rattle.history.specs.declared.req.Req.{Req}
 use Rattle.history.specs.declared.event.Event.{Event}
-use Rattle.history.specs.declared.event.Event.TheVariants.{Submit, Begin, Park, Reply, Take, Miss, Tick, Arm, Expire, Fire, FireMiss, Settle, Sever, Reap, Shut, Cut}
-use Rattle.history.specs.History.{Cause, Phase, unborn, waits, runs, armed, replied, reaped, same, concerns, becomes, phase, answers}
+use Rattle.history.specs.declared.event.Event.TheVariants.{Submit, Begin, Park, Reply, Take, Arm, Expire, Fire, Settle, Sever, Reap, Cut}
+use Rattle.history.specs.History.{Cause, Phase, unborn, waits, runs, armed, replied, reaped, concerns, becomes, phase, answers}
 use Rattle.history.specs.Legal.{Setup, Legal}
 use Rattle.history.proofs.Requests.{bool_cases}
 use Rattle.history.proofs.Growth.{MayChange, may_change, changed, unchanged}

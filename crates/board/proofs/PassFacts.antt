@@ -1,6 +1,5 @@
 -- What a pass of a board knows, and what a step of its seat tells it.
-use Rattle.std.proofs.Common.{◌≡◌, ℕ, ◌+◌, ◌<◌, ◌≤◌, Bool, true, false, true≢false, cond, List, [], ◌∷◌, ◌++◌, length, sym, refl, ap, ◌∙◌, subst, arith, ne_eqb}
-use Rattle.entry.specs.Entry.{Entry}
+use Rattle.std.proofs.Common.{◌≡◌, ℕ, ◌+◌, ◌<◌, ◌≤◌, true, false, true≢false, cond, List, [], ◌∷◌, ◌++◌, length, sym, refl, ap, ◌∙◌, subst, arith, ne_eqb}
 use Rattle.history.specs.declared.req.Req.{Req}
 use Rattle.history.specs.declared.event.Event.{Event}
 use Rattle.history.specs.declared.event.Event.TheVariants.{Submit}
@@ -13,7 +12,7 @@ use Rattle.steps.specs.declared.view.Layout.{Layout}
 use Rattle.steps.specs.declared.line.Line.TheVariants.{Did, Freed, Lent, Noted, Hold, Free}
 use Rattle.steps.specs.declared.view.Role.{Role}
 use Rattle.steps.specs.declared.view.Role.TheVariants.{Poller}
-use Rattle.steps.specs.Journal.{events_of, freed}
+use Rattle.steps.specs.Journal.{freed}
 use Rattle.steps.specs.declared.view.Step.{Step}
 use Rattle.steps.specs.declared.view.View.{View}
 use Rattle.steps.specs.Cells.{setup_of, IsCell, request_at, claim_at, total}
@@ -24,9 +23,8 @@ use Rattle.work.specs.Passes.{Pass, CanReach, seen_of, Took}
 use Rattle.work.proofs.PassesKept.{looked_of}
 use Rattle.board.proofs.Standings.{word_is}
 use Rattle.board.proofs.HeardPasses.{begin_second}
-use Rattle.board.specs.Calls.{IsWord, Stands, LastAt, Stepped, HasLooked, FoundHeld, Goes, MayStart}
+use Rattle.board.specs.Calls.{IsWord, LastAt, Stepped, HasLooked, Goes, MayStart}
 use Rattle.board.proofs.GoesLaws.{goes_looked}
-use Rattle.board.specs.declared.phase.Phase.{Phase as Standing}
 
 -- no request of a ring that isn't there was submitted
 adds_nothing : (s : Setup) (e : Event) (h : List Event) (i : ℕ) → MayCome s h e → s.rings ≤ i → adds_to e i ≡ 0

@@ -1,29 +1,27 @@
--- What a release finds.
-use Rattle.std.proofs.Common.{◌≡◌, ◌≢◌, ◌⊎◌, inl, inr, ⊎_elim, ℕ, ◌<◌, ◌≤◌, true, false, nat_lt, ltb-true, ltb-false, true≢false, cond, arith, List, [], ◌∷◌, ◌++◌, sym, refl, ap, ◌∙◌, subst}
+-- What a release finds of its request.
+use Rattle.std.proofs.Common.{◌≡◌, inl, ⊎_elim, ℕ, true, false, nat_lt, ltb-true, ltb-false, true≢false, arith, List, Option, sym, refl, ap, ◌∙◌, subst}
+use Rattle.atomic_table.specs.declared.shared.Seat.{Seat}
 use Rattle.history.specs.declared.req.Req.{Req}
 use Rattle.history.proofs.Requests.{bool_cases}
-use Rattle.history.specs.History.{phase, waits, same, submits}
-use Rattle.history.proofs.Growth.{counted}
+use Rattle.history.specs.History.{phase, waits}
 use Rattle.claim.specs.declared.tag.Tag.TheVariants.{Held as HeldTag}
 use Rattle.steps.specs.declared.line.Line.{Line}
-use Rattle.steps.specs.declared.view.Step.{Step}
+use Rattle.steps.specs.declared.parcel.Thing.{Thing}
+use Rattle.steps.specs.declared.view.Layout.{Layout}
 use Rattle.steps.specs.declared.view.View.{View}
-use Rattle.steps.specs.declared.line.Line.TheVariants.{Freed}
-use Rattle.steps.specs.declared.view.Role.TheVariants.{Poller}
 use Rattle.steps.specs.Journal.{events_of, freed}
-use Rattle.steps.specs.Cells.{request_at, word_of, setup_of, MayBegin}
-use Rattle.steps.specs.Rule.{IsStep, Shown, Looks, Extends}
-use Rattle.steps.proofs.Served.{served_may}
+use Rattle.steps.specs.Cells.{request_at, claim_at}
+use Rattle.steps.specs.Rule.{IsStep, Shown}
 use Rattle.steps.proofs.ClaimWords.{says_of}
-use Rattle.board.proofs.Standings.{unheld}
-use Rattle.work.specs.Board.{Facts, IsOf}
-use Rattle.work.specs.Passes.{Pass, seen_of}
-use Rattle.work.proofs.PassesKept.{looked_of}
-use Rattle.board.proofs.GoesLaws.{goes_looked, goes_then, goes_freed}
-use Rattle.board.proofs.PassFacts.{freed_looked, freed_more, freed_may}
+use Rattle.work.specs.Board.{Facts}
+use Rattle.work.specs.Passes.{pass_of}
 use Rattle.board.specs.declared.phase.Phase.{Phase as Standing}
 use Rattle.board.specs.declared.phase.Phase.TheVariants.{Unborn, Held, Ready, Running, Armed, Done, Gone}
-use Rattle.board.specs.Calls.{Stands, Stepped, IsUnheld, MayStart, Goes}
+use Rattle.board.specs.declared.poller.Released.TheVariants.{NotHeld}
+use Rattle.board.specs.Calls.{Stands, IsUnheld}
+use Rattle.board.specs.Rows.{IsAt, IsOurs, Watched, Decides}
+use Rattle.board.proofs.PassFacts.{stepped_once}
+use Rattle.board.proofs.Standings.{unheld}
 
 held_is : (j : List Line) (r : Req) (s : Standing) → (s ≡ Held → ⊥) → Stands j r s → phase (events_of j) r ≡ waits → freed j r ≡ false → ⊥
 held_is j r Unborn n k is f = let z = sym k ∙ is in cc
@@ -40,35 +38,13 @@ unheld_by_standing K j x w g s shown n k = ⊎_elim
     (λ (lt : nat_lt g 16777216 ≡ true). unheld K j x w g shown.0 shown.1 (λ is. (let y = (says_of K j x w shown.0 HeldTag 0 g 0 shown.1 is (omega arith) (ltb-true g 16777216 lt) (omega arith)).0 in held_is j (request_at K x g) s n k y.2 y.3)))
     (λ (le : nat_lt g 16777216 ≡ false). let f = shown.1.fits.1 in let z = ltb-false g 16777216 le in inl (inl (shown.1.ages.after g (omega arith)))) (bool_cases (nat_lt g 16777216))
 
--- a poller that looked, and then tried to move the request r
-module _ (b : Facts) (p m q : Pass) (o : IsOf b p) (t : m.table ≡ p.table) (x : Looks p.view m.view) (u : q.table ≡ m.table) (n : ℕ) (role : p.view.role ≡ Poller n) where
-  pub between : IsOf b m
-  between = looked_of b p m o t x
-
-  looked : Goes b p [] m
-  looked = goes_looked b p m o t x
-
-  role' : m.view.role ≡ Poller n
-  role' = ap (λ (z : View). z.role) x.is ∙ role
-
-  pub frees_goes : (r : Req) → Extends m.view (Freed r) m.view.role q.view → Goes b p [] q
-  frees_goes r y = goes_then b p m q [] looked (goes_freed b m q r between u y)
-
-  pub misses_goes : Looks m.view q.view → Goes b p [] q
-  misses_goes y = goes_then b p m q [] looked (goes_looked b m q between u y)
-
-  pub frees_may : (r : Req) → Extends m.view (Freed r) m.view.role q.view → (freed q.view.seen r ≡ true) × MayStart q.view.seen r × (freed p.view.seen r ≡ false)
-  frees_may r y = let f = freed_may m.view q.view n role' r y in (f.0, f.1, sym (freed_looked p.view m.view n role x r) ∙ f.2)
-
-  pub frees_one : (r : Req) → Extends m.view (Freed r) m.view.role q.view → (i : Req) → same r i ≡ false → freed q.view.seen i ≡ freed p.view.seen i
-  frees_one r y i other = freed_more m.view q.view n role' r y i ∙ (ap (λ c. cond c true (freed m.view.seen i)) other ∙ freed_looked p.view m.view n role x i)
-
-  pub misses_none : Looks m.view q.view → (i : Req) → freed q.view.seen i ≡ freed p.view.seen i
-  misses_none y i = freed_looked m.view q.view n role' y i ∙ freed_looked p.view m.view n role x i
-
-  -- a request that waits was submitted, and may be begun
-  pub waits_born : (r : Req) → phase (seen_of m) r ≡ waits → r.k < submits (seen_of m) r.ring
-  waits_born r is = counted (setup_of b.layout) (seen_of m) r between.legal (λ z. (let y = sym is ∙ z in cc))
-
-  pub waits_may : (r : Req) → phase (seen_of m) r ≡ waits → MayBegin m.view.seen r
-  waits_may r is = served_may b.layout (setup_of b.layout) m.view.seen between.orderly between.legal r (waits_born r is)
+-- a look that found the request not to wait for the poller
+pub unheld_looked : (b : Facts) (s t : Seat (Option Thing) View) (r : Req) (x g w : ℕ) (y : Standing) → IsOurs b s → Watched b s t → IsAt b.layout.cells x g r → IsStep (claim_at x) w s.me.0 t.me.0 → Shown s.me.0.layout.cells t.me.0.seen x w
+    → (y ≡ Held → ⊥) → Stands t.me.0.seen (request_at s.me.0.layout.cells x g) y → Decides b r (pass_of s) (pass_of t) NotHeld
+unheld_looked b s t r x g w y o k a step shown n stands =
+    let e : s.me.0.layout ≡ b.layout = o.ours.layout_is in let at : request_at s.me.0.layout.cells x g ≡ r = ap (λ (L : Layout). request_at L.cells x g) e ∙ a.at in record {
+      goes = k.goes;
+      decided = (subst (λ (q : Req). IsUnheld t.me.0.seen q) at (unheld_by_standing s.me.0.layout.cells t.me.0.seen x w g y shown n stands), stepped_once b.layout.cells r (pass_of s) (pass_of t) x g w a.inside.0 a.at step (subst (λ (L : Layout). Shown L.cells t.me.0.seen x w) e shown));
+      was_free = λ is. absurd (cc);
+      others = λ i _. k.freed_is i;
+    }

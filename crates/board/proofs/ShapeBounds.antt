@@ -1,5 +1,5 @@
 -- The limits of a shape, ring by ring and pipe by pipe.
-use Rattle.std.proofs.Common.{◌≡◌, ℕ, ◌<◌, ◌≤◌, Bool, true, false, ◌&&◌, List, [], ◌∷◌, length, get_or, drop, ◌+◌, ◌*◌, zero, suc, sym, refl, ap, ◌∙◌, ⊎_elim, arith, true≢false, ltb-true, ltb-false, leb-true, nat_lt}
+use Rattle.std.proofs.Common.{◌≡◌, ℕ, ◌<◌, ◌≤◌, true, false, ◌&&◌, List, [], ◌∷◌, length, get_or, drop, ◌+◌, ◌*◌, zero, suc, sym, refl, ap, ◌∙◌, ⊎_elim, arith, true≢false, ltb-true, ltb-false, leb-true, nat_lt}
 use Rattle.std.specs.Int.{is_power_of_two}
 use Rattle.history.proofs.Requests.{bool_cases, and_left, and_right}
 use Rattle.steps.specs.Cells.{total}

@@ -1,5 +1,5 @@
 -- What a claim word of the table tells of a request, and what it rules out.
-use Rattle.std.proofs.Common.{◌≡◌, ◌≢◌, ◌⊎◌, inl, inr, ⊎_elim, ℕ, ◌+◌, ◌-◌, ◌*◌, ◌<◌, ◌≤◌, Bool, true, false, cond, ◌&&◌, not, IsTrue, ℤ, List, [], ◌∷◌, sym, refl, ap, ◌∙◌, subst, arith, true≢false, nat_lt, ltb-true, ltb-false, lt-ltb, le-ltb, eqb-true, of_z, w32, SFits}
+use Rattle.std.proofs.Common.{◌≡◌, ◌≢◌, ◌⊎◌, inl, inr, ⊎_elim, ℕ, ◌<◌, Bool, true, false, IsTrue, ℤ, List, [], ◌∷◌, sym, refl, ap, ◌∙◌, subst, arith, true≢false, nat_lt, ltb-true, ltb-false, lt-ltb, eqb-true, of_z, w32, SFits}
 use Rattle.std.proofs.Math.Facts.{sfits_to_z, Fits-of_lt}
 use Rattle.std.proofs.lemmas.Int.{to_z-of_z, of_z-to_z}
 use mir.Val.{to_z}
@@ -10,16 +10,14 @@ use Rattle.entry.specs.Entry.{fails}
 use Rattle.history.specs.declared.req.Req.{Req}
 use Rattle.history.specs.declared.event.Event.{Event}
 use Rattle.history.specs.declared.event.Event.TheVariants.{Submit, Begin, Park, Reply, Take, Arm, Expire, Fire, Settle, Sever, Reap, Cut}
-use Rattle.history.specs.History.{Cause, by_reply, by_take, by_expire, by_fire, by_settle, by_sever, by_cut, Phase, unborn, waits, runs, armed, replied, reaped, concerns, becomes, phase, shuts, was_shut, IsReplied}
+use Rattle.history.specs.History.{Cause, by_reply, by_take, by_expire, by_fire, by_settle, by_sever, by_cut, Phase, unborn, replied, concerns, becomes, phase, was_shut, IsReplied}
 use Rattle.history.specs.Legal.{Setup, Legal}
 use Rattle.history.proofs.Requests.{bool_cases, and_left, and_right}
 use Rattle.history.proofs.Growth.{MayChange, may_change, changed, unchanged}
 use Rattle.steps.specs.declared.line.Line.{Line}
-use Rattle.steps.specs.Journal.{events_of, freed}
-use Rattle.steps.specs.Cells.{request_at, Home, Ages, Says, CellOk, word_of, reply_bits, cause_bits}
-use Rattle.steps.specs.Rule.{Shown}
+use Rattle.steps.specs.Journal.{events_of}
+use Rattle.steps.specs.Cells.{request_at, Home, Says, CellOk, word_of, reply_bits, cause_bits}
 use Rattle.steps.proofs.CellNumbers.{one_word, bits_are, bits_fit, one_result}
-use Rattle.steps.proofs.ClaimWords.{cause_fits}
 use Rattle.board.specs.Calls.{IsWord, IsUnheld}
 
 nat_order : (a b : ℕ) → (a < b) ⊎ ((a ≡ b) ⊎ (b < a))

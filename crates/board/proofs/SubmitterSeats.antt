@@ -7,7 +7,6 @@ use Rattle.entry.specs.Entry.{Entry}
 use Rattle.history.specs.declared.req.Req.{Req}
 use Rattle.history.specs.declared.event.Event.TheVariants.{Submit, Reap}
 use Rattle.history.specs.History.{Cause, replied, phase, same, submits}
-use Rattle.history.proofs.Growth.{unborn_yet}
 use Rattle.steps.specs.Fairness.{IsReaped}
 use Rattle.history.proofs.Requests.{bool_cases}
 use Rattle.steps.specs.declared.line.Line.{Line}
@@ -17,14 +16,14 @@ use Rattle.steps.specs.declared.view.Layout.{Layout}
 use Rattle.steps.specs.declared.view.Role.{Role}
 use Rattle.steps.specs.declared.view.Role.TheVariants.{Submitter, Lending}
 use Rattle.steps.specs.declared.view.View.{View}
-use Rattle.steps.specs.Journal.{events_of, lent}
+use Rattle.steps.specs.Journal.{events_of}
 use Rattle.steps.specs.Cells.{setup_of, IsCell, request_at, ring_of, place_of, cells_in, facts_at, user_at}
 use Rattle.steps.specs.Rule.{rings, stands_for, Vacant, IsDone, Shown, Looks, ExtendsTwice, ExtendsThrice}
 use Rattle.steps.proofs.CellNumbers.{located}
 use Rattle.steps.proofs.ClaimWords.{done_word}
 use Rattle.board.specs.Seats.{KnowsCell, KnowsCells, IsSubmitterSeat, IsNextCell}
 use Rattle.work.specs.Passes.{Pass, pass_of}
-use Rattle.board.proofs.OwnCells.{KnowsRing, same_default, reaped_as, knows_put, knows_line, knows_reaped, ring_looked, ring_extended}
+use Rattle.board.proofs.OwnCells.{KnowsRing, reaped_as, knows_put, knows_line, knows_reaped, ring_looked, ring_extended}
 
 abbrev TableSeat : Type 0
 TableSeat = Seat (Option Thing) View
@@ -156,20 +155,6 @@ cell_here s ring next ages facts k x number inside is mine =
     let lt : number < cells_in K ring = subst (λ (z : ℕ × ℕ). z.0 < cells_in K z.1) (λ i. (sym is i, at i)) (located K x inside).1 in let m = k.many in
     (at, omega arith, omega arith, subst (λ (z : ℕ). KnowsCell K s.me.0.seen x (get_or ages z 0) (get_or facts z 0)) (sym is) (k.knows x inside at))
 
--- whether the cell is free for the next request
-pub next_free : (s : TableSeat) (ring next : ℕ) (ages facts : List ℕ) → IsSubmitterSeat s ring next ages facts → (x number g : ℕ) → IsNextCell (pass_of s) x number g → get_or ages number 0 ≡ g → Vacant s.me.0.layout.cells s.me.0.seen x g
-next_free s ring next ages facts k x number g n is = let h = (cell_here s ring next ages facts k x number n.inside n.number_is n.mine).3 in record {
-  next = (let z = n.next_is in omega arith);
-  gone_by = λ m lt. reaped_as _ (h.gone m (subst (λ (z : ℕ). m < z) (sym is) lt));
-}
-
-pub next_taken : (s : TableSeat) (ring next : ℕ) (ages facts : List ℕ) → IsSubmitterSeat s ring next ages facts → (x number g : ℕ) → IsNextCell (pass_of s) x number g → ¬ (get_or ages number 0 ≡ g) → ¬ ((n : ℕ) → n < g → IsReaped (phase (events_of s.me.0.seen) (request_at s.me.0.layout.cells x n)))
-next_taken s ring next ages facts k x number g n other all =
-    let h = (cell_here s ring next ages facts k x number n.inside n.number_is n.mine).3 in let age : ℕ = get_or ages number 0 in let K : List ℕ = s.me.0.layout.cells in
-    let low : ¬ (age < g) = λ lt. h.left age (omega arith) (all age lt) in
-    let high : ¬ (g < age) = λ lt. (let gone = reaped_as _ (h.gone g lt) in let u = unborn_yet (setup_of s.me.0.layout) (events_of s.me.0.seen) (request_at K x g) k.legal (let z = n.next_is in omega arith) in let y = sym gone.2 ∙ u in cc) in
-    other (omega arith)
-
 -- a request that has replied is the next that its cell's reaping comes to
 pub age_is : (K : List ℕ) (j : List Line) (x age facts g word : ℕ) → KnowsCell K j x age facts → Shown K j x word → (c : Cause) (res : ℤ) → phase (events_of j) (request_at K x g) ≡ replied c res → age ≡ g
 age_is K j x age facts g word k shown c res is =
@@ -199,8 +184,3 @@ here_by s ring next ages facts k p is cell number g done a' =
       knows = h.3;
       age = age_is s.me.0.layout.cells s.me.0.seen cell _ _ g done h.3 a.4 a.3.cause a.3.res a.3.replied_is;
     }
-
--- the age that was read is the cell's
-pub age_read : (s : TableSeat) (ring next : ℕ) (ages facts : List ℕ) → IsSubmitterSeat s ring next ages facts → (p : Pass) → pass_of s ≡ p → (cell number g read : ℕ) → IsNextCell p cell number g → read ≡ get_or ages number read → get_or ages number 0 ≡ read
-age_read s ring next ages facts k p is cell number g read n' at =
-    let n = subst (λ (z : Pass). IsNextCell z cell number g) (sym is) n' in same_default ages number 0 read (cell_here s ring next ages facts k cell number n.inside n.number_is n.mine).1 ∙ sym at

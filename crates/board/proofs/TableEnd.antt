@@ -19,7 +19,7 @@ use Rattle.steps.specs.declared.view.View.{View}
 use Rattle.steps.specs.Journal.{events_of, lent}
 use Rattle.steps.specs.Cells.{IsCell, request_at, total, setup_of, slot_at, Home, Says, Keeps, CellOk}
 use Rattle.steps.specs.Rule.{Ended}
-use Rattle.work.specs.Board.{Facts, IsBoard, IsOf, share_of}
+use Rattle.work.specs.Board.{Facts, IsOf, share_of}
 use Rattle.work.specs.Grid.{AreCells}
 use Rattle.work.specs.Passes.{Pass}
 use Rattle.board.specs.declared.completion.Completion.{Completion}

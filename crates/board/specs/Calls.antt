@@ -1,20 +1,17 @@
 -- What a call makes of its pass, and what its answers say.
-use Rattle.std.specs.Prelude.{◌≡◌, ℕ, ◌+◌, ◌≤◌, ◌<◌, ◌⊎◌, cond, Bool, true, false, ℤ, List, [], ◌∷◌, ◌++◌, length, IsTrue}
+use Rattle.std.specs.Prelude.{◌≡◌, ℕ, ◌≤◌, ◌⊎◌, true, false, ℤ, List, [], ◌∷◌, ◌++◌, length, IsTrue}
 use Rattle.claim.specs.Claim.{Claim, fits, packed}
 use Rattle.claim.specs.declared.tag.Tag.TheVariants.{Held as HeldTag}
 use Rattle.history.specs.declared.req.Req.{Req}
 use Rattle.history.specs.declared.event.Event.{Event}
-use Rattle.history.specs.History.{Cause, Phase, phase, unborn, waits, runs, armed, replied, reaped, submits, IsReplied}
+use Rattle.history.specs.History.{Cause, phase, unborn, waits, runs, armed, replied, reaped, submits, IsReplied}
 use Rattle.history.specs.Chains.{Open, is_timer}
 use Rattle.history.specs.Legal.{IsOf as IsOfKind}
 use Rattle.steps.specs.declared.line.Line.{Line}
-use Rattle.steps.specs.declared.view.Role.{Role}
-use Rattle.steps.specs.declared.view.Role.TheVariants.{Poller, Submitter, Idle}
 use Rattle.steps.specs.declared.view.Step.{Step}
-use Rattle.steps.specs.declared.view.View.{View}
 use Rattle.steps.specs.Journal.{events_of, freed}
 use Rattle.steps.specs.Cells.{IsCell, request_at, claim_at, word_of}
-use Rattle.steps.specs.Rule.{owns, Begins, Shown}
+use Rattle.steps.specs.Rule.{Shown}
 use Rattle.work.specs.Board.{Facts, IsOf}
 use Rattle.board.specs.declared.phase.Phase.{Phase as Standing}
 use Rattle.board.specs.declared.phase.Phase.TheVariants.{Unborn, Held, Ready, Running, Armed, Done, Gone}

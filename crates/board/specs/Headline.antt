@@ -1,11 +1,10 @@
 -- What a completion is, and what a report is.
-use Rattle.std.specs.Prelude.{◌≡◌, ℕ, ◌+◌, ◌<◌, ◌⊎◌, ◌↔◌, cond, Bool, true, false, ℤ, List, [], ◌∷◌, ◌++◌, Some, None, Contains}
+use Rattle.std.specs.Prelude.{◌≡◌, ℕ, ◌+◌, cond, Bool, false, List, [], ◌∷◌, Some}
 use Rattle.entry.specs.Entry.{Entry}
 use Rattle.history.specs.declared.req.Req.{Req}
 use Rattle.history.specs.declared.event.Event.{Event}
-use Rattle.history.specs.declared.event.Event.TheVariants.{Submit, Reap, Shut, Cut}
-use Rattle.history.specs.History.{same, phase, reply, answers, data_of, submission, submits}
-use Rattle.history.specs.Legal.{Setup, Legal}
+use Rattle.history.specs.declared.event.Event.TheVariants.{Submit, Reap}
+use Rattle.history.specs.History.{same, reply, answers, data_of, submission}
 use Rattle.steps.specs.Cells.{over}
 use Rattle.board.specs.declared.completion.Completion.{Completion}
 

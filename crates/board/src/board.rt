@@ -13,22 +13,22 @@ ghost use Rattle.work.specs.Board.{Facts, IsOf};
 ghost use Rattle.work.specs.Grid.{AreCellCounts};
 ghost use Rattle.work.specs.Passes.{seen_of, FoundNotReady, Took};
 ghost use Rattle.board.specs.declared.error.BoardError.TheVariants.{BadShape};
-ghost use Rattle.board.specs.declared.poller.Released.TheVariants.{Freed, NotHeld};
 ghost use Rattle.board.specs.Calls.{Goes, Finds, HasLooked, Stepped, FoundHeld, IsUnheld, MayStart, next_of};
 ghost use Rattle.board.specs.Headline.{IsCompletion, HasOnce};
 ghost use Rattle.board.specs.Limits.{counts, is_shape};
 ghost use Rattle.board.specs.New.{IsNew, AreSubmitters, AreWorkers, IsCutting};
-ghost use Rattle.board.specs.Refusals.{RefusesEntry, RefusesReap};
+ghost use Rattle.board.specs.Refusals.{RefusesReap};
+ghost use Rattle.board.specs.Rows.{KnowsRows};
 
 use crate::bounds::is_shape;
 use crate::completion::Completion;
-use crate::error::{BoardError, ReapError, SubmitError};
+use crate::error::{BoardError, ReapError};
 use crate::phase::{Phase, has_failed, told};
-use crate::poller::{Poller, Released};
-use crate::served::{fits_length, is_served};
+use crate::poller::Poller;
 use crate::shape::{RingShape, Shape};
 use crate::submitter::Submitter;
 use entry::{Cqe, Sqe};
+use gates::Row;
 use history::Req;
 use std::alloc::{AllocError, Global};
 use std::marker::Model;
@@ -54,9 +54,6 @@ impl Model for Board {
 
     ghost invariant = { λ b. IsBoard (record { table = b.table.shared.table_id; layout = record { cells = b.grid; caps = b.table.shared.key.caps.value.items }; workers = b.workers }) × (b.table.shared.key.cells.value.items ≡ b.grid) × (length b.table.shared.key.caps.value.items ≡ b.pipes) };
 }
-
-/// The last generation of a cell's word. No request has it.
-const LAST_GENERATION: u32 = 16_777_215;
 
 /// The numbers of cells.
 fn cells_of(alloc: Global, rings: &[RingShape]) -> Result<Vec<u64>, AllocError>
@@ -116,6 +113,22 @@ fn cut_workers(
     Ok(workers)
 }
 
+/// An empty row for each ring.
+fn rows_of(alloc: Global, grid: &Grid) -> Result<Vec<Row>, BoardError>
+    requires { AreCellCounts grid.now × (length grid.now ≤ 16) }
+    ensures rows { IfOk result (λ v. KnowsRows grid.now [] v.items) }
+    ensures memory { result ≡ Err BadShape → ⊥ }
+{
+    let mut rows = Vec::new(alloc);
+    for ring in 0..grid.rings() {
+        let Ok(row) = Row::new(alloc, grid.cells_in(ring) as u32) else {
+            return Err(BoardError::Memory);
+        };
+        rows.push(row)?;
+    }
+    Ok(rows)
+}
+
 impl Board {
     /// A board of this shape, with the poller's pass, a submitter for each ring, in order, and its workers.
     pub fn new(
@@ -134,13 +147,14 @@ impl Board {
         let (table, mut seat) = table::set_up(alloc, &cells, &shape.pipes, grid.total())?;
         let submitters = cut_submitters(alloc, &table.shared, &mut seat, &grid)?;
         let workers = cut_workers(alloc, &table.shared, &mut seat, shape.workers)?;
+        let rows = rows_of(alloc, &grid)?;
         let board = Board {
             table,
             grid,
             pipes: shape.pipes.len(),
             workers: shape.workers,
         };
-        Ok((board, Poller::new(seat), submitters, workers))
+        Ok((board, Poller::new(seat, rows), submitters, workers))
     }
 
     /// Where the request stands.
@@ -170,71 +184,6 @@ impl Board {
         let messenger = pass.tell(words);
         other.hear(words, messenger);
         other.load(words, 0);
-    }
-
-    /// Submits a batch of one entry with its buffer.
-    pub fn submit(
-        &self,
-        submitter: &mut Submitter,
-        sqe: Sqe,
-        buffer: Vec<u8>,
-    ) -> Result<Req, (SubmitError, Vec<u8>)>
-        requires { IsOf self.now submitter.old }
-        ensures submitted { (ring : ℕ) → submitter.old.view.role ≡ SubmitterRole ring → IfOk result (λ r. (r ≡ next_of submitter.old ring) × Goes self.now submitter.old (Submit r sqe buffer.items true ∷ []) submitter.new) }
-        ensures free { IfOk result (λ r. IsFree self.now.layout.cells (seen_of submitter.new) r) }
-        ensures steps { IfOk result (λ r. Took submitter.old.view submitter.new.view 3) }
-        ensures refused { IfErr result (λ e. Goes self.now submitter.old [] submitter.new × (e.1 ≡ buffer)) }
-        ensures reason { (ring : ℕ) → submitter.old.view.role ≡ SubmitterRole ring → IfErr result (λ e. RefusesEntry self.now sqe buffer.items (next_of submitter.old ring) submitter.old submitter.new e.0) }
-    {
-        if !is_served(&sqe) {
-            return Err((SubmitError::Unserved, buffer));
-        }
-        if !fits_length(&sqe, buffer.len()) {
-            return Err((SubmitError::BufferLength, buffer));
-        }
-        let req = submitter.next_request();
-        let Some(spot) = self.grid.locate(req) else {
-            unreachable!()
-        };
-        let generation = spot.generation as u32;
-        if !submitter.is_free(spot.number, generation) {
-            submitter.look_at(&self.table.shared, spot.cell);
-            return Err((SubmitError::Full, buffer));
-        }
-        if generation == LAST_GENERATION {
-            return Err((SubmitError::Spent, buffer));
-        }
-        let parcel = Parcel {
-            sqe,
-            buffer,
-            last: true,
-        };
-        submitter.submit(&self.table.shared, spot, parcel);
-        Ok(req)
-    }
-
-    /// Moves a request that waits, and is open, to the workers.
-    pub fn release(&self, poller: &mut Poller, req: Req) -> Released
-        requires { IsOf self.now poller.old }
-        ensures looks { Goes self.now poller.old [] poller.new }
-        ensures freed { result ≡ Freed → (freed poller.new.view.seen req ≡ true) × MayStart poller.new.view.seen req }
-        ensures was_held { result ≡ Freed → (freed poller.old.view.seen req ≡ false) × FoundHeld self.now.layout.cells req poller.old poller.new }
-        ensures not_held { result ≡ NotHeld → IsUnheld poller.new.view.seen req × ((length self.now.layout.cells ≤ req.ring) ⊎ Stepped self.now.layout.cells req poller.old poller.new) }
-        ensures steps { result ≡ Freed → Took poller.old.view poller.new.view 2 }
-        ensures alone { (q : Req) → (result ≡ NotHeld) ⊎ (same req q ≡ false) → freed poller.new.view.seen q ≡ freed poller.old.view.seen q }
-    {
-        let Some(spot) = self.grid.locate(req) else {
-            return Released::NotHeld;
-        };
-        let word = poller.look_at(&self.table.shared, spot.cell);
-        let Phase::Held = told(word, spot.generation) else {
-            return Released::NotHeld;
-        };
-        if poller.release(&self.table.shared, spot.cell, spot.generation as u32) {
-            Released::Freed
-        } else {
-            Released::NotHeld
-        }
     }
 
     /// Gives a request that is Ready to the worker.

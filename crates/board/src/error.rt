@@ -35,19 +35,19 @@ impl<T: Drop> From<AllocFailed<T>> for BoardError {
     }
 }
 
-/// Why an entry isn't taken (io_uring_enter(2)). They are tested in the order `Unserved`, `BufferLength`, `Full`, `Spent`.
+/// Why an entry or a batch isn't taken (io_uring_enter(2)). They are tested in the order `Unserved`, `BufferLength`, `Full`, `Spent`.
 #[derive(Clone, Copy, PartialEq, Eq, Debug, Error)]
 pub enum SubmitError {
-    /// The cell of the next request is not free.
+    /// A cell that the entry or the batch needs is not free, or the batch is longer than its ring has cells.
     #[error("the ring is full")]
     Full,
-    /// The buffer doesn't have the entry's length: `len` for a READ or WRITE, none for others that are valid.
+    /// A buffer doesn't have its entry's length: `len` for a READ or WRITE, none for others that are valid.
     #[error("the buffer doesn't have the entry's length")]
     BufferLength,
-    /// The cell has had all requests that it can have.
+    /// A cell that it needs has had all requests that it can have.
     #[error("the cell has had all its requests")]
     Spent,
-    /// The board can't serve such an entry yet.
+    /// It holds an entry that the board can't serve yet.
     #[error("not served yet")]
     Unserved,
 }

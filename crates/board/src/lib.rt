@@ -1,18 +1,23 @@
 //! The board: rings, pipes and workers over one shared table, as its passes use it. No lock guards it.
 #![tactic(auto)]
 
+mod batch;
 pub mod board;
 mod bounds;
 pub mod completion;
 pub mod end;
 pub mod error;
+mod lane;
 pub mod phase;
 pub mod poller;
+mod release;
 mod remains;
 mod report;
 pub mod served;
 pub mod shape;
+mod submit;
 pub mod submitter;
+mod trail;
 
 pub use board::Board;
 pub use completion::{Completion, Report};
@@ -20,7 +25,7 @@ pub use end::Unfinished;
 pub use error::{BoardError, FinishError, ReapError, SubmitError};
 pub use phase::Phase;
 pub use poller::{Poller, Released};
-pub use served::is_served;
+pub use served::{hosts_next, is_served};
 pub use shape::{RingShape, Shape};
 pub use submitter::Submitter;
 pub use work::{Busy, Parked, Pass, Ran, Worker};

@@ -1,51 +1,65 @@
 //! The poller's pass.
-ghost use Rattle.std.specs.Prelude.{◌≡◌, ◌≢◌, ℕ, ◌<◌, ◌≤◌, true, length};
-ghost use Rattle.claim.specs.declared.tag.Tag.TheVariants.{Held};
+ghost use Rattle.std.specs.Prelude.{◌≡◌, ◌+◌, ◌*◌, List, length};
 ghost use Rattle.history.specs.History.{submits};
-ghost use Rattle.steps.specs.declared.line.Line.TheVariants.{Freed};
+ghost use Rattle.steps.specs.Cells.{claim_at};
 ghost use Rattle.steps.specs.declared.view.Role.TheVariants.{Poller as PollerRole};
-ghost use Rattle.steps.specs.Cells.{claim_at, request_at, ring_of, word_of, MayBegin};
-ghost use Rattle.steps.specs.Rule.{Extends, Looks, Shown, IsStep};
+ghost use Rattle.steps.specs.Rule.{Looks, Shown, IsStep};
+ghost use Rattle.work.specs.Board.{IsOf};
 ghost use Rattle.work.specs.Passes.{pass_of, seen_of, CanReach};
+ghost use Rattle.board.specs.Rows.{Decides, IsAt, KnowsRows, Paid};
 ghost use Rattle.board.specs.Seats.{IsPollerSeat};
 
+use crate::board::Board;
+use crate::trail;
+use gates::Row;
+use history::Req;
 use std::marker::Model;
 use steps::{TableSeat, Words, seat, table};
-use work::{Messenger, Pass};
+use work::{Messenger, Pass, Spot};
 
-/// The poller's pass: it moves what may begin to the workers. Contracts see its table and what it knows.
+/// The poller's pass: it moves what may begin to the workers, and ends what is severed. Of each ring it keeps a row of what it
+/// has seen. Contracts see its table and what it knows.
 #[derive(Drop)]
 pub struct Poller {
     seat: TableSeat,
+    rows: Vec<Row>,
 }
 
 impl Model for Poller {
     ghost use Rattle.work.specs.Passes.{Pass, pass_of};
+    ghost use Rattle.board.specs.Rows.{KnowsRows};
     ghost use Rattle.board.specs.Seats.{IsPollerSeat};
 
     ghost Value = { Pass };
 
     ghost view = { λ p. pass_of p.seat };
 
-    ghost invariant = { λ p. IsPollerSeat p.seat };
+    ghost invariant = { λ p. IsPollerSeat p.seat × KnowsRows p.seat.me.0.layout.cells p.seat.me.0.seen p.rows.items };
 }
 
 /// What became of a request that was to be released.
 #[derive(Clone, Copy, PartialEq, Eq, Debug)]
 pub enum Released {
+    /// An earlier member of its chain failed: it was answered with -125 (ECANCELED) now.
+    Severed,
     /// A worker may begin it.
     Freed,
-    /// It doesn't wait for the poller: it wasn't submitted yet, was released before, or has a reply.
+    /// It waits for another request (IOSQE_IO_LINK and IOSQE_IO_DRAIN of io_uring_enter(2)). Nothing has changed.
+    Shut,
+    /// It is open, and a timer: it is to be armed. Nothing has changed.
+    Timer,
+    /// It doesn't wait for the poller: it wasn't submitted yet, was released before, or has a reply. Nothing has changed.
     NotHeld,
 }
 
 impl Poller {
-    /// The pass of the poller's seat.
-    pub(crate) fn new(seat: TableSeat) -> Poller
-        requires { IsPollerSeat seat }
+    /// The pass of the poller's seat, with the rows of the rings.
+    pub(crate) fn new(seat: TableSeat, rows: Vec<Row>) -> Poller
+        requires seat { IsPollerSeat seat }
+        requires rows { KnowsRows seat.me.0.layout.cells seat.me.0.seen rows.items }
         ensures { result ≡ pass_of seat }
     {
-        Poller { seat }
+        Poller { seat, rows }
     }
 
     /// Its seat.
@@ -53,7 +67,7 @@ impl Poller {
         ensures seat { IsPollerSeat result }
         ensures value { pass_of result ≡ self }
     {
-        let Poller { seat } = self;
+        let Poller { seat, .. } = self;
         seat
     }
 
@@ -69,20 +83,15 @@ impl Poller {
         seat::look(words, &mut self.seat, cell)
     }
 
-    /// Moves a Held request to Ready, or tells what else was found.
-    pub(crate) fn release(&mut self, words: &Words, cell: usize, generation: u32) -> bool
-        requires reach { CanReach words.now.table_id self.old cell }
-        requires parts { 0 < self.old.view.parts }
-        requires small { generation < 16777216 }
-        requires submitted { (request_at self.old.view.layout.cells cell generation).k < submits (seen_of self.old) (ring_of self.old.view.layout.cells cell) }
-        requires may { MayBegin self.old.view.seen (request_at self.old.view.layout.cells cell generation) }
-        ensures table { self.new.table ≡ self.old.table }
-        ensures frees { result ≡ true → Extends self.old.view (Freed (request_at self.old.view.layout.cells cell generation)) self.old.view.role self.new.view }
-        ensures step { result ≡ true → IsStep (claim_at cell) (word_of Held 0 generation 0) self.old.view self.new.view }
-        ensures looks { result ≢ true → Looks self.old.view self.new.view }
-        ensures missed { result ≢ true → (n : ℕ) × IsStep (claim_at cell) n self.old.view self.new.view × Shown self.old.view.layout.cells self.new.view.seen cell n × (n ≢ word_of Held 0 generation 0) }
+    /// Releases the request in this cell.
+    pub(crate) fn release(&mut self, board: &Board, spot: Spot, req: Req) -> Released
+        requires ours { IsOf board.now self.old }
+        requires at { IsAt board.now.layout.cells spot.cell spot.generation req }
+        ensures decides { Decides board.now req self.old self.new result }
+        ensures steps { Paid self.old.view self.new.view 0 (4 * submits (seen_of self.new) req.ring + 4) }
     {
-        seat::release(words, &mut self.seat, cell, generation)
+        let ring = usize::from(req.ring);
+        trail::release(board, &mut self.seat, &mut self.rows[ring], spot, req)
     }
 }
 

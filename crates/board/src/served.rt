@@ -1,9 +1,10 @@
 //! Which entries the board serves, and which buffers go with them.
-ghost use Rattle.std.specs.Prelude.{◌↔◌, true, IsTrue};
+ghost use Rattle.std.specs.Prelude.{◌≡◌, ◌↔◌, true, IsTrue};
 ghost use Rattle.history.specs.Legal.{FitsOp};
-ghost use Rattle.steps.specs.Journal.{Serves};
+ghost use Rattle.board.specs.Batches.{IsServed, hosts_next};
 
 use entry::{Sqe, by_opcode};
+use steps::facts::is_link_timeout;
 
 macro_rules! is_work_served {
     ((plain $kind:ident) ()) => { true };
@@ -12,13 +13,21 @@ macro_rules! is_work_served {
     ((cancel $kind:ident $target:ident) ()) => { false };
 }
 
-/// Whether the board serves such an entry, alone in its batch: a NOP, READ, WRITE, CLOSE, POLL_ADD or Invalid entry
-/// without IOSQE_IO_DRAIN.
-pub fn is_served(sqe: &Sqe) -> bool
-    ensures { IsTrue result ↔ Serves sqe.now true }
+/// Whether the board serves such an entry: a NOP, READ, WRITE, CLOSE, POLL_ADD or Invalid entry, or a LINK_TIMEOUT that no
+/// entry hosts, and which is placed as Invalid. `hosted` says whether the entry before it hosts one (`hosts_next`).
+pub fn is_served(sqe: &Sqe, hosted: bool) -> bool
+    ensures { IsTrue result ↔ IsServed hosted sqe.now }
 {
     let op = sqe.op();
-    by_opcode!(op => is_work_served!()) && !sqe.drains()
+    by_opcode!(op => is_work_served!()) || (is_link_timeout(op) && !hosted)
+}
+
+/// Whether a LINK_TIMEOUT may stand directly after this entry: it is linked to the next one of its batch, and no LINK_TIMEOUT
+/// itself (io_uring_prep_link_timeout(3)). `last` says that it ends its batch.
+pub fn hosts_next(sqe: &Sqe, last: bool) -> bool
+    ensures { result ≡ hosts_next sqe.now last }
+{
+    (sqe.links_soft() || sqe.links_hard()) && !last && !is_link_timeout(sqe.op())
 }
 
 macro_rules! fits_work {

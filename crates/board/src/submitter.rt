@@ -1,61 +1,66 @@
 //! A submitter's pass.
-ghost use Rattle.std.specs.Prelude.{◌≡◌, ℕ, ◌+◌, ◌*◌, ◌<◌, ◌≤◌, Bool, true, false, List, length};
+ghost use Rattle.std.specs.Prelude.{◌≡◌, ℕ, ◌+◌, ◌*◌, ◌/◌, ◌<◌, ◌≤◌, Bool, List, [], length, IfOk, IfErr};
 ghost use Rattle.claim.specs.declared.tag.Tag.TheVariants.{Done};
 ghost use Rattle.history.specs.declared.req.Req.{Req};
 ghost use Rattle.history.specs.declared.event.Event.TheVariants.{Submit, Reap};
-ghost use Rattle.history.specs.History.{Cause, phase, data_of};
+ghost use Rattle.history.specs.History.{Cause, data_of, submits};
+ghost use Rattle.history.specs.Chains.{before_in, hosts};
 ghost use Rattle.history.specs.Legal.{Fits as FitsEntry};
 ghost use Rattle.steps.specs.declared.line.Line.TheVariants.{Did, Lent, Noted};
 ghost use Rattle.steps.specs.declared.view.Role.TheVariants.{Submitter as SubmitterRole, Lending};
-ghost use Rattle.steps.specs.Fairness.{IsReaped};
+ghost use Rattle.steps.specs.Fairness.{IsFree};
 ghost use Rattle.steps.specs.Journal.{Serves};
-ghost use Rattle.steps.specs.Cells.{claim_at, ring_of, place_of, request_at, cells_in, facts_at, user_at, word_of, cause_bits, IsParcel};
-ghost use Rattle.steps.specs.Rule.{Looks, Shown, IsStep, IsTwoSteps, IsThreeSteps, ExtendsTwice, ExtendsThrice, Vacant, IsDone};
+ghost use Rattle.steps.specs.Cells.{claim_at, ring_of, place_of, request_at, cells_in, total, facts_at, user_at, word_of, cause_bits, IsParcel};
+ghost use Rattle.steps.specs.Rule.{Looks, Shown, IsStep, IsTwoSteps, IsThreeSteps, ExtendsTwice, ExtendsThrice, IsDone};
 ghost use Rattle.work.specs.Passes.{pass_of, seen_of, CanReach};
 ghost use Rattle.board.specs.Calls.{next_of};
+ghost use Rattle.board.specs.Lanes.{AreFree, RefusesRoom, Watched};
 ghost use Rattle.board.specs.Seats.{IsSubmitterSeat, IsNextCell};
 
+use crate::error::SubmitError;
+use crate::lane::{self, Lane};
+use crate::served::hosts_next;
 use claim::with_outcome;
 use history::Req;
 use std::marker::Model;
 use steps::{Parcel, TableSeat, Words, seat, submitter, table};
-use work::{Messenger, Pass, Spot};
+use work::{Grid, Messenger, Pass, Spot};
 
 /// The pass of the submitter of one ring. Contracts see its table and what it knows.
 #[derive(Drop)]
 pub struct Submitter {
     seat: TableSeat,
-    ring: u16,
-    next: u64,
-    ages: Vec<u32>,
-    facts: Vec<u64>,
+    lane: Lane,
 }
 
 impl Model for Submitter {
     ghost use Rattle.work.specs.Passes.{Pass, pass_of};
-    ghost use Rattle.board.specs.Seats.{IsSubmitterSeat};
+    ghost use Rattle.board.specs.Lanes.{IsLane};
 
     ghost Value = { Pass };
 
     ghost view = { λ s. pass_of s.seat };
 
-    ghost invariant = { λ s. IsSubmitterSeat s.seat s.ring s.next s.ages.items s.facts.items };
+    ghost invariant = { λ s. IsLane s.seat s.lane };
 }
 
 impl Submitter {
     /// The pass of the seat of the ring's submitter, which has submitted nothing yet: of each cell it has reaped nothing, and
     /// noted nothing.
     pub(crate) fn new(seat: TableSeat, ring: u16, ages: Vec<u32>, facts: Vec<u64>) -> Submitter
-        requires { IsSubmitterSeat seat ring 0 ages.items facts.items }
+        requires seat { IsSubmitterSeat seat ring 0 ages.items facts.items }
+        requires fresh { seat.me.0.seen ≡ [] }
         ensures { result ≡ pass_of seat }
     {
-        Submitter {
-            seat,
+        let lane = Lane {
             ring,
             next: 0,
             ages,
             facts,
-        }
+            done: 0,
+            hosted: false,
+        };
+        Submitter { seat, lane }
     }
 
     /// Its ring.
@@ -63,7 +68,7 @@ impl Submitter {
         ensures role { self.now.view.role ≡ SubmitterRole result }
         ensures there { result < length self.now.view.layout.cells }
     {
-        self.ring
+        self.lane.ring
     }
 
     /// The request that it submits next.
@@ -74,8 +79,8 @@ impl Submitter {
         ensures few { result.k ≤ 16777215 * cells_in self.now.view.layout.cells result.ring }
     {
         Req {
-            ring: self.ring,
-            k: self.next,
+            ring: self.lane.ring,
+            k: self.lane.next,
         }
     }
 
@@ -99,13 +104,24 @@ impl Submitter {
         seat::look(words, &mut self.seat, cell)
     }
 
-    /// Whether the cell with this number in its ring waits for this generation, as the submitter's own reaping tells.
-    pub(crate) fn is_free(&self, number: usize, generation: u32) -> bool
-        requires there { (cell : ℕ) × IsNextCell self.now cell number generation }
-        ensures free { result ≡ true → (cell : ℕ) → IsNextCell self.now cell number generation → Vacant self.now.view.layout.cells self.now.view.seen cell generation }
-        ensures taken { result ≡ false → (cell : ℕ) → IsNextCell self.now cell number generation → ¬ ((n : ℕ) → n < generation → IsReaped (phase (seen_of self.now) (request_at self.now.view.layout.cells cell n))) }
+    /// Whether a LINK_TIMEOUT may be its next entry.
+    pub(crate) fn is_hosted(&self) -> bool
+        ensures there { (ring : ℕ) → self.now.view.role ≡ SubmitterRole ring → ring < length self.now.view.layout.cells }
+        ensures hosted { (ring : ℕ) → self.now.view.role ≡ SubmitterRole ring → result ≡ hosts (before_in (seen_of self.now) (next_of self.now ring)) }
     {
-        self.ages[number] == generation
+        self.lane.hosted
+    }
+
+    /// Whether there is room for its next requests, so many of them.
+    pub(crate) fn room(&mut self, words: &Words, grid: &Grid, count: u64) -> Result<(), SubmitError>
+        requires over { (self.old.table ≡ words.now.table_id) × (grid.now ≡ self.old.view.layout.cells) × (words.now.table_id.words ≡ 8 * total grid.now + 72) }
+        ensures table { self.new.table ≡ self.old.table }
+        ensures looks { (n : ℕ) × ((ring : ℕ) → self.old.view.role ≡ SubmitterRole ring → n ≤ cells_in grid.now ring + 1) × Watched n self.old.view self.new.view }
+        ensures free { IfOk result (λ _. (ring : ℕ) → self.old.view.role ≡ SubmitterRole ring → AreFree grid.now self.new.view ring (submits (seen_of self.old) ring) count) }
+        ensures fresh { IfOk result (λ _. (ring : ℕ) → self.old.view.role ≡ SubmitterRole ring → (i : ℕ) → i < count → (submits (seen_of self.old) ring + i) / cells_in grid.now ring < 16777215) }
+        ensures refused { IfErr result (λ e. (ring : ℕ) → self.old.view.role ≡ SubmitterRole ring → RefusesRoom grid.now ring (submits (seen_of self.old) ring) count self.old self.new e) }
+    {
+        lane::room(words, &mut self.seat, &mut self.lane, grid, count)
     }
 
     /// Submits its next request, whose cell is free.
@@ -114,21 +130,22 @@ impl Submitter {
         requires parts { 0 < self.old.view.parts }
         requires small { spot.generation < 16777215 }
         requires next { IsNextCell self.old spot.cell spot.number spot.generation }
-        requires free { Vacant self.old.view.layout.cells self.old.view.seen spot.cell spot.generation }
-        requires served { Serves parcel.sqe parcel.last × FitsEntry parcel.sqe parcel.buffer.items }
+        requires free { IsFree self.old.view.layout.cells (seen_of self.old) (request_at self.old.view.layout.cells spot.cell spot.generation) }
+        requires served { Serves (before_in (seen_of self.old) (request_at self.old.view.layout.cells spot.cell spot.generation)) parcel.sqe × FitsEntry parcel.sqe parcel.buffer.items }
         ensures table { self.new.table ≡ self.old.table }
         ensures submits { let r : Req = request_at self.old.view.layout.cells spot.cell spot.generation in (facts : ℕ) × ExtendsThrice self.old.view (Lent r (facts_at spot.cell) facts) (Lending r) (Noted r (user_at spot.cell) parcel.sqe.user_data) (Lending r) (Did (Submit r parcel.sqe parcel.buffer.items parcel.last)) (SubmitterRole r.ring) self.new.view }
         ensures steps { IsThreeSteps (facts_at spot.cell) (user_at spot.cell) (claim_at spot.cell) self.old.view self.new.view }
     {
+        let hosted = hosts_next(&parcel.sqe, parcel.last);
         let facts = submitter::submit(
             words,
             &mut self.seat,
             spot.cell,
             spot.generation as u32,
             parcel,
+            self.lane.hosted,
         );
-        self.facts[spot.number] = facts;
-        self.next += 1;
+        self.lane.go_on(spot.number, facts, hosted);
     }
 
     /// Takes what was handed in, with the data, of the request whose claim word was seen to be `done`, and ends the request.
@@ -146,11 +163,11 @@ impl Submitter {
         ensures steps { IsTwoSteps (facts_at spot.cell) (claim_at spot.cell) self.old.view self.new.view }
         ensures parcel { IsParcel self.new.view.seen (request_at self.old.view.layout.cells spot.cell spot.generation) (data_of (seen_of self.old) (request_at self.old.view.layout.cells spot.cell spot.generation)) result }
     {
-        let outcome = with_outcome(self.facts[spot.number], failed);
+        let outcome = with_outcome(self.lane.facts[spot.number], failed);
         let generation = spot.generation as u32;
         let parcel = submitter::reap(words, &mut self.seat, spot.cell, generation, done, outcome);
-        self.facts[spot.number] = outcome;
-        self.ages[spot.number] += 1;
+        self.lane.facts[spot.number] = outcome;
+        self.lane.ages[spot.number] += 1;
         parcel
     }
 }

@@ -1,4 +1,5 @@
 //! What the calls of a case answered.
+use crate::call::Batch;
 use board::{Completion, Parked, Phase, ReapError, Released, SubmitError};
 use entry::Cqe;
 use history::Req;
@@ -13,10 +14,12 @@ pub(crate) enum Answer {
     Told(Released),
     Submitted(Req),
     NotSubmitted(SubmitError, Vec<u8>),
+    NoBatch(SubmitError, Batch),
     Ran(Cqe),
     Parked(Parked),
     Reaped(Completion),
     NotReaped(ReapError),
+    Served(usize),
 }
 
 /// The pass doesn't exist, or runs a request.
@@ -76,10 +79,19 @@ impl fmt::Display for Answer {
                 let buffer = Digits(buffer);
                 write!(f, "{error}, buffer {buffer}")
             }
+            Answer::NoBatch(error, batch) => {
+                write!(f, "{error}, buffers")?;
+                for (_, buffer) in batch {
+                    let buffer = Digits(buffer);
+                    write!(f, " {buffer}")?;
+                }
+                Ok(())
+            }
             Answer::Ran(cqe) => cqe.fmt(f),
             Answer::Parked(why) => write!(f, "parked: {why:?}"),
             Answer::Reaped(completion) => Whole(completion).fmt(f),
             Answer::NotReaped(error) => error.fmt(f),
+            Answer::Served(count) => write!(f, "{count} replied"),
         }
     }
 }

@@ -6,6 +6,9 @@ use history::Req;
 use std::alloc::{AllocError, Global};
 use text::{bytes_of, number_of};
 
+/// The entries of a `batch` line, with their buffers.
+pub(crate) type Batch = Vec<(Sqe, Vec<u8>)>;
+
 /// One call.
 #[derive(Drop)]
 pub(crate) enum Call {
@@ -17,6 +20,8 @@ pub(crate) enum Call {
     Meet(Name, Name),
     /// `submit RING ENTRY WORD..`
     Submit(usize, Sqe, Vec<u8>),
+    /// `batch RING ENTRY WORD.. / ENTRY WORD..`
+    Batch(usize, Batch),
     /// `release REQUEST`
     Release(Req),
     /// `begin WORKER REQUEST`
@@ -27,10 +32,15 @@ pub(crate) enum Call {
     Run(usize),
     /// `reap RING REQUEST`
     Reap(usize, Req),
+    /// `serve WORKER REQUEST COUNT`: releases, begins and runs so many requests of a ring, from this one on.
+    Serve(usize, Req, usize),
 }
 
-/// The words that a `submit` line may have after its entry: a user_data, flags and a buffer.
+/// The words that may stand after an entry: a user_data, flags and a buffer.
 const OPTIONS: u32 = 3;
+
+/// The most entries that a `batch` line may have.
+const ENTRIES: u32 = 256;
 
 /// An entry with its buffer.
 #[derive(Drop)]
@@ -97,18 +107,49 @@ fn handed_of(alloc: Global, words: &mut Words<'_>) -> Result<Handed, AllocError>
     Ok(Handed { sqe, buffer })
 }
 
-/// The call that the words of a `submit` line make.
-fn submission_of(alloc: Global, mut words: Words<'_>) -> Result<Option<Call>, AllocError> {
-    let ring = words.number();
-    let mut handed = handed_of(alloc, &mut words)?;
+/// The next entry of a line, up to the end of the line, with its buffer. True with them where a `/` stood after it.
+fn part_of(alloc: Global, words: &mut Words<'_>) -> Result<((Sqe, Vec<u8>), bool), AllocError> {
+    let mut handed = handed_of(alloc, words)?;
+    let mut goes_on = words.option("/");
     for _ in 0..OPTIONS {
+        if goes_on {
+            break;
+        }
         if let Some(word) = words.next_word() {
             words.is_bad |= !handed.take_in(alloc, word)?;
+            goes_on = words.option("/");
         }
     }
     let Handed { sqe, buffer } = handed;
-    if words.are_whole() {
+    Ok(((sqe, buffer), goes_on))
+}
+
+/// The call that the words of a `submit` line make.
+fn submission_of(alloc: Global, mut words: Words<'_>) -> Result<Option<Call>, AllocError> {
+    let ring = words.number();
+    let ((sqe, buffer), goes_on) = part_of(alloc, &mut words)?;
+    if words.are_whole() && !goes_on {
         Ok(Some(Call::Submit(ring, sqe, buffer)))
+    } else {
+        Ok(None)
+    }
+}
+
+/// The call that the words of a `batch` line make.
+fn batch_of(alloc: Global, mut words: Words<'_>) -> Result<Option<Call>, AllocError> {
+    let ring = words.number();
+    let mut batch = Vec::new(alloc);
+    let mut goes_on = words.rest.is_some();
+    for _ in 0..ENTRIES {
+        if !goes_on {
+            break;
+        }
+        let (part, is_followed) = part_of(alloc, &mut words)?;
+        batch.push(part)?;
+        goes_on = is_followed;
+    }
+    if words.are_whole() && !goes_on {
+        Ok(Some(Call::Batch(ring, batch)))
     } else {
         Ok(None)
     }
@@ -125,6 +166,7 @@ fn plain_call(kind: &str, words: &mut Words<'_>) -> Call {
         "park" => Call::Park(words.number()),
         "run" => Call::Run(words.number()),
         "reap" => Call::Reap(words.number(), words.req()),
+        "serve" => Call::Serve(words.number(), words.req(), words.number()),
         _ => words.bad(Call::Park(0)),
     }
 }
@@ -133,8 +175,10 @@ fn plain_call(kind: &str, words: &mut Words<'_>) -> Call {
 pub(crate) fn call_of(alloc: Global, line: &str) -> Result<Option<Call>, AllocError> {
     let mut words = Words::of(line);
     let kind = words.word();
-    if kind == "submit" {
-        return submission_of(alloc, words);
+    match kind {
+        "submit" => return submission_of(alloc, words),
+        "batch" => return batch_of(alloc, words),
+        _ => {}
     }
     let call = plain_call(kind, &mut words);
     Ok(if words.are_whole() { Some(call) } else { None })

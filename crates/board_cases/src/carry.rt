@@ -5,7 +5,7 @@ ghost use Rattle.board_cases.specs.Cast.{IsCast};
 ghost use Rattle.board_cases.specs.Slots.{AreIn};
 
 use crate::answer::{Answer, NO_PASS};
-use crate::call::Call;
+use crate::call::{Batch, Call};
 use crate::cast::{Away, Cast};
 use crate::words::Name;
 use board::{Board, Busy, Pass, Ran, Submitter, Worker};
@@ -187,6 +187,18 @@ fn submit(board: &Board, submitter: &mut Submitter, sqe: Sqe, buffer: Vec<u8>) -
     }
 }
 
+/// Submits a batch.
+fn submit_batch(board: &Board, submitter: &mut Submitter, batch: Batch) -> Answer
+    requires { IsOf board.now submitter.old }
+    ensures { IsOf board.now submitter.new }
+{
+    let _ring = submitter.ring();
+    match board.submit_batch(submitter, batch) {
+        Ok(first) => Answer::Submitted(first),
+        Err((error, batch)) => Answer::NoBatch(error, batch),
+    }
+}
+
 /// Takes the completion of a request.
 fn reap(board: &Board, submitter: &mut Submitter, req: Req) -> Answer
     requires { IsOf board.now submitter.old }
@@ -198,7 +210,7 @@ fn reap(board: &Board, submitter: &mut Submitter, req: Req) -> Answer
     }
 }
 
-/// The call of the submitter of a ring: `next`, `submit` or `reap`.
+/// The call of the submitter of a ring: `next`, `submit`, `batch` or `reap`.
 fn carry_submitter(board: &Board, submitter: &mut Submitter, call: Call) -> Answer
     requires { IsOf board.now submitter.old }
     ensures { IsOf board.now submitter.new }
@@ -206,6 +218,7 @@ fn carry_submitter(board: &Board, submitter: &mut Submitter, call: Call) -> Answ
     match call {
         Call::Next(_) => Answer::Next(submitter.ring(), submitter.next_request()),
         Call::Submit(_, sqe, buffer) => submit(board, submitter, sqe, buffer),
+        Call::Batch(_, batch) => submit_batch(board, submitter, batch),
         Call::Reap(_, req) => reap(board, submitter, req),
         _ => NO_PASS,
     }
@@ -259,6 +272,37 @@ fn run(board: &Board, cast: &mut Cast<'_>, number: usize) -> Answer
     }
 }
 
+/// Releases and begins a request, and the worker runs it. False where it can't be begun, or is parked.
+fn serve_one<'a>(board: &'a Board, cast: &mut Cast<'a>, number: usize, req: Req) -> bool
+    requires { IsCast board.now cast.old }
+    ensures { IsCast board.now cast.new }
+{
+    board.release(&mut cast.poller, req);
+    begin(board, cast, number, req);
+    matches!(run(board, cast, number), Answer::Ran(_))
+}
+
+/// Serves so many requests of a ring, from this one on, up to the first that can't be.
+fn serve<'a>(
+    board: &'a Board,
+    cast: &mut Cast<'a>,
+    number: usize,
+    first: Req,
+    count: usize,
+) -> Answer
+    requires { IsCast board.now cast.old }
+    ensures { IsCast board.now cast.new }
+{
+    let mut req = first;
+    for served in 0..count {
+        if !serve_one(board, cast, number, req) {
+            return Answer::Served(served);
+        }
+        req.k = req.k.wrapping_add(1);
+    }
+    Answer::Served(count)
+}
+
 /// Makes a call.
 pub(crate) fn carry<'a>(board: &'a Board, cast: &mut Cast<'a>, call: Call) -> Answer
     requires { IsCast board.now cast.old }
@@ -271,7 +315,8 @@ pub(crate) fn carry<'a>(board: &'a Board, cast: &mut Cast<'a>, call: Call) -> An
         Call::Begin(number, req) => begin(board, cast, number, req),
         Call::Park(number) => park(board, cast, number),
         Call::Run(number) => run(board, cast, number),
-        Call::Next(ring) | Call::Submit(ring, ..) | Call::Reap(ring, _) => {
+        Call::Serve(number, first, count) => serve(board, cast, number, first, count),
+        Call::Next(ring) | Call::Submit(ring, ..) | Call::Batch(ring, _) | Call::Reap(ring, _) => {
             match cast.submitters.get_mut(ring) {
                 Some(submitter) => carry_submitter(board, submitter, call),
                 None => NO_PASS,

@@ -10,8 +10,11 @@
 //! - `submit RING ENTRY WORD..`, where an entry is one of those that `cases` reads, as `nop`, `read FD LEN`, `write FD BYTES`,
 //!   `close FD` or `poll FD MASK`, or `raw HEX`, where bytes 0 at its end are left out, and a word is `ud=NUMBER`,
 //!   `flags=NUMBER` or `buffer=HEX`;
+//! - `batch RING ENTRY WORD.. / ENTRY WORD..`, of no entry or more, which are written as at `submit`;
 //! - `release REQUEST`, `begin WORKER REQUEST`, `park WORKER`, `run WORKER`, which says `parked: NotReady` of a request without an
 //!   answer now, `reap RING REQUEST`;
+//! - `serve WORKER REQUEST COUNT`: releases, begins and runs so many requests of a ring, from this one on, up to the first that
+//!   doesn't reply, and says how many did;
 //! - `finish`, before which all workers put their requests back; with `turned` the submitters are handed in in the other
 //!   order, with `without submitter` or `without worker` the last of them isn't, and comes back where the end is refused.
 //!

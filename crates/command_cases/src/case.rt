@@ -54,7 +54,8 @@ pub fn folded(alloc: Global, bytes: &mut [u8]) -> Result<String, AllocError> {
     String::from_utf8_lossy(alloc, bytes)
 }
 
-/// The job of a kind of case. A run tries each waiting line a thousand times, or once, or without end to speak of.
+/// The job of a kind of case. A run tries each waiting line a thousand times, or once, or a hundred thousand times, or without end
+/// to speak of.
 pub fn job_of(kind: &str) -> Job {
     match kind {
         "outcomes" => Job::Outcomes { stats: false },
@@ -62,6 +63,7 @@ pub fn job_of(kind: &str) -> Job {
         "history" => Job::History,
         "stuck" => run_of(1000),
         "once" => run_of(1),
+        "drawn" => run_of(100_000),
         _ => run_of(10_000_000),
     }
 }

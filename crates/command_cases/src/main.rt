@@ -3,6 +3,7 @@
 #![tactic(auto)]
 
 mod case;
+mod drawn;
 mod events;
 mod files;
 mod histories;
@@ -41,6 +42,7 @@ fn told<R: Threads + Sync + Clock + Files + Input + AllocGlobal>(
         "among" => case::is_among(rt, case),
         "stats" => case::surveyed(rt, case),
         "listed" => case::prints_listed(rt, case),
+        "drawn" => drawn::runs(rt, case.text),
         "legal" => histories::is_legal(rt, case),
         "events" => case::folded(rt.alloc(), &mut events::told(rt.alloc(), case.text)?),
         _ => case::answered(rt, case),

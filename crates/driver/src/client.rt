@@ -19,13 +19,16 @@ pub(crate) struct Client {
     pub halt: Option<Halt>,
 }
 
-/// What became of a try to submit an entry.
+/// The entries of a line, with their buffers.
+pub(crate) type Batch = Vec<(Sqe, Vec<u8>)>;
+
+/// What became of a try to submit a batch.
 #[derive(Drop)]
 pub(crate) enum Tried {
     Submitted,
-    /// Its cell isn't free; the buffer comes back.
-    Full(Vec<u8>),
-    /// The board can't serve it.
+    /// A cell isn't free; the batch comes back.
+    Full(Batch),
+    /// The board can't serve it, or takes no such batch.
     Unserved,
 }
 
@@ -42,25 +45,34 @@ impl Client {
         }
     }
 
-    /// Tries to submit an entry with its buffer.
-    pub fn try_submit(
-        &mut self,
-        board: &Board,
-        sqe: Sqe,
-        buffer: Vec<u8>,
-    ) -> Result<Tried, AllocError>
+    /// Tries to submit a batch.
+    pub fn try_submit(&mut self, board: &Board, batch: Batch) -> Result<Tried, AllocError>
         requires { IsOf board.now self.old.submitter }
         ensures { IsOf board.now self.new.submitter }
     {
-        let _ring = self.submitter.ring();
-        match board.submit(&mut self.submitter, sqe, buffer) {
-            Ok(req) => {
-                self.open.push_back(req)?;
+        let ring = self.submitter.ring();
+        let count = batch.len() as u64;
+        match board.submit_batch(&mut self.submitter, batch) {
+            Ok(first) => {
+                self.wait_for(ring, first.k, count)?;
                 Ok(Tried::Submitted)
             }
-            Err((SubmitError::Full, buffer)) => Ok(Tried::Full(buffer)),
+            Err((SubmitError::Full, batch)) => Ok(Tried::Full(batch)),
             Err(_) => Ok(Tried::Unserved),
         }
+    }
+
+    /// Notes so many requests of the ring, from this number on, as open.
+    fn wait_for(&mut self, ring: u16, first: u64, count: u64) -> Result<(), AllocError>
+        ensures { self.new.submitter ≡ self.old.submitter }
+    {
+        for i in 0..count {
+            self.open.push_back(Req {
+                ring,
+                k: first.saturating_add(i),
+            })?;
+        }
+        Ok(())
     }
 
     /// Takes the completions of all its requests that have replied.
@@ -74,7 +86,7 @@ impl Client {
         Ok(())
     }
 
-    /// Takes the completion of the first of its open requests, or puts this one behind the others.
+    /// Takes the completion of the first of its open requests, or puts this one after the others.
     fn take_next(&mut self, board: &Board) -> Result<(), AllocError>
         requires { IsOf board.now self.old.submitter }
         ensures { IsOf board.now self.new.submitter }

@@ -1,9 +1,9 @@
 //! The lines of a ring, carried out one after another.
 ghost use Rattle.work.specs.Board.{IsOf};
 
-use crate::client::{Client, Tried};
+use crate::client::{Batch, Client, Tried};
 use crate::stage::{Stage, is_replied};
-use script::{Act, Named};
+use script::Act;
 use std::alloc::{AllocError, AllocFailed};
 use std::thread;
 
@@ -69,45 +69,43 @@ fn carry_line(stage: &Stage<'_>, client: &mut Client, act: &Act) -> Result<(), H
     ensures { IsOf stage.now.board.now client.new.submitter }
 {
     match act {
-        Act::Submit(places) => submit_all(stage, client, places.as_slice()),
+        Act::Submit(places) => submit_line(stage, client, places.as_slice()),
         Act::Wait(place) => wait(stage, client, *place),
         Act::Armed(_) | Act::Tick(_) => Ok(()),
     }
 }
 
-/// Submits the entries at these places one by one.
-fn submit_all(stage: &Stage<'_>, client: &mut Client, places: &[u32]) -> Result<(), Halt>
+/// Submits the entries at these places as one batch. Where a cell isn't free it is tried again, and before each further try the
+/// completions that are there are taken.
+fn submit_line(stage: &Stage<'_>, client: &mut Client, places: &[u32]) -> Result<(), Halt>
     requires { IsOf stage.now.board.now client.old.submitter }
     ensures { IsOf stage.now.board.now client.new.submitter }
 {
     let Some(first) = places.first() else {
         return Ok(());
     };
-    for place in places {
-        if let Some(entry) = stage.script.entries.get(*place as usize) {
-            submit(stage, client, entry, *first)?;
-        }
-    }
-    Ok(())
-}
-
-/// Submits an entry of a line whose first entry is at `first`. Where its cell isn't free it is tried again, and before
-/// each further try the completions that are there are taken.
-fn submit(stage: &Stage<'_>, client: &mut Client, entry: &Named, first: u32) -> Result<(), Halt>
-    requires { IsOf stage.now.board.now client.old.submitter }
-    ensures { IsOf stage.now.board.now client.new.submitter }
-{
-    let mut buffer = entry.buffer.clone()?;
+    let mut batch = batch_of(stage, places)?;
     for _ in 0..stage.turns {
-        buffer = match client.try_submit(stage.board, entry.sqe, buffer)? {
+        batch = match client.try_submit(stage.board, batch)? {
             Tried::Submitted => return Ok(()),
-            Tried::Unserved => return Err(Halt::Unserved(first)),
-            Tried::Full(buffer) => buffer,
+            Tried::Unserved => return Err(Halt::Unserved(*first)),
+            Tried::Full(batch) => batch,
         };
         client.take_all(stage.board)?;
         thread::yield_now();
     }
-    Err(Halt::Stuck(first))
+    Err(Halt::Stuck(*first))
+}
+
+/// The entries at these places, with their buffers.
+fn batch_of(stage: &Stage<'_>, places: &[u32]) -> Result<Batch, Halt> {
+    let mut batch = Vec::new(stage.alloc);
+    for place in places {
+        if let Some(entry) = stage.script.entries.get(*place as usize) {
+            batch.push((entry.sqe, entry.buffer.clone()?))?;
+        }
+    }
+    Ok(batch)
 }
 
 /// Waits for the reply to the entry at a place. At each try the completions that are there are taken.

@@ -47,8 +47,8 @@ pub(crate) fn go_round(stage: &Stage<'_>, mut desk: Desk) -> Desk
     desk
 }
 
-/// Goes round once: moves what may begin to the workers, answers what is ready, and tries a line of the clock. True where a
-/// request went on.
+/// Goes round once: moves what may begin to the workers, ends what is severed, answers what is ready, and tries a line of the
+/// clock. True where a request went on.
 fn round(stage: &Stage<'_>, desk: Desk) -> (Desk, bool)
     requires { IsDeskOf stage.now.board.now desk }
     ensures { IsDeskOf stage.now.board.now result.0 }
@@ -59,7 +59,7 @@ fn round(stage: &Stage<'_>, desk: Desk) -> (Desk, bool)
         mut windows,
         mut clock,
     } = desk;
-    let freed = release_all(stage, &mut poller, &mut windows);
+    let moved = release_all(stage, &mut poller, &mut windows);
     let (worker, answered) = serve_all(stage, worker, &windows);
     clock.turn(stage, &mut poller);
     let desk = Desk {
@@ -68,10 +68,10 @@ fn round(stage: &Stage<'_>, desk: Desk) -> (Desk, bool)
         windows,
         clock,
     };
-    (desk, freed || answered)
+    (desk, moved || answered)
 }
 
-/// Moves what may begin to the workers, in the order of the rings. True where there was one.
+/// Moves what may begin to the workers and ends what is severed, in the order of the rings. True where there was one.
 fn release_all(stage: &Stage<'_>, poller: &mut Poller, windows: &mut Vec<Window>) -> bool
     requires { IsOf stage.now.board.now poller.old }
     ensures { IsOf stage.now.board.now poller.new }

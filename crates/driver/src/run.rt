@@ -21,8 +21,8 @@ use std::alloc::{AllocError, Global};
 use std::thread::Threads;
 
 /// Carries a script out on a board with so many workers, and gives its table. Each ring has a thread of its own; one more
-/// has the poller and one of the workers, which answers all requests. A `wait` line, and a `submit` line whose cell isn't
-/// free, is tried at most `turns` times. What has no reply behind the last line is cut off with -125 (ECANCELED).
+/// has the poller and one of the workers, which answers all requests. A `wait` line, and a `submit` line whose cells
+/// aren't all free, is tried at most `turns` times. What has no reply after the last line is cut off with -125 (ECANCELED).
 pub fn run_script<R: Threads + Sync>(
     rt: &R,
     alloc: Global,
@@ -100,6 +100,7 @@ fn play<R: Threads + Sync>(
     } = cast;
     let gate = Gate::new(clients.len() as u64);
     let stage = Stage {
+        alloc,
         board: &board,
         script,
         homes,

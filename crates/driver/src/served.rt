@@ -1,5 +1,5 @@
 //! Which lines of a script the board can serve.
-use board::is_served;
+use board::{hosts_next, is_served};
 use script::{Act, Script};
 
 /// The label of the first entry of the first line, ring by ring and then of the clock, that the board can't serve yet;
@@ -47,18 +47,17 @@ pub(crate) fn label_at(script: &Script, place: u32) -> Option<&str> {
     }
 }
 
-/// Whether the board serves the entries at these places one by one as it would serve them as a batch: each is served, and
-/// none makes the next one wait.
+/// Whether the board serves the entries at these places as a batch.
 fn is_batch_served(script: &Script, places: &[u32]) -> bool {
-    let mut was_linked = false;
-    for place in places {
-        let Some(entry) = script.entries.get(*place as usize) else {
+    let mut hosted = false;
+    for i in 0..places.len() {
+        let Some(entry) = script.entries.get(places[i] as usize) else {
             return false;
         };
-        if was_linked || !is_served(&entry.sqe) {
+        if !is_served(&entry.sqe, hosted) {
             return false;
         }
-        was_linked = entry.sqe.links_soft() || entry.sqe.links_hard();
+        hosted = hosts_next(&entry.sqe, i + 1 == places.len());
     }
     true
 }

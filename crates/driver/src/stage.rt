@@ -5,11 +5,13 @@ use crate::gate::Gate;
 use board::{Board, Pass, Phase};
 use history::Req;
 use script::Script;
+use std::alloc::Global;
 
-/// What all threads of a run share: the board, the script, the request of each entry, how often a line is tried, and the
-/// gate.
+/// What all threads of a run share: where memory comes from, the board, the script, the request of each entry, how often a
+/// line is tried, and the gate.
 #[derive(Clone, Copy)]
 pub(crate) struct Stage<'a> {
+    pub alloc: Global,
     pub board: &'a Board,
     pub script: &'a Script,
     pub homes: &'a [Option<Req>],

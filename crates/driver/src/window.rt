@@ -66,14 +66,17 @@ impl Window {
         self.low = self.tail;
     }
 
-    /// Moves the requests that may begin to the workers. True where there was one.
+    /// Moves the requests that may begin to the workers, and answers those whose chain has failed. True where there was one.
     pub fn release(&self, board: &Board, poller: &mut Poller) -> bool
         requires { IsOf board.now poller.old }
         ensures { IsOf board.now poller.new }
     {
         let mut moved = false;
         for k in self.low..self.tail {
-            if board.release(poller, self.req(k)) == Released::Freed {
+            if matches!(
+                board.release(poller, self.req(k)),
+                Released::Freed | Released::Severed
+            ) {
                 moved = true;
             }
         }

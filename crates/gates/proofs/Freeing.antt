@@ -7,12 +7,12 @@ use Rattle.std.proofs.lemmas.List.{length-map}
 use Rattle.history.specs.declared.req.Req.{Req}
 use Rattle.history.specs.declared.event.Event.{Event}
 use Rattle.history.specs.History.{phase, IsReplied}
-use Rattle.history.specs.Chains.{IsChainBefore}
+use Rattle.history.specs.Chains.{IsChainBefore, IsChained}
 use Rattle.history.proofs.Requests.{bool_cases, and_left, and_right}
 use Rattle.gates.specs.declared.cell.Behind.{Behind}
 use Rattle.gates.specs.Slots.{Slot, slot_of, behind}
 use Rattle.gates.specs.Rows.{Kept, IsSound, Stands, added, free_by, begins_after}
-use Rattle.gates.specs.Shows.{nth, Shows, IsChained, IsFree, IsOfChain}
+use Rattle.gates.specs.Shows.{nth, Shows, IsFree, IsOfChain}
 use Rattle.gates.proofs.Lists.{get_there}
 use Rattle.gates.proofs.Marks.{P, Join}
 use Rattle.gates.proofs.Agreement.{Agrees, Each, shown, shown_fresh}

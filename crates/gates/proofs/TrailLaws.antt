@@ -6,16 +6,16 @@ use Rattle.std.proofs.lemmas.Option.{slice_get_within, none-some}
 use Rattle.entry.specs.Entry.{Entry}
 use Rattle.history.specs.declared.req.Req.{Req}
 use Rattle.history.specs.declared.event.Event.{Event}
-use Rattle.history.specs.History.{Submission, submission, submits, phase, unborn, IsReplied}
-use Rattle.history.specs.Chains.{joins, IsPlaced, IsChainBefore}
+use Rattle.history.specs.History.{Submission, submission, submits, phase, IsReplied}
+use Rattle.history.specs.Chains.{IsPlaced, IsChainDone}
 use Rattle.history.specs.Legal.{Setup, MayCome, Legal}
 use Rattle.history.proofs.Requests.{bool_cases}
-use Rattle.history.proofs.Growth.{counted, submission_none, submission_stays, reply_stays, replied_stays}
-use Rattle.history.proofs.Opening.{placed_stays}
+use Rattle.history.proofs.Growth.{submission_none, submission_stays, reply_stays}
+use Rattle.history.proofs.Opening.{placed_stays, done_stays}
 use Rattle.gates.specs.declared.traits.Traits.{Traits}
 use Rattle.gates.specs.Slots.{Slot, traits_of, is_unanswered, is_pending, passes, test_at}
 use Rattle.gates.specs.Rows.{Kept, Stands, slot_with, stand_in, with_reply, answered}
-use Rattle.gates.specs.Shows.{nth, IsChained, IsOfChain, StandsIn, IsDone, IsOutcome, TrailedAt, TrailsAt, Trails}
+use Rattle.gates.specs.Shows.{nth, IsOfChain, StandsIn, IsOutcome, TrailedAt, TrailsAt, Trails}
 use Rattle.gates.proofs.Lists.{get_before, get_last, get_set_same, get_set_other, one_some}
 use Rattle.gates.proofs.Links.{ne_of}
 use Rattle.gates.proofs.Trailing.{trailed}
@@ -27,11 +27,11 @@ trails_none h i k s e = absurd (none-some s e)
 pub met_trails : (h : List Event) (q : Req) (x : Submission) (e : Entry) (t : Traits) (last : Bool) → submission h q ≡ Some x → IsPlaced h q e → traits_of e ≡ t → x.last ≡ last → TrailsAt h q (slot_with t last)
 met_trails h q x e t last sub placed traits ends = inl (record { handed = (x, sub, ends); placed = (e, placed, traits); outcome = λ f u. absurd (none-some f u) })
 
-pub stand_in_trails : (h : List Event) (q : Req) → IsDone h q → TrailsAt h q stand_in
+pub stand_in_trails : (h : List Event) (q : Req) → IsChainDone h q → TrailsAt h q stand_in
 stand_in_trails h q d = inr (record { plain = record { drains = refl; links_soft = refl; links_hard = refl }; done = refl; replied = d.replied; chain = d.chain })
 
 -- who is of a chain that has replied has replied
-pub of_chain_replied : (h : List Event) (p q : Req) → IsDone h q → IsOfChain h p q → IsReplied (phase h p)
+pub of_chain_replied : (h : List Event) (p q : Req) → IsChainDone h q → IsOfChain h p q → IsReplied (phase h p)
 of_chain_replied h p q d = ⊎_elim (λ e. subst (λ z. IsReplied (phase h z)) (sym e) d.replied) (λ c. d.chain p c)
 
 -- a slot more
@@ -66,45 +66,13 @@ lost_replied h i xs r k stands trails lt = (trailed h i xs trails).replied_is k 
 
 -- ---- one event more
 
-replied_born : (h : List Event) (q : Req) → IsReplied (phase h q) → ¬ (phase h q ≡ unborn)
-replied_born h q is e = subst IsReplied e is
-
 module _ (s : Setup) (e : Event) (h : List Event) (l : Legal s h) (a : MayCome s h e) where
   -- of what was handed in it was counted
   submitted : (q : Req) (x : Submission) → submission h q ≡ Some x → q.k < submits h q.ring
   submitted q x is = ⊎_elim (λ (c : q.k < submits h q.ring). c) (λ (c : submits h q.ring ≤ q.k). absurd (none-some x (sym (submission_none s h q l c) ∙ is))) (cases_lt q.k (submits h q.ring))
 
-  joins_was : (i m : ℕ) → m < submits h i → joins (submission (e ∷ h) (nth i m)) ≡ true → joins (submission h (nth i m)) ≡ true
-  joins_was i m lt is = sym (ap joins (submission_stays s e h (nth i m) a lt)) ∙ is
-
-  -- a chain that has replied was handed in whole: nobody joins it later
-  pub done_stays : (q : Req) → IsDone h q → IsDone (e ∷ h) q
-  done_stays q d = record { replied = replied_stays s e h q l a d.replied; chain = λ p c. replied_stays s e h p l a (d.chain p (chained p c)) } where
-    n : ℕ
-    n = submits h q.ring
-
-    in_time : q.k < n
-    in_time = counted s h q l (replied_born h q d.replied)
-
-    earlier : (p : Req) → IsChainBefore (e ∷ h) p q → IsChainBefore h p q
-    earlier p c = (c.0, λ m x y. joins_was q.ring m (omega (arith, in_time)) (c.1 m x y))
-
-    -- a member after the last one that was submitted would have replied
-    none_later : (p : Req) → IsChainBefore (e ∷ h) q p → p.k ≤ n
-    none_later p c = ⊎_elim
-        (λ (x : n < p.k). let r : q.ring ≡ p.ring = c.0.0 in
-        let b : IsChainBefore h q (nth q.ring n) = ((refl, in_time), λ m y z. joins_was q.ring m z (subst (λ g. joins (submission (e ∷ h) (nth g m)) ≡ true) (sym r) (c.1 m y (omega (arith, x))))) in
-        let o : n < submits h q.ring = counted s h (nth q.ring n) l (replied_born h (nth q.ring n) (d.chain (nth q.ring n) (inr b))) in absurd (omega arith))
-        (λ (x : p.k ≤ n). x) (cases_lt n p.k)
-
-    later : (p : Req) → IsChainBefore (e ∷ h) q p → IsChainBefore h q p
-    later p c = let z = none_later p c in let r : q.ring ≡ p.ring = c.0.0 in (c.0, λ m x y. joins_was p.ring m (let t : submits h q.ring ≡ submits h p.ring = ap (submits h) r in omega (arith, y, z)) (c.1 m x y))
-
-    chained : (p : Req) → IsChained (e ∷ h) p q → IsChained h p q
-    chained p = ⊎_elim (λ c. inl (earlier p c)) (λ c. inr (later p c))
-
   pub outcome_stays : (q : Req) (f : Bool) → q.k < submits h q.ring → IsOutcome h q f → IsOutcome (e ∷ h) q f
-  outcome_stays q f lt = ⊎_elim (λ o. inl (o.0, o.1, placed_stays s e h l a q lt ∙ o.2, reply_stays s e h q o.1 l a o.3, o.4)) (λ o. inr (o.0, done_stays q o.1))
+  outcome_stays q f lt = ⊎_elim (λ o. inl (o.0, o.1, placed_stays s e h l a q lt ∙ o.2, reply_stays s e h q o.1 l a o.3, o.4)) (λ o. inr (o.0, done_stays s e h l a q o.1))
 
   trailed_stays : (q : Req) (x : Slot) → TrailedAt h q x → TrailedAt (e ∷ h) q x
   trailed_stays q x t = let g = t.handed in let lt = submitted q g.0 g.1 in let p = t.placed in record {
@@ -114,7 +82,7 @@ module _ (s : Setup) (e : Event) (h : List Event) (l : Legal s h) (a : MayCome s
   }
 
   stands_in_stays : (q : Req) (x : Slot) → StandsIn h q x → StandsIn (e ∷ h) q x
-  stands_in_stays q x t = let d = done_stays q (record { replied = t.replied; chain = t.chain }) in record { plain = t.plain; done = t.done; replied = d.replied; chain = d.chain }
+  stands_in_stays q x t = let d = done_stays s e h l a q (record { replied = t.replied; chain = t.chain }) in record { plain = t.plain; done = t.done; replied = d.replied; chain = d.chain }
 
   pub trails_grows : (i : ℕ) (xs : List Slot) → Trails h i xs → Trails (e ∷ h) i xs
   trails_grows i xs trails k x is = ⊎_elim (λ t. inl (trailed_stays (nth i k) x t)) (λ t. inr (stands_in_stays (nth i k) x t)) (trails k x is)

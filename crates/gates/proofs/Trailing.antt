@@ -9,13 +9,13 @@ use Rattle.entry.specs.Entry.{Entry, links, links_hard, drains, fails, fails_op}
 use Rattle.history.specs.declared.req.Req.{Req}
 use Rattle.history.specs.declared.event.Event.{Event}
 use Rattle.history.specs.History.{Submission, submission, phase, reply, IsReplied}
-use Rattle.history.specs.Chains.{is_link_timeout, is_invalid, joins, hosts, before_in, placed_from, placed, previous, IsPlaced, IsChainBefore, severs, is_link_timeout_in}
+use Rattle.history.specs.Chains.{is_link_timeout, is_invalid, joins, hosts, before_in, placed_from, placed, previous, IsPlaced, IsChainBefore, IsChainDone, severs, is_link_timeout_in}
 use Rattle.history.proofs.Requests.{bool_cases, and_left, and_right}
 use Rattle.history.proofs.Growth.{replied_of_reply}
 use Rattle.gates.specs.declared.cell.Behind.{Behind}
 use Rattle.gates.specs.declared.traits.Traits.{Traits}
 use Rattle.gates.specs.Slots.{Slot, traits_of, joins_of, is_unanswered, is_pending, is_target_timer, is_severing, next_in, behind, test_at}
-use Rattle.gates.specs.Shows.{nth, StandsIn, IsDone, IsOutcome, TrailedAt, Trails}
+use Rattle.gates.specs.Shows.{nth, StandsIn, IsOutcome, TrailedAt, Trails}
 use Rattle.gates.proofs.Lists.{get_there, one_some}
 use Rattle.gates.proofs.Bridge.{joins_at, severing_at, severing_parts, nobody}
 use Rattle.gates.proofs.Marks.{J}
@@ -85,7 +85,7 @@ module _ (h : List Event) (i : ℕ) where
   chain_part a j b le lt u = ((refl, lt), λ m p q. u.1 m (omega arith) q)
 
   -- a request whose chain has replied has nobody after it in its chain that has not
-  done_live : (m k : ℕ) → IsDone h (nth i m) → Live h i k → (m ≡ k) ⊎ IsChainBefore h (nth i m) (nth i k) → ⊥
+  done_live : (m k : ℕ) → IsChainDone h (nth i m) → Live h i k → (m ≡ k) ⊎ IsChainBefore h (nth i m) (nth i k) → ⊥
   done_live m k done live at = ⊎_elim
       (λ (e : m ≡ k). ⊎_elim
       (λ (u : live.0 ≡ k). live.2 (subst (λ z. IsReplied (phase h (nth i z))) (e ∙ sym u) done.replied))
@@ -94,7 +94,7 @@ module _ (h : List Event) (i : ℕ) where
       (λ (u : live.0 ≡ k). live.2 (done.chain (nth i live.0) (inr (subst (λ z. IsChainBefore h (nth i m) (nth i z)) (sym u) b))))
       (λ c. live.2 (done.chain (nth i live.0) (inr (chain_through m k live.0 b c)))) live.1) at
 
-  done_of : (q : Req) (s : Slot) → StandsIn h q s → IsDone h q
+  done_of : (q : Req) (s : Slot) → StandsIn h q s → IsChainDone h q
   done_of q s d = record { replied = d.replied; chain = d.chain }
 
   -- an outcome is one of a request that has replied

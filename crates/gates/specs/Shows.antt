@@ -4,7 +4,7 @@ use Rattle.entry.specs.Entry.{Entry, drains, fails}
 use Rattle.history.specs.declared.req.Req.{Req}
 use Rattle.history.specs.declared.event.Event.{Event}
 use Rattle.history.specs.History.{Submission, submission, phase, reply, IsReplied}
-use Rattle.history.specs.Chains.{IsPlaced, IsBefore, IsChainBefore, IsTarget, Severed, Open, gate_of}
+use Rattle.history.specs.Chains.{IsPlaced, IsBefore, IsChainBefore, IsChained, IsChainDone, IsTarget, Severed, Open, gate_of}
 use Rattle.gates.specs.declared.gate.Gate.{Gate}
 use Rattle.gates.specs.declared.gate.Gate.TheVariants.{Open as open_gate, Shut as shut_gate, Severed as severed_gate}
 use Rattle.gates.specs.declared.gate.Asked.{Asked}
@@ -47,10 +47,6 @@ abbrev pub IsBlocker : List Event → Req → Option ℕ → Type 0
 IsBlocker h r None = Severed h r ⊎ Open h r
 IsBlocker h r (Some k) = (¬ Severed h r) × Blocks h (gate_of h r) (nth r.ring k) × ((m : ℕ) → m < k → ¬ Blocks h (gate_of h r) (nth r.ring m))
 
--- p and q are members of one chain
-abbrev pub IsChained : List Event → Req → Req → Type 0
-IsChained h p q = IsChainBefore h p q ⊎ IsChainBefore h q p
-
 -- p is q, or a member of its chain
 abbrev pub IsOfChain : List Event → Req → Req → Type 0
 IsOfChain h p q = (p ≡ q) ⊎ IsChained h p q
@@ -78,14 +74,9 @@ pub record StandsIn (h : List Event) (q : Req) (s : Slot) : Type 0 where
 abbrev pub Mirrors : List Event → ℕ → List Slot → Type 0
 Mirrors h i xs = (k : ℕ) (s : Slot) → slice_get xs k ≡ Some s → MirroredAt h (nth i k) s ⊎ StandsIn h (nth i k) s
 
--- the request has replied, and each member of its chain
-pub record IsDone (h : List Event) (q : Req) : Type 0 where
-  pub replied : IsReplied (phase h q)
-  pub chain : (p : Req) → IsChained h p q → IsReplied (phase h p)
-
 -- what may be kept as the outcome of q: whether its reply fails; or, once its whole chain has replied, that it doesn't
 abbrev pub IsOutcome : List Event → Req → Bool → Type 0
-IsOutcome h q f = ((e : Entry) × (res : ℤ) × IsPlaced h q e × (reply h q ≡ Some res) × (fails e res ≡ f)) ⊎ ((f ≡ false) × IsDone h q)
+IsOutcome h q f = ((e : Entry) × (res : ℤ) × IsPlaced h q e × (reply h q ≡ Some res) × (fails e res ≡ f)) ⊎ ((f ≡ false) × IsChainDone h q)
 
 -- the slot has the traits of the request's entry as it was placed, and, if it has one, the request's outcome. One that is
 -- pending in the slot may have replied

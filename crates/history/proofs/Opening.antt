@@ -1,10 +1,11 @@
--- What is severed stays severed, and what is open stays open.
-use Rattle.std.proofs.Common.{◌≡◌, ℕ, ◌-◌, ◌<◌, ◌==◌, Bool, true, false, cond, ℤ, List, [], ◌∷◌, Some, None, sym, ap, ◌∙◌, subst, ⊎_elim, arith, true≢false}
+-- What is severed stays severed, what is open stays open, a chain that has replied was handed in whole, and what runs is open.
+use Rattle.std.proofs.Common.{◌≡◌, ℕ, ◌-◌, ◌<◌, ◌≤◌, ◌==◌, Bool, true, false, cond, ℤ, List, [], ◌∷◌, Some, None, refl, sym, ap, ◌∙◌, subst, ⊎_elim, inl, inr, arith, true≢false}
+use Rattle.std.proofs.lemmas.Bool.{cases_lt}
 use Rattle.history.specs.declared.req.Req.{Req}
 use Rattle.history.specs.declared.event.Event.{Event}
 use Rattle.history.specs.declared.event.Event.TheVariants.{Submit, Begin, Park, Reply, Take, Miss, Tick, Arm, Expire, Fire, FireMiss, Settle, Sever, Reap, Shut, Cut}
 use Rattle.history.specs.History.{Phase, Cause, unborn, waits, runs, replied, reaped, after_reap, becomes, concerns, submission, submits, phase, IsReplied}
-use Rattle.history.specs.Chains.{joins, previous, before_in, placed_from, placed, IsBefore, IsChainBefore, Severed, IsClear, is_link_timeout_in, gate_of, Open}
+use Rattle.history.specs.Chains.{joins, previous, before_in, placed_from, placed, IsBefore, IsChainBefore, IsChained, IsChainDone, Severed, IsClear, is_link_timeout_in, gate_of, Open}
 use Rattle.history.specs.Legal.{Setup, MayCome, Legal}
 use Rattle.history.proofs.Requests.{bool_cases, same_true}
 use Rattle.history.proofs.Growth.{at_request, counted, unchanged, changed, submission_stays, reply_of_replied, reply_stays, replied_stays}
@@ -15,6 +16,9 @@ gate_counted h r le = ⊎_elim
     (λ (w : is_link_timeout_in (placed h r) ≡ true). let G : Bool → Type 0 = λ b. (cond b (previous r) r).k < submits h (cond b (previous r) r).ring in subst G (sym w) (let x : r.k - 1 < submits h r.ring = omega arith in x))
     (λ (w : is_link_timeout_in (placed h r) ≡ false). let G : Bool → Type 0 = λ b. (cond b (previous r) r).k < submits h (cond b (previous r) r).ring in subst G (sym w) le)
     (bool_cases (is_link_timeout_in (placed h r)))
+
+replied_born : (h : List Event) (q : Req) → IsReplied (phase h q) → ¬ (phase h q ≡ unborn)
+replied_born h q is e = subst IsReplied e is
 
 module _ (s : Setup) (e : Event) (h : List Event) (l : Legal s h) (a : MayCome s h e) where
   before_stays : (q : Req) → q.k < submits h q.ring → before_in (e ∷ h) q ≡ before_in h q
@@ -64,6 +68,38 @@ module _ (s : Setup) (e : Event) (h : List Event) (l : Legal s h) (a : MayCome s
   -- once a request is open it is open for good
   pub open_stays : (r : Req) → r.k < submits h r.ring → Open h r → Open (e ∷ h) r
   open_stays r le o = subst (λ (g : Req). IsClear (e ∷ h) g) (sym (gate_stays r le)) (clear_stays (gate_of h r) (gate_counted h r le) o)
+
+  joins_was : (i m : ℕ) → m < submits h i → joins (submission (e ∷ h) (record { ring = i; k = m })) ≡ true → joins (submission h (record { ring = i; k = m })) ≡ true
+  joins_was i m lt is = sym (ap joins (submission_stays s e h (record { ring = i; k = m }) a lt)) ∙ is
+
+  -- a chain that has replied was handed in whole: nobody joins it later
+  pub done_stays : (q : Req) → IsChainDone h q → IsChainDone (e ∷ h) q
+  done_stays q d = record { replied = replied_stays s e h q l a d.replied; chain = λ p c. replied_stays s e h p l a (d.chain p (chained p c)) } where
+    n : ℕ
+    n = submits h q.ring
+
+    next : Req
+    next = record { ring = q.ring; k = n }
+
+    in_time : q.k < n
+    in_time = counted s h q l (replied_born h q d.replied)
+
+    earlier : (p : Req) → IsChainBefore (e ∷ h) p q → IsChainBefore h p q
+    earlier p c = (c.0, λ m x y. joins_was q.ring m (omega (arith, in_time)) (c.1 m x y))
+
+    -- a member after the last one that was submitted would have replied
+    none_later : (p : Req) → IsChainBefore (e ∷ h) q p → p.k ≤ n
+    none_later p c = ⊎_elim
+        (λ (x : n < p.k). let r : q.ring ≡ p.ring = c.0.0 in
+        let b : IsChainBefore h q next = ((refl, in_time), λ m y z. joins_was q.ring m z (subst (λ g. joins (submission (e ∷ h) (record { ring = g; k = m })) ≡ true) (sym r) (c.1 m y (omega (arith, x))))) in
+        let o : n < submits h q.ring = counted s h next l (replied_born h next (d.chain next (inr b))) in absurd (omega arith))
+        (λ (x : p.k ≤ n). x) (cases_lt n p.k)
+
+    later : (p : Req) → IsChainBefore (e ∷ h) q p → IsChainBefore h q p
+    later p c = let z = none_later p c in let r : q.ring ≡ p.ring = c.0.0 in (c.0, λ m x y. joins_was p.ring m (let t : submits h q.ring ≡ submits h p.ring = ap (submits h) r in omega (arith, y, z)) (c.1 m x y))
+
+    chained : (p : Req) → IsChained (e ∷ h) p q → IsChained h p q
+    chained p = ⊎_elim (λ c. inl (earlier p c)) (λ c. inr (later p c))
 
 -- ---- what runs is open
 

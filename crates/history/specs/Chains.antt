@@ -1,5 +1,5 @@
 -- Batches, chains and drains: which entries wait for which, which are severed, and when a request may start.
-use Rattle.std.specs.Prelude.{◌≡◌, ℕ, suc, ◌-◌, ◌<◌, ◌≤◌, ◌==◌, ◌&&◌, ◌||◌, not, Bool, true, false, cond, ℤ, List, Option, Some, None}
+use Rattle.std.specs.Prelude.{◌≡◌, ◌⊎◌, ℕ, suc, ◌-◌, ◌<◌, ◌≤◌, ◌==◌, ◌&&◌, ◌||◌, not, Bool, true, false, cond, ℤ, List, Option, Some, None}
 use Rattle.entry.specs.declared.op.Op.{Op}
 use Rattle.entry.specs.declared.op.Op.TheVariants.{Timeout, LinkTimeout, Invalid}
 use Rattle.entry.specs.Entry.{Entry, links, links_hard, drains, fails}
@@ -62,6 +62,15 @@ IsBefore q r = (q.ring ≡ r.ring) × (q.k < r.k)
 -- an earlier member of the same chain: from it on each entry joins the next (io_uring_enter(2), IOSQE_IO_LINK)
 abbrev pub IsChainBefore : List Event → Req → Req → Type 0
 IsChainBefore h q r = IsBefore q r × ((m : ℕ) → q.k ≤ m → m < r.k → joins (submission h (record { ring = r.ring; k = m })) ≡ true)
+
+-- p and q are members of one chain
+abbrev pub IsChained : List Event → Req → Req → Type 0
+IsChained h p q = IsChainBefore h p q ⊎ IsChainBefore h q p
+
+-- the request has replied, and each member of its chain
+pub record IsChainDone (h : List Event) (q : Req) : Type 0 where
+  pub replied : IsReplied (phase h q)
+  pub chain : (p : Req) → IsChained h p q → IsReplied (phase h p)
 
 -- l is placed as LINK_TIMEOUT, and t is the entry directly before it (io_uring_prep_link_timeout(3))
 abbrev pub IsLinkTimeout : List Event → Req → Type 0

@@ -1,7 +1,9 @@
 -- When a cell is free for its next request, and what others leave of its notes.
-use Rattle.std.proofs.Common.{◌≡◌, ◌⊎◌, ⊎_elim, ℕ, zero, suc, ◌+◌, ◌*◌, ◌<◌, ◌==◌, Bool, true, false, cond, true≢false, List, [], ◌∷◌, ◌++◌, sym, refl, ap, ◌∙◌, subst, arith, ne_eqb, suc-mul}
+use Rattle.std.proofs.Common.{◌≡◌, ℕ, zero, suc, ◌+◌, ◌*◌, ◌<◌, ◌==◌, Bool, true, false, cond, true≢false, ℤ, List, [], ◌∷◌, ◌++◌, sym, refl, ap, ◌∙◌, subst, arith, ne_eqb, suc-mul}
 use Rattle.history.specs.declared.req.Req.{Req}
-use Rattle.history.specs.History.{Phase, unborn, waits, runs, armed, replied, reaped, phase, IsReplied}
+use Rattle.history.specs.History.{Cause, Phase, unborn, replied, reaped, phase}
+use Rattle.history.specs.Chains.{IsChainDone}
+use Rattle.history.specs.Legal.{Setup, Legal}
 use Rattle.steps.specs.declared.line.Line.{Line}
 use Rattle.steps.specs.declared.line.Line.TheVariants.{Did, Freed, Lent, Noted, Hold, Free}
 use Rattle.steps.specs.declared.view.Layout.{Layout}
@@ -11,7 +13,7 @@ use Rattle.steps.specs.Cells.{IsCell, ring_of, place_of, cells_in, request_at, n
 use Rattle.steps.specs.Fairness.{IsReaped, IsFree, IsIn, IsFactsNote, Fair, Orderly}
 use Rattle.steps.specs.Rule.{rings, stands_for, owns, NoneOf}
 use Rattle.steps.proofs.CellNumbers.{located}
-use Rattle.steps.proofs.Served.{unchained}
+use Rattle.steps.proofs.JournalGrowth.{legal_before, lasts, reaped_lasts, done_lasts, counted_in}
 
 -- the request that had the cell before
 pub before_it : (K : List ℕ) (x g : ℕ) (q : Req) → IsCell K x → q.ring ≡ ring_of K x → q.k + cells_in K (ring_of K x) ≡ (request_at K x g).k → (n : ℕ) × (g ≡ suc n) × (q ≡ request_at K x n)
@@ -20,23 +22,26 @@ before_it K x (suc n) q inside ring k =
     let c : ℕ = cells_in K (ring_of K x) in let u : suc n * c ≡ n * c + c = suc-mul n c in let a : ℕ = suc n * c in let b : ℕ = n * c in let u' : a ≡ b + c = u in
     let k' : q.k + c ≡ a + place_of K x = k in let e : q.k ≡ b + place_of K x = omega arith in (n, refl, λ i. record { ring = ring i; k = e i })
 
-pub replied_too : (p : Phase) → IsReaped p → IsReplied p
-replied_too (reaped c res) r = tt
-replied_too p r = absurd r
+reaped_as : (p : Phase) → IsReaped p → (c : Cause) × (res : ℤ) × (p ≡ reaped c res)
+reaped_as (reaped c res) r = (c, res, refl)
+reaped_as p r = absurd r
 
--- where the request before was reaped the cell is free, since no request is behind another in a chain
-pub free_by : (L : Layout) (j : List Line) (x g : ℕ) → IsCell L.cells x → Orderly L j → ((n : ℕ) → n < g → IsReaped (phase (events_of j) (request_at L.cells x n))) → IsFree L.cells (events_of j) (request_at L.cells x g)
-free_by L j x g inside o gone q ring k =
-    let b = before_it L.cells x g q inside ring k in let is = b.1 in let r : IsReaped (phase (events_of j) q) = subst (λ (z : Req). IsReaped (phase (events_of j) z)) (sym b.2) (gone b.0 (omega arith)) in (
-      r,
-      λ m chained. ⊎_elim (λ (same' : q ≡ m). subst (λ (z : Req). IsReplied (phase (events_of j) z)) same' (replied_too (phase (events_of j) q) r))
-          (λ c. ⊎_elim (λ a. absurd (unchained L j q m o a)) (λ a. absurd (unchained L j m q o a)) c) chained,
-    )
+-- what was reaped stays so
+pub reaped_later : (s : Setup) (later seen : List Line) (q : Req) → Legal s (events_of (later ++ seen)) → IsReaped (phase (events_of seen) q) → IsReaped (phase (events_of (later ++ seen)) q)
+reaped_later s later seen q legal r = let z = reaped_as _ r in
+    subst IsReaped (sym (lasts s (λ h. phase h q ≡ reaped z.0 z.1) q (reaped_lasts s q z.0 z.1) later seen legal (counted_in s seen q (reaped z.0 z.1) (legal_before s later seen legal) z.2 (λ e. cc)) z.2)) tt
+
+-- a cell that was free for a request is free for it later too
+pub free_later : (s : Setup) (K : List ℕ) (later seen : List Line) (r : Req) → Legal s (events_of (later ++ seen)) → IsFree K (events_of seen) r → IsFree K (events_of (later ++ seen)) r
+free_later s K later seen r legal free q ring k = let f = free q ring k in let z = reaped_as _ f.0 in (
+  reaped_later s later seen q legal f.0,
+  lasts s (λ h. IsChainDone h q) q (done_lasts s q) later seen legal (counted_in s seen q (reaped z.0 z.1) (legal_before s later seen legal) z.2 (λ e. cc)) f.1,
+)
 
 -- the word of a note, and whose cell it is of
 facts_word : (K : List ℕ) (j : List Line) (r : Req) (word value : ℕ) (p : Phase) → IsFactsNote K j r word value p → (x : ℕ) × (g : ℕ) × IsIn K r x g × (word ≡ facts_at x)
-facts_word K j r word value unborn n = (n.0, n.1, n.3, n.4)
-facts_word K j r word value (replied c res) n = (n.0, n.1, n.3, n.4)
+facts_word K j r word value unborn n = (n.0, n.1, n.3, n.5)
+facts_word K j r word value (replied c res) n = (n.0, n.1, n.3, n.5)
 facts_word K j r word value p n = absurd n
 
 -- only the submitter of a ring stores in the notes of its cells

@@ -1,15 +1,15 @@
 -- What stays true as the journal grows: of every line, and of the lines of others.
-use Rattle.std.proofs.Common.{◌≡◌, ◌≢◌, ℕ, ◌<◌, ◌≤◌, Bool, true, false, cond, ℤ, List, [], ◌∷◌, ◌++◌, Some, sym, refl, ap, ◌∙◌, subst, ⊎_elim, arith, true≢false, ne_eqb}
+use Rattle.std.proofs.Common.{◌≡◌, ◌≢◌, ℕ, ◌<◌, ◌≤◌, ◌==◌, Bool, true, false, cond, ℤ, List, [], ◌∷◌, ◌++◌, Some, None, sym, refl, ap, ◌∙◌, subst, ⊎_elim, arith, true≢false, ne_eqb}
 use Rattle.entry.specs.Entry.{Entry}
 use Rattle.history.specs.declared.req.Req.{Req}
 use Rattle.history.specs.declared.event.Event.{Event}
 use Rattle.history.specs.declared.event.Event.TheVariants.{Submit, Begin, Park, Reply, Take, Miss, Tick, Expire, Fire, FireMiss, Settle, Sever, Reap, Shut, Cut}
 use Rattle.history.specs.History.{Cause, Phase, unborn, runs, replied, reaped, Submission, same, concerns, becomes, phase, answers, data_in, data_of, submission, submits, adds_to, was_shut, IsReplied}
-use Rattle.history.specs.Chains.{IsPlaced, Open}
+use Rattle.history.specs.Chains.{before_in, previous, IsPlaced, IsChainDone, Open, Severed}
 use Rattle.history.specs.Legal.{Setup, MayCome, shut_for, Legal, IsOf}
 use Rattle.history.proofs.Requests.{bool_cases, same_true, same_false}
 use Rattle.history.proofs.Growth.{MayChange, may_change, changed, unchanged, counted, submission_stays, submission_none, replied_stays}
-use Rattle.history.proofs.Opening.{placed_stays, open_stays}
+use Rattle.history.proofs.Opening.{placed_stays, open_stays, severed_stays, done_stays}
 use Rattle.steps.specs.declared.line.Line.{Line}
 use Rattle.steps.specs.declared.line.Line.TheVariants.{Did, Freed, Lent, Noted, Hold, Free}
 use Rattle.steps.specs.declared.view.Role.{Role}
@@ -112,6 +112,12 @@ module _ (s : Setup) where
 
   pub open_lasts : (q : Req) → Lasting (λ h. Open h q) q
   open_lasts q e h l a c is = open_stays s e h l a q c is
+
+  pub severed_lasts : (q : Req) → Lasting (λ h. Severed h q) q
+  severed_lasts q e h l a c is = severed_stays s e h l a q c is
+
+  pub done_lasts : (q : Req) → Lasting (λ h. IsChainDone h q) q
+  done_lasts q e h l a c is = done_stays s e h l a q is
 
   pub kind_lasts : (q : Req) (is : _) (b : Bool) → Lasting (λ h. IsOf h q is b) q
   kind_lasts q f b e h l a c is = (is.0, placed_stays s e h l a q c ∙ is.1, is.2)
@@ -242,6 +248,19 @@ module _ (role : Role) (i : ℕ) (mine : stands_for role (rings i) ≡ true) whe
   -- a request of another ring
   foreign : (q r : Req) → r.ring ≡ i → stands_for role (rings q.ring) ≡ false → same q r ≡ false
   foreign q r is n = same_false q r (λ e. other_ring q.ring n (ap (λ (z : Req). z.ring) e ∙ is))
+
+  handed_by : (r : Req) → r.ring ≡ i → (l : Line) (j : List Line) → owns role l ≡ false → submission (events_of (l ∷ j)) r ≡ submission (events_of j) r
+  handed_by r is (Did (Submit q e bytes last)) j n = ap (λ b. cond b (Some (record { entry = e; bytes = bytes; last = last })) (submission (events_of j) r)) (foreign q r is n)
+  handed_by r is (Did e) j n = refl
+  handed_by r is l j n = refl
+
+  same_handed : (r : Req) → r.ring ≡ i → (later seen : List Line) → NoneOf role later → submission (events_of (later ++ seen)) r ≡ submission (events_of seen) r
+  same_handed r is [] seen n = refl
+  same_handed r is (l ∷ later) seen n = handed_by r is l (later ++ seen) n.0 ∙ same_handed r is later seen n.1
+
+  -- what stands before a request of the ring
+  pub same_before : (r : Req) → r.ring ≡ i → (later seen : List Line) → NoneOf role later → before_in (events_of (later ++ seen)) r ≡ before_in (events_of seen) r
+  same_before r is later seen n = ap (λ x. cond (r.k == 0) None x) (same_handed (previous r) is later seen n)
 
   lent_by : (r : Req) → r.ring ≡ i → (l : Line) (j : List Line) → owns role l ≡ false → lent (l ∷ j) r ≡ lent j r
   lent_by r is (Did (Submit q e bytes last)) j n = ap (λ b. cond b false (lent j r)) (foreign q r is n)

@@ -9,6 +9,7 @@ pub mod CellNumbers
 pub mod LoadReleaseBegin
 pub mod Roles
 pub mod ReplyPark
+pub mod Severing
 pub mod Served
 pub mod NewSlots
 pub mod RuleKept
@@ -17,3 +18,4 @@ pub mod ClaimWords
 pub mod PipesKept
 pub mod PipeSteps
 pub mod NotesKept
+pub mod FactsKept

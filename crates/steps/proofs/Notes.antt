@@ -110,7 +110,7 @@ module _ (slots id : ℕ) (me : Seated) where
     open_does : (n m : ℕ) → n ≡ g + 16777216 * m → Vacant K v.seen x g → lent v.seen q ≡ false → (s : St) (r : Ruled L s) → There slots id me s → Does slots id me L s (facts_at x) n (opened (step slots (facts_at x) n 0 none) me n)
     open_does n m value free home s r at =
         let l : Line = Lent q (facts_at x) n in let now = vacant_now slots id me s r at x g inside f submits_here free in
-        let fair : Fair L r.past l = subst (IsFactsNote K r.past q (facts_at x) n) (sym now.1) (x, g, m, (inside, refl), refl, value, free_now slots id me s r at x g inside now.3) in let at_home = now.2 (lent_now slots id me s r at q false submits_here home) in
+        let fair : Fair L r.past l = subst (IsFactsNote K r.past q (facts_at x) n) (sym now.1) (x, g, m, (inside, refl), f, refl, value, free_now slots id me s r at x g free) in let at_home = now.2 (lent_now slots id me s r at q false submits_here home) in
         let here = says_of K r.past x _ _ Empty 0 g 0 (r.cells x inside) now.0 (omega arith) f (omega arith) in (
           with_line slots id me (facts_at x) s r.past l (Lending q),
           takes (slot_at x) None,
@@ -144,7 +144,7 @@ module _ (slots id : ℕ) (me : Seated) where
         let l : Line = Lent q (facts_at x) n in let ok = r.cells x inside in let done' = replied_now slots id me s r at q c res submits_here done in
         let word = done_word K r.past x _ _ ok g c res done' in let parcel = word.keeps (lent_now slots id me s r at q false submits_here home) in
         let e_now : IsPlaced (events_of r.past) q e = lasts_now slots id me s r at (λ h. IsPlaced h q e) q (placed_lasts S q e) (counted_in S v.seen q (replied c res) (seen_legal slots id me s r at) done (λ e. cc)) is_e in
-        let fair : Fair L r.past l = subst (IsFactsNote K r.past q (facts_at x) n) (sym done') (x, g, e, (inside, refl), refl, e_now, value ∙ ap (λ z. outcome_of z (fails e res)) (sym (noted_now slots id me s r at x 0 (omega arith) inside submits_here))) in (
+        let fair : Fair L r.past l = subst (IsFactsNote K r.past q (facts_at x) n) (sym done') (x, g, e, (inside, refl), f, refl, e_now, value ∙ ap (λ z. outcome_of z (fails e res)) (sym (noted_now slots id me s r at x 0 (omega arith) inside submits_here))) in (
           with_line slots id me (facts_at x) s r.past l (Lending q),
           takes (slot_at x) (Some (Full parcel.0)),
           parcel.1,
@@ -183,7 +183,7 @@ module _ (slots id : ℕ) (me : Seated) where
     user_does : (n : ℕ) → Vacant K v.seen x g → (s : St) (u : Ruled L s) → There slots id me s → Does slots id me L s (user_at x) n (noted_user (step slots (user_at x) n 0 none) me n)
     user_does n free s u at =
         let l : Line = Noted r (user_at x) n in let now = vacant_now slots id me s u at x g inside f lends_it free in
-        let fair : Fair L u.past l = (x, g, (inside, refl), refl, now.1, free_now slots id me s u at x g inside now.3) in
+        let fair : Fair L u.past l = (x, g, (inside, refl), refl, now.1, free_now slots id me s u at x g free) in
         let view : View = with_line slots id me (user_at x) s u.past l v.role in (
           view,
           keeps,

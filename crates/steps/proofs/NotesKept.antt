@@ -1,5 +1,5 @@
 -- While a request is submitted its notes are those of its entry, and once its slot is out for the Reap, the outcome stands in them.
-use Rattle.std.proofs.Common.{◌≡◌, ◌≢◌, ◌⊎◌, ⊎_elim, ℕ, zero, suc, ◌+◌, ◌*◌, ◌%◌, ◌<◌, ◌≤◌, ◌==◌, Bool, true, false, cond, true≢false, ℤ, List, [], ◌∷◌, Option, Some, None, sym, refl, ap, ◌∙◌, subst, inl, inr, arith, eq-eqb, ne_eqb, suc-mul, nat_lt, ltb-true, ltb-false}
+use Rattle.std.proofs.Common.{◌≡◌, ◌≢◌, ◌⊎◌, ⊎_elim, ℕ, zero, suc, ◌+◌, ◌*◌, ◌<◌, ◌≤◌, Bool, true, false, cond, true≢false, ℤ, List, [], ◌∷◌, Some, sym, refl, ap, ◌∙◌, subst, inl, inr, arith, eq-eqb, ne_eqb, suc-mul, nat_lt, ltb-true, ltb-false}
 use mathlib.Core.Logic.{dite}
 use native.Mathlib.Decide.{ℕ_discrete}
 use Rattle.entry.specs.Entry.{Entry, fails}
@@ -7,20 +7,20 @@ use Rattle.history.specs.declared.req.Req.{Req}
 use Rattle.history.specs.declared.event.Event.{Event}
 use Rattle.history.specs.declared.event.Event.TheVariants.{Submit, Reap}
 use Rattle.history.specs.History.{Cause, Phase, unborn, waits, runs, armed, replied, reaped, Submission, same, concerns, phase, submission, submits, after_reap}
-use Rattle.history.specs.Chains.{IsPlaced, placed, placed_from, placed_behind, before_in}
+use Rattle.history.specs.Chains.{IsPlaced, IsChainDone}
 use Rattle.history.specs.Legal.{Setup, Legal, MayCome}
-use Rattle.history.proofs.Requests.{bool_cases, same_itself, same_true, same_false}
+use Rattle.history.proofs.Requests.{bool_cases, same_itself, same_true}
 use Rattle.history.proofs.Growth.{MayChange, may_change, changed, unchanged, born_once, submission_none}
 use Rattle.history.proofs.Opening.{placed_stays}
 use Rattle.steps.specs.declared.line.Line.{Line}
-use Rattle.steps.specs.declared.line.Line.TheVariants.{Did, Freed, Lent, Noted, Hold, Free}
+use Rattle.steps.specs.declared.line.Line.TheVariants.{Did, Lent, Noted}
 use Rattle.steps.specs.declared.view.Layout.{Layout}
 use Rattle.steps.specs.Fairness.{Fair, Orderly, IsFree, IsReaped, IsIn, AreNoted, IsFactsNote, NotesSay, NotesTell}
 use Rattle.steps.specs.Journal.{events_of, lent, noted}
 use Rattle.steps.specs.Cells.{IsCell, ring_of, place_of, cells_in, request_at, facts_at, user_at}
 use Rattle.steps.specs.Notes.{facts_of, outcome_of}
 use Rattle.steps.proofs.CellNumbers.{one_cell, other_cell}
-use Rattle.steps.proofs.JournalGrowth.{legal_tail, reaped_lasts, lasts_by, counted_in}
+use Rattle.steps.proofs.JournalGrowth.{legal_tail, reaped_lasts, done_lasts, lasts_by, counted_in}
 
 -- ---- the requests of a cell come one after the other
 
@@ -32,10 +32,10 @@ either_born (armed d) = inr (λ e. cc)
 either_born (replied c res) = inr (λ e. cc)
 either_born (reaped c res) = inr (λ e. cc)
 
-reaped_born : (p : Phase) → IsReaped p → p ≢ unborn
+pub reaped_born : (p : Phase) → IsReaped p → p ≢ unborn
 reaped_born p r e = subst IsReaped e r
 
-reaped_is : (p : Phase) → IsReaped p → (c : Cause) × (res : ℤ) × (p ≡ reaped c res)
+pub reaped_is : (p : Phase) → IsReaped p → (c : Cause) × (res : ℤ) × (p ≡ reaped c res)
 reaped_is (reaped c res) r = (c, res, refl)
 reaped_is p r = absurd r
 
@@ -44,9 +44,17 @@ module _ (L : Layout) (s : Setup) where
   K = L.cells
 
   -- what was reaped stays so, whatever line comes
-  reaped_on : (l : Line) (j : List Line) (q : Req) → Legal s (events_of (l ∷ j)) → IsReaped (phase (events_of j) q) → IsReaped (phase (events_of (l ∷ j)) q)
+  pub reaped_on : (l : Line) (j : List Line) (q : Req) → Legal s (events_of (l ∷ j)) → IsReaped (phase (events_of j) q) → IsReaped (phase (events_of (l ∷ j)) q)
   reaped_on l j q h r = let is = reaped_is (phase (events_of j) q) r in
       subst IsReaped (sym (lasts_by s (λ h. phase h q ≡ reaped is.0 is.1) q (reaped_lasts s q is.0 is.1) l j h (counted_in s j q (reaped is.0 is.1) (legal_tail s l j h) is.2 (λ e. cc)) is.2)) tt
+
+  -- and so does a chain that has replied
+  pub done_on : (l : Line) (j : List Line) (q : Req) → Legal s (events_of (l ∷ j)) → IsReaped (phase (events_of j) q) → IsChainDone (events_of j) q → IsChainDone (events_of (l ∷ j)) q
+  done_on l j q h r d = let is = reaped_is (phase (events_of j) q) r in
+      lasts_by s (λ h. IsChainDone h q) q (done_lasts s q) l j h (counted_in s j q (reaped is.0 is.1) (legal_tail s l j h) is.2 (λ e. cc)) d
+
+  gone_on : (l : Line) (j : List Line) (q : Req) → Legal s (events_of (l ∷ j)) → IsReaped (phase (events_of j) q) × IsChainDone (events_of j) q → IsReaped (phase (events_of (l ∷ j)) q) × IsChainDone (events_of (l ∷ j)) q
+  gone_on l j q h p = (reaped_on l j q h p.0, done_on l j q h p.0 p.1)
 
   -- a line after which a request isn't unborn any more is its Submit
   born_by : (l : Line) (j : List Line) (q : Req) → Legal s (events_of (l ∷ j)) → phase (events_of j) q ≡ unborn → phase (events_of (l ∷ j)) q ≢ unborn → (e : Entry) × (bytes : List ℕ) × (last : Bool) × (l ≡ Did (Submit q e bytes last))
@@ -62,26 +70,29 @@ module _ (L : Layout) (s : Setup) where
     abbrev at : ℕ → Req
     at g = request_at K x g
 
-    -- a request of the cell was submitted only once the one before it was reaped
-    in_turn : (g : ℕ) (j : List Line) → Legal s (events_of j) → Orderly L j → phase (events_of j) (at (suc g)) ≢ unborn → IsReaped (phase (events_of j) (at g))
+    -- a request of the cell was submitted only once the one before it was reaped, and its whole chain had replied
+    in_turn : (g : ℕ) (j : List Line) → Legal s (events_of j) → Orderly L j → phase (events_of j) (at (suc g)) ≢ unborn → IsReaped (phase (events_of j) (at g)) × IsChainDone (events_of j) (at g)
     in_turn g [] h o n = absurd (n refl)
-    in_turn g (l ∷ j) h o n = reaped_on l j (at g) h (⊎_elim
+    in_turn g (l ∷ j) h o n = gone_on l j (at g) h (⊎_elim
         (λ (was : phase (events_of j) (at (suc g)) ≡ unborn). (let b = born_by l j (at (suc g)) h was n in let f = subst (Fair L j) b.3 o.0 in
-        let c : ℕ = cells_in K (ring_of K x) in let u : suc g * c ≡ g * c + c = suc-mul g c in let a : ℕ = suc g * c in let d : ℕ = g * c in let u' : a ≡ d + c = u in let e : (d + place_of K x) + c ≡ a + place_of K x = omega arith in (f.1 (at g) refl e).0))
+        let c : ℕ = cells_in K (ring_of K x) in let u : suc g * c ≡ g * c + c = suc-mul g c in let a : ℕ = suc g * c in let d : ℕ = g * c in let u' : a ≡ d + c = u in let e : (d + place_of K x) + c ≡ a + place_of K x = omega arith in f.1 (at g) refl e))
         (λ (was : phase (events_of j) (at (suc g)) ≢ unborn). in_turn g j (legal_tail s l j h) o.1 was) (either_born (phase (events_of j) (at (suc g)))))
 
-    earlier_reaped : (j : List Line) → Legal s (events_of j) → Orderly L j → (g n : ℕ) → n < g → phase (events_of j) (at g) ≢ unborn → IsReaped (phase (events_of j) (at n))
-    earlier_reaped j h o zero n lt b = absurd (omega arith)
-    earlier_reaped j h o (suc g) n lt b = let r = in_turn g j h o b in dite (ℕ_discrete n g)
-        (λ e. subst (λ (m : ℕ). IsReaped (phase (events_of j) (at m))) (sym e) r)
-        (λ ne. earlier_reaped j h o g n (omega arith) (reaped_born (phase (events_of j) (at g)) r))
+    pub earlier_gone : (j : List Line) → Legal s (events_of j) → Orderly L j → (g n : ℕ) → n < g → phase (events_of j) (at g) ≢ unborn → IsReaped (phase (events_of j) (at n)) × IsChainDone (events_of j) (at n)
+    earlier_gone j h o zero n lt b = absurd (omega arith)
+    earlier_gone j h o (suc g) n lt b = let r = in_turn g j h o b in dite (ℕ_discrete n g)
+        (λ e. subst (λ (m : ℕ). IsReaped (phase (events_of j) (at m)) × IsChainDone (events_of j) (at m)) (sym e) r)
+        (λ ne. earlier_gone j h o g n (omega arith) (reaped_born (phase (events_of j) (at g)) r.0))
+
+    pub earlier_reaped : (j : List Line) → Legal s (events_of j) → Orderly L j → (g n : ℕ) → n < g → phase (events_of j) (at g) ≢ unborn → IsReaped (phase (events_of j) (at n))
+    earlier_reaped j h o g n lt b = (earlier_gone j h o g n lt b).0
 
     -- so no note is stored for another request of the cell while this one is submitted and not reaped
     no_other : (j : List Line) → Legal s (events_of j) → Orderly L j → (g n : ℕ) → ¬ (n ≡ g) → phase (events_of j) (at g) ≢ unborn → ¬ IsReaped (phase (events_of j) (at g)) → (phase (events_of j) (at n) ≢ unborn) → IsReaped (phase (events_of j) (at n))
     no_other j h o g n ne b alive born = earlier_reaped j h o g n (let le : ¬ (g < n) = λ lt. alive (earlier_reaped j h o n g lt born) in omega arith) b
 
   -- a slot is out before the Submit, or after the reply
-  abbrev IsOut : Phase → Type 0
+  abbrev pub IsOut : Phase → Type 0
   IsOut p = (p ≡ unborn) ⊎ ((c : Cause) × (res : ℤ) × (p ≡ replied c res))
 
   noted_out : (j : List Line) (r : Req) (word value : ℕ) (p : Phase) → IsFactsNote K j r word value p → IsOut p
@@ -92,7 +103,7 @@ module _ (L : Layout) (s : Setup) where
   out_on : (e : Event) (h : List Event) (q : Req) → MayCome s h e → Legal s h → concerns e q ≡ false → IsOut (phase h q) → IsOut (phase (e ∷ h) q)
   out_on e h q m l w o = subst IsOut (sym (unchanged s e h q w)) o
 
-  lent_out : (j : List Line) (q : Req) → Legal s (events_of j) → Orderly L j → lent j q ≡ true → IsOut (phase (events_of j) q)
+  pub lent_out : (j : List Line) (q : Req) → Legal s (events_of j) → Orderly L j → lent j q ≡ true → IsOut (phase (events_of j) q)
   lent_out [] q h o is = absurd (true≢false (sym is))
   lent_out (Did (Submit r e bytes last) ∷ j) q h o is = ⊎_elim
       (λ (w : same r q ≡ true). absurd (true≢false (sym is ∙ ap (λ b. cond b false (lent j q)) w)))
@@ -110,17 +121,25 @@ module _ (L : Layout) (s : Setup) where
       (λ (w : same r q ≡ false). lent_out j q h o.1 (sym (ap (λ b. cond b true (lent j q)) w) ∙ is)) (bool_cases (same r q))
   lent_out (l ∷ j) q h o is = lent_out j q h o.1 is
 
-  -- what a store of the facts says of its request
-  record IsStored (j : List Line) (q : Req) (word value : ℕ) : Type 0 where
-    cell : ℕ
-    gen : ℕ
-    is_in : IsIn K q cell gen
-    word_is : word ≡ facts_at cell
-    why : ((phase (events_of j) q ≡ unborn) × IsFree K (events_of j) q) ⊎ ((c : Cause) × (res : ℤ) × (e : Entry) × (phase (events_of j) q ≡ replied c res) × IsPlaced (events_of j) q e × (value ≡ outcome_of (noted j (facts_at cell)) (fails e res)))
+  -- it stores the facts of a request that comes to a free cell, or the outcome of one that has replied
+  abbrev pub IsFresh : List Line → Req → ℕ → ℕ → Type 0
+  IsFresh j q value gen = (phase (events_of j) q ≡ unborn) × IsFree K (events_of j) q × (n : ℕ) × (value ≡ gen + 16777216 * n)
 
-  stored_by : (j : List Line) (q : Req) (word value : ℕ) (p : Phase) → phase (events_of j) q ≡ p → IsFactsNote K j q word value p → IsStored j q word value
-  stored_by j q word value unborn is n = record { cell = n.0; gen = n.1; is_in = n.3; word_is = n.4; why = inl (is, n.6) }
-  stored_by j q word value (replied c res) is n = record { cell = n.0; gen = n.1; is_in = n.3; word_is = n.4; why = inr (c, res, n.2, is, n.5, n.6) }
+  abbrev pub IsClosing : List Line → Req → ℕ → ℕ → Type 0
+  IsClosing j q value cell = (c : Cause) × (res : ℤ) × (e : Entry) × (phase (events_of j) q ≡ replied c res) × IsPlaced (events_of j) q e × (value ≡ outcome_of (noted j (facts_at cell)) (fails e res))
+
+  -- what a store of the facts says of its request
+  pub record IsStored (j : List Line) (q : Req) (word value : ℕ) : Type 0 where
+    pub cell : ℕ
+    pub gen : ℕ
+    pub is_in : IsIn K q cell gen
+    pub small : gen < 16777216
+    pub word_is : word ≡ facts_at cell
+    pub why : IsFresh j q value gen ⊎ IsClosing j q value cell
+
+  pub stored_by : (j : List Line) (q : Req) (word value : ℕ) (p : Phase) → phase (events_of j) q ≡ p → IsFactsNote K j q word value p → IsStored j q word value
+  stored_by j q word value unborn is n = record { cell = n.0; gen = n.1; is_in = n.3; small = n.4; word_is = n.5; why = inl (is, n.7, n.2, n.6) }
+  stored_by j q word value (replied c res) is n = record { cell = n.0; gen = n.1; is_in = n.3; small = n.4; word_is = n.5; why = inr (c, res, n.2, is, n.6, n.7) }
   stored_by j q word value p is n = absurd n
 
   -- the outcome stands where it stood before
@@ -135,7 +154,7 @@ module _ (L : Layout) (s : Setup) where
     abbrev r : Req
     r = request_at K x g
 
-    submitted_at : (h : List Event) (y : Submission) → Legal s h → submission h r ≡ Some y → r.k < submits h r.ring
+    pub submitted_at : (h : List Event) (y : Submission) → Legal s h → submission h r ≡ Some y → r.k < submits h r.ring
     submitted_at h y l is = (let n : ¬ (submits h r.ring ≤ r.k) = λ le. (let e = sym is ∙ submission_none s h r l le in cc) in omega arith)
 
     -- a line that stores nothing in the notes of x, and leaves the request's slot and phase
@@ -147,7 +166,7 @@ module _ (L : Layout) (s : Setup) where
       user_data = user ∙ n.user_data;
     }
 
-    placed_before : (e : Event) (h : List Event) (y : Submission) (d : Entry) → Legal s (e ∷ h) → submission h r ≡ Some y → IsPlaced (e ∷ h) r d → IsPlaced h r d
+    pub placed_before : (e : Event) (h : List Event) (y : Submission) (d : Entry) → Legal s (e ∷ h) → submission h r ≡ Some y → IsPlaced (e ∷ h) r d → IsPlaced h r d
     placed_before e h y d l is p = sym (placed_stays s e h l.1 l.0.1 r (submitted_at h y l.1 is)) ∙ p
 
     born_at : (j : List Line) (y : Submission) → Legal s (events_of j) → submission (events_of j) r ≡ Some y → phase (events_of j) r ≢ unborn
@@ -181,11 +200,11 @@ module _ (L : Layout) (s : Setup) where
     at_store q word value j y d h o st is p alive n = dite (ℕ_discrete st.cell x)
         (λ same_cell. (let here : request_at K x st.gen ≡ q = subst (λ (m : ℕ). request_at K m st.gen ≡ q) same_cell st.is_in.1 in dite (ℕ_discrete st.gen g)
         (λ same_gen. (let one : q ≡ r = sym here ∙ ap (request_at K x) same_gen in ⊎_elim
-        (λ (u : (phase (events_of j) q ≡ unborn) × IsFree K (events_of j) q). absurd (born_at j y h is (subst (λ (k : Req). phase (events_of j) k ≡ unborn) one u.0)))
-        (λ (u : (c : Cause) × (res : ℤ) × (e : Entry) × (phase (events_of j) q ≡ replied c res) × IsPlaced (events_of j) q e × (value ≡ outcome_of (noted j (facts_at st.cell)) (fails e res))). own_store q word value j y d u.0 u.1 u.2 one (st.word_is ∙ ap facts_at same_cell) (subst (λ (k : Req). phase (events_of j) k ≡ replied u.0 u.1) one u.3) (let z = sym (subst (λ (k : Req). IsPlaced (events_of j) k u.2) one u.4) ∙ p in cc) (u.5 ∙ ap (λ (m : ℕ). outcome_of (noted j (facts_at m)) (fails u.2 u.1)) same_cell) n) st.why))
+        (λ (u : IsFresh j q value st.gen). absurd (born_at j y h is (subst (λ (k : Req). phase (events_of j) k ≡ unborn) one u.0)))
+        (λ (u : IsClosing j q value st.cell). own_store q word value j y d u.0 u.1 u.2 one (st.word_is ∙ ap facts_at same_cell) (subst (λ (k : Req). phase (events_of j) k ≡ replied u.0 u.1) one u.3) (let z = sym (subst (λ (k : Req). IsPlaced (events_of j) k u.2) one u.4) ∙ p in cc) (u.5 ∙ ap (λ (m : ℕ). outcome_of (noted j (facts_at m)) (fails u.2 u.1)) same_cell) n) st.why))
         (λ ne. absurd (⊎_elim
-        (λ (u : (phase (events_of j) q ≡ unborn) × IsFree K (events_of j) q). not_now j y st.gen h o is alive (subst (λ (k : Req). phase (events_of j) k ≡ unborn) (sym here) u.0) (subst (λ (k : Req). IsFree K (events_of j) k) (sym here) u.1))
-        (λ (u : (c : Cause) × (res : ℤ) × (e : Entry) × (phase (events_of j) q ≡ replied c res) × IsPlaced (events_of j) q e × (value ≡ outcome_of (noted j (facts_at st.cell)) (fails e res))).
+        (λ (u : IsFresh j q value st.gen). not_now j y st.gen h o is alive (subst (λ (k : Req). phase (events_of j) k ≡ unborn) (sym here) u.0) (subst (λ (k : Req). IsFree K (events_of j) k) (sym here) u.1))
+        (λ (u : IsClosing j q value st.cell).
         (let k = subst (λ (k : Req). phase (events_of j) k ≡ replied u.0 u.1) (sym here) u.3 in subst IsReaped k (no_other x inside j h o g st.gen ne (born_at j y h is) alive (λ e. (let z = sym k ∙ e in cc))))) st.why))))
         (λ ne. carry (Lent q word value) j y d (ap (λ b. cond b value (noted j (facts_at x))) (ne_eqb word (facts_at x) (let e = st.word_is in λ z. ne (omega arith)))) (ap (λ b. cond b value (noted j (user_at x))) (ne_eqb word (user_at x) (let e = st.word_is in λ z. absurd (let k = z in omega arith))))
         (ap (λ b. cond b true (lent j r)) (subst (λ (k : Req). same k r ≡ false) st.is_in.1 (other_cell K st.cell x st.gen g st.is_in.0 inside (λ e. ne (sym e))))) (λ c res k f. k) n)
@@ -206,7 +225,7 @@ module _ (L : Layout) (s : Setup) where
         subst IsReaped (sym (changed s (Reap q) h r w ∙ ap after_reap was)) tt
 
     -- the notes of a request that was submitted and not reaped
-    notes_are : (j : List Line) → Legal s (events_of j) → Orderly L j → (y : Submission) (d : Entry) → submission (events_of j) r ≡ Some y → IsPlaced (events_of j) r d → ¬ IsReaped (phase (events_of j) r) → NotesSay K j x g y d
+    pub notes_are : (j : List Line) → Legal s (events_of j) → Orderly L j → (y : Submission) (d : Entry) → submission (events_of j) r ≡ Some y → IsPlaced (events_of j) r d → ¬ IsReaped (phase (events_of j) r) → NotesSay K j x g y d
     notes_are [] h o y d is p alive = absurd (let z = is in cc)
     notes_are (Did (Submit q e bytes last) ∷ j) h o y d is p alive = let l : Line = Did (Submit q e bytes last) in ⊎_elim
         (λ (w : same q r ≡ true). at_submit q e bytes last j y d w o.0 is p)

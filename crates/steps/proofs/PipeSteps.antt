@@ -1,6 +1,5 @@
 -- How a worker takes a pipe, and how it gives it back: before a reply, or after it.
 use Rattle.std.proofs.Common.{◌≡◌, ◌≢◌, ℕ, suc, ◌+◌, ◌<◌, true, false, cond, List, [], ◌∷◌, ◌++◌, length, Option, Some, None, get_or, set, sym, refl, ap, ◌∙◌, subst, ⊎_elim, arith, eqb, eq-eqb, ne_eqb, true≢false, length-set, get_or-set_same, get_or-set_other}
-use Rattle.std.proofs.lemmas.Bool.{lt-ltb}
 use mathlib.Core.Option.{some, none}
 use mathlib.Core.Option as maybe
 use mathlib.Core.Logic.{dite}
@@ -12,8 +11,8 @@ use Rattle.atomic_table.specs.Table.{State, step, keeps, takes, gives, stepped, 
 use Rattle.atomic_table.proofs.Lists.{set_here, set_else, exchanged}
 use Rattle.history.specs.declared.req.Req.{Req}
 use Rattle.history.specs.declared.event.Event.{Event}
-use Rattle.history.specs.History.{phase, runs, was_shut, clock_of, submission, submits, Submission}
-use Rattle.history.specs.Chains.{placed, IsPlaced}
+use Rattle.history.specs.History.{phase, was_shut, clock_of, submission, submits, Submission}
+use Rattle.history.specs.Chains.{IsPlaced}
 use Rattle.history.specs.Pipes.{Flow, flow, flows_as}
 use Rattle.history.specs.Answers.{is_pipe}
 use Rattle.history.specs.Legal.{Legal, Setup}
@@ -27,15 +26,15 @@ use Rattle.steps.specs.declared.parcel.Thing.{Thing}
 use Rattle.steps.specs.declared.parcel.Thing.TheVariants.{Full, Piped}
 use Rattle.steps.specs.declared.view.Layout.{Layout}
 use Rattle.steps.specs.declared.view.Role.{Role}
-use Rattle.steps.specs.declared.view.Role.TheVariants.{Idle, Busy, Leaving, Lending, Spent}
+use Rattle.steps.specs.declared.view.Role.TheVariants.{Busy, Leaving, Lending}
 use Rattle.steps.specs.declared.view.Step.{Step}
 use Rattle.steps.specs.declared.view.View.{View}
 use Rattle.steps.specs.Fairness.{Fair, Orderly}
 use Rattle.steps.specs.Journal.{events_of, lent, noted, holder}
-use Rattle.steps.specs.Cells.{setup_of, IsCell, request_at, claim_at, note_at, pipe_at, slot_at, Home, PipeIs, PipeSays, PipeOk}
+use Rattle.steps.specs.Cells.{setup_of, request_at, claim_at, note_at, pipe_at, slot_at, Home, PipeIs, PipeSays, PipeOk}
 use Rattle.steps.specs.Rule.{workers, stands_for, owns, apart, SeatOk, IsHeldBy, Knows, Ruled, seeing, Looks, Extends, IsStep, leaves}
 use Rattle.steps.specs.Plays.{Seated, HasAlone, HasPipe, pipe_taken, pipe_returned, pipe_left}
-use Rattle.steps.proofs.Roles.{same_sym, idle_apart, idle_none, worker_is}
+use Rattle.steps.proofs.Roles.{same_sym, idle_apart, idle_none}
 use Rattle.steps.proofs.JournalGrowth.{about, lasts, legal_before, submitted_in, submission_lasts, placed_lasts}
 use Rattle.steps.proofs.Frames.{pipe_stays, still_lacks}
 use Rattle.steps.proofs.PipesKept.{still_has}

@@ -1,13 +1,13 @@
 -- A pipe that a worker has stays with it, and nobody else changes what is in it. A reply hangs on the pipe that its entry names, and changes no other.
 use Rattle.std.specs.Prelude.{◌==◌, ◌&&◌}
-use Rattle.std.proofs.Common.{◌≡◌, ◌≢◌, ℕ, ◌+◌, ◌<◌, Bool, true, false, cond, not, ℤ, pos, negsuc, List, [], ◌∷◌, ◌++◌, length, slice_index, take, Option, Some, None, sym, refl, ap, ◌∙◌, subst, ⊎_elim, arith, true≢false, eqb-true, eq-eqb, ne_eqb, append-nil}
+use Rattle.std.proofs.Common.{◌≡◌, ℕ, ◌+◌, Bool, true, false, cond, not, ℤ, pos, negsuc, List, [], ◌∷◌, ◌++◌, slice_index, take, Option, Some, None, sym, refl, ap, ◌∙◌, subst, ⊎_elim, arith, true≢false, eqb-true, eq-eqb, ne_eqb, append-nil}
 use Rattle.entry.specs.declared.op.Op.{Op}
 use Rattle.entry.specs.declared.op.Op.TheVariants.{Nop, Close, Read, Write, PollAdd, Invalid}
 use Rattle.entry.specs.Entry.{Entry}
 use Rattle.history.specs.declared.req.Req.{Req}
 use Rattle.history.specs.declared.event.Event.{Event}
 use Rattle.history.specs.declared.event.Event.TheVariants.{Reply}
-use Rattle.history.specs.History.{Submission, submission, same}
+use Rattle.history.specs.History.{Submission, submission}
 use Rattle.history.specs.Chains.{placed, IsPlaced}
 use Rattle.history.specs.Pipes.{Flow, flow, flows, flows_as, moves, End, no_end, read_end, write_end, end_of, reads, writes, closes, is_zero}
 use Rattle.history.specs.Answers.{Answer, now, bad_end, is_pipe, answer_read, answer_write, answer_poll, read_events, write_events, read_from, write_to, close_of, poll_of, OpAnswers}

@@ -1,5 +1,5 @@
 -- How a worker ends with a request: by a reply, with the pipe that its entry names or without one, or by parking it.
-use Rattle.std.proofs.Common.{◌≡◌, ◌≢◌, ℕ, ◌<◌, true, false, Option, Some, None, ℤ, List, [], ◌∷◌, get_or, set, sym, refl, ap, ◌∙◌, subst, inr, arith, eqb, true≢false, length-set}
+use Rattle.std.proofs.Common.{◌≡◌, ◌≢◌, ℕ, ◌<◌, true, false, Option, Some, ℤ, List, [], ◌∷◌, get_or, set, sym, refl, ap, ◌∙◌, subst, inr, arith, eqb, length-set}
 use mathlib.Core.Option.{some, none}
 use prog.Atomic.{either}
 use Rattle.atomic_table.specs.Table.{step, gives, Allows, rest}
@@ -33,7 +33,7 @@ use Rattle.steps.specs.Cells.{IsCell, request_at, IsParcel, claim_at, slot_at, w
 use Rattle.steps.specs.Rule.{workers, stands_for, apart, owns, Ruled, Extends}
 use Rattle.steps.specs.Plays.{MayReply, sure, replied_with, parked}
 use Rattle.steps.proofs.CellNumbers.{other_cell, other_age, one_word, one_result}
-use Rattle.steps.proofs.Served.{served_placed, serves_is}
+use Rattle.steps.proofs.Served.{serves_is}
 use Rattle.steps.proofs.PipesKept.{answer_stays, one_data, reply_leaves}
 use Rattle.steps.proofs.PipeSteps.{has_now}
 use Rattle.steps.proofs.Roles.{idle_apart, leaving_apart}
@@ -99,8 +99,7 @@ module _ (slots id : ℕ) (me : Seated) where
       served_now s r at =
           let now = running_now s r at in let given' = parcel_now s r at q data' p now.0 given in
           let e_now : IsPlaced (events_of r.past) q e = lasts_now slots id me s r at (λ h. IsPlaced h q e) q (placed_lasts S q e) now.0 may.placed_is in
-          let serves = serves_is L r.past q _ r.orderly given'.1 in let own : IsPlaced (events_of r.past) q p.sqe = served_placed (events_of r.past) q _ given'.1 serves.0 in let same' : p.sqe ≡ e = (let z = sym own ∙ e_now in cc) in
-          (e_now, subst (λ (z : Entry). is_served z.op ≡ true) same' serves.0)
+          (e_now, serves_is L S r.past q _ e r.legal r.orderly given'.1 e_now)
 
       -- the pipes that the entry names are as the seat left them
       has_pipe : (s : St) (r : Ruled L s) → There slots id me s → (n : ℕ) → is_pipe L.caps n ≡ true → uses e.op n ≡ true → (holder r.past n ≡ Some q) × (flow (events_of r.past) n ≡ flow (events_of v.seen) n)

@@ -13,6 +13,7 @@ use Rattle.claim.specs.declared.tag.Tag.TheVariants.{Empty, Running}
 use Rattle.history.specs.declared.req.Req.{Req}
 use Rattle.history.specs.declared.event.Event.{Event}
 use Rattle.history.specs.History.{Cause, Phase, unborn, replied, reaped, same, phase, runs, submits, was_shut, data_of, IsReplied}
+use Rattle.history.specs.Chains.{before_in}
 use Rattle.history.specs.Legal.{Setup, Legal}
 use Rattle.history.proofs.Requests.{same_itself, same_true, same_false}
 use Rattle.history.proofs.Growth.{unborn_yet}
@@ -25,16 +26,16 @@ use Rattle.steps.specs.declared.view.Role.{Role}
 use Rattle.steps.specs.declared.view.Role.TheVariants.{Idle, Busy, Leaving, Spent}
 use Rattle.steps.specs.declared.view.Step.{Step}
 use Rattle.steps.specs.declared.view.View.{View}
-use Rattle.steps.specs.Fairness.{Fair, Orderly, IsFree, IsReaped}
+use Rattle.steps.specs.Fairness.{Fair, Orderly, IsFree}
 use Rattle.steps.specs.Journal.{events_of, freed, lent, noted, holder}
 use Rattle.steps.specs.Cells.{setup_of, IsCell, ring_of, request_at, CellOk, Ages, claim_at, note_at, slot_at, word_of}
 use Rattle.steps.specs.Rule.{workers, rings, stands_for, NoneOf, Vacant, Ruled, seeing, IsStep, Extends}
 use Rattle.steps.specs.Plays.{Seated, At, looked, noticed, tried, tried_running, sure}
 use Rattle.steps.proofs.CellNumbers.{one_word}
 use Rattle.steps.proofs.Roles.{same_sym, worker_is}
-use Rattle.steps.proofs.JournalGrowth.{begins, ran, replied_by, legal_before, still_runs, still_reaped, still_replied, still_data, same_submits, same_lent, Lasting, lasts}
+use Rattle.steps.proofs.JournalGrowth.{begins, ran, replied_by, legal_before, still_runs, still_reaped, still_replied, still_data, same_submits, same_lent, same_before, Lasting, lasts}
 use Rattle.steps.proofs.Frames.{still_lacks}
-use Rattle.steps.proofs.FreeCells.{free_by, same_noted}
+use Rattle.steps.proofs.FreeCells.{free_later, same_noted}
 use Rattle.steps.proofs.ClaimWords.{certain, empty_word, says_of}
 use Rattle.steps.proofs.RuleKept.{Turns, looks, left_now}
 
@@ -144,9 +145,13 @@ module _ (slots id : ℕ) (me : Seated) where
     pub noted_now : (x k : ℕ) → k < 7 → IsCell K x → stands_for v.role (rings (ring_of K x)) ≡ true → noted r.past (note_at x k) ≡ noted v.seen (note_at x k)
     noted_now x k small inside mine = ap (λ z. noted z (note_at x k)) past_is ∙ same_noted L v.role x k small inside mine later v.seen (subst (Orderly L) past_is r.orderly) none_now
 
-    -- a cell whose earlier requests were reaped is free
-    pub free_now : (x g : ℕ) → IsCell K x → Ages K r.past x g → IsFree K (events_of r.past) (request_at K x g)
-    free_now x g inside ages = free_by L r.past x g inside r.orderly (λ n lt. let b = ages.before n lt in subst IsReaped (sym b.2) tt)
+    -- a cell that it knows as free is free
+    pub free_now : (x g : ℕ) → Vacant K v.seen x g → IsFree K (events_of r.past) (request_at K x g)
+    free_now x g free = subst (λ z. IsFree K (events_of z) (request_at K x g)) (sym past_is) (free_later S K later v.seen (request_at K x g) legal_now free.free)
+
+    -- what stands before a request of its own ring
+    pub before_now : (q : Req) → stands_for v.role (rings q.ring) ≡ true → before_in (events_of r.past) q ≡ before_in (events_of v.seen) q
+    before_now q mine = ap (λ z. before_in (events_of z) q) past_is ∙ same_before v.role q.ring mine q refl later v.seen none_now
 
     -- an Empty cell is as its submitter left it
     pub vacant_now : (x g : ℕ) → IsCell K x → g < 16777216 → stands_for v.role (rings (ring_of K x)) ≡ true → Vacant K v.seen x g

@@ -11,8 +11,8 @@ use Rattle.claim.specs.declared.tag.Tag.TheVariants.{Empty, Held, Done}
 use Rattle.entry.specs.Entry.{Entry, fails}
 use Rattle.history.specs.declared.req.Req.{Req}
 use Rattle.history.specs.declared.event.Event.TheVariants.{Submit, Reap}
-use Rattle.history.specs.History.{Cause, replied, reaped, after_reap, same, phase, submission, submits}
-use Rattle.history.specs.Chains.{IsPlaced}
+use Rattle.history.specs.History.{Cause, Submission, replied, reaped, after_reap, same, phase, submission, submits}
+use Rattle.history.specs.Chains.{IsPlaced, before_in, placed_behind, placed_from}
 use Rattle.history.specs.Legal.{Legal, Fits}
 use Rattle.history.proofs.Requests.{same_itself, same_false}
 use Rattle.steps.specs.declared.line.Line.{Line}
@@ -39,9 +39,9 @@ use Rattle.steps.proofs.Roles.{as_lending}
 use Rattle.steps.proofs.JournalGrowth.{about, begins, lent_stays, counted_in, placed_lasts, phase_stays}
 use Rattle.steps.proofs.Frames.{ages_stay}
 use Rattle.steps.proofs.ClaimWords.{done_word, cause_fits}
-use Rattle.steps.proofs.Served.{served_placed}
+use Rattle.steps.proofs.Served.{before_own}
 use Rattle.steps.proofs.RuleKept.{Turns, adds_claim, owned}
-use Rattle.steps.proofs.StepKinds.{in_hand, same_parcel, now_is, tick, with_line, Does, There, seen_legal, lasts_now, submits_now, replied_now, noted_now, free_now, vacant_now, extends, sures, Out, home_again}
+use Rattle.steps.proofs.StepKinds.{in_hand, same_parcel, now_is, tick, with_line, Does, There, seen_legal, lasts_now, submits_now, lent_now, before_now, replied_now, noted_now, free_now, vacant_now, extends, sures, Out, home_again}
 use Rattle.steps.proofs.LoadReleaseBegin.{quiet_line, dec_req}
 use Rattle.steps.proofs.Notes.{turns_by}
 
@@ -81,13 +81,15 @@ module _ (slots id : ℕ) (me : Seated) where
     back_apart s r at l own i u other there = let o = owned L s r id v l at (subst (λ (z : Role). owns z l ≡ true) (sym mine) own) i u other there in (o.0, as_lending q u.role ∙ subst (λ (z : Role). apart z u.role ≡ true) mine o.1)
 
     -- SUBMIT
-    submit_does : (old new : ℕ) (p : Parcel) → g < 16777216 → new ≡ word_of Held 0 g 0 → Vacant K v.seen x g → (request_at K x g).k ≡ submits (events_of v.seen) (ring_of K x) → Serves p.sqe p.last → Fits p.sqe p.buffer.items → noted v.seen (facts_at x) ≡ facts_of g p.sqe p.last → noted v.seen (user_at x) ≡ p.sqe.user_data → Out slots id me x (Some (Full p))
+    submit_does : (old new : ℕ) (p : Parcel) → g < 16777216 → new ≡ word_of Held 0 g 0 → Vacant K v.seen x g → (request_at K x g).k ≡ submits (events_of v.seen) (ring_of K x) → Serves (before_in (events_of v.seen) (request_at K x g)) p.sqe → Fits p.sqe p.buffer.items → noted v.seen (facts_at x) ≡ facts_of g (placed_behind (before_in (events_of v.seen) (request_at K x g)) p.sqe) p.last → noted v.seen (user_at x) ≡ p.sqe.user_data → Out slots id me x (Some (Full p))
         → (s : St) (r : Ruled L s) → There slots id me s → (get_or s.words (claim_at x) 0 ≡ word_of Empty 0 g 0) × Does slots id me L s (claim_at x) new (submitted (step slots (claim_at x) old new none) me x q)
     submit_does old new p f is_new free next serves fits facts user out s r at =
         let l : Line = Did (Submit q p.sqe p.buffer.items p.last) in let now = vacant_now slots id me s r at x g inside f lends_here free in
         let legal : Legal S (events_of (l ∷ r.past)) = ((r.live, (ring_in K x inside, next ∙ sym (submits_now slots id me s r at (ring_of K x) lends_here), fits)), r.legal) in
         let given : submission (events_of (l ∷ r.past)) q ≡ Some (record { entry = p.sqe; bytes = p.buffer.items; last = p.last }) = ap (λ b. cond b (Some (record { entry = p.sqe; bytes = p.buffer.items; last = p.last })) (submission (events_of r.past) q)) (same_itself q) in
-        let fair : Fair L r.past l = (serves, free_now slots id me s r at x g inside now.3, (x, g, p.sqe, (inside, refl), served_placed (events_of (l ∷ r.past)) q _ given serves.0, noted_now slots id me s r at x 0 (omega arith) inside lends_here ∙ facts, noted_now slots id me s r at x 1 (omega arith) inside lends_here ∙ user)) in (
+        let before = before_now slots id me s r at q lends_here in let d : Entry = placed_behind (before_in (events_of v.seen) q) p.sqe in
+        let placed_is : IsPlaced (events_of (l ∷ r.past)) q d = ap (placed_from (before_in (events_of (l ∷ r.past)) q)) given ∙ ap (λ (b : Option Submission). Some (placed_behind b p.sqe)) (before_own (events_of r.past) q p.sqe p.buffer.items p.last ∙ before) in
+        let fair : Fair L r.past l = (subst (λ (b : Option Submission). Serves b p.sqe) (sym before) serves, free_now slots id me s r at x g free, (x, g, d, (inside, refl), placed_is, noted_now slots id me s r at x 0 (omega arith) inside lends_here ∙ facts, noted_now slots id me s r at x 1 (omega arith) inside lends_here ∙ user)) in (
           now.0,
           (
             with_line slots id me (claim_at x) s r.past l back,
@@ -110,16 +112,16 @@ module _ (slots id : ℕ) (me : Seated) where
           ),
         )
 
-    pub submit_allows : (M : Layout) (old new : ℕ) (p : Parcel) → g < 16777216 → old ≡ word_of Empty 0 g 0 → new ≡ word_of Held 0 g 0 → Vacant K v.seen x g → (request_at K x g).k ≡ submits (events_of v.seen) (ring_of K x) → Serves p.sqe p.last → Fits p.sqe p.buffer.items → noted v.seen (facts_at x) ≡ facts_of g p.sqe p.last → noted v.seen (user_at x) ≡ p.sqe.user_data → Out slots id me x (Some (Full p))
+    pub submit_allows : (M : Layout) (old new : ℕ) (p : Parcel) → g < 16777216 → old ≡ word_of Empty 0 g 0 → new ≡ word_of Held 0 g 0 → Vacant K v.seen x g → (request_at K x g).k ≡ submits (events_of v.seen) (ring_of K x) → Serves (before_in (events_of v.seen) (request_at K x g)) p.sqe → Fits p.sqe p.buffer.items → noted v.seen (facts_at x) ≡ facts_of g (placed_behind (before_in (events_of v.seen) (request_at K x g)) p.sqe) p.last → noted v.seen (user_at x) ≡ p.sqe.user_data → Out slots id me x (Some (Full p))
         → Allows (Ruled M) slots id me (claim_at x) (λ n. either (eqb n old) new n) (sure Empty submitted (step slots (claim_at x) old new none) me)
     submit_allows M old new p f is_old is_new free next serves fits facts user out =
         sures slots id me M Empty submitted x 0 g 0 old new (λ z. (let y = sym mine ∙ z in cc)) (omega arith) f (omega arith) is_old (submit_does old new p f is_new free next serves fits facts user out)
 
     -- REAP
-    reap_does : (b old new : ℕ) (c : Cause) (res : ℤ) (e : Entry) → suc g < 16777216 → IsPlaced (events_of v.seen) q e → new ≡ word_of Empty 0 (suc g) 0 → phase (events_of v.seen) q ≡ replied c res → reply_bits res b → Out slots id me x None
+    reap_does : (b old new : ℕ) (c : Cause) (res : ℤ) (e : Entry) → suc g < 16777216 → IsPlaced (events_of v.seen) q e → new ≡ word_of Empty 0 (suc g) 0 → phase (events_of v.seen) q ≡ replied c res → lent v.seen q ≡ true → reply_bits res b → Out slots id me x None
         → (s : St) (r : Ruled L s) → There slots id me s → (get_or s.words (claim_at x) 0 ≡ word_of Done (cause_bits c (fails e res)) g b) × Does slots id me L s (claim_at x) new (reaps (step slots (claim_at x) old new none) me x q)
-    reap_does b old new c res e f is_e is_new done bits out s r at =
-        let l : Line = Did (Reap q) in let ok = r.cells x inside in let done' = replied_now slots id me s r at q c res lends_here done in
+    reap_does b old new c res e f is_e is_new done taken bits out s r at =
+        let l : Line = Did (Reap q) in let fair : lent r.past q ≡ true = lent_now slots id me s r at q true lends_here taken in let ok = r.cells x inside in let done' = replied_now slots id me s r at q c res lends_here done in
         let word = done_word K r.past x _ _ ok g c res done' in let same' : word.payload ≡ b = same_bits res word.payload b word.bits bits in
         let e_now : IsPlaced (events_of r.past) q e = lasts_now slots id me s r at (λ h. IsPlaced h q e) q (placed_lasts S q e) (counted_in S v.seen q (replied c res) (seen_legal slots id me s r at) done (λ e. cc)) is_e in
         let entry : word.entry ≡ e = (let z = sym word.placed_is ∙ e_now in cc) in
@@ -132,7 +134,7 @@ module _ (slots id : ℕ) (me : Seated) where
             with_line slots id me (claim_at x) s r.past l back,
             gives,
             tt,
-            home_again slots id me x new None s (with_line slots id me (claim_at x) s r.past l back) out (adds_claim L s r id v back x new (set s.homes (slot_at x) (some None)) l (tick slots id me (claim_at x) s (l ∷ r.past)) inside refl (quiet_line L r.past l tt r.live refl (λ p. (refl, refl)))
+            home_again slots id me x new None s (with_line slots id me (claim_at x) s r.past l back) out (adds_claim L s r id v back x new (set s.homes (slot_at x) (some None)) l (tick slots id me (claim_at x) s (l ∷ r.past)) inside refl (quiet_line L r.past l fair r.live refl (λ p. (refl, refl)))
                 (back_turns s r l refl legal (λ c. refl)) legal at (back_apart s r at l (eq-eqb (ring_of K x) (ring_of K x) refl))
                 (λ y h other k. other_cell K x y g k inside h other) (λ w. refl) (length-set s.homes (slot_at x) (some None)) (λ y other. set_else s.homes (slot_at x) y (some None) other) record {
                   tag = Empty;
@@ -151,12 +153,12 @@ module _ (slots id : ℕ) (me : Seated) where
                     unlent = λ n lt. lent_stays l r.past (request_at K x n) (other n (omega arith)) ∙ ages.unlent n (omega arith);
                   };
                 }),
-            (extends slots id me s r at l back legal r.live tt (tick slots id me (claim_at x) s (l ∷ r.past)), refl),
+            (extends slots id me s r at l back legal r.live fair (tick slots id me (claim_at x) s (l ∷ r.past)), refl),
             refl,
           ),
         )
 
-    pub reap_allows : (M : Layout) (b old new : ℕ) (c : Cause) (res : ℤ) (e : Entry) → suc g < 16777216 → b < 4294967296 → IsPlaced (events_of v.seen) q e → old ≡ word_of Done (cause_bits c (fails e res)) g b → new ≡ word_of Empty 0 (suc g) 0 → phase (events_of v.seen) q ≡ replied c res → reply_bits res b → Out slots id me x None
+    pub reap_allows : (M : Layout) (b old new : ℕ) (c : Cause) (res : ℤ) (e : Entry) → suc g < 16777216 → b < 4294967296 → IsPlaced (events_of v.seen) q e → old ≡ word_of Done (cause_bits c (fails e res)) g b → new ≡ word_of Empty 0 (suc g) 0 → phase (events_of v.seen) q ≡ replied c res → lent v.seen q ≡ true → reply_bits res b → Out slots id me x None
         → Allows (Ruled M) slots id me (claim_at x) (λ n. either (eqb n old) new n) (sure Done reaps (step slots (claim_at x) old new none) me)
-    reap_allows M b old new c res e f fb is_e is_old is_new done bits out =
-        sures slots id me M Done reaps x (cause_bits c (fails e res)) g b old new (λ z. (let y = sym mine ∙ z in cc)) (cause_fits c (fails e res)) (omega arith) fb is_old (reap_does b old new c res e f is_e is_new done bits out)
+    reap_allows M b old new c res e f fb is_e is_old is_new done taken bits out =
+        sures slots id me M Done reaps x (cause_bits c (fails e res)) g b old new (λ z. (let y = sym mine ∙ z in cc)) (cause_fits c (fails e res)) (omega arith) fb is_old (reap_does b old new c res e f is_e is_new done taken bits out)

@@ -1,12 +1,12 @@
 -- What a view keeps between two steps of one call.
-use Rattle.std.proofs.Common.{◌≡◌, ℕ, ◌+◌, ◌*◌, ◌<◌, true, false, ℤ, List, ◌∷◌, ◌++◌, Option, Some, eq-eqb, sym, refl, ap, ◌∙◌, subst, arith}
+use Rattle.std.proofs.Common.{◌≡◌, ℕ, ◌<◌, true, false, ℤ, List, ◌∷◌, ◌++◌, Option, Some, eq-eqb, sym, refl, ap, ◌∙◌, subst, arith}
 use Rattle.atomic_table.specs.Seated.{TableId}
 use Rattle.atomic_table.specs.declared.shared.Seat.{Seat}
 use Rattle.entry.specs.Entry.{Entry}
 use Rattle.history.specs.declared.event.Event.{Event}
 use Rattle.history.specs.declared.req.Req.{Req}
 use Rattle.history.specs.History.{Cause, replied, phase, submits, submission, was_shut}
-use Rattle.history.specs.Chains.{IsPlaced}
+use Rattle.history.specs.Chains.{before_in, IsPlaced}
 use Rattle.history.specs.Legal.{Setup, Legal}
 use Rattle.steps.specs.declared.line.Line.{Line}
 use Rattle.steps.specs.declared.parcel.Parcel.{Parcel}
@@ -15,12 +15,12 @@ use Rattle.steps.specs.declared.view.Layout.{Layout}
 use Rattle.steps.specs.declared.view.Role.{Role}
 use Rattle.steps.specs.declared.view.Role.TheVariants.{Submitter, Lending}
 use Rattle.steps.specs.declared.view.View.{View}
-use Rattle.steps.specs.Fairness.{Orderly}
+use Rattle.steps.specs.Fairness.{Orderly, IsFree}
 use Rattle.steps.specs.Journal.{events_of, noted, stores}
 use Rattle.steps.specs.Cells.{setup_of, IsCell, ring_of, request_at, note_at, IsParcel}
 use Rattle.steps.specs.Rule.{rings, stands_for, Vacant, Extends, Fits}
-use Rattle.steps.proofs.FreeCells.{same_noted}
-use Rattle.steps.proofs.JournalGrowth.{submitted_in, submission_lasts, legal_before, counted_in, placed_lasts, lasts, still_reaped, still_replied, same_submits}
+use Rattle.steps.proofs.FreeCells.{free_later, same_noted}
+use Rattle.steps.proofs.JournalGrowth.{submitted_in, submission_lasts, legal_before, counted_in, placed_lasts, lasts, still_reaped, still_replied, same_submits, same_before}
 
 pub layout_after : (v w : View) (l : Line) (role : Role) → Extends v l role w → w.layout ≡ v.layout
 layout_after v w l role x = ap (λ (z : View). z.layout) x.is
@@ -79,7 +79,11 @@ module _ (v w : View) (l : Line) (role : Role) (silent : (j : List Line) → eve
   vacant_after c g mine free = record {
     next = (let n = free.next in let s = submits_after (ring_of v.layout.cells c) mine in omega arith);
     gone_by = λ n lt. (let b = free.gone_by n lt in (b.0, b.1, ap (λ (h : List Event). phase h (request_at v.layout.cells c n)) events_are ∙ still_reaped S (request_at v.layout.cells c n) v.role b.0 b.1 later v.seen legal live x.saw.none b.2));
+    free = subst (λ (h : List Event). IsFree v.layout.cells h (request_at v.layout.cells c g)) (sym events_are) (free_later S v.layout.cells later v.seen (request_at v.layout.cells c g) legal free.free);
   }
+
+  pub before_after : (q : Req) → stands_for v.role (rings q.ring) ≡ true → before_in (events_of w.seen) q ≡ before_in (events_of v.seen) q
+  before_after q mine = ap (λ (h : List Event). before_in h q) events_are ∙ same_before v.role q.ring mine q refl later v.seen x.saw.none
 
   pub replied_after : (q : Req) (c : Cause) (res : ℤ) → stands_for v.role (rings q.ring) ≡ true → phase (events_of v.seen) q ≡ replied c res → phase (events_of w.seen) q ≡ replied c res
   replied_after q c res mine is = ap (λ (h : List Event). phase h q) events_are ∙ still_replied S q v.role c res mine later v.seen legal live x.saw.none is

@@ -1,11 +1,11 @@
 -- What each line of the journal asks for, beside that its history is legal: who may change a pipe, who is moved to Ready, when a cell goes on to its next request, and what stands in its notes.
-use Rattle.std.specs.Prelude.{◌≡◌, ℕ, ◌+◌, ◌*◌, ◌⊎◌, Bool, true, false, ℤ, List, [], ◌∷◌, Some, None}
+use Rattle.std.specs.Prelude.{◌≡◌, ℕ, ◌+◌, ◌*◌, ◌%◌, ◌<◌, Bool, true, false, ℤ, List, [], ◌∷◌, Some, None}
 use Rattle.entry.specs.Entry.{Entry, fails}
 use Rattle.history.specs.declared.req.Req.{Req}
 use Rattle.history.specs.declared.event.Event.{Event}
-use Rattle.history.specs.declared.event.Event.TheVariants.{Submit, Reply}
-use Rattle.history.specs.History.{Cause, Phase, unborn, waits, replied, reaped, Submission, submission, phase, IsReplied}
-use Rattle.history.specs.Chains.{placed, Open, is_timer, IsPlaced, IsChainBefore}
+use Rattle.history.specs.declared.event.Event.TheVariants.{Submit, Reply, Reap}
+use Rattle.history.specs.History.{Cause, Phase, unborn, waits, replied, reaped, Submission, submission, phase, reply}
+use Rattle.history.specs.Chains.{before_in, placed, Open, is_timer, IsPlaced, IsChainDone}
 use Rattle.history.specs.Answers.{is_pipe}
 use Rattle.history.specs.Legal.{IsOf}
 use Rattle.steps.specs.declared.line.Line.{Line}
@@ -19,13 +19,9 @@ abbrev pub IsReaped : Phase → Type 0
 IsReaped (reaped c res) = Unit {0}
 IsReaped _ = ⊥
 
--- one of the two is the other, or an earlier member of its chain
-abbrev pub AreChained : List Event → Req → Req → Type 0
-AreChained h q m = (q ≡ m) ⊎ (IsChainBefore h q m ⊎ IsChainBefore h m q)
-
 -- the cell of the request r is free for it: the request that had the cell before was reaped, and its whole chain has replied
 abbrev pub IsFree : List ℕ → List Event → Req → Type 0
-IsFree K h r = (q : Req) → q.ring ≡ r.ring → q.k + cells_in K r.ring ≡ r.k → IsReaped (phase h q) × ((m : Req) → AreChained h q m → IsReplied (phase h m))
+IsFree K h r = (q : Req) → q.ring ≡ r.ring → q.k + cells_in K r.ring ≡ r.k → IsReaped (phase h q) × IsChainDone h q
 
 -- the request is the one of generation g in the cell x
 abbrev pub IsIn : List ℕ → Req → ℕ → ℕ → Type 0
@@ -45,16 +41,26 @@ pub record NotesSay (K : List ℕ) (j : List Line) (x g : ℕ) (y : Submission) 
 abbrev pub NotesTell : List ℕ → List Line → ℕ → Type 0
 NotesTell K j x = (g : ℕ) (y : Submission) (d : Entry) → submission (events_of j) (request_at K x g) ≡ Some y → IsPlaced (events_of j) (request_at K x g) d → ¬ IsReaped (phase (events_of j) (request_at K x g)) → NotesSay K j x g y d
 
+-- what the facts of the cell x say of its request of generation g once that was reaped: while they are its own they have its outcome, and once they are another one's its whole chain has replied
+pub record FactsLeft (K : List ℕ) (j : List Line) (x g : ℕ) (y : Submission) (d : Entry) : Type 0 where
+  pub outcome : (res : ℤ) → reply (events_of j) (request_at K x g) ≡ Some res → noted j (facts_at x) % 16777216 ≡ g → noted j (facts_at x) ≡ outcome_of (facts_of g d y.last) (fails d res)
+  pub done : ¬ (noted j (facts_at x) % 16777216 ≡ g) → IsChainDone (events_of j) (request_at K x g)
+
+-- the same of each request of the cell that was reaped
+abbrev pub FactsTell : List ℕ → List Line → ℕ → Type 0
+FactsTell K j x = (g : ℕ) (y : Submission) (d : Entry) → g < 16777216 → submission (events_of j) (request_at K x g) ≡ Some y → IsPlaced (events_of j) (request_at K x g) d → IsReaped (phase (events_of j) (request_at K x g)) → FactsLeft K j x g y d
+
 -- a store of the facts takes the slot: of a request that comes to a cell that is free for it, or of one that has replied, with the outcome
 abbrev pub IsFactsNote : List ℕ → List Line → Req → ℕ → ℕ → Phase → Type 0
-IsFactsNote K j r word value unborn = (x : ℕ) × (g : ℕ) × (n : ℕ) × IsIn K r x g × (word ≡ facts_at x) × (value ≡ g + 16777216 * n) × IsFree K (events_of j) r
-IsFactsNote K j r word value (replied c res) = (x : ℕ) × (g : ℕ) × (e : Entry) × IsIn K r x g × (word ≡ facts_at x) × IsPlaced (events_of j) r e × (value ≡ outcome_of (noted j (facts_at x)) (fails e res))
+IsFactsNote K j r word value unborn = (x : ℕ) × (g : ℕ) × (n : ℕ) × IsIn K r x g × (g < 16777216) × (word ≡ facts_at x) × (value ≡ g + 16777216 * n) × IsFree K (events_of j) r
+IsFactsNote K j r word value (replied c res) = (x : ℕ) × (g : ℕ) × (e : Entry) × IsIn K r x g × (g < 16777216) × (word ≡ facts_at x) × IsPlaced (events_of j) r e × (value ≡ outcome_of (noted j (facts_at x)) (fails e res))
 IsFactsNote K j r word value _ = ⊥
 
--- only who has a pipe of the board changes it or gives it back, and nobody takes it from him; only what waits, is open and is a worker's to run is moved to Ready, and once; a cell goes on only when it is free, and its notes go on with it
+-- only who has a pipe of the board changes it or gives it back, and nobody takes it from him; only what waits, is open and is a worker's to run is moved to Ready, and once; a cell goes on only when it is free, and its notes go on with it; a request is reaped by who has its slot
 abbrev pub Fair : Layout → List Line → Line → Type 0
-Fair L j (Did (Submit r e bytes last)) = Serves e last × IsFree L.cells (events_of j) r × AreNoted L.cells j r e bytes last
+Fair L j (Did (Submit r e bytes last)) = Serves (before_in (events_of j) r) e × IsFree L.cells (events_of j) r × AreNoted L.cells j r e bytes last
 Fair L j (Did (Reply r res data')) = (p : ℕ) → is_pipe L.caps p ≡ true → touches (placed (events_of j) r) p ≡ true → holder j p ≡ Some r
+Fair L j (Did (Reap r)) = lent j r ≡ true
 Fair L j (Freed r) = (phase (events_of j) r ≡ waits) × Open (events_of j) r × IsOf (events_of j) r is_timer false × (freed j r ≡ false)
 Fair L j (Lent r word value) = IsFactsNote L.cells j r word value (phase (events_of j) r)
 Fair L j (Noted r word value) = (x : ℕ) × (g : ℕ) × IsIn L.cells r x g × (word ≡ user_at x) × (phase (events_of j) r ≡ unborn) × IsFree L.cells (events_of j) r

@@ -1,12 +1,13 @@
 -- The journal: the history's events, newest first, and between them what seats do without an event. Who was moved to Ready, which slot or pipe is out with whom, and what stands in a note word, is read off it.
-use Rattle.std.specs.Prelude.{◌≡◌, ℕ, ◌==◌, Bool, true, false, cond, ℤ, pos, negsuc, List, [], ◌∷◌, Option, Some, None}
+use Rattle.std.specs.Prelude.{◌≡◌, ℕ, ◌==◌, Bool, true, false, cond, List, [], ◌∷◌, Option, Some, None}
 use Rattle.entry.specs.declared.op.Op.{Op}
 use Rattle.entry.specs.declared.op.Op.TheVariants.{Nop, Close, Read, Write, PollAdd, Invalid}
-use Rattle.entry.specs.Entry.{Entry, drains}
+use Rattle.entry.specs.Entry.{Entry}
 use Rattle.history.specs.declared.req.Req.{Req}
 use Rattle.history.specs.declared.event.Event.{Event}
 use Rattle.history.specs.declared.event.Event.TheVariants.{Submit, Reap}
-use Rattle.history.specs.History.{same}
+use Rattle.history.specs.History.{Submission, same}
+use Rattle.history.specs.Chains.{placed_behind}
 use Rattle.history.specs.Pipes.{End, no_end, read_end, write_end, end_of}
 use Rattle.steps.specs.declared.line.Line.{Line}
 use Rattle.steps.specs.declared.line.Line.TheVariants.{Did, Freed, Lent, Noted, Hold, Free}
@@ -77,7 +78,7 @@ abbrev pub touches : Option Entry → ℕ → Bool
 touches None p = false
 touches (Some e) p = uses e.op p
 
--- what the board serves so far: batches of one, of NOP, READ, WRITE, CLOSE, POLL_ADD and Invalid entries, without IO_DRAIN
+-- what a worker runs so far: NOP, READ, WRITE, CLOSE, POLL_ADD and Invalid entries
 abbrev pub is_served : Op → Bool
 is_served Nop = true
 is_served (Read fd offset len) = true
@@ -87,5 +88,6 @@ is_served (PollAdd fd mask) = true
 is_served Invalid = true
 is_served _ = false
 
-abbrev pub Serves : Entry → Bool → Type 0
-Serves e last = (is_served e.op ≡ true) × (drains e ≡ false) × (last ≡ true)
+-- the board serves an entry behind this one if it is placed as one of these
+abbrev pub Serves : Option Submission → Entry → Type 0
+Serves before e = is_served (placed_behind before e).op ≡ true

@@ -7,7 +7,7 @@ use Rattle.claim.specs.declared.tag.Tag.{Tag}
 use Rattle.claim.specs.declared.tag.Tag.TheVariants.{Running, Done}
 use Rattle.entry.specs.Entry.{Entry}
 use Rattle.history.specs.declared.req.Req.{Req}
-use Rattle.history.specs.declared.event.Event.TheVariants.{Submit, Begin, Park, Reply, Reap}
+use Rattle.history.specs.declared.event.Event.TheVariants.{Submit, Begin, Park, Reply, Sever, Reap}
 use Rattle.history.specs.History.{Cause, phase, replied, data_of, submission}
 use Rattle.history.specs.Chains.{IsPlaced}
 use Rattle.history.specs.Pipes.{flow, flows_as}
@@ -57,6 +57,9 @@ sure tag P st m n m' = (n ≡ st.first) × ((x c g p : ℕ) → st.word ≡ clai
 
 abbrev pub released : At → Seated → ℕ → Req → Seated → Type 0
 released st m x r m' = Extends m.0 (Freed r) m.0.role m'.0 × (m'.1 ≡ m.1)
+
+abbrev pub severed : At → Seated → ℕ → Req → Seated → Type 0
+severed st m x r m' = Extends m.0 (Did (Sever r)) m.0.role m'.0 × (m'.1 ≡ m.1)
 
 -- the slot has what was handed in, with these data over its front
 abbrev pub Hands : Seated → ℕ → Req → List ℕ → List (ℕ × Option Thing) → Type 0

@@ -1,5 +1,5 @@
 -- The rule: one legal history that agrees with all words, and of which each seat has seen a beginning that lacks none of the seat's own lines.
-use Rattle.std.specs.Prelude.{◌≡◌, ◌≢◌, ℕ, suc, ◌-◌, ◌+◌, ◌*◌, ◌<◌, ◌≤◌, ◌⊎◌, Bool, true, false, not, ◌==◌, nat_le, nat_lt, ℤ, List, [], ◌∷◌, ◌++◌, length, slice_index, Option, Some}
+use Rattle.std.specs.Prelude.{◌≡◌, ◌≢◌, ℕ, suc, ◌-◌, ◌+◌, ◌<◌, ◌≤◌, ◌⊎◌, Bool, true, false, not, ◌==◌, nat_le, nat_lt, ℤ, List, [], ◌∷◌, ◌++◌, length, slice_index, Option, Some}
 use mathlib.Core.Option.{some}
 use lib.ListN.{get_elem?}
 use Rattle.atomic_table.specs.Table.{State}
@@ -21,7 +21,7 @@ use Rattle.steps.specs.declared.view.Role.{Role}
 use Rattle.steps.specs.declared.view.Role.TheVariants.{Poller, Submitter, Lending, Idle, Busy, Leaving, Spent}
 use Rattle.steps.specs.declared.view.Step.{Step}
 use Rattle.steps.specs.declared.view.View.{View}
-use Rattle.steps.specs.Fairness.{Orderly}
+use Rattle.steps.specs.Fairness.{Orderly, IsFree}
 use Rattle.steps.specs.Notes.{outcome_of}
 use Rattle.steps.specs.Journal.{events_of, lent, noted, holder}
 use Rattle.steps.specs.Cells.{setup_of, IsCell, ring_of, request_at, note_at, facts_at, claim_at, pipe_at, slot_at, CellOk, PipeOk, Home, word_of, reply_bits, cause_bits}
@@ -207,10 +207,11 @@ Fits table seat x = (seat.table_id ≡ table) × (x < 16384) × IsCell seat.me.0
 abbrev pub IsSameSeat : Seat (Option Thing) View → Seat (Option Thing) View → Type 0
 IsSameSeat s t = (t.table_id ≡ s.table_id) × (t.id ≡ s.id)
 
--- the cell is Empty at generation g, as its submitter knows
+-- the cell is Empty at generation g, and free, as its submitter knows
 pub record Vacant (K : List ℕ) (seen : List Line) (x g : ℕ) : Type 0 where
   pub next : submits (events_of seen) (ring_of K x) ≤ (request_at K x g).k
   pub gone_by : (n : ℕ) → n < g → (c : Cause) × (res : ℤ) × (phase (events_of seen) (request_at K x n) ≡ reaped c res)
+  pub free : IsFree K (events_of seen) (request_at K x g)
 
 -- the claim word of a request that has replied
 pub record IsDone (seen : List Line) (r : Req) (g word : ℕ) : Type 0 where

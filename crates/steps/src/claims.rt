@@ -1,10 +1,13 @@
 //! The claim words that steps write and look for.
-ghost use Rattle.std.specs.Prelude.{◌≡◌, ◌<◌, ℕ};
+ghost use Rattle.std.specs.Prelude.{◌≡◌, ◌<◌, ℕ, negsuc};
 ghost use Rattle.claim.specs.declared.tag.Tag.TheVariants.{Empty, Held, Ready, Running, Done};
-ghost use Rattle.history.specs.History.{by_reply};
+ghost use Rattle.history.specs.History.{by_reply, by_sever};
 ghost use Rattle.steps.specs.Cells.{word_of, reply_bits, cause_bits};
 
 use claim::{Cause, ClaimWord, pack};
+
+/// The reply of a request that was ended before it ran: -ECANCELED.
+const CANCELED: i32 = -125;
 
 /// No request yet of this generation.
 pub fn empty(generation: u32) -> u64
@@ -44,4 +47,12 @@ pub(crate) fn done(generation: u32, fails: bool, res: i32) -> u64
     ensures { (b : ℕ) → reply_bits res b → result ≡ word_of Done (cause_bits by_reply fails) generation b }
 {
     pack(ClaimWord::done(generation, Cause::Reply, fails, res))
+}
+
+/// The request was ended by the failure of an earlier member of its chain.
+pub(crate) fn severed(generation: u32, fails: bool) -> u64
+    requires { generation < 16777216 }
+    ensures { (b : ℕ) → reply_bits (negsuc 124) b → result ≡ word_of Done (cause_bits by_sever fails) generation b }
+{
+    pack(ClaimWord::done(generation, Cause::Sever, fails, CANCELED))
 }

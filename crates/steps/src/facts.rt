@@ -1,9 +1,14 @@
 //! The word of facts that a submitter notes of its request.
-ghost use Rattle.std.specs.Prelude.{◌≡◌, ◌<◌};
+ghost use Rattle.std.specs.Prelude.{◌≡◌, ℕ, ◌+◌, ◌*◌, ◌<◌, Option};
+ghost use Rattle.history.specs.History.{Submission};
+ghost use Rattle.history.specs.Chains.{hosts, is_link_timeout, placed_behind};
 ghost use Rattle.steps.specs.Notes.{etime_in, facts_of, row_number, ticks_in};
 
 use claim::{FactsWord, pack_facts};
 use entry::{Op, Sqe, by_opcode};
+
+/// The row number of all Invalid entries.
+const INVALID: u8 = 9;
 
 macro_rules! row_number {
     (($op:expr) $($text:literal $name:ident { $($field:ident),* } = $code:tt: $fd:tt $off:tt $addr:tt $len:tt $word:tt $flags:tt $fails:tt;)*) => {
@@ -81,19 +86,41 @@ fn etime_in(op: Op) -> bool
     by_opcode!(etime_in!(op))
 }
 
-/// The facts of a request of this generation, whose entry is placed as it was handed in.
-pub(crate) fn facts(generation: u32, sqe: &Sqe, last: bool) -> u64
-    requires { generation < 16777216 }
-    ensures { result ≡ facts_of generation sqe.now last }
+macro_rules! is_linked_timer {
+    ((timer linked $ticks:ident) ()) => { true };
+    ((timer alone $ticks:ident) ()) => { false };
+    ((plain $kind:ident) ()) => { false };
+    ((pipe $kind:ident $($field:ident)*) ()) => { false };
+    ((cancel $kind:ident $target:ident) ()) => { false };
+}
+
+/// Whether it is a LINK_TIMEOUT.
+pub fn is_link_timeout(op: Op) -> bool
+    ensures { result ≡ is_link_timeout op }
 {
+    by_opcode!(op => is_linked_timer!())
+}
+
+/// The facts of a request of this generation, as it is placed: a LINK_TIMEOUT as Invalid, unless the entry before it hosts one.
+pub(crate) fn facts(generation: u32, sqe: &Sqe, last: bool, hosted: bool) -> u64
+    requires { generation < 16777216 }
+    ensures facts { (before : Option Submission) → hosted ≡ hosts before → result ≡ facts_of generation (placed_behind before sqe.now) last }
+    ensures generation { (n : ℕ) × (result ≡ generation + 16777216 * n) }
+{
+    let misplaced = is_link_timeout(sqe.op()) && !hosted;
+    let ticks = ticks_in(sqe);
     pack_facts(FactsWord {
         generation,
-        row: row_number(sqe.op()),
+        row: if misplaced {
+            INVALID
+        } else {
+            row_number(sqe.op())
+        },
         drains: sqe.drains(),
         links_soft: sqe.links_soft(),
         links_hard: sqe.links_hard(),
         last,
-        etime_success: etime_in(sqe.op()),
-        payload: ticks_in(sqe),
+        etime_success: !misplaced && etime_in(sqe.op()),
+        payload: if misplaced { 0 } else { ticks },
     })
 }

@@ -1,7 +1,7 @@
 //! What each kind of step tells its seat, as the table takes it.
 ghost use Rattle.claim.specs.declared.tag.Tag.TheVariants.{Empty, Held, Ready, Running, Done};
 ghost use Rattle.steps.specs.declared.view.Role.TheVariants.{Idle, Leaving};
-ghost use Rattle.steps.specs.Plays.{looked, tried, sure, released, began, submitted, replied_with, parked, reaps, noticed, opened, noted_user, emptied, pipe_taken, pipe_returned, pipe_left};
+ghost use Rattle.steps.specs.Plays.{looked, tried, sure, released, severed, began, submitted, replied_with, parked, reaps, noticed, opened, noted_user, emptied, pipe_taken, pipe_returned, pipe_left};
 ghost use Rattle.steps.specs.Rule.{without_next, without_one, next_submitter, idle_one, messenger, hearing, spent_view};
 
 use crate::parcel::Thing;
@@ -24,6 +24,12 @@ pub(crate) struct Release;
 
 impl Play<Option<Thing>, View> for Release {
     ghost then = { tried Held released };
+}
+
+pub(crate) struct Sever;
+
+impl Play<Option<Thing>, View> for Sever {
+    ghost then = { tried Held severed };
 }
 
 pub(crate) struct Begin;

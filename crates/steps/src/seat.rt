@@ -1,14 +1,15 @@
 //! Single steps of a seat on a request's path.
-ghost use Rattle.std.specs.Prelude.{◌≡◌, ◌≢◌, ℕ, ◌+◌, ◌*◌, ◌<◌, true, List, [], Some};
+ghost use Rattle.std.specs.Prelude.{◌≡◌, ◌≢◌, ℕ, ◌+◌, ◌*◌, ◌<◌, true, negsuc, List, [], Some};
 ghost use Rattle.atomic_table.specs.Table.{rest};
 ghost use Rattle.claim.specs.declared.tag.Tag.TheVariants.{Held, Ready, Running};
 ghost use Rattle.entry.specs.Entry.{Entry, fails as fails_with};
-ghost use Rattle.history.specs.declared.event.Event.TheVariants.{Begin, Park, Reply};
+ghost use Rattle.history.specs.declared.event.Event.TheVariants.{Begin, Park, Reply, Sever};
+ghost use Rattle.history.specs.Chains.{IsPlaced, Severed};
 ghost use Rattle.history.specs.History.{submits};
 ghost use Rattle.steps.specs.declared.line.Line.TheVariants.{Did, Freed};
 ghost use Rattle.steps.specs.declared.view.Role.TheVariants.{Poller, Idle, Busy, Spent};
 ghost use Rattle.steps.specs.Journal.{events_of, noted, holder};
-ghost use Rattle.steps.specs.Fairness.{NotesTell};
+ghost use Rattle.steps.specs.Fairness.{FactsTell, NotesTell};
 ghost use Rattle.steps.specs.Cells.{ring_of, request_at, claim_at, note_at, word_of, MayBegin};
 ghost use Rattle.steps.specs.Rule.{Looks, Extends, Shown, IsStep, Fits, IsSameSeat};
 ghost use Rattle.steps.specs.Plays.{Hands, MayReply};
@@ -30,7 +31,8 @@ pub fn look(words: &Words, seat: &mut TableSeat, cell: usize) -> u64
 }
 
 /// Loads a note word of the cell, which has what was stored there last: of a request that was submitted and not reaped its
-/// facts, the outcome in them once it is reaped, and its user_data.
+/// facts, the outcome in them once it is reaped, and its user_data. Its facts stay there until a later request of the cell has
+/// its own stored, which comes only once the whole chain of this one has replied.
 pub fn look_at_note(words: &Words, seat: &mut TableSeat, cell: usize, number: usize) -> u64
     requires fits { Fits words.now.table_id seat.old cell }
     requires there { number < 7 }
@@ -39,6 +41,7 @@ pub fn look_at_note(words: &Words, seat: &mut TableSeat, cell: usize, number: us
     ensures looks { Looks seat.old.me.0 seat.new.me.0 }
     ensures noted { result ≡ noted seat.new.me.0.seen (note_at cell number) }
     ensures tells { NotesTell seat.old.me.0.layout.cells seat.new.me.0.seen cell }
+    ensures facts { FactsTell seat.old.me.0.layout.cells seat.new.me.0.seen cell }
     ensures step { IsStep (note_at cell number) result seat.old.me.0 seat.new.me.0 }
 {
     words.load::<plays::LookAtNote>(seat, note_word(cell, number))
@@ -60,6 +63,26 @@ pub fn release(words: &Words, seat: &mut TableSeat, cell: usize, generation: u32
     let held = claims::held(generation);
     let ready = claims::ready(generation);
     words.compare_exchange::<plays::Release>(seat, claim_word(cell), held, ready) == held
+}
+
+/// Ends a Held request of which an earlier member of its chain has failed: it is answered with -125 (ECANCELED). `fails` says
+/// whether that is a failure of its entry. Or tells what else was found.
+pub fn sever(words: &Words, seat: &mut TableSeat, cell: usize, generation: u32, fails: bool) -> bool
+    requires fits { Fits words.now.table_id seat.old cell }
+    requires poller { ((n : ℕ) × (seat.old.me.0.role ≡ Poller n)) × (0 < seat.old.me.0.parts) }
+    requires small { generation < 16777216 }
+    requires submitted { (request_at seat.old.me.0.layout.cells cell generation).k < submits (events_of seat.old.me.0.seen) (ring_of seat.old.me.0.layout.cells cell) }
+    requires may { Severed (events_of seat.old.me.0.seen) (request_at seat.old.me.0.layout.cells cell generation) }
+    requires fails { (e : Entry) × IsPlaced (events_of seat.old.me.0.seen) (request_at seat.old.me.0.layout.cells cell generation) e × (fails ≡ fails_with e (negsuc 124)) }
+    ensures seat { IsSameSeat seat.old seat.new × (seat.new.me.1 ≡ seat.old.me.1) }
+    ensures severs { result ≡ true → Extends seat.old.me.0 (Did (Sever (request_at seat.old.me.0.layout.cells cell generation))) seat.old.me.0.role seat.new.me.0 }
+    ensures step { result ≡ true → IsStep (claim_at cell) (word_of Held 0 generation 0) seat.old.me.0 seat.new.me.0 }
+    ensures looks { result ≢ true → Looks seat.old.me.0 seat.new.me.0 }
+    ensures missed { result ≢ true → (n : ℕ) × IsStep (claim_at cell) n seat.old.me.0 seat.new.me.0 × Shown seat.old.me.0.layout.cells seat.new.me.0.seen cell n × (n ≢ word_of Held 0 generation 0) }
+{
+    let held = claims::held(generation);
+    let severed = claims::severed(generation, fails);
+    words.compare_exchange::<plays::Sever>(seat, claim_word(cell), held, severed) == held
 }
 
 /// Begins a request that is Ready, or tells that it isn't.

@@ -1,9 +1,10 @@
 //! The steps of a submitter: it notes, submits, notes again and reaps.
-ghost use Rattle.std.specs.Prelude.{◌≡◌, ℕ, ℤ, ◌+◌, ◌<◌, false, ◌∷◌, Some, None};
+ghost use Rattle.std.specs.Prelude.{◌≡◌, ℕ, ◌+◌, ◌<◌, true, false, ◌∷◌, Option, Some, None};
 ghost use Rattle.atomic_table.specs.Table.{rest};
 ghost use Rattle.claim.specs.declared.tag.Tag.TheVariants.{Empty};
 ghost use Rattle.history.specs.declared.event.Event.TheVariants.{Submit, Reap};
-ghost use Rattle.history.specs.History.{data_of, submits};
+ghost use Rattle.history.specs.History.{Submission, data_of, submits};
+ghost use Rattle.history.specs.Chains.{before_in, hosts, placed_behind};
 ghost use Rattle.history.specs.Legal.{Fits as FitsEntry};
 ghost use Rattle.steps.specs.declared.line.Line.TheVariants.{Did, Lent, Noted};
 ghost use Rattle.steps.specs.declared.parcel.Parcel.{Parcel};
@@ -27,18 +28,25 @@ const FACTS: usize = 0;
 const USER_DATA: usize = 1;
 
 /// Notes the facts, takes the slot of a cell that is free, and puts the parcel there.
-fn fill(words: &Words, seat: &mut TableSeat, cell: usize, generation: u32, parcel: Parcel) -> u64
+fn fill(
+    words: &Words,
+    seat: &mut TableSeat,
+    cell: usize,
+    generation: u32,
+    parcel: Parcel,
+    hosted: bool,
+) -> u64
     requires fits { Fits words.now.table_id seat.old cell }
     requires small { generation < 16777216 }
     requires submitter { (seat.old.me.0.role ≡ Submitter (ring_of seat.old.me.0.layout.cells cell)) × (0 < seat.old.me.0.parts) }
     requires free { Vacant seat.old.me.0.layout.cells seat.old.me.0.seen cell generation }
     requires home { lent seat.old.me.0.seen (request_at seat.old.me.0.layout.cells cell generation) ≡ false }
-    ensures facts { result ≡ facts_of generation parcel.sqe parcel.last }
+    ensures facts { (before : Option Submission) → hosted ≡ hosts before → result ≡ facts_of generation (placed_behind before parcel.sqe) parcel.last }
     ensures seat { IsSameSeat seat.old seat.new × (seat.new.me.1 ≡ (slot_at cell, Some (Full parcel)) ∷ seat.old.me.1) }
     ensures lends { Extends seat.old.me.0 (Lent (request_at seat.old.me.0.layout.cells cell generation) (facts_at cell) result) (Lending (request_at seat.old.me.0.layout.cells cell generation)) seat.new.me.0 }
     ensures step { (found : ℕ) × IsStep (facts_at cell) found seat.old.me.0 seat.new.me.0 }
 {
-    let facts = facts(generation, &parcel.sqe, parcel.last);
+    let facts = facts(generation, &parcel.sqe, parcel.last, hosted);
     words.store::<plays::OpenCell>(seat, note_word(cell, FACTS), facts);
     let None = words.exchange(seat, slot(cell), Some(Thing::Full(parcel))) else {
         unreachable!()
@@ -66,7 +74,7 @@ fn submit_filled(words: &Words, seat: &mut TableSeat, cell: usize, generation: u
     requires submitter { (seat.old.me.0.role ≡ Lending (request_at seat.old.me.0.layout.cells cell generation)) × (0 < seat.old.me.0.parts) }
     requires free { Vacant seat.old.me.0.layout.cells seat.old.me.0.seen cell generation }
     requires next { (request_at seat.old.me.0.layout.cells cell generation).k ≡ submits (events_of seat.old.me.0.seen) (ring_of seat.old.me.0.layout.cells cell) }
-    requires filled { (p : Parcel) × (seat.old.me.1 ≡ (slot_at cell, Some (Full p)) ∷ rest seat.old.me.1) × Serves p.sqe p.last × FitsEntry p.sqe p.buffer.items × (noted seat.old.me.0.seen (facts_at cell) ≡ facts_of generation p.sqe p.last) × (noted seat.old.me.0.seen (user_at cell) ≡ p.sqe.user_data) }
+    requires filled { (p : Parcel) × (seat.old.me.1 ≡ (slot_at cell, Some (Full p)) ∷ rest seat.old.me.1) × Serves (before_in (events_of seat.old.me.0.seen) (request_at seat.old.me.0.layout.cells cell generation)) p.sqe × FitsEntry p.sqe p.buffer.items × (noted seat.old.me.0.seen (facts_at cell) ≡ facts_of generation (placed_behind (before_in (events_of seat.old.me.0.seen) (request_at seat.old.me.0.layout.cells cell generation)) p.sqe) p.last) × (noted seat.old.me.0.seen (user_at cell) ≡ p.sqe.user_data) }
     ensures seat { IsSameSeat seat.old seat.new × (seat.new.me.1 ≡ rest seat.old.me.1) }
     ensures submits { (p : Parcel) → seat.old.me.1 ≡ (slot_at cell, Some (Full p)) ∷ rest seat.old.me.1 → Extends seat.old.me.0 (Did (Submit (request_at seat.old.me.0.layout.cells cell generation) p.sqe p.buffer.items p.last)) (Submitter (ring_of seat.old.me.0.layout.cells cell)) seat.new.me.0 }
     ensures step { IsStep (claim_at cell) (word_of Empty 0 generation 0) seat.old.me.0 seat.new.me.0 }
@@ -76,13 +84,15 @@ fn submit_filled(words: &Words, seat: &mut TableSeat, cell: usize, generation: u
     words.compare_exchange::<plays::Submit>(seat, claim_word(cell), empty, held);
 }
 
-/// Submits to a cell that is free: two notes, and the exchange of its claim word. Gives the facts that were noted.
+/// Submits to a cell that is free: two notes, and the exchange of its claim word. `hosted` says whether a LINK_TIMEOUT may
+/// stand directly after the entry before it; one that may not is placed as Invalid. Gives the facts that were noted.
 pub fn submit(
     words: &Words,
     seat: &mut TableSeat,
     cell: usize,
     generation: u32,
     parcel: Parcel,
+    hosted: bool,
 ) -> u64
     requires fits { Fits words.now.table_id seat.old cell }
     requires small { generation < 16777216 }
@@ -90,14 +100,15 @@ pub fn submit(
     requires free { Vacant seat.old.me.0.layout.cells seat.old.me.0.seen cell generation }
     requires next { (request_at seat.old.me.0.layout.cells cell generation).k ≡ submits (events_of seat.old.me.0.seen) (ring_of seat.old.me.0.layout.cells cell) }
     requires home { lent seat.old.me.0.seen (request_at seat.old.me.0.layout.cells cell generation) ≡ false }
-    requires served { Serves parcel.sqe parcel.last × FitsEntry parcel.sqe parcel.buffer.items }
-    ensures facts { result ≡ facts_of generation parcel.sqe parcel.last }
+    requires hosted { hosted ≡ hosts (before_in (events_of seat.old.me.0.seen) (request_at seat.old.me.0.layout.cells cell generation)) }
+    requires served { Serves (before_in (events_of seat.old.me.0.seen) (request_at seat.old.me.0.layout.cells cell generation)) parcel.sqe × FitsEntry parcel.sqe parcel.buffer.items }
+    ensures facts { result ≡ facts_of generation (placed_behind (before_in (events_of seat.old.me.0.seen) (request_at seat.old.me.0.layout.cells cell generation)) parcel.sqe) parcel.last }
     ensures seat { IsSameSeat seat.old seat.new × (seat.new.me.1 ≡ seat.old.me.1) }
     ensures submits { ExtendsThrice seat.old.me.0 (Lent (request_at seat.old.me.0.layout.cells cell generation) (facts_at cell) result) (Lending (request_at seat.old.me.0.layout.cells cell generation)) (Noted (request_at seat.old.me.0.layout.cells cell generation) (user_at cell) parcel.sqe.user_data) (Lending (request_at seat.old.me.0.layout.cells cell generation)) (Did (Submit (request_at seat.old.me.0.layout.cells cell generation) parcel.sqe parcel.buffer.items parcel.last)) (Submitter (ring_of seat.old.me.0.layout.cells cell)) seat.new.me.0 }
     ensures steps { IsThreeSteps (facts_at cell) (user_at cell) (claim_at cell) seat.old.me.0 seat.new.me.0 }
 {
     let user_data = parcel.sqe.user_data();
-    let facts = fill(words, seat, cell, generation, parcel);
+    let facts = fill(words, seat, cell, generation, parcel, hosted);
     note_user_data(words, seat, cell, generation, user_data);
     submit_filled(words, seat, cell, generation);
     facts
@@ -127,6 +138,7 @@ fn reap_emptied(words: &Words, seat: &mut TableSeat, cell: usize, generation: u3
     requires submitter { (seat.old.me.0.role ≡ Lending (request_at seat.old.me.0.layout.cells cell generation)) × (0 < seat.old.me.0.parts) }
     requires done { IsDone seat.old.me.0.seen (request_at seat.old.me.0.layout.cells cell generation) generation done }
     requires emptied { seat.old.me.1 ≡ (slot_at cell, None) ∷ rest seat.old.me.1 }
+    requires out { lent seat.old.me.0.seen (request_at seat.old.me.0.layout.cells cell generation) ≡ true }
     ensures seat { IsSameSeat seat.old seat.new × (seat.new.me.1 ≡ rest seat.old.me.1) }
     ensures reaps { Extends seat.old.me.0 (Did (Reap (request_at seat.old.me.0.layout.cells cell generation))) (Submitter (ring_of seat.old.me.0.layout.cells cell)) seat.new.me.0 }
     ensures step { IsStep (claim_at cell) done seat.old.me.0 seat.new.me.0 }

@@ -1,5 +1,5 @@
 -- What the single steps of a run come to: which events the pass went on by, how many steps it took, and whose pass it stays.
-use Rattle.std.proofs.Common.{◌≡◌, ℕ, suc, ◌+◌, ◌<◌, ◌≤◌, true, false, ℤ, List, [], ◌∷◌, ◌++◌, length, slice_index, Option, Some, None, sym, refl, ap, ◌∙◌, subst, arith, true≢false, eqb-true, length-append}
+use Rattle.std.proofs.Common.{◌≡◌, ℕ, suc, ◌+◌, ◌<◌, ◌≤◌, ◌&&◌, not, cond, Bool, true, false, ℤ, List, [], ◌∷◌, ◌++◌, length, slice_index, Option, Some, None, sym, refl, ap, ◌∙◌, subst, ⊎_elim, arith, true≢false, eqb-true, length-append}
 use Rattle.std.proofs.lemmas.Bool.Decides.{nat_tests}
 use Rattle.std.proofs.lemmas.List.{append_assoc}
 use Rattle.atomic_table.specs.Table.{rest, turned}
@@ -7,14 +7,15 @@ use Rattle.atomic_table.specs.Seated.{TableId}
 use Rattle.answers.specs.Answered.{IsPipe, is_plain, IsPast}
 use Rattle.answers.specs.Ends.{pipe_with, pipe_in}
 use Rattle.entry.specs.declared.op.Op.{Op}
-use Rattle.entry.specs.declared.op.Op.TheVariants.{Nop, Close, Read, Write, PollAdd, Invalid}
+use Rattle.entry.specs.declared.op.Op.TheVariants.{Nop, Close, Read, Write, PollAdd, LinkTimeout, Invalid}
 use Rattle.entry.specs.Entry.{Entry}
 use Rattle.history.specs.declared.req.Req.{Req}
 use Rattle.history.specs.declared.event.Event.{Event}
 use Rattle.history.specs.Answers.{OpAnswers, is_pipe}
-use Rattle.history.specs.Chains.{IsPlaced}
+use Rattle.history.specs.Chains.{IsPlaced, is_link_timeout, hosts, before_in, placed_behind, placed_from}
 use Rattle.history.specs.History.{submission, Submission, was_shut}
 use Rattle.history.specs.Legal.{Legal, Setup, FitsOp}
+use Rattle.history.proofs.Requests.{bool_cases}
 use Rattle.history.specs.Pipes.{flow, flows, flows_as, End, read_end, write_end, no_end, end_of}
 use Rattle.pipe.specs.Pipe.{Conduit}
 use Rattle.steps.specs.declared.line.Line.{Line}
@@ -33,20 +34,36 @@ use Rattle.steps.specs.Cells.{setup_of, IsCell, request_at, slot_at, over, IsPar
 use Rattle.steps.specs.Plays.{Seated, MayReply}
 use Rattle.steps.specs.Rule.{NoneOf, Begins, Looks, Extends, IsStep, leaves}
 use Rattle.steps.proofs.JournalGrowth.{lasts, placed_lasts, submission_lasts, submitted_in}
-use Rattle.steps.proofs.Served.{fits_is, serves_is, served_placed}
+use Rattle.steps.proofs.Served.{fits_is, serves_is}
 use Rattle.steps.proofs.ViewsKept.{layout_after, role_after, parts_after, parcel_after}
 use Rattle.work.specs.Board.{Facts, IsOf, share_of}
 use Rattle.work.specs.Passes.{Pass, Took, RunsIt, own_of}
-use Rattle.work.specs.Runs.{EndsBy, names}
-use Rattle.work.proofs.OwnEvents.{own_none, own_append, silent_own}
+use Rattle.work.specs.Runs.{EndsBy, names, op_run, run_as}
+use Rattle.work.proofs.OwnEvents.{own_append, silent_own}
 use Rattle.work.proofs.PassesKept.{extended_of}
 
--- the parcel's entry is the one that was placed
-pub entry_is : (v : View) (r : Req) (data' : List ℕ) (p : Parcel) (e : Entry) → Orderly v.layout v.seen → IsParcel v.seen r data' p → IsPlaced (events_of v.seen) r e → p.sqe ≡ e
-entry_is v r d p e o k is = let s = serves_is v.layout v.seen r _ o k.1 in let own : IsPlaced (events_of v.seen) r p.sqe = served_placed (events_of v.seen) r _ k.1 s.0 in let z = sym own ∙ is in cc
+-- a worker runs the entry as it was placed
+run_op : (b : Option Submission) (op : Op) (e : Entry) → is_served (cond (is_link_timeout op && not (hosts b)) (record e { op = Invalid }) (record e { op = op })).op ≡ true → cond (is_link_timeout op && not (hosts b)) (record e { op = Invalid }) (record e { op = op }) ≡ record e { op = op_run op }
+run_op b (LinkTimeout ticks) e s = ⊎_elim
+    (λ (w : hosts b ≡ true). absurd (true≢false (sym s ∙ ap (λ (z : Bool). is_served (cond (not z) (record e { op = Invalid }) (record e { op = LinkTimeout ticks })).op) w)))
+    (λ (w : hosts b ≡ false). ap (λ (z : Bool). cond (not z) (record e { op = Invalid }) (record e { op = LinkTimeout ticks })) w) (bool_cases (hosts b))
+run_op b op e s = refl
 
-pub entry_placed : (v : View) (r : Req) (data' : List ℕ) (p : Parcel) → Orderly v.layout v.seen → IsParcel v.seen r data' p → IsPlaced (events_of v.seen) r p.sqe
-entry_placed v r d p o k = served_placed (events_of v.seen) r _ k.1 (serves_is v.layout v.seen r _ o k.1).0
+pub entry_run : (v : View) (r : Req) (data' : List ℕ) (p : Parcel) → Legal (setup_of v.layout) (events_of v.seen) → Orderly v.layout v.seen → IsParcel v.seen r data' p → IsPlaced (events_of v.seen) r (run_as p.sqe)
+entry_run v r d p l o k =
+    let b = before_in (events_of v.seen) r in let is : IsPlaced (events_of v.seen) r (placed_behind b p.sqe) = ap (placed_from b) k.1 in
+    is ∙ ap Some (run_op b p.sqe.op p.sqe (serves_is v.layout (setup_of v.layout) v.seen r _ (placed_behind b p.sqe) l o k.1 is))
+
+-- what names a pipe is run as it was handed in
+pub run_named : (op : Op) → pipe_in (op_run op) ≡ pipe_in op
+run_named (LinkTimeout ticks) = refl
+run_named op = refl
+
+pub run_piped : (e : Entry) (n : ℕ) → pipe_in e.op ≡ Some n → run_as e ≡ e
+run_piped e n is = by_op e.op is where
+  by_op : (op : Op) → pipe_in op ≡ Some n → (let z : Entry = record e { op = op_run op } in z) ≡ record e { op = op }
+  by_op (LinkTimeout ticks) u = absurd (let z = u in cc)
+  by_op op u = refl
 
 -- the worker of r went on without an event of its own
 pub record Quiet (v m : View) (r : Req) : Type 0 where
@@ -157,17 +174,24 @@ module _ (table : TableId) (v w : View) (x g : ℕ) (r : Req) (p : Parcel) (pipe
       (subst (λ (z : Layout × List Line). Orderly z.0 z.1) (λ i. (sym same i, sym seen i)) e.orderly) (subst (λ (z : Layout × List Line). Legal (setup_of z.0) (events_of z.1)) (λ i. (sym same i, sym seen i)) e.legal)
 
   -- the entry that was placed, and its buffer
-  pub runs_placed : IsPlaced (events_of v.seen) r p.sqe
-  runs_placed = entry_placed v r [] p k.orderly k.parcel
+  pub runs_placed : IsPlaced (events_of v.seen) r (run_as p.sqe)
+  runs_placed = entry_run v r [] p k.legal k.orderly k.parcel
 
-  pub runs_entry : (e : Entry) → IsPlaced (events_of v.seen) r e → p.sqe ≡ e
-  runs_entry e is = entry_is v r [] p e k.orderly k.parcel is
+  pub runs_entry : (e : Entry) → IsPlaced (events_of v.seen) r e → run_as p.sqe ≡ e
+  runs_entry e is = let z = sym runs_placed ∙ is in cc
+
+  -- of an entry that names a pipe
+  pub piped_entry : (n : ℕ) → pipe_in p.sqe.op ≡ Some n → (e : Entry) → IsPlaced (events_of v.seen) r e → p.sqe ≡ e
+  piped_entry n named e is = sym (run_piped p.sqe n named) ∙ runs_entry e is
+
+  pub named_by : (n m : ℕ) → ((e : Entry) → IsPlaced (events_of v.seen) r e → (pipe_in e.op ≡ Some n) × (n < m)) → (pipe_in p.sqe.op ≡ Some n) × (n < m)
+  named_by n m f = let z = f (run_as p.sqe) runs_placed in (sym (run_named p.sqe.op) ∙ z.0, z.1)
 
   pub runs_fits : FitsOp p.sqe.op (length p.buffer.items)
   runs_fits = subst (λ (bytes : List ℕ). FitsOp p.sqe.op (length bytes)) (sym k.parcel.2) (fits_is (setup_of v.layout) (events_of v.seen) r _ k.legal k.parcel.1)
 
-  pub runs_served : is_served p.sqe.op ≡ true
-  runs_served = (serves_is v.layout v.seen r _ k.orderly k.parcel.1).0
+  pub runs_served : is_served (op_run p.sqe.op) ≡ true
+  runs_served = serves_is v.layout (setup_of v.layout) v.seen r _ (run_as p.sqe) k.legal k.orderly k.parcel.1 runs_placed
 
   -- the same with another parcel of the same entry and bytes
   pub runs_same : (c : Parcel) → c.sqe ≡ p.sqe → c.last ≡ p.last → c.buffer.items ≡ p.buffer.items → RunsIt table v x g r c pipes
@@ -184,10 +208,10 @@ module _ (table : TableId) (v w : View) (x g : ℕ) (r : Req) (p : Parcel) (pipe
 
   -- what a contract may say of the pipe that the entry names
   pub named_is : (n : ℕ) → pipe_in p.sqe.op ≡ Some n → n < pipes → (e : Entry) → IsPlaced (events_of v.seen) r e → (pipe_in e.op ≡ Some n) × (n < length v.layout.caps)
-  named_is n is lt e placed' = (ap (λ (d : Entry). pipe_in d.op) (sym (runs_entry e placed')) ∙ is, subst (λ (m : ℕ). n < m) (sym k.pipes_are.0) lt)
+  named_is n is lt e placed' = (ap (λ (d : Entry). pipe_in d.op) (sym (piped_entry n is e placed')) ∙ is, subst (λ (m : ℕ). n < m) (sym k.pipes_are.0) lt)
 
   pub past_is : IsPast (pipe_in p.sqe.op) pipes → (e : Entry) → IsPlaced (events_of v.seen) r e → names v.layout.caps (pipe_in e.op) ≡ false
-  past_is past e placed' = names_past v.layout.caps (pipe_in e.op) (subst (λ (z : Option ℕ × ℕ). IsPast z.0 z.1) (λ i. (pipe_in ((runs_entry e placed') i).op, sym k.pipes_are.0 i)) past)
+  past_is past e placed' = names_past v.layout.caps (pipe_in e.op) (subst (λ (z : Option ℕ × ℕ). IsPast z.0 z.1) (λ i. ((sym (run_named p.sqe.op) ∙ ap (λ (d : Entry). pipe_in d.op) (runs_entry e placed')) i, sym k.pipes_are.0 i)) past)
 
   -- it is still placed so once others went on
   pub placed_on : (l : Line) (role : Role) → Extends v l role w → (e : Entry) → IsPlaced (events_of v.seen) r e → IsPlaced (events_of w.seen) r e
@@ -226,23 +250,23 @@ module _ (table : TableId) (me : Seated) (x g : ℕ) (r : Req) (p : Parcel) (pip
   abbrev q : Req
   q = request_at me.0.layout.cells x g
 
-  may_by : (c : Parcel) (res : ℤ) (data' : List ℕ) → me.1 ≡ (slot_at x, Some (Full c)) ∷ rest me.1 → c.sqe ≡ p.sqe → c.last ≡ p.last → c.buffer.items ≡ over data' p.buffer.items
-      → OpAnswers me.0.layout.caps (events_of me.0.seen) r p.sqe.op res data' → ((n : ℕ) → is_pipe me.0.layout.caps n ≡ true → uses p.sqe.op n ≡ true → holder me.0.seen n ≡ Some r) → MayReply me x q p.sqe res data'
-  may_by c res data' out sqe last items answers has = subst (λ (z : Req). MayReply me x z p.sqe res data') (sym k.req_is) record {
-    placed_is = runs_placed table me.0 me.0 x g r p pipes k;
+  may_by : (c : Parcel) (e : Entry) (res : ℤ) (data' : List ℕ) → IsPlaced (events_of me.0.seen) r e → me.1 ≡ (slot_at x, Some (Full c)) ∷ rest me.1 → c.sqe ≡ p.sqe → c.last ≡ p.last → c.buffer.items ≡ over data' p.buffer.items
+      → OpAnswers me.0.layout.caps (events_of me.0.seen) r e.op res data' → ((n : ℕ) → is_pipe me.0.layout.caps n ≡ true → uses e.op n ≡ true → holder me.0.seen n ≡ Some r) → MayReply me x q e res data'
+  may_by c e res data' placed_is out sqe last items answers has = subst (λ (z : Req). MayReply me x z e res data') (sym k.req_is) record {
+    placed_is = placed_is;
     answers = answers;
     has = has;
     parcel = (c, out, (k.parcel.0, k.parcel.1 ∙ (λ i. Some (record { entry = sym sqe i; bytes = k.parcel.0; last = sym last i })), items ∙ ap (over data') k.parcel.2));
   }
 
   -- a request that names no pipe of the board
-  pub plain_may : (res : ℤ) → me.1 ≡ (slot_at x, Some (Full p)) ∷ rest me.1 → IsPast (pipe_in p.sqe.op) (length me.0.layout.caps) → OpAnswers me.0.layout.caps (events_of me.0.seen) r p.sqe.op res [] → MayReply me x q p.sqe res []
-  plain_may res out past answers = may_by p res [] out refl refl refl answers (λ n there u. absurd (past_unused p.sqe.op me.0.layout.caps n past there u))
+  pub plain_may : (res : ℤ) → me.1 ≡ (slot_at x, Some (Full p)) ∷ rest me.1 → IsPast (pipe_in (op_run p.sqe.op)) (length me.0.layout.caps) → OpAnswers me.0.layout.caps (events_of me.0.seen) r (op_run p.sqe.op) res [] → MayReply me x q (run_as p.sqe) res []
+  plain_may res out past answers = may_by p (run_as p.sqe) res [] (runs_placed table me.0 me.0 x g r p pipes k) out refl refl refl answers (λ n there u. absurd (past_unused (op_run p.sqe.op) me.0.layout.caps n past there u))
 
   -- a request whose pipe is in hand
   pub pipe_may : (c : Parcel) (n : ℕ) (res : ℤ) (data' : List ℕ) → me.1 ≡ (slot_at x, Some (Full c)) ∷ rest me.1 → c.sqe ≡ p.sqe → c.last ≡ p.last → c.buffer.items ≡ over data' p.buffer.items
       → OpAnswers me.0.layout.caps (events_of me.0.seen) r p.sqe.op res data' → pipe_in p.sqe.op ≡ Some n → holder me.0.seen n ≡ Some r → MayReply me x q p.sqe res data'
-  pipe_may c n res data' out sqe last items answers named has = may_by c res data' out sqe last items answers
+  pipe_may c n res data' out sqe last items answers named has = may_by c p.sqe res data' (subst (λ (e : Entry). IsPlaced (events_of me.0.seen) r e) (run_piped p.sqe n named) (runs_placed table me.0 me.0 x g r p pipes k)) out sqe last items answers
       (λ m there u. (let one : n ≡ m = (let z = sym named ∙ pipe_used p.sqe.op m u in cc) in subst (λ (z : ℕ). holder me.0.seen z ≡ Some r) one has))
 
   -- the pipe in hand is what the reply makes of it

@@ -1,6 +1,7 @@
 -- What a run does.
 use Rattle.std.specs.Prelude.{◌≡◌, ◌≢◌, ℕ, ◌<◌, Bool, true, false, ℤ, List, [], ◌∷◌, ◌++◌, length, Option, Some, None}
 use Rattle.entry.specs.declared.op.Op.{Op}
+use Rattle.entry.specs.declared.op.Op.TheVariants.{LinkTimeout, Invalid}
 use Rattle.entry.specs.Entry.{Entry}
 use Rattle.history.specs.declared.req.Req.{Req}
 use Rattle.history.specs.declared.event.Event.{Event}
@@ -22,6 +23,14 @@ use Rattle.work.specs.declared.run.Parked.TheVariants.{NotReady, PipeBusy}
 use Rattle.work.specs.declared.run.Ran.{Ran}
 use Rattle.work.specs.declared.run.Ran.TheVariants.{Replied, Parked}
 use Rattle.work.specs.Passes.{Pass, Running, seen_of, own_of}
+
+-- what a worker runs: of the LINK_TIMEOUTs those alone that have no target, and are placed as Invalid
+abbrev pub op_run : Op → Op
+op_run (LinkTimeout ticks) = Invalid
+op_run op = op
+
+abbrev pub run_as : Entry → Entry
+run_as e = record e { op = op_run e.op }
 
 -- the worker of r went on by one event of its own, the last that it has seen, and is idle
 pub record EndsBy (v w : View) (r : Req) (e : Event) : Type 0 where

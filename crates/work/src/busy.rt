@@ -14,10 +14,11 @@ ghost use Rattle.steps.specs.Rule.{Looks, Extends, IsStep};
 ghost use Rattle.work.specs.Board.{Facts, IsOf};
 
 use crate::holding::Holding;
+use crate::placed::{fails_placed, op_placed};
 use crate::run::{Parked, Ran};
 use crate::worker::Worker;
 use answers::{answer_without, pipe_of};
-use entry::{Cqe, Sqe, fails};
+use entry::{Cqe, Sqe};
 use history::Req;
 use std::marker::Model;
 use steps::layout::slot;
@@ -113,8 +114,8 @@ impl<'a> Busy<'a> {
             parcel,
             pipes,
         } = self;
-        let res = answer_without(parcel.sqe.op(), pipes as u64);
-        let fails = fails(&parcel.sqe, res);
+        let res = answer_without(op_placed(&parcel.sqe), pipes as u64);
+        let fails = fails_placed(&parcel.sqe, res);
         let cqe = Cqe {
             user_data: parcel.sqe.user_data(),
             res,

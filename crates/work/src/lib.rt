@@ -5,6 +5,7 @@ pub mod busy;
 pub mod grid;
 mod holding;
 pub mod pass;
+mod placed;
 pub mod run;
 pub mod worker;
 

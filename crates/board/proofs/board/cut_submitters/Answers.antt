@@ -4,7 +4,7 @@ use Rattle.steps.specs.declared.view.Role.TheVariants.{Submitter}
 use Rattle.work.specs.Grid.{AreCellCounts}
 use Rattle.work.specs.Passes.{Pass, pass_of}
 use Rattle.board.specs.New.{AreSubmitters, IsFresh}
-use Rattle.board.proofs.NewPasses.{submitters_more, cut_submitter, submitter_seat, submitter_fresh}
+use Rattle.board.proofs.NewPasses.{submitters_more, cut_submitter, submitter_seat, submitter_seen, submitter_fresh}
 use Rattle.board.proofs.board.cut_submitters.Goals as goal
 
 pub loop-ring-init : goal.loop-ring-init
@@ -16,8 +16,11 @@ next_submitter-cut-requires-clause-fits c = (c.loop-ring.invariant.0.table_is, c
 pub next_submitter-cut-requires-clause-poller : goal.next_submitter-cut-requires-clause-poller
 next_submitter-cut-requires-clause-poller c = let k = c.loop-ring.invariant.0 in let p = k.parts in let lt = c.loop-ring-test.true in let few = c.requires.cells.2 in ((c.loop-ring.ring, k.role), omega arith)
 
-pub new-requires : goal.new-requires
-new-requires c =
+pub new-requires-clause-fresh : goal.new-requires-clause-fresh
+new-requires-clause-fresh c = let e = c.next_submitter-cut.ensures in let k = c.loop-ring.invariant.0 in let p = k.parts in let lt = c.loop-ring-test.true in let few = c.requires.cells.2 in submitter_seen c.args.seat.now.me.0.layout c.args.words.now.table_id c.loop-ring.ring 0 c.loop-ring.seat c.next_submitter-cut.new.seat c.next_submitter-cut.result k e.seat.0 e.submitter.0 e.seat.1 e.submitter.1 (omega arith)
+
+pub new-requires-clause-seat : goal.new-requires-clause-seat
+new-requires-clause-seat c =
     let k = c.loop-ring.invariant.0 in let e = c.next_submitter-cut.ensures in let p = k.parts in let lt = c.loop-ring-test.true in let few = c.requires.cells.2 in let n = c.requires.cells.1 in
     submitter_seat c.args.seat.now.me.0.layout c.args.words.now.table_id c.loop-ring.ring 0 c.loop-ring.seat c.next_submitter-cut.new.seat c.next_submitter-cut.result k e.seat.0 e.submitter.0 e.seat.1 e.submitter.1 (omega arith) c.in_ok-ages.ages.items c.in_ok-facts.facts.items (subst AreCellCounts n c.requires.cells.0) (subst (λ (K : List ℕ). c.loop-ring.ring < length K) n (omega arith)) (search rules) (search rules)
 

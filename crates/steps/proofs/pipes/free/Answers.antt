@@ -1,9 +1,8 @@
-use Rattle.std.proofs.Common.{◌≡◌, ℕ, ◌+◌, refl, sym, ◌∙◌, subst, arith}
+use Rattle.std.proofs.Common.{◌≡◌, ℕ, sym, ◌∙◌, subst}
 use Rattle.std.proofs.lemmas.Bool.{lt-ltb}
 use Rattle.steps.specs.declared.line.Line.TheVariants.{Free}
 use Rattle.steps.specs.declared.view.Role.{Role}
 use Rattle.steps.specs.declared.view.Role.TheVariants.{Busy}
-use Rattle.steps.specs.Journal.{holder}
 use Rattle.steps.specs.Rule.{Extends, IsStep}
 use Rattle.steps.proofs.PipeSteps.{free_allows, bare_after}
 use Rattle.steps.proofs.pipes.free.Goals as goal

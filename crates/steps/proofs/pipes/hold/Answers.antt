@@ -1,4 +1,4 @@
-use Rattle.std.proofs.Common.{◌≡◌, ◌≢◌, ℕ, ◌+◌, Some, sym, refl, ap, ◌∙◌, subst, arith, eqb-true, eq-eqb}
+use Rattle.std.proofs.Common.{◌≡◌, ◌≢◌, ℕ, Some, sym, ap, ◌∙◌, subst, eqb-true, eq-eqb}
 use Rattle.history.specs.declared.req.Req.{Req}
 use Rattle.steps.specs.declared.line.Line.TheVariants.{Hold}
 use Rattle.steps.specs.declared.view.Role.{Role}

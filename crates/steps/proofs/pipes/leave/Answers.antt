@@ -1,4 +1,4 @@
-use Rattle.std.proofs.Common.{◌≡◌, ℕ, ◌+◌, refl, subst, arith}
+use Rattle.std.proofs.Common.{◌≡◌, ℕ, subst}
 use Rattle.std.proofs.lemmas.Bool.{lt-ltb}
 use Rattle.steps.specs.Rule.{leaves}
 use Rattle.steps.proofs.PipeSteps.{leave_allows}

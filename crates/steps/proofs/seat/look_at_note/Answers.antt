@@ -1,10 +1,11 @@
-use Rattle.std.proofs.Common.{ℕ, List, subst, arith, sym, ap, ◌∙◌}
+use Rattle.std.proofs.Common.{ℕ, List, subst, arith, sym, ap}
 use Rattle.steps.specs.declared.line.Line.{Line}
 use Rattle.steps.specs.declared.view.View.{View}
 use Rattle.steps.specs.Cells.{setup_of}
-use Rattle.steps.specs.Fairness.{NotesTell}
+use Rattle.steps.specs.Fairness.{NotesTell, FactsTell}
 use Rattle.steps.specs.Rule.{IsStep}
 use Rattle.steps.proofs.NotesKept.{notes_tell}
+use Rattle.steps.proofs.FactsKept.{facts_tell}
 use Rattle.steps.proofs.LoadReleaseBegin.{notice_allows}
 use Rattle.steps.proofs.seat.look_at_note.Goals as goal
 
@@ -20,3 +21,7 @@ returns-clause-tells c = let f = c.requires.fits in let x = c.load.ensures.2.0 i
 
 pub returns-clause-step : goal.returns-clause-step
 returns-clause-step c = subst (λ (i : ℕ). IsStep i c.load.result c.args.seat.now.me.0 c.load.new.seat.me.0) c.note_word.ensures c.load.ensures.2.3
+
+pub returns-clause-facts : goal.returns-clause-facts
+returns-clause-facts c = let f = c.requires.fits in let x = c.load.ensures.2.0 in let v : View = c.args.seat.now.me.0 in
+    subst (λ (j : List Line). FactsTell v.layout.cells j c.args.cell) (sym (ap (λ (z : View). z.seen) x.is)) (facts_tell v.layout (setup_of v.layout) x.now c.args.cell f.2 x.legal x.orderly)

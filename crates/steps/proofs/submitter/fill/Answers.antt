@@ -1,24 +1,20 @@
-use Rattle.std.proofs.Common.{ℕ, ◌≡◌, ◌+◌, ◌*◌, ◌∷◌, Some, None, sym, refl, ap, ◌∙◌, subst, arith}
+use Rattle.std.proofs.Common.{ℕ, ◌∷◌, Some, None, sym, ap, ◌∙◌, subst, arith}
 use Rattle.atomic_table.specs.Table.{rest}
-use Rattle.claim.specs.Facts.{bit}
-use Rattle.entry.specs.Entry.{drains, links_soft, links_hard}
 use Rattle.history.specs.declared.req.Req.{Req}
 use Rattle.steps.specs.declared.line.Line.TheVariants.{Lent}
 use Rattle.steps.specs.declared.parcel.Thing.TheVariants.{Full}
 use Rattle.steps.specs.declared.view.View.{View}
 use Rattle.steps.specs.declared.view.Role.TheVariants.{Lending}
 use Rattle.steps.specs.Cells.{slot_at, facts_at, request_at}
-use Rattle.steps.specs.Notes.{row_number, ticks_in, etime_in}
 use Rattle.steps.specs.Rule.{Extends, IsStep}
 use Rattle.steps.proofs.StepKinds.{in_hand}
 use Rattle.steps.proofs.Notes.{open_allows}
 use Rattle.steps.proofs.submitter.fill.Goals as goal
 
 pub store-requires : goal.store-requires
-store-requires c = let f = c.requires.fits in let s = c.requires.submitter in let e = c.args.parcel.sqe in
-    let n : ℕ = row_number e.op + 16 * bit (drains e) + 32 * bit (links_soft e) + 64 * bit (links_hard e) + 128 * bit c.args.parcel.last + 256 * bit (etime_in e.op) + 512 * ticks_in e.op in
-    let value : c.facts-facts.result ≡ c.args.generation + 16777216 * n = c.facts-facts.ensures ∙ omega arith in
-    rw c.note_word.ensures (f.0, omega arith, open_allows _ _ c.args.seat.now.me c.args.cell c.args.generation s.0 s.1 f.2 c.requires.small _ _ n value c.requires.free c.requires.home)
+store-requires c = let f = c.requires.fits in let s = c.requires.submitter in
+    let g = c.facts-facts.ensures.generation in
+    rw c.note_word.ensures (f.0, omega arith, open_allows _ _ c.args.seat.now.me c.args.cell c.args.generation s.0 s.1 f.2 c.requires.small _ _ g.0 g.1 c.requires.free c.requires.home)
 
 pub exchange-requires : goal.exchange-requires
 exchange-requires c = let f = c.requires.fits in let t = (c.store.ensures.2 c.args.cell c.args.generation c.note_word.ensures f.2 c.requires.free).0 in

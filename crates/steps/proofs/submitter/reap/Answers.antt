@@ -1,4 +1,4 @@
-use Rattle.std.proofs.Common.{ℕ, ◌<◌, ◌≡◌, ◌∷◌, None, sym, refl, ap, ◌∙◌, subst, arith}
+use Rattle.std.proofs.Common.{ℕ, ◌<◌, ◌≡◌, ◌∷◌, None, Bool, true, cond, sym, refl, ap, ◌∙◌, subst}
 use Rattle.atomic_table.specs.Table.{rest}
 use Rattle.history.specs.declared.req.Req.{Req}
 use Rattle.history.specs.declared.event.Event.TheVariants.{Reap}
@@ -6,7 +6,9 @@ use Rattle.history.specs.History.{data_of}
 use Rattle.steps.specs.declared.line.Line.TheVariants.{Did}
 use Rattle.steps.specs.declared.view.Layout.{Layout}
 use Rattle.steps.specs.declared.view.Role.TheVariants.{Submitter, Lending}
-use Rattle.steps.specs.Journal.{events_of}
+use Rattle.steps.specs.Journal.{events_of, lent}
+use Rattle.history.proofs.Requests.{same_itself}
+use Rattle.steps.specs.declared.view.View.{View}
 use Rattle.steps.specs.Cells.{slot_at, request_at, ring_of}
 use Rattle.steps.specs.Rule.{Extends, IsDone}
 use Rattle.steps.proofs.ViewsKept.{layout_after, role_after, parts_after, replied_after, placed_after, fits_after, submitter_can, parcel_after}
@@ -28,6 +30,7 @@ reap_emptied-requires c = let s = c.requires.submitter in let v = c.args.seat.no
         bits_are = d.bits_are;
         word_is = d.word_is;
       };
+      out = subst (λ (M : Layout). lent w.seen (request_at M.cells c.args.cell c.args.generation) ≡ true) (sym layout) (ap (λ (z : View). lent z.seen r) x.is ∙ ap (λ (b : Bool). cond b true (lent x.mid r)) (same_itself r));
       emptied = c.empty-parcel.ensures.seat.1 ∙ ap (λ cs. (slot_at c.args.cell, None) ∷ rest cs) (sym c.empty-parcel.ensures.seat.1);
     }
 

@@ -1,4 +1,4 @@
-use Rattle.std.proofs.Common.{ℕ, refl, ap, subst, ◌∙◌, arith, add-one}
+use Rattle.std.proofs.Common.{ℕ, ap, subst, ◌∙◌, arith, add-one}
 use Rattle.claim.specs.declared.tag.Tag.TheVariants.{Empty}
 use Rattle.steps.specs.Cells.{word_of}
 use Rattle.steps.specs.Rule.{IsStep}
@@ -9,7 +9,7 @@ use Rattle.steps.proofs.submitter.reap_emptied.Goals as goal
 
 pub compare_exchange-requires : goal.compare_exchange-requires
 compare_exchange-requires c = let f = c.requires.fits in let s = c.requires.submitter in let d = c.requires.done in
-    rw c.claim_word.ensures (f.0, omega arith, reap_allows _ _ c.args.seat.now.me c.args.cell c.args.generation s.0 s.1 f.2 _ d.bits _ _ d.cause d.res d.entry (omega arith) (bits_fit d.res d.bits d.bits_are) d.placed_is d.word_is (c.empty-empty.ensures ∙ ap (λ (z : ℕ). word_of Empty 0 z 0) (add-one c.args.generation)) d.replied_is d.bits_are c.requires.emptied)
+    rw c.claim_word.ensures (f.0, omega arith, reap_allows _ _ c.args.seat.now.me c.args.cell c.args.generation s.0 s.1 f.2 _ d.bits _ _ d.cause d.res d.entry (omega arith) (bits_fit d.res d.bits d.bits_are) d.placed_is d.word_is (c.empty-empty.ensures ∙ ap (λ (z : ℕ). word_of Empty 0 z 0) (add-one c.args.generation)) d.replied_is c.requires.out d.bits_are c.requires.emptied)
 
 pub returns : goal.returns
 returns c = let f = c.requires.fits in let q = c.requires.done in let d = c.compare_exchange.ensures.2.1 c.args.cell _ c.args.generation q.bits c.claim_word.ensures f.2 (cause_fits q.cause _) (omega arith) (bits_fit q.res q.bits q.bits_are) q.word_is in

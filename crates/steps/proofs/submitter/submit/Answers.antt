@@ -1,17 +1,19 @@
-use Rattle.std.proofs.Common.{ℕ, ◌<◌, ◌≡◌, ◌∷◌, Some, true, cond, sym, refl, ap, ◌∙◌, subst, eq-eqb, ne_eqb, arith, Bool}
+use Rattle.std.proofs.Common.{ℕ, ◌<◌, ◌≡◌, ◌∷◌, Option, Some, true, cond, sym, refl, ap, ◌∙◌, subst, eq-eqb, ne_eqb, arith, Bool}
 use Rattle.atomic_table.specs.Table.{rest}
 use Rattle.history.specs.declared.req.Req.{Req}
 use Rattle.history.specs.declared.event.Event.TheVariants.{Submit}
-use Rattle.history.specs.History.{submits}
-use Rattle.steps.specs.declared.line.Line.TheVariants.{Did, Lent, Noted}
+use Rattle.history.specs.History.{Submission, submits}
+use Rattle.history.specs.Chains.{before_in, placed_behind}
+use Rattle.steps.specs.declared.line.Line.TheVariants.{Did, Noted}
 use Rattle.steps.specs.declared.parcel.Thing.TheVariants.{Full}
 use Rattle.steps.specs.declared.view.Layout.{Layout}
 use Rattle.steps.specs.declared.view.Role.{Role}
 use Rattle.steps.specs.declared.view.Role.TheVariants.{Submitter, Lending}
-use Rattle.steps.specs.Journal.{events_of, noted}
+use Rattle.steps.specs.Journal.{events_of, noted, Serves}
+use Rattle.steps.specs.Notes.{facts_of}
 use Rattle.steps.specs.Cells.{IsCell, slot_at, request_at, ring_of, facts_at, user_at}
 use Rattle.steps.specs.Rule.{Extends, Vacant}
-use Rattle.steps.proofs.ViewsKept.{layout_after, role_after, parts_after, submits_after, noted_after, vacant_after, fits_after, submitter_can, lender_can}
+use Rattle.steps.proofs.ViewsKept.{layout_after, role_after, parts_after, submits_after, noted_after, before_after, vacant_after, fits_after, submitter_can, lender_can}
 use Rattle.steps.proofs.submitter.submit.Goals as goal
 
 pub note_user_data-requires : goal.note_user_data-requires
@@ -35,14 +37,15 @@ submit_filled-requires c = let f = c.requires.fits in let s = c.requires.submitt
     let free' : Vacant w.layout.cells w.seen cell g = subst (λ (M : Layout). Vacant M.cells w.seen cell g) (sym layout) (vacant_after v w _ _ (λ j. refl) x cell g first c.requires.free) in
     let next' : (request_at v.layout.cells cell g).k ≡ submits (events_of u.seen) (ring_of v.layout.cells cell) = c.requires.next ∙ (sym (submits_after v w _ _ (λ j. refl) x (ring_of v.layout.cells cell) first) ∙ sym (submits_after w u _ _ (λ j. refl) y (ring_of v.layout.cells cell) second)) in
     let facts = noted_after w u _ _ (λ j. refl) y cell 0 (omega arith) inside' second' ∙ (ap (λ (b : Bool). cond b c.user_data-user_data.result (noted w.seen (facts_at cell))) (ne_eqb (user_at cell) (facts_at cell) (λ e. omega arith))
-    ∙ (noted_after v w _ _ (λ j. refl) x cell 0 (omega arith) f.2 first ∙ (ap (λ (b : Bool). cond b c.fill-facts.result (noted v.seen (facts_at cell))) (eq-eqb (facts_at cell) (facts_at cell) refl) ∙ c.fill-facts.ensures.facts))) in
+    ∙ (noted_after v w _ _ (λ j. refl) x cell 0 (omega arith) f.2 first ∙ (ap (λ (b : Bool). cond b c.fill-facts.result (noted v.seen (facts_at cell))) (eq-eqb (facts_at cell) (facts_at cell) refl) ∙ c.fill-facts.ensures.facts (before_in (events_of v.seen) r) c.requires.hosted))) in
+    let before : before_in (events_of u.seen) (request_at u.layout.cells cell g) ≡ before_in (events_of v.seen) r = ap (λ (M : Layout). before_in (events_of u.seen) (request_at M.cells cell g)) both ∙ (before_after w u _ _ (λ j. refl) y r second ∙ before_after v w _ _ (λ j. refl) x r first) in
     let user = noted_after w u _ _ (λ j. refl) y cell 1 (omega arith) inside' second' ∙ (ap (λ (b : Bool). cond b c.user_data-user_data.result (noted w.seen (user_at cell))) (eq-eqb (user_at cell) (user_at cell) refl) ∙ c.user_data-user_data.ensures) in record {
       fits = fits_after _ c.fill-facts.new.seat c.note_user_data.new.seat _ _ cell y c.note_user_data.ensures.seat.0.0 (fits_after _ c.args.seat.now c.fill-facts.new.seat _ _ cell x c.fill-facts.ensures.seat.0.0 f);
       small = c.requires.small;
       submitter = (subst (λ (M : Layout). u.role ≡ Lending (request_at M.cells cell g)) (sym both) (role_after w u _ _ y ∙ role), subst (λ (n : ℕ). 0 < n) (sym (parts_after w u _ _ y ∙ parts_after v w _ _ x)) s.1);
       free = subst (λ (M : Layout). Vacant M.cells u.seen cell g) (sym same') (vacant_after w u _ _ (λ j. refl) y cell g second' free');
       next = subst (λ (M : Layout). (request_at M.cells cell g).k ≡ submits (events_of u.seen) (ring_of M.cells cell)) (sym both) next';
-      filled = (p, (c.note_user_data.ensures.seat.1 ∙ c.fill-facts.ensures.seat.1) ∙ ap (λ cs. (slot_at cell, Some (Full p)) ∷ rest cs) (sym (c.note_user_data.ensures.seat.1 ∙ c.fill-facts.ensures.seat.1)), c.requires.served.0, c.requires.served.1, facts, user);
+      filled = (p, (c.note_user_data.ensures.seat.1 ∙ c.fill-facts.ensures.seat.1) ∙ ap (λ cs. (slot_at cell, Some (Full p)) ∷ rest cs) (sym (c.note_user_data.ensures.seat.1 ∙ c.fill-facts.ensures.seat.1)), subst (λ (b : Option Submission). Serves b p.sqe) (sym before) c.requires.served.0, c.requires.served.1, facts ∙ ap (λ (b : Option Submission). facts_of g (placed_behind b p.sqe) p.last) (sym before), user);
     }
 
 pub returns : goal.returns
@@ -53,7 +56,7 @@ returns c = let v = c.args.seat.now.me.0 in let w = c.fill-facts.new.seat.me.0 i
     let bare = c.note_user_data.ensures.seat.1 ∙ c.fill-facts.ensures.seat.1 in let out = bare ∙ ap (λ cs. (slot_at cell, Some (Full p)) ∷ rest cs) (sym bare) in
     let y' : Extends w (Noted r (user_at cell) p.sqe.user_data) (Lending r) u = subst (λ (z : Req × ℕ × Role). Extends w (Noted z.0 (user_at cell) z.1) z.2 u) (λ i. (request_at ((layout i).cells) cell g, c.user_data-user_data.ensures i, role i)) y in
     let z' = subst (λ (M : Layout). Extends u (Did (Submit (request_at M.cells cell g) p.sqe p.buffer.items p.last)) (Submitter (ring_of M.cells cell)) t) (same' ∙ layout) (c.submit_filled.ensures.submits p out) in record {
-      facts = c.fill-facts.ensures.facts;
+      facts = c.fill-facts.ensures.facts (before_in (events_of v.seen) r) c.requires.hosted;
       seat = ((c.submit_filled.ensures.seat.0.0 ∙ (c.note_user_data.ensures.seat.0.0 ∙ c.fill-facts.ensures.seat.0.0), c.submit_filled.ensures.seat.0.1 ∙ (c.note_user_data.ensures.seat.0.1 ∙ c.fill-facts.ensures.seat.0.1)), c.submit_filled.ensures.seat.1 ∙ ap rest bare);
       submits = (w, x, (u, y', z'));
       steps = (w, c.fill-facts.ensures.step, (u, c.note_user_data.ensures.step, (_, c.submit_filled.ensures.step)));

@@ -1,4 +1,4 @@
-use Rattle.std.proofs.Common.{◌≡◌, ◌≤◌, ◌+◌, ◌*◌, ℕ, List, Option, length, refl, sym, ap, ◌∙◌, subst, arith}
+use Rattle.std.proofs.Common.{◌≡◌, ◌≤◌, ◌+◌, ◌*◌, ℕ, List, [], Option, length, refl, sym, ap, ◌∙◌, subst, arith}
 use Rattle.atomic_table.specs.Table.{Me}
 use Rattle.steps.specs.declared.parcel.Thing.{Thing}
 use Rattle.steps.specs.declared.view.View.{View}
@@ -10,6 +10,8 @@ use Rattle.work.specs.Board.{Facts}
 use Rattle.work.specs.Passes.{Pass, pass_of}
 use Rattle.board.specs.Limits.{counts}
 use Rattle.board.specs.New.{IsCutting, IsFresh}
+use Rattle.board.specs.Rows.{KnowsRows}
+use Rattle.steps.specs.declared.line.Line.{Line}
 use Rattle.board.proofs.ShapeBounds.{shape_says}
 use Rattle.board.proofs.NewPasses.{cut_all, poller_fresh}
 use Rattle.board.proofs.board.Board.new.Goals as goal
@@ -49,12 +51,26 @@ invariant_of-board c = let s = shape_says c.args.shape.now (sym c.if-not-is_shap
       ap (λ (caps : List ℕ). length caps) e.3 ∙ (sym c.args.shape.now.pipes.ok.0 ∙ sym c.len.ensures),
     )
 
-pub new-requires-2 : goal.new-requires-2
-new-requires-2 c = let s = shape_says c.args.shape.now (sym c.if-not-is_shape.ensures) in let e = c.in_ok-table.ensures in
+pub new-requires-2-clause-seat : goal.new-requires-2-clause-seat
+new-requires-2-clause-seat c = let s = shape_says c.args.shape.now (sym c.if-not-is_shape.ensures) in let e = c.in_ok-table.ensures in
     let items : c.in_ok-cells.cells.items ≡ counts c.args.shape.now.rings.items = c.in_ok-cells.ensures ∙ ap counts c.as_slice.ensures.value in
     let first : c.in_ok-table.seat.me.0.layout.cells ≡ counts c.args.shape.now.rings.items = ap (λ (m : Me (Option Thing) View). m.0.layout.cells) e.1 ∙ items in
     let k = cut_all c.in_ok-table.seat.me.0.layout c.in_ok-table.table.shared.table_id (length c.in_ok-grid.grid) c.args.shape.now.workers c.cut_submitters.new.seat c.cut_workers.new.seat c.in_ok-submitters.ensures.seat c.in_ok-workers.ensures.seat in let grid : c.in_ok-grid.grid ≡ counts c.args.shape.now.rings.items = c.in_ok-grid.ensures ∙ (c.as_slice-2.ensures.value ∙ items) in let n : length c.in_ok-grid.grid ≡ length c.args.shape.now.rings.items = ap (λ (K : List ℕ). length K) grid ∙ s.long in
     record { role = k.role ∙ ap Poller (n ∙ (sym s.long ∙ (sym (ap (λ (K : List ℕ). length K) first) ∙ sym (ap (λ (L : Layout). length L.cells) k.layout_is)))); bare = k.bare }
+
+pub rows_of-requires : goal.rows_of-requires
+rows_of-requires c = let s = shape_says c.args.shape.now (sym c.if-not-is_shape.ensures) in
+    let grid : c.in_ok-grid.grid ≡ counts c.args.shape.now.rings.items = c.in_ok-grid.ensures ∙ (c.as_slice-2.ensures.value ∙ (c.in_ok-cells.ensures ∙ ap counts c.as_slice.ensures.value)) in let r = s.rings in let l = s.long in let g = ap (λ (K : List ℕ). length K) grid in
+    (subst AreCellCounts (sym grid) s.cells.0, omega arith)
+
+pub new-requires-2-clause-rows : goal.new-requires-2-clause-rows
+new-requires-2-clause-rows c = let e = c.in_ok-table.ensures in
+    let items : c.in_ok-cells.cells.items ≡ counts c.args.shape.now.rings.items = c.in_ok-cells.ensures ∙ ap counts c.as_slice.ensures.value in
+    let first : c.in_ok-table.seat.me.0.layout.cells ≡ counts c.args.shape.now.rings.items = ap (λ (m : Me (Option Thing) View). m.0.layout.cells) e.1 ∙ items in
+    let grid : c.in_ok-grid.grid ≡ counts c.args.shape.now.rings.items = c.in_ok-grid.ensures ∙ (c.as_slice-2.ensures.value ∙ items) in
+    let k = cut_all c.in_ok-table.seat.me.0.layout c.in_ok-table.table.shared.table_id (length c.in_ok-grid.grid) c.args.shape.now.workers c.cut_submitters.new.seat c.cut_workers.new.seat c.in_ok-submitters.ensures.seat c.in_ok-workers.ensures.seat in
+    let cells : c.in_ok-grid.grid ≡ c.cut_workers.new.seat.me.0.layout.cells = grid ∙ (sym first ∙ sym (ap (λ (L : Layout). L.cells) k.layout_is)) in
+    subst (λ (j : List Line). KnowsRows c.cut_workers.new.seat.me.0.layout.cells j c.in_ok-rows.rows.items) (sym k.seen) (subst (λ (K : List ℕ). KnowsRows K [] c.in_ok-rows.rows.items) cells c.in_ok-rows.ensures.rows)
 
 pub returns-clause-new : goal.returns-clause-new
 returns-clause-new c = let s = shape_says c.args.shape.now (sym c.if-not-is_shape.ensures) in let e = c.in_ok-table.ensures in

@@ -1,88 +1,66 @@
-use Rattle.std.proofs.Common.{◌≡◌, ◌≢◌, ℕ, ◌*◌, ◌/◌, ◌<◌, ◌≤◌, List, [], ◌∷◌, true, refl, sym, ap, ◌∙◌, subst, arith, w32}
-use Rattle.std.proofs.Math.Facts.{Fits-of_lt}
+use Rattle.std.proofs.Common.{◌≡◌, ℕ, ◌+◌, ◌/◌, ◌<◌, ◌≤◌, List, [], ◌∷◌, true, length, refl, sym, ap, ◌∙◌, subst, arith}
 use Rattle.history.specs.declared.req.Req.{Req}
 use Rattle.history.specs.declared.event.Event.TheVariants.{Submit}
+use Rattle.history.specs.History.{submits}
+use Rattle.history.specs.Chains.{before_in}
 use Rattle.history.specs.Legal.{Fits, FitsOp}
-use Rattle.steps.specs.declared.line.Line.TheVariants.{Did, Lent, Noted}
-use Rattle.steps.specs.declared.view.Layout.{Layout}
-use Rattle.steps.specs.declared.view.Role.TheVariants.{Submitter, Lending}
-use Rattle.steps.specs.Cells.{IsCell, request_at, place_of, cells_in, facts_at, user_at}
+use Rattle.steps.specs.declared.view.Role.TheVariants.{Submitter}
+use Rattle.steps.specs.Cells.{cells_in}
 use Rattle.steps.specs.Fairness.{IsFree}
 use Rattle.steps.specs.Journal.{Serves}
-use Rattle.steps.specs.Rule.{Shown, ExtendsThrice}
-use Rattle.work.specs.Board.{Facts}
-use Rattle.work.specs.Passes.{seen_of}
-use Rattle.board.specs.Calls.{next_of, Goes, Stepped}
-use Rattle.board.proofs.GoesLaws.{goes_looked, goes_still, goes_thrice}
-use Rattle.board.proofs.PassFacts.{stepped_once, took_three}
-use Rattle.board.proofs.Submitting.{gen_small, next_cell, full, free_then, generation_is}
+use Rattle.work.specs.Board.{Facts, IsBoard}
+use Rattle.work.proofs.GridRows.{counts_at}
+use Rattle.steps.specs.declared.view.Layout.{Layout}
+use Rattle.work.specs.Passes.{Pass, seen_of, Took}
+use Rattle.work.proofs.RunsKept.{took_both}
+use Rattle.board.specs.Batches.{IsServed}
+use Rattle.board.specs.Calls.{Goes, next_of}
+use Rattle.board.specs.Lanes.{nth, RefusesRoom}
+use Rattle.board.proofs.GoesLaws.{goes_then}
+use Rattle.board.proofs.LaneWalks.{watched_took}
+use Rattle.board.proofs.LaneSeats.{watched_submits, watched_before}
+use Rattle.board.proofs.Submitting.{goes_watched, free_then, entry_reason}
 use Rattle.board.proofs.board.Board.submit.Goals as goal
 
-pub overflow_cast-generation : goal.overflow_cast-generation
-overflow_cast-generation c = let b = c.args.self.now in let p = c.args.submitter.now in let s = c.in-Some.spot in let n = c.next_request-req.ensures in let i = c.next_request-req.result.ring in
-    let grid : c.self.inside.grid ≡ b.layout.cells = ap (λ (z : Facts). z.layout.cells) c.self.view_is in
-    let inside : IsCell b.layout.cells s.cell = subst (λ (K : List ℕ). IsCell K s.cell) grid c.in-Some.ensures.some.0 in
-    let at : request_at b.layout.cells s.cell s.generation ≡ next_of p i = subst (λ (K : List ℕ). request_at K s.cell s.generation ≡ next_of p i) grid (c.in-Some.ensures.some.1 ∙ n.next) in
-    let few : (next_of p i).k ≤ 16777215 * cells_in b.layout.cells i = subst (λ (L : Layout). (next_of p i).k ≤ 16777215 * cells_in L.cells i) c.requires.layout_is (subst (λ (r : Req). r.k ≤ 16777215 * cells_in p.view.layout.cells i) n.next n.few) in
-    let small' : s.generation < 16777216 = gen_small b.layout.cells s.cell s.generation inside (subst (λ (r : Req). r.k ≤ 16777215 * cells_in b.layout.cells r.ring) (sym at) few) in
-    Fits-of_lt {w = w32} {n = s.generation} (omega arith)
+pub returns-in-Err-clause-refused : goal.returns-in-Err-clause-refused
+returns-in-Err-clause-refused c = let b : Facts = c.args.self.now in let p : Pass = c.args.submitter.now in let m : Pass = c.room.new.self in let r = c.in-Err.ensures in let go : Goes b p [] m = goes_watched b p m r.looks.0 c.requires r.table r.looks.2 in (go, refl)
 
-pub returns-then-not-is_free-clause-refused : goal.returns-then-not-is_free-clause-refused
-returns-then-not-is_free-clause-refused c = let e = c.look_at.ensures in (goes_looked c.args.self.now c.args.submitter.now c.look_at.new.self c.requires e.table e.looks, refl)
-
-pub returns-then-not-is_free-clause-reason : goal.returns-then-not-is_free-clause-reason
-returns-then-not-is_free-clause-reason c = let e = c.look_at.ensures in let b = c.args.self.now in let p = c.args.submitter.now in let m = c.look_at.new.self in let s = c.in-Some.spot in let n = c.next_request-req.ensures in let i = c.next_request-req.result.ring in
+pub returns-in-Err-clause-reason : goal.returns-in-Err-clause-reason
+returns-in-Err-clause-reason c = λ ring role. let b : Facts = c.args.self.now in let p : Pass = c.args.submitter.now in let m : Pass = c.room.new.self in let r = c.in-Err.ensures in let go : Goes b p [] m = goes_watched b p m r.looks.0 c.requires r.table r.looks.2 in
     let grid : c.self.inside.grid ≡ b.layout.cells = ap (λ (z : Facts). z.layout.cells) c.self.view_is in
-    let inside : IsCell b.layout.cells s.cell = subst (λ (K : List ℕ). IsCell K s.cell) grid c.in-Some.ensures.some.0 in
-    let at : request_at b.layout.cells s.cell s.generation ≡ next_of p i = subst (λ (K : List ℕ). request_at K s.cell s.generation ≡ next_of p i) grid (c.in-Some.ensures.some.1 ∙ n.next) in
-    let cell = next_cell b p i s.cell s.number s.generation c.requires n.role inside (subst (λ (K : List ℕ). s.number ≡ place_of K s.cell) grid c.in-Some.ensures.number) at in
-    let served = c.is_served.ensures.0 c.if-not-is_served.false in let fits : Fits c.args.sqe c.args.buffer.items = subst (λ (z : ℕ). FitsOp c.args.sqe.op z) (c.len.ensures ∙ c.args.buffer.ok.0) (c.fits_length.ensures.0 c.if-not-fits_length.false) in
-    λ ring role'. (let r = n.role in let same' : i ≡ ring = cc in
-    subst (λ (z : ℕ). (Serves c.args.sqe true × Fits c.args.sqe c.args.buffer.items) × (¬ IsFree b.layout.cells (seen_of m) (next_of p z)) × Stepped b.layout.cells (next_of p z) p m) same'
-    ((served, fits), full b p m c.requires e.table e.looks i n.role s.cell s.generation inside at c.look_at.result e.shown (c.is_free.ensures.taken c.if-not-is_free.true s.cell cell), stepped_once b.layout.cells (next_of p i) p m s.cell s.generation c.look_at.result inside at e.step (subst (λ (L : Layout). Shown L.cells m.view.seen s.cell c.look_at.result) c.requires.layout_is e.shown)))
+    let served : Serves (before_in (seen_of p) (next_of p ring)) c.args.sqe = subst (λ (z : _). IsServed z c.args.sqe) (c.is_hosted.ensures.hosted ring role) (c.is_served.ensures.0 c.if-not-is_served.false) in
+    let fits : Fits c.args.sqe c.args.buffer.items = subst (λ (z : ℕ). FitsOp c.args.sqe.op z) (c.len.ensures ∙ c.args.buffer.ok.0) (c.fits_length.ensures.0 c.if-not-fits_length.false) in
+    entry_reason b c.args.sqe c.args.buffer.items ring (submits (seen_of p) ring) p m c.in-Err.error (counts_at b.layout.cells ring (subst IsBoard c.self.view_is c.self.invariant.0).cells.0 (subst (λ (L : Layout). ring < length L.cells) c.requires.layout_is (c.is_hosted.ensures.there ring role))).0 (served, fits)
+    (subst (λ (K : List ℕ). RefusesRoom K ring (submits (seen_of p) ring) 1 p m c.in-Err.error) grid (r.refused ring role))
 
-pub returns-then-generation-eq-LAST_GENERATION-clause-reason : goal.returns-then-generation-eq-LAST_GENERATION-clause-reason
-returns-then-generation-eq-LAST_GENERATION-clause-reason c = let b = c.args.self.now in let p = c.args.submitter.now in let s = c.in-Some.spot in let n = c.next_request-req.ensures in let i = c.next_request-req.result.ring in
-    let grid : c.self.inside.grid ≡ b.layout.cells = ap (λ (z : Facts). z.layout.cells) c.self.view_is in
-    let inside : IsCell b.layout.cells s.cell = subst (λ (K : List ℕ). IsCell K s.cell) grid c.in-Some.ensures.some.0 in
-    let at : request_at b.layout.cells s.cell s.generation ≡ next_of p i = subst (λ (K : List ℕ). request_at K s.cell s.generation ≡ next_of p i) grid (c.in-Some.ensures.some.1 ∙ n.next) in
-    let cell = next_cell b p i s.cell s.number s.generation c.requires n.role inside (subst (λ (K : List ℕ). s.number ≡ place_of K s.cell) grid c.in-Some.ensures.number) at in
-    let served = c.is_served.ensures.0 c.if-not-is_served.false in let fits : Fits c.args.sqe c.args.buffer.items = subst (λ (z : ℕ). FitsOp c.args.sqe.op z) (c.len.ensures ∙ c.args.buffer.ok.0) (c.fits_length.ensures.0 c.if-not-fits_length.false) in
-    let free = c.is_free.ensures.free c.if-not-is_free.false s.cell cell in
-    λ ring role'. (let r = n.role in let same' : i ≡ ring = cc in
-    subst (λ (z : ℕ). (Serves c.args.sqe true × Fits c.args.sqe c.args.buffer.items) × IsFree b.layout.cells (seen_of p) (next_of p z) × ((next_of p z).k / cells_in b.layout.cells z ≡ 16777215)) same'
-    ((served, fits), subst (λ (r : Req). IsFree b.layout.cells (seen_of p) r) at (free_then b p c.requires s.cell s.generation inside free [] p (goes_still b p c.requires)), subst (λ (r : Req). r.k / cells_in b.layout.cells r.ring ≡ 16777215) at (generation_is b.layout.cells s.cell s.generation inside ∙ c.if-generation-eq-LAST_GENERATION.true)))
+pub submit_next-requires-clause-of : goal.submit_next-requires-clause-of
+submit_next-requires-clause-of c = let b : Facts = c.args.self.now in let p : Pass = c.args.submitter.now in let m : Pass = c.room.new.self in let r = c.in_default.ensures in let go : Goes b p [] m = goes_watched b p m r.looks.0 c.requires r.table r.looks.2 in go.kept
 
-pub submit-requires-clause-small : goal.submit-requires-clause-small
-submit-requires-clause-small c = let b = c.args.self.now in let p = c.args.submitter.now in let s = c.in-Some.spot in let n = c.next_request-req.ensures in let i = c.next_request-req.result.ring in
-    let grid : c.self.inside.grid ≡ b.layout.cells = ap (λ (z : Facts). z.layout.cells) c.self.view_is in
-    let inside : IsCell b.layout.cells s.cell = subst (λ (K : List ℕ). IsCell K s.cell) grid c.in-Some.ensures.some.0 in
-    let at : request_at b.layout.cells s.cell s.generation ≡ next_of p i = subst (λ (K : List ℕ). request_at K s.cell s.generation ≡ next_of p i) grid (c.in-Some.ensures.some.1 ∙ n.next) in
-    let few : (next_of p i).k ≤ 16777215 * cells_in b.layout.cells i = subst (λ (L : Layout). (next_of p i).k ≤ 16777215 * cells_in L.cells i) c.requires.layout_is (subst (λ (r : Req). r.k ≤ 16777215 * cells_in p.view.layout.cells i) n.next n.few) in
-    let small' : s.generation < 16777216 = gen_small b.layout.cells s.cell s.generation inside (subst (λ (r : Req). r.k ≤ 16777215 * cells_in b.layout.cells r.ring) (sym at) few) in
-    let last : s.generation ≢ 16777215 = c.if-generation-eq-LAST_GENERATION.false in (let lt = small' in omega arith)
+pub submit_next-requires-clause-free : goal.submit_next-requires-clause-free
+submit_next-requires-clause-free c = λ ring role. let b : Facts = c.args.self.now in let p : Pass = c.args.submitter.now in let m : Pass = c.room.new.self in let r = c.in_default.ensures in let go : Goes b p [] m = goes_watched b p m r.looks.0 c.requires r.table r.looks.2 in let old : p.view.role ≡ Submitter ring = sym go.role_is ∙ role in let same : submits (seen_of m) ring ≡ submits (seen_of p) ring = watched_submits r.looks.0 p.view m.view ring old r.looks.2 in
+    let grid : c.self.inside.grid ≡ b.layout.cells = ap (λ (z : Facts). z.layout.cells) c.self.view_is in let zero : submits (seen_of p) ring + 0 ≡ submits (seen_of m) ring = (let e = same in omega arith) in (
+      subst (λ (z : List ℕ × ℕ). IsFree z.0 (seen_of m) (nth ring z.1)) (λ i. (grid i, zero i)) (r.free ring old 0 (omega arith)),
+      subst (λ (z : List ℕ × ℕ). z.1 / cells_in z.0 ring < 16777215) (λ i. (grid i, zero i)) (r.fresh ring old 0 (omega arith)),
+    )
+
+pub submit_next-requires-clause-served : goal.submit_next-requires-clause-served
+submit_next-requires-clause-served c = λ ring role. let b : Facts = c.args.self.now in let p : Pass = c.args.submitter.now in let m : Pass = c.room.new.self in let r = c.in_default.ensures in let go : Goes b p [] m = goes_watched b p m r.looks.0 c.requires r.table r.looks.2 in let old : p.view.role ≡ Submitter ring = sym go.role_is ∙ role in let same : submits (seen_of m) ring ≡ submits (seen_of p) ring = watched_submits r.looks.0 p.view m.view ring old r.looks.2 in
+    let served : Serves (before_in (seen_of p) (next_of p ring)) c.args.sqe = subst (λ (z : _). IsServed z c.args.sqe) (c.is_hosted.ensures.hosted ring old) (c.is_served.ensures.0 c.if-not-is_served.false) in
+    subst (λ (z : _). Serves z c.args.sqe) (sym (ap (λ (k : ℕ). before_in (seen_of m) (nth ring k)) same ∙ watched_before r.looks.0 p.view m.view ring (submits (seen_of p) ring) old r.looks.2)) served
 
 pub returns-clause-submitted : goal.returns-clause-submitted
-returns-clause-submitted c = let b = c.args.self.now in let p = c.args.submitter.now in let s = c.in-Some.spot in let n = c.next_request-req.ensures in let i = c.next_request-req.result.ring in
-    let grid : c.self.inside.grid ≡ b.layout.cells = ap (λ (z : Facts). z.layout.cells) c.self.view_is in
-    let inside : IsCell b.layout.cells s.cell = subst (λ (K : List ℕ). IsCell K s.cell) grid c.in-Some.ensures.some.0 in
-    let at : request_at b.layout.cells s.cell s.generation ≡ next_of p i = subst (λ (K : List ℕ). request_at K s.cell s.generation ≡ next_of p i) grid (c.in-Some.ensures.some.1 ∙ n.next) in
-    let here : request_at p.view.layout.cells s.cell s.generation ≡ next_of p i = ap (λ (L : Layout). request_at L.cells s.cell s.generation) c.requires.layout_is ∙ at in let z = c.submit.ensures.submits in
-    let own : Goes b p (Submit (next_of p i) c.args.sqe c.args.buffer.items true ∷ []) c.submit.new.self = goes_thrice b p c.submit.new.self (next_of p i) (Lent (next_of p i) (facts_at s.cell) z.0) (Noted (next_of p i) (user_at s.cell) c.args.sqe.user_data) (Submit (next_of p i) c.args.sqe c.args.buffer.items true) (λ h. refl) (λ h. refl) c.requires c.submit.ensures.table n.role refl
-    (subst (λ (r : Req). ExtendsThrice p.view (Lent r (facts_at s.cell) z.0) (Lending r) (Noted r (user_at s.cell) c.args.sqe.user_data) (Lending r) (Did (Submit r c.args.sqe c.args.buffer.items true)) (Submitter r.ring) c.submit.new.self.view) here z.1) in
-    λ ring role'. (let r = n.role in let same' : i ≡ ring = cc in (n.next ∙ ap (next_of p) same', subst (λ (r : Req). Goes b p (Submit r c.args.sqe c.args.buffer.items true ∷ []) c.submit.new.self) (sym n.next) own))
+returns-clause-submitted c = λ ring old. let b : Facts = c.args.self.now in let p : Pass = c.args.submitter.now in let m : Pass = c.room.new.self in let r = c.in_default.ensures in let go : Goes b p [] m = goes_watched b p m r.looks.0 c.requires r.table r.looks.2 in let s = c.submit_next.ensures.submitted ring (go.role_is ∙ old) in
+    let same : submits (seen_of m) ring ≡ submits (seen_of p) ring = watched_submits r.looks.0 p.view m.view ring old r.looks.2 in
+    (s.0 ∙ ap (λ (k : ℕ). nth ring k) same, goes_then b p m c.submit_next.new.submitter (Submit c.submit_next.result c.args.sqe c.args.buffer.items true ∷ []) go s.1)
 
 pub returns-clause-free : goal.returns-clause-free
-returns-clause-free c = let b = c.args.self.now in let p = c.args.submitter.now in let s = c.in-Some.spot in let n = c.next_request-req.ensures in let i = c.next_request-req.result.ring in
-    let grid : c.self.inside.grid ≡ b.layout.cells = ap (λ (z : Facts). z.layout.cells) c.self.view_is in
-    let inside : IsCell b.layout.cells s.cell = subst (λ (K : List ℕ). IsCell K s.cell) grid c.in-Some.ensures.some.0 in
-    let at : request_at b.layout.cells s.cell s.generation ≡ next_of p i = subst (λ (K : List ℕ). request_at K s.cell s.generation ≡ next_of p i) grid (c.in-Some.ensures.some.1 ∙ n.next) in
-    let cell = next_cell b p i s.cell s.number s.generation c.requires n.role inside (subst (λ (K : List ℕ). s.number ≡ place_of K s.cell) grid c.in-Some.ensures.number) at in
-    let free = c.is_free.ensures.free c.if-not-is_free.false s.cell cell in
-    let here : request_at p.view.layout.cells s.cell s.generation ≡ next_of p i = ap (λ (L : Layout). request_at L.cells s.cell s.generation) c.requires.layout_is ∙ at in let z = c.submit.ensures.submits in
-    let own : Goes b p (Submit (next_of p i) c.args.sqe c.args.buffer.items true ∷ []) c.submit.new.self = goes_thrice b p c.submit.new.self (next_of p i) (Lent (next_of p i) (facts_at s.cell) z.0) (Noted (next_of p i) (user_at s.cell) c.args.sqe.user_data) (Submit (next_of p i) c.args.sqe c.args.buffer.items true) (λ h. refl) (λ h. refl) c.requires c.submit.ensures.table n.role refl
-    (subst (λ (r : Req). ExtendsThrice p.view (Lent r (facts_at s.cell) z.0) (Lending r) (Noted r (user_at s.cell) c.args.sqe.user_data) (Lending r) (Did (Submit r c.args.sqe c.args.buffer.items true)) (Submitter r.ring) c.submit.new.self.view) here z.1) in
-    subst (λ (r : Req). IsFree b.layout.cells (seen_of c.submit.new.self) r) (at ∙ sym n.next) (free_then b p c.requires s.cell s.generation inside free (Submit (next_of p i) c.args.sqe c.args.buffer.items true ∷ []) c.submit.new.self own)
+returns-clause-free c = let b : Facts = c.args.self.now in let p : Pass = c.args.submitter.now in let m : Pass = c.room.new.self in let r = c.in_default.ensures in let go : Goes b p [] m = goes_watched b p m r.looks.0 c.requires r.table r.looks.2 in let ring = c.submit_next.result.ring in let role = c.submit_next.ensures.role in let old : p.view.role ≡ Submitter ring = sym go.role_is ∙ role in
+    let same : submits (seen_of m) ring ≡ submits (seen_of p) ring = watched_submits r.looks.0 p.view m.view ring old r.looks.2 in let s = c.submit_next.ensures.submitted ring role in
+    let grid : c.self.inside.grid ≡ b.layout.cells = ap (λ (z : Facts). z.layout.cells) c.self.view_is in let zero : submits (seen_of p) ring + 0 ≡ submits (seen_of m) ring = (let e = same in omega arith) in
+    let free : IsFree b.layout.cells (seen_of m) (next_of m ring) = subst (λ (z : List ℕ × ℕ). IsFree z.0 (seen_of m) (nth ring z.1)) (λ i. (grid i, zero i)) (r.free ring old 0 (omega arith)) in
+    subst (λ (q : Req). IsFree b.layout.cells (seen_of c.submit_next.new.submitter) q) (sym s.0) (free_then b m c.submit_next.new.submitter _ (next_of m ring) s.1 free)
 
 pub returns-clause-steps : goal.returns-clause-steps
-returns-clause-steps c = let z = c.submit.ensures.steps in took_three c.args.submitter.now.view z.0 z.2.0 c.submit.new.self.view z.1.0 _ z.1.1 z.2.1.0 _ z.2.1.1 z.2.2.0 _ z.2.2.1
+returns-clause-steps c = let b : Facts = c.args.self.now in let p : Pass = c.args.submitter.now in let m : Pass = c.room.new.self in let r = c.in_default.ensures in let go : Goes b p [] m = goes_watched b p m r.looks.0 c.requires r.table r.looks.2 in let ring = c.submit_next.result.ring in let old : p.view.role ≡ Submitter ring = sym go.role_is ∙ c.submit_next.ensures.role in
+    let grid : c.self.inside.grid ≡ b.layout.cells = ap (λ (z : Facts). z.layout.cells) c.self.view_is in let n : ℕ = r.looks.0 in let t = took_both p.view m.view c.submit_next.new.submitter.view n 3 (watched_took n p.view m.view r.looks.2) c.submit_next.ensures.steps in
+    (n, subst (λ (K : List ℕ). n ≤ cells_in K ring + 1) grid (r.looks.1 ring old), subst (λ (k : ℕ). Took p.view c.submit_next.new.submitter.view k) (let e : 3 + n ≡ n + 3 = omega arith in e) t)

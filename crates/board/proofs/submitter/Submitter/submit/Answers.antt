@@ -1,34 +1,44 @@
-use Rattle.std.proofs.Common.{◌≤◌, ◌+◌, ◌*◌, ℕ, ◌<◌, List, set, sym, ap, subst, ◌∙◌, arith, mul-le-mul_left}
+use Rattle.std.proofs.Common.{◌≡◌, ◌≤◌, ◌+◌, ℕ, ◌<◌, ◌⊎◌, List, length, set, sym, ap, subst, ◌∙◌, arith}
 use Rattle.history.specs.declared.req.Req.{Req}
 use Rattle.history.specs.declared.event.Event.TheVariants.{Submit}
 use Rattle.history.specs.History.{submits}
 use Rattle.steps.specs.declared.line.Line.TheVariants.{Did, Lent, Noted}
 use Rattle.steps.specs.declared.view.Role.TheVariants.{Submitter, Lending}
+use Rattle.steps.specs.Fairness.{IsFree}
 use Rattle.steps.specs.Journal.{events_of}
 use Rattle.steps.specs.Cells.{request_at, cells_in, facts_at, user_at}
 use Rattle.steps.specs.Rule.{ExtendsThrice}
-use Rattle.work.specs.Passes.{Pass}
+use Rattle.work.specs.Passes.{Pass, seen_of}
+use Rattle.board.specs.Lanes.{nth, KnowsChains}
 use Rattle.board.specs.Seats.{IsNextCell, IsSubmitterSeat}
 use Rattle.board.proofs.SubmitterSeats.{cell_here, seat_submitted, few_next}
+use Rattle.board.proofs.LanesKept.{vacant_by}
+use Rattle.board.proofs.LaneSeats.{chains_after}
 use Rattle.board.proofs.submitter.Submitter.submit.Goals as goal
 
-pub index_mut-requires : goal.index_mut-requires
-index_mut-requires c = let s = c.self.inside in let o = c.args.spot in let k = subst (λ (p : Pass). IsNextCell p o.cell o.number o.generation) (sym c.self.view_is) c.requires.next in
-    subst (λ (z : ℕ). o.number < z) (sym s.facts.ok.0) (cell_here s.seat s.ring s.next s.ages.items s.facts.items c.self.invariant o.cell o.number k.inside k.number_is k.mine).2
+pub submit-facts-requires-clause-free : goal.submit-facts-requires-clause-free
+submit-facts-requires-clause-free c = let s = c.self.inside in let o = c.args.spot in let k = subst (λ (p : Pass). IsNextCell p o.cell o.number o.generation) (sym c.self.view_is) c.requires.next in
+    vacant_by s.seat.me.0.layout s.seat.me.0.seen o.cell o.generation k.inside c.self.invariant.0.legal c.self.invariant.1.orderly (let z = k.next_is in omega arith) (subst (λ (p : Pass). IsFree p.view.layout.cells (seen_of p) (request_at p.view.layout.cells o.cell o.generation)) (sym c.self.view_is) c.requires.free)
 
-pub overflow_add-self : goal.overflow_add-self
-overflow_add-self c = let s = c.self.inside in let o = c.args.spot in let k = subst (λ (p : Pass). IsNextCell p o.cell o.number o.generation) (sym c.self.view_is) c.requires.next in let K : List ℕ = s.seat.me.0.layout.cells in
-    let h = cell_here s.seat s.ring s.next s.ages.items s.facts.items c.self.invariant o.cell o.number k.inside k.number_is k.mine in
-    let f = few_next K o.cell o.generation s.ring s.next h.0 (k.next_is ∙ (ap (submits (events_of s.seat.me.0.seen)) h.0 ∙ sym c.self.invariant.next_is)) k.inside c.requires.small in
-    let m : 16777215 * cells_in K s.ring ≤ 16777215 * 1024 = mul-le-mul_left 16777215 c.self.invariant.narrow in
-    let b : ℕ = 16777215 * cells_in K s.ring in let f' : s.next + 1 ≤ b = f in let m' : b ≤ 17179868160 = m in omega arith
+pub go_on-requires-clause-there : goal.go_on-requires-clause-there
+go_on-requires-clause-there c = let s = c.self.inside in let o = c.args.spot in let k = subst (λ (p : Pass). IsNextCell p o.cell o.number o.generation) (sym c.self.view_is) c.requires.next in
+    (cell_here s.seat s.lane.ring s.lane.next s.lane.ages.items s.lane.facts.items c.self.invariant.0 o.cell o.number k.inside k.number_is k.mine).2
 
 pub invariant_of-self : goal.invariant_of-self
 invariant_of-self c = let s = c.self.inside in let o = c.args.spot in let k = subst (λ (p : Pass). IsNextCell p o.cell o.number o.generation) (sym c.self.view_is) c.requires.next in let K : List ℕ = s.seat.me.0.layout.cells in let p = c.args.parcel in
-    let h = cell_here s.seat s.ring s.next s.ages.items s.facts.items c.self.invariant o.cell o.number k.inside k.number_is k.mine in
-    let f = few_next K o.cell o.generation s.ring s.next h.0 (k.next_is ∙ (ap (submits (events_of s.seat.me.0.seen)) h.0 ∙ sym c.self.invariant.next_is)) k.inside c.requires.small in
-    subst (λ (i : ℕ). IsSubmitterSeat c.submit-facts.new.seat s.ring (s.next + 1) s.ages.items (set s.facts.items i c.submit-facts.result)) (sym k.number_is)
-    (seat_submitted s.seat c.submit-facts.new.seat s.ring s.next s.ages.items s.facts.items c.self.invariant o.cell o.generation c.submit-facts.result k.inside h.0 c.submit-facts.ensures.seat.1 p.sqe p.buffer.items p.last p.sqe.user_data c.submit-facts.ensures.submits f)
+    let h = cell_here s.seat s.lane.ring s.lane.next s.lane.ages.items s.lane.facts.items c.self.invariant.0 o.cell o.number k.inside k.number_is k.mine in let g = c.go_on.ensures in
+    let next : (request_at K o.cell o.generation).k ≡ s.lane.next = k.next_is ∙ (ap (submits (events_of s.seat.me.0.seen)) h.0 ∙ sym c.self.invariant.0.next_is) in
+    let f = few_next K o.cell o.generation s.lane.ring s.lane.next h.0 next k.inside c.requires.small in
+    let r : request_at K o.cell o.generation ≡ nth s.lane.ring s.lane.next = (λ i. record { ring = h.0 i; k = next i }) in
+    let many : length s.lane.ages.items ≡ cells_in K s.lane.ring = c.self.invariant.0.many.0 in let b = c.go_on.new.self in
+    let free = subst (λ (q : Pass). IsFree q.view.layout.cells (seen_of q) (request_at q.view.layout.cells o.cell o.generation)) (sym c.self.view_is) c.requires.free in
+    let chains : KnowsChains c.submit-facts.new.seat.me.0 s.lane.ring (s.lane.next + 1) b.done b.hosted = chains_after s.seat.me.0 c.submit-facts.new.seat.me.0 s.lane.ring s.lane.next s.lane.done s.lane.hosted (request_at K o.cell o.generation) p.sqe p.buffer.items p.last b.done b.hosted c.self.invariant.0.role r c.self.invariant.1 o.cell c.submit-facts.result p.sqe.user_data
+    c.submit-facts.ensures.submits free (g.next.2 ∙ c.hosts_next-hosted.ensures) (subst (λ (z : ℕ × ℕ). (b.done ≡ s.lane.done) ⊎ ((s.lane.done < b.done) × (b.done + z.0 ≡ z.1))) (λ i. (many i, g.next.1 i)) g.done) (subst (λ (z : ℕ × ℕ). z.1 ≤ b.done + z.0) (λ i. (many i, g.next.1 i)) g.near) in (
+      subst (λ (z : ℕ × ℕ × List ℕ × List ℕ). IsSubmitterSeat c.submit-facts.new.seat z.0 z.1 z.2 z.3) (λ i. (sym g.next.0 i, sym g.next.1 i, sym (ap (λ v. v.items) g.cells.0) i, sym g.cells.1 i))
+          (subst (λ (i : ℕ). IsSubmitterSeat c.submit-facts.new.seat s.lane.ring (s.lane.next + 1) s.lane.ages.items (set s.lane.facts.items i c.submit-facts.result)) (sym k.number_is)
+          (seat_submitted s.seat c.submit-facts.new.seat s.lane.ring s.lane.next s.lane.ages.items s.lane.facts.items c.self.invariant.0 o.cell o.generation c.submit-facts.result k.inside h.0 c.submit-facts.ensures.seat.1 p.sqe p.buffer.items p.last p.sqe.user_data c.submit-facts.ensures.submits f)),
+      subst (λ (z : ℕ × ℕ). KnowsChains c.submit-facts.new.seat.me.0 z.0 z.1 b.done b.hosted) (λ i. (sym g.next.0 i, sym g.next.1 i)) chains,
+    )
 
 pub returns-clause-submits : goal.returns-clause-submits
 returns-clause-submits c = let o = c.args.spot in let p = c.args.parcel in let fact = c.submit-facts.result in

@@ -1,4 +1,4 @@
-use Rattle.std.proofs.Common.{rules, ◌≡◌, ℕ, ◌<◌, ◌+◌, ◌*◌, true, ℤ, List, [], ◌∷◌, length, Option, Some, None, sym, refl, ap, ◌∙◌, subst, to_z, of_z, w32}
+use Rattle.std.proofs.Common.{rules, ◌≡◌, ℕ, ◌<◌, true, ℤ, [], ◌∷◌, length, Some, sym, refl, ap, ◌∙◌, subst, to_z, of_z, w32}
 use Rattle.std.proofs.lemmas.Int.{to_z-of_z}
 use Rattle.atomic_table.specs.Table.{rest}
 use Rattle.answers.specs.Answered.{is_plain, IsPast}
@@ -9,7 +9,6 @@ use Rattle.history.specs.Answers.{OpAnswers}
 use Rattle.history.specs.Chains.{IsPlaced}
 use Rattle.history.specs.declared.event.Event.TheVariants.{Reply}
 use Rattle.steps.specs.declared.line.Line.TheVariants.{Did}
-use Rattle.steps.specs.declared.parcel.Thing.{Thing}
 use Rattle.steps.specs.declared.parcel.Thing.TheVariants.{Full}
 use Rattle.steps.specs.declared.view.Role.TheVariants.{Idle}
 use Rattle.steps.specs.declared.view.View.{View}
@@ -19,21 +18,21 @@ use Rattle.history.specs.declared.req.Req.{Req}
 use Rattle.steps.specs.Cells.{request_at, claim_at, slot_at, word_of}
 use Rattle.steps.specs.Plays.{Seated, MayReply}
 use Rattle.steps.specs.Rule.{Extends, IsStep}
-use Rattle.steps.proofs.ViewsKept.{role_after, parts_after}
-use Rattle.work.specs.Passes.{Pass, Running, RunsIt, seen_of}
+use Rattle.work.specs.Passes.{Pass, Running, seen_of}
+use Rattle.work.specs.Runs.{op_run, run_as}
 use Rattle.work.proofs.RunsKept.{runs_placed, runs_served, served_plain, plain_may}
 use Rattle.work.proofs.busy.Busy.answer.Goals as goal
 
 pub answer_without-res-requires-clause-plain : goal.answer_without-res-requires-clause-plain
 answer_without-res-requires-clause-plain c = let b = c.self.inside in let i = c.self.invariant in
-    subst (λ (o : Op). is_plain o ≡ true) (sym c.op.ensures) (served_plain b.parcel.sqe.op (runs_served b.words.now.table_id b.seat.me.0 b.seat.me.0 b.cell b.generation b.req b.parcel b.pipes i.runs))
+    subst (λ (o : Op). is_plain o ≡ true) (sym c.op_placed.ensures) (served_plain (op_run b.parcel.sqe.op) (runs_served b.words.now.table_id b.seat.me.0 b.seat.me.0 b.cell b.generation b.req b.parcel b.pipes i.runs))
 
 pub reply-requires-clause-answer : goal.reply-requires-clause-answer
 reply-requires-clause-answer c = let b = c.self.inside in let i = c.self.invariant in let m = c.put_back.ensures.seat.2 in let table = b.words.now.table_id in
-    let past = subst (λ (k : Running). (e : Entry) → IsPlaced (seen_of k.pass) k.req e → IsPast (pipe_in e.op) (length k.pass.view.layout.caps)) (sym c.self.view_is) c.requires.past b.parcel.sqe (runs_placed table b.seat.me.0 b.seat.me.0 b.cell b.generation b.req b.parcel b.pipes i.runs) in
+    let past = subst (λ (k : Running). (e : Entry) → IsPlaced (seen_of k.pass) k.req e → IsPast (pipe_in e.op) (length k.pass.view.layout.caps)) (sym c.self.view_is) c.requires.past (run_as b.parcel.sqe) (runs_placed table b.seat.me.0 b.seat.me.0 b.cell b.generation b.req b.parcel b.pipes i.runs) in
     let z : Seated = (b.seat.me.0, (slot_at b.cell, Some (Full b.parcel)) ∷ rest b.seat.me.1) in
-    let rz = to_z-of_z w32 c.answer_without-res.result (search rules) in let answers = subst (λ (o : Op × ℤ). OpAnswers b.seat.me.0.layout.caps (events_of b.seat.me.0.seen) b.req o.0 o.1 []) (λ k. (c.op.ensures k, sym rz k)) (c.answer_without-res.ensures b.seat.me.0.layout.caps (events_of b.seat.me.0.seen) b.req i.runs.pipes_are.0) in
-    (b.parcel.sqe, [], subst (λ (y : Seated). MayReply y b.cell (request_at y.0.layout.cells b.cell b.generation) b.parcel.sqe (to_z w32 (of_z w32 c.answer_without-res.result)) []) (sym m) (plain_may table z b.cell b.generation b.req b.parcel b.pipes i.runs (to_z w32 (of_z w32 c.answer_without-res.result)) refl past answers), c.fails-fails.ensures)
+    let rz = to_z-of_z w32 c.answer_without-res.result (search rules) in let answers = subst (λ (o : Op × ℤ). OpAnswers b.seat.me.0.layout.caps (events_of b.seat.me.0.seen) b.req o.0 o.1 []) (λ k. (c.op_placed.ensures k, sym rz k)) (c.answer_without-res.ensures b.seat.me.0.layout.caps (events_of b.seat.me.0.seen) b.req i.runs.pipes_are.0) in
+    (run_as b.parcel.sqe, [], subst (λ (y : Seated). MayReply y b.cell (request_at y.0.layout.cells b.cell b.generation) (run_as b.parcel.sqe) (to_z w32 (of_z w32 c.answer_without-res.result)) []) (sym m) (plain_may table z b.cell b.generation b.req b.parcel b.pipes i.runs (to_z w32 (of_z w32 c.answer_without-res.result)) refl past answers), c.fails_placed-fails.ensures)
 
 pub new-requires : goal.new-requires
 new-requires c = let i = c.self.invariant in let m = c.put_back.ensures.seat.2 in record {
@@ -48,10 +47,10 @@ returns-clause-step c = let b = c.self.inside in let m = c.put_back.ensures.seat
 
 pub returns-clause-replied : goal.returns-clause-replied
 returns-clause-replied c = let b = c.self.inside in let i = c.self.invariant in let m = c.put_back.ensures.seat.2 in let table = b.words.now.table_id in
-    let past = subst (λ (k : Running). (e : Entry) → IsPlaced (seen_of k.pass) k.req e → IsPast (pipe_in e.op) (length k.pass.view.layout.caps)) (sym c.self.view_is) c.requires.past b.parcel.sqe (runs_placed table b.seat.me.0 b.seat.me.0 b.cell b.generation b.req b.parcel b.pipes i.runs) in
+    let past = subst (λ (k : Running). (e : Entry) → IsPlaced (seen_of k.pass) k.req e → IsPast (pipe_in e.op) (length k.pass.view.layout.caps)) (sym c.self.view_is) c.requires.past (run_as b.parcel.sqe) (runs_placed table b.seat.me.0 b.seat.me.0 b.cell b.generation b.req b.parcel b.pipes i.runs) in
     let z : Seated = (b.seat.me.0, (slot_at b.cell, Some (Full b.parcel)) ∷ rest b.seat.me.1) in let res = to_z w32 (of_z w32 c.answer_without-res.result) in
-    let rz = to_z-of_z w32 c.answer_without-res.result (search rules) in let answers = subst (λ (o : Op × ℤ). OpAnswers b.seat.me.0.layout.caps (events_of b.seat.me.0.seen) b.req o.0 o.1 []) (λ k. (c.op.ensures k, sym rz k)) (c.answer_without-res.ensures b.seat.me.0.layout.caps (events_of b.seat.me.0.seen) b.req i.runs.pipes_are.0) in
-    let may = subst (λ (y : Seated). MayReply y b.cell (request_at y.0.layout.cells b.cell b.generation) b.parcel.sqe res []) (sym m) (plain_may table z b.cell b.generation b.req b.parcel b.pipes i.runs res refl past answers) in
-    let x = subst (λ (y : Seated). Extends y.0 (Did (Reply (request_at y.0.layout.cells b.cell b.generation) res [])) Idle c.reply.new.seat.me.0) m (c.reply.ensures.replies b.parcel.sqe [] may) in
+    let rz = to_z-of_z w32 c.answer_without-res.result (search rules) in let answers = subst (λ (o : Op × ℤ). OpAnswers b.seat.me.0.layout.caps (events_of b.seat.me.0.seen) b.req o.0 o.1 []) (λ k. (c.op_placed.ensures k, sym rz k)) (c.answer_without-res.ensures b.seat.me.0.layout.caps (events_of b.seat.me.0.seen) b.req i.runs.pipes_are.0) in
+    let may = subst (λ (y : Seated). MayReply y b.cell (request_at y.0.layout.cells b.cell b.generation) (run_as b.parcel.sqe) res []) (sym m) (plain_may table z b.cell b.generation b.req b.parcel b.pipes i.runs res refl past answers) in
+    let x = subst (λ (y : Seated). Extends y.0 (Did (Reply (request_at y.0.layout.cells b.cell b.generation) res [])) Idle c.reply.new.seat.me.0) m (c.reply.ensures.replies (run_as b.parcel.sqe) [] may) in
     let y = subst (λ (q : Req). Extends b.seat.me.0 (Did (Reply q res [])) Idle c.reply.new.seat.me.0) i.runs.req_is x in
     subst (λ (k : Running × View). Extends k.0.pass.view (Did (Reply k.0.req res [])) Idle k.1) (λ k. (c.self.view_is k, ap (λ (p : Pass). p.view) (sym c.new.ensures) k)) y

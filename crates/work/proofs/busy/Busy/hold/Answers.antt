@@ -1,4 +1,4 @@
-use Rattle.std.proofs.Common.{◌≡◌, ◌≢◌, ℕ, ◌+◌, ◌*◌, ◌<◌, ◌≤◌, false, true, true≢false, List, [], ◌∷◌, length, slice_index, Option, Some, None, sym, refl, ap, ◌∙◌, subst, arith}
+use Rattle.std.proofs.Common.{◌≡◌, ℕ, ◌<◌, true≢false, List, ◌∷◌, length, slice_index, Option, Some, None, sym, refl, ap, ◌∙◌, subst, arith}
 use Rattle.atomic_table.specs.Table.{rest}
 use Rattle.answers.specs.Answered.{IsPipe}
 use Rattle.answers.specs.Ends.{pipe_in}
@@ -12,14 +12,13 @@ use Rattle.steps.specs.declared.parcel.Thing.TheVariants.{Piped}
 use Rattle.steps.specs.declared.view.Role.TheVariants.{Busy as RoleBusy}
 use Rattle.steps.specs.declared.view.View.{View}
 use Rattle.steps.specs.Journal.{events_of}
-use Rattle.steps.specs.Cells.{slot_at}
 use Rattle.steps.specs.Plays.{Seated, HasAlone}
 use Rattle.steps.specs.Rule.{Looks}
 use Rattle.steps.proofs.StepKinds.{in_hand}
 use Rattle.steps.proofs.PipeSteps.{lacks_after}
 use Rattle.work.specs.Passes.{Running, RunsIt, seen_of}
 use Rattle.work.specs.Runs.{MissedPipe}
-use Rattle.work.proofs.RunsKept.{runs_on, runs_look, runs_placed}
+use Rattle.work.proofs.RunsKept.{runs_on, runs_look, named_by}
 use Rattle.work.proofs.busy.Busy.hold.Goals as goal
 
 same_conduit : (a b : Conduit) → ◌≡◌ {A = Option Thing} (Some (Piped a)) (Some (Piped b)) → a ≡ b
@@ -27,7 +26,7 @@ same_conduit a b e = cc
 
 pub hold-requires-clause-fits : goal.hold-requires-clause-fits
 hold-requires-clause-fits c = let b = c.self.inside in let i = c.self.invariant in let a = i.runs.pipes_are in let f = i.runs.fits in
-    let named = subst (λ (k : Running). (e : Entry) → IsPlaced (seen_of k.pass) k.req e → (pipe_in e.op ≡ Some c.args.pipe) × (c.args.pipe < length k.pass.view.layout.caps)) (sym c.self.view_is) c.requires.named b.parcel.sqe (runs_placed b.words.now.table_id b.seat.me.0 b.seat.me.0 b.cell b.generation b.req b.parcel b.pipes i.runs) in
+    let named = named_by b.words.now.table_id b.seat.me.0 b.seat.me.0 b.cell b.generation b.req b.parcel b.pipes i.runs c.args.pipe (length b.seat.me.0.layout.caps) (subst (λ (k : Running). (e : Entry) → IsPlaced (seen_of k.pass) k.req e → (pipe_in e.op ≡ Some c.args.pipe) × (c.args.pipe < length k.pass.view.layout.caps)) (sym c.self.view_is) c.requires.named) in
     (i.table_is, (let n = named.1 in omega arith), named.1, (let n = named.1 in omega arith))
 
 pub invariant_of-result : goal.invariant_of-result
@@ -52,7 +51,7 @@ pipe_of-requires c = let b = c.self.inside in let i = c.self.invariant in let h 
 
 pub invariant_of-result-2 : goal.invariant_of-result-2
 invariant_of-result-2 c = let b = c.self.inside in let i = c.self.invariant in let k = c.if-not-hold.ensures in let x = k.holds refl b.req i.runs.role in let h = x.2 in let m = c.exchange-thing.ensures.3 in let v : View = c.hold.new.seat.me.0 in
-    let named = subst (λ (k : Running). (e : Entry) → IsPlaced (seen_of k.pass) k.req e → (pipe_in e.op ≡ Some c.args.pipe) × (c.args.pipe < length k.pass.view.layout.caps)) (sym c.self.view_is) c.requires.named b.parcel.sqe (runs_placed b.words.now.table_id b.seat.me.0 b.seat.me.0 b.cell b.generation b.req b.parcel b.pipes i.runs) in
+    let named = named_by b.words.now.table_id b.seat.me.0 b.seat.me.0 b.cell b.generation b.req b.parcel b.pipes i.runs c.args.pipe (length b.seat.me.0.layout.caps) (subst (λ (k : Running). (e : Entry) → IsPlaced (seen_of k.pass) k.req e → (pipe_in e.op ≡ Some c.args.pipe) × (c.args.pipe < length k.pass.view.layout.caps)) (sym c.self.view_is) c.requires.named) in
     let same : h.0 ≡ c.pipe_of.result = same_conduit h.0 c.pipe_of.result (ap in_hand (sym h.1 ∙ c.exchange-thing.ensures.2) ∙ c.pipe_of.ensures.is) in
     let runs = runs_on b.words.now.table_id b.seat.me.0 v b.cell b.generation b.req b.parcel b.pipes i.runs (Hold b.req c.args.pipe) x.0 in record {
       table_is = c.exchange-thing.ensures.0 ∙ (k.seat.0 ∙ i.table_is);

@@ -1,9 +1,9 @@
 use Rattle.std.specs.Vec.{with_items}
 use Rattle.std.proofs.lemmas.Int.{to_z-of_z}
 use Rattle.std.proofs.lemmas.List.{with_items_is, places}
-use Rattle.std.proofs.Common.{rules, ◌+◌, ◌*◌, ◌≡◌, ◌≢◌, ℕ, ◌<◌, ◌≤◌, ℤ, List, [], ◌∷◌, length, slice_index, Option, Some, None, sym, refl, ap, ◌∙◌, subst, to_z, of_z, w32}
+use Rattle.std.proofs.Common.{rules, ◌≡◌, ℕ, ◌<◌, ℤ, List, [], ◌∷◌, length, slice_index, Some, sym, refl, ap, ◌∙◌, subst, to_z, of_z, w32}
 use Rattle.atomic_table.specs.Table.{rest}
-use Rattle.answers.specs.Answered.{IsPipe, Does}
+use Rattle.answers.specs.Answered.{IsPipe}
 use Rattle.entry.specs.declared.op.Op.{Op}
 use Rattle.entry.specs.Entry.{Entry, fails}
 use Rattle.history.specs.declared.req.Req.{Req}
@@ -16,16 +16,15 @@ use Rattle.pipe.specs.Pipe.{Conduit}
 use Rattle.history.specs.declared.event.Event.TheVariants.{Reply}
 use Rattle.steps.specs.declared.line.Line.TheVariants.{Did, Free}
 use Rattle.steps.specs.declared.parcel.Parcel.{Parcel}
-use Rattle.steps.specs.declared.parcel.Thing.{Thing}
 use Rattle.steps.specs.declared.parcel.Thing.TheVariants.{Full, Piped}
 use Rattle.steps.specs.declared.view.Role.TheVariants.{Busy as RoleBusy, Leaving}
 use Rattle.steps.specs.declared.view.View.{View}
 use Rattle.steps.specs.Journal.{events_of}
 use Rattle.steps.specs.Cells.{setup_of, PipeIs, request_at, claim_at, pipe_at, slot_at, over}
 use Rattle.steps.specs.Plays.{Seated, HasAlone, HasPipeAfter, MayReply}
-use Rattle.work.specs.Passes.{Pass, Holding, RunsIt, seen_of}
+use Rattle.work.specs.Passes.{Pass, Holding, seen_of}
 use Rattle.work.specs.Runs.{Unanswered}
-use Rattle.work.proofs.RunsKept.{runs_on, runs_same, runs_entry, runs_fits, pipe_may, pipe_after, in_both_hands}
+use Rattle.work.proofs.RunsKept.{runs_on, runs_same, piped_entry, runs_fits, pipe_may, pipe_after, in_both_hands}
 use Rattle.steps.specs.Rule.{Extends, IsTwoSteps, leaves}
 use Rattle.answers.specs.Ends.{pipe_in}
 use Rattle.work.proofs.holding.Holding.answer.Goals as goal
@@ -57,7 +56,7 @@ invariant_of-result c = let b = c.self.inside in let i = c.self.invariant in let
 pub returns-in_default-answer-clause-unanswered : goal.returns-in_default-answer-clause-unanswered
 returns-in_default-answer-clause-unanswered c = let b = c.self.inside in let i = c.self.invariant in let k = c.in_default-answer.ensures b.seat.me.0.layout.caps (events_of b.seat.me.0.seen) b.req b.pipe (subst (λ (o : Op). pipe_in o ≡ Some b.pipe) (sym c.op.ensures) i.named.0) (subst (λ (n : ℕ). b.pipe < n) (sym i.runs.pipes_are.0) i.named.1) i.pipe_is (sound (setup_of b.seat.me.0.layout) (events_of b.seat.me.0.seen) b.pipe i.runs.legal) in
     subst (λ (r : Holding). (e : Entry) → IsPlaced (seen_of r.pass) r.req e → Unanswered r.pass.view r.req e) c.self.view_is (λ e is res data' a. k.none res data'
-    (subst (λ (o : Op). OpAnswers b.seat.me.0.layout.caps (events_of b.seat.me.0.seen) b.req o res data') (sym (c.op.ensures ∙ ap (λ (d : Entry). d.op) (runs_entry b.words.now.table_id b.seat.me.0 b.seat.me.0 b.cell b.generation b.req b.parcel b.pipes i.runs e is))) a))
+    (subst (λ (o : Op). OpAnswers b.seat.me.0.layout.caps (events_of b.seat.me.0.seen) b.req o res data') (sym (c.op.ensures ∙ ap (λ (d : Entry). d.op) (piped_entry b.words.now.table_id b.seat.me.0 b.seat.me.0 b.cell b.generation b.req b.parcel b.pipes i.runs b.pipe i.named.0 e is))) a))
 
 -- the seat with its pipe and its parcel put back may reply so
 pub reply-requires-clause-answer : goal.reply-requires-clause-answer

@@ -1,0 +1,173 @@
+-- What is tested of a batch, and what its submission comes to, entry by entry.
+use Rattle.std.proofs.Common.{◌≡◌, ⊎_elim, ℕ, zero, suc, ◌+◌, ◌*◌, ◌/◌, ◌==◌, ◌<◌, ◌≤◌, Bool, true, false, cond, List, [], ◌∷◌, ◌++◌, Some, length, drop, reverse, get_or, sym, refl, ap, ◌∙◌, subst, arith, eq-eqb, eqb-true, ne_eqb, true≢false, append-nil}
+use Rattle.std.proofs.Math.Seq.{drop-cons}
+use Rattle.std.proofs.lemmas.List.{append_assoc, reverse-append}
+use Rattle.std.specs.Global.{Vec}
+use Rattle.entry.specs.Entry.{Entry}
+use Rattle.history.specs.declared.req.Req.{Req}
+use Rattle.history.specs.declared.event.Event.{Event}
+use Rattle.history.specs.declared.event.Event.TheVariants.{Submit}
+use Rattle.history.specs.History.{submits}
+use Rattle.history.proofs.Requests.{bool_cases}
+use Rattle.history.specs.Chains.{before_in, hosts}
+use Rattle.steps.specs.declared.line.Line.{Line}
+use Rattle.steps.specs.declared.line.Line.TheVariants.{Did, Lent, Noted}
+use Rattle.steps.specs.declared.view.Role.{Role}
+use Rattle.steps.specs.declared.view.Role.TheVariants.{Submitter, Lending}
+use Rattle.steps.specs.declared.view.View.{View}
+use Rattle.steps.specs.Fairness.{IsFree}
+use Rattle.steps.specs.Journal.{event_of, events_of, Serves}
+use Rattle.steps.specs.Cells.{cells_in, facts_at, user_at}
+use Rattle.steps.specs.Rule.{owns, ExtendsThrice}
+use Rattle.steps.proofs.JournalGrowth.{same_submits}
+use Rattle.steps.proofs.ViewsKept.{submits_after}
+use Rattle.work.specs.Board.{Facts}
+use Rattle.work.specs.Passes.{Pass, seen_of, own_of, Took}
+use Rattle.work.proofs.RunsKept.{took_both}
+use Rattle.board.specs.Batches.{Entries, AreServed, AreFit, IsReady, is_empty, submits_of}
+use Rattle.board.specs.Calls.{EndsWith, Goes}
+use Rattle.board.specs.Lanes.{nth, RefusesRoom}
+use Rattle.board.specs.Refusals.{RefusesBatch}
+use Rattle.board.specs.declared.error.SubmitError.{SubmitError}
+use Rattle.board.specs.declared.error.SubmitError.TheVariants.{Full, Spent}
+use Rattle.board.proofs.GoesLaws.{goes_still, events_before, event_before}
+use Rattle.board.proofs.LanesKept.{just_before}
+use Rattle.board.proofs.SubmitterSeats.{submits_it, lends_it}
+use Rattle.board.proofs.Submitting.{free_then}
+
+-- what is left of a batch from its i-th entry on
+pub left_at : (xs : Entries) (i : ℕ) (x : Entry × Vec ℕ) → i < length xs → x ≡ get_or xs i x → drop i xs ≡ x ∷ drop (suc i) xs
+left_at xs i x lt is = drop-cons xs i x lt ∙ ap (λ (z : Entry × Vec ℕ). z ∷ drop (suc i) xs) (sym is)
+
+pub none_left : (xs : Entries) (i : ℕ) → length xs ≤ i → drop i xs ≡ []
+none_left [] zero le = refl
+none_left [] (suc i) le = refl
+none_left (x ∷ xs) zero le = absurd (omega arith)
+none_left (x ∷ xs) (suc i) le = none_left xs i (omega arith)
+
+pub is_last : (xs : Entries) (i : ℕ) → i < length xs → is_empty (drop (suc i) xs) ≡ (i + 1 == length xs)
+is_last [] i lt = absurd (omega arith)
+is_last (x ∷ []) zero lt = sym (eq-eqb (0 + 1) (length (x ∷ [])) refl)
+is_last (x ∷ y ∷ xs) zero lt = sym (ne_eqb (0 + 1) (length (x ∷ y ∷ xs)) (λ e. let n : ℕ = length xs in omega arith))
+is_last (x ∷ xs) (suc i) lt = is_last xs i (omega arith) ∙ same_test (i + 1) (length xs) (suc i + 1) (length (x ∷ xs)) (omega arith) (let n : ℕ = length xs in omega arith) where
+  same_test : (a b c d : ℕ) → c ≡ a + 1 → d ≡ b + 1 → (a == b) ≡ (c == d)
+  same_test a b c d u v = ⊎_elim
+      (λ (w : (a == b) ≡ true). w ∙ sym (eq-eqb c d (let e : a ≡ b = eqb-true a b w in omega arith)))
+      (λ (w : (a == b) ≡ false). w ∙ sym (ne_eqb c d (λ e. true≢false (sym (eq-eqb a b (omega arith)) ∙ w))))
+      (bool_cases (a == b))
+
+-- ---- a pass that goes on by several events of its own
+
+own_concat : (role : Role) (k l : List Line) → own_of role (k ++ l) ≡ own_of role k ++ own_of role l
+own_concat role [] l = refl
+own_concat role (x ∷ k) l = by_owner (owns role x) (own_concat role k l) where
+  by_owner : (b : Bool) → own_of role (k ++ l) ≡ own_of role k ++ own_of role l → cond b (event_of x (own_of role (k ++ l))) (own_of role (k ++ l)) ≡ cond b (event_of x (own_of role k)) (own_of role k) ++ own_of role l
+  by_owner true e = ap (event_of x) e ∙ event_before x (own_of role k) (own_of role l)
+  by_owner false e = e
+
+pub goes_more : (b : Facts) (p m q : Pass) (e : Event) (es : List Event) → Goes b p es m → Goes b m (e ∷ []) q → Goes b p (e ∷ es) q
+goes_more b p m q e es x y = record {
+  kept = y.kept;
+  role_is = y.role_is ∙ x.role_is;
+  later = y.later ++ x.later;
+  seen_is = y.seen_is ∙ (ap (λ (j : List Line). y.later ++ j) x.seen_is ∙ sym (append_assoc y.later x.later p.view.seen));
+  own = own_concat p.view.role y.later x.later ∙ ((λ i. own_of (sym x.role_is i) y.later ++ x.own i) ∙ ap (λ (h : List Event). h ++ es) y.own);
+  last = subst (EndsWith (e ∷ es)) (sym (events_before y.later x.later)) (y.last.0 ++ events_of x.later, ap (λ (z : List Event). z ++ events_of x.later) y.last.1);
+}
+
+-- ---- a batch, entry by entry
+
+-- a submitter that has submitted some of a batch, and may submit the rest
+pub record Going (b : Facts) (p q : Pass) (ring k : ℕ) (all rest : Entries) : Type 0 where
+  pub at : ℕ
+  pub done : List Event
+  pub goes : Goes b p done q
+  pub events : submits_of ring k all ≡ submits_of ring at rest ++ done
+  pub ready : IsReady b q ring at rest
+  pub took : (n : ℕ) × Took p.view q.view n × (n + 3 * length rest ≡ 3 * length all)
+
+pub going_start : (b : Facts) (p : Pass) (ring k : ℕ) (all : Entries) → IsReady b p ring k all → Going b p p ring k all all
+going_start b p ring k all r = record {
+  at = k;
+  done = [];
+  goes = goes_still b p r.of;
+  events = sym (append-nil (submits_of ring k all));
+  ready = r;
+  took = (0, ([], refl, refl), omega arith);
+}
+
+pub going_more : (b : Facts) (p q w : Pass) (ring k : ℕ) (all rest : Entries) (x : Entry × Vec ℕ) (r : Req) (last : Bool) (g : Going b p q ring k all (x ∷ rest)) → last ≡ is_empty rest → r ≡ nth ring g.at → Goes b q (Submit r x.0 x.1.items last ∷ []) w → Took q.view w.view 3
+    → submits (seen_of w) ring ≡ g.at + 1 → before_in (seen_of w) (nth ring (g.at + 1)) ≡ Some (record { entry = x.0; bytes = x.1.items; last = last }) → Going b p w ring k all rest
+going_more b p q w ring k all rest x r last g ends is goes took next before' = let e : Event = Submit (nth ring g.at) x.0 x.1.items (is_empty rest) in let y = g.ready in
+    let go : Goes b q (e ∷ []) w = subst (λ (z : Req × Bool). Goes b q (Submit z.0 x.0 x.1.items z.1 ∷ []) w) (λ i. (is i, ends i)) goes in
+    let before : before_in (seen_of w) (nth ring (g.at + 1)) ≡ Some (record { entry = x.0; bytes = x.1.items; last = is_empty rest }) = before' ∙ ap (λ (z : Bool). Some (record { entry = x.0; bytes = x.1.items; last = z })) ends in
+    let at : suc g.at ≡ g.at + 1 = omega arith in record {
+      at = suc g.at;
+      done = e ∷ g.done;
+      goes = goes_more b p q w e g.done g.goes go;
+      events = g.events ∙ append_assoc (submits_of ring (suc g.at) rest) (e ∷ []) g.done;
+      ready = record {
+        of = go.kept;
+        role = go.role_is ∙ y.role;
+        next = at ∙ sym next;
+        free = λ i lt. subst (λ (z : ℕ). IsFree b.layout.cells (seen_of w) (nth ring z)) (let e' : g.at + suc i ≡ suc g.at + i = omega arith in e') (free_then b q w (e ∷ []) (nth ring (g.at + suc i)) go (y.free (suc i) (let n : ℕ = length rest in omega arith)));
+        fresh = λ i lt. subst (λ (z : ℕ). z / cells_in b.layout.cells ring < 16777215) (let e' : g.at + suc i ≡ suc g.at + i = omega arith in e') (y.fresh (suc i) (let n : ℕ = length rest in omega arith));
+        served = subst (λ (z : Bool). AreServed z rest) (sym (ap (λ (m : ℕ). hosts (before_in (seen_of w) (nth ring m))) at ∙ ap hosts before)) y.served.1;
+        fit = y.fit.1;
+      };
+      took = (let t = g.took in (3 + t.0, took_both p.view q.view w.view t.0 3 t.1 took, (let c = t.2 in let n : ℕ = length rest in omega arith)));
+    }
+
+-- what the Submit of the next request leaves of what its submitter knows
+pub thrice_next : (v t : View) (ring next fact user c : ℕ) (r : Req) (e : Entry) (bytes : List ℕ) (last : Bool) → v.role ≡ Submitter ring → r ≡ nth ring next → submits (events_of v.seen) ring ≡ next
+    → ExtendsThrice v (Lent r (facts_at c) fact) (Lending r) (Noted r (user_at c) user) (Lending r) (Did (Submit r e bytes last)) (Submitter r.ring) t
+    → (submits (events_of t.seen) ring ≡ next + 1) × (before_in (events_of t.seen) (nth ring (next + 1)) ≡ Some (record { entry = e; bytes = bytes; last = last }))
+thrice_next v t ring next fact user c r e bytes last role is now x =
+    let at : r.ring ≡ ring = ap (λ (z : Req). z.ring) is in let u : View = x.0 in let w : View = x.2.0 in let l : Line = Did (Submit r e bytes last) in let y = x.2.2 in
+    let one = submits_it v ring role in let two = lends_it u r ring (ap (λ (z : View). z.role) x.1.is) at in let three = lends_it w r ring (ap (λ (z : View). z.role) x.2.1.is) at in
+    let counted : submits (events_of w.seen) ring ≡ next = submits_after u w _ _ (λ j. refl) x.2.1 ring two ∙ (submits_after v u _ _ (λ j. refl) x.1 ring one ∙ now) in
+    let seen : t.seen ≡ l ∷ (y.saw.later ++ w.seen) = ap (λ (z : View). z.seen) y.is ∙ ap (λ (j : List Line). l ∷ j) y.saw.is in
+    let before : submits (events_of (y.saw.later ++ w.seen)) ring ≡ next = same_submits w.role ring three y.saw.later w.seen y.saw.none ∙ counted in (
+      ap (λ (j : List Line). submits (events_of j) ring) seen ∙ (ap (λ (z : Bool). cond z 1 0 + submits (events_of (y.saw.later ++ w.seen)) ring) (eq-eqb r.ring ring at) ∙ (let n : ℕ = submits (events_of (y.saw.later ++ w.seen)) ring in let z : n ≡ next = before in let o : 1 + n ≡ next + 1 = omega arith in o)),
+      ap (λ (j : List Line). before_in (events_of j) (nth ring (next + 1))) seen ∙ (ap (λ (z : Req). before_in (Submit z e bytes last ∷ events_of (y.saw.later ++ w.seen)) (nth ring (next + 1))) is ∙ just_before ring next e bytes last (events_of (y.saw.later ++ w.seen))),
+    )
+
+-- the entry that is taken off the end of a list turned round
+pub popped : (xs ys : Entries) (x : Entry × Vec ℕ) → xs ≡ ys ++ x ∷ [] → reverse xs ≡ x ∷ reverse ys
+popped xs ys x is = ap reverse is ∙ reverse-append ys (x ∷ [])
+
+pub empty_is : (xs : Entries) → is_empty xs ≡ (length xs == 0)
+empty_is [] = refl
+empty_is (x ∷ xs) = sym (ne_eqb (length (x ∷ xs)) 0 (λ e. let n : ℕ = length xs in omega arith))
+
+-- what a submitter that goes on with a batch may do now
+module _ (b : Facts) (p q : Pass) (ring k : ℕ) (all rest : Entries) (x : Entry × Vec ℕ) (g : Going b p q ring k all (x ∷ rest)) where
+  pub going_ring : (i : ℕ) → q.view.role ≡ Submitter i → ring ≡ i
+  going_ring i role = let z = sym g.ready.role ∙ role in cc
+
+  pub going_free : (i : ℕ) → q.view.role ≡ Submitter i → IsFree b.layout.cells (seen_of q) (nth i (submits (seen_of q) i)) × (submits (seen_of q) i / cells_in b.layout.cells i < 16777215)
+  going_free i role = let r = going_ring i role in let at : g.at + 0 ≡ submits (seen_of q) ring = (let n = g.ready.next in omega arith) in
+      subst (λ (z : ℕ). IsFree b.layout.cells (seen_of q) (nth z (submits (seen_of q) z)) × (submits (seen_of q) z / cells_in b.layout.cells z < 16777215)) r
+      (subst (λ (z : ℕ). IsFree b.layout.cells (seen_of q) (nth ring z)) at (g.ready.free 0 (let n : ℕ = length rest in omega arith)), subst (λ (z : ℕ). z / cells_in b.layout.cells ring < 16777215) at (g.ready.fresh 0 (let n : ℕ = length rest in omega arith)))
+
+  pub going_served : (i : ℕ) → q.view.role ≡ Submitter i → Serves (before_in (seen_of q) (nth i (submits (seen_of q) i))) x.0
+  going_served i role = let r = going_ring i role in subst (λ (z : ℕ). Serves (before_in (seen_of q) (nth z (submits (seen_of q) z))) x.0) r (subst (λ (z : ℕ). Serves (before_in (seen_of q) (nth ring z)) x.0) g.ready.next g.ready.served.0)
+
+-- nothing is left
+pub reverse_none : (xs : Entries) → length xs ≡ 0 → reverse xs ≡ []
+reverse_none [] e = refl
+reverse_none (x ∷ xs) e = absurd (let n : ℕ = length xs in omega arith)
+
+pub going_end : (b : Facts) (p q : Pass) (ring k : ℕ) (all rest : Entries) → rest ≡ [] → Going b p q ring k all rest → Goes b p (submits_of ring k all) q × Took p.view q.view (3 * length all)
+going_end b p q ring k all rest none g = let e : submits_of ring k all ≡ g.done = g.events ∙ ap (λ (z : Entries). submits_of ring g.at z ++ g.done) none in let t = g.took in let n : 3 * length all ≡ t.0 = (let z : length rest ≡ 0 = ap (λ (z : Entries). length z) none in let c = t.2 in omega arith) in
+    (subst (λ (es : List Event). Goes b p es q) (sym e) g.goes, subst (λ (m : ℕ). Took p.view q.view m) (sym n) t.1)
+
+pub turned_back : (xs : Entries) → reverse (reverse xs) ≡ xs
+turned_back [] = refl
+turned_back (x ∷ xs) = ap reverse (reverse-append (x ∷ []) xs) ∙ (reverse-append (reverse xs) (x ∷ []) ∙ ap (λ (z : Entries). x ∷ z) (turned_back xs))
+
+-- why there was no room for a batch
+pub batch_reason : (b : Facts) (xs : Entries) (ring k : ℕ) (p q : Pass) (error : SubmitError) → AreServed (hosts (before_in (seen_of p) (nth ring k))) xs × AreFit xs → RefusesRoom b.layout.cells ring k (length xs) p q error → RefusesBatch b xs ring k p q error
+batch_reason b xs ring k p q Full fits no' = (fits, no')
+batch_reason b xs ring k p q Spent fits no' = (fits, no')
+batch_reason b xs ring k p q error fits no' = absurd no'

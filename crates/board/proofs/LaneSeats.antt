@@ -1,0 +1,97 @@
+-- A submitter's seat and lane from one call to the next.
+use Rattle.std.proofs.Common.{◌≡◌, ◌⊎◌, ℕ, zero, suc, ◌+◌, ◌*◌, ◌<◌, ◌≤◌, Bool, true, List, ◌∷◌, ◌++◌, Option, Some, length, get_or, set, sym, refl, ap, ◌∙◌, subst, arith, eq-eqb}
+use Rattle.entry.specs.Entry.{Entry}
+use Rattle.history.specs.declared.req.Req.{Req}
+use Rattle.history.specs.declared.event.Event.TheVariants.{Submit, Reap}
+use Rattle.history.specs.History.{submits}
+use Rattle.history.specs.Chains.{before_in, hosts}
+use Rattle.steps.proofs.JournalGrowth.{same_submits, same_before}
+use Rattle.history.specs.Legal.{Legal}
+use Rattle.steps.specs.declared.line.Line.{Line}
+use Rattle.steps.specs.declared.line.Line.TheVariants.{Did, Lent, Noted}
+use Rattle.steps.specs.declared.view.Layout.{Layout}
+use Rattle.steps.specs.declared.view.Role.{Role}
+use Rattle.steps.specs.declared.view.Role.TheVariants.{Submitter, Lending}
+use Rattle.steps.specs.declared.view.View.{View}
+use Rattle.steps.specs.Fairness.{IsFree}
+use Rattle.steps.specs.Journal.{events_of}
+use Rattle.steps.specs.Cells.{setup_of, cells_in, facts_at, user_at}
+use Rattle.steps.specs.Rule.{Extends, ExtendsTwice, ExtendsThrice}
+use Rattle.steps.proofs.FreeCells.{free_later}
+use Rattle.std.specs.Prelude.{IfOk, IfErr}
+use Rattle.std.specs.declared.result.Result.{Result}
+use Rattle.std.specs.declared.result.Result.TheVariants.{Ok, Err}
+use Rattle.work.specs.Passes.{Pass, pass_of, seen_of}
+use Rattle.board.specs.declared.lane.Lane.{Lane}
+use Rattle.board.specs.Lanes.{nth, KnowsChains, IsLane, Watched}
+use Rattle.board.proofs.LanesKept.{chains_extended, chains_submitted}
+use Rattle.board.proofs.LaneWalks.{TableSeat, reseat, watched_layout}
+use Rattle.board.proofs.SubmitterSeats.{submits_it, lends_it}
+
+-- a seat that heard another
+pub lane_hears : (s t : TableSeat) (a : Lane) → IsLane s a → (parts : ℕ) (heard : List (List Line)) → t.me ≡ ((let v : View = record s.me.0 { parts = parts; heard = heard } in v), s.me.1) → IsLane t a
+lane_hears s t a l parts heard is = let k = l.0 in let c = l.1 in reseat s t a (subst (λ (z : _). IsLane (record s { me = z }) a) (sym is) (
+  record { role = k.role; bare = k.bare; ring_there = k.ring_there; next_is = k.next_is; narrow = k.narrow; few = k.few; unlent = k.unlent; many = k.many; legal = k.legal; knows = k.knows },
+  record { orderly = c.orderly; hosted_is = c.hosted_is; done_are = c.done_are; low = c.low; near = c.near },
+))
+
+-- a new seat, which has seen nothing
+pub chains_fresh : (v : View) (ring : ℕ) → v.seen ≡ Rattle.std.proofs.Common.[] → KnowsChains v ring 0 0 Rattle.std.proofs.Common.false
+chains_fresh v ring none = record {
+  orderly = subst (λ (j : List Line). Rattle.steps.specs.Fairness.Orderly v.layout j) (sym none) tt;
+  hosted_is = refl;
+  done_are = λ k lt. absurd (omega arith);
+  low = omega arith;
+  near = omega arith;
+}
+
+-- what was seen after a line begins with what was seen before
+grown : (v w : View) (l : Line) (role : Role) → Extends v l role w → (later : List Line) × (w.seen ≡ later ++ v.seen) × Legal (setup_of v.layout) (events_of w.seen) × (w.layout ≡ v.layout)
+grown v w l role x = (l ∷ x.saw.later, ap (λ (z : View). z.seen) x.is ∙ ap (λ (j : List Line). l ∷ j) x.saw.is, subst (λ (j : List Line). Legal (setup_of v.layout) (events_of j)) (sym (ap (λ (z : View). z.seen) x.is)) x.legal, ap (λ (z : View). z.layout) x.is)
+
+free_on : (v w : View) (l : Line) (role : Role) (q : Req) → Extends v l role w → IsFree v.layout.cells (events_of v.seen) q → IsFree w.layout.cells (events_of w.seen) q
+free_on v w l role q x free = let g = grown v w l role x in
+    subst (λ (z : Layout × List Line). IsFree z.0.cells (events_of z.1) q) (λ i. (sym g.3 i, sym g.1 i)) (free_later (setup_of v.layout) v.layout.cells g.0 v.seen q (subst (λ (j : List Line). Legal (setup_of v.layout) (events_of j)) g.1 g.2) free)
+
+-- the chains after a Submit of the next request
+pub chains_after : (v t : View) (ring next done : ℕ) (hosted : Bool) (r : Req) (e : Entry) (bytes : List ℕ) (last : Bool) (done' : ℕ) (hosted' : Bool) → v.role ≡ Submitter ring → r ≡ nth ring next → KnowsChains v ring next done hosted → (c fact user : ℕ)
+    → ExtendsThrice v (Lent r (facts_at c) fact) (Lending r) (Noted r (user_at c) user) (Lending r) (Did (Submit r e bytes last)) (Submitter r.ring) t → IsFree v.layout.cells (events_of v.seen) r
+    → hosted' ≡ hosts (Some (record { entry = e; bytes = bytes; last = last })) → (done' ≡ done) ⊎ ((done < done') × (done' + cells_in v.layout.cells ring ≡ next + 1)) → next + 1 ≤ done' + cells_in v.layout.cells ring → KnowsChains t ring (next + 1) done' hosted'
+chains_after v t ring next done hosted r e bytes last done' hosted' role is k c fact user x free host more near =
+    let at : r.ring ≡ ring = ap (λ (z : Req). z.ring) is in let u : View = x.0 in let w : View = x.2.0 in
+    let one = chains_extended v u ring next done hosted (submits_it v ring role) k _ (Lending r) (λ j. refl) x.1 in
+    let two = chains_extended u w ring next done hosted (lends_it u r ring (ap (λ (z : View). z.role) x.1.is) at) one _ (Lending r) (λ j. refl) x.2.1 in
+    let layout : w.layout ≡ v.layout = ap (λ (z : View). z.layout) x.2.1.is ∙ ap (λ (z : View). z.layout) x.1.is in
+    let free' : IsFree w.layout.cells (events_of w.seen) (nth ring next) = subst (λ (q : Req). IsFree w.layout.cells (events_of w.seen) q) is (free_on u w _ _ r x.2.1 (free_on v u _ _ r x.1 free)) in
+    let moved = subst (λ (M : Layout). ((done' ≡ done) ⊎ ((done < done') × (done' + cells_in M.cells ring ≡ next + 1))) × (next + 1 ≤ done' + cells_in M.cells ring)) (sym layout) (more, near) in
+    chains_submitted w t ring next done hosted (lends_it w r ring (ap (λ (z : View). z.role) x.2.1.is) at) two e bytes last (Submitter r.ring) done' hosted' (subst (λ (q : Req). Extends w (Did (Submit q e bytes last)) (Submitter r.ring) t) is x.2.2) free' host moved.0 moved.1
+
+-- and after a Reap
+pub chains_reaped : (v t : View) (ring next done : ℕ) (hosted : Bool) (r : Req) → v.role ≡ Submitter ring → r.ring ≡ ring → KnowsChains v ring next done hosted → (c fact : ℕ) → ExtendsTwice v (Lent r (facts_at c) fact) (Lending r) (Did (Reap r)) (Submitter r.ring) t → KnowsChains t ring next done hosted
+chains_reaped v t ring next done hosted r role at k c fact x = let u : View = x.0 in
+    chains_extended u t ring next done hosted (lends_it u r ring (ap (λ (z : View). z.role) x.1.is) at) (chains_extended v u ring next done hosted (submits_it v ring role) k _ (Lending r) (λ j. refl) x.1) _ (Submitter r.ring) (λ j. refl) x.2
+
+-- of an answer more is so
+pub ok_more : {T E : Type 0} (r : Result T E) (P Q : T → Type 0) → ((x : T) → P x → Q x) → IfOk r P → IfOk r Q
+ok_more (Ok x) P Q f p = f x p
+ok_more (Err e) P Q f p = tt
+
+pub err_more : {T E : Type 0} (r : Result T E) (P Q : E → Type 0) → ((e : E) → P e → Q e) → IfErr r P → IfErr r Q
+err_more (Ok x) P Q f p = tt
+err_more (Err e) P Q f p = f e p
+
+-- the ring of a lane, and its next request, as its pass tells
+pub lane_ring : (s : TableSeat) (a : Lane) (p : Pass) → IsLane s a → pass_of s ≡ p → (ring : ℕ) → p.view.role ≡ Submitter ring → (a.ring ≡ ring) × (a.next ≡ submits (seen_of p) ring)
+lane_ring s a p l is ring role = let r : a.ring ≡ ring = (let z = sym l.0.role ∙ (ap (λ (q : Pass). q.view.role) is ∙ role) in cc) in
+    (r, l.0.next_is ∙ (λ i. submits (events_of (is i).view.seen) (r i)))
+
+-- what only a ring's submitter changes stays as it is while it looks
+pub watched_submits : (n : ℕ) (v w : View) (ring : ℕ) → v.role ≡ Submitter ring → Watched n v w → submits (events_of w.seen) ring ≡ submits (events_of v.seen) ring
+watched_submits zero v w ring role k = ap (λ (z : View). submits (events_of z.seen) ring) k
+watched_submits (suc n) v w ring role k = let m : View = k.0 in let x = k.2 in let r = (watched_layout n v m k.1).1 ∙ role in
+    ap (λ (j : List Line). submits (events_of j) ring) (ap (λ (z : View). z.seen) x.is ∙ x.saw.is) ∙ (same_submits m.role ring (submits_it m ring r) x.saw.later m.seen x.saw.none ∙ watched_submits n v m ring role k.1)
+
+pub watched_before : (n : ℕ) (v w : View) (ring k : ℕ) → v.role ≡ Submitter ring → Watched n v w → before_in (events_of w.seen) (nth ring k) ≡ before_in (events_of v.seen) (nth ring k)
+watched_before zero v w ring k role l = ap (λ (z : View). before_in (events_of z.seen) (nth ring k)) l
+watched_before (suc n) v w ring k role l = let m : View = l.0 in let x = l.2 in let r = (watched_layout n v m l.1).1 ∙ role in
+    ap (λ (j : List Line). before_in (events_of j) (nth ring k)) (ap (λ (z : View). z.seen) x.is ∙ x.saw.is) ∙ (same_before m.role ring (submits_it m ring r) (nth ring k) refl x.saw.later m.seen x.saw.none ∙ watched_before n v m ring k role l.1)

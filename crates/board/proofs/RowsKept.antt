@@ -1,0 +1,68 @@
+-- The rows of all rings, from one look to the next.
+use Rattle.std.proofs.Common.{◌≡◌, ℕ, zero, suc, get_or, ◌+◌, ◌≤◌, ⊎_elim, ◌<◌, List, [], ◌∷◌, ◌++◌, Some, length, set, sym, ap, ◌∙◌, subst, arith, length-set, length-append}
+use Rattle.std.specs.List.{slice_get}
+use Rattle.std.proofs.lemmas.Bool.{cases_lt}
+use Rattle.std.proofs.lemmas.Option.{slice_get_within}
+use mathlib.Core.Logic.{dite}
+use native.Mathlib.Decide.{ℕ_discrete}
+use Rattle.gates.specs.Rows.{Kept, Stands}
+use Rattle.gates.specs.Shows.{Trails}
+use Rattle.gates.proofs.Lists.{get_before, get_last, get_set_same, get_set_other, one_some}
+use Rattle.gates.proofs.TrailLaws.{trails_none, trails_later}
+use Rattle.history.specs.declared.event.Event.{Event}
+use Rattle.history.specs.Legal.{Legal}
+use Rattle.steps.specs.declared.view.View.{View}
+use Rattle.steps.specs.Cells.{setup_of, cells_in}
+use Rattle.steps.specs.Journal.{events_of}
+use Rattle.steps.specs.Rule.{Looks}
+use Rattle.work.specs.Board.{Facts}
+use Rattle.work.specs.Passes.{Pass}
+use Rattle.board.specs.Calls.{Goes}
+use Rattle.board.specs.Rows.{KnowsRow, KnowsRows}
+use Rattle.board.proofs.GoesLaws.{events_before}
+use Rattle.board.proofs.RowLaws.{knows_goes}
+
+-- a look leaves what the rows tell
+pub rows_looked : (v w : View) (rows : List Kept) → Looks v w → KnowsRows v.layout.cells v.seen rows → KnowsRows w.layout.cells w.seen rows
+rows_looked v w rows x k =
+    let seen : w.seen ≡ x.saw.later ++ v.seen = ap (λ (z : View). z.seen) x.is ∙ x.saw.is in let h : events_of w.seen ≡ events_of x.saw.later ++ events_of v.seen = ap events_of seen ∙ events_before x.saw.later v.seen in
+    let now : events_of x.now ≡ events_of x.saw.later ++ events_of v.seen = ap events_of x.saw.is ∙ events_before x.saw.later v.seen in
+    let legal : Legal (setup_of v.layout) (events_of x.saw.later ++ events_of v.seen) = subst (λ (z : List Event). Legal (setup_of v.layout) z) now x.legal in
+    subst (λ (K : List ℕ). KnowsRows K w.seen rows) (sym (ap (λ (z : View). z.layout.cells) x.is)) record {
+      count = k.count;
+      each = λ i r e. (let n = k.each i r e in record { size = n.size; slots = n.slots; stands = n.stands; trails = subst (λ (z : List Event). Trails z i n.slots) (sym h) (trails_later (setup_of v.layout) (events_of x.saw.later) (events_of v.seen) legal i n.slots n.trails) });
+    }
+
+-- one row was changed, and the others are as they were
+pub rows_goes : (b : Facts) (p q : Pass) (es : List Event) (rows after : List Kept) (i : ℕ) (r : Kept) → Goes b p es q → KnowsRows b.layout.cells p.view.seen rows → after ≡ set rows i r → i < length rows → KnowsRow b.layout.cells q.view.seen i r → KnowsRows b.layout.cells q.view.seen after
+rows_goes b p q es rows after i r g k is lt n = record {
+  count = ap (λ (l : List Kept). length l) is ∙ (length-set rows i r ∙ k.count);
+  each = λ m s e. (let e' : slice_get (set rows i r) m ≡ Some s = ap (λ (l : List Kept). slice_get l m) (sym is) ∙ e in dite (ℕ_discrete m i)
+      (λ at. let one : r ≡ s = one_some r s (sym (ap (slice_get (set rows i r)) at ∙ get_set_same rows i r lt) ∙ e') in
+      subst (λ (z : ℕ). KnowsRow b.layout.cells q.view.seen z s) (sym at) (subst (λ (z : Kept). KnowsRow b.layout.cells q.view.seen i z) one n))
+      (λ ne. knows_goes b p q es g b.layout.cells m s (k.each m s (sym (get_set_other rows i m r ne) ∙ e'))));
+}
+
+-- ---- new rows
+
+-- the rows so far, of the first rings
+pub rows_none : (K : List ℕ) (rows : List Kept) → rows ≡ [] → (i : ℕ) (r : Kept) → slice_get rows i ≡ Some r → KnowsRow K [] i r
+rows_none K rows is i r e = absurd (let z = sym (ap (λ (l : List Kept). slice_get l i) is) ∙ e in cc)
+
+pub new_row : (K : List ℕ) (i : ℕ) (r : Kept) → r.size ≡ cells_in K i → Stands [] r → KnowsRow K [] i r
+new_row K i r size stands = record { size = size; slots = []; stands = stands; trails = trails_none [] i }
+
+-- an element that was looked up
+pub at_index : (xs : List Kept) (i : ℕ) (r : Kept) → i < length xs → r ≡ get_or xs i r → slice_get xs i ≡ Some r
+at_index [] i r lt e = absurd (omega arith)
+at_index (x ∷ xs) zero r lt e = ap Some (sym e)
+at_index (x ∷ xs) (suc i) r lt e = at_index xs i r (omega arith) e
+
+-- a row more
+pub rows_more : (K : List ℕ) (rows after : List Kept) (r : Kept) → ((i : ℕ) (s : Kept) → slice_get rows i ≡ Some s → KnowsRow K [] i s) → KnowsRow K [] (length rows) r → after ≡ rows ++ r ∷ [] → (i : ℕ) (s : Kept) → slice_get after i ≡ Some s → KnowsRow K [] i s
+rows_more K rows after r old n is i s e =
+    let e' : slice_get (rows ++ r ∷ []) i ≡ Some s = ap (λ (l : List Kept). slice_get l i) (sym is) ∙ e in let within = slice_get_within (rows ++ r ∷ []) i s e' in let l : length (rows ++ r ∷ []) ≡ length rows + 1 = length-append rows (r ∷ []) in ⊎_elim
+    (λ (a : i < length rows). old i s (sym (get_before rows r i a) ∙ e'))
+    (λ (a : length rows ≤ i). let at : i ≡ length rows = omega arith in let one : r ≡ s = one_some r s (sym (ap (slice_get (rows ++ r ∷ [])) at ∙ get_last rows r) ∙ e') in
+    subst (λ (z : ℕ). KnowsRow K [] z s) (sym at) (subst (λ (z : Kept). KnowsRow K [] (length rows) z) one n))
+    (cases_lt i (length rows))

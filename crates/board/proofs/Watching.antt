@@ -1,0 +1,113 @@
+-- The poller's seat looks, and the steps of its looks are paid for.
+use Rattle.std.proofs.Common.{◌≡◌, ℕ, ◌+◌, ◌<◌, ◌≤◌, List, [], ◌∷◌, ◌++◌, Option, length, sym, refl, ap, ◌∙◌, subst, arith, length-append}
+use Rattle.std.proofs.lemmas.List.{append_assoc}
+use Rattle.atomic_table.specs.declared.shared.Seat.{Seat}
+use Rattle.history.specs.declared.req.Req.{Req}
+use Rattle.history.specs.History.{phase, submits, IsReplied}
+use Rattle.history.specs.Legal.{Legal}
+use Rattle.steps.specs.declared.line.Line.{Line}
+use Rattle.steps.specs.declared.parcel.Thing.{Thing}
+use Rattle.steps.specs.declared.view.Role.TheVariants.{Poller}
+use Rattle.steps.specs.declared.view.Step.{Step}
+use Rattle.steps.specs.declared.view.View.{View}
+use Rattle.steps.specs.Cells.{setup_of}
+use Rattle.steps.specs.Journal.{events_of}
+use Rattle.steps.specs.Rule.{IsSameSeat, IsStep, Looks}
+use Rattle.steps.specs.Fairness.{IsReaped}
+use Rattle.steps.proofs.FreeCells.{reaped_later}
+use Rattle.steps.proofs.JournalGrowth.{submits_grow, replied_later}
+use Rattle.work.specs.Board.{Facts}
+use Rattle.work.specs.Passes.{pass_of}
+use Rattle.board.specs.Calls.{LastAt, Stepped, FoundHeld}
+use Rattle.board.specs.Seats.{IsPollerSeat}
+use Rattle.board.specs.Rows.{IsOurs, Watched, Paid, Decided, Decides}
+use Rattle.board.specs.declared.poller.Released.{Released}
+use Rattle.board.specs.declared.poller.Released.TheVariants.{Severed as IsSevered, Freed as IsFreed, Shut as IsShut, Timer as IsTimer, NotHeld}
+use Rattle.board.proofs.GoesLaws.{goes_looked, goes_still, goes_then}
+use Rattle.board.proofs.PassFacts.{freed_looked}
+
+abbrev TableSeat : Type 0
+TableSeat = Seat (Option Thing) View
+
+pub seat_looked : (s t : TableSeat) → IsPollerSeat s → t.me.1 ≡ s.me.1 → Looks s.me.0 t.me.0 → IsPollerSeat t
+seat_looked s t k same x = record { role = ap (λ (z : View). z.role) x.is ∙ (k.role ∙ ap (λ (z : View). Poller (length z.layout.cells)) (sym x.is)); bare = same ∙ k.bare }
+
+pub watched_look : (b : Facts) (s t : TableSeat) → IsOurs b s → IsSameSeat s t × (t.me.1 ≡ s.me.1) → Looks s.me.0 t.me.0 → Watched b s t
+watched_look b s t o same x = record {
+  seat = seat_looked s t o.seat same.1 x;
+  goes = goes_looked b (pass_of s) (pass_of t) o.ours same.0.0 x;
+  freed_is = freed_looked s.me.0 t.me.0 (length s.me.0.layout.cells) o.seat.role x;
+}
+
+pub watched_none : (b : Facts) (s : TableSeat) → IsOurs b s → Watched b s s
+watched_none b s o = record { seat = o.seat; goes = goes_still b (pass_of s) o.ours; freed_is = λ q. refl }
+
+pub watched_then : (b : Facts) (s t u : TableSeat) → Watched b s t → Watched b t u → Watched b s u
+watched_then b s t u x y = record { seat = y.seat; goes = goes_then b (pass_of s) (pass_of t) (pass_of u) [] x.goes y.goes; freed_is = λ q. y.freed_is q ∙ x.freed_is q }
+
+pub still_ours : (b : Facts) (s t : TableSeat) → Watched b s t → IsOurs b t
+still_ours b s t x = record { ours = x.goes.kept; seat = x.seat }
+
+-- what was seen stays
+pub legal_on : (b : Facts) (s t : TableSeat) (x : Watched b s t) → Legal (setup_of b.layout) (events_of (x.goes.later ++ s.me.0.seen))
+legal_on b s t x = subst (λ (j : List Line). Legal (setup_of b.layout) (events_of j)) x.goes.seen_is x.goes.kept.legal
+
+pub born_on : (b : Facts) (s t : TableSeat) (i k : ℕ) → Watched b s t → k < submits (events_of s.me.0.seen) i → k < submits (events_of t.me.0.seen) i
+born_on b s t i k x lt = subst (λ (j : List Line). k < submits (events_of j) i) (sym x.goes.seen_is) (let z = submits_grow (setup_of b.layout) x.goes.later s.me.0.seen i in omega arith)
+
+pub replied_on : (b : Facts) (s t : TableSeat) (q : Req) → Watched b s t → IsReplied (phase (events_of s.me.0.seen) q) → IsReplied (phase (events_of t.me.0.seen) q)
+replied_on b s t q x is = subst (λ (j : List Line). IsReplied (phase (events_of j) q)) (sym x.goes.seen_is) (replied_later (setup_of b.layout) x.goes.later s.me.0.seen q (legal_on b s t x) is)
+
+pub reaped_on : (b : Facts) (s t : TableSeat) (q : Req) → Watched b s t → IsReaped (phase (events_of s.me.0.seen) q) → IsReaped (phase (events_of t.me.0.seen) q)
+reaped_on b s t q x is = subst (λ (j : List Line). IsReaped (phase (events_of j) q)) (sym x.goes.seen_is) (reaped_later (setup_of b.layout) x.goes.later s.me.0.seen q (legal_on b s t x) is)
+
+-- ---- steps
+
+pub paid_none : (v : View) (n : ℕ) → Paid v v n n
+paid_none v n = ([], refl, omega arith)
+
+pub paid_one : (word found : ℕ) (v w : View) → IsStep word found v w → Paid v w 0 1
+paid_one word found v w is = (record { word = word; found = found; seen = w.seen } ∷ [], is, omega arith)
+
+pub paid_then : (u v w : View) (a b c d n : ℕ) → Paid u v b a → Paid v w d c → c + n ≡ b → Paid u w (d + n) a
+paid_then u v w a b c d n x y e = (y.0 ++ x.0, y.1 ∙ (ap (λ (l : List Step). y.0 ++ l) x.1 ∙ sym (append_assoc y.0 x.0 u.steps)), (let l = length-append y.0 x.0 in let p = x.2 in let q = y.2 in omega arith))
+
+pub paid_on : (u v w : View) (a b c : ℕ) → Paid u v b a → Paid v w c b → Paid u w c a
+paid_on u v w a b c x y = (y.0 ++ x.0, y.1 ∙ (ap (λ (l : List Step). y.0 ++ l) x.1 ∙ sym (append_assoc y.0 x.0 u.steps)), (let l = length-append y.0 x.0 in let p = x.2 in let q = y.2 in omega arith))
+
+-- one step of two
+pub paid_first : (word found : ℕ) (v w : View) → IsStep word found v w → Paid v w 1 2
+paid_first word found v w is = let z = paid_one word found v w is in (z.0, z.1, omega arith)
+
+pub paid_with : (v w : View) (a b c d : ℕ) → Paid v w b a → (n : ℕ) → a + n ≤ c → d ≤ b + n → Paid v w d c
+paid_with v w a b c d x n p q = (x.0, x.1, (let z = x.2 in omega arith))
+
+-- ---- what a look before a decision leaves
+
+pub last_after : (K : List ℕ) (r : Req) (s t u : TableSeat) (b : Facts) (cell gen found n m : ℕ) → Paid s.me.0 t.me.0 n m → LastAt K r (pass_of t) (pass_of u) cell gen found → LastAt K r (pass_of s) (pass_of u) cell gen found
+last_after K r s t u b cell gen found n m x k = record {
+  others = k.others ++ x.0;
+  cell_is = k.cell_is;
+  last = k.last ∙ ap (λ (l : List Step). record { word = Rattle.steps.specs.Cells.claim_at cell; found = found; seen = u.me.0.seen } ∷ l) (ap (λ (l : List Step). k.others ++ l) x.1 ∙ sym (append_assoc k.others x.0 s.me.0.steps));
+}
+
+pub stepped_after : (K : List ℕ) (r : Req) (s t u : TableSeat) (b : Facts) (n m : ℕ) → Paid s.me.0 t.me.0 n m → Stepped K r (pass_of t) (pass_of u) → Stepped K r (pass_of s) (pass_of u)
+stepped_after K r s t u b n m x k = (k.0, k.1, k.2, last_after K r s t u b k.0 k.1 k.2 n m x k.3, k.4)
+
+found_after : (K : List ℕ) (r : Req) (s t u : TableSeat) (b : Facts) (n m : ℕ) → Paid s.me.0 t.me.0 n m → FoundHeld K r (pass_of t) (pass_of u) → FoundHeld K r (pass_of s) (pass_of u)
+found_after K r s t u b n m x k = (k.0, k.1, last_after K r s t u b k.0 k.1 _ n m x k.2)
+
+decided_after : (b : Facts) (r : Req) (s t u : TableSeat) (n m : ℕ) (y : Released) → Paid s.me.0 t.me.0 n m → Decided b r (pass_of t) (pass_of u) y → Decided b r (pass_of s) (pass_of u) y
+decided_after b r s t u n m IsSevered x d = (d.0, found_after b.layout.cells r s t u b n m x d.1)
+decided_after b r s t u n m IsFreed x d = (d.0, d.1, found_after b.layout.cells r s t u b n m x d.2)
+decided_after b r s t u n m IsShut x d = let w = d.1.1 in (d.0, (d.1.0, (w.0, w.1, stepped_after b.layout.cells d.1.0 s t u b n m x w.2)))
+decided_after b r s t u n m IsTimer x d = d
+decided_after b r s t u n m NotHeld x d = (d.0, stepped_after b.layout.cells r s t u b n m x d.1)
+
+pub decides_after : (b : Facts) (r : Req) (s t u : TableSeat) (n m : ℕ) (y : Released) → Watched b s t → Paid s.me.0 t.me.0 n m → Decides b r (pass_of t) (pass_of u) y → Decides b r (pass_of s) (pass_of u) y
+decides_after b r s t u n m y x p d = record {
+  goes = goes_then b (pass_of s) (pass_of t) (pass_of u) _ x.goes d.goes;
+  decided = decided_after b r s t u n m y p d.decided;
+  was_free = λ is. sym (x.freed_is r) ∙ d.was_free is;
+  others = λ i ne. d.others i ne ∙ x.freed_is i;
+}

@@ -1,0 +1,41 @@
+-- What the claim word and the facts of a request tell of its outcome.
+use Rattle.std.proofs.Common.{◌≡◌, ⊎_elim, ℕ, ◌+◌, ◌*◌, ◌<◌, ◌≤◌, ◌==◌, nat_lt, ltb-true, ltb-false, Bool, true, false, ℤ, List, Some, sym, refl, ap, ◌∙◌, subst, arith, mul-le-mul_right}
+use Rattle.claim.specs.Facts.{Facts, bit}
+use Rattle.claim.specs.declared.tag.Tag.TheVariants.{Done as DoneTag}
+use Rattle.entry.specs.Entry.{fails}
+use Rattle.history.specs.declared.req.Req.{Req}
+use Rattle.history.specs.History.{Cause, Phase, replied, reaped, phase, reply, reply_in}
+use Rattle.history.specs.declared.event.Event.{Event}
+use Rattle.history.proofs.Requests.{bool_cases}
+use Rattle.steps.specs.declared.line.Line.{Line}
+use Rattle.steps.specs.Cells.{IsCell, request_at, cells_in, ring_of, place_of, word_of, cause_bits}
+use Rattle.steps.specs.Fairness.{IsReaped}
+use Rattle.steps.specs.Journal.{events_of}
+use Rattle.steps.specs.Rule.{Shown}
+use Rattle.steps.proofs.ClaimWords.{done_word}
+use Rattle.board.specs.Rows.{HasOutcome, TellsFacts, IsNumbered}
+
+-- the generation of a request that a cell may have
+pub few_generations : (K : List ℕ) (x g : ℕ) (q : Req) → IsCell K x → request_at K x g ≡ q → IsNumbered K q → g < 16777216
+few_generations K x g q inside at n = ⊎_elim (λ w. ltb-true g 16777216 w)
+    (λ w. (let c : ℕ = cells_in K (ring_of K x) in let z = ltb-false g 16777216 w in let m : 16777216 * c ≤ g * c = mul-le-mul_right c z in
+    let k : g * c + place_of K x < 16777216 * c = subst (λ (r : Req). r.k < 16777216 * cells_in K r.ring) (sym at) n.few in let a : ℕ = g * c in let d : ℕ = 16777216 * c in let m' : d ≤ a = m in let k' : a + place_of K x < d = k in absurd (omega arith)))
+    (bool_cases (nat_lt g 16777216))
+
+-- of a request that is Done
+pub done_outcome : (K : List ℕ) (j : List Line) (x w g : ℕ) (q : Req) (c : Cause) (res : ℤ) (f : Bool) → Shown K j x w → request_at K x g ≡ q → phase (events_of j) q ≡ replied c res
+    → ((c : Cause) (f' : Bool) (g p : ℕ) → g < 16777216 → p < 4294967296 → w ≡ word_of DoneTag (cause_bits c f') g p → f ≡ f') → HasOutcome (events_of j) q f
+done_outcome K j x w g q c res f shown at is told =
+    let d = done_word K j x w shown.0 shown.1 g c res (subst (λ (r : Req). phase (events_of j) r ≡ replied c res) (sym at) is) in
+    subst (λ (r : Req). HasOutcome (events_of j) r f) at (d.entry, res, d.placed_is, ap reply_in (subst (λ (r : Req). phase (events_of j) r ≡ replied c res) (sym at) is), sym (told c (fails d.entry res) g d.payload d.fits.1 d.fits.2 d.word_is))
+
+bit_is : (b : Bool) → (bit b == 1) ≡ b
+bit_is true = refl
+bit_is false = refl
+
+-- of a request that was reaped
+pub left_outcome : (h : List Event) (q : Req) (w : Facts) → IsReaped (phase h q) → TellsFacts h q w → HasOutcome h q (w.payload == 1)
+left_outcome h q w gone t = let res = by_phase (phase h q) refl gone in (t.1, res.0, t.3, res.1, sym (ap (λ (n : ℕ). n == 1) (t.5 gone res.0 res.1) ∙ bit_is (fails t.1 res.0))) where
+  by_phase : (p : Phase) → phase h q ≡ p → IsReaped p → (res : ℤ) × (reply h q ≡ Some res)
+  by_phase (reaped c res) e r = (res, ap reply_in e)
+  by_phase p e r = absurd r

@@ -1,0 +1,7 @@
+use Rattle.std.proofs.Common.{◌↔◌, drop}
+use Rattle.board.specs.Batches.{AreFit}
+use Rattle.board.proofs.batch.are_fit.Given as goal
+
+-- the whole batch fits where what is left does
+abbrev pub invariant-loop-sqe : goal.invariant-loop-sqe
+invariant-loop-sqe l = AreFit l.fn.batch ↔ AreFit (drop l.sqe-index l.fn.batch)

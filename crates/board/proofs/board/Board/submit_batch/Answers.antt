@@ -1,0 +1,63 @@
+use Rattle.std.proofs.Common.{◌≡◌, ℕ, ◌+◌, ◌*◌, ◌/◌, ◌<◌, ◌≤◌, List, [], length, reverse, refl, sym, ap, ◌∙◌, subst, arith}
+use Rattle.std.proofs.lemmas.List.{length-reverse}
+use Rattle.history.specs.declared.req.Req.{Req}
+use Rattle.history.specs.History.{submits}
+use Rattle.history.specs.Chains.{before_in, hosts}
+use Rattle.steps.specs.declared.view.Role.TheVariants.{Submitter}
+use Rattle.steps.specs.Cells.{cells_in}
+use Rattle.steps.specs.Fairness.{IsFree}
+use Rattle.work.specs.Board.{Facts}
+use Rattle.work.specs.Passes.{Pass, seen_of, Took}
+use Rattle.work.proofs.RunsKept.{took_both}
+use Rattle.board.specs.Batches.{Entries, AreServed, AreFit, IsReady, submits_of}
+use Rattle.board.specs.Calls.{Goes, next_of}
+use Rattle.board.specs.Lanes.{nth, RefusesRoom}
+use Rattle.board.proofs.GoesLaws.{goes_then}
+use Rattle.board.proofs.LaneWalks.{watched_took}
+use Rattle.board.proofs.LaneSeats.{watched_submits, watched_before}
+use Rattle.board.proofs.Submitting.{goes_watched, free_then}
+use Rattle.board.proofs.BatchesKept.{batch_reason, turned_back}
+use Rattle.board.proofs.board.Board.submit_batch.Goals as goal
+
+pub returns-in-Err-clause-refused : goal.returns-in-Err-clause-refused
+returns-in-Err-clause-refused c = let b : Facts = c.args.self.now in let p : Pass = c.args.submitter.now in let m : Pass = c.room.new.self in let xs : Entries = c.args.batch.items in let r = c.in-Err.ensures in let go : Goes b p [] m = goes_watched b p m r.looks.0 c.requires r.table r.looks.2 in (go, refl)
+
+pub returns-in-Err-clause-reason : goal.returns-in-Err-clause-reason
+returns-in-Err-clause-reason c = λ ring role. let b : Facts = c.args.self.now in let p : Pass = c.args.submitter.now in let m : Pass = c.room.new.self in let xs : Entries = c.args.batch.items in let r = c.in-Err.ensures in let go : Goes b p [] m = goes_watched b p m r.looks.0 c.requires r.table r.looks.2 in let grid : c.self.inside.grid ≡ b.layout.cells = ap (λ (z : Facts). z.layout.cells) c.self.view_is in let count : c.len.result ≡ length xs = c.len.ensures ∙ c.args.batch.ok.0 in
+    let served : AreServed (hosts (before_in (seen_of p) (next_of p ring))) xs = subst (λ (z : _). AreServed z xs) (c.is_hosted.ensures.hosted ring role) (subst (AreServed c.is_hosted.result) c.as_slice.ensures.value (c.are_served.ensures.0 c.if-not-are_served.false)) in
+    let fits : AreFit xs = subst AreFit c.as_slice-2.ensures.value (c.are_fit.ensures.0 c.if-not-are_fit.false) in
+    batch_reason b xs ring (submits (seen_of p) ring) p m c.in-Err.error (served, fits) (subst (λ (z : List ℕ × ℕ). RefusesRoom z.0 ring (submits (seen_of p) ring) z.1 p m c.in-Err.error) (λ i. (grid i, count i)) (r.refused ring role))
+
+pub submit_all-requires : goal.submit_all-requires
+submit_all-requires c = let b : Facts = c.args.self.now in let p : Pass = c.args.submitter.now in let m : Pass = c.room.new.self in let xs : Entries = c.args.batch.items in let r = c.in_default.ensures in let go : Goes b p [] m = goes_watched b p m r.looks.0 c.requires r.table r.looks.2 in let n = c.next_request-req.ensures in let ring = c.next_request-req.result.ring in let old : p.view.role ≡ Submitter ring = sym go.role_is ∙ n.role in let same : submits (seen_of m) ring ≡ submits (seen_of p) ring = watched_submits r.looks.0 p.view m.view ring old r.looks.2 in let grid : c.self.inside.grid ≡ b.layout.cells = ap (λ (z : Facts). z.layout.cells) c.self.view_is in let count : c.len.result ≡ length xs = c.len.ensures ∙ c.args.batch.ok.0 in let back : reverse c.reverse.new.self.items ≡ xs = ap reverse c.reverse.ensures.items ∙ turned_back xs in
+    let served : AreServed (hosts (before_in (seen_of p) (next_of p ring))) xs = subst (λ (z : _). AreServed z xs) (c.is_hosted.ensures.hosted ring old) (subst (AreServed c.is_hosted.result) c.as_slice.ensures.value (c.are_served.ensures.0 c.if-not-are_served.false)) in
+    let fits : AreFit xs = subst AreFit c.as_slice-2.ensures.value (c.are_fit.ensures.0 c.if-not-are_fit.false) in
+    record {
+      ready = (
+        ring,
+        subst (IsReady b m ring (submits (seen_of m) ring)) (sym back) (subst (λ (k : ℕ). IsReady b m ring k xs) (sym same) record {
+          of = go.kept;
+          role = n.role;
+          next = sym same;
+          free = λ i lt. subst (λ (K : List ℕ). IsFree K (seen_of m) (nth ring (submits (seen_of p) ring + i))) grid (r.free ring old i (omega arith));
+          fresh = λ i lt. subst (λ (K : List ℕ). (submits (seen_of p) ring + i) / cells_in K ring < 16777215) grid (r.fresh ring old i (omega arith));
+          served = subst (λ (z : _). AreServed (hosts z) xs) (sym (watched_before r.looks.0 p.view m.view ring (submits (seen_of p) ring) old r.looks.2)) served;
+          fit = fits;
+        }),
+      );
+    }
+
+pub returns-clause-submitted : goal.returns-clause-submitted
+returns-clause-submitted c = λ ring' role. let b : Facts = c.args.self.now in let p : Pass = c.args.submitter.now in let m : Pass = c.room.new.self in let xs : Entries = c.args.batch.items in let r = c.in_default.ensures in let go : Goes b p [] m = goes_watched b p m r.looks.0 c.requires r.table r.looks.2 in let n = c.next_request-req.ensures in let ring = c.next_request-req.result.ring in let old : p.view.role ≡ Submitter ring = sym go.role_is ∙ n.role in let same : submits (seen_of m) ring ≡ submits (seen_of p) ring = watched_submits r.looks.0 p.view m.view ring old r.looks.2 in let one : ring ≡ ring' = (let z = sym old ∙ role in cc) in let back : reverse c.reverse.new.self.items ≡ xs = ap reverse c.reverse.ensures.items ∙ turned_back xs in
+    let s = subst (λ (z : Entries). Goes b m (submits_of ring (submits (seen_of m) ring) z) c.submit_all.new.submitter) back (c.submit_all.ensures.submitted ring n.role) in let k : c.next_request-req.result.k ≡ submits (seen_of m) ring = ap (λ (z : Req). z.k) n.next in
+    (n.next ∙ (λ i. nth (one i) ((same ∙ ap (submits (seen_of p)) one) i)), subst (λ (z : ℕ × ℕ). Goes b p (submits_of z.0 z.1 xs) c.submit_all.new.submitter) (λ i. (one i, sym k i)) (goes_then b p m c.submit_all.new.submitter _ go s))
+
+pub returns-clause-free : goal.returns-clause-free
+returns-clause-free c = λ i lt. let b : Facts = c.args.self.now in let p : Pass = c.args.submitter.now in let m : Pass = c.room.new.self in let xs : Entries = c.args.batch.items in let r = c.in_default.ensures in let go : Goes b p [] m = goes_watched b p m r.looks.0 c.requires r.table r.looks.2 in let n = c.next_request-req.ensures in let ring = c.next_request-req.result.ring in let old : p.view.role ≡ Submitter ring = sym go.role_is ∙ n.role in let same : submits (seen_of m) ring ≡ submits (seen_of p) ring = watched_submits r.looks.0 p.view m.view ring old r.looks.2 in let grid : c.self.inside.grid ≡ b.layout.cells = ap (λ (z : Facts). z.layout.cells) c.self.view_is in let count : c.len.result ≡ length xs = c.len.ensures ∙ c.args.batch.ok.0 in let s = c.submit_all.ensures.submitted ring n.role in let k : c.next_request-req.result.k ≡ submits (seen_of p) ring = ap (λ (z : Req). z.k) n.next ∙ same in
+    let free : IsFree b.layout.cells (seen_of m) (nth ring (submits (seen_of p) ring + i)) = subst (λ (K : List ℕ). IsFree K (seen_of m) (nth ring (submits (seen_of p) ring + i))) grid (r.free ring old i (omega arith)) in
+    subst (λ (z : ℕ). IsFree b.layout.cells (seen_of c.submit_all.new.submitter) (nth ring (z + i))) (sym k) (free_then b m c.submit_all.new.submitter _ (nth ring (submits (seen_of p) ring + i)) s free)
+
+pub returns-clause-steps : goal.returns-clause-steps
+returns-clause-steps c = let b : Facts = c.args.self.now in let p : Pass = c.args.submitter.now in let m : Pass = c.room.new.self in let xs : Entries = c.args.batch.items in let r = c.in_default.ensures in let go : Goes b p [] m = goes_watched b p m r.looks.0 c.requires r.table r.looks.2 in let n = c.next_request-req.ensures in let ring = c.next_request-req.result.ring in let old : p.view.role ≡ Submitter ring = sym go.role_is ∙ n.role in let same : submits (seen_of m) ring ≡ submits (seen_of p) ring = watched_submits r.looks.0 p.view m.view ring old r.looks.2 in let grid : c.self.inside.grid ≡ b.layout.cells = ap (λ (z : Facts). z.layout.cells) c.self.view_is in let count : c.len.result ≡ length xs = c.len.ensures ∙ c.args.batch.ok.0 in let t : ℕ = r.looks.0 in let w = c.submit_all.new.submitter in let len : length c.reverse.new.self.items ≡ length xs = ap (λ (z : Entries). length z) c.reverse.ensures.items ∙ length-reverse xs in
+    let both = took_both p.view m.view w.view t (3 * length xs) (watched_took t p.view m.view r.looks.2) (subst (λ (z : ℕ). Took m.view w.view (3 * z)) len c.submit_all.ensures.steps) in let z : ℕ = 3 * length xs in
+    (t, subst (λ (K : List ℕ). t ≤ cells_in K ring + 1) grid (r.looks.1 ring old), subst (λ (k : ℕ). Took p.view w.view k) (let e : z + t ≡ t + z = omega arith in e) both)

@@ -1,0 +1,14 @@
+use Rattle.std.proofs.Common.{ℕ, List, sym, refl, subst}
+use Rattle.steps.specs.Rule.{Shown}
+use Rattle.work.specs.Passes.{pass_of}
+use Rattle.board.specs.Lanes.{nth}
+use Rattle.board.proofs.PassFacts.{stepped_once}
+use Rattle.board.proofs.LanesKept.{lane_looked}
+use Rattle.board.proofs.lane.look_at.Goals as goal
+
+pub returns-clause-lane : goal.returns-clause-lane
+returns-clause-lane c = lane_looked c.args.seat.now c.look.new.seat c.args.lane.now c.requires.lane c.look.ensures.looks c.look.ensures.seat.1
+
+pub returns-clause-looked : goal.returns-clause-looked
+returns-clause-looked c = let o = c.in-Some.spot in let k = c.in-Some.ensures.some in
+    (nth c.args.lane.now.ring c.args.k, refl, stepped_once c.args.grid.now (nth c.args.lane.now.ring c.args.k) (pass_of c.args.seat.now) (pass_of c.look.new.seat) o.cell o.generation c.look.result k.0 k.1 c.look.ensures.step (subst (λ (K : List ℕ). Shown K c.look.new.seat.me.0.seen o.cell c.look.result) (sym c.requires.over.cells_are) c.look.ensures.shown))

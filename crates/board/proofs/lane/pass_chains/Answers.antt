@@ -1,0 +1,54 @@
+use Rattle.std.proofs.Common.{◌≡◌, ℕ, sym, refl, ap, ◌∙◌, subst, arith, true≢false}
+use Rattle.history.specs.Chains.{IsChainDone}
+use Rattle.steps.specs.Journal.{events_of}
+use Rattle.work.specs.Passes.{pass_of}
+use Rattle.board.specs.declared.lane.Lane.{Lane}
+use Rattle.board.specs.Lanes.{nth, HasLookedAt}
+use Rattle.board.proofs.LaneWalks.{pass_start, pass_more, kept_more, watched_more, watched_took, stepped_later, over_on}
+use Rattle.board.proofs.lane.pass_chains.Goals as goal
+
+pub loop-lane-init : goal.loop-lane-init
+loop-lane-init c = pass_start c.args.seat.now c.args.lane.now c.requires.lane
+
+pub pass_chain-requires-clause-lane : goal.pass_chain-requires-clause-lane
+pass_chain-requires-clause-lane c = c.loop-lane.invariant.lane
+
+pub pass_chain-requires-clause-over : goal.pass_chain-requires-clause-over
+pass_chain-requires-clause-over c = let p = c.loop-lane.invariant in over_on _ c.args.grid.now c.args.seat.now c.loop-lane.seat c.requires.over p.same.0 p.layout
+
+pub pass_chain-requires-clause-left : goal.pass_chain-requires-clause-left
+pass_chain-requires-clause-left c = let next : c.loop-lane.lane.next ≡ c.args.lane.now.next = ap (λ (z : Lane). z.next) c.loop-lane.invariant.kept in let e = c.requires.end in let t = c.loop-lane-test.true in omega arith
+
+pub returns-then-not-pass_chain-clause-seat : goal.returns-then-not-pass_chain-clause-seat
+returns-then-not-pass_chain-clause-seat c = let p = c.loop-lane.invariant in let s = c.if-not-pass_chain.ensures.seat in ((s.0.0 ∙ p.same.0.0, s.0.1 ∙ p.same.0.1), s.1 ∙ p.same.1)
+
+pub returns-then-not-pass_chain-clause-kept : goal.returns-then-not-pass_chain-clause-kept
+returns-then-not-pass_chain-clause-kept c = kept_more c.args.lane.now c.loop-lane.lane c.pass_chain.new.lane c.loop-lane.invariant.kept c.if-not-pass_chain.ensures.kept
+
+pub returns-then-not-pass_chain-clause-looks : goal.returns-then-not-pass_chain-clause-looks
+returns-then-not-pass_chain-clause-looks c = let p = c.loop-lane.invariant in let x = (c.if-not-pass_chain.ensures.open (λ u. true≢false (sym u))).1 in let next : c.loop-lane.lane.next ≡ c.args.lane.now.next = ap (λ (z : Lane). z.next) p.kept in
+    let m = watched_more p.looks.0 x.0 _ _ _ p.looks.2 x.2 in (m.0, (let a = p.looks.1 in let b = x.1 in let e = m.1 in omega arith), m.2)
+
+pub returns-then-not-pass_chain-clause-open : goal.returns-then-not-pass_chain-clause-open
+returns-then-not-pass_chain-clause-open c = λ _. let p = c.loop-lane.invariant in let h = c.if-not-pass_chain.ensures in let o = h.open (λ u. true≢false (sym u)) in let l = h.looked (λ u. true≢false (sym u)) in
+    let ring : c.loop-lane.lane.ring ≡ c.args.lane.now.ring = ap (λ (z : Lane). z.ring) p.kept in let done = o.0 in (
+      (let t = c.loop-lane-test.true in omega arith),
+      subst (λ (z : ℕ × ℕ). ¬ IsChainDone (events_of c.pass_chain.new.seat.me.0.seen) (nth z.0 z.1)) (λ i. (ring i, sym done i)) o.2,
+      subst (λ (z : ℕ). HasLookedAt c.args.grid.now z (pass_of c.args.seat.now) (pass_of c.pass_chain.new.seat)) ring
+          (l.0, l.1, stepped_later c.args.grid.now l.0 (pass_of c.args.seat.now) (pass_of c.loop-lane.seat) (pass_of c.pass_chain.new.seat) p.looks.0 (watched_took p.looks.0 _ _ p.looks.2) l.2),
+    )
+
+pub loop-lane-preserved : goal.loop-lane-preserved
+loop-lane-preserved c = let h = c.if-not-pass_chain.ensures in pass_more c.args.seat.now c.loop-lane.seat c.pass_chain.new.seat c.args.lane.now c.loop-lane.lane c.pass_chain.new.lane c.loop-lane.invariant h.seat h.lane h.kept (h.passed refl).1
+
+pub returns-clause-seat : goal.returns-clause-seat
+returns-clause-seat c = c.loop-lane.invariant.same
+
+pub returns-clause-lane : goal.returns-clause-lane
+returns-clause-lane c = c.loop-lane.invariant.lane
+
+pub returns-clause-kept : goal.returns-clause-kept
+returns-clause-kept c = c.loop-lane.invariant.kept
+
+pub returns-clause-looks : goal.returns-clause-looks
+returns-clause-looks c = let p = c.loop-lane.invariant in let next : c.loop-lane.lane.next ≡ c.args.lane.now.next = ap (λ (z : Lane). z.next) p.kept in (p.looks.0, (let a = p.looks.1 in let l = p.lane.1.low in omega arith), p.looks.2)

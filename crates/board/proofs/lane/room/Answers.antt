@@ -1,0 +1,45 @@
+use Rattle.std.proofs.Common.{◌≡◌, ℕ, ◌+◌, ◌-◌, ◌*◌, ◌/◌, ◌<◌, ◌≤◌, List, inl, inr, sym, refl, ap, ◌∙◌, subst, arith}
+use Rattle.steps.specs.declared.view.Layout.{Layout}
+use Rattle.steps.specs.Fairness.{IsFree}
+use Rattle.steps.specs.Journal.{events_of}
+use Rattle.steps.specs.Cells.{cells_in}
+use Rattle.board.specs.declared.lane.Lane.{Lane}
+use Rattle.board.specs.Lanes.{nth}
+use Rattle.board.proofs.LaneWalks.{TableSeat, watched_layout, last_generation}
+use Rattle.board.proofs.lane.room.Goals as goal
+
+pub returns-in-Some-clause-looks : goal.returns-in-Some-clause-looks
+returns-in-Some-clause-looks c = (1, omega arith, c.look_at.ensures.looks)
+
+pub returns-in-Some-clause-refused : goal.returns-in-Some-clause-refused
+returns-in-Some-clause-refused c = let t : TableSeat = c.look_at.new.seat in let k = c.in-Some.k in let some = c.in-Some.ensures.some in let next = c.args.lane.now.next in
+    let cells : c.args.grid.now ≡ t.me.0.layout.cells = c.requires.over.cells_are ∙ ap (λ (L : Layout). L.cells) (sym (watched_layout 1 c.args.seat.now.me.0 t.me.0 c.look_at.ensures.looks).0) in
+    let at : next + (k - next) ≡ k = (let le = some.0 in omega arith) in
+    inr ((k - next, (let lt = some.1 in let le = some.0 in omega arith), subst (λ (z : ℕ). ¬ IsFree c.args.grid.now (events_of t.me.0.seen) (nth c.args.lane.now.ring z)) (sym at) (some.2 t c.look_at.ensures.lane cells)), c.look_at.ensures.looked)
+
+pub returns-then-not-pass_chains-clause-refused : goal.returns-then-not-pass_chains-clause-refused
+returns-then-not-pass_chains-clause-refused c = let t : TableSeat = c.pass_chains.new.seat in let a : Lane = c.pass_chains.new.lane in let h = c.if-not-pass_chains.ensures in let o = h.open (λ u. Rattle.std.proofs.Common.true≢false (sym u)) in
+    let cells : c.args.grid.now ≡ t.me.0.layout.cells = c.requires.over.cells_are ∙ ap (λ (L : Layout). L.cells) (sym (watched_layout h.looks.0 c.args.seat.now.me.0 t.me.0 h.looks.2).0) in
+    let n : ℕ = cells_in c.args.grid.now c.args.lane.now.ring in let next = c.args.lane.now.next in
+    let near : next ≤ a.done + n = (let z = h.lane.1.near in let e = ap (λ (b : Lane). b.next) h.kept in let r : cells_in t.me.0.layout.cells a.ring ≡ n = ap (λ (b : Lane). cells_in t.me.0.layout.cells b.ring) h.kept ∙ ap (λ (K : List ℕ). cells_in K c.args.lane.now.ring) (sym cells) in omega arith) in
+    let at : (nth c.args.lane.now.ring a.done).k + n ≡ next + (a.done + n - next) = omega arith in
+    let size : c.cells_in-cells.result ≡ n = c.cells_in-cells.ensures ∙ ap (cells_in c.args.grid.now) c.from.ensures in
+    inr ((a.done + n - next, (let lt = o.0 in let e = c.saturating_sub-end.ensures in omega arith), λ free. o.1 (free (nth c.args.lane.now.ring a.done) refl at).1), o.2)
+
+pub returns-then-lane-count-ge-LAST_GENERATION-clause-refused : goal.returns-then-lane-count-ge-LAST_GENERATION-clause-refused
+returns-then-lane-count-ge-LAST_GENERATION-clause-refused c = let t : TableSeat = c.pass_chains.new.seat in let a : Lane = c.pass_chains.new.lane in let h = c.if-not-pass_chains.ensures in
+    let cells : c.args.grid.now ≡ t.me.0.layout.cells = c.requires.over.cells_are ∙ ap (λ (L : Layout). L.cells) (sym (watched_layout h.looks.0 c.args.seat.now.me.0 t.me.0 h.looks.2).0) in
+    let n : ℕ = cells_in c.args.grid.now c.args.lane.now.ring in let next = c.args.lane.now.next in let size : c.cells_in-cells.result ≡ n = c.cells_in-cells.ensures ∙ ap (cells_in c.args.grid.now) c.from.ensures in
+    let same : a.next ≡ next = ap (λ (b : Lane). b.next) h.kept in let end = h.passed refl in
+    let few : next ≤ 16777215 * n = subst (λ (K : List ℕ). next ≤ 16777215 * cells_in K c.args.lane.now.ring) (sym c.requires.over.cells_are) c.requires.lane.0.few in
+    let fits : c.args.count ≤ n = (let f = c.if-count-cells.false in omega arith) in let some = c.if-count-gt0.true in let least : 0 < n = omega arith in
+    let high : 16777215 ≤ (next + (c.args.count - 1)) / n = subst (λ (z : ℕ × ℕ). 16777215 ≤ (z.0 + (c.args.count - 1)) / z.1) (λ i. (same i, size i)) c.if-lane-count-ge-LAST_GENERATION.true in (
+      c.in_default.ensures.none t a h.kept h.lane cells (let e = c.saturating_sub-end.ensures in omega arith),
+      (c.args.count - 1, omega arith, last_generation next c.args.count n least few fits some high),
+    )
+
+pub returns-clause-free : goal.returns-clause-free
+returns-clause-free c = let t : TableSeat = c.pass_chains.new.seat in let a : Lane = c.pass_chains.new.lane in let h = c.if-not-pass_chains.ensures in
+    let cells : c.args.grid.now ≡ t.me.0.layout.cells = c.requires.over.cells_are ∙ ap (λ (L : Layout). L.cells) (sym (watched_layout h.looks.0 c.args.seat.now.me.0 t.me.0 h.looks.2).0) in
+    let size : c.cells_in-cells.result ≡ cells_in c.args.grid.now c.args.lane.now.ring = c.cells_in-cells.ensures ∙ ap (cells_in c.args.grid.now) c.from.ensures in let end = h.passed refl in
+    c.in_default.ensures.none t a h.kept h.lane cells (let e = c.saturating_sub-end.ensures in omega arith)

@@ -1,0 +1,20 @@
+use Rattle.std.proofs.Common.{◌*◌, ◌+◌, ℕ, arith}
+use Rattle.gates.specs.Rows.{waiting}
+use Rattle.board.proofs.Watching.{born_on, watched_then, decides_after, paid_on, paid_with}
+use Rattle.board.proofs.trail.decide.Goals as goal
+
+pub advance-requires-clause-born : goal.advance-requires-clause-born
+advance-requires-clause-born c = born_on c.args.board.now c.args.seat.now c.loop-released.seat c.args.req.ring c.args.req.k c.loop-released.invariant.watched c.requires.born
+
+pub returns-in-Some : goal.returns-in-Some
+returns-in-Some c =
+    let i = c.loop-released.invariant in let e = c.in-Some.ensures in let s = c.args.seat.now in let m = c.loop-released.seat in let t = c.advance.new.seat in let w : ℕ = waiting c.args.row.now in let v : ℕ = waiting c.loop-released.row in
+    (decides_after c.args.board.now c.args.req s m t (3 * v) (3 * w) c.in-Some.released i.watched i.paid e.0, e.1, e.2, paid_on s.me.0 m.me.0 t.me.0 (3 * w + 1) (3 * v + 1) 0 (paid_with s.me.0 m.me.0 (3 * w) (3 * v) (3 * w + 1) (3 * v + 1) i.paid 1 (omega arith) (omega arith)) e.3)
+
+pub loop-released-preserved : goal.loop-released-preserved
+loop-released-preserved c =
+    let i = c.loop-released.invariant in let e = c.in_default.ensures in let s = c.args.seat.now in let m = c.loop-released.seat in let t = c.advance.new.seat in record {
+      watched = watched_then c.args.board.now s m t i.watched e.0;
+      watches = e.1;
+      paid = paid_on s.me.0 m.me.0 t.me.0 _ _ _ i.paid e.3;
+    }

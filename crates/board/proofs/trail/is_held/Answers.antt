@@ -1,0 +1,23 @@
+use Rattle.std.proofs.Common.{true≢false, sym}
+use Rattle.work.specs.Passes.{pass_of}
+use Rattle.board.proofs.Watching.{watched_look, paid_one}
+use Rattle.board.proofs.PassFacts.{found_word}
+use Rattle.board.proofs.Releasing.{unheld_looked}
+use Rattle.board.proofs.trail.is_held.Goals as goal
+
+pub told-requires : goal.told-requires
+told-requires c = let e = c.look-word.ensures in found_word c.args.board.now (pass_of c.args.seat.now) (pass_of c.look-word.new.seat) c.args.spot.cell c.look-word.result c.requires.ours.ours e.seat.0.0 e.looks e.shown
+
+pub returns-in-Held-clause-watched : goal.returns-in-Held-clause-watched
+returns-in-Held-clause-watched c = let e = c.look-word.ensures in watched_look c.args.board.now c.args.seat.now c.look-word.new.seat c.requires.ours e.seat e.looks
+
+pub returns-in-Held-clause-steps : goal.returns-in-Held-clause-steps
+returns-in-Held-clause-steps c = paid_one _ _ c.args.seat.now.me.0 c.look-word.new.seat.me.0 c.look-word.ensures.step
+
+pub returns-in_default : goal.returns-in_default
+returns-in_default c = let e = c.look-word.ensures in let s = c.args.seat.now in let t = c.look-word.new.seat in let k = watched_look c.args.board.now s t c.requires.ours e.seat e.looks in record {
+  watched = k;
+  held = λ is. absurd (true≢false (sym is));
+  lost = λ _. unheld_looked c.args.board.now s t c.args.req c.args.spot.cell c.args.spot.generation c.look-word.result c.told.result c.requires.ours k c.requires.at e.step e.shown c.in_default.not-Held (c.told.ensures.stands s.me.0.layout.cells t.me.0.seen c.args.spot.cell e.shown);
+  steps = paid_one _ _ s.me.0 t.me.0 e.step;
+}

@@ -1,0 +1,157 @@
+-- What the poller knows of the requests of each ring, and what it finds out for a release.
+use Rattle.std.specs.Prelude.{◌≡◌, ℕ, ◌+◌, ◌-◌, ◌*◌, ◌<◌, ◌≤◌, Bool, true, false, ℤ, negsuc, List, [], ◌∷◌, ◌++◌, length, slice_get, Option, Some, None}
+use Rattle.atomic_table.specs.declared.shared.Seat.{Seat}
+use Rattle.claim.specs.Facts.{Facts as FactsParts, bit}
+use Rattle.entry.specs.Entry.{Entry, fails, drains, links_soft, links_hard}
+use Rattle.gates.specs.Rows.{Kept, Stands, HasCell, added, waiting}
+use Rattle.gates.specs.Shows.{Trails}
+use Rattle.gates.specs.Slots.{Slot}
+use Rattle.history.specs.declared.req.Req.{Req}
+use Rattle.history.specs.declared.event.Event.{Event}
+use Rattle.history.specs.declared.event.Event.TheVariants.{Park, Sever}
+use Rattle.history.specs.History.{Submission, submission, phase, replied, by_sever, reply, same, IsReplied}
+use Rattle.history.specs.Chains.{IsPlaced, IsChainDone, IsBefore, Severed, Open, is_timer}
+use Rattle.history.specs.Legal.{IsOf as IsOfKind}
+use Rattle.steps.specs.declared.line.Line.{Line}
+use Rattle.steps.specs.declared.parcel.Thing.{Thing}
+use Rattle.steps.specs.declared.view.Step.{Step}
+use Rattle.steps.specs.declared.view.View.{View}
+use Rattle.steps.specs.Fairness.{IsReaped}
+use Rattle.steps.specs.Journal.{events_of, freed}
+use Rattle.steps.specs.Notes.{row_number}
+use Rattle.steps.specs.Cells.{IsCell, cells_in, request_at}
+use Rattle.work.specs.Board.{Facts, IsOf}
+use Rattle.work.specs.Passes.{Pass, pass_of, seen_of}
+use Rattle.board.specs.Calls.{Goes, Stepped, FoundHeld, IsUnheld, MayStart}
+use Rattle.board.specs.Seats.{IsPollerSeat}
+use Rattle.board.specs.declared.trail.Outcome.{Outcome}
+use Rattle.board.specs.declared.trail.Outcome.TheVariants.{Pending, Replied, ChainDone}
+use Rattle.board.specs.declared.trail.Passing.{Passing}
+use Rattle.board.specs.declared.trail.Passing.TheVariants.{Waits, Passed, Lost}
+use Rattle.board.specs.declared.poller.Released.{Released}
+use Rattle.board.specs.declared.poller.Released.TheVariants.{Severed as IsSevered, Freed as IsFreed, Shut as IsShut, Timer as IsTimer, NotHeld}
+
+-- the row has the cells of the ring, and trails the history
+pub record KnowsRow (K : List ℕ) (j : List Line) (ring : ℕ) (r : Kept) : Type 0 where
+  pub size : r.size ≡ cells_in K ring
+  pub slots : List Slot
+  pub stands : Stands slots r
+  pub trails : Trails (events_of j) ring slots
+
+-- the same of each ring's row
+pub record KnowsRows (K : List ℕ) (j : List Line) (rows : List Kept) : Type 0 where
+  pub count : length rows ≡ length K
+  pub each : (i : ℕ) (r : Kept) → slice_get rows i ≡ Some r → KnowsRow K j i r
+
+-- the row has the request q, and is right of it whether it has replied or not: it trails the history with q put back too
+pub record Watches (K : List ℕ) (j : List Line) (q : Req) (r : Kept) : Type 0 where
+  pub cell : HasCell r q.k
+  pub knows : KnowsRow K j q.ring r
+  pub parked : Trails (Park q ∷ events_of j) q.ring knows.slots
+
+-- the number of one of the requests that a ring's cells may have
+pub record IsNumbered (K : List ℕ) (q : Req) : Type 0 where
+  pub there : q.ring < length K
+  pub few : q.k < 16777216 * cells_in K q.ring
+
+-- the request has this cell, as this generation
+pub record IsAt (K : List ℕ) (cell generation : ℕ) (q : Req) : Type 0 where
+  pub inside : IsCell K cell × (cell < 16384)
+  pub at : request_at K cell generation ≡ q
+
+-- the poller's seat, whose pass is one of this board's own
+pub record IsOurs (b : Facts) (s : Seat (Option Thing) View) : Type 0 where
+  pub ours : IsOf b (pass_of s)
+  pub seat : IsPollerSeat s
+
+-- the poller's seat looked, any number of times
+pub record Watched (b : Facts) (s t : Seat (Option Thing) View) : Type 0 where
+  pub seat : IsPollerSeat t
+  pub goes : Goes b (pass_of s) [] (pass_of t)
+  pub freed_is : (q : Req) → freed t.me.0.seen q ≡ freed s.me.0.seen q
+
+-- the steps that were made between the two views are paid by what was owed before and isn't after
+abbrev pub Paid : View → View → ℕ → ℕ → Type 0
+Paid v w after before = (steps : List Step) × (w.steps ≡ steps ++ v.steps) × (length steps + after ≤ before)
+
+-- how many steps it takes at most until the row has the first n requests, and has passed all that are pending in it
+abbrev pub owed : Kept → ℕ → ℕ
+owed r n = 4 * (n - added r) + 3 * waiting r
+
+-- the facts are those of a request that is placed as e
+pub record AreFacts (w : FactsParts) (e : Entry) (last : Bool) : Type 0 where
+  pub row : w.row ≡ row_number e.op
+  pub drains_is : w.drains ≡ drains e
+  pub soft : w.links_soft ≡ links_soft e
+  pub hard : w.links_hard ≡ links_hard e
+  pub last_is : w.last ≡ last
+
+-- what facts that name the request's own generation tell of it: its entry, and its outcome once it was reaped
+abbrev pub TellsFacts : List Event → Req → FactsParts → Type 0
+TellsFacts h q w = (y : Submission) × (e : Entry) × (submission h q ≡ Some y) × IsPlaced h q e × AreFacts w e y.last × (IsReaped (phase h q) → (res : ℤ) → reply h q ≡ Some res → w.payload ≡ bit (fails e res))
+
+-- and those of another generation
+abbrev pub ToldFacts : List Event → Req → Option FactsParts → Type 0
+ToldFacts h q (Some w) = TellsFacts h q w
+ToldFacts h q None = IsChainDone h q
+
+-- the request's reply fails, or not
+abbrev pub HasOutcome : List Event → Req → Bool → Type 0
+HasOutcome h q f = (e : Entry) × (res : ℤ) × IsPlaced h q e × (reply h q ≡ Some res) × (fails e res ≡ f)
+
+-- what looks at a request tell of its reply. The last look at one that has none was at its claim word
+abbrev pub TellsOutcome : List ℕ → Req → Pass → Pass → Outcome → Type 0
+TellsOutcome K r p q Pending = (¬ IsReplied (phase (seen_of q) r)) × Stepped K r p q
+TellsOutcome K r p q (Replied f) = HasOutcome (seen_of q) r f
+TellsOutcome K r p q ChainDone = IsChainDone (seen_of q) r
+
+abbrev pub looks_for : Outcome → ℕ
+looks_for Pending = 1
+looks_for _ = 2
+
+-- the events that the poller causes by a release
+abbrev pub severed_by : Released → Req → List Event
+severed_by IsSevered r = Sever r ∷ []
+severed_by _ r = []
+
+-- the poller answered the request itself, since an earlier member of its chain failed
+abbrev pub IsCanceled : List Event → Req → Type 0
+IsCanceled h r = (phase h r ≡ replied by_sever (negsuc 124)) × Severed h r
+
+-- the request waits for this one of its ring, at whose claim word the last step of the call found no reply
+abbrev pub WaitsFor : List ℕ → Pass → Pass → Req → Req → Type 0
+WaitsFor K p q r w = IsBefore w r × (¬ IsReplied (phase (seen_of q) w)) × Stepped K w p q
+
+-- it is not open, and waits for another
+abbrev pub IsShutOut : List ℕ → Req → Pass → Pass → Type 0
+IsShutOut K r p q = (¬ Open (seen_of q) r) × ((w : Req) × WaitsFor K p q r w)
+
+-- it is a timer that may be armed
+abbrev pub MayArm : List Event → Req → Type 0
+MayArm h r = Open h r × (¬ Severed h r) × IsOfKind h r is_timer true
+
+-- what a release says of a request that was found Held, by its answer
+abbrev pub Decided : Facts → Req → Pass → Pass → Released → Type 0
+Decided b r p q IsSevered = IsCanceled (seen_of q) r × FoundHeld b.layout.cells r p q
+Decided b r p q IsFreed = (freed q.view.seen r ≡ true) × MayStart q.view.seen r × FoundHeld b.layout.cells r p q
+Decided b r p q IsShut = IsShutOut b.layout.cells r p q
+Decided b r p q IsTimer = MayArm (seen_of q) r
+Decided b r p q NotHeld = IsUnheld q.view.seen r × Stepped b.layout.cells r p q
+
+-- what became of the pass that released r
+pub record Decides (b : Facts) (r : Req) (p q : Pass) (x : Released) : Type 0 where
+  pub goes : Goes b p (severed_by x r) q
+  pub decided : Decided b r p q x
+  pub was_free : x ≡ IsFreed → freed p.view.seen r ≡ false
+  pub others : (i : Req) → (x ≡ IsFreed → same r i ≡ false) → freed q.view.seen i ≡ freed p.view.seen i
+
+-- a look at the request w, which is in the way of r, took the seat from s to t and the row from k to l
+abbrev pub Passes : Facts → Req → Req → Seat (Option Thing) View → Seat (Option Thing) View → Kept → Kept → Passing → Type 0
+Passes b r w s t k l Waits = Watched b s t × Watches b.layout.cells t.me.0.seen r k × (l ≡ k) × TellsOutcome b.layout.cells w (pass_of s) (pass_of t) Pending × Paid s.me.0 t.me.0 0 1
+Passes b r w s t k l Passed = Watched b s t × Watches b.layout.cells t.me.0.seen r l × (waiting l < waiting k) × Paid s.me.0 t.me.0 (3 * waiting l) (3 * waiting k)
+Passes b r w s t k l Lost = Decides b r (pass_of s) (pass_of t) NotHeld × IsPollerSeat t × KnowsRow b.layout.cells t.me.0.seen r.ring l × Paid s.me.0 t.me.0 0 (3 * waiting k)
+
+-- a step towards an answer for r took the seat from s to t and the row from k to l: it is there, or fewer requests are in the way
+abbrev pub Advances : Facts → Req → Seat (Option Thing) View → Seat (Option Thing) View → Kept → Kept → Option Released → Type 0
+Advances b r s t k l (Some x) = Decides b r (pass_of s) (pass_of t) x × IsPollerSeat t × KnowsRow b.layout.cells t.me.0.seen r.ring l × Paid s.me.0 t.me.0 0 (3 * waiting k + 1)
+Advances b r s t k l None = Watched b s t × Watches b.layout.cells t.me.0.seen r l × (waiting l < waiting k) × Paid s.me.0 t.me.0 (3 * waiting l) (3 * waiting k)

@@ -1,0 +1,124 @@
+//! The submission of an entry, and of a batch.
+ghost use Rattle.std.specs.Prelude.{◌≡◌, ℕ, ◌+◌, ◌/◌, ◌<◌, ◌*◌, ◌≤◌, true, [], ◌∷◌, Some, length, reverse, IfOk, IfErr};
+ghost use Rattle.history.specs.declared.event.Event.TheVariants.{Submit};
+ghost use Rattle.history.specs.History.{submits};
+ghost use Rattle.history.specs.Chains.{before_in};
+ghost use Rattle.history.specs.Legal.{Fits};
+ghost use Rattle.steps.specs.declared.view.Role.TheVariants.{Submitter as SubmitterRole};
+ghost use Rattle.steps.specs.Cells.{cells_in};
+ghost use Rattle.steps.specs.Fairness.{IsFree};
+ghost use Rattle.steps.specs.Journal.{Serves};
+ghost use Rattle.work.specs.Board.{IsOf};
+ghost use Rattle.work.specs.Passes.{seen_of, Took};
+ghost use Rattle.board.specs.Calls.{Goes, next_of};
+ghost use Rattle.board.specs.Batches.{IsReady, submits_of};
+ghost use Rattle.board.specs.Lanes.{nth};
+ghost use Rattle.board.specs.Refusals.{RefusesBatch, RefusesEntry};
+
+use crate::batch::{are_fit, are_served};
+use crate::board::Board;
+use crate::error::SubmitError;
+use crate::served::{fits_length, is_served};
+use crate::submitter::Submitter;
+use entry::Sqe;
+use history::Req;
+use steps::Parcel;
+
+impl Board {
+    /// Submits a batch of one entry with its buffer.
+    pub fn submit(
+        &self,
+        submitter: &mut Submitter,
+        sqe: Sqe,
+        buffer: Vec<u8>,
+    ) -> Result<Req, (SubmitError, Vec<u8>)>
+        requires { IsOf self.now submitter.old }
+        ensures submitted { (ring : ℕ) → submitter.old.view.role ≡ SubmitterRole ring → IfOk result (λ r. (r ≡ next_of submitter.old ring) × Goes self.now submitter.old (Submit r sqe buffer.items true ∷ []) submitter.new) }
+        ensures free { IfOk result (λ r. IsFree self.now.layout.cells (seen_of submitter.new) r) }
+        ensures steps { IfOk result (λ r. (n : ℕ) × (n ≤ cells_in self.now.layout.cells r.ring + 1) × Took submitter.old.view submitter.new.view (n + 3)) }
+        ensures refused { IfErr result (λ e. Goes self.now submitter.old [] submitter.new × (e.1 ≡ buffer)) }
+        ensures reason { (ring : ℕ) → submitter.old.view.role ≡ SubmitterRole ring → IfErr result (λ e. RefusesEntry self.now sqe buffer.items (next_of submitter.old ring) submitter.old submitter.new e.0) }
+    {
+        if !is_served(&sqe, submitter.is_hosted()) {
+            return Err((SubmitError::Unserved, buffer));
+        }
+        if !fits_length(&sqe, buffer.len()) {
+            return Err((SubmitError::BufferLength, buffer));
+        }
+        let words = &self.table.shared;
+        if let Err(error) = submitter.room(words, &self.grid, 1) {
+            return Err((error, buffer));
+        }
+        Ok(self.submit_next(
+            submitter,
+            Parcel {
+                sqe,
+                buffer,
+                last: true,
+            },
+        ))
+    }
+
+    /// Submits a batch, in order, or none of it, and gives its first request: the entry i is the i-th after that. The last entry
+    /// ends the batch. An empty batch submits nothing, and gives the ring's next request.
+    pub fn submit_batch(
+        &self,
+        submitter: &mut Submitter,
+        batch: Vec<(Sqe, Vec<u8>)>,
+    ) -> Result<Req, (SubmitError, Vec<(Sqe, Vec<u8>)>)>
+        requires { IsOf self.now submitter.old }
+        ensures submitted { (ring : ℕ) → submitter.old.view.role ≡ SubmitterRole ring → IfOk result (λ r. (r ≡ next_of submitter.old ring) × Goes self.now submitter.old (submits_of ring r.k batch.items) submitter.new) }
+        ensures free { IfOk result (λ r. (i : ℕ) → i < length batch.items → IsFree self.now.layout.cells (seen_of submitter.new) (nth r.ring (r.k + i))) }
+        ensures steps { IfOk result (λ r. (n : ℕ) × (n ≤ cells_in self.now.layout.cells r.ring + 1) × Took submitter.old.view submitter.new.view (n + 3 * length batch.items)) }
+        ensures refused { IfErr result (λ e. Goes self.now submitter.old [] submitter.new × (e.1 ≡ batch)) }
+        ensures reason { (ring : ℕ) → submitter.old.view.role ≡ SubmitterRole ring → IfErr result (λ e. RefusesBatch self.now batch.items ring (next_of submitter.old ring).k submitter.old submitter.new e.0) }
+    {
+        if !are_served(batch.as_slice(), submitter.is_hosted()) {
+            return Err((SubmitError::Unserved, batch));
+        }
+        if !are_fit(batch.as_slice()) {
+            return Err((SubmitError::BufferLength, batch));
+        }
+        let words = &self.table.shared;
+        if let Err(error) = submitter.room(words, &self.grid, batch.len() as u64) {
+            return Err((error, batch));
+        }
+        let req = submitter.next_request();
+        let mut left = batch;
+        left.reverse();
+        self.submit_all(submitter, left);
+        Ok(req)
+    }
+
+    /// Submits these entries, the last one first, as the ring's next requests, whose cells are free.
+    fn submit_all(&self, submitter: &mut Submitter, mut left: Vec<(Sqe, Vec<u8>)>)
+        requires ready { (ring : ℕ) × IsReady self.now submitter.old ring (submits (seen_of submitter.old) ring) (reverse left.items) }
+        ensures submitted { (ring : ℕ) → submitter.old.view.role ≡ SubmitterRole ring → Goes self.now submitter.old (submits_of ring (submits (seen_of submitter.old) ring) (reverse left.items)) submitter.new }
+        ensures steps { Took submitter.old.view submitter.new.view (3 * length left.items) }
+    {
+        while let Some((sqe, buffer)) = left.pop() {
+            let last = left.is_empty();
+            let parcel = Parcel { sqe, buffer, last };
+            self.submit_next(submitter, parcel);
+        }
+    }
+
+    /// Submits the ring's next request, whose cell is free.
+    fn submit_next(&self, submitter: &mut Submitter, parcel: Parcel) -> Req
+        requires of { IsOf self.now submitter.old }
+        requires free { (ring : ℕ) → submitter.old.view.role ≡ SubmitterRole ring → IsFree self.now.layout.cells (seen_of submitter.old) (next_of submitter.old ring) × ((next_of submitter.old ring).k / cells_in self.now.layout.cells ring < 16777215) }
+        requires served { (ring : ℕ) → submitter.old.view.role ≡ SubmitterRole ring → Serves (before_in (seen_of submitter.old) (next_of submitter.old ring)) parcel.sqe }
+        requires fits { Fits parcel.sqe parcel.buffer.items }
+        ensures role { submitter.old.view.role ≡ SubmitterRole result.ring }
+        ensures next { (ring : ℕ) → submitter.old.view.role ≡ SubmitterRole ring → (submits (seen_of submitter.new) ring ≡ submits (seen_of submitter.old) ring + 1) × (before_in (seen_of submitter.new) (nth ring (submits (seen_of submitter.old) ring + 1)) ≡ Some (record { entry = parcel.sqe; bytes = parcel.buffer.items; last = parcel.last })) }
+        ensures submitted { (ring : ℕ) → submitter.old.view.role ≡ SubmitterRole ring → (result ≡ next_of submitter.old ring) × Goes self.now submitter.old (Submit result parcel.sqe parcel.buffer.items parcel.last ∷ []) submitter.new }
+        ensures steps { Took submitter.old.view submitter.new.view 3 }
+    {
+        let req = submitter.next_request();
+        let Some(spot) = self.grid.locate(req) else {
+            unreachable!()
+        };
+        submitter.submit(&self.table.shared, spot, parcel);
+        req
+    }
+}

@@ -1,0 +1,386 @@
+//! What the poller finds out of the requests of one ring: it takes in what was submitted, and looks for replies.
+ghost use Rattle.std.specs.Prelude.{◌≡◌, ℕ, ◌+◌, ◌*◌, ◌<◌, ◌≤◌, Bool, true, false, List, Some, None, length, IfSome, IfNone};
+ghost use Rattle.claim.specs.Facts.{fits_facts};
+ghost use Rattle.entry.specs.Entry.{Entry};
+ghost use Rattle.gates.specs.Rows.{Stands, added, waiting, way_in, Waits};
+ghost use Rattle.board.specs.declared.poller.Released.TheVariants.{NotHeld};
+ghost use Rattle.gates.specs.Slots.{Slot, traits_of};
+ghost use Rattle.history.specs.History.{submits, phase, waits, IsReplied};
+ghost use Rattle.history.specs.Chains.{Open, Severed};
+ghost use Rattle.steps.specs.Journal.{events_of};
+ghost use Rattle.steps.specs.Cells.{claim_at};
+ghost use Rattle.work.specs.Passes.{pass_of};
+ghost use Rattle.board.specs.Rows.{KnowsRow, Watches, IsNumbered, IsAt, IsOurs, Watched, Paid, owed, AreFacts, ToldFacts, TellsOutcome, looks_for, Decides, Passes, Advances};
+ghost use Rattle.board.specs.Seats.{IsPollerSeat};
+ghost use Rattle.gates.specs.Shows.{nth};
+
+use crate::board::Board;
+use crate::phase::{Phase, has_failed, told};
+use crate::poller::Released;
+use claim::{FactsWord, unpack_facts};
+use gates::{Asked, Row, Traits};
+use history::Req;
+use steps::{TableSeat, seat};
+use work::Spot;
+
+/// What looks at a request tell of its reply.
+#[derive(Clone, Copy, PartialEq, Eq, Debug)]
+pub(crate) enum Outcome {
+    /// It has none.
+    Pending,
+    /// It has one, which is a failure, or not.
+    Replied(bool),
+    /// It was reaped, and its whole chain has replied.
+    ChainDone,
+}
+
+/// What a look at a request that is in the way of another one came to.
+#[derive(Clone, Copy, PartialEq, Eq, Debug)]
+pub(crate) enum Passing {
+    /// It has no reply.
+    Waits,
+    /// It has one, and the row knows.
+    Passed,
+    /// The other one doesn't wait any more.
+    Lost,
+}
+
+/// The row number of all Invalid entries among the facts.
+const INVALID: u8 = 9;
+
+/// That of LINK_TIMEOUT.
+const LINK_TIMEOUT: u8 = 5;
+
+/// What a row looks at in an entry, by its facts.
+fn traits_in(facts: FactsWord) -> Traits
+    ensures { (e : Entry) (last : Bool) → AreFacts facts e last → result ≡ traits_of e }
+{
+    Traits {
+        invalid: facts.row == INVALID,
+        link_timeout: facts.row == LINK_TIMEOUT,
+        drains: facts.drains,
+        links_soft: facts.links_soft,
+        links_hard: facts.links_hard,
+    }
+}
+
+/// Loads the facts of the request in the cell. None where they are another generation's.
+fn facts_in(board: &Board, seat: &mut TableSeat, spot: Spot, req: Req) -> Option<FactsWord>
+    requires ours { IsOurs board.now seat.old }
+    requires at { IsAt board.now.layout.cells spot.cell spot.generation req }
+    requires small { spot.generation < 16777216 }
+    requires born { req.k < submits (events_of seat.old.me.0.seen) req.ring }
+    ensures watched { Watched board.now seat.old seat.new }
+    ensures told { ToldFacts (events_of seat.new.me.0.seen) req result }
+    ensures steps { Paid seat.old.me.0 seat.new.me.0 0 1 }
+{
+    let word = seat::look_at_note(&board.table.shared, seat, spot.cell, 0);
+    let facts = unpack_facts(word);
+    if u64::from(facts.generation) == spot.generation {
+        Some(facts)
+    } else {
+        None
+    }
+}
+
+/// Looks whether the request has a reply, and whether that is a failure.
+fn look_for_reply(board: &Board, seat: &mut TableSeat, req: Req) -> Outcome
+    requires ours { IsOurs board.now seat.old }
+    requires numbered { IsNumbered board.now.layout.cells req }
+    requires born { req.k < submits (events_of seat.old.me.0.seen) req.ring }
+    ensures watched { Watched board.now seat.old seat.new }
+    ensures told { TellsOutcome board.now.layout.cells req (pass_of seat.old) (pass_of seat.new) result }
+    ensures steps { Paid seat.old.me.0 seat.new.me.0 0 (looks_for result) }
+{
+    let Some(spot) = board.grid.locate(req) else {
+        unreachable!()
+    };
+    let word = seat::look(&board.table.shared, seat, spot.cell);
+    match told(word, spot.generation) {
+        Phase::Done(_) => Outcome::Replied(has_failed(word)),
+        Phase::Gone => match facts_in(board, seat, spot, req) {
+            Some(facts) => Outcome::Replied(facts.payload == 1),
+            None => Outcome::ChainDone,
+        },
+        _ => Outcome::Pending,
+    }
+}
+
+/// Whether the request waits for the poller, as its claim word tells.
+fn is_held(board: &Board, seat: &mut TableSeat, spot: Spot, req: Req) -> bool
+    requires ours { IsOurs board.now seat.old }
+    requires at { IsAt board.now.layout.cells spot.cell spot.generation req }
+    ensures watched { Watched board.now seat.old seat.new }
+    ensures held { result ≡ true → (phase (events_of seat.new.me.0.seen) req ≡ waits) × (spot.generation < 16777216) }
+    ensures lost { result ≡ false → Decides board.now req (pass_of seat.old) (pass_of seat.new) NotHeld }
+    ensures steps { Paid seat.old.me.0 seat.new.me.0 0 1 }
+{
+    let _ = req;
+    let word = seat::look(&board.table.shared, seat, spot.cell);
+    matches!(told(word, spot.generation), Phase::Held)
+}
+
+/// Tells the row of the reply of a request that has one.
+fn pass_replied(board: &Board, seat: &mut TableSeat, row: &mut Row, req: Req)
+    requires ours { IsOurs board.now seat.old }
+    requires numbered { IsNumbered board.now.layout.cells req }
+    requires born { req.k < submits (events_of seat.old.me.0.seen) req.ring }
+    requires knows { KnowsRow board.now.layout.cells seat.old.me.0.seen req.ring row.old }
+    requires waits { (xs : List Slot) → Stands xs row.old → Waits xs row.old req.k }
+    requires replied { IsReplied (phase (events_of seat.old.me.0.seen) req) }
+    ensures watched { Watched board.now seat.old seat.new }
+    ensures knows { KnowsRow board.now.layout.cells seat.new.me.0.seen req.ring row.new }
+    ensures count { added row.new ≡ added row.old }
+    ensures fewer { waiting row.new < waiting row.old }
+    ensures steps { Paid seat.old.me.0 seat.new.me.0 (3 * waiting row.new) (3 * waiting row.old) }
+{
+    let fails = match look_for_reply(board, seat, req) {
+        Outcome::Pending => unreachable!(),
+        Outcome::Replied(fails) => fails,
+        Outcome::ChainDone => false,
+    };
+    row.replied(req.k, fails);
+}
+
+/// Takes the next request of the ring in. Its cell in the row is free.
+fn add_next(board: &Board, seat: &mut TableSeat, row: &mut Row, next: Req)
+    requires ours { IsOurs board.now seat.old }
+    requires numbered { IsNumbered board.now.layout.cells next }
+    requires born { next.k < submits (events_of seat.old.me.0.seen) next.ring }
+    requires knows { KnowsRow board.now.layout.cells seat.old.me.0.seen next.ring row.old }
+    requires room { way_in row.old ≡ None }
+    requires next { next.k ≡ added row.old }
+    ensures watched { Watched board.now seat.old seat.new }
+    ensures knows { KnowsRow board.now.layout.cells seat.new.me.0.seen next.ring row.new }
+    ensures count { added row.new ≡ added row.old + 1 }
+    ensures steps { Paid seat.old.me.0 seat.new.me.0 (3 * waiting row.new) (3 * waiting row.old + 4) }
+{
+    let Some(spot) = board.grid.locate(next) else {
+        unreachable!()
+    };
+    let added = match facts_in(board, seat, spot, next) {
+        Some(facts) => row.add_traits(traits_in(facts), facts.last),
+        None => row.add_stand_in(),
+    };
+    if added.is_err() {
+        unreachable!()
+    }
+}
+
+/// Takes the next request of the ring in, or passes one that is in its way.
+fn take_one(board: &Board, seat: &mut TableSeat, row: &mut Row, req: Req)
+    requires ours { IsOurs board.now seat.old }
+    requires numbered { IsNumbered board.now.layout.cells req }
+    requires born { req.k < submits (events_of seat.old.me.0.seen) req.ring }
+    requires knows { KnowsRow board.now.layout.cells seat.old.me.0.seen req.ring row.old }
+    requires lacks { added row.old ≤ req.k }
+    ensures watched { Watched board.now seat.old seat.new }
+    ensures knows { KnowsRow board.now.layout.cells seat.new.me.0.seen req.ring row.new }
+    ensures less { owed row.new (req.k + 1) < owed row.old (req.k + 1) }
+    ensures steps { Paid seat.old.me.0 seat.new.me.0 (owed row.new (req.k + 1)) (owed row.old (req.k + 1)) }
+{
+    let k = row.count();
+    match row.in_the_way() {
+        Some(first) => pass_replied(
+            board,
+            seat,
+            row,
+            Req {
+                ring: req.ring,
+                k: first,
+            },
+        ),
+        None => add_next(board, seat, row, Req { ring: req.ring, k }),
+    }
+}
+
+/// Takes in what the row lacks up to the request, one after the other.
+fn take_in(board: &Board, seat: &mut TableSeat, row: &mut Row, req: Req)
+    requires ours { IsOurs board.now seat.old }
+    requires numbered { IsNumbered board.now.layout.cells req }
+    requires born { req.k < submits (events_of seat.old.me.0.seen) req.ring }
+    requires knows { KnowsRow board.now.layout.cells seat.old.me.0.seen req.ring row.old }
+    ensures watched { Watched board.now seat.old seat.new }
+    ensures knows { KnowsRow board.now.layout.cells seat.new.me.0.seen req.ring row.new }
+    ensures has { req.k < added row.new }
+    ensures steps { Paid seat.old.me.0 seat.new.me.0 (owed row.new (req.k + 1)) (owed row.old (req.k + 1)) }
+{
+    while row.count() <= req.k {
+        take_one(board, seat, row, req);
+    }
+}
+
+/// Looks at a request that is in the way of another one, `req`. Where its whole chain has replied, that may have too.
+fn pass(
+    board: &Board,
+    seat: &mut TableSeat,
+    row: &mut Row,
+    spot: Spot,
+    req: Req,
+    first: u64,
+) -> Passing
+    requires ours { IsOurs board.now seat.old }
+    requires at { IsAt board.now.layout.cells spot.cell spot.generation req }
+    requires numbered { IsNumbered board.now.layout.cells req }
+    requires born { req.k < submits (events_of seat.old.me.0.seen) req.ring }
+    requires watches { Watches board.now.layout.cells seat.old.me.0.seen req row.old }
+    requires earlier { first < req.k }
+    requires waits { (xs : List Slot) → Stands xs row.old → Waits xs row.old first }
+    ensures { Passes board.now req (nth req.ring first) seat.old seat.new row.old row.new result }
+{
+    let other = Req {
+        ring: req.ring,
+        k: first,
+    };
+    match look_for_reply(board, seat, other) {
+        Outcome::Pending => return Passing::Waits,
+        Outcome::Replied(fails) => {
+            row.replied(first, fails);
+            return Passing::Passed;
+        }
+        Outcome::ChainDone => row.replied(first, false),
+    }
+    if is_held(board, seat, spot, req) {
+        Passing::Passed
+    } else {
+        Passing::Lost
+    }
+}
+
+/// Moves the request, which is open, to the workers, unless it is a linked timer, which has a target.
+fn free(board: &Board, seat: &mut TableSeat, row: &Row, spot: Spot, req: Req) -> Released
+    requires ours { IsOurs board.now seat.old }
+    requires at { IsAt board.now.layout.cells spot.cell spot.generation req }
+    requires small { spot.generation < 16777216 }
+    requires born { req.k < submits (events_of seat.old.me.0.seen) req.ring }
+    requires watches { Watches board.now.layout.cells seat.old.me.0.seen req row.now }
+    requires open { (Severed (events_of seat.old.me.0.seen) req → ⊥) × Open (events_of seat.old.me.0.seen) req }
+    ensures seat { IsPollerSeat seat.new }
+    ensures decides { Decides board.now req (pass_of seat.old) (pass_of seat.new) result }
+    ensures steps { Paid seat.old.me.0 seat.new.me.0 0 1 }
+{
+    match row.target_of(req.k) {
+        Some(_) => Released::Timer,
+        None => {
+            let words = &board.table.shared;
+            if seat::release(words, seat, spot.cell, spot.generation as u32) {
+                Released::Freed
+            } else {
+                Released::NotHeld
+            }
+        }
+    }
+}
+
+/// Answers the request, of which an earlier member of its chain failed.
+fn sever(board: &Board, seat: &mut TableSeat, row: &Row, spot: Spot, req: Req) -> Released
+    requires ours { IsOurs board.now seat.old }
+    requires at { IsAt board.now.layout.cells spot.cell spot.generation req }
+    requires small { spot.generation < 16777216 }
+    requires born { req.k < submits (events_of seat.old.me.0.seen) req.ring }
+    requires watches { Watches board.now.layout.cells seat.old.me.0.seen req row.now }
+    requires severed { Severed (events_of seat.old.me.0.seen) req }
+    ensures seat { IsPollerSeat seat.new }
+    ensures decides { Decides board.now req (pass_of seat.old) (pass_of seat.new) result }
+    ensures steps { Paid seat.old.me.0 seat.new.me.0 0 1 }
+{
+    let fails = row.target_of(req.k).is_none();
+    let words = &board.table.shared;
+    if seat::sever(words, seat, spot.cell, spot.generation as u32, fails) {
+        Released::Severed
+    } else {
+        Released::NotHeld
+    }
+}
+
+/// Releases the request, or passes one that is in its way.
+fn advance(
+    board: &Board,
+    seat: &mut TableSeat,
+    row: &mut Row,
+    spot: Spot,
+    req: Req,
+) -> Option<Released>
+    requires ours { IsOurs board.now seat.old }
+    requires at { IsAt board.now.layout.cells spot.cell spot.generation req }
+    requires small { spot.generation < 16777216 }
+    requires numbered { IsNumbered board.now.layout.cells req }
+    requires born { req.k < submits (events_of seat.old.me.0.seen) req.ring }
+    requires watches { Watches board.now.layout.cells seat.old.me.0.seen req row.old }
+    ensures { Advances board.now req seat.old seat.new row.old row.new result }
+{
+    let (first, waits) = match row.ask(req.k) {
+        Asked::Severed => return Some(sever(board, seat, row, spot, req)),
+        Asked::Open => return Some(free(board, seat, row, spot, req)),
+        Asked::OpenWith(target) => (target, Released::Timer),
+        Asked::Blocked(first) => (first, Released::Shut),
+    };
+    match pass(board, seat, row, spot, req, first) {
+        Passing::Waits => Some(waits),
+        Passing::Passed => None,
+        Passing::Lost => Some(Released::NotHeld),
+    }
+}
+
+/// Releases the request, which the row has.
+fn decide(board: &Board, seat: &mut TableSeat, row: &mut Row, spot: Spot, req: Req) -> Released
+    requires ours { IsOurs board.now seat.old }
+    requires at { IsAt board.now.layout.cells spot.cell spot.generation req }
+    requires small { spot.generation < 16777216 }
+    requires numbered { IsNumbered board.now.layout.cells req }
+    requires born { req.k < submits (events_of seat.old.me.0.seen) req.ring }
+    requires watches { Watches board.now.layout.cells seat.old.me.0.seen req row.old }
+    ensures { Advances board.now req seat.old seat.new row.old row.new (Some result) }
+{
+    loop {
+        if let Some(released) = advance(board, seat, row, spot, req) {
+            return released;
+        }
+    }
+}
+
+/// Takes in what the row lacks up to the request, which waits. Whether that still waits.
+fn follow(board: &Board, seat: &mut TableSeat, row: &mut Row, spot: Spot, req: Req) -> bool
+    requires ours { IsOurs board.now seat.old }
+    requires at { IsAt board.now.layout.cells spot.cell spot.generation req }
+    requires numbered { IsNumbered board.now.layout.cells req }
+    requires born { req.k < submits (events_of seat.old.me.0.seen) req.ring }
+    requires knows { KnowsRow board.now.layout.cells seat.old.me.0.seen req.ring row.old }
+    requires waits { phase (events_of seat.old.me.0.seen) req ≡ waits }
+    ensures watched { Watched board.now seat.old seat.new }
+    ensures knows { KnowsRow board.now.layout.cells seat.new.me.0.seen req.ring row.new }
+    ensures watches { result ≡ true → Watches board.now.layout.cells seat.new.me.0.seen req row.new }
+    ensures lost { result ≡ false → Decides board.now req (pass_of seat.old) (pass_of seat.new) NotHeld }
+    ensures steps { Paid seat.old.me.0 seat.new.me.0 (3 * waiting row.new) (owed row.old (req.k + 1) + 1) }
+{
+    if req.k < row.count() {
+        return true;
+    }
+    take_in(board, seat, row, req);
+    is_held(board, seat, spot, req)
+}
+
+/// Releases the request: it looks whether that waits, takes in what the row lacks, and passes what is in its way.
+pub(crate) fn release(
+    board: &Board,
+    seat: &mut TableSeat,
+    row: &mut Row,
+    spot: Spot,
+    req: Req,
+) -> Released
+    requires ours { IsOurs board.now seat.old }
+    requires at { IsAt board.now.layout.cells spot.cell spot.generation req }
+    requires knows { KnowsRow board.now.layout.cells seat.old.me.0.seen req.ring row.old }
+    ensures seat { IsPollerSeat seat.new }
+    ensures decides { Decides board.now req (pass_of seat.old) (pass_of seat.new) result }
+    ensures knows { KnowsRow board.now.layout.cells seat.new.me.0.seen req.ring row.new }
+    ensures steps { Paid seat.old.me.0 seat.new.me.0 0 (4 * submits (events_of seat.new.me.0.seen) req.ring + 4) }
+{
+    if !is_held(board, seat, spot, req) {
+        return Released::NotHeld;
+    }
+    if !follow(board, seat, row, spot, req) {
+        return Released::NotHeld;
+    }
+    decide(board, seat, row, spot, req)
+}

@@ -1,0 +1,35 @@
+use Rattle.std.proofs.Common.{ℕ, ◌∙◌, eq-eqb, ◌≡◌, true, negsuc, sym, refl, ap, subst, arith, eqb-true}
+use Rattle.claim.specs.declared.tag.Tag.TheVariants.{Done}
+use Rattle.history.specs.History.{by_sever}
+use Rattle.steps.specs.Cells.{word_of, reply_bits, cause_bits}
+use Rattle.steps.specs.Rule.{pollers, stands_for, IsStep}
+use Rattle.steps.proofs.StepKinds.{either_way}
+use Rattle.steps.proofs.Severing.{sever_allows}
+use Rattle.steps.proofs.seat.sever.Goals as goal
+
+pub compare_exchange-requires : goal.compare_exchange-requires
+compare_exchange-requires c = let f = c.requires.fits in let role = c.requires.poller.0.1 in let bits : reply_bits (negsuc 124) 4294967171 = (omega arith, refl) in
+    rw c.claim_word.ensures (
+      f.0,
+      omega arith,
+      sever_allows _ _ _ c.args.cell c.args.generation 4294967171 c.requires.fails.0 f.2 c.requires.small bits (subst (λ z. stands_for z pollers ≡ true) (sym role) refl) c.requires.poller.1 (λ q e. (let y = sym role in cc)) _ _ _ (λ e. (let y = sym role in cc))
+          c.held-held.ensures (c.severed-severed.ensures 4294967171 bits ∙ ap (λ b. word_of Done (cause_bits by_sever b) c.args.generation 4294967171) c.requires.fails.2) c.requires.submitted c.requires.may c.requires.fails.1,
+    )
+
+pub returns-clause-severs : goal.returns-clause-severs
+returns-clause-severs c = let f = c.requires.fits in let p = c.compare_exchange.ensures.2.0 in λ e. (p (eqb-true _ _ e) c.args.cell c.args.generation 0 c.claim_word.ensures f.2 c.requires.small (omega arith) c.held-held.ensures).0
+
+pub returns-clause-seat : goal.returns-clause-seat
+returns-clause-seat c = let f = c.requires.fits in let p = c.compare_exchange.ensures.2.0 in let m = c.compare_exchange.ensures.2.1 in (
+  (c.compare_exchange.ensures.0, c.compare_exchange.ensures.1),
+  either_way c.compare_exchange.result c.held-held.result _ (λ hit. (p hit c.args.cell c.args.generation 0 c.claim_word.ensures f.2 c.requires.small (omega arith) c.held-held.ensures).1) (λ miss. (m miss).1),
+)
+
+pub returns-clause-missed : goal.returns-clause-missed
+returns-clause-missed c = let f = c.requires.fits in λ ne. let m = c.compare_exchange.ensures.2.1 (λ hit. ne (eq-eqb _ _ hit)) in (c.compare_exchange.result, subst (λ (i : ℕ). IsStep i c.compare_exchange.result c.args.seat.now.me.0 c.compare_exchange.new.seat.me.0) c.claim_word.ensures m.3, m.2 c.args.cell c.claim_word.ensures f.2, λ e. ne (eq-eqb _ _ (e ∙ sym c.held-held.ensures)))
+
+pub returns-clause-step : goal.returns-clause-step
+returns-clause-step c = λ e. subst (λ (z : ℕ × ℕ). IsStep z.0 z.1 c.args.seat.now.me.0 c.compare_exchange.new.seat.me.0) (λ i. (c.claim_word.ensures i, (eqb-true _ _ e ∙ c.held-held.ensures) i)) c.compare_exchange.ensures.2.2
+
+pub returns-clause-looks : goal.returns-clause-looks
+returns-clause-looks c = λ ne. (c.compare_exchange.ensures.2.1 (λ hit. ne (eq-eqb _ _ hit))).0

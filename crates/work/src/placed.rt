@@ -1,0 +1,29 @@
+//! The entry that a worker runs, as it is placed.
+ghost use Rattle.std.specs.Prelude.{◌≡◌};
+ghost use Rattle.entry.specs.Entry.{fails as fails_with};
+ghost use Rattle.work.specs.Runs.{op_run, run_as};
+
+use entry::{Op, Sqe, fails};
+use steps::facts::is_link_timeout;
+
+/// The operation as it is placed. Of the LINK_TIMEOUTs a worker runs those alone that have no target, which are Invalid.
+pub(crate) fn op_placed(sqe: &Sqe) -> Op
+    ensures { result ≡ op_run sqe.now.op }
+{
+    if is_link_timeout(sqe.op()) {
+        Op::Invalid
+    } else {
+        sqe.op()
+    }
+}
+
+/// Whether this reply to the entry, as it is placed, is a failure.
+pub(crate) fn fails_placed(sqe: &Sqe, res: i32) -> bool
+    ensures { result ≡ fails_with (run_as sqe.now) res }
+{
+    if is_link_timeout(sqe.op()) {
+        res < 0
+    } else {
+        fails(sqe, res)
+    }
+}
