@@ -19,3 +19,8 @@ pub mod PipesKept
 pub mod PipeSteps
 pub mod NotesKept
 pub mod FactsKept
+pub mod OwnEvents
+pub mod EndingIdle
+pub mod TimerSteps
+pub mod CancelSteps
+pub mod CancelsKept

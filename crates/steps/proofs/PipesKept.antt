@@ -2,22 +2,22 @@
 use Rattle.std.specs.Prelude.{◌==◌, ◌&&◌}
 use Rattle.std.proofs.Common.{◌≡◌, ℕ, ◌+◌, Bool, true, false, cond, not, ℤ, pos, negsuc, List, [], ◌∷◌, ◌++◌, slice_index, take, Option, Some, None, sym, refl, ap, ◌∙◌, subst, ⊎_elim, arith, true≢false, eqb-true, eq-eqb, ne_eqb, append-nil}
 use Rattle.entry.specs.declared.op.Op.{Op}
-use Rattle.entry.specs.declared.op.Op.TheVariants.{Nop, Close, Read, Write, PollAdd, Invalid}
+use Rattle.entry.specs.declared.op.Op.TheVariants.{Nop, Close, Read, Write, PollAdd, AsyncCancel, TimeoutRemove, Invalid}
 use Rattle.entry.specs.Entry.{Entry}
 use Rattle.history.specs.declared.req.Req.{Req}
 use Rattle.history.specs.declared.event.Event.{Event}
 use Rattle.history.specs.declared.event.Event.TheVariants.{Reply}
-use Rattle.history.specs.History.{Submission, submission}
+use Rattle.history.specs.History.{Submission, submission, hit}
 use Rattle.history.specs.Chains.{placed, IsPlaced}
 use Rattle.history.specs.Pipes.{Flow, flow, flows, flows_as, moves, End, no_end, read_end, write_end, end_of, reads, writes, closes, is_zero}
-use Rattle.history.specs.Answers.{Answer, now, bad_end, is_pipe, answer_read, answer_write, answer_poll, read_events, write_events, read_from, write_to, close_of, poll_of, OpAnswers}
+use Rattle.history.specs.Answers.{Answer, now, bad_end, is_pipe, answer_read, answer_write, answer_poll, read_events, write_events, read_from, write_to, close_of, poll_of, CancelAnswers, OpAnswers}
 use Rattle.history.proofs.Requests.{bool_cases}
 use Rattle.steps.specs.declared.line.Line.{Line}
 use Rattle.steps.specs.declared.line.Line.TheVariants.{Did, Hold, Free}
 use Rattle.steps.specs.declared.view.Layout.{Layout}
 use Rattle.steps.specs.declared.view.Role.{Role}
 use Rattle.steps.specs.Fairness.{Fair, Orderly}
-use Rattle.steps.specs.Journal.{events_of, holder, is_end_of, uses, touches, is_served}
+use Rattle.steps.specs.Journal.{events_of, holder, is_end_of, uses, touches}
 use Rattle.steps.specs.Rule.{workers, stands_for, owns, NoneOf}
 
 -- ---- what a reply leaves alone
@@ -152,28 +152,32 @@ module _ (caps : List ℕ) (f : ℕ → Flow) where
   poll_off no_end mask n res d u none is = cc
 
 module _ (caps : List ℕ) (h : List Event) (r : Req) where
-  -- an answer stays where the pipes that the entry names are as they were
-  pub answer_stays : (h' : List Event) (op : Op) (res : ℤ) (data' : List ℕ) → is_served op ≡ true → ((p : ℕ) → is_pipe caps p ≡ true → uses op p ≡ true → flow h' p ≡ flow h p) → OpAnswers caps h r op res data' → OpAnswers caps h' r op res data'
+  -- an answer stays where the pipes that the entry names are as they were, and that of a cancel does
+  pub answer_stays : (h' : List Event) (op : Op) (res : ℤ) (data' : List ℕ) → (CancelAnswers h r (hit h r) res → CancelAnswers h' r (hit h' r) res) → ((p : ℕ) → is_pipe caps p ≡ true → uses op p ≡ true → flow h' p ≡ flow h p) → OpAnswers caps h r op res data' → OpAnswers caps h' r op res data'
   answer_stays h' Nop res d s k a = a
   answer_stays h' Invalid res d s k a = a
   answer_stays h' (Read fd offset len) res d s k a = read_same caps (flow h) (flow h') (end_of fd) len k ∙ a
   answer_stays h' (Write fd offset len) res d s k a = write_same caps (flow h) (flow h') (end_of fd) len k ∙ a
   answer_stays h' (Close fd) res d s k a = close_same caps (flow h) (flow h') (end_of fd) k ∙ a
   answer_stays h' (PollAdd fd mask) res d s k a = poll_same caps (flow h) (flow h') (end_of fd) mask k ∙ a
-  answer_stays h' op res d s k a = absurd (true≢false (sym s))
+  answer_stays h' (AsyncCancel u) res d s k a = (s a.0, a.1)
+  answer_stays h' (TimeoutRemove u) res d s k a = (s a.0, a.1)
+  answer_stays h' op res d s k a = absurd a
 
   one_answer : (x : Answer) (res : ℤ) (c d : List ℕ) → x ≡ now res c → x ≡ now res d → c ≡ d
   one_answer x res c d a b = let z : now res c ≡ now res d = sym a ∙ b in cc
 
   -- the reply tells its data
-  pub one_data : (op : Op) (res : ℤ) (c d : List ℕ) → is_served op ≡ true → OpAnswers caps h r op res c → OpAnswers caps h r op res d → c ≡ d
-  one_data Nop res c d s a b = one_answer (now (pos 0) []) res c d a b
-  one_data Invalid res c d s a b = one_answer (now (negsuc 21) []) res c d a b
-  one_data (Read fd offset len) res c d s a b = one_answer (read_from caps (flow h) (end_of fd) len) res c d a b
-  one_data (Write fd offset len) res c d s a b = one_answer (write_to caps (flow h) (end_of fd) len) res c d a b
-  one_data (Close fd) res c d s a b = one_answer (close_of caps (flow h) (end_of fd)) res c d a b
-  one_data (PollAdd fd mask) res c d s a b = one_answer (poll_of caps (flow h) (end_of fd) mask) res c d a b
-  one_data op res c d s a b = absurd (true≢false (sym s))
+  pub one_data : (op : Op) (res : ℤ) (c d : List ℕ) → OpAnswers caps h r op res c → OpAnswers caps h r op res d → c ≡ d
+  one_data Nop res c d a b = one_answer (now (pos 0) []) res c d a b
+  one_data Invalid res c d a b = one_answer (now (negsuc 21) []) res c d a b
+  one_data (Read fd offset len) res c d a b = one_answer (read_from caps (flow h) (end_of fd) len) res c d a b
+  one_data (Write fd offset len) res c d a b = one_answer (write_to caps (flow h) (end_of fd) len) res c d a b
+  one_data (Close fd) res c d a b = one_answer (close_of caps (flow h) (end_of fd)) res c d a b
+  one_data (PollAdd fd mask) res c d a b = one_answer (poll_of caps (flow h) (end_of fd) mask) res c d a b
+  one_data (AsyncCancel u) res c d a b = a.1 ∙ sym b.1
+  one_data (TimeoutRemove u) res c d a b = a.1 ∙ sym b.1
+  one_data op res c d a b = absurd a
 
   -- a pipe that the entry names and that isn't there is answered by an error
   off_board : (op : Op) (n : ℕ) (res : ℤ) (data' : List ℕ) → uses op n ≡ true → is_pipe caps n ≡ false → OpAnswers caps h r op res data' → res ≡ negsuc 8

@@ -28,12 +28,12 @@ use Rattle.history.specs.Answers.{is_pipe, OpAnswers}
 use Rattle.steps.specs.Cells.{setup_of}
 use Rattle.steps.specs.Plays.{Seated}
 use Rattle.steps.specs.declared.view.Role.TheVariants.{Idle, Busy, Leaving}
-use Rattle.steps.specs.Journal.{events_of, lent, holder, uses, touches, is_served}
+use Rattle.steps.specs.Journal.{events_of, lent, holder, uses, touches}
 use Rattle.steps.specs.Cells.{IsCell, request_at, IsParcel, claim_at, slot_at, word_of, reply_bits, cause_bits}
 use Rattle.steps.specs.Rule.{workers, stands_for, apart, owns, Ruled, Extends}
 use Rattle.steps.specs.Plays.{MayReply, sure, replied_with, parked}
 use Rattle.steps.proofs.CellNumbers.{other_cell, other_age, one_word, one_result}
-use Rattle.steps.proofs.Served.{serves_is}
+use Rattle.steps.proofs.CancelsKept.{cancel_now}
 use Rattle.steps.proofs.PipesKept.{answer_stays, one_data, reply_leaves}
 use Rattle.steps.proofs.PipeSteps.{has_now}
 use Rattle.steps.proofs.Roles.{idle_apart, leaving_apart}
@@ -95,32 +95,31 @@ module _ (slots id : ℕ) (me : Seated) where
       done : (h : List Event) → phase (Reply q res data' ∷ h) q ≡ replied by_reply res
       done h = now_is _ _ _ (same_itself q)
 
-      served_now : (s : St) (r : Ruled L s) → There slots id me s → IsPlaced (events_of r.past) q e × (is_served e.op ≡ true)
-      served_now s r at =
-          let now = running_now s r at in let given' = parcel_now s r at q data' p now.0 given in
-          let e_now : IsPlaced (events_of r.past) q e = lasts_now slots id me s r at (λ h. IsPlaced h q e) q (placed_lasts S q e) now.0 may.placed_is in
-          (e_now, serves_is L S r.past q _ e r.legal r.orderly given'.1 e_now)
+      entry_now : (s : St) (r : Ruled L s) → There slots id me s → IsPlaced (events_of r.past) q e
+      entry_now s r at = lasts_now slots id me s r at (λ h. IsPlaced h q e) q (placed_lasts S q e) (running_now s r at).0 may.placed_is
 
       -- the pipes that the entry names are as the seat left them
       has_pipe : (s : St) (r : Ruled L s) → There slots id me s → (n : ℕ) → is_pipe L.caps n ≡ true → uses e.op n ≡ true → (holder r.past n ≡ Some q) × (flow (events_of r.past) n ≡ flow (events_of v.seen) n)
       has_pipe s r at n there u = has_now slots id me s r at q n (subst (λ (z : Role). stands_for z (workers q) ≡ true) (sym busy) (same_itself q)) there (may.has n there u)
 
+      answer_now : (s : St) (r : Ruled L s) → There slots id me s → OpAnswers L.caps (events_of r.past) q e.op res data'
+      answer_now s r at = answer_stays L.caps (events_of v.seen) q (events_of r.past) e.op res data' (cancel_now slots id me q busy res s r at) (λ n there u. (has_pipe s r at n there u).1) may.answers
+
       calm : (s : St) (r : Ruled L s) → There slots id me s → Calm L r.past (Did (Reply q res data'))
-      calm s r at = let k = served_now s r at in let a = answer_stays L.caps (events_of v.seen) q (events_of r.past) e.op res data' k.1 (λ n there u. (has_pipe s r at n there u).1) may.answers in record {
-        fair = λ n there t. (has_pipe s r at n there (sym (ap (λ o. touches o n) k.0) ∙ t)).0;
+      calm s r at = let k = entry_now s r at in let a = answer_now s r at in record {
+        fair = λ n there t. (has_pipe s r at n there (sym (ap (λ o. touches o n) k) ∙ t)).0;
         live = r.live;
         clock = refl;
-        pipes = λ n. (refl, λ none'. reply_leaves L.caps (events_of r.past) q e n res data' k.0 a (λ there u. (let z = sym none' ∙ (has_pipe s r at n there u).0 in cc)) (flow (events_of r.past) n));
+        pipes = λ n. (refl, λ none'. reply_leaves L.caps (events_of r.past) q e n res data' k a (λ there u. (let z = sym none' ∙ (has_pipe s r at n there u).0 in cc)) (flow (events_of r.past) n));
       }
 
       legal_now' : (s : St) (r : Ruled L s) → There slots id me s → Legal S (events_of (Did (Reply q res data') ∷ r.past))
-      legal_now' s r at = let k = served_now s r at in
-          ((r.live, ((running_now s r at).1, (e, k.0, answer_stays L.caps (events_of v.seen) q (events_of r.past) e.op res data' k.1 (λ n there u. (has_pipe s r at n there u).1) may.answers))), r.legal)
+      legal_now' s r at = ((r.live, ((running_now s r at).1, (e, entry_now s r at, answer_now s r at))), r.legal)
 
       reply_does : (b old new : ℕ) → Ends → ((u : Role) → apart (Busy q) u ≡ true → apart (after q) u ≡ true) → new ≡ word_of Done (cause_bits by_reply (fails e res)) g b → b < 4294967296 → reply_bits res b
           → (s : St) (r : Ruled L s) → There slots id me s → (get_or s.words (claim_at x) 0 ≡ word_of Running 0 g 0) × Does slots id me L s (claim_at x) new (replied_with after (step slots (claim_at x) old new none) me x q)
       reply_does b old new ends spread is_new fb bits s r at =
-          let l : Line = Did (Reply q res data') in let now = running_now s r at in let k = served_now s r at in let w : View = with_line slots id me (claim_at x) s r.past l (after q) in
+          let l : Line = Did (Reply q res data') in let now = running_now s r at in let k = entry_now s r at in let w : View = with_line slots id me (claim_at x) s r.past l (after q) in
           let here = says_of K r.past x _ _ Running 0 g 0 (r.cells x inside) now.2 (omega arith) f (omega arith) in let given' = parcel_now s r at q data' p now.0 given in
           let legal = legal_now' s r at in (
             now.2,
@@ -138,13 +137,13 @@ module _ (slots id : ℕ) (me : Seated) where
                     payload = b;
                     fits = (cause_fits by_reply (fails e res), f, fb);
                     word_is = is_new;
-                    says = (by_reply, res, e, done (events_of r.past), bits, k.0, refl, λ _. done_keeps (Reply q res data') r.past q _ (same_itself q) (p, set_here s.homes (slot_at x) (some (Some (Full p))) (r.deep x inside), given'));
+                    says = (by_reply, res, e, done (events_of r.past), bits, k, refl, λ _. done_keeps (Reply q res data') r.past q _ (same_itself q) (p, set_here s.homes (slot_at x) (some (Some (Full p))) (r.deep x inside), given'));
                     ages = ages_stay S l r.past legal K x g (λ n other. other_age K x g n inside other) here.1;
                   }),
               (λ g' c' b' res' e' d fg' fc' fb' bits' second placed' answer'. let o = one_word Done Done (cause_bits by_reply (fails e res)) g b c' g' b' (cause_fits by_reply (fails e res)) f fb fc' fg' fb' (sym is_new ∙ second) in
                   let same_res : res ≡ res' = one_result res res' b bits (subst (reply_bits res') (sym o.3) bits') in let same_entry : e ≡ e' = (let z = sym may.placed_is ∙ placed' in cc) in
                   let a : OpAnswers L.caps (events_of v.seen) q e.op res d = subst (λ (z : ℤ). OpAnswers L.caps (events_of v.seen) q e.op z d) (sym same_res) (subst (λ (z : Entry). OpAnswers L.caps (events_of v.seen) q z.op res' d) (sym same_entry) answer') in
-                  let same_data : data' ≡ d = one_data L.caps (events_of v.seen) q e.op res data' d k.1 may.answers a in
+                  let same_data : data' ≡ d = one_data L.caps (events_of v.seen) q e.op res data' d may.answers a in
                   subst (λ (z : ℤ × List ℕ). Extends v (Did (Reply q z.0 z.1)) (after q) w × (rest me.1 ≡ rest me.1)) (λ i. (same_res i, same_data i)) (extends slots id me s r at l (after q) legal r.live (calm s r at).fair (tick slots id me (claim_at x) s (l ∷ r.past)), refl)),
               refl,
             ),

@@ -30,7 +30,7 @@ use Rattle.steps.specs.Fairness.{Fair, Orderly, IsFree}
 use Rattle.steps.specs.Journal.{events_of, freed, lent, noted, holder}
 use Rattle.steps.specs.Cells.{setup_of, IsCell, ring_of, request_at, CellOk, Ages, claim_at, note_at, slot_at, word_of}
 use Rattle.steps.specs.Rule.{workers, rings, stands_for, NoneOf, Vacant, Ruled, seeing, IsStep, Extends}
-use Rattle.steps.specs.Plays.{Seated, At, looked, noticed, tried, tried_running, sure}
+use Rattle.steps.specs.Plays.{Seated, At, is_idle, looked, noticed, tried, tried_idle, sure}
 use Rattle.steps.proofs.CellNumbers.{one_word}
 use Rattle.steps.proofs.Roles.{same_sym, worker_is}
 use Rattle.steps.proofs.JournalGrowth.{begins, ran, replied_by, legal_before, still_runs, still_reaped, still_replied, still_data, same_submits, same_lent, same_before, Lasting, lasts}
@@ -246,22 +246,22 @@ module _ (slots id : ℕ) (me : Seated) where
       ))
       (λ ne. let d = looks_on x old new none s r at in (d.0, d.1, d.2, d.3, ((λ e. absurd (ne e)), (λ _. d.4), d.5), d.5)))
 
-  -- the same where a refused exchange that finds the request Running is an event of its own, and leaves the word
-  pub tries_running : (M : Layout) (tag : Tag) (P Q : At → Seated → ℕ → Req → Seated → Type 0) (x g d old new : ℕ) → v.role ≢ Spent → IsCell K x → g < 16777216 → d < 4294967296 → old ≡ word_of tag 0 g d → tag ≢ Running
+  -- the same of a request that is idle, where a refused exchange that finds it Running is an event of its own, and leaves the word
+  pub tries_idle : (M : Layout) (P Q : At → Seated → ℕ → Req → Seated → Type 0) (x g d old new : ℕ) (tag : Tag) → v.role ≢ Spent → IsCell K x → g < 16777216 → d < 4294967296 → old ≡ word_of tag 0 g d → is_idle tag ≡ true
       → ((s : St) → Ruled L s → There s → get_or s.words (claim_at x) 0 ≡ word_of tag 0 g d → Does L s (claim_at x) new (P (step slots (claim_at x) old new none) me x (request_at K x g)))
       → ((s : St) → Ruled L s → There s → get_or s.words (claim_at x) 0 ≡ word_of Running 0 g 0 → Does L s (claim_at x) (get_or s.words (claim_at x) 0) (Q (step slots (claim_at x) old new none) me x (request_at K x g)))
-      → Allows (Ruled M) slots id me (claim_at x) (λ n. either (eqb n old) new n) (tried_running tag P Q (step slots (claim_at x) old new none) me)
-  tries_running M tag P Q x g pay old new live inside f fd is apart' goes misses = shaped M (claim_at x) (λ n. either (eqb n old) new n) (tried_running tag P Q (step slots (claim_at x) old new none) me) live
-      (λ s r at. let n : ℕ = get_or s.words (claim_at x) 0 in exchanged n old new (λ m. Does L s (claim_at x) m (tried_running tag P Q (step slots (claim_at x) old new none) me n))
+      → Allows (Ruled M) slots id me (claim_at x) (λ n. either (eqb n old) new n) (tried_idle P Q (step slots (claim_at x) old new none) me)
+  tries_idle M P Q x g pay old new tag live inside f fd is idle goes misses = shaped M (claim_at x) (λ n. either (eqb n old) new n) (tried_idle P Q (step slots (claim_at x) old new none) me) live
+      (λ s r at. let n : ℕ = get_or s.words (claim_at x) 0 in exchanged n old new (λ m. Does L s (claim_at x) m (tried_idle P Q (step slots (claim_at x) old new none) me n))
       (λ hit. let d = goes s r at (hit ∙ is) in (
         d.0,
         d.1,
         d.2,
         d.3,
         (
-          (λ _ y h d' here inside' f' fd' is'. let o = one_word tag tag 0 g pay 0 h d' (omega arith) f fd (omega arith) f' fd' (sym is ∙ is') in let e : x ≡ y = omega arith in
+          (λ _ y h here inside' f' w. let o = one_word tag w.0 0 g pay 0 h w.1 (omega arith) f fd (omega arith) f' w.3 (sym is ∙ w.4) in let e : x ≡ y = omega arith in
               subst (λ (z : ℕ × ℕ). P (step slots (claim_at x) old new none) me z.0 (request_at K z.0 z.1) (d.0, carried_after me.1 d.1)) (λ i. (e i, o.2 i)) d.4),
-          (λ y h d' here inside' f' fd' is' run. absurd (apart' (one_word tag Running 0 h d' 0 h 0 (omega arith) f' fd' (omega arith) f' (omega arith) (sym is' ∙ (sym hit ∙ run))).0)),
+          (λ y h here inside' f' w run. absurd (true≢false (sym w.2 ∙ ap is_idle (one_word w.0 Running 0 h w.1 0 h 0 (omega arith) f' w.3 (omega arith) f' (omega arith) (sym w.4 ∙ (sym hit ∙ run))).0))),
           (λ ne. absurd (ne hit)),
           d.5,
         ),
@@ -275,9 +275,9 @@ module _ (slots id : ℕ) (me : Seated) where
         d.3,
         (
           (λ hit. absurd (ne hit)),
-          (λ y h d' here inside' f' fd' is' _. let o = one_word tag tag 0 g pay 0 h d' (omega arith) f fd (omega arith) f' fd' (sym is ∙ is') in let e : x ≡ y = omega arith in
+          (λ y h here inside' f' w _. let o = one_word tag w.0 0 g pay 0 h w.1 (omega arith) f fd (omega arith) f' w.3 (sym is ∙ w.4) in let e : x ≡ y = omega arith in
               subst (λ (z : ℕ × ℕ). Q (step slots (claim_at x) old new none) me z.0 (request_at K z.0 z.1) (d.0, carried_after me.1 d.1)) (λ i. (e i, o.2 i)) d.4),
-          (λ _ other. absurd (other x g pay refl f fd is run)),
+          (λ _ other. absurd (other x g refl f (tag, pay, idle, fd, is) run)),
           d.5,
         ),
         d.5,
@@ -289,7 +289,7 @@ module _ (slots id : ℕ) (me : Seated) where
         d.3,
         (
           (λ hit. absurd (ne hit)),
-          (λ y h d' here inside' f' fd' is' run. let o = one_word tag tag 0 g pay 0 h d' (omega arith) f fd (omega arith) f' fd' (sym is ∙ is') in absurd (else (run ∙ ap (λ (z : ℕ). word_of Running 0 z 0) (sym o.2)))),
+          (λ y h here inside' f' w run. let o = one_word tag w.0 0 g pay 0 h w.1 (omega arith) f fd (omega arith) f' w.3 (sym is ∙ w.4) in absurd (else (run ∙ ap (λ (z : ℕ). word_of Running 0 z 0) (sym o.2)))),
           (λ _ _. d.4),
           d.5,
         ),

@@ -1,13 +1,13 @@
 -- What each kind of step tells its seat.
-use Rattle.std.specs.Prelude.{◌≡◌, ◌≢◌, ℕ, ◌<◌, true, ℤ, List, [], ◌∷◌, length, Option, Some, None}
+use Rattle.std.specs.Prelude.{◌≡◌, ◌≢◌, ℕ, suc, ◌<◌, Bool, true, false, ℤ, List, [], ◌∷◌, length, Option, Some, None}
 use Rattle.atomic_table.specs.Table.{Me, Step, rest}
 use Rattle.atomic_table.specs.Seated.{TableId}
 use Rattle.atomic_table.specs.declared.shared.Seat.{Seat}
 use Rattle.claim.specs.declared.tag.Tag.{Tag}
-use Rattle.claim.specs.declared.tag.Tag.TheVariants.{Running, Done}
+use Rattle.claim.specs.declared.tag.Tag.TheVariants.{Held, Ready, Running, Armed, Done}
 use Rattle.entry.specs.Entry.{Entry}
 use Rattle.history.specs.declared.req.Req.{Req}
-use Rattle.history.specs.declared.event.Event.TheVariants.{Submit, Begin, Park, Reply, Sever, Reap}
+use Rattle.history.specs.declared.event.Event.TheVariants.{Submit, Begin, Park, Reply, Take, Miss, Tick, Arm, Expire, Fire, FireMiss, Settle, Sever, Reap}
 use Rattle.history.specs.History.{Cause, phase, replied, data_of, submission}
 use Rattle.history.specs.Chains.{IsPlaced}
 use Rattle.history.specs.Pipes.{flow, flows_as}
@@ -44,12 +44,23 @@ tried tag P st m n m' =
     (n ≡ st.first → (x g p : ℕ) → st.word ≡ claim_at x → IsCell m.0.layout.cells x → g < 16777216 → p < 4294967296 → st.first ≡ word_of tag 0 g p → P st m x (request_at m.0.layout.cells x g) m')
     × (n ≢ st.first → looked st m n m') × IsStep st.word n m.0 m'.0
 
--- of an exchange with this tag at the word of a request that may be running: P where it was found with the tag, Q where a refused exchange found it Running, else what a load tells. A cancel and a firing step so
-abbrev pub tried_running : Tag → (At → Seated → ℕ → Req → Seated → Type 0) → (At → Seated → ℕ → Req → Seated → Type 0) → At → Seated → ℕ → Seated → Type 0
-tried_running tag P Q st m n m' =
-    (n ≡ st.first → (x g p : ℕ) → st.word ≡ claim_at x → IsCell m.0.layout.cells x → g < 16777216 → p < 4294967296 → st.first ≡ word_of tag 0 g p → P st m x (request_at m.0.layout.cells x g) m')
-    × ((x g p : ℕ) → st.word ≡ claim_at x → IsCell m.0.layout.cells x → g < 16777216 → p < 4294967296 → st.first ≡ word_of tag 0 g p → n ≡ word_of Running 0 g 0 → Q st m x (request_at m.0.layout.cells x g) m')
-    × (n ≢ st.first → ((x g p : ℕ) → st.word ≡ claim_at x → g < 16777216 → p < 4294967296 → st.first ≡ word_of tag 0 g p → n ≢ word_of Running 0 g 0) → looked st m n m') × IsStep st.word n m.0 m'.0
+-- the tag of a request that was submitted, has no reply and does not run
+abbrev pub is_idle : Tag → Bool
+is_idle Held = true
+is_idle Ready = true
+is_idle Armed = true
+is_idle _ = false
+
+-- the word of such a request of generation g
+abbrev pub IsIdleWord : ℕ → ℕ → Type 0
+IsIdleWord g word = (t : Tag) × (p : ℕ) × (is_idle t ≡ true) × (p < 4294967296) × (word ≡ word_of t 0 g p)
+
+-- of an exchange of the word of a request that is not running: P where it was found so, Q where a refused exchange found it Running, else what a load tells. A cancel and a firing step so
+abbrev pub tried_idle : (At → Seated → ℕ → Req → Seated → Type 0) → (At → Seated → ℕ → Req → Seated → Type 0) → At → Seated → ℕ → Seated → Type 0
+tried_idle P Q st m n m' =
+    (n ≡ st.first → (x g : ℕ) → st.word ≡ claim_at x → IsCell m.0.layout.cells x → g < 16777216 → IsIdleWord g st.first → P st m x (request_at m.0.layout.cells x g) m')
+    × ((x g : ℕ) → st.word ≡ claim_at x → IsCell m.0.layout.cells x → g < 16777216 → IsIdleWord g st.first → n ≡ word_of Running 0 g 0 → Q st m x (request_at m.0.layout.cells x g) m')
+    × (n ≢ st.first → ((x g : ℕ) → st.word ≡ claim_at x → g < 16777216 → IsIdleWord g st.first → n ≢ word_of Running 0 g 0) → looked st m n m') × IsStep st.word n m.0 m'.0
 
 -- of an exchange of a claim word that is known: P of the cell and the request
 abbrev pub sure : Tag → (At → Seated → ℕ → Req → Seated → Type 0) → At → Seated → ℕ → Seated → Type 0
@@ -60,6 +71,37 @@ released st m x r m' = Extends m.0 (Freed r) m.0.role m'.0 × (m'.1 ≡ m.1)
 
 abbrev pub severed : At → Seated → ℕ → Req → Seated → Type 0
 severed st m x r m' = Extends m.0 (Did (Sever r)) m.0.role m'.0 × (m'.1 ≡ m.1)
+
+-- the new word has the deadline
+abbrev pub armed_for : At → Seated → ℕ → Req → Seated → Type 0
+armed_for st m x r m' = (g d : ℕ) → g < 16777216 → d < 4294967296 → st.second ≡ word_of Armed 0 g d → Extends m.0 (Did (Arm r d)) m.0.role m'.0 × (m'.1 ≡ m.1)
+
+abbrev pub expired : At → Seated → ℕ → Req → Seated → Type 0
+expired st m x r m' = Extends m.0 (Did (Expire r)) m.0.role m'.0 × (m'.1 ≡ m.1)
+
+abbrev pub settled : At → Seated → ℕ → Req → Seated → Type 0
+settled st m x r m' = Extends m.0 (Did (Settle r)) m.0.role m'.0 × (m'.1 ≡ m.1)
+
+-- the request after this one in its ring, whose target it is if that is a LINK_TIMEOUT
+abbrev pub next_of : Req → Req
+next_of r = record { ring = r.ring; k = suc r.k }
+
+abbrev pub fired_at : At → Seated → ℕ → Req → Seated → Type 0
+fired_at st m x r m' = Extends m.0 (Did (Fire (next_of r) r)) m.0.role m'.0 × (m'.1 ≡ m.1)
+
+abbrev pub fired_late : At → Seated → ℕ → Req → Seated → Type 0
+fired_late st m x r m' = Extends m.0 (Did (FireMiss (next_of r) r)) m.0.role m'.0 × (m'.1 ≡ m.1)
+
+-- a cancel that the seat runs takes the request, or finds it running
+abbrev pub taken : At → Seated → ℕ → Req → Seated → Type 0
+taken st m x r m' = (c : Req) → m.0.role ≡ Busy c → Extends m.0 (Did (Take c r)) m.0.role m'.0 × (m'.1 ≡ m.1)
+
+abbrev pub missed : At → Seated → ℕ → Req → Seated → Type 0
+missed st m x r m' = (c : Req) → m.0.role ≡ Busy c → Extends m.0 (Did (Miss c r)) m.0.role m'.0 × (m'.1 ≡ m.1)
+
+-- of a store of the clock's word: the time that is stored
+abbrev pub clock_set : At → Seated → ℕ → Seated → Type 0
+clock_set st m n m' = st.word ≡ 0 → (Extends m.0 (Did (Tick st.first)) m.0.role m'.0 × (m'.1 ≡ m.1)) × ((found : ℕ) × IsStep st.word found m.0 m'.0)
 
 -- the slot has what was handed in, with these data over its front
 abbrev pub Hands : Seated → ℕ → Req → List ℕ → List (ℕ × Option Thing) → Type 0
@@ -107,6 +149,10 @@ HasPipe m p others = (c : Conduit) × (m.1 ≡ (p, Some (Piped c)) ∷ others) �
 -- the same, as the reply res to q, placed as e, will make it
 abbrev pub HasPipeAfter : Seated → ℕ → Req → Entry → ℤ → Type 0
 HasPipeAfter m p q e res = (c : Conduit) × (rest m.1 ≡ (p, Some (Piped c)) ∷ rest (rest m.1)) × PipeIs m.0.layout.caps p (Some (Piped c)) (flows_as (Some e) (submission (events_of m.0.seen) q) res p (flow (events_of m.0.seen) p))
+
+-- the table has a clock
+abbrev pub FitsClock : TableId → Seat (Option Thing) View → Type 0
+FitsClock table seat = (seat.table_id ≡ table) × (0 < table.words)
 
 -- the pipe is one of the seat's table
 abbrev pub FitsPipe : TableId → Seat (Option Thing) View → ℕ → Type 0

@@ -1,13 +1,16 @@
 //! The claim words that steps write and look for.
-ghost use Rattle.std.specs.Prelude.{◌≡◌, ◌<◌, ℕ, negsuc};
-ghost use Rattle.claim.specs.declared.tag.Tag.TheVariants.{Empty, Held, Ready, Running, Done};
-ghost use Rattle.history.specs.History.{by_reply, by_sever};
+ghost use Rattle.std.specs.Prelude.{◌≡◌, ◌<◌, ℕ, negsuc, false, cond};
+ghost use Rattle.claim.specs.declared.tag.Tag.TheVariants.{Empty, Held, Ready, Running, Armed, Done};
+ghost use Rattle.history.specs.History.{by_reply, by_take, by_expire, by_fire, by_settle, by_sever};
 ghost use Rattle.steps.specs.Cells.{word_of, reply_bits, cause_bits};
 
 use claim::{Cause, ClaimWord, pack};
 
 /// The reply of a request that was ended before it ran: -ECANCELED.
 const CANCELED: i32 = -125;
+
+/// The reply of a timer that ran out: -ETIME.
+const TIMED_OUT: i32 = -62;
 
 /// No request yet of this generation.
 pub fn empty(generation: u32) -> u64
@@ -55,4 +58,45 @@ pub(crate) fn severed(generation: u32, fails: bool) -> u64
     ensures { (b : ℕ) → reply_bits (negsuc 124) b → result ≡ word_of Done (cause_bits by_sever fails) generation b }
 {
     pack(ClaimWord::done(generation, Cause::Sever, fails, CANCELED))
+}
+
+/// The timer of this generation runs out at a time of the clock, in ticks.
+pub(crate) fn armed(generation: u32, deadline: u32) -> u64
+    requires { generation < 16777216 }
+    ensures { result ≡ word_of Armed 0 generation deadline }
+{
+    pack(ClaimWord::armed(generation, deadline))
+}
+
+/// A cancel took the request.
+pub(crate) fn taken(generation: u32, fails: bool) -> u64
+    requires { generation < 16777216 }
+    ensures { (b : ℕ) → reply_bits (negsuc 124) b → result ≡ word_of Done (cause_bits by_take fails) generation b }
+{
+    pack(ClaimWord::done(generation, Cause::Take, fails, CANCELED))
+}
+
+/// The TIMEOUT ran out.
+pub(crate) fn expired(generation: u32, fails: bool) -> u64
+    requires { generation < 16777216 }
+    ensures { (b : ℕ) → reply_bits (negsuc 61) b → result ≡ word_of Done (cause_bits by_expire fails) generation b }
+{
+    pack(ClaimWord::done(generation, Cause::Expire, fails, TIMED_OUT))
+}
+
+/// The request was ended by its LINK_TIMEOUT.
+pub(crate) fn fired(generation: u32, fails: bool) -> u64
+    requires { generation < 16777216 }
+    ensures { (b : ℕ) → reply_bits (negsuc 124) b → result ≡ word_of Done (cause_bits by_fire fails) generation b }
+{
+    pack(ClaimWord::done(generation, Cause::Fire, fails, CANCELED))
+}
+
+/// The LINK_TIMEOUT ran out in time, or else its target replied before.
+pub(crate) fn settled(generation: u32, in_time: bool) -> u64
+    requires { generation < 16777216 }
+    ensures { (b : ℕ) → reply_bits (cond in_time (negsuc 61) (negsuc 124)) b → result ≡ word_of Done (cause_bits by_settle false) generation b }
+{
+    let reply = if in_time { TIMED_OUT } else { CANCELED };
+    pack(ClaimWord::done(generation, Cause::Settle, false, reply))
 }

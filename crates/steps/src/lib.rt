@@ -1,6 +1,7 @@
 //! The shared table of a board: its words and slots, the one rule over them, and each kind of step that a pass takes.
 #![tactic(auto)]
 
+pub mod cancels;
 pub mod claims;
 pub mod facts;
 pub mod law;
@@ -12,6 +13,7 @@ mod plays;
 pub mod seat;
 pub mod submitter;
 pub mod table;
+pub mod timers;
 pub mod view;
 
 pub use law::{About, Law};

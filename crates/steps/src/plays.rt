@@ -1,7 +1,7 @@
 //! What each kind of step tells its seat, as the table takes it.
-ghost use Rattle.claim.specs.declared.tag.Tag.TheVariants.{Empty, Held, Ready, Running, Done};
+ghost use Rattle.claim.specs.declared.tag.Tag.TheVariants.{Empty, Held, Ready, Running, Armed, Done};
 ghost use Rattle.steps.specs.declared.view.Role.TheVariants.{Idle, Leaving};
-ghost use Rattle.steps.specs.Plays.{looked, tried, sure, released, severed, began, submitted, replied_with, parked, reaps, noticed, opened, noted_user, emptied, pipe_taken, pipe_returned, pipe_left};
+ghost use Rattle.steps.specs.Plays.{looked, tried, tried_idle, sure, released, severed, armed_for, expired, settled, fired_at, fired_late, taken, missed, clock_set, began, submitted, replied_with, parked, reaps, noticed, opened, noted_user, emptied, pipe_taken, pipe_returned, pipe_left};
 ghost use Rattle.steps.specs.Rule.{without_next, without_one, next_submitter, idle_one, messenger, hearing, spent_view};
 
 use crate::parcel::Thing;
@@ -30,6 +30,42 @@ pub(crate) struct Sever;
 
 impl Play<Option<Thing>, View> for Sever {
     ghost then = { tried Held severed };
+}
+
+pub(crate) struct Tick;
+
+impl Play<Option<Thing>, View> for Tick {
+    ghost then = { clock_set };
+}
+
+pub(crate) struct Arm;
+
+impl Play<Option<Thing>, View> for Arm {
+    ghost then = { tried Held armed_for };
+}
+
+pub(crate) struct Expire;
+
+impl Play<Option<Thing>, View> for Expire {
+    ghost then = { tried Armed expired };
+}
+
+pub(crate) struct Fire;
+
+impl Play<Option<Thing>, View> for Fire {
+    ghost then = { tried_idle fired_at fired_late };
+}
+
+pub(crate) struct Settle;
+
+impl Play<Option<Thing>, View> for Settle {
+    ghost then = { tried Armed settled };
+}
+
+pub(crate) struct Take;
+
+impl Play<Option<Thing>, View> for Take {
+    ghost then = { tried_idle taken missed };
 }
 
 pub(crate) struct Begin;

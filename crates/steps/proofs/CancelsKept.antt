@@ -1,0 +1,68 @@
+-- What a worker knows of the cancel that it runs stays: what it did, which requests it is meant for, and so its answer.
+use Rattle.std.proofs.Common.{◌≡◌, ℕ, ◌<◌, ℤ, Option, List, sym, refl, ap, ◌∙◌, subst, arith}
+use Rattle.atomic_table.specs.Table.{State}
+use Rattle.history.specs.declared.req.Req.{Req}
+use Rattle.history.specs.declared.event.Event.{Event}
+use Rattle.history.specs.History.{Hit, nothing, took, missed, runs, hit, phase, submits, IsReplied}
+use Rattle.history.specs.Chains.{IsBefore, placed}
+use Rattle.history.specs.Answers.{Matches, NoneLeft, CancelAnswers}
+use Rattle.history.specs.Legal.{Setup}
+use Rattle.history.proofs.Opening.{placed_stays}
+use Rattle.steps.specs.declared.parcel.Thing.{Thing}
+use Rattle.steps.specs.declared.view.Layout.{Layout}
+use Rattle.steps.specs.declared.view.Role.{Role}
+use Rattle.steps.specs.declared.view.Role.TheVariants.{Busy}
+use Rattle.steps.specs.declared.view.View.{View}
+use Rattle.steps.specs.Journal.{events_of}
+use Rattle.steps.specs.Cells.{setup_of}
+use Rattle.steps.specs.Rule.{NoneOf, Ruled}
+use Rattle.steps.specs.Plays.{Seated}
+use Rattle.steps.proofs.JournalGrowth.{replied_later, counted_in, legal_before}
+use Rattle.steps.proofs.OwnEvents.{same_hit}
+use Rattle.steps.proofs.StepKinds.{There, later, past_is, legal_now, none_now, lasts_now}
+
+answer_by : (h n : List Event) (c : Req) (res : ℤ) → (NoneLeft h c → NoneLeft n c) → (x : Hit) → CancelAnswers h c x res → CancelAnswers n c x res
+answer_by h n c res none (took t) a = a
+answer_by h n c res none (missed t) a = a
+answer_by h n c res none nothing a = (a.0, none a.1)
+
+module _ (slots id : ℕ) (me : Seated) where
+  abbrev v : View
+  v = me.0
+
+  abbrev L : Layout
+  L = v.layout
+
+  abbrev S : Setup
+  S = setup_of L
+
+  abbrev St : Type 0
+  St = State (Option Thing) View
+
+  -- what a request stands for stays, also where it isn't known
+  pub placed_same : (q : Req) (s : St) (r : Ruled L s) → There slots id me s → q.k < submits (events_of v.seen) q.ring → placed (events_of r.past) q ≡ placed (events_of v.seen) q
+  placed_same q s r at born = lasts_now slots id me s r at (λ h. placed h q ≡ placed (events_of v.seen) q) q (λ e h l a c is. placed_stays S e h l a q c ∙ is) born refl
+
+  module _ (c : Req) (busy : v.role ≡ Busy c) where
+    pub hit_now : (s : St) (r : Ruled L s) → There slots id me s → hit (events_of r.past) c ≡ hit (events_of v.seen) c
+    hit_now s r at = ap (λ j. hit (events_of j) c) (past_is slots id me s r at) ∙ same_hit c (later slots id me s r at) v.seen (subst (λ (z : Role). NoneOf z (later slots id me s r at)) busy (none_now slots id me s r at))
+
+    c_born : (s : St) (r : Ruled L s) → There slots id me s → c.k < submits (events_of v.seen) c.ring
+    c_born s r at = counted_in S v.seen c runs (legal_before S (later slots id me s r at) v.seen (legal_now slots id me s r at)) ((r.seats id v at).busy c busy).1 (λ e. cc)
+
+    earlier : (s : St) (r : Ruled L s) → There slots id me s → (t : Req) → IsBefore t c → placed (events_of r.past) t ≡ placed (events_of v.seen) t
+    earlier s r at t b = placed_same t s r at (subst (λ (i : ℕ). t.k < submits (events_of v.seen) i) (sym b.0) (let k = b.1 in let l = c_born s r at in omega arith))
+
+    -- it is meant for the same requests
+    pub match_now : (s : St) (r : Ruled L s) → There slots id me s → (t : Req) → Matches (events_of v.seen) c t → Matches (events_of r.past) c t
+    match_now s r at t m = (m.0, m.1, m.2, placed_same c s r at (c_born s r at) ∙ m.3, earlier s r at t m.0 ∙ m.4, m.5)
+
+    pub match_was : (s : St) (r : Ruled L s) → There slots id me s → (t : Req) → Matches (events_of r.past) c t → Matches (events_of v.seen) c t
+    match_was s r at t m = (m.0, m.1, m.2, sym (placed_same c s r at (c_born s r at)) ∙ m.3, sym (earlier s r at t m.0) ∙ m.4, m.5)
+
+    pub answered_now : (s : St) (r : Ruled L s) → There slots id me s → (t : Req) → IsReplied (phase (events_of v.seen) t) → IsReplied (phase (events_of r.past) t)
+    answered_now s r at t d = subst (λ j. IsReplied (phase (events_of j) t)) (sym (past_is slots id me s r at)) (replied_later S (later slots id me s r at) v.seen t (legal_now slots id me s r at) d)
+
+    -- and has the same answer
+    pub cancel_now : (res : ℤ) (s : St) (r : Ruled L s) → There slots id me s → CancelAnswers (events_of v.seen) c (hit (events_of v.seen) c) res → CancelAnswers (events_of r.past) c (hit (events_of r.past) c) res
+    cancel_now res s r at a = subst (λ (x : Hit). CancelAnswers (events_of r.past) c x res) (sym (hit_now s r at)) (answer_by (events_of v.seen) (events_of r.past) c res (λ none t m. answered_now s r at t (none t (match_was s r at t m))) _ a)

@@ -1,0 +1,157 @@
+-- What the steps of timers and cancels have in common: an exchange that answers a request which waits or is armed, and an event that leaves all requests where they are.
+use Rattle.std.proofs.Common.{◌≡◌, ◌≢◌, ℕ, ◌<◌, Bool, true, false, not, Option, Some, ℤ, List, [], ◌∷◌, get_or, set, sym, refl, ap, ◌∙◌, subst, arith, true≢false, length-set}
+use lib.ListN.{get_elem?}
+use Rattle.atomic_table.specs.Table.{State, keeps}
+use Rattle.claim.specs.declared.tag.Tag.{Tag}
+use Rattle.claim.specs.declared.tag.Tag.TheVariants.{Held, Ready, Running, Armed, Done}
+use Rattle.entry.specs.Entry.{Entry, fails}
+use Rattle.history.specs.declared.req.Req.{Req}
+use Rattle.history.specs.declared.event.Event.{Event}
+use Rattle.history.specs.History.{Cause, Phase, runs, replied, unborn, same, concerns, becomes, phase, answers, data_in, shuts, ticks, clock_of, was_shut, IsIdle, IsReplied}
+use Rattle.history.specs.Chains.{IsPlaced}
+use Rattle.history.specs.Pipes.{flow}
+use Rattle.history.specs.Legal.{Setup, MayCome, shut_for, Legal}
+use Rattle.history.proofs.Requests.{same_itself, same_false}
+use Rattle.steps.specs.declared.line.Line.{Line}
+use Rattle.steps.specs.declared.line.Line.TheVariants.{Did}
+use Rattle.steps.specs.declared.parcel.Thing.{Thing}
+use Rattle.steps.specs.declared.view.Layout.{Layout}
+use Rattle.steps.specs.declared.view.View.{View}
+use Rattle.steps.specs.Fairness.{Fair}
+use Rattle.steps.specs.Journal.{events_of, lent}
+use Rattle.steps.specs.Cells.{setup_of, IsCell, request_at, claim_at, note_at, pipe_at, slot_at, word_of, reply_bits, cause_bits, Home, Keeps, Says, PipeOk}
+use Rattle.steps.specs.Rule.{owns, Ruled, Extends}
+use Rattle.steps.specs.Plays.{Seated, is_idle, IsIdleWord}
+use Rattle.steps.proofs.CellNumbers.{other_cell, other_age, one_word, bits_fit}
+use Rattle.steps.proofs.JournalGrowth.{begins, phase_stays, counted_in, lasts_by, placed_lasts}
+use Rattle.steps.proofs.Frames.{ages_stay, keeps_stays, pipe_stays, done_keeps}
+use Rattle.steps.proofs.ClaimWords.{says_of, cause_fits}
+use Rattle.steps.proofs.RuleKept.{adds_claim, adds_else, owned, seat_sees, run_set, held_set, lent_set, at_now, left_now}
+use Rattle.steps.proofs.StepKinds.{now_is, tick, with_line, Does, There, busy_now, extends, same_turns}
+use Rattle.steps.proofs.LoadReleaseBegin.{quiet_line}
+
+-- what an idle request's word says, whichever it is
+pub idle_says : (j : List Line) (r : Req) (home : Home) (c p : ℕ) (t : Tag) → is_idle t ≡ true → Says j r home c p t → IsIdle (phase (events_of j) r) × (lent j r ≡ false) × Keeps j r home []
+idle_says j r home c p Held i s = (subst IsIdle (sym s.2) tt, s.4, s.5)
+idle_says j r home c p Ready i s = (subst IsIdle (sym s.2) tt, s.4, s.5)
+idle_says j r home c p Armed i s = (subst IsIdle (sym s.1) tt, s.3, s.4)
+idle_says j r home c p t i s = absurd (true≢false (sym i))
+
+idle_runs : (p : Phase) → IsIdle p → p ≢ runs
+idle_runs p i e = subst IsIdle e i
+
+idle_unborn : (p : Phase) → IsIdle p → p ≢ unborn
+idle_unborn p i e = subst IsIdle e i
+
+-- an event of no submitter: it leaves the pipes and the slots, and nothing ends with it
+pub record Plain (ev : Event) : Type 0 where
+  pub open' : shut_for ev ≡ false
+  pub live' : (b : Bool) → shuts ev b ≡ b
+  pub flow' : (h : List Event) (p : ℕ) → flow (ev ∷ h) p ≡ flow h p
+  pub lent' : (j : List Line) (r : Req) → lent (Did ev ∷ j) r ≡ lent j r
+  pub fair' : (M : Layout) (j : List Line) → Fair M j (Did ev)
+  pub begins' : begins (Did ev) ≡ false
+
+-- it answers the request q, and nothing else
+pub record Ends (ev : Event) (q : Req) : Type 0 where
+  pub plain : Plain ev
+  pub concerns' : (r : Req) → concerns ev r ≡ same q r
+  pub answers' : answers ev q ≡ true
+  pub data' : data_in ev ≡ []
+  pub clock' : (m : ℕ) → ticks ev m ≡ m
+
+-- it leaves all requests where they are
+pub record Silent (ev : Event) : Type 0 where
+  pub plain : Plain ev
+  pub concerns' : (r : Req) → concerns ev r ≡ false
+
+module _ (slots id : ℕ) (me : Seated) where
+  abbrev v : View
+  v = me.0
+
+  abbrev L : Layout
+  L = v.layout
+
+  abbrev K : List ℕ
+  K = L.cells
+
+  abbrev S : Setup
+  S = setup_of L
+
+  abbrev St : Type 0
+  St = State (Option Thing) View
+
+  module _ (ev : Event) (own : owns v.role (Did ev) ≡ true) (has : (s : St) → Ruled L s → There slots id me s → 0 < v.parts) where
+    abbrev l : Line
+    l = Did ev
+
+    -- the step told the event, and left what was in the hand
+    abbrev pub Told : Seated → Type 0
+    Told m' = Extends v (Did ev) v.role m'.0 × (m'.1 ≡ me.1)
+
+    legal_with : (s : St) (r : Ruled L s) → Plain ev → MayCome S (events_of r.past) ev → Legal S (events_of (l ∷ r.past))
+    legal_with s r plain may = ((r.live ∙ sym plain.open', may), r.legal)
+
+    live_with : (s : St) (r : Ruled L s) → Plain ev → was_shut (events_of (l ∷ r.past)) ≡ false
+    live_with s r plain = plain.live' (was_shut (events_of r.past)) ∙ r.live
+
+    -- ---- it answers the request of generation g in the cell x, whose word it changes
+    module _ (x g b : ℕ) (e : Entry) (cause : Cause) (res : ℤ) (ends : Ends ev (request_at K x g)) (inside : IsCell K x) (f : g < 16777216) (bits : reply_bits res b) (tag : Tag) (pay : ℕ) (idle : is_idle tag ≡ true) (fd : pay < 4294967296) where
+      abbrev q : Req
+      q = request_at K x g
+
+      -- what has to be known at the state that is found
+      abbrev pub Known : Type 0
+      Known = (s : St) (r : Ruled L s) → There slots id me s → Says r.past q (get_elem? s.homes (slot_at x)) 0 pay tag → MayCome S (events_of r.past) ev × (becomes (events_of r.past) ev (phase (events_of r.past) q) ≡ replied cause res) × IsPlaced (events_of r.past) q e
+
+      pub answers_does : (new : ℕ) → new ≡ word_of Done (cause_bits cause (fails e res)) g b → Known → (s : St) (r : Ruled L s) → There slots id me s → get_or s.words (claim_at x) 0 ≡ word_of tag 0 g pay → Does slots id me L s (claim_at x) new Told
+      answers_does new is_new known s r at is =
+          let here = says_of K r.past x _ _ tag 0 g pay (r.cells x inside) is (omega arith) f fd in let said = idle_says r.past q _ 0 pay tag idle here.0 in let k = known s r at here.0 in
+          let legal = legal_with s r ends.plain k.0 in let live = live_with s r ends.plain in
+          let done : phase (events_of (l ∷ r.past)) q ≡ replied cause res = now_is _ _ _ (ends.concerns' q ∙ same_itself q) ∙ k.1 in
+          let born = counted_in S r.past q (phase (events_of r.past) q) r.legal refl (idle_unborn _ said.0) in
+          let kept : Keeps (l ∷ r.past) q (get_elem? s.homes (slot_at x)) (data_in ev) = subst (Keeps (l ∷ r.past) q (get_elem? s.homes (slot_at x))) (sym ends.data') (keeps_stays S l r.past legal q _ [] born said.2) in (
+            with_line slots id me (claim_at x) s r.past l v.role,
+            keeps,
+            tt,
+            adds_claim L s r id v v.role x new s.homes l (tick slots id me (claim_at x) s (l ∷ r.past)) inside refl (quiet_line L r.past l (ends.plain.fair' L r.past) live (ends.clock' _) (λ p. (refl, ends.plain.flow' (events_of r.past) p)))
+                (same_turns slots id me s r at l ends.plain.begins' legal (has s r at) (ends.plain.lent' r.past) (λ c busy. (let run = (busy_now slots id me s r at c busy).1 in phase_stays l r.past c (ends.concerns' c ∙ same_false q c (λ same'. idle_runs _ said.0 (ap (phase (events_of r.past)) same' ∙ run))) ∙ run))) legal at (owned L s r id v l at own)
+                (λ y h other k. ends.concerns' (request_at K y k) ∙ other_cell K x y g k inside h other) (λ w. refl) refl (λ y other. refl) record {
+                  tag = Done;
+                  cause = cause_bits cause (fails e res);
+                  gen = g;
+                  payload = b;
+                  fits = (cause_fits cause (fails e res), f, bits_fit res b bits);
+                  word_is = is_new;
+                  says = (cause, res, e, done, bits, lasts_by S (λ h. IsPlaced h q e) q (placed_lasts S q e) l r.past legal born k.2, refl, λ _. done_keeps ev r.past q _ ends.answers' kept);
+                  ages = ages_stay S l r.past legal K x g (λ n other. ends.concerns' (request_at K x n) ∙ other_age K x g n inside other) here.1;
+                },
+            (extends slots id me s r at l v.role legal live (ends.plain.fair' L r.past) (tick slots id me (claim_at x) s (l ∷ r.past)), refl),
+            refl,
+          )
+
+    -- ---- it leaves all requests: the word i becomes n, and only the clock's may change by that
+    module _ (quiet : Silent ev) (i n : ℕ) where
+      pub silent_does : (s : St) (r : Ruled L s) → There slots id me s → MayCome S (events_of r.past) ev
+          → ((w : ℕ) → ¬ (w ≡ 0) → get_or (set s.words i n) w 0 ≡ get_or s.words w 0) → get_or (set s.words i n) 0 0 ≡ clock_of (events_of (l ∷ r.past)) → Does slots id me L s i n Told
+      silent_does s r at may words clock =
+          let legal = legal_with s r quiet.plain may in let live = live_with s r quiet.plain in let t = tick slots id me i s (l ∷ r.past) in let w = with_line slots id me i s r.past l v.role in
+          let stays : (q : Req) → phase (events_of (l ∷ r.past)) q ≡ phase (events_of r.past) q = λ q. phase_stays l r.past q (quiet.concerns' q) in (
+            w,
+            keeps,
+            tt,
+            adds_else L s r id v w (set s.words i n) s.homes l (quiet.plain.fair' L r.past) legal live at
+                (seat_sees L (l ∷ r.past) t v v.role refl (λ q is. (let b = busy_now slots id me s r at q is in (b.0, stays q ∙ b.1))) (λ q is. (let b = left_now L s r id v at q is in (b.0, subst IsReplied (sym (stays q)) b.1))) (λ q is. has s r at)) refl
+                (owned L s r id v l at own) (λ y h k. quiet.concerns' (request_at K y k)) (length-set s.words i n) (λ y. words (claim_at y) (omega arith)) (λ y k h small. words (note_at y k) (omega arith) ∙ r.notes y k h small) clock refl (λ y. refl)
+                (λ p small. subst (λ (m : ℕ). PipeOk L.caps (l ∷ r.past) p m (get_elem? s.homes p)) (sym (words (pipe_at p) (omega arith))) (pipe_stays L.caps l r.past p _ _ refl (λ _. quiet.plain.flow' (events_of r.past) p) (r.pipes p small)))
+                (λ q is. run_set s.views id v w q at (λ z. z) (r.run q (sym (stays q) ∙ is)))
+                (λ p q is. held_set s.views id v w q at (λ z. z) (r.held_by p q is))
+                (λ q is. lent_set s.views id v w q at (λ z. z) (r.lent_by q (sym (quiet.plain.lent' r.past q) ∙ is)))
+                (id, w, at_now s.views id v w at, has s r at, Rattle.std.proofs.Common.inl refl),
+            (extends slots id me s r at l v.role legal live (quiet.plain.fair' L r.past) t, refl),
+            refl,
+          )
+
+-- one word is that of one generation
+pub else_found : (n g word : ℕ) → g < 16777216 → IsIdleWord g word → n ≢ word_of Running 0 g 0 → (h : ℕ) → h < 16777216 → IsIdleWord h word → n ≢ word_of Running 0 h 0
+else_found n g word f w ne h f' w' e = let o = one_word w.0 w'.0 0 g w.1 0 h w'.1 (omega arith) f w.3 (omega arith) f' w'.3 (sym w.4 ∙ w'.4) in ne (e ∙ ap (λ (z : ℕ). word_of Running 0 z 0) (sym o.2))

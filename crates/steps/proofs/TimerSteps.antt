@@ -1,0 +1,160 @@
+-- The poller's steps on the clock and on timers.
+use Rattle.std.proofs.Common.{◌≡◌, ◌≢◌, ◌⊎◌, ⊎_elim, inl, inr, ℕ, ◌+◌, ◌<◌, ◌≤◌, Bool, true, false, cond, ℤ, negsuc, Option, Some, List, ◌∷◌, get_or, sym, refl, ap, ◌∙◌, subst, arith, eqb, true≢false, get_or-set_same, get_or-set_other}
+use mathlib.Core.Option.{none}
+use lib.Seq.{set-get_or}
+use prog.Atomic.{either}
+use Rattle.atomic_table.specs.Table.{State, step, keeps, Allows}
+use Rattle.claim.specs.declared.tag.Tag.TheVariants.{Held, Running, Armed, Done}
+use Rattle.entry.specs.declared.op.Op.{Op}
+use Rattle.entry.specs.declared.op.Op.TheVariants.{LinkTimeout}
+use Rattle.entry.specs.Entry.{Entry, fails, fails_op}
+use Rattle.history.specs.declared.req.Req.{Req}
+use Rattle.history.specs.declared.event.Event.TheVariants.{Tick, Arm, Expire, Fire, FireMiss, Settle}
+use Rattle.history.specs.History.{by_expire, by_fire, by_settle, armed, replied, phase, fired, clock_of, submits, IsReplied}
+use Rattle.history.specs.Chains.{IsPlaced, IsLinkTimeout, IsTarget, Open, is_timeout, is_link_timeout}
+use Rattle.history.specs.Legal.{Setup, Legal, ticks_of}
+use Rattle.history.proofs.Requests.{same_itself}
+use Rattle.steps.specs.declared.line.Line.{Line}
+use Rattle.steps.specs.declared.line.Line.TheVariants.{Did}
+use Rattle.steps.specs.declared.parcel.Thing.{Thing}
+use Rattle.steps.specs.declared.view.Layout.{Layout}
+use Rattle.steps.specs.declared.view.Role.TheVariants.{Busy, Spent}
+use Rattle.steps.specs.declared.view.View.{View}
+use Rattle.steps.specs.Journal.{events_of}
+use Rattle.steps.specs.Cells.{setup_of, IsCell, ring_of, request_at, claim_at, word_of, reply_bits, cause_bits}
+use Rattle.steps.specs.Rule.{pollers, stands_for, Ruled, Extends}
+use Rattle.steps.specs.Plays.{Seated, IsIdleWord, next_of, tried, tried_idle, armed_for, expired, settled, fired_at, fired_late, clock_set}
+use Rattle.steps.proofs.CellNumbers.{other_cell, other_age, one_word}
+use Rattle.steps.proofs.JournalGrowth.{placed_lasts, open_lasts, replied_later, counted_in, legal_before}
+use Rattle.steps.proofs.Frames.{ages_stay}
+use Rattle.steps.proofs.ClaimWords.{says_of}
+use Rattle.steps.proofs.RuleKept.{adds_claim, owned}
+use Rattle.steps.proofs.OwnEvents.{same_clock, same_fired, still_armed}
+use Rattle.steps.proofs.EndingIdle.{Ends, Silent, idle_says, answers_does, silent_does}
+use Rattle.steps.proofs.StepKinds.{now_is, tick, with_line, Does, There, later, past_is, legal_now, live_now, none_now, lasts_now, extends, same_turns, shaped, tries, tries_idle}
+use Rattle.steps.proofs.LoadReleaseBegin.{quiet_line}
+
+-- the reply of a LINK_TIMEOUT is no failure
+no_failure : (o : Op) (res : ℤ) → is_link_timeout o ≡ true → fails_op o res ≡ false
+no_failure (LinkTimeout n) res is = refl
+no_failure o res is = absurd (true≢false (sym is))
+
+module _ (slots id : ℕ) (me : Seated) where
+  abbrev v : View
+  v = me.0
+
+  abbrev L : Layout
+  L = v.layout
+
+  abbrev K : List ℕ
+  K = L.cells
+
+  abbrev S : Setup
+  S = setup_of L
+
+  abbrev St : Type 0
+  St = State (Option Thing) View
+
+  module _ (mine : stands_for v.role pollers ≡ true) (has : 0 < v.parts) where
+    clock_now : (s : St) (r : Ruled L s) → There slots id me s → clock_of (events_of r.past) ≡ clock_of (events_of v.seen)
+    clock_now s r at = ap (λ j. clock_of (events_of j)) (past_is slots id me s r at) ∙ same_clock v.role mine (later slots id me s r at) v.seen (none_now slots id me s r at)
+
+    fired_now : (q : Req) (s : St) (r : Ruled L s) → There slots id me s → fired (events_of r.past) q ≡ fired (events_of v.seen) q
+    fired_now q s r at = ap (λ j. fired (events_of j) q) (past_is slots id me s r at) ∙ same_fired v.role mine q (later slots id me s r at) v.seen (none_now slots id me s r at)
+
+    armed_now : (q : Req) (d : ℕ) (s : St) (r : Ruled L s) → There slots id me s → IsLinkTimeout (events_of v.seen) q → phase (events_of v.seen) q ≡ armed d → phase (events_of r.past) q ≡ armed d
+    armed_now q d s r at link is = subst (λ j. phase (events_of j) q ≡ armed d) (sym (past_is slots id me s r at)) (still_armed v.role mine S q d (later slots id me s r at) v.seen (legal_now slots id me s r at) (live_now slots id me s r at) (none_now slots id me s r at) link is)
+
+    placed_now : (q : Req) (e : Entry) (s : St) (r : Ruled L s) → There slots id me s → q.k < submits (events_of v.seen) q.ring → IsPlaced (events_of v.seen) q e → IsPlaced (events_of r.past) q e
+    placed_now q e s r at born is = lasts_now slots id me s r at (λ h. IsPlaced h q e) q (placed_lasts S q e) born is
+
+    -- TICK
+    tick_quiet : (n : ℕ) → Silent (Tick n)
+    tick_quiet n = record { plain = record { open' = refl; live' = λ b. refl; flow' = λ h p. refl; lent' = λ j r. refl; fair' = λ M j. tt; begins' = refl }; concerns' = λ r. refl }
+
+    pub tick_allows : (M : Layout) (n : ℕ) → v.role ≢ Spent → clock_of (events_of v.seen) ≤ n → n ≤ 2147483647 → Allows (Ruled M) slots id me 0 (λ _. n) (λ _. clock_set (step slots 0 n 0 none) me 0)
+    tick_allows M n live le small = shaped slots id me M 0 (λ _. n) (λ _. clock_set (step slots 0 n 0 none) me 0) live
+        (λ s r at. let d = silent_does slots id me (Tick n) mine (λ _ _ _. has) (tick_quiet n) 0 n s r at (let c = clock_now s r at in (omega arith, small)) (λ w ne. get_or-set_other s.words 0 w n 0 ne) (get_or-set_same s.words 0 n 0 (let a = r.room in omega arith)) in
+            (d.0, d.1, d.2, d.3, (λ _. (d.4, (get_or s.words 0 0, d.5))), d.5))
+
+    module _ (x g : ℕ) (inside : IsCell K x) (f : g < 16777216) (lazy : (q : Req) → v.role ≢ Busy q) (born : (request_at K x g).k < submits (events_of v.seen) (ring_of K x)) where
+      abbrev q : Req
+      q = request_at K x g
+
+      -- ARM
+      arm_does : (old new d : ℕ) → d < 4294967296 → new ≡ word_of Armed 0 g d → Open (events_of v.seen) q → (e : Entry) (n : ℕ) → IsPlaced (events_of v.seen) q e → ticks_of e.op ≡ Some n → d ≡ clock_of (events_of v.seen) + n
+          → (s : St) (r : Ruled L s) → There slots id me s → get_or s.words (claim_at x) 0 ≡ word_of Held 0 g 0 → Does slots id me L s (claim_at x) new (armed_for (step slots (claim_at x) old new none) me x q)
+      arm_does old new d small is_new may e n placed_is ticks_is due s r at is =
+          let l : Line = Did (Arm q d) in let may' : Open (events_of r.past) q = lasts_now slots id me s r at (λ h. Open h q) q (open_lasts S q) born may in
+          let here = says_of K r.past x _ _ Held 0 g 0 (r.cells x inside) is (omega arith) f (omega arith) in
+          let legal : Legal S (events_of (l ∷ r.past)) = ((r.live, (here.0.2, may', e, n, placed_now q e s r at born placed_is, ticks_is, due ∙ ap (λ c. c + n) (sym (clock_now s r at)))), r.legal) in
+          let done : phase (events_of (l ∷ r.past)) q ≡ armed d = now_is _ _ _ (same_itself q) in
+          let ext = extends slots id me s r at l v.role legal r.live tt (tick slots id me (claim_at x) s (l ∷ r.past)) in (
+            with_line slots id me (claim_at x) s r.past l v.role,
+            keeps,
+            tt,
+            adds_claim L s r id v v.role x new s.homes l (tick slots id me (claim_at x) s (l ∷ r.past)) inside refl (quiet_line L r.past l tt r.live refl (λ p. (refl, refl))) (same_turns slots id me s r at l refl legal has (λ _. refl) (λ c is. absurd (lazy c is))) legal at (owned L s r id v l at mine)
+                (λ y h other k. other_cell K x y g k inside h other) (λ w. refl) refl (λ y other. refl) record {
+                  tag = Armed;
+                  cause = 0;
+                  gen = g;
+                  payload = d;
+                  fits = (omega arith, f, small);
+                  word_is = is_new;
+                  says = (refl, done, here.0.3, here.0.4, here.0.5);
+                  ages = ages_stay S l r.past legal K x g (λ n other. other_age K x g n inside other) here.1;
+                },
+            (λ h b fh fb w. (let o = one_word Armed Armed 0 g d 0 h b (omega arith) f small (omega arith) fh fb (sym is_new ∙ w) in subst (λ (z : ℕ). Extends v (Did (Arm q z)) v.role (with_line slots id me (claim_at x) s r.past l v.role) × (me.1 ≡ me.1)) o.3 (ext, refl))),
+            refl,
+          )
+
+      pub arm_allows : (M : Layout) (old new d : ℕ) → v.role ≢ Spent → d < 4294967296 → old ≡ word_of Held 0 g 0 → new ≡ word_of Armed 0 g d → Open (events_of v.seen) q → (e : Entry) (n : ℕ) → IsPlaced (events_of v.seen) q e → ticks_of e.op ≡ Some n → d ≡ clock_of (events_of v.seen) + n
+          → Allows (Ruled M) slots id me (claim_at x) (λ n. either (eqb n old) new n) (tried Held armed_for (step slots (claim_at x) old new none) me)
+      arm_allows M old new d live small is_old is_new may e n placed_is ticks_is due = tries slots id me M Held armed_for x g 0 old new live inside f (omega arith) is_old (arm_does old new d small is_new may e n placed_is ticks_is due)
+
+      -- EXPIRE
+      expire_ends : Ends (Expire q) q
+      expire_ends = record { plain = record { open' = refl; live' = λ b. refl; flow' = λ h p. refl; lent' = λ j r. refl; fair' = λ M j. tt; begins' = refl }; concerns' = λ r. refl; answers' = same_itself q; data' = refl; clock' = λ m. refl }
+
+      pub expire_allows : (M : Layout) (old new d b : ℕ) (e : Entry) → v.role ≢ Spent → d < 4294967296 → reply_bits (negsuc 61) b → old ≡ word_of Armed 0 g d → new ≡ word_of Done (cause_bits by_expire (fails e (negsuc 61))) g b → d ≤ clock_of (events_of v.seen) → IsPlaced (events_of v.seen) q e → is_timeout e.op ≡ true
+          → Allows (Ruled M) slots id me (claim_at x) (λ n. either (eqb n old) new n) (tried Armed expired (step slots (claim_at x) old new none) me)
+      expire_allows M old new d b e live small bits is_old is_new due placed_is kind = tries slots id me M Armed expired x g d old new live inside f small is_old
+          (answers_does slots id me (Expire q) mine (λ _ _ _. has) x g b e by_expire (negsuc 61) expire_ends inside f bits Armed d refl small new is_new
+          (λ s r at said. (let e_now = placed_now q e s r at born placed_is in let c = clock_now s r at in (((d, said.1, omega arith), (e, e_now, kind)), refl, e_now))))
+
+      -- SETTLE
+      settle_ends : Ends (Settle q) q
+      settle_ends = record { plain = record { open' = refl; live' = λ b. refl; flow' = λ h p. refl; lent' = λ j r. refl; fair' = λ M j. tt; begins' = refl }; concerns' = λ r. refl; answers' = same_itself q; data' = refl; clock' = λ m. refl }
+
+      pub settle_allows : (M : Layout) (old new d b : ℕ) (in_time : Bool) → v.role ≢ Spent → d < 4294967296 → reply_bits (cond in_time (negsuc 61) (negsuc 124)) b → old ≡ word_of Armed 0 g d → new ≡ word_of Done (cause_bits by_settle false) g b → IsLinkTimeout (events_of v.seen) q → in_time ≡ fired (events_of v.seen) q → (in_time ≡ true) ⊎ ((t : Req) × IsTarget (events_of v.seen) q t × IsReplied (phase (events_of v.seen) t))
+          → Allows (Ruled M) slots id me (claim_at x) (λ n. either (eqb n old) new n) (tried Armed settled (step slots (claim_at x) old new none) me)
+      settle_allows M old new d b in_time live small bits is_old is_new link told may = tries slots id me M Armed settled x g d old new live inside f small is_old
+          (answers_does slots id me (Settle q) mine (λ _ _ _. has) x g b link.0 by_settle (cond in_time (negsuc 61) (negsuc 124)) settle_ends inside f bits Armed d refl small new (is_new ∙ ap (λ z. word_of Done (cause_bits by_settle z) g b) (sym (no_failure link.0.op _ link.2)))
+          (λ s r at said. (let e_now = placed_now q link.0 s r at born link.1 in let link' : IsLinkTimeout (events_of r.past) q = (link.0, e_now, link.2) in let ft = told ∙ sym (fired_now q s r at) in (
+            ((d, said.1), link', ⊎_elim (λ (is : in_time ≡ true). inl (sym ft ∙ is)) (λ (w : (t : Req) × IsTarget (events_of v.seen) q t × IsReplied (phase (events_of v.seen) t)). inr (w.0, (link', w.1.1, w.1.2), subst (λ j. IsReplied (phase (events_of j) w.0)) (sym (past_is slots id me s r at)) (replied_later S (later slots id me s r at) v.seen w.0 (legal_now slots id me s r at) w.2))) may),
+            ap (λ z. replied by_settle (cond z (negsuc 61) (negsuc 124))) (sym ft),
+            e_now,
+          ))))
+
+      -- FIRE, at the target
+      fire_ends : Ends (Fire (next_of q) q) q
+      fire_ends = record { plain = record { open' = refl; live' = λ b. refl; flow' = λ h p. refl; lent' = λ j r. refl; fair' = λ M j. tt; begins' = refl }; concerns' = λ r. refl; answers' = same_itself q; data' = refl; clock' = λ m. refl }
+
+      late_quiet : Silent (FireMiss (next_of q) q)
+      late_quiet = record { plain = record { open' = refl; live' = λ b. refl; flow' = λ h p. refl; lent' = λ j r. refl; fair' = λ M j. tt; begins' = refl }; concerns' = λ r. refl }
+
+      module _ (d : ℕ) (is_armed : phase (events_of v.seen) (next_of q) ≡ armed d) (due : d ≤ clock_of (events_of v.seen)) (target : IsTarget (events_of v.seen) (next_of q) q) (unfired : fired (events_of v.seen) (next_of q) ≡ false) where
+        -- what stands at the state that is found
+        due_now : (s : St) (r : Ruled L s) → There slots id me s → ((n : ℕ) × (phase (events_of r.past) (next_of q) ≡ armed n) × (n ≤ clock_of (events_of r.past))) × (fired (events_of r.past) (next_of q) ≡ false) × IsTarget (events_of r.past) (next_of q) q
+        due_now s r at = let link = target.0 in let c = clock_now s r at in
+            let born' : (next_of q).k < submits (events_of v.seen) (next_of q).ring = counted_in S v.seen (next_of q) (armed d) (legal_before S (later slots id me s r at) v.seen (legal_now slots id me s r at)) is_armed (λ e. cc) in
+            ((d, armed_now (next_of q) d s r at link is_armed, omega arith), fired_now (next_of q) s r at ∙ unfired, ((link.0, placed_now (next_of q) link.0 s r at born' link.1, link.2), refl, refl))
+
+        pub fire_allows : (M : Layout) (old new b : ℕ) (e : Entry) → v.role ≢ Spent → reply_bits (negsuc 124) b → IsIdleWord g old → new ≡ word_of Done (cause_bits by_fire (fails e (negsuc 124))) g b → IsPlaced (events_of v.seen) q e
+            → Allows (Ruled M) slots id me (claim_at x) (λ n. either (eqb n old) new n) (tried_idle fired_at fired_late (step slots (claim_at x) old new none) me)
+        fire_allows M old new b e live bits w is_new placed_is = tries_idle slots id me M fired_at fired_late x g w.1 old new w.0 live inside f w.3 w.4 w.2
+            (answers_does slots id me (Fire (next_of q) q) mine (λ _ _ _. has) x g b e by_fire (negsuc 124) fire_ends inside f bits w.0 w.1 w.2 w.3 new is_new
+            (λ s r at said. (let k = due_now s r at in ((k.0, k.1, k.2, (idle_says r.past q _ 0 w.1 w.0 w.2 said).0), refl, placed_now q e s r at born placed_is))))
+            (λ s r at run. (let same' = set-get_or s.words (claim_at x) 0 in silent_does slots id me (FireMiss (next_of q) q) mine (λ _ _ _. has) late_quiet (claim_at x) (get_or s.words (claim_at x) 0) s r at
+            (let k = due_now s r at in (k.0, k.1, k.2, (says_of K r.past x _ _ Running 0 g 0 (r.cells x inside) run (omega arith) f (omega arith)).0.2))
+            (λ y ne. ap (λ z. get_or z y 0) same') (ap (λ z. get_or z 0 0) same' ∙ r.clock)))
