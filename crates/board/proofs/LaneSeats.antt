@@ -4,8 +4,7 @@ use Rattle.entry.specs.Entry.{Entry}
 use Rattle.history.specs.declared.req.Req.{Req}
 use Rattle.history.specs.declared.event.Event.TheVariants.{Submit, Reap}
 use Rattle.history.specs.History.{submits}
-use Rattle.history.specs.Chains.{before_in, hosts}
-use Rattle.steps.proofs.JournalGrowth.{same_submits, same_before}
+use Rattle.history.specs.Chains.{hosts}
 use Rattle.history.specs.Legal.{Legal}
 use Rattle.steps.specs.declared.line.Line.{Line}
 use Rattle.steps.specs.declared.line.Line.TheVariants.{Did, Lent, Noted}
@@ -23,9 +22,9 @@ use Rattle.std.specs.declared.result.Result.{Result}
 use Rattle.std.specs.declared.result.Result.TheVariants.{Ok, Err}
 use Rattle.work.specs.Passes.{Pass, pass_of, seen_of}
 use Rattle.board.specs.declared.lane.Lane.{Lane}
-use Rattle.board.specs.Lanes.{nth, KnowsChains, IsLane, Watched}
+use Rattle.board.specs.Lanes.{nth, KnowsChains, IsLane}
 use Rattle.board.proofs.LanesKept.{chains_extended, chains_submitted}
-use Rattle.board.proofs.LaneWalks.{TableSeat, reseat, watched_layout}
+use Rattle.board.proofs.LaneWalks.{TableSeat, reseat}
 use Rattle.board.proofs.SubmitterSeats.{submits_it, lends_it}
 
 -- a seat that heard another
@@ -84,14 +83,3 @@ err_more (Err e) P Q f p = f e p
 pub lane_ring : (s : TableSeat) (a : Lane) (p : Pass) → IsLane s a → pass_of s ≡ p → (ring : ℕ) → p.view.role ≡ Submitter ring → (a.ring ≡ ring) × (a.next ≡ submits (seen_of p) ring)
 lane_ring s a p l is ring role = let r : a.ring ≡ ring = (let z = sym l.0.role ∙ (ap (λ (q : Pass). q.view.role) is ∙ role) in cc) in
     (r, l.0.next_is ∙ (λ i. submits (events_of (is i).view.seen) (r i)))
-
--- what only a ring's submitter changes stays as it is while it looks
-pub watched_submits : (n : ℕ) (v w : View) (ring : ℕ) → v.role ≡ Submitter ring → Watched n v w → submits (events_of w.seen) ring ≡ submits (events_of v.seen) ring
-watched_submits zero v w ring role k = ap (λ (z : View). submits (events_of z.seen) ring) k
-watched_submits (suc n) v w ring role k = let m : View = k.0 in let x = k.2 in let r = (watched_layout n v m k.1).1 ∙ role in
-    ap (λ (j : List Line). submits (events_of j) ring) (ap (λ (z : View). z.seen) x.is ∙ x.saw.is) ∙ (same_submits m.role ring (submits_it m ring r) x.saw.later m.seen x.saw.none ∙ watched_submits n v m ring role k.1)
-
-pub watched_before : (n : ℕ) (v w : View) (ring k : ℕ) → v.role ≡ Submitter ring → Watched n v w → before_in (events_of w.seen) (nth ring k) ≡ before_in (events_of v.seen) (nth ring k)
-watched_before zero v w ring k role l = ap (λ (z : View). before_in (events_of z.seen) (nth ring k)) l
-watched_before (suc n) v w ring k role l = let m : View = l.0 in let x = l.2 in let r = (watched_layout n v m l.1).1 ∙ role in
-    ap (λ (j : List Line). before_in (events_of j) (nth ring k)) (ap (λ (z : View). z.seen) x.is ∙ x.saw.is) ∙ (same_before m.role ring (submits_it m ring r) (nth ring k) refl x.saw.later m.seen x.saw.none ∙ watched_before n v m ring k role l.1)

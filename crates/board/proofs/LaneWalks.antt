@@ -1,13 +1,17 @@
 -- A submitter that goes along the chain of one of its requests, and looks who has replied.
-use Rattle.std.proofs.Common.{◌≡◌, ◌⊎◌, ⊎_elim, ℕ, zero, suc, ◌+◌, ◌*◌, ◌==◌, ◌<◌, ◌≤◌, Bool, true, false, List, [], ◌∷◌, ◌++◌, Option, Some, None, length, get_or, sym, refl, ap, ◌∙◌, subst, arith, true≢false, eqb-true, eq-eqb, IsTrue, mul-le-mul_left, suc-mul, ◌-◌, ◌/◌}
+use Rattle.std.proofs.Common.{◌≡◌, ◌⊎◌, ⊎_elim, inl, inr, ne_eqb, cond, ℕ, zero, suc, ◌+◌, ◌*◌, ◌==◌, ◌<◌, ◌≤◌, Bool, true, false, List, [], ◌∷◌, ◌++◌, Option, Some, None, length, get_or, sym, refl, ap, ◌∙◌, subst, arith, true≢false, eqb-true, eq-eqb, IsTrue, mul-le-mul_left, suc-mul, ◌-◌, ◌/◌}
 use Rattle.std.proofs.lemmas.List.{append_assoc}
+use Rattle.std.proofs.lemmas.Bool.{cases_lt}
+use mathlib.Core.Logic.{dite}
+use native.Mathlib.Decide.{ℕ_discrete}
 use Rattle.std.proofs.Math.Nat.{div-lt_iff_lt-mul}
 use Rattle.atomic_table.specs.Seated.{TableId}
 use Rattle.atomic_table.specs.declared.shared.Seat.{Seat}
 use Rattle.claim.specs.Facts.{Facts, packed_facts, fits_facts}
 use Rattle.history.specs.declared.req.Req.{Req}
-use Rattle.history.specs.History.{Submission, phase, submission, submits, IsReplied}
-use Rattle.history.specs.Chains.{joins, before_in, placed_from, placed_behind, IsPlaced, IsChainDone}
+use Rattle.history.specs.declared.event.Event.{Event}
+use Rattle.history.specs.History.{Submission, phase, reaped, submission, submits, IsReplied}
+use Rattle.history.specs.Chains.{joins, before_in, previous, placed_from, placed_behind, IsPlaced, IsChainDone}
 use Rattle.history.specs.Legal.{Setup, Legal}
 use Rattle.history.proofs.Growth.{counted, unborn_yet, submission_some}
 use Rattle.history.proofs.Requests.{bool_cases}
@@ -18,16 +22,19 @@ use Rattle.steps.specs.declared.view.Step.{Step}
 use Rattle.steps.specs.declared.view.View.{View}
 use Rattle.steps.specs.Journal.{events_of, noted}
 use Rattle.steps.specs.Cells.{setup_of, IsCell, ring_of, place_of, cells_in, total, request_at, facts_at, claim_at}
+use Rattle.steps.specs.Fairness.{IsReaped}
+use Rattle.steps.specs.declared.view.Role.TheVariants.{Submitter}
 use Rattle.steps.specs.Rule.{IsSameSeat}
-use Rattle.steps.proofs.JournalGrowth.{lasts, replied_lasts, submission_lasts}
+use Rattle.steps.proofs.JournalGrowth.{legal_before, lasts, replied_lasts, reaped_lasts, submission_lasts, same_submits, same_before}
 use Rattle.work.specs.declared.grid.Spot.{Spot}
 use Rattle.work.specs.Passes.{Pass, Took}
 use Rattle.board.specs.declared.lane.Lane.{Lane}
 use Rattle.board.specs.Calls.{Stepped}
-use Rattle.board.specs.Lanes.{nth, IsLane, IsSpot, IsOver, Watched, SameLane, continues}
+use Rattle.board.specs.Lanes.{nth, IsLane, IsSpot, IsOver, Watched, SameLane, WereReaped, continues}
 use Rattle.board.proofs.FactsWords.{Tells, chain_told}
 use Rattle.board.proofs.LanesKept.{lane_looked, lane_cell}
-use Rattle.board.proofs.OwnCells.{same_default}
+use Rattle.board.proofs.OwnCells.{same_default, reaped_as}
+use Rattle.board.proofs.SubmitterSeats.{submits_it}
 use Rattle.board.proofs.Submitting.{gen_small}
 
 abbrev pub TableSeat : Type 0
@@ -52,6 +59,17 @@ watched_layout (suc n) v w k = let b = watched_layout n v k.0 k.1 in let x = k.2
 pub watched_took : (n : ℕ) (v w : View) → Watched n v w → Took v w n
 watched_took zero v w k = ([], refl, ap (λ (z : View). z.steps) k)
 watched_took (suc n) v w k = let b = watched_took n v k.0 k.1 in let s : Step = record { word = k.3.0; found = k.3.1; seen = w.seen } in (s ∷ b.0, ap suc b.1, k.3.2 ∙ ap (λ (t : List Step). s ∷ t) b.2)
+
+-- what only a ring's submitter changes stays as it is while it looks
+pub watched_submits : (n : ℕ) (v w : View) (ring : ℕ) → v.role ≡ Submitter ring → Watched n v w → submits (events_of w.seen) ring ≡ submits (events_of v.seen) ring
+watched_submits zero v w ring role k = ap (λ (z : View). submits (events_of z.seen) ring) k
+watched_submits (suc n) v w ring role k = let m : View = k.0 in let x = k.2 in let r = (watched_layout n v m k.1).1 ∙ role in
+    ap (λ (j : List Line). submits (events_of j) ring) (ap (λ (z : View). z.seen) x.is ∙ x.saw.is) ∙ (same_submits m.role ring (submits_it m ring r) x.saw.later m.seen x.saw.none ∙ watched_submits n v m ring role k.1)
+
+pub watched_before : (n : ℕ) (v w : View) (ring k : ℕ) → v.role ≡ Submitter ring → Watched n v w → before_in (events_of w.seen) (nth ring k) ≡ before_in (events_of v.seen) (nth ring k)
+watched_before zero v w ring k role l = ap (λ (z : View). before_in (events_of z.seen) (nth ring k)) l
+watched_before (suc n) v w ring k role l = let m : View = l.0 in let x = l.2 in let r = (watched_layout n v m l.1).1 ∙ role in
+    ap (λ (j : List Line). before_in (events_of j) (nth ring k)) (ap (λ (z : View). z.seen) x.is ∙ x.saw.is) ∙ (same_before m.role ring (submits_it m ring r) (nth ring k) refl x.saw.later m.seen x.saw.none ∙ watched_before n v m ring k role l.1)
 
 -- the lane says nothing of the seat but what it has seen and has in hand
 pub reseat : (s t : TableSeat) (a : Lane) → IsLane (record s { me = t.me }) a → IsLane t a
@@ -79,10 +97,10 @@ pub record Walking (old s : TableSeat) (a : Lane) (k : ℕ) : Type 0 where
   pub low : a.done ≤ k
   pub high : k ≤ a.next
   pub walked : (j : ℕ) → a.done ≤ j → j < k → IsReplied (phase (events_of s.me.0.seen) (nth a.ring j)) × (joins (submission (events_of s.me.0.seen) (nth a.ring j)) ≡ true)
-  pub looks : (n : ℕ) × (n + a.done ≤ k) × Watched n old.me.0 s.me.0
+  pub looks : (n : ℕ) × (n + a.done ≤ k) × Watched n old.me.0 s.me.0 × (WereReaped old.me.0 a.ring a.done k → n ≡ 0)
 
 pub walk_start : (old : TableSeat) (a : Lane) → IsLane old a → Walking old old a a.done
-walk_start old a l = record { same = ((refl, refl), refl); lane = l; layout = refl; low = omega arith; high = l.1.low; walked = λ j x y. absurd (omega arith); looks = (0, omega arith, refl) }
+walk_start old a l = record { same = ((refl, refl), refl); lane = l; layout = refl; low = omega arith; high = l.1.low; walked = λ j x y. absurd (omega arith); looks = (0, omega arith, refl, λ _. refl) }
 
 replied_counted : (s : Setup) (h : _) (q : Req) → Legal s h → IsReplied (phase h q) → q.k < submits h q.ring
 replied_counted s h q l d = counted s h q l (λ u. subst IsReplied u d)
@@ -100,8 +118,8 @@ module _ (s : Setup) (later seen : List Line) (legal : Legal s (events_of (later
   still_joins d e = let y = joined_some _ e in ap joins (lasts s (λ h. submission h q ≡ Some y.0) q (submission_lasts s q y.0) later seen legal (replied_counted s (events_of seen) q before d) y.1 ∙ sym y.1) ∙ e
 
 -- after a look at most
-pub walk_looked : (old s t : TableSeat) (a : Lane) (k : ℕ) → Walking old s a k → IsSameSeat s t × (t.me.1 ≡ s.me.1) → (n : ℕ) → n ≤ 1 → Watched n s.me.0 t.me.0
-    → IsLane t a × (t.me.0.layout ≡ old.me.0.layout) × (IsSameSeat old t × (t.me.1 ≡ old.me.1)) × ((j : ℕ) → a.done ≤ j → j < k → IsReplied (phase (events_of t.me.0.seen) (nth a.ring j)) × (joins (submission (events_of t.me.0.seen) (nth a.ring j)) ≡ true)) × ((m : ℕ) × (m + a.done ≤ k + 1) × Watched m old.me.0 t.me.0)
+pub walk_looked : (old s t : TableSeat) (a : Lane) (k : ℕ) (w : Walking old s a k) → IsSameSeat s t × (t.me.1 ≡ s.me.1) → (n : ℕ) → n ≤ 1 → Watched n s.me.0 t.me.0
+    → IsLane t a × (t.me.0.layout ≡ old.me.0.layout) × (IsSameSeat old t × (t.me.1 ≡ old.me.1)) × ((j : ℕ) → a.done ≤ j → j < k → IsReplied (phase (events_of t.me.0.seen) (nth a.ring j)) × (joins (submission (events_of t.me.0.seen) (nth a.ring j)) ≡ true)) × ((m : ℕ) × (m + a.done ≤ k + 1) × Watched m old.me.0 t.me.0 × (m ≡ n + w.looks.0))
 walk_looked old s t a k w same n one x =
     let lane = watched_lane n s t a w.lane x same.1 in let layout = (watched_layout n s.me.0 t.me.0 x).0 in let l = watched_seen n s.me.0 t.me.0 x in let S : Setup = setup_of s.me.0.layout in
     let legal : Legal S (events_of (l.0 ++ s.me.0.seen)) = subst (λ (z : Layout × List Line). Legal (setup_of z.0) (events_of z.1)) (λ i. (layout i, l.1 i)) lane.0.legal in
@@ -113,7 +131,7 @@ walk_looked old s t a k w same n one x =
         subst (λ (g : List Line). IsReplied (phase (events_of g) (nth a.ring j))) (sym l.1) (still_replied S l.0 s.me.0.seen legal w.lane.0.legal (nth a.ring j) z.0),
         ap (λ (g : List Line). joins (submission (events_of g) (nth a.ring j))) l.1 ∙ still_joins S l.0 s.me.0.seen legal w.lane.0.legal (nth a.ring j) z.0 z.1,
       )),
-      (let m = watched_more y.0 n old.me.0 s.me.0 t.me.0 y.2 x in (m.0, (let u = y.1 in let e = m.1 in omega arith), m.2)),
+      (let m = watched_more y.0 n old.me.0 s.me.0 t.me.0 y.2 x in (m.0, (let u = y.1 in let e = m.1 in omega arith), m.2, m.1)),
     )
 
 -- what the facts in hand say of the request k, which has replied
@@ -168,7 +186,7 @@ pub next_small : (s : TableSeat) (a : Lane) → IsLane s a → a.next ≤ 171798
 next_small s a l = let m : 16777215 * cells_in s.me.0.layout.cells a.ring ≤ 16777215 * 1024 = mul-le-mul_left 16777215 l.0.narrow in let b : ℕ = 16777215 * cells_in s.me.0.layout.cells a.ring in let f : a.next ≤ b = l.0.few in let m' : b ≤ 17179868160 = m in omega arith
 
 pub walk_on : (old t : TableSeat) (a : Lane) (k : ℕ) → IsLane t a → t.me.0.layout ≡ old.me.0.layout → IsSameSeat old t × (t.me.1 ≡ old.me.1) → ((j : ℕ) → a.done ≤ j → j < k → IsReplied (phase (events_of t.me.0.seen) (nth a.ring j)) × (joins (submission (events_of t.me.0.seen) (nth a.ring j)) ≡ true))
-    → ((m : ℕ) × (m + a.done ≤ k + 1) × Watched m old.me.0 t.me.0) → a.done ≤ k → k < a.next → IsReplied (phase (events_of t.me.0.seen) (nth a.ring k)) → joins (submission (events_of t.me.0.seen) (nth a.ring k)) ≡ true → Walking old t a (k + 1)
+    → ((m : ℕ) × (m + a.done ≤ k + 1) × Watched m old.me.0 t.me.0 × (WereReaped old.me.0 a.ring a.done (k + 1) → m ≡ 0)) → a.done ≤ k → k < a.next → IsReplied (phase (events_of t.me.0.seen) (nth a.ring k)) → joins (submission (events_of t.me.0.seen) (nth a.ring k)) ≡ true → Walking old t a (k + 1)
 walk_on old t a k lane layout same walked looks low lt done joined = record {
   same = same;
   lane = lane;
@@ -181,29 +199,60 @@ walk_on old t a k lane layout same walked looks low lt done joined = record {
   looks = looks;
 }
 
+-- what stands before the request after this one
+pub before_nth : (h : List Event) (ring j : ℕ) → before_in h (nth ring (j + 1)) ≡ submission h (nth ring j)
+before_nth h ring j = ap (λ b. cond b None (submission h (previous (nth ring (j + 1))))) (ne_eqb (j + 1) 0 (λ u. omega arith)) ∙ ap (λ (m : ℕ). submission h (nth ring m)) (let u : j + 1 - 1 ≡ j = omega arith in u)
+
+-- each of a chain but its first is linked to the one before it
+pub linked_by : (h : List Event) (ring from to : ℕ) → ((j : ℕ) → from ≤ j → j < to → joins (submission h (nth ring j)) ≡ true) → (k : ℕ) → from < k → k < to + 1 → joins (before_in h (nth ring k)) ≡ true
+linked_by h ring from to walked k low high = let e : k - 1 + 1 ≡ k = omega arith in subst (λ (z : ℕ). joins (before_in h (nth ring z)) ≡ true) e (ap joins (before_nth h ring (k - 1)) ∙ walked (k - 1) (omega arith) (omega arith))
+
+-- what was reaped stays so
+pub reaped_after : (n : ℕ) (v : View) (t : TableSeat) (a : Lane) (q : Req) → Watched n v t.me.0 → IsLane t a → IsReaped (phase (events_of v.seen) q) → IsReaped (phase (events_of t.me.0.seen) q)
+reaped_after n v t a q x lane is =
+    let w : View = t.me.0 in let l = watched_seen n v w x in let S : Setup = setup_of w.layout in let c = reaped_as _ is in
+    let legal : Legal S (events_of (l.0 ++ v.seen)) = subst (λ (z : List Line). Legal S (events_of z)) l.1 lane.0.legal in
+    let born : q.k < submits (events_of v.seen) q.ring = counted S (events_of v.seen) q (legal_before S l.0 v.seen legal) (λ u. (let z = sym c.2 ∙ u in cc)) in
+    subst (λ (z : List Line). IsReaped (phase (events_of z) q)) (sym l.1) (subst IsReaped (sym (lasts S (λ h. phase h q ≡ reaped c.0 c.1) q (reaped_lasts S q c.0 c.1) l.0 v.seen legal born c.2)) tt)
+
+-- a walk that found all that it passed reaped took no look
+pub walked_spent : (old s : TableSeat) (a : Lane) (k : ℕ) (w : Walking old s a k) (n : ℕ) → (IsReaped (phase (events_of s.me.0.seen) (nth a.ring k)) → n ≡ 0) → WereReaped old.me.0 a.ring a.done (k + 1) → n + w.looks.0 ≡ 0
+walked_spent old s a k w n one were =
+    let b = w.looks.3 (λ m low high. were m low (omega arith)) in let o = one (reaped_after w.looks.0 old.me.0 s a (nth a.ring k) w.looks.2 w.lane (were k w.low (omega arith))) in omega arith
+
 -- ---- chain after chain
 
--- a submitter that has found more chains to be done, and nothing else of its lane is another
-pub record Passing (old s : TableSeat) (b a : Lane) : Type 0 where
+-- a submitter that has found more chains to be done, as far as one with a request before `end`, and nothing else of its lane is another
+pub record Passing (old s : TableSeat) (b a : Lane) (end : ℕ) : Type 0 where
   pub kept : SameLane b a
   pub same : IsSameSeat old s × (s.me.1 ≡ old.me.1)
   pub lane : IsLane s a
   pub layout : s.me.0.layout ≡ old.me.0.layout
-  pub looks : (n : ℕ) × (n + b.done ≤ a.done) × Watched n old.me.0 s.me.0
+  pub looks : (n : ℕ) × (n + b.done ≤ a.done) × Watched n old.me.0 s.me.0 × (WereReaped old.me.0 b.ring b.done a.done → n ≡ 0)
+  pub linked : (k : ℕ) → b.done ≤ k → k < a.done → (k < end) ⊎ (joins (before_in (events_of s.me.0.seen) (nth b.ring k)) ≡ true)
 
-pub pass_start : (old : TableSeat) (b : Lane) → IsLane old b → Passing old old b b
-pass_start old b l = record { kept = refl; same = ((refl, refl), refl); lane = l; layout = refl; looks = (0, omega arith, refl) }
+pub pass_start : (old : TableSeat) (b : Lane) (end : ℕ) → IsLane old b → Passing old old b b end
+pass_start old b end l = record { kept = refl; same = ((refl, refl), refl); lane = l; layout = refl; looks = (0, omega arith, refl, λ _. refl); linked = λ k low high. absurd (omega arith) }
 
 pub kept_more : (b a c : Lane) → SameLane b a → SameLane a c → SameLane b c
 kept_more b a c x y = y ∙ ap (λ (z : Lane). record z { done = c.done }) x
 
-pub pass_more : (old s t : TableSeat) (b a c : Lane) → Passing old s b a → IsSameSeat s t × (t.me.1 ≡ s.me.1) → IsLane t c → SameLane a c → (n : ℕ) × (n + a.done ≤ c.done) × Watched n s.me.0 t.me.0 → Passing old t b c
-pass_more old s t b a c p same lane kept x = let y = p.looks in record {
+pub pass_more : (old s t : TableSeat) (b a c : Lane) (end : ℕ) → Passing old s b a end → a.done < end → IsSameSeat s t × (t.me.1 ≡ s.me.1) → IsLane t c → SameLane a c → (n : ℕ) × (n + a.done ≤ c.done) × Watched n s.me.0 t.me.0 × (WereReaped s.me.0 a.ring a.done c.done → n ≡ 0)
+    → ((k : ℕ) → a.done < k → k < c.done → joins (before_in (events_of t.me.0.seen) (nth a.ring k)) ≡ true) → Passing old t b c end
+pass_more old s t b a c end p before same lane kept x linked = let y = p.looks in let ring : a.ring ≡ b.ring = ap (λ (z : Lane). z.ring) p.kept in record {
   kept = kept_more b a c p.kept kept;
   same = ((same.0.0 ∙ p.same.0.0, same.0.1 ∙ p.same.0.1), same.1 ∙ p.same.1);
   lane = lane;
   layout = (watched_layout x.0 s.me.0 t.me.0 x.2).0 ∙ p.layout;
-  looks = (let m = watched_more y.0 x.0 old.me.0 s.me.0 t.me.0 y.2 x.2 in (m.0, (let u = y.1 in let v = x.1 in let e = m.1 in omega arith), m.2));
+  looks = (let m = watched_more y.0 x.0 old.me.0 s.me.0 t.me.0 y.2 x.2 in (
+    m.0,
+    (let u = y.1 in let v = x.1 in let e = m.1 in omega arith),
+    m.2,
+    λ were. (let u = y.3 (λ k low high. were k low (let z = x.1 in omega arith)) in let v = x.3 (λ k low high. subst (λ (i : ℕ). IsReaped (phase (events_of s.me.0.seen) (nth i k))) (sym ring) (reaped_after y.0 old.me.0 s a (nth b.ring k) y.2 p.lane (were k (let z = y.1 in omega arith) high))) in let e = m.1 in omega arith),
+  ));
+  linked = λ k low high. ⊎_elim
+      (λ (lt : k < a.done). ⊎_elim (λ (e : k < end). inl e) (λ (j : joins (before_in (events_of s.me.0.seen) (nth b.ring k)) ≡ true). inr (ap joins (watched_before x.0 s.me.0 t.me.0 b.ring k (p.lane.0.role ∙ ap Submitter ring) x.2) ∙ j)) (p.linked k low lt))
+      (λ (ge : a.done ≤ k). dite (ℕ_discrete k a.done) (λ e. inl (omega arith)) (λ ne. inr (subst (λ (i : ℕ). joins (before_in (events_of t.me.0.seen) (nth i k)) ≡ true) ring (linked k (omega arith) high)))) (cases_lt k a.done);
 }
 
 -- no request is of a later generation than the last that a cell can have

@@ -185,13 +185,22 @@ not_free s a k o l spot later other free =
     let high : ¬ (g < age) = λ lt. (let gone = reaped_as _ (c.gone g lt) in let u = unborn_yet (setup_of L) (events_of j) (request_at L.cells o.cell g) l.0.legal new in let y = sym gone.2 ∙ u in cc) in
     other (omega arith)
 
--- and it is where the reaping has, and all chains before the request that had it are done
-pub free_by_age : (s : Seat (Option Thing) View) (a : Lane) (k : ℕ) (o : Spot) → IsLane s a → IsSpot s.me.0.layout.cells a.ring k o → k < a.done + cells_in s.me.0.layout.cells a.ring → get_or a.ages.items o.number 0 ≡ o.generation → IsFree s.me.0.layout.cells (events_of s.me.0.seen) (nth a.ring k)
-free_by_age s a k o l spot lt age q ring is =
+-- a request was reaped where the reaping of its cell has come to the next request of that cell
+pub reaped_by_age : (s : Seat (Option Thing) View) (a : Lane) (k : ℕ) (o : Spot) → IsLane s a → IsSpot s.me.0.layout.cells a.ring k o → get_or a.ages.items o.number 0 ≡ o.generation → (q : Req) → q.ring ≡ a.ring → q.k + cells_in s.me.0.layout.cells a.ring ≡ k → IsReaped (phase (events_of s.me.0.seen) q)
+reaped_by_age s a k o l spot age q ring is =
     let L = s.me.0.layout in let c = (lane_cell s a k o l spot).2 in let g : ℕ = o.generation in
     let ring' : ring_of L.cells o.cell ≡ a.ring = ap (λ (r : Req). r.ring) spot.at in let number : (request_at L.cells o.cell g).k ≡ k = ap (λ (r : Req). r.k) spot.at in
     let b = before_it L.cells o.cell g q spot.inside (ring ∙ sym ring') (ap (λ (i : ℕ). q.k + cells_in L.cells i) ring' ∙ (is ∙ sym number)) in let le : g ≡ suc b.0 = b.1 in
-    let same' : q ≡ nth a.ring q.k = (λ i. record { ring = ring i; k = q.k }) in (
-      subst (λ (r : Req). IsReaped (phase (events_of s.me.0.seen) r)) (sym b.2) (c.gone b.0 (omega arith)),
-      subst (λ (r : Req). IsChainDone (events_of s.me.0.seen) r) (sym same') (l.1.done_are q.k (omega arith)),
-    )
+    subst (λ (r : Req). IsReaped (phase (events_of s.me.0.seen) r)) (sym b.2) (c.gone b.0 (omega arith))
+
+-- a request whose cell's reaping has not gone past it was not reaped
+pub unreaped_by_age : (s : Seat (Option Thing) View) (a : Lane) (k read : ℕ) (o : Spot) → IsLane s a → IsSpot s.me.0.layout.cells a.ring k o → read ≡ get_or a.ages.items o.number read → ¬ (o.generation < read) → ¬ IsReaped (phase (events_of s.me.0.seen) (nth a.ring k))
+unreaped_by_age s a k read o l spot at ge is = let c = lane_cell s a k o l spot in let age : read ≡ get_or a.ages.items o.number 0 = at ∙ same_default a.ages.items o.number read 0 c.0 in
+    c.2.left o.generation (let e = age in omega arith) (subst (λ (r : Req). IsReaped (phase (events_of s.me.0.seen) r)) (sym spot.at) is)
+
+-- and a cell is free where the reaping has come to it, and all chains before the request that had it are done
+pub free_by_age : (s : Seat (Option Thing) View) (a : Lane) (k : ℕ) (o : Spot) → IsLane s a → IsSpot s.me.0.layout.cells a.ring k o → k < a.done + cells_in s.me.0.layout.cells a.ring → get_or a.ages.items o.number 0 ≡ o.generation → IsFree s.me.0.layout.cells (events_of s.me.0.seen) (nth a.ring k)
+free_by_age s a k o l spot lt age q ring is = let same' : q ≡ nth a.ring q.k = (λ i. record { ring = ring i; k = q.k }) in (
+  reaped_by_age s a k o l spot age q ring is,
+  subst (λ (r : Req). IsChainDone (events_of s.me.0.seen) r) (sym same') (l.1.done_are q.k (omega arith)),
+)

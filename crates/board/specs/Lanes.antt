@@ -1,13 +1,15 @@
 -- What a submitter keeps of its ring, and what that says of the ring's requests.
-use Rattle.std.specs.Prelude.{◌≡◌, ◌⊎◌, ℕ, zero, suc, ◌+◌, ◌*◌, ◌/◌, ◌<◌, ◌≤◌, ◌==◌, ◌&&◌, ◌||◌, not, Bool, List, Option}
+use Rattle.std.specs.Prelude.{◌≡◌, ◌⊎◌, ℕ, zero, suc, ◌+◌, ◌*◌, ◌/◌, ◌<◌, ◌≤◌, ◌==◌, ◌&&◌, ◌||◌, not, Bool, true, List, Option}
 use Rattle.atomic_table.specs.Seated.{TableId}
 use Rattle.atomic_table.specs.declared.shared.Seat.{Seat}
 use Rattle.claim.specs.Facts.{Facts}
 use Rattle.history.specs.declared.req.Req.{Req}
-use Rattle.history.specs.Chains.{IsChainDone, before_in, hosts}
+use Rattle.history.specs.declared.event.Event.{Event}
+use Rattle.history.specs.History.{phase, submits}
+use Rattle.history.specs.Chains.{IsChainDone, before_in, hosts, joins}
 use Rattle.steps.specs.declared.parcel.Thing.{Thing}
 use Rattle.steps.specs.declared.view.View.{View}
-use Rattle.steps.specs.Fairness.{Orderly, IsFree}
+use Rattle.steps.specs.Fairness.{Orderly, IsFree, IsReaped}
 use Rattle.steps.specs.Journal.{events_of}
 use Rattle.steps.specs.Cells.{IsCell, cells_in, place_of, request_at, total}
 use Rattle.steps.specs.Rule.{Looks, IsStep}
@@ -47,6 +49,14 @@ SameLane a b = b ≡ record a { done = b.done }
 abbrev pub Watched : ℕ → View → View → Type 0
 Watched zero v w = w ≡ v
 Watched (suc n) v w = (m : View) × Watched n v m × Looks m w × ((word : ℕ) × (found : ℕ) × IsStep word found m w)
+
+-- the ring's requests from the first number on, up to the second, had been reaped
+abbrev pub WereReaped : View → ℕ → ℕ → ℕ → Type 0
+WereReaped v ring from to = (k : ℕ) → from ≤ k → k < to → IsReaped (phase (events_of v.seen) (nth ring k))
+
+-- each request of the ring that is linked to the one before it was reaped
+abbrev pub LinkedAreReaped : List Event → ℕ → Type 0
+LinkedAreReaped h ring = (k : ℕ) → k < submits h ring → joins (before_in h (nth ring k)) ≡ true → IsReaped (phase h (nth ring k))
 
 -- it is where the ring's k-th request lies
 pub record IsSpot (K : List ℕ) (ring k : ℕ) (s : Spot) : Type 0 where

@@ -2,14 +2,14 @@
 ghost use Rattle.std.specs.Prelude.{◌≡◌, ◌≢◌, ◌⊎◌, ℕ, ◌+◌, ◌*◌, ◌%◌, ◌<◌, ◌≤◌, ◌/◌, true, Option, IfOk, IfErr, IfSome, IfNone, IsTrue, length, slice_set as set};
 ghost use Rattle.claim.specs.Facts.{Facts as FactsOf, fits_facts, packed_facts};
 ghost use Rattle.history.specs.History.{phase, IsReplied};
-ghost use Rattle.history.specs.Chains.{IsChainDone};
-ghost use Rattle.steps.specs.Fairness.{IsFree};
+ghost use Rattle.history.specs.Chains.{IsChainDone, before_in, joins};
+ghost use Rattle.steps.specs.Fairness.{IsFree, IsReaped};
 ghost use Rattle.steps.specs.Journal.{events_of};
 ghost use Rattle.steps.specs.Rule.{IsSameSeat};
 ghost use Rattle.work.specs.Passes.{pass_of};
 ghost use Rattle.board.specs.declared.lane.Lane.{Lane as LaneOf};
 ghost use Rattle.board.specs.Calls.{Stepped};
-ghost use Rattle.board.specs.Lanes.{nth, AreFree, HasLookedAt, IsLane, IsOver, IsSpot, RefusesRoom, SameLane, Watched, continues};
+ghost use Rattle.board.specs.Lanes.{nth, AreFree, HasLookedAt, IsLane, IsOver, IsSpot, LinkedAreReaped, RefusesRoom, SameLane, Watched, WereReaped, continues};
 ghost use Rattle.atomic_table.specs.declared.shared.Seat.{Seat};
 ghost use Rattle.steps.specs.declared.parcel.Thing.{Thing};
 ghost use Rattle.steps.specs.declared.view.View.{View};
@@ -77,7 +77,7 @@ fn has_replied(words: &Words, seat: &mut TableSeat, lane: &Lane, spot: Spot) -> 
     requires over { IsOver words.now.table_id seat.old.me.0.layout.cells seat.old }
     requires spot { (k : ℕ) × (k < lane.now.next) × IsSpot seat.old.me.0.layout.cells lane.now.ring k spot }
     ensures seat { IsSameSeat seat.old seat.new × (seat.new.me.1 ≡ seat.old.me.1) }
-    ensures looks { (n : ℕ) × (n ≤ 1) × Watched n seat.old.me.0 seat.new.me.0 }
+    ensures looks { (n : ℕ) × (n ≤ 1) × Watched n seat.old.me.0 seat.new.me.0 × ((k : ℕ) → IsSpot seat.old.me.0.layout.cells lane.now.ring k spot → IsReaped (phase (events_of seat.old.me.0.seen) (nth lane.now.ring k)) → n ≡ 0) }
     ensures replied { result ≡ true → (k : ℕ) → IsSpot seat.old.me.0.layout.cells lane.now.ring k spot → IsReplied (phase (events_of seat.new.me.0.seen) (nth lane.now.ring k)) }
     ensures pending { result ≢ true → (k : ℕ) → IsSpot seat.old.me.0.layout.cells lane.now.ring k spot → (IsReplied (phase (events_of seat.new.me.0.seen) (nth lane.now.ring k)) → ⊥) × Stepped seat.old.me.0.layout.cells (nth lane.now.ring k) (pass_of seat.old) (pass_of seat.new) }
 {
@@ -96,7 +96,8 @@ fn pass_chain(words: &Words, seat: &mut TableSeat, lane: &mut Lane, grid: &Grid)
     ensures seat { IsSameSeat seat.old seat.new × (seat.new.me.1 ≡ seat.old.me.1) }
     ensures lane { IsLane seat.new lane.new }
     ensures kept { SameLane lane.old lane.new }
-    ensures passed { result ≡ true → (lane.old.done < lane.new.done) × ((n : ℕ) × (n + lane.old.done ≤ lane.new.done) × Watched n seat.old.me.0 seat.new.me.0) }
+    ensures passed { result ≡ true → (lane.old.done < lane.new.done) × ((n : ℕ) × (n + lane.old.done ≤ lane.new.done) × Watched n seat.old.me.0 seat.new.me.0 × (WereReaped seat.old.me.0 lane.old.ring lane.old.done lane.new.done → n ≡ 0)) }
+    ensures linked { result ≡ true → (k : ℕ) → lane.old.done < k → k < lane.new.done → joins (before_in (events_of seat.new.me.0.seen) (nth lane.old.ring k)) ≡ true }
     ensures open { result ≢ true → (lane.new.done ≡ lane.old.done) × ((n : ℕ) × (n + lane.old.done ≤ lane.old.next + 1) × Watched n seat.old.me.0 seat.new.me.0) × ¬ IsChainDone (events_of seat.new.me.0.seen) (nth lane.old.ring lane.old.done) }
     ensures looked { result ≢ true → HasLookedAt grid.now lane.old.ring (pass_of seat.old) (pass_of seat.new) }
 {
@@ -141,7 +142,8 @@ fn pass_chains(words: &Words, seat: &mut TableSeat, lane: &mut Lane, grid: &Grid
     ensures seat { IsSameSeat seat.old seat.new × (seat.new.me.1 ≡ seat.old.me.1) }
     ensures lane { IsLane seat.new lane.new }
     ensures kept { SameLane lane.old lane.new }
-    ensures looks { (n : ℕ) × (n + lane.old.done ≤ lane.old.next + 1) × Watched n seat.old.me.0 seat.new.me.0 }
+    ensures looks { (n : ℕ) × (n + lane.old.done ≤ lane.old.next + 1) × Watched n seat.old.me.0 seat.new.me.0 × (result ≡ true → WereReaped seat.old.me.0 lane.old.ring lane.old.done lane.new.done → n ≡ 0) }
+    ensures linked { result ≡ true → (k : ℕ) → lane.old.done ≤ k → k < lane.new.done → (k < end) ⊎ (joins (before_in (events_of seat.new.me.0.seen) (nth lane.old.ring k)) ≡ true) }
     ensures passed { result ≡ true → end ≤ lane.new.done }
     ensures open { result ≢ true → (lane.new.done < end) × (¬ IsChainDone (events_of seat.new.me.0.seen) (nth lane.old.ring lane.new.done)) × HasLookedAt grid.now lane.old.ring (pass_of seat.old) (pass_of seat.new) }
 {
@@ -159,6 +161,7 @@ fn first_unreaped(lane: &Lane, grid: &Grid, count: u64) -> Option<u64>
     requires fits { count ≤ cells_in grid.now lane.now.ring }
     ensures some { IfSome result (λ k. (lane.now.next ≤ k) × (k < lane.now.next + count) × ((s : Seat (Option Thing) View) → IsLane s lane.now → grid.now ≡ s.me.0.layout.cells → ¬ IsFree grid.now (events_of s.me.0.seen) (nth lane.now.ring k))) }
     ensures none { IfNone result ((s : Seat (Option Thing) View) (a : LaneOf) → SameLane lane.now a → IsLane s a → grid.now ≡ s.me.0.layout.cells → lane.now.next + count ≤ a.done + cells_in grid.now lane.now.ring → AreFree grid.now s.me.0 lane.now.ring lane.now.next count) }
+    ensures reaped { IfNone result ((s : Seat (Option Thing) View) (k : ℕ) → IsLane s lane.now → grid.now ≡ s.me.0.layout.cells → lane.now.done ≤ k → k + cells_in grid.now lane.now.ring < lane.now.next + count → IsReaped (phase (events_of s.me.0.seen) (nth lane.now.ring k))) }
 {
     for i in 0..count {
         let k = lane.next + i;
@@ -186,7 +189,7 @@ pub(crate) fn room(
     ensures seat { IsSameSeat seat.old seat.new × (seat.new.me.1 ≡ seat.old.me.1) }
     ensures lane { IsLane seat.new lane.new }
     ensures kept { SameLane lane.old lane.new }
-    ensures looks { (n : ℕ) × (n ≤ cells_in grid.now lane.old.ring + 1) × Watched n seat.old.me.0 seat.new.me.0 }
+    ensures looks { (n : ℕ) × (n ≤ cells_in grid.now lane.old.ring + 1) × Watched n seat.old.me.0 seat.new.me.0 × IfOk result (λ _. LinkedAreReaped (events_of seat.old.me.0.seen) lane.old.ring → n ≡ 0) }
     ensures free { IfOk result (λ _. AreFree grid.now seat.new.me.0 lane.old.ring lane.old.next count) }
     ensures fresh { IfOk result (λ _. (i : ℕ) → i < count → (lane.old.next + i) / cells_in grid.now lane.old.ring < 16777215) }
     ensures refused { IfErr result (λ e. RefusesRoom grid.now lane.old.ring lane.old.next count (pass_of seat.old) (pass_of seat.new) e) }

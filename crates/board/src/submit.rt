@@ -12,7 +12,7 @@ ghost use Rattle.work.specs.Board.{IsOf};
 ghost use Rattle.work.specs.Passes.{seen_of, Took};
 ghost use Rattle.board.specs.Calls.{Goes, next_of};
 ghost use Rattle.board.specs.Batches.{IsReady, submits_of};
-ghost use Rattle.board.specs.Lanes.{nth};
+ghost use Rattle.board.specs.Lanes.{nth, LinkedAreReaped};
 ghost use Rattle.board.specs.Refusals.{RefusesBatch, RefusesEntry};
 
 use crate::batch::{are_fit, are_served};
@@ -35,7 +35,7 @@ impl Board {
         requires { IsOf self.now submitter.old }
         ensures submitted { (ring : ℕ) → submitter.old.view.role ≡ SubmitterRole ring → IfOk result (λ r. (r ≡ next_of submitter.old ring) × Goes self.now submitter.old (Submit r sqe buffer.items true ∷ []) submitter.new) }
         ensures free { IfOk result (λ r. IsFree self.now.layout.cells (seen_of submitter.new) r) }
-        ensures steps { IfOk result (λ r. (n : ℕ) × (n ≤ cells_in self.now.layout.cells r.ring + 1) × Took submitter.old.view submitter.new.view (n + 3)) }
+        ensures steps { IfOk result (λ r. (n : ℕ) × (n ≤ cells_in self.now.layout.cells r.ring + 1) × (LinkedAreReaped (seen_of submitter.old) r.ring → n ≡ 0) × Took submitter.old.view submitter.new.view (n + 3)) }
         ensures refused { IfErr result (λ e. Goes self.now submitter.old [] submitter.new × (e.1 ≡ buffer)) }
         ensures reason { (ring : ℕ) → submitter.old.view.role ≡ SubmitterRole ring → IfErr result (λ e. RefusesEntry self.now sqe buffer.items (next_of submitter.old ring) submitter.old submitter.new e.0) }
     {
@@ -69,7 +69,7 @@ impl Board {
         requires { IsOf self.now submitter.old }
         ensures submitted { (ring : ℕ) → submitter.old.view.role ≡ SubmitterRole ring → IfOk result (λ r. (r ≡ next_of submitter.old ring) × Goes self.now submitter.old (submits_of ring r.k batch.items) submitter.new) }
         ensures free { IfOk result (λ r. (i : ℕ) → i < length batch.items → IsFree self.now.layout.cells (seen_of submitter.new) (nth r.ring (r.k + i))) }
-        ensures steps { IfOk result (λ r. (n : ℕ) × (n ≤ cells_in self.now.layout.cells r.ring + 1) × Took submitter.old.view submitter.new.view (n + 3 * length batch.items)) }
+        ensures steps { IfOk result (λ r. (n : ℕ) × (n ≤ cells_in self.now.layout.cells r.ring + 1) × (LinkedAreReaped (seen_of submitter.old) r.ring → n ≡ 0) × Took submitter.old.view submitter.new.view (n + 3 * length batch.items)) }
         ensures refused { IfErr result (λ e. Goes self.now submitter.old [] submitter.new × (e.1 ≡ batch)) }
         ensures reason { (ring : ℕ) → submitter.old.view.role ≡ SubmitterRole ring → IfErr result (λ e. RefusesBatch self.now batch.items ring (next_of submitter.old ring).k submitter.old submitter.new e.0) }
     {

@@ -14,7 +14,7 @@ ghost use Rattle.steps.specs.Cells.{claim_at, ring_of, place_of, request_at, cel
 ghost use Rattle.steps.specs.Rule.{Looks, Shown, IsStep, IsTwoSteps, IsThreeSteps, ExtendsTwice, ExtendsThrice, IsDone};
 ghost use Rattle.work.specs.Passes.{pass_of, seen_of, CanReach};
 ghost use Rattle.board.specs.Calls.{next_of};
-ghost use Rattle.board.specs.Lanes.{AreFree, RefusesRoom, Watched};
+ghost use Rattle.board.specs.Lanes.{AreFree, LinkedAreReaped, RefusesRoom, Watched};
 ghost use Rattle.board.specs.Seats.{IsSubmitterSeat, IsNextCell};
 
 use crate::error::SubmitError;
@@ -116,7 +116,7 @@ impl Submitter {
     pub(crate) fn room(&mut self, words: &Words, grid: &Grid, count: u64) -> Result<(), SubmitError>
         requires over { (self.old.table ≡ words.now.table_id) × (grid.now ≡ self.old.view.layout.cells) × (words.now.table_id.words ≡ 8 * total grid.now + 72) }
         ensures table { self.new.table ≡ self.old.table }
-        ensures looks { (n : ℕ) × ((ring : ℕ) → self.old.view.role ≡ SubmitterRole ring → n ≤ cells_in grid.now ring + 1) × Watched n self.old.view self.new.view }
+        ensures looks { (n : ℕ) × ((ring : ℕ) → self.old.view.role ≡ SubmitterRole ring → n ≤ cells_in grid.now ring + 1) × Watched n self.old.view self.new.view × IfOk result (λ _. (ring : ℕ) → self.old.view.role ≡ SubmitterRole ring → LinkedAreReaped (seen_of self.old) ring → n ≡ 0) }
         ensures free { IfOk result (λ _. (ring : ℕ) → self.old.view.role ≡ SubmitterRole ring → AreFree grid.now self.new.view ring (submits (seen_of self.old) ring) count) }
         ensures fresh { IfOk result (λ _. (ring : ℕ) → self.old.view.role ≡ SubmitterRole ring → (i : ℕ) → i < count → (submits (seen_of self.old) ring + i) / cells_in grid.now ring < 16777215) }
         ensures refused { IfErr result (λ e. (ring : ℕ) → self.old.view.role ≡ SubmitterRole ring → RefusesRoom grid.now ring (submits (seen_of self.old) ring) count self.old self.new e) }

@@ -84,9 +84,9 @@ module _ (slots id : ℕ) (me : Seated) where
         → Allows (Ruled M) slots id me (claim_at x) (λ n. either (eqb n old) new n) (tried_idle taken missed (step slots (claim_at x) old new none) me)
     take_allows M old new b e born bits w is_new placed_is = tries_idle slots id me M taken missed x g w.1 old new w.0 (λ is. (let y = sym busy ∙ is in cc)) inside f w.3 w.4 w.2
         (λ s r at is. (let d = answers_does slots id me (Take c q) (mine (Take c q) (same_itself c)) has x g b e by_take (negsuc 124) take_ends inside f bits w.0 w.1 w.2 w.3 new is_new
-            (λ s r at said. (let i = (idle_says r.past q _ 0 w.1 w.0 w.2 said).0 in (((busy_now slots id me s r at c busy).1, unhit_now s r at, first_now s r at (idle_open _ i), i), refl, placed_same slots id me q s r at born ∙ placed_is))) s r at is in
-            (d.0, d.1, d.2, d.3, (λ o is'. subst (λ (z : Req). Extends v (Did (Take z q)) v.role d.0 × (carried_after me.1 d.1 ≡ me.1)) (only o is') d.4), d.5)))
+        (λ s r at said. (let i = (idle_says r.past q _ 0 w.1 w.0 w.2 said).0 in (((busy_now slots id me s r at c busy).1, unhit_now s r at, first_now s r at (idle_open _ i), i), refl, placed_same slots id me q s r at born ∙ placed_is))) s r at is in
+        (d.0, d.1, d.2, d.3, (λ o is'. subst (λ (z : Req). Extends v (Did (Take z q)) v.role d.0 × (carried_after me.1 d.1 ≡ me.1)) (only o is') d.4), d.5)))
         (λ s r at run. (let same' = set-get_or s.words (claim_at x) 0 in let runs' = (says_of K r.past x _ _ Running 0 g 0 (r.cells x inside) run (omega arith) f (omega arith)).0.2 in
-            let d = silent_does slots id me (Miss c q) (mine (Miss c q) (same_itself c)) has miss_quiet (claim_at x) (get_or s.words (claim_at x) 0) s r at ((busy_now slots id me s r at c busy).1, unhit_now s r at, first_now s r at (λ y. subst IsReplied runs' y), runs')
-            (λ y ne. ap (λ z. get_or z y 0) same') (ap (λ z. get_or z 0 0) same' ∙ r.clock) in
-            (d.0, d.1, d.2, d.3, (λ o is'. subst (λ (z : Req). Extends v (Did (Miss z q)) v.role d.0 × (carried_after me.1 d.1 ≡ me.1)) (only o is') d.4), d.5)))
+        let d = silent_does slots id me (Miss c q) (mine (Miss c q) (same_itself c)) has miss_quiet (claim_at x) (get_or s.words (claim_at x) 0) s r at ((busy_now slots id me s r at c busy).1, unhit_now s r at, first_now s r at (λ y. subst IsReplied runs' y), runs')
+        (λ y ne. ap (λ z. get_or z y 0) same') (ap (λ z. get_or z 0 0) same' ∙ r.clock) in
+        (d.0, d.1, d.2, d.3, (λ o is'. subst (λ (z : Req). Extends v (Did (Miss z q)) v.role d.0 × (carried_after me.1 d.1 ≡ me.1)) (only o is') d.4), d.5)))

@@ -18,7 +18,7 @@ use Rattle.steps.specs.Cells.{setup_of}
 use Rattle.steps.specs.Rule.{NoneOf, Ruled}
 use Rattle.steps.specs.Plays.{Seated}
 use Rattle.steps.proofs.JournalGrowth.{replied_later, counted_in, legal_before}
-use Rattle.steps.proofs.OwnEvents.{same_hit}
+use Rattle.steps.proofs.OwnFacts.{same_hit}
 use Rattle.steps.proofs.StepKinds.{There, later, past_is, legal_now, none_now, lasts_now}
 
 answer_by : (h n : List Event) (c : Req) (res : ℤ) → (NoneLeft h c → NoneLeft n c) → (x : Hit) → CancelAnswers h c x res → CancelAnswers n c x res

@@ -19,7 +19,7 @@ pub mod PipesKept
 pub mod PipeSteps
 pub mod NotesKept
 pub mod FactsKept
-pub mod OwnEvents
+pub mod OwnFacts
 pub mod EndingIdle
 pub mod TimerSteps
 pub mod CancelSteps

@@ -29,7 +29,7 @@ use Rattle.steps.proofs.JournalGrowth.{placed_lasts, open_lasts, replied_later, 
 use Rattle.steps.proofs.Frames.{ages_stay}
 use Rattle.steps.proofs.ClaimWords.{says_of}
 use Rattle.steps.proofs.RuleKept.{adds_claim, owned}
-use Rattle.steps.proofs.OwnEvents.{same_clock, same_fired, still_armed}
+use Rattle.steps.proofs.OwnFacts.{same_clock, same_fired, still_armed}
 use Rattle.steps.proofs.EndingIdle.{Ends, Silent, idle_says, answers_does, silent_does}
 use Rattle.steps.proofs.StepKinds.{now_is, tick, with_line, Does, There, later, past_is, legal_now, live_now, none_now, lasts_now, extends, same_turns, shaped, tries, tries_idle}
 use Rattle.steps.proofs.LoadReleaseBegin.{quiet_line}
@@ -75,7 +75,7 @@ module _ (slots id : ℕ) (me : Seated) where
     pub tick_allows : (M : Layout) (n : ℕ) → v.role ≢ Spent → clock_of (events_of v.seen) ≤ n → n ≤ 2147483647 → Allows (Ruled M) slots id me 0 (λ _. n) (λ _. clock_set (step slots 0 n 0 none) me 0)
     tick_allows M n live le small = shaped slots id me M 0 (λ _. n) (λ _. clock_set (step slots 0 n 0 none) me 0) live
         (λ s r at. let d = silent_does slots id me (Tick n) mine (λ _ _ _. has) (tick_quiet n) 0 n s r at (let c = clock_now s r at in (omega arith, small)) (λ w ne. get_or-set_other s.words 0 w n 0 ne) (get_or-set_same s.words 0 n 0 (let a = r.room in omega arith)) in
-            (d.0, d.1, d.2, d.3, (λ _. (d.4, (get_or s.words 0 0, d.5))), d.5))
+        (d.0, d.1, d.2, d.3, (λ _. (d.4, (get_or s.words 0 0, d.5))), d.5))
 
     module _ (x g : ℕ) (inside : IsCell K x) (f : g < 16777216) (lazy : (q : Req) → v.role ≢ Busy q) (born : (request_at K x g).k < submits (events_of v.seen) (ring_of K x)) where
       abbrev q : Req

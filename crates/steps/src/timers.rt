@@ -31,13 +31,7 @@ pub fn tick(words: &Words, seat: &mut TableSeat, now: u32)
 }
 
 /// Arms a Held timer, which runs out at `deadline`, in ticks. Or tells what else was found.
-pub fn arm(
-    words: &Words,
-    seat: &mut TableSeat,
-    cell: usize,
-    generation: u32,
-    deadline: u32,
-) -> bool
+pub fn arm(words: &Words, seat: &mut TableSeat, cell: usize, generation: u32, deadline: u32) -> bool
     requires fits { Fits words.now.table_id seat.old cell }
     requires poller { ((n : ℕ) × (seat.old.me.0.role ≡ Poller n)) × (0 < seat.old.me.0.parts) }
     requires small { generation < 16777216 }

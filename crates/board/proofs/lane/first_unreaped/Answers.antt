@@ -1,4 +1,4 @@
-use Rattle.std.proofs.Common.{◌≡◌, ℕ, ◌+◌, ◌<◌, ◌==◌, ⊎_elim, List, true, false, get_or, sym, refl, ap, ◌∙◌, subst, arith, true≢false, eqb-true, eq-eqb}
+use Rattle.std.proofs.Common.{◌≡◌, ℕ, ◌+◌, ◌-◌, ◌<◌, ◌≤◌, ◌==◌, ⊎_elim, List, true, false, get_or, sym, refl, ap, ◌∙◌, subst, arith, true≢false, eqb-true, eq-eqb}
 use Rattle.history.proofs.Requests.{bool_cases}
 use Rattle.steps.specs.Fairness.{IsFree}
 use Rattle.steps.specs.Journal.{events_of}
@@ -7,7 +7,7 @@ use Rattle.work.specs.declared.grid.Spot.{Spot}
 use Rattle.board.specs.Lanes.{nth, IsLane, IsSpot}
 use Rattle.board.specs.declared.lane.Lane.{Lane}
 use Rattle.board.proofs.OwnCells.{same_default}
-use Rattle.board.proofs.LanesKept.{lane_cell, not_free, free_by_age}
+use Rattle.board.proofs.LanesKept.{lane_cell, not_free, free_by_age, reaped_by_age}
 use Rattle.board.proofs.LaneWalks.{spot_on}
 use Rattle.board.proofs.lane.first_unreaped.Goals as goal
 
@@ -39,3 +39,9 @@ pub returns-clause-none : goal.returns-clause-none
 returns-clause-none c = λ s a kept l same le i lt. let k = c.args.lane.now.next + i in let end = c.loop-i-test.false in let most = c.loop-i.auto.i-end in let o = c.loop-i.invariant i (omega arith) in let b : Lane = record c.args.lane.now { done = a.done } in
     subst (λ (K : List ℕ). IsFree K (events_of s.me.0.seen) (nth c.args.lane.now.ring k)) (sym same)
     (free_by_age s b k o.0 (subst (λ (z : Lane). IsLane s z) kept l) (subst (λ (K : List ℕ). IsSpot K c.args.lane.now.ring k o.0) same o.1) (let e = ap (λ (K : List ℕ). cells_in K c.args.lane.now.ring) same in omega arith) o.2)
+
+pub returns-clause-reaped : goal.returns-clause-reaped
+returns-clause-reaped c = λ s k l same low lt. let n : ℕ = cells_in c.args.grid.now c.args.lane.now.ring in let next = c.args.lane.now.next in
+    let near : next ≤ c.args.lane.now.done + n = (let z = l.1.near in let e = ap (λ (K : List ℕ). cells_in K c.args.lane.now.ring) same in omega arith) in let i : ℕ = k + n - next in let at : next + i ≡ k + n = omega arith in
+    let end = c.loop-i-test.false in let most = c.loop-i.auto.i-end in let o = c.loop-i.invariant i (omega arith) in
+    reaped_by_age s c.args.lane.now (next + i) o.0 l (subst (λ (K : List ℕ). IsSpot K c.args.lane.now.ring (next + i) o.0) same o.1) o.2 (nth c.args.lane.now.ring k) refl (let e = ap (λ (K : List ℕ). cells_in K c.args.lane.now.ring) same in omega arith)

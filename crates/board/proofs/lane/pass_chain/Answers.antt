@@ -1,15 +1,15 @@
-use Rattle.std.proofs.Common.{◌≡◌, ◌+◌, ◌<◌, ◌≤◌, ℕ, List, sym, refl, ap, ◌∙◌, subst, arith, true≢false, w64}
+use Rattle.std.proofs.Common.{◌≡◌, ◌+◌, ◌<◌, ◌≤◌, ℕ, List, sym, refl, ap, ◌∙◌, subst, arith, true, true≢false, w64}
 use Rattle.std.proofs.Math.Facts.{Fits-of_lt}
 use Rattle.history.specs.History.{phase, IsReplied}
-use Rattle.history.specs.Chains.{IsChainDone}
+use Rattle.history.specs.Chains.{IsChainDone, before_in, joins}
 use Rattle.steps.specs.declared.view.Layout.{Layout}
 use Rattle.steps.specs.Journal.{events_of}
 use Rattle.work.specs.Passes.{pass_of}
 use Rattle.board.specs.declared.lane.Lane.{Lane}
 use Rattle.board.specs.Calls.{Stepped}
-use Rattle.board.specs.Lanes.{nth, HasLookedAt, IsSpot, Watched}
+use Rattle.board.specs.Lanes.{nth, HasLookedAt, IsSpot, Watched, WereReaped}
 use Rattle.board.proofs.LanesKept.{lane_cell, walked_done, walked_open}
-use Rattle.board.proofs.LaneWalks.{Walking, TableSeat, walk_start, walk_looked, watched_took, facts_say, stepped_later, over_on, over_own, spot_on, ring_there, next_pending, next_small, lane_done, walk_on}
+use Rattle.board.proofs.LaneWalks.{Walking, TableSeat, walk_start, walk_looked, watched_took, facts_say, stepped_later, over_on, over_own, spot_on, ring_there, next_pending, next_small, lane_done, walk_on, walked_spent, linked_by}
 use Rattle.board.proofs.lane.pass_chain.Goals as goal
 
 pub loop-k-init : goal.loop-k-init
@@ -64,12 +64,17 @@ pub returns-then-not-goes_on-clause-kept : goal.returns-then-not-goes_on-clause-
 returns-then-not-goes_on-clause-kept c = ap (λ (z : Lane). record z { done = c.loop-k.k + 1 }) c.loop-k.invariant.0
 
 pub returns-then-not-goes_on-clause-passed : goal.returns-then-not-goes_on-clause-passed
-returns-then-not-goes_on-clause-passed c = λ _. let e = c.loop-k.invariant.0 in let a : Lane = c.loop-k.lane in let w : Walking c.args.seat.now c.loop-k.seat a c.loop-k.k = subst (λ (z : Lane). Walking c.args.seat.now c.loop-k.seat z c.loop-k.k) (sym e) c.loop-k.invariant.1 in let h = c.if-not-has_replied.ensures in let t : TableSeat = c.has_replied.new.seat in let x = walk_looked c.args.seat.now c.loop-k.seat t a c.loop-k.k w h.seat h.looks.0 h.looks.1 h.looks.2 in
-    subst (λ (z : Lane). (z.done < c.loop-k.k + 1) × ((n : ℕ) × (n + z.done ≤ c.loop-k.k + 1) × Watched n c.args.seat.now.me.0 t.me.0)) e ((let l = w.low in omega arith), x.4)
+returns-then-not-goes_on-clause-passed c = λ _. let e = c.loop-k.invariant.0 in let a : Lane = c.loop-k.lane in let w : Walking c.args.seat.now c.loop-k.seat a c.loop-k.k = subst (λ (z : Lane). Walking c.args.seat.now c.loop-k.seat z c.loop-k.k) (sym e) c.loop-k.invariant.1 in let cells : c.args.grid.now ≡ c.loop-k.seat.me.0.layout.cells = c.requires.over.cells_are ∙ ap (λ (L : Layout). L.cells) (sym w.layout) in let spot : IsSpot c.loop-k.seat.me.0.layout.cells a.ring c.loop-k.k c.in-Some.spot = spot_on c.args.grid.now _ a.ring c.loop-k.k c.in-Some.spot cells c.in-Some.ensures.some c.in-Some.ensures.number in let h = c.if-not-has_replied.ensures in let t : TableSeat = c.has_replied.new.seat in let x = walk_looked c.args.seat.now c.loop-k.seat t a c.loop-k.k w h.seat h.looks.0 h.looks.1 h.looks.2 in
+    let spent = walked_spent c.args.seat.now c.loop-k.seat a c.loop-k.k w h.looks.0 (h.looks.3 c.loop-k.k spot) in
+    subst (λ (z : Lane). (z.done < c.loop-k.k + 1) × ((n : ℕ) × (n + z.done ≤ c.loop-k.k + 1) × Watched n c.args.seat.now.me.0 t.me.0 × (WereReaped c.args.seat.now.me.0 z.ring z.done (c.loop-k.k + 1) → n ≡ 0))) e ((let l = w.low in omega arith), (x.4.0, x.4.1, x.4.2, λ were. x.4.3 ∙ spent were))
+
+pub returns-then-not-goes_on-clause-linked : goal.returns-then-not-goes_on-clause-linked
+returns-then-not-goes_on-clause-linked c = λ _. let e = c.loop-k.invariant.0 in let a : Lane = c.loop-k.lane in let w : Walking c.args.seat.now c.loop-k.seat a c.loop-k.k = subst (λ (z : Lane). Walking c.args.seat.now c.loop-k.seat z c.loop-k.k) (sym e) c.loop-k.invariant.1 in let h = c.if-not-has_replied.ensures in let t : TableSeat = c.has_replied.new.seat in let x = walk_looked c.args.seat.now c.loop-k.seat t a c.loop-k.k w h.seat h.looks.0 h.looks.1 h.looks.2 in
+    subst (λ (z : Lane). (k : ℕ) → z.done < k → k < c.loop-k.k + 1 → joins (before_in (events_of t.me.0.seen) (nth z.ring k)) ≡ true) e (linked_by (events_of t.me.0.seen) a.ring a.done c.loop-k.k (λ j p q. (x.3 j p q).1))
 
 pub loop-k-preserved : goal.loop-k-preserved
 loop-k-preserved c = let e = c.loop-k.invariant.0 in let a : Lane = c.loop-k.lane in let w : Walking c.args.seat.now c.loop-k.seat a c.loop-k.k = subst (λ (z : Lane). Walking c.args.seat.now c.loop-k.seat z c.loop-k.k) (sym e) c.loop-k.invariant.1 in let cells : c.args.grid.now ≡ c.loop-k.seat.me.0.layout.cells = c.requires.over.cells_are ∙ ap (λ (L : Layout). L.cells) (sym w.layout) in let spot : IsSpot c.loop-k.seat.me.0.layout.cells a.ring c.loop-k.k c.in-Some.spot = spot_on c.args.grid.now _ a.ring c.loop-k.k c.in-Some.spot cells c.in-Some.ensures.some c.in-Some.ensures.number in let h = c.if-not-has_replied.ensures in let t : TableSeat = c.has_replied.new.seat in let x = walk_looked c.args.seat.now c.loop-k.seat t a c.loop-k.k w h.seat h.looks.0 h.looks.1 h.looks.2 in let spot' : IsSpot t.me.0.layout.cells a.ring c.loop-k.k c.in-Some.spot = subst (λ (z : List ℕ). IsSpot z a.ring c.loop-k.k c.in-Some.spot) (ap (λ (L : Layout). L.cells) (w.layout ∙ sym x.1)) spot in let done = h.replied refl c.loop-k.k spot in let g = c.if-not-goes_on.ensures in let say = facts_say t a c.loop-k.k c.index.result.now c.in-Some.spot g.0 x.0 spot' c.loop-k-test.true done c.index.ensures g.1 g.2 in
-    (e, subst (λ (z : Lane). Walking c.args.seat.now t z (c.loop-k.k + 1)) e (walk_on c.args.seat.now t a c.loop-k.k x.0 x.1 x.2 x.3 x.4 w.low c.loop-k-test.true done (say.0 (sym g.3))))
+    (e, subst (λ (z : Lane). Walking c.args.seat.now t z (c.loop-k.k + 1)) e (walk_on c.args.seat.now t a c.loop-k.k x.0 x.1 x.2 x.3 (x.4.0, x.4.1, x.4.2, λ were. x.4.3 ∙ walked_spent c.args.seat.now c.loop-k.seat a c.loop-k.k w h.looks.0 (h.looks.3 c.loop-k.k spot) were) w.low c.loop-k-test.true done (say.0 (sym g.3))))
 
 pub overflow_sub-k : goal.overflow_sub-k
 overflow_sub-k c = let e = c.loop-k.invariant.0 in let a : Lane = c.loop-k.lane in let w : Walking c.args.seat.now c.loop-k.seat a c.loop-k.k = subst (λ (z : Lane). Walking c.args.seat.now c.loop-k.seat z c.loop-k.k) (sym e) c.loop-k.invariant.1 in let lt : a.done < a.next = subst (λ (z : Lane). z.done < z.next) (sym e) c.requires.left in let l = w.high in let f = c.loop-k-test.false in omega arith

@@ -8,7 +8,7 @@ use Rattle.board.proofs.LaneWalks.{pass_start, pass_more, kept_more, watched_mor
 use Rattle.board.proofs.lane.pass_chains.Goals as goal
 
 pub loop-lane-init : goal.loop-lane-init
-loop-lane-init c = pass_start c.args.seat.now c.args.lane.now c.requires.lane
+loop-lane-init c = pass_start c.args.seat.now c.args.lane.now c.args.end c.requires.lane
 
 pub pass_chain-requires-clause-lane : goal.pass_chain-requires-clause-lane
 pass_chain-requires-clause-lane c = c.loop-lane.invariant.lane
@@ -27,7 +27,7 @@ returns-then-not-pass_chain-clause-kept c = kept_more c.args.lane.now c.loop-lan
 
 pub returns-then-not-pass_chain-clause-looks : goal.returns-then-not-pass_chain-clause-looks
 returns-then-not-pass_chain-clause-looks c = let p = c.loop-lane.invariant in let x = (c.if-not-pass_chain.ensures.open (λ u. true≢false (sym u))).1 in let next : c.loop-lane.lane.next ≡ c.args.lane.now.next = ap (λ (z : Lane). z.next) p.kept in
-    let m = watched_more p.looks.0 x.0 _ _ _ p.looks.2 x.2 in (m.0, (let a = p.looks.1 in let b = x.1 in let e = m.1 in omega arith), m.2)
+    let m = watched_more p.looks.0 x.0 _ _ _ p.looks.2 x.2 in (m.0, (let a = p.looks.1 in let b = x.1 in let e = m.1 in omega arith), m.2, λ e. absurd (true≢false (sym e)))
 
 pub returns-then-not-pass_chain-clause-open : goal.returns-then-not-pass_chain-clause-open
 returns-then-not-pass_chain-clause-open c = λ _. let p = c.loop-lane.invariant in let h = c.if-not-pass_chain.ensures in let o = h.open (λ u. true≢false (sym u)) in let l = h.looked (λ u. true≢false (sym u)) in
@@ -39,7 +39,7 @@ returns-then-not-pass_chain-clause-open c = λ _. let p = c.loop-lane.invariant 
     )
 
 pub loop-lane-preserved : goal.loop-lane-preserved
-loop-lane-preserved c = let h = c.if-not-pass_chain.ensures in pass_more c.args.seat.now c.loop-lane.seat c.pass_chain.new.seat c.args.lane.now c.loop-lane.lane c.pass_chain.new.lane c.loop-lane.invariant h.seat h.lane h.kept (h.passed refl).1
+loop-lane-preserved c = let h = c.if-not-pass_chain.ensures in pass_more c.args.seat.now c.loop-lane.seat c.pass_chain.new.seat c.args.lane.now c.loop-lane.lane c.pass_chain.new.lane c.args.end c.loop-lane.invariant c.loop-lane-test.true h.seat h.lane h.kept (h.passed refl).1 (h.linked refl)
 
 pub returns-clause-seat : goal.returns-clause-seat
 returns-clause-seat c = c.loop-lane.invariant.same
@@ -51,4 +51,7 @@ pub returns-clause-kept : goal.returns-clause-kept
 returns-clause-kept c = c.loop-lane.invariant.kept
 
 pub returns-clause-looks : goal.returns-clause-looks
-returns-clause-looks c = let p = c.loop-lane.invariant in let next : c.loop-lane.lane.next ≡ c.args.lane.now.next = ap (λ (z : Lane). z.next) p.kept in (p.looks.0, (let a = p.looks.1 in let l = p.lane.1.low in omega arith), p.looks.2)
+returns-clause-looks c = let p = c.loop-lane.invariant in let next : c.loop-lane.lane.next ≡ c.args.lane.now.next = ap (λ (z : Lane). z.next) p.kept in (p.looks.0, (let a = p.looks.1 in let l = p.lane.1.low in omega arith), p.looks.2, λ _. p.looks.3)
+
+pub returns-clause-linked : goal.returns-clause-linked
+returns-clause-linked c = λ _. c.loop-lane.invariant.linked

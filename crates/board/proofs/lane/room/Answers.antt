@@ -1,15 +1,16 @@
-use Rattle.std.proofs.Common.{◌≡◌, ℕ, ◌+◌, ◌-◌, ◌*◌, ◌/◌, ◌<◌, ◌≤◌, List, inl, inr, sym, refl, ap, ◌∙◌, subst, arith}
+use Rattle.std.proofs.Common.{◌≡◌, ℕ, ◌+◌, ◌-◌, ◌*◌, ◌/◌, ◌<◌, ◌≤◌, List, ⊎_elim, inl, inr, true, sym, refl, ap, ◌∙◌, subst, arith}
+use Rattle.history.specs.Chains.{before_in, joins}
 use Rattle.steps.specs.declared.view.Layout.{Layout}
 use Rattle.steps.specs.Fairness.{IsFree}
 use Rattle.steps.specs.Journal.{events_of}
 use Rattle.steps.specs.Cells.{cells_in}
 use Rattle.board.specs.declared.lane.Lane.{Lane}
 use Rattle.board.specs.Lanes.{nth}
-use Rattle.board.proofs.LaneWalks.{TableSeat, watched_layout, last_generation}
+use Rattle.board.proofs.LaneWalks.{TableSeat, watched_layout, watched_before, last_generation}
 use Rattle.board.proofs.lane.room.Goals as goal
 
 pub returns-in-Some-clause-looks : goal.returns-in-Some-clause-looks
-returns-in-Some-clause-looks c = (1, omega arith, c.look_at.ensures.looks)
+returns-in-Some-clause-looks c = (1, omega arith, c.look_at.ensures.looks, tt)
 
 pub returns-in-Some-clause-refused : goal.returns-in-Some-clause-refused
 returns-in-Some-clause-refused c = let t : TableSeat = c.look_at.new.seat in let k = c.in-Some.k in let some = c.in-Some.ensures.some in let next = c.args.lane.now.next in
@@ -43,3 +44,15 @@ returns-clause-free c = let t : TableSeat = c.pass_chains.new.seat in let a : La
     let cells : c.args.grid.now ≡ t.me.0.layout.cells = c.requires.over.cells_are ∙ ap (λ (L : Layout). L.cells) (sym (watched_layout h.looks.0 c.args.seat.now.me.0 t.me.0 h.looks.2).0) in
     let size : c.cells_in-cells.result ≡ cells_in c.args.grid.now c.args.lane.now.ring = c.cells_in-cells.ensures ∙ ap (cells_in c.args.grid.now) c.from.ensures in let end = h.passed refl in
     c.in_default.ensures.none t a h.kept h.lane cells (let e = c.saturating_sub-end.ensures in omega arith)
+
+-- who has reaped all linked ones looks at none
+pub returns-clause-looks : goal.returns-clause-looks
+returns-clause-looks c = let s : TableSeat = c.args.seat.now in let t : TableSeat = c.pass_chains.new.seat in let a : Lane = c.pass_chains.new.lane in let b : Lane = c.args.lane.now in let h = c.if-not-pass_chains.ensures in let l = c.requires.lane in
+    let next : a.next ≡ b.next = ap (λ (z : Lane). z.next) h.kept in let size : c.cells_in-cells.result ≡ cells_in c.args.grid.now b.ring = c.cells_in-cells.ensures ∙ ap (cells_in c.args.grid.now) c.from.ensures in (
+      h.looks.0,
+      (let z = h.looks.1 in let y = l.1.near in let e = ap (λ (K : List ℕ). cells_in K b.ring) c.requires.over.cells_are in omega arith),
+      h.looks.2,
+      λ linked. h.looks.3 refl (λ k low high. ⊎_elim
+          (λ (before : k < c.saturating_sub-end.result). c.in_default.ensures.reaped s k l c.requires.over.cells_are low (let e = c.saturating_sub-end.ensures in omega arith))
+          (λ (j : joins (before_in (events_of t.me.0.seen) (nth b.ring k)) ≡ true). linked k (let n = l.0.next_is in let z = h.lane.1.low in omega arith) (ap joins (sym (watched_before h.looks.0 s.me.0 t.me.0 b.ring k l.0.role h.looks.2)) ∙ j)) (h.linked refl k low high)),
+    )

@@ -5,7 +5,7 @@ use Rattle.steps.proofs.TimerSteps.{arm_allows}
 use Rattle.steps.proofs.timers.arm.Goals as goal
 
 pub compare_exchange-requires : goal.compare_exchange-requires
-compare_exchange-requires c = let f = c.requires.fits in let role = c.requires.poller.0.1 in 
+compare_exchange-requires c = let f = c.requires.fits in let role = c.requires.poller.0.1 in
     rw c.claim_word.ensures (
       f.0,
       omega arith,

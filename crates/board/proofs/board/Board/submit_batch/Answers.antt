@@ -13,8 +13,7 @@ use Rattle.board.specs.Batches.{Entries, AreServed, AreFit, IsReady, submits_of}
 use Rattle.board.specs.Calls.{Goes, next_of}
 use Rattle.board.specs.Lanes.{nth, RefusesRoom}
 use Rattle.board.proofs.GoesLaws.{goes_then}
-use Rattle.board.proofs.LaneWalks.{watched_took}
-use Rattle.board.proofs.LaneSeats.{watched_submits, watched_before}
+use Rattle.board.proofs.LaneWalks.{watched_took, watched_submits, watched_before}
 use Rattle.board.proofs.Submitting.{goes_watched, free_then}
 use Rattle.board.proofs.BatchesKept.{batch_reason, turned_back}
 use Rattle.board.proofs.board.Board.submit_batch.Goals as goal
@@ -60,4 +59,4 @@ returns-clause-free c = λ i lt. let b : Facts = c.args.self.now in let p : Pass
 pub returns-clause-steps : goal.returns-clause-steps
 returns-clause-steps c = let b : Facts = c.args.self.now in let p : Pass = c.args.submitter.now in let m : Pass = c.room.new.self in let xs : Entries = c.args.batch.items in let r = c.in_default.ensures in let go : Goes b p [] m = goes_watched b p m r.looks.0 c.requires r.table r.looks.2 in let n = c.next_request-req.ensures in let ring = c.next_request-req.result.ring in let old : p.view.role ≡ Submitter ring = sym go.role_is ∙ n.role in let same : submits (seen_of m) ring ≡ submits (seen_of p) ring = watched_submits r.looks.0 p.view m.view ring old r.looks.2 in let grid : c.self.inside.grid ≡ b.layout.cells = ap (λ (z : Facts). z.layout.cells) c.self.view_is in let count : c.len.result ≡ length xs = c.len.ensures ∙ c.args.batch.ok.0 in let t : ℕ = r.looks.0 in let w = c.submit_all.new.submitter in let len : length c.reverse.new.self.items ≡ length xs = ap (λ (z : Entries). length z) c.reverse.ensures.items ∙ length-reverse xs in
     let both = took_both p.view m.view w.view t (3 * length xs) (watched_took t p.view m.view r.looks.2) (subst (λ (z : ℕ). Took m.view w.view (3 * z)) len c.submit_all.ensures.steps) in let z : ℕ = 3 * length xs in
-    (t, subst (λ (K : List ℕ). t ≤ cells_in K ring + 1) grid (r.looks.1 ring old), subst (λ (k : ℕ). Took p.view w.view k) (let e : z + t ≡ t + z = omega arith in e) both)
+    (t, subst (λ (K : List ℕ). t ≤ cells_in K ring + 1) grid (r.looks.1 ring old), r.looks.3 ring old, subst (λ (k : ℕ). Took p.view w.view k) (let e : z + t ≡ t + z = omega arith in e) both)

@@ -1,6 +1,8 @@
-use Rattle.std.proofs.Common.{ℕ, subst}
-use Rattle.work.specs.Passes.{Pass, pass_of}
-use Rattle.board.specs.Lanes.{AreFree, RefusesRoom}
+use Rattle.std.proofs.Common.{◌≡◌, ℕ, ◌+◌, ◌≤◌, sym, subst}
+use Rattle.steps.specs.declared.view.Role.TheVariants.{Submitter}
+use Rattle.steps.specs.Cells.{cells_in}
+use Rattle.work.specs.Passes.{Pass, pass_of, seen_of}
+use Rattle.board.specs.Lanes.{AreFree, LinkedAreReaped, RefusesRoom, Watched}
 use Rattle.board.proofs.LaneSeats.{lane_ring, ok_more, err_more}
 use Rattle.board.proofs.submitter.Submitter.room.Goals as goal
 
@@ -11,3 +13,11 @@ returns-clause-free c = ok_more c.room.result _ _ (λ x free ring role. let r = 
 pub returns-clause-refused : goal.returns-clause-refused
 returns-clause-refused c = err_more c.room.result _ _ (λ e no' ring role. let r = lane_ring c.self.inside.seat c.self.inside.lane c.args.self.now c.self.invariant c.self.view_is ring role in
     subst (λ (z : ℕ × ℕ × Pass). RefusesRoom c.args.grid.now z.0 z.1 c.args.count z.2 (pass_of c.room.new.seat) e) (λ i. (r.0 i, r.1 i, c.self.view_is i)) no') c.room.ensures.refused
+
+pub returns-clause-looks : goal.returns-clause-looks
+returns-clause-looks c = let x = c.room.ensures.looks in let ring_is : (ring : ℕ) → c.args.self.now.view.role ≡ Submitter ring → c.self.inside.lane.ring ≡ ring = λ ring role. (lane_ring c.self.inside.seat c.self.inside.lane c.args.self.now c.self.invariant c.self.view_is ring role).0 in (
+  x.0,
+  λ ring role. subst (λ (i : ℕ). x.0 ≤ cells_in c.args.grid.now i + 1) (ring_is ring role) x.1,
+  subst (λ (p : Pass). Watched x.0 p.view c.room.new.seat.me.0) c.self.view_is x.2,
+  ok_more c.room.result _ _ (λ _ spent ring role linked. spent (subst (λ (z : Pass × ℕ). LinkedAreReaped (seen_of z.0) z.1) (λ i. (sym c.self.view_is i, sym (ring_is ring role) i)) linked)) x.3,
+)
