@@ -5,7 +5,7 @@ use Rattle.pipe.specs.declared.ends.End.TheVariants.{Read, Write}
 use Rattle.pipe.specs.declared.ready.Ready.{Ready}
 use Rattle.pipe.specs.declared.ready.Ready.TheVariants.{Now, Wait, Fail}
 use Rattle.pipe.specs.Pipe.{Conduit}
-use Rattle.pipe.specs.Answers as piped
+use Rattle.pipe.specs.PipeAnswers as piped
 use Rattle.history.specs.Pipes.{Flow}
 use Rattle.history.specs.Answers as told
 use Rattle.history.specs.Answers.{Answer, now, later}

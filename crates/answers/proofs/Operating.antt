@@ -1,5 +1,5 @@
 -- What READ, WRITE, CLOSE and POLL_ADD do to the pipe in hand is what their replies do to the pipe of the history.
-use Rattle.answers.specs.Ends.{pipe_with, IsSide}
+use Rattle.answers.specs.NamedEnds.{pipe_with, IsSide}
 use Rattle.pipe.specs.declared.ends.End.TheVariants.{Read as ReadSide, Write as WriteSide}
 use Rattle.std.proofs.Common.{Some, ◌≡◌, to_z, of_z, w32, ◌-ℤ◌, ℕ, ◌<◌, ◌≤◌, ◌==◌, ◌&&◌, nat_lt, min, take, drop, length, slice_index, Bool, true, false, cond, ℤ, pos, negsuc, List, [], ◌++◌, refl, sym, ap, ◌∙◌, subst, arith, ◌⊎◌, inl, inr, eq-eqb, append-nil, nat_le, bit_and, bit_or, not}
 use Rattle.std.proofs.lemmas.Bool.{lt-ltb}
@@ -17,7 +17,7 @@ use Rattle.pipe.specs.declared.ends.End.{End as Side}
 use Rattle.pipe.specs.declared.ready.Ready.{Ready}
 use Rattle.pipe.specs.declared.ready.Ready.TheVariants.{Now, Wait, Fail}
 use Rattle.pipe.specs.Pipe.{Conduit}
-use Rattle.pipe.specs.Answers.{moved, OnIdle, after_read, answer_read, answer_write, answer_close, answer_poll, free_in, is_shut, events_at, after_write, after_close}
+use Rattle.pipe.specs.PipeAnswers.{moved, OnIdle, after_read, answer_read, answer_write, answer_close, answer_poll, free_in, is_shut, events_at, after_write, after_close}
 use Rattle.answers.specs.Answered.{IsPipe, Does}
 use Rattle.answers.specs.PipeReplies.{below, reply_of}
 use Rattle.answers.proofs.Linking.{said, read_said, write_said, poll_read_said, poll_write_said}

@@ -7,7 +7,7 @@ use Rattle.history.specs.declared.req.Req.{Req}
 use Rattle.history.specs.Answers.{OpAnswers}
 use Rattle.history.specs.Pipes.{Flow, flow, flows, content}
 use Rattle.pipe.specs.Pipe.{Conduit}
-use Rattle.answers.specs.Ends.{pipe_in}
+use Rattle.answers.specs.NamedEnds.{pipe_in}
 
 -- the pipe in hand is the one of the history
 pub record IsPipe (cap : ℕ) (c : Conduit) (w : Flow) : Type 0 where

@@ -1,3 +1,3 @@
 pub mod Answered
-pub mod Ends
+pub mod NamedEnds
 pub mod PipeReplies

@@ -3,7 +3,7 @@ ghost use Rattle.std.specs.Prelude.{◌≡◌, ◌≤◌, length};
 ghost use Rattle.entry.specs.declared.op.Offset.{Offset};
 ghost use Rattle.history.specs.Legal.{FitsOp};
 ghost use Rattle.history.specs.Pipes.{end_of};
-ghost use Rattle.answers.specs.Ends.{pipe_with, pipe_in, IsSide};
+ghost use Rattle.answers.specs.NamedEnds.{pipe_with, pipe_in, IsSide};
 ghost use Rattle.answers.specs.Answered.{Answered, IsSome};
 
 use entry::{Op, by_opcode};

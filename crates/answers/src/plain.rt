@@ -4,7 +4,7 @@ ghost use Rattle.history.specs.declared.event.Event.{Event};
 ghost use Rattle.history.specs.declared.req.Req.{Req};
 ghost use Rattle.history.specs.Answers.{OpAnswers};
 ghost use Rattle.history.specs.Pipes.{end_of};
-ghost use Rattle.answers.specs.Ends.{pipe_with, pipe_in};
+ghost use Rattle.answers.specs.NamedEnds.{pipe_with, pipe_in};
 ghost use Rattle.answers.specs.Answered.{is_plain, IsPast};
 
 use entry::{Op, by_opcode};

@@ -4,7 +4,7 @@ use mathlib.Core.Logic.{dite}
 use native.Mathlib.Decide.{ℕ_discrete}
 use Rattle.bell.specs.declared.view.Load.{Load}
 use Rattle.bell.specs.declared.view.View.{View}
-use Rattle.bell.specs.Passes.{HasReadOne, HasRead, HaveRisen, loads_of}
+use Rattle.bell.specs.BellPasses.{HasReadOne, HasRead, HaveRisen, loads_of}
 
 -- the first k tails were read
 pub record IsReading (v0 : View) (old : List ℕ) (k : ℕ) (v : View) (tails : List ℕ) (changed : Bool) : Type 0 where

@@ -1,3 +1,3 @@
 pub mod Plays
 pub mod Rule
-pub mod Passes
+pub mod BellPasses

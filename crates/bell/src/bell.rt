@@ -1,6 +1,6 @@
 //! The bell and its calls.
 ghost use Rattle.std.specs.Prelude.{◌≡◌, ◌≢◌, ◌↔◌, ◌⊎◌, ◌≤◌, ◌<◌, ◌∷◌, true, false, IfOk, IsErrOf};
-ghost use Rattle.bell.specs.Passes.{IsRingerOf, IsSleeperOf, HasLoaded, HaveRisen, IsNew};
+ghost use Rattle.bell.specs.BellPasses.{IsRingerOf, IsSleeperOf, HasLoaded, HaveRisen, IsNew};
 
 use crate::error::BellError;
 use crate::law::Law;
@@ -23,7 +23,7 @@ pub struct Bell {
 }
 
 impl Model for Bell {
-    ghost use Rattle.bell.specs.Passes.{Facts, IsBell};
+    ghost use Rattle.bell.specs.BellPasses.{Facts, IsBell};
 
     ghost Value = { Facts };
 

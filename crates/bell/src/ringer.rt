@@ -1,6 +1,6 @@
 //! The one who stores a ring's tail, and what it owes where the sleeper asked to be woken.
 ghost use Rattle.std.specs.Prelude.{◌≡◌, ◌+◌, ◌≤◌, ◌<◌, ◌==◌, ◌∷◌, true};
-ghost use Rattle.bell.specs.Passes.{IsRingerSeat};
+ghost use Rattle.bell.specs.BellPasses.{IsRingerSeat};
 
 use crate::law::Law;
 use crate::plays::{ClearBit, StoreTail};
@@ -19,7 +19,7 @@ pub struct Ringer {
 }
 
 impl Model for Ringer {
-    ghost use Rattle.bell.specs.Passes.{Ringing, IsRingerSeat};
+    ghost use Rattle.bell.specs.BellPasses.{Ringing, IsRingerSeat};
 
     ghost Value = { Ringing };
 

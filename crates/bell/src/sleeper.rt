@@ -1,6 +1,6 @@
 //! The one who dozes where no ring has anything new, and is woken.
 ghost use Rattle.std.specs.Prelude.{◌≡◌, ◌≢◌, ◌+◌, ◌≤◌, ◌<◌, true, false, length, slice_index};
-ghost use Rattle.bell.specs.Passes.{IsSleeperSeat, IsBell, HasReadOne, HasRead, HasLoaded, HaveRisen};
+ghost use Rattle.bell.specs.BellPasses.{IsSleeperSeat, IsBell, HasReadOne, HasRead, HasLoaded, HaveRisen};
 ghost use Rattle.bell.specs.Plays.{reading, waking};
 ghost use Rattle.bell.specs.declared.view.Role.{Role};
 
@@ -20,7 +20,7 @@ pub struct Sleeper {
 }
 
 impl Model for Sleeper {
-    ghost use Rattle.bell.specs.Passes.{Sleeping, IsSleeperSeat};
+    ghost use Rattle.bell.specs.BellPasses.{Sleeping, IsSleeperSeat};
 
     ghost Value = { Sleeping };
 

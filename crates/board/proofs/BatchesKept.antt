@@ -33,7 +33,7 @@ use Rattle.board.specs.declared.error.SubmitError.TheVariants.{Full, Spent}
 use Rattle.board.proofs.GoesLaws.{goes_still, events_before, event_before}
 use Rattle.board.proofs.LanesKept.{just_before}
 use Rattle.board.proofs.SubmitterSeats.{submits_it, lends_it}
-use Rattle.board.proofs.Submitting.{free_then}
+use Rattle.board.proofs.SubmitterLooks.{free_then}
 
 -- what is left of a batch from its i-th entry on
 pub left_at : (xs : Entries) (i : ℕ) (x : Entry × Vec ℕ) → i < length xs → x ≡ get_or xs i x → drop i xs ≡ x ∷ drop (suc i) xs

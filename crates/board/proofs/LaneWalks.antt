@@ -35,7 +35,7 @@ use Rattle.board.proofs.FactsWords.{Tells, chain_told}
 use Rattle.board.proofs.LanesKept.{lane_looked, lane_cell}
 use Rattle.board.proofs.OwnCells.{same_default, reaped_as}
 use Rattle.board.proofs.SubmitterSeats.{submits_it}
-use Rattle.board.proofs.Submitting.{gen_small}
+use Rattle.board.proofs.SubmitterLooks.{gen_small}
 
 abbrev pub TableSeat : Type 0
 TableSeat = Seat (Option Thing) View

@@ -11,7 +11,7 @@ pub mod OnceEach
 pub mod Reaping
 pub mod Releasing
 pub mod TableEnd
-pub mod Submitting
+pub mod SubmitterLooks
 pub mod Standings
 pub mod OwnCells
 pub mod LanesKept
@@ -24,5 +24,5 @@ pub mod PutBack
 pub mod FactsRead
 pub mod WordOutcomes
 pub mod RowLaws
-pub mod Deciding
+pub mod LastSteps
 pub mod RowsKept

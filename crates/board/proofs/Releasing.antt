@@ -19,7 +19,7 @@ use Rattle.board.specs.declared.phase.Phase.{Phase as Standing}
 use Rattle.board.specs.declared.phase.Phase.TheVariants.{Unborn, Held, Ready, Running, Armed, Done, Gone}
 use Rattle.board.specs.declared.poller.Released.TheVariants.{NotHeld}
 use Rattle.board.specs.Calls.{Stands, IsUnheld}
-use Rattle.board.specs.Rows.{IsAt, IsOurs, Watched, Decides}
+use Rattle.board.specs.PollerRows.{IsAt, IsOurs, Watched, Decides}
 use Rattle.board.proofs.PassFacts.{stepped_once}
 use Rattle.board.proofs.Standings.{unheld}
 

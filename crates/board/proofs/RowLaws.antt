@@ -7,7 +7,7 @@ use Rattle.atomic_table.specs.declared.shared.Seat.{Seat}
 use Rattle.claim.specs.Facts.{Facts as FactsParts}
 use Rattle.entry.specs.Entry.{Entry}
 use Rattle.gates.specs.declared.traits.Traits.{Traits}
-use Rattle.gates.specs.Rows.{Kept, Stands, added, waiting, waiting_in, slot_with, stand_in, with_reply, Waits}
+use Rattle.gates.specs.EntryRows.{Kept, Stands, added, waiting, waiting_in, slot_with, stand_in, with_reply, Waits}
 use Rattle.gates.specs.Shows.{nth, TrailsAt, Trails, IsOutcome, IsOfChain}
 use Rattle.gates.specs.Slots.{Slot, traits_of, is_pending, passes}
 use Rattle.gates.proofs.TrailLaws.{trails_later, trails_more, trails_replied, lost_replied, met_trails, stand_in_trails, of_chain_replied}
@@ -30,7 +30,7 @@ use Rattle.history.proofs.Requests.{same_false}
 use Rattle.steps.specs.Journal.{events_of}
 use Rattle.work.specs.Board.{Facts, IsBoard}
 use Rattle.work.proofs.GridRows.{counts_at, cell_says, located_is}
-use Rattle.board.specs.Rows.{KnowsRow, IsNumbered, IsAt, IsOurs, Watches, Watched, HasOutcome, TellsFacts, AreFacts, owed}
+use Rattle.board.specs.PollerRows.{KnowsRow, IsNumbered, IsAt, IsOurs, Watches, Watched, HasOutcome, TellsFacts, AreFacts, owed}
 use Rattle.board.proofs.GoesLaws.{events_before}
 use Rattle.work.specs.Passes.{Pass, pass_of}
 use Rattle.board.specs.Calls.{Goes}

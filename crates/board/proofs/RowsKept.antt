@@ -5,7 +5,7 @@ use Rattle.std.proofs.lemmas.Bool.{cases_lt}
 use Rattle.std.proofs.lemmas.Option.{slice_get_within}
 use mathlib.Core.Logic.{dite}
 use native.Mathlib.Decide.{ℕ_discrete}
-use Rattle.gates.specs.Rows.{Kept, Stands}
+use Rattle.gates.specs.EntryRows.{Kept, Stands}
 use Rattle.gates.specs.Shows.{Trails}
 use Rattle.gates.proofs.Lists.{get_before, get_last, get_set_same, get_set_other, one_some}
 use Rattle.gates.proofs.TrailLaws.{trails_none, trails_later}
@@ -18,7 +18,7 @@ use Rattle.steps.specs.Rule.{Looks}
 use Rattle.work.specs.Board.{Facts}
 use Rattle.work.specs.Passes.{Pass}
 use Rattle.board.specs.Calls.{Goes}
-use Rattle.board.specs.Rows.{KnowsRow, KnowsRows}
+use Rattle.board.specs.PollerRows.{KnowsRow, KnowsRows}
 use Rattle.board.proofs.GoesLaws.{events_before}
 use Rattle.board.proofs.RowLaws.{knows_goes}
 

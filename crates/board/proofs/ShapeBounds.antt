@@ -8,7 +8,7 @@ use Rattle.std.proofs.lemmas.List.{at_drop_more}
 use Rattle.board.specs.declared.shape.RingShape.{RingShape}
 use Rattle.board.specs.declared.shape.Shape.{Shape}
 use Rattle.limits.specs.Limits.{is_capacity}
-use Rattle.board.specs.Limits.{is_ring, are_rings, are_capacities, is_shape, counts}
+use Rattle.board.specs.ShapeLimits.{is_ring, are_rings, are_capacities, is_shape, counts}
 
 -- what is left to look at, one ring on
 pub good_ring : (l : List RingShape) (i : ℕ) (d : RingShape) → i < length l → is_ring (get_or l i d) ≡ true → are_rings (drop i l) ≡ are_rings (drop (i + 1) l)

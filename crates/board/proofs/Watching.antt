@@ -20,7 +20,7 @@ use Rattle.work.specs.Board.{Facts}
 use Rattle.work.specs.Passes.{pass_of}
 use Rattle.board.specs.Calls.{LastAt, Stepped, FoundHeld}
 use Rattle.board.specs.Seats.{IsPollerSeat}
-use Rattle.board.specs.Rows.{IsOurs, Watched, Paid, Decided, Decides}
+use Rattle.board.specs.PollerRows.{IsOurs, Watched, Paid, Decided, Decides}
 use Rattle.board.specs.declared.poller.Released.{Released}
 use Rattle.board.specs.declared.poller.Released.TheVariants.{Severed as IsSevered, Freed as IsFreed, Shut as IsShut, Timer as IsTimer, NotHeld}
 use Rattle.board.proofs.GoesLaws.{goes_looked, goes_still, goes_then}

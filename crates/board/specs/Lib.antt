@@ -2,10 +2,10 @@ pub mod Batches
 pub mod Calls
 pub mod Headline
 pub mod Lanes
-pub mod Limits
+pub mod ShapeLimits
 pub mod New
 pub mod Refusals
 pub mod Remains
 pub mod Reports
-pub mod Rows
+pub mod PollerRows
 pub mod Seats

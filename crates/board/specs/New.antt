@@ -6,7 +6,7 @@ use Rattle.steps.specs.declared.parcel.Thing.{Thing}
 use Rattle.steps.specs.declared.view.Layout.{Layout}
 use Rattle.steps.specs.declared.view.View.{View}
 use Rattle.board.specs.declared.shape.Shape.{Shape}
-use Rattle.board.specs.Limits.{counts}
+use Rattle.board.specs.ShapeLimits.{counts}
 use Rattle.steps.specs.declared.view.Role.{Role}
 use Rattle.steps.specs.declared.view.Role.TheVariants.{Poller, Submitter, Idle}
 use Rattle.work.specs.Board.{Facts, IsOf}

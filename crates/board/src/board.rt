@@ -15,10 +15,10 @@ ghost use Rattle.work.specs.Passes.{seen_of, FoundNotReady, Took};
 ghost use Rattle.board.specs.declared.error.BoardError.TheVariants.{BadShape};
 ghost use Rattle.board.specs.Calls.{Goes, Finds, HasLooked, Stepped, FoundHeld, IsUnheld, MayStart, next_of};
 ghost use Rattle.board.specs.Headline.{IsCompletion, HasOnce};
-ghost use Rattle.board.specs.Limits.{counts, is_shape};
+ghost use Rattle.board.specs.ShapeLimits.{counts, is_shape};
 ghost use Rattle.board.specs.New.{IsNew, AreSubmitters, AreWorkers, IsCutting};
 ghost use Rattle.board.specs.Refusals.{RefusesReap};
-ghost use Rattle.board.specs.Rows.{KnowsRows};
+ghost use Rattle.board.specs.PollerRows.{KnowsRows};
 
 use crate::bounds::is_shape;
 use crate::completion::Completion;

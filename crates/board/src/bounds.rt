@@ -1,6 +1,6 @@
 //! The limits of a shape.
 ghost use Rattle.std.specs.Prelude.{◌≡◌};
-ghost use Rattle.board.specs.Limits as bounds;
+ghost use Rattle.board.specs.ShapeLimits as bounds;
 
 use crate::shape::{RingShape, Shape};
 use limits::{PIPES, RINGS, WORKERS, is_capacity, is_cells, is_posts};

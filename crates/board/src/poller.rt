@@ -6,7 +6,7 @@ ghost use Rattle.steps.specs.declared.view.Role.TheVariants.{Poller as PollerRol
 ghost use Rattle.steps.specs.Rule.{Looks, Shown, IsStep};
 ghost use Rattle.work.specs.Board.{IsOf};
 ghost use Rattle.work.specs.Passes.{pass_of, seen_of, CanReach};
-ghost use Rattle.board.specs.Rows.{Decides, IsAt, KnowsRows, Paid};
+ghost use Rattle.board.specs.PollerRows.{Decides, IsAt, KnowsRows, Paid};
 ghost use Rattle.board.specs.Seats.{IsPollerSeat};
 
 use crate::board::Board;
@@ -27,7 +27,7 @@ pub struct Poller {
 
 impl Model for Poller {
     ghost use Rattle.work.specs.Passes.{Pass, pass_of};
-    ghost use Rattle.board.specs.Rows.{KnowsRows};
+    ghost use Rattle.board.specs.PollerRows.{KnowsRows};
     ghost use Rattle.board.specs.Seats.{IsPollerSeat};
 
     ghost Value = { Pass };

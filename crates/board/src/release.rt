@@ -7,7 +7,7 @@ ghost use Rattle.work.specs.Board.{IsOf};
 ghost use Rattle.work.specs.Passes.{seen_of};
 ghost use Rattle.board.specs.declared.poller.Released.TheVariants.{Severed, Freed, Shut, Timer, NotHeld};
 ghost use Rattle.board.specs.Calls.{Goes, FoundHeld, IsUnheld, MayStart, Stepped};
-ghost use Rattle.board.specs.Rows.{IsCanceled, IsShutOut, MayArm, Paid, severed_by};
+ghost use Rattle.board.specs.PollerRows.{IsCanceled, IsShutOut, MayArm, Paid, severed_by};
 
 use crate::board::Board;
 use crate::poller::{Poller, Released};

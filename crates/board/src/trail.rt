@@ -2,7 +2,7 @@
 ghost use Rattle.std.specs.Prelude.{◌≡◌, ℕ, ◌+◌, ◌*◌, ◌<◌, ◌≤◌, Bool, true, false, List, Some, None, length, IfSome, IfNone};
 ghost use Rattle.claim.specs.Facts.{fits_facts};
 ghost use Rattle.entry.specs.Entry.{Entry};
-ghost use Rattle.gates.specs.Rows.{Stands, added, waiting, way_in, Waits};
+ghost use Rattle.gates.specs.EntryRows.{Stands, added, waiting, way_in, Waits};
 ghost use Rattle.board.specs.declared.poller.Released.TheVariants.{NotHeld};
 ghost use Rattle.gates.specs.Slots.{Slot, traits_of};
 ghost use Rattle.history.specs.History.{submits, phase, waits, IsReplied};
@@ -10,7 +10,7 @@ ghost use Rattle.history.specs.Chains.{Open, Severed};
 ghost use Rattle.steps.specs.Journal.{events_of};
 ghost use Rattle.steps.specs.Cells.{claim_at};
 ghost use Rattle.work.specs.Passes.{pass_of};
-ghost use Rattle.board.specs.Rows.{KnowsRow, Watches, IsNumbered, IsAt, IsOurs, Watched, Paid, owed, AreFacts, ToldFacts, TellsOutcome, looks_for, Decides, Passes, Advances};
+ghost use Rattle.board.specs.PollerRows.{KnowsRow, Watches, IsNumbered, IsAt, IsOurs, Watched, Paid, owed, AreFacts, ToldFacts, TellsOutcome, looks_for, Decides, Passes, Advances};
 ghost use Rattle.board.specs.Seats.{IsPollerSeat};
 ghost use Rattle.gates.specs.Shows.{nth};
 

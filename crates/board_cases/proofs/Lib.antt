@@ -1,1 +1,1 @@
-mod Passes
+mod PassLists

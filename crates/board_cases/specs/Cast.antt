@@ -3,7 +3,7 @@ use Rattle.std.specs.Prelude.{All}
 use Rattle.work.specs.Board.{Facts, IsOf}
 use Rattle.board_cases.specs.declared.cast.Cast.{Cast}
 use Rattle.board_cases.specs.declared.cast.Troop.{Troop}
-use Rattle.board_cases.specs.Slots.{AreIn}
+use Rattle.board_cases.specs.CastPlaces.{AreIn}
 
 -- all passes at their places are the board's own
 pub record IsCast (b : Facts) (c : Cast) : Type 0 where

@@ -1,2 +1,2 @@
 pub mod Cast
-pub mod Slots
+pub mod CastPlaces

@@ -2,7 +2,7 @@
 ghost use Rattle.std.specs.Prelude.{All, IfSome};
 ghost use Rattle.work.specs.Board.{IsOf};
 ghost use Rattle.board_cases.specs.Cast.{IsCast};
-ghost use Rattle.board_cases.specs.Slots.{AreIn};
+ghost use Rattle.board_cases.specs.CastPlaces.{AreIn};
 
 use crate::answer::{Answer, NO_PASS};
 use crate::call::{Batch, Call};

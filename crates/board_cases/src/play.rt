@@ -2,7 +2,7 @@
 ghost use Rattle.std.specs.Prelude.{◌≡◌, All, IfOk, IfErr, IfSome};
 ghost use Rattle.work.specs.Board.{IsOf};
 ghost use Rattle.board_cases.specs.Cast.{IsCast, IsTroop};
-ghost use Rattle.board_cases.specs.Slots.{AreIn};
+ghost use Rattle.board_cases.specs.CastPlaces.{AreIn};
 
 use crate::answer::{Answer, Whole};
 use crate::call::call_of;

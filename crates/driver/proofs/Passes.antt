@@ -6,7 +6,7 @@ use Rattle.work.specs.Passes.{Pass}
 use Rattle.board.specs.New.{AreSubmitters, AreWorkers}
 use Rattle.board.specs.Reports.{AreOf}
 use Rattle.driver.specs.declared.client.Client.{Client}
-use Rattle.driver.specs.Parts.{AreClientsOf, submitter_of}
+use Rattle.driver.specs.RunParts.{AreClientsOf, submitter_of}
 
 pub are_of : (b : Facts) (ps : List Pass) → All (λ p. IsOf b p) ps → AreOf b ps
 are_of b [] all = tt

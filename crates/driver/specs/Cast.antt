@@ -2,7 +2,7 @@
 use Rattle.std.specs.Prelude.{All}
 use Rattle.work.specs.Board.{IsOf}
 use Rattle.driver.specs.declared.run.Cast.{Cast}
-use Rattle.driver.specs.Parts.{AreClientsOf, IsDeskOf}
+use Rattle.driver.specs.RunParts.{AreClientsOf, IsDeskOf}
 
 -- all passes are the board's own
 pub record IsWhole (c : Cast) : Type 0 where

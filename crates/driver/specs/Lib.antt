@@ -1,2 +1,2 @@
 pub mod Cast
-pub mod Parts
+pub mod RunParts

@@ -1,6 +1,6 @@
 //! The thread with the poller and a worker: it goes round the requests until all lines are carried out.
 ghost use Rattle.work.specs.Board.{IsOf};
-ghost use Rattle.driver.specs.Parts.{IsDeskOf};
+ghost use Rattle.driver.specs.RunParts.{IsDeskOf};
 
 use crate::clock::Clock;
 use crate::stage::Stage;

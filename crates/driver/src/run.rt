@@ -1,7 +1,7 @@
 //! A script carried out.
 ghost use Rattle.std.specs.Prelude.{◌≡◌, length, map, All, IfOk};
 ghost use Rattle.work.specs.Board.{IsOf};
-ghost use Rattle.driver.specs.Parts.{submitter_of};
+ghost use Rattle.driver.specs.RunParts.{submitter_of};
 ghost use Rattle.driver.specs.Cast.{IsWhole};
 
 use crate::client::Client;

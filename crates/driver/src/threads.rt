@@ -1,7 +1,7 @@
 //! The threads of a run.
 ghost use Rattle.std.specs.Prelude.{IfOk};
 ghost use denote.Param.Send.{IsSync};
-ghost use Rattle.driver.specs.Parts.{AreClientsOf, IsDeskOf};
+ghost use Rattle.driver.specs.RunParts.{AreClientsOf, IsDeskOf};
 
 use crate::client::Client;
 use crate::lines::carry_out;

@@ -1,5 +1,5 @@
 pub mod Again
-pub mod Rows
+pub mod RowTests
 pub mod Spelled
 pub mod Completion
 pub mod Masks

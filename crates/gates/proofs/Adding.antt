@@ -8,9 +8,9 @@ use Rattle.std.proofs.lemmas.List.{length-map, map-append, drop-drop, drop-appen
 use Rattle.gates.specs.declared.cell.Behind.{Behind}
 use Rattle.gates.specs.declared.cell.Cell.{Cell}
 use Rattle.gates.specs.Slots.{Slot, slot_of, is_pending, is_draining, next_of, next_in, first, behind, test_at, passes}
-use Rattle.gates.specs.Rows.{Kept, IsFirst, Linked, IsSound, Stands, IsToldBy, without_first, added}
+use Rattle.gates.specs.EntryRows.{Kept, IsFirst, Linked, IsSound, Stands, IsToldBy, without_first, added}
 use Rattle.gates.proofs.Lists.{get_there, get_drop, get_before, get_last, one_some, slot_there}
-use Rattle.gates.proofs.Replies.{behind_same_before}
+use Rattle.gates.proofs.CellReplies.{behind_same_before}
 use Rattle.gates.proofs.Standing.{slot_exact, behind_exact}
 
 passes_dropped : (p : Slot → Bool) (cs : List Cell) (j : ℕ) → passes p (map slot_of (drop 1 cs)) j ≡ passes p (map slot_of cs) (suc j)

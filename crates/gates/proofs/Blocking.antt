@@ -11,7 +11,7 @@ use Rattle.history.proofs.Requests.{bool_cases, and_right}
 use Rattle.gates.specs.declared.cell.Behind.{Behind}
 use Rattle.gates.specs.declared.cell.Cell.{Cell}
 use Rattle.gates.specs.Slots.{Slot, slot_of, is_pending, is_draining, behind, test_at, passes}
-use Rattle.gates.specs.Rows.{Kept, IsSound, Stands, IsTurn, IsMember, blocker_by, numbered}
+use Rattle.gates.specs.EntryRows.{Kept, IsSound, Stands, IsTurn, IsMember, blocker_by, numbered}
 use Rattle.gates.specs.Shows.{nth, Blocks, IsBlocker}
 use Rattle.gates.proofs.Lists.{one_some}
 use Rattle.gates.proofs.Marks.{J, P, S, W, Join, Bars, step_held, held_by, held_from}

@@ -11,7 +11,7 @@ use Rattle.history.specs.Chains.{IsChainBefore, IsChained}
 use Rattle.history.proofs.Requests.{bool_cases, and_left, and_right}
 use Rattle.gates.specs.declared.cell.Behind.{Behind}
 use Rattle.gates.specs.Slots.{Slot, slot_of, behind}
-use Rattle.gates.specs.Rows.{Kept, IsSound, Stands, added, free_by, begins_after}
+use Rattle.gates.specs.EntryRows.{Kept, IsSound, Stands, added, free_by, begins_after}
 use Rattle.gates.specs.Shows.{nth, Shows, IsFree, IsOfChain}
 use Rattle.gates.proofs.Lists.{get_there}
 use Rattle.gates.proofs.Marks.{P, Join}

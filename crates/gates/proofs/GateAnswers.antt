@@ -13,7 +13,7 @@ use Rattle.gates.specs.declared.cell.Behind.{Behind}
 use Rattle.gates.specs.declared.cell.Cell.{Cell}
 use Rattle.gates.specs.declared.gate.Gate.TheVariants.{Severed as severed_gate}
 use Rattle.gates.specs.Slots.{Slot, slot_of, joins_of, hosts_of, is_pending, is_draining, is_target_timer, next_in, behind, test_at, passes}
-use Rattle.gates.specs.Rows.{Kept, HasCell, IsSound, Stands, clear_in, clear_by, place_by, gate_by, gate_at, gate_in, shut_or_open}
+use Rattle.gates.specs.EntryRows.{Kept, HasCell, IsSound, Stands, clear_in, clear_by, place_by, gate_by, gate_at, gate_in, shut_or_open}
 use Rattle.gates.specs.Shows.{nth, IsGate}
 use Rattle.gates.proofs.Lists.{get_there, one_some}
 use Rattle.gates.proofs.Bridge.{joins_at}

@@ -1,6 +1,6 @@
 pub mod Adding
 pub mod Agreement
-pub mod Asking
+pub mod RowAnswers
 pub mod Blocking
 pub mod Bridge
 pub mod Carried
@@ -11,7 +11,7 @@ pub mod Links
 pub mod Lists
 pub mod Marks
 pub mod Mirroring
-pub mod Replies
+pub mod CellReplies
 pub mod Standing
 pub mod TrailLaws
 pub mod Trailing

@@ -7,7 +7,7 @@ use Rattle.history.proofs.Requests.{bool_cases, and_left, and_right}
 use Rattle.gates.specs.declared.cell.Behind.{Behind}
 use Rattle.gates.specs.declared.cell.Cell.{Cell}
 use Rattle.gates.specs.Slots.{slot_of, next_of}
-use Rattle.gates.specs.Rows.{LinkedAt, Linked}
+use Rattle.gates.specs.EntryRows.{LinkedAt, Linked}
 use Rattle.gates.proofs.Lists.{get_set_same, get_set_other, one_some}
 
 abbrev pub with_behind : Cell → Behind → Cell

@@ -4,7 +4,7 @@ use Rattle.std.specs.Prelude.{IsTrue}
 use Rattle.history.specs.declared.event.Event.{Event}
 use Rattle.history.specs.History.{phase, IsReplied}
 use Rattle.gates.specs.Slots.{Slot, is_unanswered, is_pending, test_at}
-use Rattle.gates.specs.Rows.{Kept, HasCell, Stands}
+use Rattle.gates.specs.EntryRows.{Kept, HasCell, Stands}
 use Rattle.gates.specs.Shows.{nth, Mirrors, Trails}
 use Rattle.gates.proofs.Lists.{get_there}
 use Rattle.gates.proofs.Marks.{P}

@@ -8,7 +8,7 @@ use Rattle.history.proofs.Requests.{bool_cases, and_left, and_right}
 use Rattle.gates.specs.declared.cell.Behind.{Behind}
 use Rattle.gates.specs.declared.cell.Cell.{Cell}
 use Rattle.gates.specs.Slots.{Slot, slot_of, joins_of, is_pending, is_draining, is_target_timer, next_of, next_in, behind, test_at, passes}
-use Rattle.gates.specs.Rows.{Kept, HasCell, IsSound, Stands, held_of, held_at, place_by}
+use Rattle.gates.specs.EntryRows.{Kept, HasCell, IsSound, Stands, held_of, held_at, place_by}
 use Rattle.gates.proofs.Lists.{get_there, get_drop, slot_there, one_some}
 use Rattle.gates.proofs.Marks.{J, P, W, Join, step_held}
 

@@ -14,7 +14,7 @@ use Rattle.history.proofs.Growth.{submission_none, submission_stays, reply_stays
 use Rattle.history.proofs.Opening.{placed_stays, done_stays}
 use Rattle.gates.specs.declared.traits.Traits.{Traits}
 use Rattle.gates.specs.Slots.{Slot, traits_of, is_unanswered, is_pending, passes, test_at}
-use Rattle.gates.specs.Rows.{Kept, Stands, slot_with, stand_in, with_reply, answered}
+use Rattle.gates.specs.EntryRows.{Kept, Stands, slot_with, stand_in, with_reply, answered}
 use Rattle.gates.specs.Shows.{nth, IsOfChain, StandsIn, IsOutcome, TrailedAt, TrailsAt, Trails}
 use Rattle.gates.proofs.Lists.{get_before, get_last, get_set_same, get_set_other, one_some}
 use Rattle.gates.proofs.Links.{ne_of}

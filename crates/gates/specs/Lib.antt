@@ -1,3 +1,3 @@
 pub mod Slots
-pub mod Rows
+pub mod EntryRows
 pub mod Shows

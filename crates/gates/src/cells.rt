@@ -3,7 +3,7 @@ ghost use Rattle.std.specs.Prelude.{◌≡◌, ◌≢◌, ℕ, ◌+◌, ◌^◌,
 ghost use Rattle.std.specs.VecDeque.{deque_capacity};
 ghost use Rattle.gates.specs.declared.cell.Cell.{Cell};
 ghost use Rattle.gates.specs.Slots.{slot_of, passes, is_pending, is_draining};
-ghost use Rattle.gates.specs.Rows.{LinkedAt, Linked, IsFirst, held_at, IsTurn};
+ghost use Rattle.gates.specs.EntryRows.{LinkedAt, Linked, IsFirst, held_at, IsTurn};
 
 use crate::cell::{Behind, Cell};
 use std::collections::VecDeque;

@@ -3,7 +3,7 @@ ghost use Rattle.std.specs.Prelude.{◌≡◌, ◌↔◌, ◌⊎◌, IsTrue, ℕ
 ghost use Rattle.history.specs.declared.event.Event.{Event};
 ghost use Rattle.gates.specs.declared.cell.Cell.{Cell};
 ghost use Rattle.gates.specs.Slots.{Slot, first, passes, is_pending};
-ghost use Rattle.gates.specs.Rows.{Kept, HasCell, Stands, added, new_slot, slot_with, stand_in, with_reply, Waits, waiting, way_in, asked_by, gate_in, clear_in, place_by, without_first, IsToldBy, free_by, IsMember, blocker_by, IsBlockerAt};
+ghost use Rattle.gates.specs.EntryRows.{Kept, HasCell, Stands, added, new_slot, slot_with, stand_in, with_reply, Waits, waiting, way_in, asked_by, gate_in, clear_in, place_by, without_first, IsToldBy, free_by, IsMember, blocker_by, IsBlockerAt};
 ghost use Rattle.history.specs.History.{IsReplied, phase};
 ghost use Rattle.gates.specs.Shows.{nth, Shows, Mirrors, Trails, IsGate, IsAsked, IsTargetOf, IsBlocker, IsFree, IsOfChain, named_in};
 
@@ -34,7 +34,7 @@ pub struct Row {
 impl Model for Row {
     ghost use Rattle.std.specs.Prelude.{◌≤◌};
     ghost use Rattle.std.specs.VecDeque.{deque_capacity};
-    ghost use Rattle.gates.specs.Rows.{Kept, IsSound};
+    ghost use Rattle.gates.specs.EntryRows.{Kept, IsSound};
 
     ghost Value = { Kept };
 

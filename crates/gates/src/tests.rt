@@ -1,6 +1,6 @@
 //! Rows by the rules of chains, drains and link timeouts, at their limits.
 ghost use Rattle.std.specs.Prelude.{◌≡◌, ◌+◌, ◌^◌, ◌<◌};
-ghost use Rattle.gates.specs.Rows.{added};
+ghost use Rattle.gates.specs.EntryRows.{added};
 
 use crate::{Asked, Gate, Row, RowFull, Traits};
 use entry::{Row as Columns, Sqe};

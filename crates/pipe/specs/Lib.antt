@@ -1,3 +1,3 @@
-pub mod Answers
+pub mod PipeAnswers
 pub mod Inside
 pub mod Pipe

@@ -1,7 +1,7 @@
 //! The pipe.
 ghost use Rattle.std.specs.Prelude.{◌≡◌, ◌<◌, ◌≤◌, ◌↔◌, ◌⊎◌, ◌++◌, length, take, drop, nat_lt, nat_le, if◌then◌else◌, IfOk, IsErrOf};
 ghost use Rattle.pipe.specs.Pipe.{IsConduit};
-ghost use Rattle.pipe.specs.Answers.{new_conduit, answer_read, answer_write, answer_close, answer_poll, is_shut, events_at, free_in, moved, IfNow, OnIdle, after_read, after_write, after_close};
+ghost use Rattle.pipe.specs.PipeAnswers.{new_conduit, answer_read, answer_write, answer_close, answer_poll, is_shut, events_at, free_in, moved, IfNow, OnIdle, after_read, after_write, after_close};
 
 use crate::ends::End;
 use crate::errno::{EBADF, EPIPE};

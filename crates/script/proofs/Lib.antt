@@ -1,3 +1,3 @@
 mod LongerLists
 pub mod Items
-pub mod Kept
+pub mod CountedLines

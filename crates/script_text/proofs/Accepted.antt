@@ -21,14 +21,14 @@ use Rattle.script_text.specs.Acts.{deed, deeds, deeds_at}
 use Rattle.script_text.specs.Parts.{Stands, all_entered, entered}
 use Rattle.script_text.specs.Scripts.{IsFaultless}
 use Rattle.script_text.specs.Sentences.{Sentence, above_of, line_at}
-use Rattle.script_text.specs.Words.{is_same}
+use Rattle.script_text.specs.TextWords.{is_same}
 use Rattle.script_text.proofs.CleanActs.{AtRing, deed_fits, ring_ok}
 use Rattle.script_text.proofs.CleanClock.{clock_fits, clock_ok, deeds_rise, rises_ok, timed_at}
 use Rattle.script_text.proofs.CleanEntries.{distinct, entries_ok, entry_ok, labels_ok}
 use Rattle.script_text.proofs.CleanLines.{AreClean, clean_above, is_clean, pipes_ok, rings_ok, some_ring}
 use Rattle.script_text.proofs.CleanSubmits.{often, once_each, places_in_deeds, sum_same, sum_to, often_append}
 use Rattle.script_text.proofs.LinesAbove.{above_all}
-use Rattle.script_text.proofs.Steps.{as_many_entries, entries_of_parts, label_of, label_stated, labels_in}
+use Rattle.script_text.proofs.ReadingLines.{as_many_entries, entries_of_parts, label_of, label_stated, labels_in}
 
 -- ---- the rules, by what lines say
 

@@ -18,10 +18,10 @@ use Rattle.script_text.specs.EntryLines.{Stated, declares, label_faults, line_of
 use Rattle.script_text.specs.LineFaults.{Standing, is_longer, is_long_batch}
 use Rattle.script_text.specs.Scripts.{is_left, standing_in}
 use Rattle.script_text.specs.Sentences.{Sentence, first_of}
-use Rattle.script_text.specs.Words.{word_at}
+use Rattle.script_text.specs.TextWords.{word_at}
 use Rattle.script_text.proofs.CleanLines.{AreClean, is_clean}
 use Rattle.script_text.proofs.NoFault.{IsClean, IsCleanIf, both_nil, no_fault_if}
-use Rattle.script_text.proofs.Steps.{stated_bounds}
+use Rattle.script_text.proofs.ReadingLines.{stated_bounds}
 
 -- ---- actors
 

@@ -29,7 +29,7 @@ use Rattle.script_text.specs.LineFaults.{Standing, may_be_timer}
 use Rattle.script_text.specs.Noted.{number_or, range_faults}
 use Rattle.script_text.specs.Scripts.{is_left, standing_in}
 use Rattle.script_text.specs.Sentences.{Sentence, first_of}
-use Rattle.script_text.specs.Words.{word_at}
+use Rattle.script_text.specs.TextWords.{word_at}
 use Rattle.script_text.proofs.CleanLines.{AreClean, is_clean, number_within}
 use Rattle.script_text.proofs.CleanActs.{clock_is, has_place, place_below, same_clock}
 use Rattle.script_text.proofs.NoFault.{IsClean, IsCleanIf, is_ring_from_pending}

@@ -26,10 +26,10 @@ use Rattle.script_text.specs.Noted.{number_faults}
 use Rattle.script_text.specs.Options.{bit_if, flags_in, has_etime, has_option, option_faults}
 use Rattle.script_text.specs.Scripts.{is_left, standing_in}
 use Rattle.script_text.specs.Sentences.{Sentence, first_of}
-use Rattle.script_text.specs.Words.{is_same, word_at}
+use Rattle.script_text.specs.TextWords.{is_same, word_at}
 use Rattle.script_text.proofs.CleanLines.{AreClean, is_clean, number_within}
 use Rattle.script_text.proofs.NoFault.{IsClean, IsCleanIf, both_nil, clean_entry, long_entry, no_fault_if}
-use Rattle.script_text.proofs.Steps.{any_map, label_stated}
+use Rattle.script_text.proofs.ReadingLines.{any_map, label_stated}
 
 -- ---- flags
 

@@ -20,7 +20,7 @@ use Rattle.script_text.specs.LineFaults.{Standing}
 use Rattle.script_text.specs.Noted.{number_or}
 use Rattle.script_text.specs.Scripts.{IsFaultless, faults_of, is_headless, is_left, standing_in}
 use Rattle.script_text.specs.Sentences.{Sentence, above_of, first_of}
-use Rattle.script_text.specs.Words.{word_at}
+use Rattle.script_text.specs.TextWords.{word_at}
 use Rattle.script_text.proofs.LinesAbove.{above_more, length_above}
 use Rattle.script_text.proofs.NoFault.{IsClean, IsCleanIf, IsCleanLine, both_nil, clean_line, few_rings, no_fault_if}
 

@@ -17,7 +17,7 @@ use Rattle.script_text.specs.Actors.{IsKnown, is_ring}
 use Rattle.script_text.specs.EntryLines.{Stated}
 use Rattle.script_text.specs.LineFaults.{Standing}
 use Rattle.script_text.specs.Noted.{number_or}
-use Rattle.script_text.specs.Words.{word_at}
+use Rattle.script_text.specs.TextWords.{word_at}
 use Rattle.script_text.specs.Scripts.{is_left, standing_in}
 use Rattle.script_text.specs.Sentences.{Sentence, first_of}
 use Rattle.script_text.proofs.CleanLines.{AreClean, is_clean}

@@ -18,7 +18,7 @@ use Rattle.std.proofs.lemmas.Slice.Eq.{bytes_eq-Decides}
 use Rattle.script_text.specs.declared.declared_line.Declared.{Declared}
 use Rattle.script_text.specs.EntryLines.{Stated, all_stated, declares, found_stated, line_of, place_of, stated}
 use Rattle.script_text.specs.Labels.{Adds, known_or, place_at}
-use Rattle.script_text.specs.Words.{is_same}
+use Rattle.script_text.specs.TextWords.{is_same}
 use Rattle.script_text.proofs.Mapped.{stated_of_found}
 
 -- ---- one entry line more

@@ -6,7 +6,7 @@ pub mod LinesAbove
 pub mod NoFault
 pub mod RingLines
 pub mod Entering
-pub mod Steps
+pub mod ReadingLines
 pub mod ReadTexts
 pub mod CleanLines
 pub mod CleanActs
@@ -15,5 +15,5 @@ pub mod CleanSubmits
 pub mod CleanEntries
 pub mod Accepted
 pub mod RawEntries
-pub mod Tables
+pub mod TableLines
 pub mod Histories

@@ -5,7 +5,7 @@ use Rattle.std.specs.Option.{option_map}
 use Rattle.script_text.specs.declared.declared_line.Declared.{Declared}
 use Rattle.script_text.specs.EntryLines.{found_stated, stated}
 use Rattle.script_text.specs.Options.{given_user_data, is_user_data, user_data_in}
-use Rattle.script_text.specs.Words.{now_of, texts}
+use Rattle.script_text.specs.TextWords.{now_of, texts}
 
 pub list_any-texts : (p : List ℕ → Bool) (ws : List (Bor (List ℕ))) → list_any p (texts ws) ≡ list_any (λ w. p w.now) ws
 list_any-texts p [] = refl

@@ -17,7 +17,7 @@ use Rattle.script_text.specs.EntryLines.{Stated}
 use Rattle.script_text.specs.Keywords.{arguments_of, keyword_of, kind_of}
 use Rattle.script_text.specs.LineFaults.{Standing, first_faults, in_place, is_short, keyword_faults, line_faults, own_faults, pending_of, word_faults}
 use Rattle.script_text.specs.Noted.{fault_if}
-use Rattle.script_text.specs.Words.{is_plain, word_at}
+use Rattle.script_text.specs.TextWords.{is_plain, word_at}
 
 pub both_nil : {A : Type 0} (xs ys : List A) → xs ++ ys ≡ [] → (xs ≡ []) × (ys ≡ [])
 both_nil [] ys e = (refl, e)

@@ -11,10 +11,10 @@ use Rattle.script_text.specs.Kept.{IsFaultAmong}
 use Rattle.script_text.specs.Parts.{entered}
 use Rattle.script_text.specs.Scripts.{IsFaultless, IsScriptOf, IsToldOf, is_headless, is_left, standing_in}
 use Rattle.script_text.specs.Sentences.{AreSentences, Sentence, above_of, first_of, line_at}
-use Rattle.script_text.specs.Words.{IsPlain, text_lines, without_end}
+use Rattle.script_text.specs.TextWords.{IsPlain, text_lines, without_end}
 use Rattle.script_text.proofs.LinesAbove.{sentences_all}
 use Rattle.script_text.proofs.NoFault.{clean_line}
-use Rattle.script_text.proofs.Steps.{as_many_entries, stated_bounds}
+use Rattle.script_text.proofs.ReadingLines.{as_many_entries, stated_bounds}
 
 pub some_line : (bytes : List ℕ) → 1 ≤ length (text_lines bytes)
 unfolding text_lines

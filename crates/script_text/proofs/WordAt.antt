@@ -3,7 +3,7 @@ use Rattle.std.proofs.Common.{◌≡◌, ℕ, true, false, List, [], Bor, None, 
 use Rattle.std.specs.Prelude.{nat_lt, slice_get}
 use Rattle.std.proofs.lemmas.Option.{slice_get-get_or, slice_get-map, slice_get_past}
 use borrow.Author.Tests.{ltb-true, ltb-false}
-use Rattle.script_text.specs.Words.{texts, word_at}
+use Rattle.script_text.specs.TextWords.{texts, word_at}
 
 pub word_at-some : (ws : List (Bor (List ℕ))) (n : ℕ) (w : Bor (List ℕ)) → true ≡ nat_lt n (length ws) → w ≡ get_or ws n w → w.now ≡ word_at (texts ws) n
 word_at-some ws n w lt is =

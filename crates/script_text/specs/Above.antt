@@ -15,7 +15,7 @@ use Rattle.script_text.specs.LineEntries.{line_buffer, line_entry, posts_in}
 use Rattle.script_text.specs.Noted.{number_or}
 use Rattle.script_text.specs.Options.{given_user_data}
 use Rattle.script_text.specs.Sentences.{Sentence, first_of}
-use Rattle.script_text.specs.Words.{word_at}
+use Rattle.script_text.specs.TextWords.{word_at}
 
 -- ---- pipes and rings: each such line declares the next one
 

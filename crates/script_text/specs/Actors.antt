@@ -3,7 +3,7 @@ use Rattle.std.specs.Prelude.{ℕ, ◌<◌, Bool, true, false, List, Option, Som
 use Rattle.text.specs.Number.{number_in}
 use Rattle.script_text.specs.declared.actor.Actor.{Actor}
 use Rattle.script_text.specs.declared.actor.Actor.TheVariants as actor
-use Rattle.script_text.specs.Words.{is_same}
+use Rattle.script_text.specs.TextWords.{is_same}
 
 abbrev pub is_start : Actor → Bool
 is_start actor.Start = true

@@ -19,7 +19,7 @@ use Rattle.script_text.specs.declared.declared_line.Declared.{Declared}
 use Rattle.script_text.specs.Keywords.{arguments_of}
 use Rattle.script_text.specs.Noted.{fault_if, long_faults, long_or, number_faults, number_or}
 use Rattle.script_text.specs.Options.{flags_in, given_user_data, has_etime, is_user_data, option_faults, user_data_in}
-use Rattle.script_text.specs.Words.{is_same, word_at}
+use Rattle.script_text.specs.TextWords.{is_same, word_at}
 
 -- ---- labels
 

@@ -1,6 +1,6 @@
 -- What reading a script keeps true.
 use Rattle.std.specs.Prelude.{ℕ, ◌≤◌, List, length, Option, IsSome, IfSome}
-use Rattle.script_text.specs.Words.{text_lines}
+use Rattle.script_text.specs.TextWords.{text_lines}
 use Rattle.script_text.specs.declared.fault.Fault.{Fault}
 use Rattle.script_text.specs.declared.fault.Fault.TheVariants.{BadTable}
 use Rattle.script_text.specs.declared.fault.ScriptFault.{ScriptFault}

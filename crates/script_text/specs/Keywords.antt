@@ -4,7 +4,7 @@ use Rattle.script_text.specs.declared.keyword.Kind.{Kind}
 use Rattle.script_text.specs.declared.keyword.Kind.TheVariants.{Nop, Read, Write, Close, Poll, Timeout, LinkTimeout, Cancel, Remove, Raw}
 use Rattle.script_text.specs.declared.keyword.Keyword.{Keyword}
 use Rattle.script_text.specs.declared.keyword.Keyword.TheVariants.{Pipe, Ring, On, Submit, Wait, Tick, Armed, Entry}
-use Rattle.script_text.specs.Words.{is_same}
+use Rattle.script_text.specs.TextWords.{is_same}
 
 -- what a first word asks for, if it is one of those
 unfoldable pub kind_of : List ℕ → Option Kind

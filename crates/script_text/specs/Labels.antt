@@ -6,7 +6,7 @@ use Rattle.std.specs.Cmp.Lexicographic.{slice_cmp}
 use Rattle.std.specs.Ordering.{nat_cmp}
 use Rattle.script_text.specs.declared.declared_line.Declared.{Declared}
 use Rattle.script_text.specs.EntryLines.{all_stated, place_of}
-use Rattle.script_text.specs.Words.{is_same}
+use Rattle.script_text.specs.TextWords.{is_same}
 
 -- the place that the index has for a label
 abbrev pub place_at : BTreeMap (Bor (List ℕ)) ℕ → List ℕ → Option ℕ

@@ -1,4 +1,4 @@
-pub mod Words
+pub mod TextWords
 pub mod Keywords
 pub mod Noted
 pub mod Options

@@ -11,7 +11,7 @@ use Rattle.script_text.specs.declared.keyword.Keyword.TheVariants.{Entry as Entr
 use Rattle.script_text.specs.EntryLines.{IsRawEntry, Stated, buffer_in, entry_of, raw_buffer}
 use Rattle.script_text.specs.Keywords.{is_raw}
 use Rattle.script_text.specs.Noted.{number_or}
-use Rattle.script_text.specs.Words.{word_at}
+use Rattle.script_text.specs.TextWords.{word_at}
 
 abbrev pub is_raw_line : Option Keyword → Bool
 is_raw_line (Some (EntryLine kind)) = is_raw kind

@@ -16,7 +16,7 @@ use Rattle.script_text.specs.Actors.{is_clock, is_ring, is_start, is_stranger, n
 use Rattle.script_text.specs.EntryLines.{Stated, entry_faults, label_faults, line_of, raw_faults}
 use Rattle.script_text.specs.Keywords.{is_raw, is_timer, keyword_of, least_words, most_words}
 use Rattle.script_text.specs.Noted.{fault_if, number_faults, number_or}
-use Rattle.script_text.specs.Words.{is_plain, word_at}
+use Rattle.script_text.specs.TextWords.{is_plain, word_at}
 
 -- what stands above a line, as far as its faults depend on it
 pub record Standing : Type 0 where

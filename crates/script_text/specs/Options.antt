@@ -7,7 +7,7 @@ use Rattle.script_text.specs.declared.fault.Fault.TheVariants.{UnknownWord, Extr
 use Rattle.script_text.specs.declared.keyword.Kind.{Kind}
 use Rattle.script_text.specs.declared.keyword.Kind.TheVariants.{Timeout}
 use Rattle.script_text.specs.Noted.{fault_if}
-use Rattle.script_text.specs.Words.{is_same}
+use Rattle.script_text.specs.TextWords.{is_same}
 
 -- the option `ud=NUMBER`, whatever its number
 abbrev pub is_user_data : List ℕ → Bool

@@ -15,7 +15,7 @@ use Rattle.script_text.specs.Acts.{deeds, deeds_at, pending_at}
 use Rattle.script_text.specs.EntryLines.{Stated}
 use Rattle.script_text.specs.LineFaults.{Standing}
 use Rattle.script_text.specs.Sentences.{Sentence}
-use Rattle.script_text.specs.Words.{is_same, word_at}
+use Rattle.script_text.specs.TextWords.{is_same, word_at}
 
 -- ---- what they stand for
 

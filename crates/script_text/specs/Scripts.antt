@@ -15,7 +15,7 @@ use Rattle.script_text.specs.Noted.{IsFirst}
 use Rattle.script_text.specs.Acts.{deeds, deeds_at}
 use Rattle.script_text.specs.Parts.{all_entered}
 use Rattle.script_text.specs.Sentences.{AreSentences, Sentence, above_of, line_at}
-use Rattle.script_text.specs.Words.{text_lines}
+use Rattle.script_text.specs.TextWords.{text_lines}
 
 -- ---- faults
 

@@ -5,7 +5,7 @@ use Rattle.script_text.specs.declared.keyword.Keyword.{Keyword}
 use Rattle.script_text.specs.declared.line.Line.{Line}
 use Rattle.script_text.specs.Keywords.{keyword_of}
 use Rattle.script_text.specs.LineEntries.{IsGiven}
-use Rattle.script_text.specs.Words.{said, texts, word_at}
+use Rattle.script_text.specs.TextWords.{said, texts, word_at}
 
 pub record Sentence : Type 0 where
   pub text : List ℕ

@@ -6,7 +6,7 @@ ghost use Rattle.script_text.specs.EntryLines.{all_stated, argument_faults, buff
 ghost use Rattle.script_text.specs.Options.{has_etime};
 ghost use Rattle.script_text.specs.Kept.{KeepsFault};
 ghost use Rattle.script_text.specs.Noted.{long_or, number_or, with_faults};
-ghost use Rattle.script_text.specs.Words.{texts};
+ghost use Rattle.script_text.specs.TextWords.{texts};
 
 use crate::declared_line::{note_target, target_in};
 use crate::fault::Fault;

@@ -4,7 +4,7 @@ ghost use Rattle.entry.specs.Entry.{Entry};
 ghost use Rattle.script_text.specs.Keywords.{keyword_of};
 ghost use Rattle.script_text.specs.LineEntries.{IsGiven, is_raw_line};
 ghost use Rattle.script_text.specs.Sentences.{AreSentences, IsSentence, Sentence, sentence, sentences};
-ghost use Rattle.script_text.specs.Words.{texts, word_at};
+ghost use Rattle.script_text.specs.TextWords.{texts, word_at};
 
 use crate::keyword::Keyword;
 use crate::raw::raw_entry;

@@ -10,7 +10,7 @@ ghost use Rattle.script_text.specs.Parts.{has_label, standing};
 ghost use Rattle.script_text.specs.Sentences.{sentence};
 ghost use Rattle.script_text.specs.Keywords.{most_words};
 ghost use Rattle.script_text.specs.Noted.{IsFirst, with_faults};
-ghost use Rattle.script_text.specs.Words.{texts};
+ghost use Rattle.script_text.specs.TextWords.{texts};
 
 use crate::actor::Actor;
 use crate::declared_line::note_label;

@@ -6,7 +6,7 @@ ghost use Rattle.script_text.specs.Kept.{KeepsFault};
 ghost use Rattle.script_text.specs.Keywords.{arguments_of};
 ghost use Rattle.script_text.specs.Noted.{with_faults};
 ghost use Rattle.script_text.specs.Options.{bit_if, flags_in, given_user_data, has_etime, has_option, has_twice, has_user_data_twice, is_bad_user_data, is_option, is_user_data, option_faults, repeats, takes_etime, user_data_in};
-ghost use Rattle.script_text.specs.Words.{texts};
+ghost use Rattle.script_text.specs.TextWords.{texts};
 
 use crate::fault::Fault;
 use crate::faults::Faults;

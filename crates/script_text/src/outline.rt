@@ -4,7 +4,7 @@ ghost use Rattle.script_text.specs.Above.{is_same_actor, last_submit_with, state
 ghost use Rattle.script_text.specs.EntryLines.{all_stated};
 ghost use Rattle.script_text.specs.Outlined.{Notes, Outlines, is_unsubmitted, last_of};
 ghost use Rattle.script_text.specs.Sentences.{sentence, sentences};
-ghost use Rattle.script_text.specs.Words.{texts};
+ghost use Rattle.script_text.specs.TextWords.{texts};
 
 use crate::actor::Actor;
 use crate::declared_line::Declared;

@@ -6,7 +6,7 @@ ghost use Rattle.script_text.specs.EntryLines.{Stated, all_stated};
 ghost use Rattle.script_text.specs.LineEntries.{line_buffer, line_entry, posts_in};
 ghost use Rattle.script_text.specs.Parts.{Fits, IsEven, Stands, Takes, entered};
 ghost use Rattle.script_text.specs.Sentences.{first_of, sentence};
-ghost use Rattle.script_text.specs.Words.{texts, word_at};
+ghost use Rattle.script_text.specs.TextWords.{texts, word_at};
 
 use crate::actor::Actor;
 use crate::acts::Acts;

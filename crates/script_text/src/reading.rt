@@ -7,7 +7,7 @@ ghost use Rattle.script_text.specs.Parts.{IsEven, Stands, Takes};
 ghost use Rattle.script_text.specs.Scripts.{HasNoFault, IsFaultless, IsScriptOf, IsToldHere, IsToldOf, IsToldOfText, SaysScript};
 ghost use Rattle.script_text.specs.Above.{stated_in};
 ghost use Rattle.script_text.specs.Sentences.{first_of, sentence, sentences};
-ghost use Rattle.script_text.specs.Words.{IsPlain, text_lines};
+ghost use Rattle.script_text.specs.TextWords.{IsPlain, text_lines};
 
 use crate::fault::{Fault, ScriptFault};
 use crate::line::{Line, read_lines};

@@ -1,6 +1,6 @@
 //! The lines of a text, and the words of a line.
 ghost use Rattle.std.specs.Prelude.{◌≡◌, IfOk};
-ghost use Rattle.script_text.specs.Words.{is_comment, is_plain, is_same, said, text_lines, texts, without_end, word_at, words_in};
+ghost use Rattle.script_text.specs.TextWords.{is_comment, is_plain, is_same, said, text_lines, texts, without_end, word_at, words_in};
 
 use std::alloc::{AllocError, Global};
 

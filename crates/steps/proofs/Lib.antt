@@ -9,7 +9,7 @@ pub mod CellNumbers
 pub mod LoadReleaseBegin
 pub mod Roles
 pub mod ReplyPark
-pub mod Severing
+pub mod SeverStep
 pub mod Served
 pub mod NewSlots
 pub mod RuleKept

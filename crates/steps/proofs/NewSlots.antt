@@ -7,7 +7,7 @@ use lib.ListN.{get_elem?}
 use Rattle.atomic_table.proofs.Lists.{at_longer}
 use Rattle.history.specs.Pipes.{untouched}
 use Rattle.pipe.specs.Pipe.{Conduit}
-use Rattle.pipe.specs.Answers.{new_conduit}
+use Rattle.pipe.specs.PipeAnswers.{new_conduit}
 use Rattle.steps.specs.declared.parcel.Thing.{Thing}
 use Rattle.steps.specs.declared.parcel.Thing.TheVariants.{Piped}
 use Rattle.steps.specs.Cells.{PipeIs, AreNewSlots}

@@ -8,7 +8,7 @@ use Rattle.history.specs.declared.req.Req.{Req}
 use Rattle.history.proofs.Requests.{same_itself}
 use Rattle.wheel.specs.declared.sorted.Timer.{Timer}
 use Rattle.wheel.specs.Deadlines.{IsFirstDue}
-use Rattle.wheel.specs.Lists.{InOrder, deadline_in}
+use Rattle.wheel.specs.TimerLists.{InOrder, deadline_in}
 use Rattle.wheel.specs.Wheel.{Deadlines, IsLeast, IsWheel, deadline_at, earlier_of, front_of, in_slot, slot_list}
 use Rattle.wheel.proofs.Slotting.{from_slot, own_slot}
 use Rattle.wheel.proofs.Sorting.{from_first}

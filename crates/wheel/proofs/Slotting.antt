@@ -8,7 +8,7 @@ use Rattle.history.specs.History.{same}
 use Rattle.history.proofs.Requests.{same_true}
 use Rattle.wheel.specs.declared.sorted.Timer.{Timer}
 use Rattle.wheel.specs.Deadlines.{armed, dropped}
-use Rattle.wheel.specs.Lists.{deadline_in}
+use Rattle.wheel.specs.TimerLists.{deadline_in}
 use Rattle.wheel.specs.Wheel.{Deadlines, IsWheel, deadline_at, in_slot, slot_list}
 
 -- the slot of a deadline has it, and no other slot has

@@ -10,7 +10,7 @@ use Rattle.history.specs.History.{same}
 use Rattle.history.proofs.Requests.{bool_cases, not_true, same_itself, same_true, same_false}
 use Rattle.wheel.specs.declared.sorted.Timer.{Timer}
 use Rattle.wheel.specs.Deadlines.{armed, dropped, IsFirstDue}
-use Rattle.wheel.specs.Lists.{deadline_in, AllFrom, InOrder, without, with_timer}
+use Rattle.wheel.specs.TimerLists.{deadline_in, AllFrom, InOrder, without, with_timer}
 
 -- two names of one request
 same_as : (a b q : Req) → same a b ≡ true → same a q ≡ same b q

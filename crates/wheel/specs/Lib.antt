@@ -1,4 +1,4 @@
 pub mod Deadlines
-pub mod Lists
-pub mod Runs
+pub mod TimerLists
+pub mod CallRuns
 pub mod Wheel

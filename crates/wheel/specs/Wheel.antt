@@ -4,7 +4,7 @@ use Rattle.std.specs.List.{slice_index_or}
 use Rattle.std.specs.Map.{lookup}
 use Rattle.history.specs.declared.req.Req.{Req}
 use Rattle.wheel.specs.declared.sorted.Timer.{Timer}
-use Rattle.wheel.specs.Lists.{deadline_in}
+use Rattle.wheel.specs.TimerLists.{deadline_in}
 
 abbrev pub no_timers : List Timer
 no_timers = []

@@ -1,6 +1,6 @@
 //! Lists of calls on a set of timers, whatever set it is.
 ghost use Rattle.std.specs.Prelude.{◌≡◌, ℕ, List, take, IfOk, OnOk, OnErr};
-ghost use Rattle.wheel.specs.Runs.{Answers, Runs};
+ghost use Rattle.wheel.specs.CallRuns.{Answers, Runs};
 ghost use Rattle.wheel.specs.declared.calls.Answer.{Answer};
 
 use crate::error::Memory;

@@ -1,7 +1,7 @@
 //! The slots of a wheel.
 ghost use Rattle.std.specs.Prelude.{◌≡◌, ℕ, ◌+◌, ◌≢◌, [], OnOk, OnErr};
 ghost use Rattle.wheel.specs.Deadlines.{armed, dropped};
-ghost use Rattle.wheel.specs.Lists.{InOrder, deadline_in};
+ghost use Rattle.wheel.specs.TimerLists.{InOrder, deadline_in};
 ghost use Rattle.wheel.specs.Wheel.{front_of, no_timers, slot_list};
 
 use crate::error::Memory;

@@ -2,7 +2,7 @@
 ghost use Rattle.std.specs.Prelude.{◌≡◌, ◌<◌, ◌≤◌, ℕ, ◌∷◌, [], length, vec_len, vec_capacity, not, filter, MatchOption, Some, slice_get};
 ghost use Rattle.history.specs.History.{same};
 ghost use Rattle.wheel.specs.declared.sorted.Timer.{Timer};
-ghost use Rattle.wheel.specs.Lists.{InOrder};
+ghost use Rattle.wheel.specs.TimerLists.{InOrder};
 
 use crate::error::Memory;
 use crate::set::TimerSet;
@@ -26,7 +26,7 @@ pub struct SortedTimers {
 impl Model for SortedTimers {
     ghost use Rattle.std.specs.Prelude.{List};
     ghost use Rattle.wheel.specs.declared.sorted.Timer.{Timer};
-    ghost use Rattle.wheel.specs.Lists.{InOrder};
+    ghost use Rattle.wheel.specs.TimerLists.{InOrder};
 
     ghost Value = { List Timer };
 
@@ -84,7 +84,7 @@ fn place(timers: &[Timer], at: u32) -> usize
 }
 
 impl TimerSet for SortedTimers {
-    ghost use Rattle.wheel.specs.Lists.{deadline_in};
+    ghost use Rattle.wheel.specs.TimerLists.{deadline_in};
 
     ghost deadline = { deadline_in };
 

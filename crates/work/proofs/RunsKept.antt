@@ -5,7 +5,7 @@ use Rattle.std.proofs.lemmas.List.{append_assoc}
 use Rattle.atomic_table.specs.Table.{rest, turned}
 use Rattle.atomic_table.specs.Seated.{TableId}
 use Rattle.answers.specs.Answered.{IsPipe, is_plain, IsPast}
-use Rattle.answers.specs.Ends.{pipe_with, pipe_in}
+use Rattle.answers.specs.NamedEnds.{pipe_with, pipe_in}
 use Rattle.entry.specs.declared.op.Op.{Op}
 use Rattle.entry.specs.declared.op.Op.TheVariants.{Nop, Close, Read, Write, PollAdd, LinkTimeout, Invalid}
 use Rattle.entry.specs.Entry.{Entry}
@@ -38,7 +38,7 @@ use Rattle.steps.proofs.Served.{fits_is, serves_is}
 use Rattle.steps.proofs.ViewsKept.{layout_after, role_after, parts_after, parcel_after}
 use Rattle.work.specs.Board.{Facts, IsOf, share_of}
 use Rattle.work.specs.Passes.{Pass, Took, RunsIt, own_of}
-use Rattle.work.specs.Runs.{EndsBy, names, op_run, run_as}
+use Rattle.work.specs.WorkerRuns.{EndsBy, names, op_run, run_as}
 use Rattle.work.proofs.OwnEvents.{own_append, silent_own}
 use Rattle.work.proofs.PassesKept.{extended_of}
 

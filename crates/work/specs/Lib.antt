@@ -1,4 +1,4 @@
 pub mod Board
 pub mod Grid
 pub mod Passes
-pub mod Runs
+pub mod WorkerRuns

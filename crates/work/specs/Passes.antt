@@ -7,7 +7,7 @@ use Rattle.history.specs.declared.event.Event.{Event}
 use Rattle.history.specs.Pipes.{flow}
 use Rattle.pipe.specs.Pipe.{Conduit}
 use Rattle.answers.specs.Answered.{IsPipe}
-use Rattle.answers.specs.Ends.{pipe_in}
+use Rattle.answers.specs.NamedEnds.{pipe_in}
 use Rattle.steps.specs.declared.line.Line.{Line}
 use Rattle.steps.specs.declared.parcel.Parcel.{Parcel}
 use Rattle.steps.specs.declared.parcel.Thing.{Thing}

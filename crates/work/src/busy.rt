@@ -5,7 +5,7 @@ ghost use Rattle.entry.specs.Entry.{Entry};
 ghost use Rattle.history.specs.declared.event.Event.TheVariants.{Park, Reply};
 ghost use Rattle.history.specs.Chains.{IsPlaced};
 ghost use Rattle.answers.specs.Answered.{IsPast};
-ghost use Rattle.answers.specs.Ends.{pipe_in};
+ghost use Rattle.answers.specs.NamedEnds.{pipe_in};
 ghost use Rattle.steps.specs.declared.line.Line.TheVariants.{Did, Hold};
 ghost use Rattle.steps.specs.declared.parcel.Thing.TheVariants.{Full};
 ghost use Rattle.steps.specs.declared.view.Role.TheVariants.{Idle, Busy as RoleBusy};
@@ -75,7 +75,7 @@ pub(crate) fn put_back(words: &Words, seat: &mut TableSeat, cell: usize, parcel:
 
 impl<'a> Busy<'a> {
     ghost use Rattle.work.specs.Passes.{Took, seen_of};
-    ghost use Rattle.work.specs.Runs.{IsRun, MissedPipe, names, run_steps};
+    ghost use Rattle.work.specs.WorkerRuns.{IsRun, MissedPipe, names, run_steps};
 
     /// Puts the request back to Ready.
     pub fn park(self) -> Worker

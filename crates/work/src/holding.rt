@@ -43,7 +43,7 @@ impl<'a> Model for Holding<'a> {
 
 impl<'a> Holding<'a> {
     ghost use Rattle.work.specs.Passes.{seen_of};
-    ghost use Rattle.work.specs.Runs.{Unanswered};
+    ghost use Rattle.work.specs.WorkerRuns.{Unanswered};
 
     /// Answers the request by its pipe, and gives the pipe back; or gives it back as it was, where there is no answer now.
     pub(crate) fn answer(self) -> Result<(Worker, Cqe), Busy<'a>>

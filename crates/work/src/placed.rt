@@ -1,7 +1,7 @@
 //! The entry that a worker runs, as it is placed.
 ghost use Rattle.std.specs.Prelude.{◌≡◌};
 ghost use Rattle.entry.specs.Entry.{fails as fails_with};
-ghost use Rattle.work.specs.Runs.{op_run, run_as};
+ghost use Rattle.work.specs.WorkerRuns.{op_run, run_as};
 
 use entry::{Op, Sqe, fails};
 use steps::facts::is_link_timeout;

@@ -3,7 +3,7 @@ use Rattle.std.proofs.lemmas.Int.{to_z_pos, to_z-of_z}
 use Rattle.history.specs.Pipes.{end_of}
 use Rattle.pipe.specs.declared.ends.End.TheVariants.{Read}
 use Rattle.pipe.specs.declared.ready.Ready.TheVariants.{Now}
-use Rattle.answers.specs.Ends.{IsSide}
+use Rattle.answers.specs.NamedEnds.{IsSide}
 use Rattle.answers.proofs.Operating.{read_does, side_read}
 use Rattle.answers.proofs.piped.read.Goals as goal
 

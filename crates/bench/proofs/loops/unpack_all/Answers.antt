@@ -1,5 +1,5 @@
 use Rattle.std.proofs.Common.{rules, ◌≡◌, ap}
-use Rattle.bench.proofs.Parts.{refused_adds, told_adds}
+use Rattle.bench.proofs.WordParts.{refused_adds, told_adds}
 use Rattle.bench.proofs.loops.unpack_all.Goals.{in-Some, in_default}
 use Rattle.bench.proofs.loops.unpack_all.Goals as goal
 

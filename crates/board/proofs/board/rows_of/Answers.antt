@@ -1,7 +1,7 @@
 use Rattle.std.proofs.Common.{◌≡◌, ◌+◌, ◌++◌, ◌∷◌, [], ℕ, List, length, sym, ap, ◌∙◌, subst, arith, w32, length-append}
 use Rattle.std.proofs.Math.Facts.{Fits-of_lt}
-use Rattle.gates.specs.Rows.{Kept}
-use Rattle.board.specs.Rows.{KnowsRow}
+use Rattle.gates.specs.EntryRows.{Kept}
+use Rattle.board.specs.PollerRows.{KnowsRow}
 use Rattle.work.proofs.GridRows.{counts_at}
 use Rattle.board.proofs.RowsKept.{rows_more, new_row}
 use Rattle.board.proofs.board.rows_of.Goals as goal

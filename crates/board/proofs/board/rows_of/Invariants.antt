@@ -1,6 +1,6 @@
 use Rattle.std.specs.Prelude.{◌≡◌, ℕ, [], length, slice_get, Some}
-use Rattle.gates.specs.Rows.{Kept}
-use Rattle.board.specs.Rows.{KnowsRow}
+use Rattle.gates.specs.EntryRows.{Kept}
+use Rattle.board.specs.PollerRows.{KnowsRow}
 use Rattle.board.proofs.board.rows_of.Given as goal
 
 -- the rings so far have their rows

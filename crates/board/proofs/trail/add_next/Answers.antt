@@ -1,8 +1,8 @@
 use Rattle.std.proofs.Common.{◌+◌, ◌*◌, ◌≤◌, ℕ, sym, ap, subst, arith}
 use Rattle.claim.specs.Facts.{Facts as FactsParts}
-use Rattle.gates.specs.Rows.{Kept, waiting, slot_with, stand_in}
+use Rattle.gates.specs.EntryRows.{Kept, waiting, slot_with, stand_in}
 use Rattle.work.specs.Board.{IsBoard}
-use Rattle.board.specs.Rows.{KnowsRow}
+use Rattle.board.specs.PollerRows.{KnowsRow}
 use Rattle.board.proofs.RowLaws.{knows_on, knows_facts, knows_done, waiting_added, on_ok, small_number}
 use Rattle.board.proofs.Watching.{paid_with}
 use Rattle.board.proofs.trail.add_next.Goals as goal

@@ -1,5 +1,5 @@
 use Rattle.std.proofs.Common.{◌<◌, ◌*◌, ◌+◌, ℕ, List, ◌∷◌, refl, sym, ap, subst, arith}
-use Rattle.gates.specs.Rows.{Kept, Stands, waiting, Waits}
+use Rattle.gates.specs.EntryRows.{Kept, Stands, waiting, Waits}
 use Rattle.gates.specs.Slots.{Slot}
 use Rattle.gates.specs.Shows.{nth, named_in}
 use Rattle.history.specs.declared.event.Event.TheVariants.{Park}
@@ -7,8 +7,8 @@ use Rattle.history.specs.History.{phase, IsReplied}
 use Rattle.steps.specs.Journal.{events_of}
 use Rattle.work.specs.Passes.{pass_of}
 use Rattle.board.specs.declared.poller.Released.{Released}
-use Rattle.board.specs.Rows.{Decides, KnowsRow, severed_by}
-use Rattle.board.proofs.Deciding.{target_timer, decides_timer, decides_shut, alive_back}
+use Rattle.board.specs.PollerRows.{Decides, KnowsRow, severed_by}
+use Rattle.board.proofs.LastSteps.{target_timer, decides_timer, decides_shut, alive_back}
 use Rattle.board.proofs.PutBack.{replied_was, open_was, open_back, is_severed, is_severed_back}
 use Rattle.board.proofs.RowLaws.{knows_goes}
 use Rattle.board.proofs.Watching.{paid_with}

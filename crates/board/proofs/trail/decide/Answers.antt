@@ -1,5 +1,5 @@
 use Rattle.std.proofs.Common.{◌*◌, ◌+◌, ℕ, arith}
-use Rattle.gates.specs.Rows.{waiting}
+use Rattle.gates.specs.EntryRows.{waiting}
 use Rattle.board.proofs.Watching.{born_on, watched_then, decides_after, paid_on, paid_with}
 use Rattle.board.proofs.trail.decide.Goals as goal
 

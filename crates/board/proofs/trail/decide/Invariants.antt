@@ -1,6 +1,6 @@
 use Rattle.std.specs.Prelude.{◌*◌}
-use Rattle.gates.specs.Rows.{waiting}
-use Rattle.board.specs.Rows.{Watches, Watched, Paid}
+use Rattle.gates.specs.EntryRows.{waiting}
+use Rattle.board.specs.PollerRows.{Watches, Watched, Paid}
 use Rattle.board.proofs.trail.decide.Given as goal
 
 -- the requests that were passed are paid for

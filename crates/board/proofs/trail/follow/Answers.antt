@@ -1,6 +1,6 @@
 use Rattle.std.proofs.Common.{ℕ, ◌+◌, ◌*◌, ◌≤◌, arith}
-use Rattle.gates.specs.Rows.{waiting}
-use Rattle.board.specs.Rows.{owed}
+use Rattle.gates.specs.EntryRows.{waiting}
+use Rattle.board.specs.PollerRows.{owed}
 use Rattle.board.specs.declared.poller.Released.TheVariants.{NotHeld}
 use Rattle.board.proofs.RowLaws.{knows_on, watches_held}
 use Rattle.board.proofs.Watching.{watched_then, decides_after, paid_with, paid_on}

@@ -4,7 +4,7 @@ use Rattle.history.specs.declared.req.Req.{Req}
 use Rattle.history.specs.declared.event.Event.TheVariants.{Park}
 use Rattle.steps.specs.Cells.{MayBegin}
 use Rattle.steps.specs.Journal.{events_of}
-use Rattle.board.proofs.Deciding.{target_timer, served_kind, at_is, decides_freed, decides_missed, decides_timer, alive_back}
+use Rattle.board.proofs.LastSteps.{target_timer, served_kind, at_is, decides_freed, decides_missed, decides_timer, alive_back}
 use Rattle.board.proofs.Watching.{watched_none, watched_look, paid_one}
 use Rattle.board.proofs.trail.free.Goals as goal
 

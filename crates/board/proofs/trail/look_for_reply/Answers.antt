@@ -10,7 +10,7 @@ use Rattle.work.specs.Passes.{pass_of}
 use Rattle.board.specs.declared.phase.Phase.{Phase as Standing}
 use Rattle.board.specs.Calls.{Stands}
 use Rattle.steps.specs.Rule.{Shown}
-use Rattle.board.specs.Rows.{HasOutcome}
+use Rattle.board.specs.PollerRows.{HasOutcome}
 use Rattle.board.proofs.WordOutcomes.{done_outcome, left_outcome}
 use Rattle.board.proofs.PassFacts.{found_word, stepped_once, spot_of}
 use Rattle.board.proofs.Reaping.{unreplied}

@@ -1,5 +1,5 @@
 use Rattle.std.proofs.Common.{ℕ, false, ◌+◌, ◌*◌, refl, arith}
-use Rattle.gates.specs.Rows.{waiting}
+use Rattle.gates.specs.EntryRows.{waiting}
 use Rattle.gates.specs.Shows.{nth}
 use Rattle.steps.specs.Journal.{events_of}
 use Rattle.board.specs.declared.poller.Released.TheVariants.{NotHeld}

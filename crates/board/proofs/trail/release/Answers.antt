@@ -1,10 +1,10 @@
 use Rattle.std.proofs.Common.{ℕ, ◌+◌, ◌*◌, ◌<◌, ◌≤◌, [], arith}
-use Rattle.gates.specs.Rows.{waiting}
+use Rattle.gates.specs.EntryRows.{waiting}
 use Rattle.history.specs.History.{submits}
 use Rattle.steps.specs.Journal.{events_of}
 use Rattle.work.specs.Passes.{pass_of}
 use Rattle.board.specs.declared.poller.Released.TheVariants.{NotHeld}
-use Rattle.board.specs.Rows.{owed, severed_by}
+use Rattle.board.specs.PollerRows.{owed, severed_by}
 use Rattle.board.proofs.RowLaws.{knows_on, few_wait, few_added, owed_bound, numbered_at, held_born, submits_goes}
 use Rattle.board.proofs.Watching.{still_ours, born_on, decides_after, paid_with, paid_on}
 use Rattle.board.proofs.trail.release.Goals as goal

@@ -1,5 +1,5 @@
 use Rattle.std.proofs.Common.{◌<◌, ◌≤◌, ◌-◌, ℕ, subst, arith}
-use Rattle.gates.specs.Rows.{added}
+use Rattle.gates.specs.EntryRows.{added}
 use Rattle.gates.specs.Shows.{nth, IsOfChain}
 use Rattle.steps.specs.Cells.{cells_in}
 use Rattle.steps.specs.Journal.{events_of}

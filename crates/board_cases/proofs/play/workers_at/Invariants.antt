@@ -1,6 +1,6 @@
 use Rattle.std.proofs.Common.{All, length}
 use Rattle.work.specs.Board.{IsOf}
-use Rattle.board_cases.specs.Slots.{AreIn}
+use Rattle.board_cases.specs.CastPlaces.{AreIn}
 use Rattle.board_cases.proofs.play.workers_at.Given as goal
 
 abbrev pub invariant-loop-slot : goal.invariant-loop-slot

@@ -1,4 +1,4 @@
-use Rattle.driver.specs.Parts.{IsDeskOf}
+use Rattle.driver.specs.RunParts.{IsDeskOf}
 use Rattle.driver.proofs.poll.go_round.Given as goal
 
 abbrev pub invariant-loop : goal.invariant-loop

@@ -1,5 +1,5 @@
 use Rattle.std.proofs.Common.{◌≡◌, map}
-use Rattle.driver.specs.Parts.{submitter_of}
+use Rattle.driver.specs.RunParts.{submitter_of}
 use Rattle.driver.proofs.run.parts_of.Given as goal
 
 abbrev pub invariant-loop-client : goal.invariant-loop-client

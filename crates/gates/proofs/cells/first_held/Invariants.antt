@@ -1,5 +1,5 @@
 use Rattle.std.proofs.Common.{◌≡◌, ◌-◌, ◌<◌, ◌≤◌, length, false, true}
-use Rattle.gates.specs.Rows.{held_at}
+use Rattle.gates.specs.EntryRows.{held_at}
 use Rattle.gates.proofs.cells.first_held.Given as goal
 
 abbrev pub invariant-loop-middle : goal.invariant-loop-middle

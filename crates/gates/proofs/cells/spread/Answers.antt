@@ -2,7 +2,7 @@ use Rattle.std.proofs.Common.{◌≡◌, ◌≢◌, ℕ, suc, ◌+◌, ◌<◌, 
 use Rattle.std.specs.List.{slice_get}
 use Rattle.std.proofs.lemmas.List.{length-set}
 use Rattle.gates.specs.Slots.{slot_of, next_of}
-use Rattle.gates.specs.Rows.{LinkedAt}
+use Rattle.gates.specs.EntryRows.{LinkedAt}
 use Rattle.gates.proofs.Lists.{get_there, get_set_other}
 use Rattle.gates.proofs.Links.{with_behind, linked_more, linked_all, slots_kept, linked_end, behind_same}
 use Rattle.gates.proofs.cells.spread.Goals as goal

@@ -1,6 +1,6 @@
 use Rattle.std.proofs.Common.{◌≡◌, List, take}
 use Rattle.script_text.specs.Sentences.{AreSentences, Sentence, sentences}
-use Rattle.script_text.specs.Words.{texts}
+use Rattle.script_text.specs.TextWords.{texts}
 use Rattle.script_text.proofs.line.read_lines.Given as goal
 
 abbrev pub invariant-loop-text : goal.invariant-loop-text

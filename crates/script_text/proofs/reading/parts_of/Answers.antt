@@ -5,7 +5,7 @@ use Rattle.script_text.specs.Above.{stated_in}
 use Rattle.script_text.specs.Scripts.{faults_of}
 use Rattle.script_text.specs.Sentences.{above_of, sentence, sentences}
 use Rattle.script_text.proofs.LinesAbove.{above_more, as_many_lines, line_here}
-use Rattle.script_text.proofs.Steps.{faults_same, stands_more, told_here}
+use Rattle.script_text.proofs.ReadingLines.{faults_same, stands_more, told_here}
 use Rattle.script_text.proofs.reading.parts_of.Goals as goal
 
 pub loop-line-init : goal.loop-line-init

@@ -1,5 +1,5 @@
 use Rattle.script_text.specs.Sentences.{sentence}
-use Rattle.script_text.proofs.Steps.{fits_of}
+use Rattle.script_text.proofs.ReadingLines.{fits_of}
 use Rattle.script_text.proofs.reading.take_line.Goals as goal
 
 pub take-requires-clause-fits : goal.take-requires-clause-fits

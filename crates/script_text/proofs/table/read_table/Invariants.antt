@@ -1,6 +1,6 @@
 use Rattle.std.proofs.Common.{drop}
 use Rattle.script_text.specs.TableText.{shown_lines}
-use Rattle.script_text.proofs.Tables.{IsSoFar}
+use Rattle.script_text.proofs.TableLines.{IsSoFar}
 use Rattle.script_text.proofs.table.read_table.Given as goal
 
 abbrev pub invariant-loop-entry : goal.invariant-loop-entry

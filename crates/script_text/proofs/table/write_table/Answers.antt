@@ -1,5 +1,5 @@
 use Rattle.std.proofs.lemmas.Slice.Zip.{Zip-more, either_empty_from_Zip}
-use Rattle.script_text.proofs.Tables.{wrote_more, wrote_all}
+use Rattle.script_text.proofs.TableLines.{wrote_more, wrote_all}
 use Rattle.script_text.proofs.table.write_table.Goals as goal
 
 pub loop-entry-preserved : goal.loop-entry-preserved

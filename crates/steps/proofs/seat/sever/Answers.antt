@@ -4,7 +4,7 @@ use Rattle.history.specs.History.{by_sever}
 use Rattle.steps.specs.Cells.{word_of, reply_bits, cause_bits}
 use Rattle.steps.specs.Rule.{pollers, stands_for, IsStep}
 use Rattle.steps.proofs.StepKinds.{either_way}
-use Rattle.steps.proofs.Severing.{sever_allows}
+use Rattle.steps.proofs.SeverStep.{sever_allows}
 use Rattle.steps.proofs.seat.sever.Goals as goal
 
 pub compare_exchange-requires : goal.compare_exchange-requires
@@ -12,7 +12,7 @@ compare_exchange-requires c = let f = c.requires.fits in let role = c.requires.p
     rw c.claim_word.ensures (
       f.0,
       omega arith,
-      sever_allows _ _ _ c.args.cell c.args.generation 4294967171 c.requires.fails.0 f.2 c.requires.small bits (subst (λ z. stands_for z pollers ≡ true) (sym role) refl) c.requires.poller.1 (λ q e. (let y = sym role in cc)) _ _ _ (λ e. (let y = sym role in cc))
+      sever_allows _ _ _ c.args.cell c.args.generation 4294967171 c.requires.fails.0 f.2 c.requires.small bits (subst (λ z. stands_for z pollers ≡ true) (sym role) refl) c.requires.poller.1 _ _ _ (λ e. (let y = sym role in cc))
           c.held-held.ensures (c.severed-severed.ensures 4294967171 bits ∙ ap (λ b. word_of Done (cause_bits by_sever b) c.args.generation 4294967171) c.requires.fails.2) c.requires.submitted c.requires.may c.requires.fails.1,
     )
 

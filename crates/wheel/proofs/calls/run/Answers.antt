@@ -1,6 +1,6 @@
 use Rattle.std.proofs.Common.{◌≡◌, ◌+◌, ◌++◌, [], ◌∷◌, arith, sym, subst, take}
 use Rattle.std.proofs.lemmas.Grind.{common_steps}
-use Rattle.wheel.specs.Runs.{Runs}
+use Rattle.wheel.specs.CallRuns.{Runs}
 use Rattle.wheel.proofs.RunSteps.{runs_next}
 use Rattle.wheel.proofs.calls.run.Goals as goal
 

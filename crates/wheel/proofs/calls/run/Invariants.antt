@@ -1,5 +1,5 @@
 use Rattle.std.proofs.Common.{take}
-use Rattle.wheel.specs.Runs.{Runs}
+use Rattle.wheel.specs.CallRuns.{Runs}
 use Rattle.wheel.proofs.calls.run.Given as goal
 
 abbrev pub invariant-loop-call : goal.invariant-loop-call

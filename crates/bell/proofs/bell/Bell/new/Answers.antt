@@ -8,7 +8,7 @@ use Rattle.atomic_table.specs.Seated.{TableId}
 use Rattle.atomic_table.proofs.Lists.{at_longer, at_last}
 use Rattle.bell.specs.declared.view.View.{View}
 use Rattle.bell.specs.Rule.{opening_view, with_ringer, new_ringer}
-use Rattle.bell.specs.Passes.{Ringing, new_ringing}
+use Rattle.bell.specs.BellPasses.{Ringing, new_ringing}
 use Rattle.bell.proofs.SleeperSteps.{opens, cuts_ringer}
 use Rattle.bell.proofs.bell.Bell.new.Goals as goal
 

@@ -2,7 +2,7 @@ use Rattle.std.proofs.Common.{◌≡◌, ℕ, ◌<◌, length}
 use mathlib.Core.Option.{some}
 use lib.ListN.{get_elem?}
 use Rattle.bell.specs.Rule.{opening_view}
-use Rattle.bell.specs.Passes.{new_ringing}
+use Rattle.bell.specs.BellPasses.{new_ringing}
 use Rattle.bell.proofs.bell.Bell.new.Given as goal
 
 abbrev pub invariant-loop-ring : goal.invariant-loop-ring

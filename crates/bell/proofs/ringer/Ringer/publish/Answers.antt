@@ -2,7 +2,7 @@ use Rattle.std.proofs.Common.{◌≡◌, ◌≤◌, ◌<◌, ◌+◌, ℕ, sym, 
 use Rattle.atomic_table.specs.Seated.{TableId}
 use Rattle.bell.specs.declared.view.Role.TheVariants.{Ringer}
 use Rattle.bell.specs.declared.view.View.{View}
-use Rattle.bell.specs.Passes.{Ringing}
+use Rattle.bell.specs.BellPasses.{Ringing}
 use Rattle.bell.proofs.RingerSteps.{store_allows, look_allows}
 use Rattle.bell.proofs.ringer.Ringer.publish.Goals as goal
 

@@ -1,6 +1,6 @@
 use Rattle.std.proofs.Common.{◌∙◌, ap, arith}
 use Rattle.bell.specs.declared.view.View.{View}
-use Rattle.bell.specs.Passes.{Sleeping}
+use Rattle.bell.specs.BellPasses.{Sleeping}
 use Rattle.bell.proofs.SleeperSteps.{arm_allows, take_back_allows}
 use Rattle.bell.proofs.sleeper.Sleeper.doze.Goals as goal
 

@@ -8,9 +8,9 @@ use Rattle.steps.specs.Cells.{total}
 use Rattle.work.specs.Grid.{AreCells, AreCellCounts}
 use Rattle.work.specs.Board.{Facts}
 use Rattle.work.specs.Passes.{Pass, pass_of}
-use Rattle.board.specs.Limits.{counts}
+use Rattle.board.specs.ShapeLimits.{counts}
 use Rattle.board.specs.New.{IsCutting, IsFresh}
-use Rattle.board.specs.Rows.{KnowsRows}
+use Rattle.board.specs.PollerRows.{KnowsRows}
 use Rattle.steps.specs.declared.line.Line.{Line}
 use Rattle.board.proofs.ShapeBounds.{shape_says}
 use Rattle.board.proofs.NewPasses.{cut_all, poller_fresh}

@@ -18,7 +18,7 @@ use Rattle.board.specs.Calls.{Goes, next_of}
 use Rattle.board.specs.Lanes.{nth, RefusesRoom}
 use Rattle.board.proofs.GoesLaws.{goes_then}
 use Rattle.board.proofs.LaneWalks.{watched_took, watched_submits, watched_before}
-use Rattle.board.proofs.Submitting.{goes_watched, free_then, entry_reason}
+use Rattle.board.proofs.SubmitterLooks.{goes_watched, free_then, entry_reason}
 use Rattle.board.proofs.board.Board.submit.Goals as goal
 
 pub returns-in-Err-clause-refused : goal.returns-in-Err-clause-refused

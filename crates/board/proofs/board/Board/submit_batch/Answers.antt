@@ -14,7 +14,7 @@ use Rattle.board.specs.Calls.{Goes, next_of}
 use Rattle.board.specs.Lanes.{nth, RefusesRoom}
 use Rattle.board.proofs.GoesLaws.{goes_then}
 use Rattle.board.proofs.LaneWalks.{watched_took, watched_submits, watched_before}
-use Rattle.board.proofs.Submitting.{goes_watched, free_then}
+use Rattle.board.proofs.SubmitterLooks.{goes_watched, free_then}
 use Rattle.board.proofs.BatchesKept.{batch_reason, turned_back}
 use Rattle.board.proofs.board.Board.submit_batch.Goals as goal
 

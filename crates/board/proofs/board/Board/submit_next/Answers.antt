@@ -15,7 +15,7 @@ use Rattle.board.proofs.PassFacts.{took_three}
 use Rattle.history.specs.History.{submits}
 use Rattle.board.specs.Lanes.{nth}
 use Rattle.board.proofs.BatchesKept.{thrice_next}
-use Rattle.board.proofs.Submitting.{generation_is}
+use Rattle.board.proofs.SubmitterLooks.{generation_is}
 use Rattle.board.proofs.board.Board.submit_next.Goals as goal
 
 pub submit-requires-clause-small : goal.submit-requires-clause-small

@@ -3,7 +3,7 @@ use Rattle.history.specs.declared.req.Req.{Req}
 use Rattle.steps.specs.declared.view.Layout.{Layout}
 use Rattle.steps.proofs.CellNumbers.{ring_in}
 use Rattle.work.specs.Passes.{Pass, pass_of}
-use Rattle.board.specs.Rows.{KnowsRow, KnowsRows, severed_by}
+use Rattle.board.specs.PollerRows.{KnowsRow, KnowsRows, severed_by}
 use Rattle.board.proofs.RowsKept.{rows_goes, at_index}
 use Rattle.board.proofs.poller.Poller.release.Goals as goal
 

@@ -1,5 +1,5 @@
 use Rattle.std.proofs.Common.{rules, sym, ◌∙◌}
-use Rattle.entry.proofs.Rows.{Decides-same_row}
+use Rattle.entry.proofs.RowTests.{Decides-same_row}
 use Rattle.entry.proofs.op.Op.is_written_as.Goals as goal
 
 pub returns-then-flags-allowed_flags : goal.returns-then-flags-allowed_flags

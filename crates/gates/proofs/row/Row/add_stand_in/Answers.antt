@@ -1,6 +1,6 @@
 use Rattle.std.proofs.Common.{◌++◌, ◌∷◌, [], false, true, ap, ◌∙◌, subst}
-use Rattle.gates.specs.Rows.{Stands, slot_with, with_reply}
-use Rattle.gates.proofs.Replies.{with_last_reply}
+use Rattle.gates.specs.EntryRows.{Stands, slot_with, with_reply}
+use Rattle.gates.proofs.CellReplies.{with_last_reply}
 use Rattle.gates.proofs.row.Row.add_stand_in.Goals as goal
 
 pub returns-clause-added : goal.returns-clause-added

@@ -1,9 +1,9 @@
 use Rattle.std.proofs.Common.{◌<◌, ◌≤◌, None, sym, subst, refl, length}
 use Rattle.gates.specs.declared.cell.Cell.{Cell}
 use Rattle.gates.specs.Slots.{is_draining}
-use Rattle.gates.specs.Rows.{IsToldBy, added}
+use Rattle.gates.specs.EntryRows.{IsToldBy, added}
 use Rattle.gates.proofs.Adding.{before_pushed, oldest_pushed, linked_pushed, sound_by}
-use Rattle.gates.proofs.Replies.{at_items}
+use Rattle.gates.proofs.CellReplies.{at_items}
 use Rattle.gates.proofs.row.Row.append.Goals as goal
 
 pub first_draining-self-inside-requires-clause-before : goal.first_draining-self-inside-requires-clause-before

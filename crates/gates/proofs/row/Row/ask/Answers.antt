@@ -1,8 +1,8 @@
 use Rattle.std.proofs.Common.{◌≡◌, ◌-◌, Some, None, sym, ap, ◌∙◌, subst}
 use Rattle.std.specs.List.{slice_get}
-use Rattle.gates.specs.Rows.{IsSound, place_by, asked_by}
+use Rattle.gates.specs.EntryRows.{IsSound, place_by, asked_by}
 use Rattle.gates.specs.Shows.{nth, IsAsked, named_in}
-use Rattle.gates.proofs.Asking.{named_law, asked_law, asked_severed, asked_alone}
+use Rattle.gates.proofs.RowAnswers.{named_law, asked_law, asked_severed, asked_alone}
 use Rattle.gates.proofs.row.Row.ask.Goals as goal
 
 pub returns-then-cell-clause-trailed : goal.returns-then-cell-clause-trailed

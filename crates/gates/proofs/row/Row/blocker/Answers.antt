@@ -1,7 +1,7 @@
 use Rattle.std.proofs.Common.{◌≡◌, ◌-◌, Some, None, false, cond, refl, inl, inr, sym, ap, ◌∙◌, subst, arith}
 use Rattle.std.specs.List.{slice_get}
 use Rattle.gates.specs.declared.gate.Gate.TheVariants.{Severed as severed_gate}
-use Rattle.gates.specs.Rows.{IsSound, gate_at, gate_by, place_by}
+use Rattle.gates.specs.EntryRows.{IsSound, gate_at, gate_by, place_by}
 use Rattle.gates.specs.Shows.{nth, IsGate, IsBlocker}
 use Rattle.gates.proofs.Lists.{get_there}
 use Rattle.gates.proofs.Gates.{severed_shown}

@@ -1,7 +1,7 @@
 use Rattle.std.proofs.Common.{◌+◌, ◌<◌, length, Some, sym, ap, subst, arith}
 use Rattle.std.proofs.lemmas.Option.{cond_some}
 use Rattle.std.proofs.lemmas.Bool.{ltb-true}
-use Rattle.gates.specs.Rows.{numbered, IsBlockerAt}
+use Rattle.gates.specs.EntryRows.{numbered, IsBlockerAt}
 use Rattle.gates.proofs.Lists.{get_there}
 use Rattle.gates.proofs.row.Row.blocker_of_place.Goals as goal
 

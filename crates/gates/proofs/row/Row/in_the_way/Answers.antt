@@ -1,5 +1,5 @@
 use Rattle.std.proofs.Common.{◌≡◌, ◌+◌, ◌-◌, ◌≤◌, length, false, sym, ◌∙◌, subst, arith}
-use Rattle.gates.specs.Rows.{Kept, IsSound, added, free_by}
+use Rattle.gates.specs.EntryRows.{Kept, IsSound, added, free_by}
 use Rattle.gates.specs.Shows.{nth, IsOfChain}
 use Rattle.gates.proofs.Lists.{one_some}
 use Rattle.gates.proofs.Freeing.{way_chained}

@@ -1,5 +1,5 @@
 use Rattle.std.proofs.Common.{sym, subst}
-use Rattle.gates.specs.Rows.{IsSound}
+use Rattle.gates.specs.EntryRows.{IsSound}
 use Rattle.gates.specs.Shows.{nth, IsGate}
 use Rattle.gates.proofs.Agreement.{Each, shown, shown_fresh}
 use Rattle.gates.proofs.Mirroring.{mirrored, mirrored_fresh, live_kept}

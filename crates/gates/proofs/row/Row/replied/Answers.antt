@@ -1,8 +1,8 @@
 use Rattle.std.proofs.Common.{◌≡◌, ◌<◌, ◌≤◌, ◌+◌, ◌-◌, ℕ, length, map, sym, ap, ◌∙◌, subst, refl, arith}
 use Rattle.std.proofs.lemmas.List.{length-map}
 use Rattle.gates.specs.Slots.{slot_of, is_pending, is_draining}
-use Rattle.gates.specs.Rows.{HasCell, Stands, added, waiting, waiting_in}
-use Rattle.gates.proofs.Replies.{linked_but, length_written, length_told, before_written, fewer, stands_replied}
+use Rattle.gates.specs.EntryRows.{HasCell, Stands, added, waiting, waiting_in}
+use Rattle.gates.proofs.CellReplies.{linked_but, length_written, length_told, before_written, fewer, stands_replied}
 use Rattle.gates.proofs.row.Row.replied.Goals as goal
 
 -- the place of the request has a cell

@@ -1,7 +1,7 @@
 use Rattle.std.proofs.Common.{◌≡◌, ℕ, ◌-◌, ◌≤◌, Option, Some, None, refl, inl, sym, ap, ◌∙◌, subst, arith}
 use Rattle.std.specs.List.{slice_get}
 use Rattle.std.specs.Option.{SomeIff}
-use Rattle.gates.specs.Rows.{IsSound}
+use Rattle.gates.specs.EntryRows.{IsSound}
 use Rattle.gates.specs.Shows.{nth, IsTargetOf}
 use Rattle.gates.proofs.Agreement.{Each, shown}
 use Rattle.gates.proofs.Mirroring.{mirrored, live_kept}

@@ -3,7 +3,7 @@ use Rattle.std.proofs.lemmas.Grind.{common_steps}
 use Rattle.std.specs.Prelude.{insert, IsOk}
 use Rattle.std.specs.List.{slice_get}
 use Rattle.wheel.specs.declared.sorted.Timer.{Timer}
-use Rattle.wheel.specs.Lists.{InOrder, deadline_in, without, with_timer}
+use Rattle.wheel.specs.TimerLists.{InOrder, deadline_in, without, with_timer}
 use Rattle.wheel.specs.Deadlines.{armed}
 use Rattle.wheel.proofs.Sorting.{order_without, order_with, without_is, insert_is, arms}
 use Rattle.wheel.proofs.sorted.SortedTimersTimerSet.arm.Goals as goal

@@ -1,6 +1,6 @@
 use Rattle.std.proofs.Common.{length, sym, ap, ◌∙◌, subst}
 use Rattle.std.specs.Prelude.{nat_lt, IsTrue, IsSome, ◌↔◌}
-use Rattle.wheel.specs.Lists.{InOrder, deadline_in, without}
+use Rattle.wheel.specs.TimerLists.{InOrder, deadline_in, without}
 use Rattle.wheel.specs.Deadlines.{dropped}
 use Rattle.wheel.proofs.Sorting.{order_without, without_is, was_there, drops}
 use Rattle.wheel.proofs.Sorting.{vec_len-length}

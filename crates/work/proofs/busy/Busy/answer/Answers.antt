@@ -2,7 +2,7 @@ use Rattle.std.proofs.Common.{rules, ◌≡◌, ℕ, ◌<◌, true, ℤ, [], ◌
 use Rattle.std.proofs.lemmas.Int.{to_z-of_z}
 use Rattle.atomic_table.specs.Table.{rest}
 use Rattle.answers.specs.Answered.{is_plain, IsPast}
-use Rattle.answers.specs.Ends.{pipe_in}
+use Rattle.answers.specs.NamedEnds.{pipe_in}
 use Rattle.entry.specs.declared.op.Op.{Op}
 use Rattle.entry.specs.Entry.{Entry}
 use Rattle.history.specs.Answers.{OpAnswers}
@@ -19,7 +19,7 @@ use Rattle.steps.specs.Cells.{request_at, claim_at, slot_at, word_of}
 use Rattle.steps.specs.Plays.{Seated, MayReply}
 use Rattle.steps.specs.Rule.{Extends, IsStep}
 use Rattle.work.specs.Passes.{Pass, Running, seen_of}
-use Rattle.work.specs.Runs.{op_run, run_as}
+use Rattle.work.specs.WorkerRuns.{op_run, run_as}
 use Rattle.work.proofs.RunsKept.{runs_placed, runs_served, served_plain, plain_may}
 use Rattle.work.proofs.busy.Busy.answer.Goals as goal
 

@@ -1,7 +1,7 @@
 use Rattle.std.proofs.Common.{◌≡◌, ℕ, ◌<◌, true≢false, List, ◌∷◌, length, slice_index, Option, Some, None, sym, refl, ap, ◌∙◌, subst, arith}
 use Rattle.atomic_table.specs.Table.{rest}
 use Rattle.answers.specs.Answered.{IsPipe}
-use Rattle.answers.specs.Ends.{pipe_in}
+use Rattle.answers.specs.NamedEnds.{pipe_in}
 use Rattle.entry.specs.Entry.{Entry}
 use Rattle.history.specs.Chains.{IsPlaced}
 use Rattle.history.specs.Pipes.{flow}
@@ -17,7 +17,7 @@ use Rattle.steps.specs.Rule.{Looks}
 use Rattle.steps.proofs.StepKinds.{in_hand}
 use Rattle.steps.proofs.PipeSteps.{lacks_after}
 use Rattle.work.specs.Passes.{Running, RunsIt, seen_of}
-use Rattle.work.specs.Runs.{MissedPipe}
+use Rattle.work.specs.WorkerRuns.{MissedPipe}
 use Rattle.work.proofs.RunsKept.{runs_on, runs_look, named_by}
 use Rattle.work.proofs.busy.Busy.hold.Goals as goal
 

@@ -1,5 +1,5 @@
 use Rattle.std.proofs.Common.{◌≡◌, ◌<◌, Bool, false, List, [], ◌++◌, length, Some, sym, refl, ap, ◌∙◌, subst}
-use Rattle.answers.specs.Ends.{pipe_in}
+use Rattle.answers.specs.NamedEnds.{pipe_in}
 use Rattle.entry.specs.Entry.{Entry}
 use Rattle.history.specs.declared.event.Event.TheVariants.{Reply, Park}
 use Rattle.history.specs.declared.req.Req.{Req}
@@ -17,7 +17,7 @@ use Rattle.steps.specs.Rule.{Extends}
 use Rattle.steps.proofs.ViewsKept.{layout_after, role_after}
 use Rattle.work.specs.declared.run.Ran.TheVariants.{Replied}
 use Rattle.work.specs.Passes.{Pass, Running, Took, seen_of}
-use Rattle.work.specs.Runs.{NoAnswer, FoundOut, Unanswered, names, run_steps}
+use Rattle.work.specs.WorkerRuns.{NoAnswer, FoundOut, Unanswered, names, run_steps}
 use Rattle.work.proofs.RunsKept.{quiet_still, quiet_look, quiet_line, ends_by, took_none, took_more, took_both, worker_on, worker_left, begins_on, begins_both, named_is, past_is, names_one, placed_on}
 use Rattle.work.proofs.busy.Busy.run.Goals as goal
 

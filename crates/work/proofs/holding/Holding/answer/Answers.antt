@@ -23,10 +23,10 @@ use Rattle.steps.specs.Journal.{events_of}
 use Rattle.steps.specs.Cells.{setup_of, PipeIs, request_at, claim_at, pipe_at, slot_at, over}
 use Rattle.steps.specs.Plays.{Seated, HasAlone, HasPipeAfter, MayReply}
 use Rattle.work.specs.Passes.{Pass, Holding, seen_of}
-use Rattle.work.specs.Runs.{Unanswered}
+use Rattle.work.specs.WorkerRuns.{Unanswered}
 use Rattle.work.proofs.RunsKept.{runs_on, runs_same, piped_entry, runs_fits, pipe_may, pipe_after, in_both_hands}
 use Rattle.steps.specs.Rule.{Extends, IsTwoSteps, leaves}
-use Rattle.answers.specs.Ends.{pipe_in}
+use Rattle.answers.specs.NamedEnds.{pipe_in}
 use Rattle.work.proofs.holding.Holding.answer.Goals as goal
 
 pub answer_with-answer-requires-clause-fits : goal.answer_with-answer-requires-clause-fits

@@ -31,7 +31,7 @@ use Rattle.work.specs.Passes.{pass_of, own_of}
 use Rattle.work.proofs.OwnEvents.{own_none}
 use Rattle.work.proofs.PassesKept.{extended_of}
 use Rattle.board.specs.Calls.{Goes}
-use Rattle.board.specs.Rows.{IsAt, IsOurs, Watched, MayArm, Decides}
+use Rattle.board.specs.PollerRows.{IsAt, IsOurs, Watched, MayArm, Decides}
 use Rattle.board.specs.declared.poller.Released.TheVariants.{Severed as IsSevered, Freed as IsFreed, Shut as IsShut, Timer as IsTimer, NotHeld}
 use Rattle.board.proofs.GoesLaws.{goes_freed}
 use Rattle.board.proofs.PassFacts.{freed_may, freed_more, same_freed}
@@ -168,7 +168,7 @@ module _ (b : Facts) (s t : TableSeat) (r : Req) (x g : ℕ) (o : IsOurs b s) (a
 pub decides_timer : (b : Facts) (s t : TableSeat) (r : Req) → Watched b s t → MayArm (events_of t.me.0.seen) r → Decides b r (pass_of s) (pass_of t) IsTimer
 decides_timer b s t r w m = record { goes = w.goes; decided = m; was_free = λ is. absurd (cc); others = λ i _. w.freed_is i }
 
-pub decides_shut : (b : Facts) (s t : TableSeat) (r : Req) → Watched b s t → Rattle.board.specs.Rows.IsShutOut b.layout.cells r (pass_of s) (pass_of t) → Decides b r (pass_of s) (pass_of t) IsShut
+pub decides_shut : (b : Facts) (s t : TableSeat) (r : Req) → Watched b s t → Rattle.board.specs.PollerRows.IsShutOut b.layout.cells r (pass_of s) (pass_of t) → Decides b r (pass_of s) (pass_of t) IsShut
 decides_shut b s t r w m = record { goes = w.goes; decided = m; was_free = λ is. absurd (cc); others = λ i _. w.freed_is i }
 
 -- nobody has replied who was put back

@@ -6,7 +6,7 @@ use Rattle.std.proofs.lemmas.List.{map-set, length-map, length-set, drop-set-add
 use Rattle.history.proofs.Requests.{bool_cases}
 use Rattle.gates.specs.declared.cell.Cell.{Cell}
 use Rattle.gates.specs.Slots.{Slot, slot_of, next_in, behind, test_at, passes, is_pending}
-use Rattle.gates.specs.Rows.{LinkedAt, Linked, Stands, with_reply, answered, waiting_in}
+use Rattle.gates.specs.EntryRows.{LinkedAt, Linked, Stands, with_reply, answered, waiting_in}
 use Rattle.gates.proofs.Lists.{get_last, get_set_same, get_set_other, get_drop, get_there, one_some, slot_there}
 use Rattle.gates.proofs.Links.{ne_of}
 

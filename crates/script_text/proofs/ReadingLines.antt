@@ -24,7 +24,7 @@ use Rattle.script_text.proofs.NoFault.{IsCleanIf, clean_entry, clean_line, few_r
 use Rattle.script_text.specs.Parts.{Fits, Stands, Takes, all_entered, entered, has_label, standing}
 use Rattle.script_text.specs.Scripts.{IsToldHere, IsToldOf, faults_at, faults_of, is_left, standing_in}
 use Rattle.script_text.specs.Sentences.{Sentence, above_of, first_of, line_at}
-use Rattle.script_text.specs.Words.{is_same}
+use Rattle.script_text.specs.TextWords.{is_same}
 
 -- ---- labels
 

@@ -3,7 +3,7 @@ use Rattle.std.specs.Prelude.{◌≡◌, ℕ, ◌+◌, ◌-◌, ◌*◌, ◌<◌
 use Rattle.atomic_table.specs.declared.shared.Seat.{Seat}
 use Rattle.claim.specs.Facts.{Facts as FactsParts, bit}
 use Rattle.entry.specs.Entry.{Entry, fails, drains, links_soft, links_hard}
-use Rattle.gates.specs.Rows.{Kept, Stands, HasCell, added, waiting}
+use Rattle.gates.specs.EntryRows.{Kept, Stands, HasCell, added, waiting}
 use Rattle.gates.specs.Shows.{Trails}
 use Rattle.gates.specs.Slots.{Slot}
 use Rattle.history.specs.declared.req.Req.{Req}

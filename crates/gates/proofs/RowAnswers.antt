@@ -11,7 +11,7 @@ use Rattle.history.proofs.Requests.{and_left, and_right}
 use Rattle.gates.specs.declared.cell.Cell.{Cell}
 use Rattle.gates.specs.declared.gate.Asked.TheVariants.{Open as open_now, OpenWith as open_with}
 use Rattle.gates.specs.Slots.{Slot, slot_of, is_pending, passes}
-use Rattle.gates.specs.Rows.{Kept, HasCell, IsSound, Stands, Waits, place_by, asked_by, IsBlockerAt}
+use Rattle.gates.specs.EntryRows.{Kept, HasCell, IsSound, Stands, Waits, place_by, asked_by, IsBlockerAt}
 use Rattle.gates.specs.Shows.{nth, Trails, IsAsked, named_in}
 use Rattle.gates.proofs.Lists.{get_there, one_some}
 use Rattle.gates.proofs.Marks.{P, S, Bars}

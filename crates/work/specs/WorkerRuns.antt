@@ -9,7 +9,7 @@ use Rattle.history.specs.declared.event.Event.TheVariants.{Park, Reply}
 use Rattle.history.specs.Answers.{OpAnswers, is_pipe}
 use Rattle.history.specs.Chains.{IsPlaced}
 use Rattle.history.specs.Legal.{Legal}
-use Rattle.answers.specs.Ends.{pipe_in}
+use Rattle.answers.specs.NamedEnds.{pipe_in}
 use Rattle.steps.specs.declared.line.Line.{Line}
 use Rattle.steps.specs.declared.line.Line.TheVariants.{Did}
 use Rattle.steps.specs.declared.view.Role.TheVariants.{Idle, Busy}
