@@ -21,7 +21,6 @@ pub mod LaneSeats
 pub mod BatchesKept
 pub mod Watching
 pub mod PutBack
-pub mod FactsRead
 pub mod WordOutcomes
 pub mod RowLaws
 pub mod LastSteps

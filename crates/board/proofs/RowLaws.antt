@@ -30,7 +30,8 @@ use Rattle.history.proofs.Requests.{same_false}
 use Rattle.steps.specs.Journal.{events_of}
 use Rattle.work.specs.Board.{Facts, IsBoard}
 use Rattle.work.proofs.GridRows.{counts_at, cell_says, located_is}
-use Rattle.board.specs.PollerRows.{KnowsRow, IsNumbered, IsAt, IsOurs, Watches, Watched, HasOutcome, TellsFacts, AreFacts, owed}
+use Rattle.board.specs.PollerRows.{KnowsRow, IsNumbered, IsAt, IsOurs, Watches, Watched, HasOutcome, owed}
+use Rattle.steps.specs.FactsTold.{TellsFacts, AreFacts}
 use Rattle.board.proofs.GoesLaws.{events_before}
 use Rattle.work.specs.Passes.{Pass, pass_of}
 use Rattle.board.specs.Calls.{Goes}

@@ -13,7 +13,8 @@ use Rattle.steps.specs.Fairness.{IsReaped}
 use Rattle.steps.specs.Journal.{events_of}
 use Rattle.steps.specs.Rule.{Shown}
 use Rattle.steps.proofs.ClaimWords.{done_word}
-use Rattle.board.specs.PollerRows.{HasOutcome, TellsFacts, IsNumbered}
+use Rattle.board.specs.PollerRows.{HasOutcome, IsNumbered}
+use Rattle.steps.specs.FactsTold.{TellsFacts}
 
 -- the generation of a request that a cell may have
 pub few_generations : (K : List ℕ) (x g : ℕ) (q : Req) → IsCell K x → request_at K x g ≡ q → IsNumbered K q → g < 16777216

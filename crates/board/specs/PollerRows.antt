@@ -17,6 +17,7 @@ use Rattle.steps.specs.declared.parcel.Thing.{Thing}
 use Rattle.steps.specs.declared.view.Step.{Step}
 use Rattle.steps.specs.declared.view.View.{View}
 use Rattle.steps.specs.Fairness.{IsReaped}
+use Rattle.steps.specs.FactsTold.{TellsFacts}
 use Rattle.steps.specs.Journal.{events_of, freed}
 use Rattle.steps.specs.Notes.{row_number}
 use Rattle.steps.specs.Cells.{IsCell, cells_in, request_at}
@@ -77,18 +78,6 @@ Paid v w after before = (steps : List Step) × (w.steps ≡ steps ++ v.steps) ×
 -- how many steps it takes at most until the row has the first n requests, and has passed all that are pending in it
 abbrev pub owed : Kept → ℕ → ℕ
 owed r n = 4 * (n - added r) + 3 * waiting r
-
--- the facts are those of a request that is placed as e
-pub record AreFacts (w : FactsParts) (e : Entry) (last : Bool) : Type 0 where
-  pub row : w.row ≡ row_number e.op
-  pub drains_is : w.drains ≡ drains e
-  pub soft : w.links_soft ≡ links_soft e
-  pub hard : w.links_hard ≡ links_hard e
-  pub last_is : w.last ≡ last
-
--- what facts that name the request's own generation tell of it: its entry, and its outcome once it was reaped
-abbrev pub TellsFacts : List Event → Req → FactsParts → Type 0
-TellsFacts h q w = (y : Submission) × (e : Entry) × (submission h q ≡ Some y) × IsPlaced h q e × AreFacts w e y.last × (IsReaped (phase h q) → (res : ℤ) → reply h q ≡ Some res → w.payload ≡ bit (fails e res))
 
 -- and those of another generation
 abbrev pub ToldFacts : List Event → Req → Option FactsParts → Type 0

@@ -10,7 +10,8 @@ ghost use Rattle.history.specs.Chains.{Open, Severed};
 ghost use Rattle.steps.specs.Journal.{events_of};
 ghost use Rattle.steps.specs.Cells.{claim_at};
 ghost use Rattle.work.specs.Passes.{pass_of};
-ghost use Rattle.board.specs.PollerRows.{KnowsRow, Watches, IsNumbered, IsAt, IsOurs, Watched, Paid, owed, AreFacts, ToldFacts, TellsOutcome, looks_for, Decides, Passes, Advances};
+ghost use Rattle.board.specs.PollerRows.{KnowsRow, Watches, IsNumbered, IsAt, IsOurs, Watched, Paid, owed, ToldFacts, TellsOutcome, looks_for, Decides, Passes, Advances};
+ghost use Rattle.steps.specs.FactsTold.{AreFacts};
 ghost use Rattle.board.specs.Seats.{IsPollerSeat};
 ghost use Rattle.gates.specs.Shows.{nth};
 

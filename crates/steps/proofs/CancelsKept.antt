@@ -7,7 +7,6 @@ use Rattle.history.specs.History.{Hit, nothing, took, missed, runs, hit, phase, 
 use Rattle.history.specs.Chains.{IsBefore, placed}
 use Rattle.history.specs.Answers.{Matches, NoneLeft, CancelAnswers}
 use Rattle.history.specs.Legal.{Setup}
-use Rattle.history.proofs.Opening.{placed_stays}
 use Rattle.steps.specs.declared.parcel.Thing.{Thing}
 use Rattle.steps.specs.declared.view.Layout.{Layout}
 use Rattle.steps.specs.declared.view.Role.{Role}
@@ -18,8 +17,9 @@ use Rattle.steps.specs.Cells.{setup_of}
 use Rattle.steps.specs.Rule.{NoneOf, Ruled}
 use Rattle.steps.specs.Plays.{Seated}
 use Rattle.steps.proofs.JournalGrowth.{replied_later, counted_in, legal_before}
+use Rattle.steps.proofs.MatchesKept.{placed_on, match_on, match_off}
 use Rattle.steps.proofs.OwnFacts.{same_hit}
-use Rattle.steps.proofs.StepKinds.{There, later, past_is, legal_now, none_now, lasts_now}
+use Rattle.steps.proofs.StepKinds.{There, later, past_is, legal_now, none_now}
 
 answer_by : (h n : List Event) (c : Req) (res : ℤ) → (NoneLeft h c → NoneLeft n c) → (x : Hit) → CancelAnswers h c x res → CancelAnswers n c x res
 answer_by h n c res none (took t) a = a
@@ -39,9 +39,8 @@ module _ (slots id : ℕ) (me : Seated) where
   abbrev St : Type 0
   St = State (Option Thing) View
 
-  -- what a request stands for stays, also where it isn't known
   pub placed_same : (q : Req) (s : St) (r : Ruled L s) → There slots id me s → q.k < submits (events_of v.seen) q.ring → placed (events_of r.past) q ≡ placed (events_of v.seen) q
-  placed_same q s r at born = lasts_now slots id me s r at (λ h. placed h q ≡ placed (events_of v.seen) q) q (λ e h l a c is. placed_stays S e h l a q c ∙ is) born refl
+  placed_same q s r at born = ap (λ j. placed (events_of j) q) (past_is slots id me s r at) ∙ placed_on S (later slots id me s r at) v.seen (legal_now slots id me s r at) q born
 
   module _ (c : Req) (busy : v.role ≡ Busy c) where
     pub hit_now : (s : St) (r : Ruled L s) → There slots id me s → hit (events_of r.past) c ≡ hit (events_of v.seen) c
@@ -50,15 +49,12 @@ module _ (slots id : ℕ) (me : Seated) where
     c_born : (s : St) (r : Ruled L s) → There slots id me s → c.k < submits (events_of v.seen) c.ring
     c_born s r at = counted_in S v.seen c runs (legal_before S (later slots id me s r at) v.seen (legal_now slots id me s r at)) ((r.seats id v at).busy c busy).1 (λ e. cc)
 
-    earlier : (s : St) (r : Ruled L s) → There slots id me s → (t : Req) → IsBefore t c → placed (events_of r.past) t ≡ placed (events_of v.seen) t
-    earlier s r at t b = placed_same t s r at (subst (λ (i : ℕ). t.k < submits (events_of v.seen) i) (sym b.0) (let k = b.1 in let l = c_born s r at in omega arith))
-
     -- it is meant for the same requests
     pub match_now : (s : St) (r : Ruled L s) → There slots id me s → (t : Req) → Matches (events_of v.seen) c t → Matches (events_of r.past) c t
-    match_now s r at t m = (m.0, m.1, m.2, placed_same c s r at (c_born s r at) ∙ m.3, earlier s r at t m.0 ∙ m.4, m.5)
+    match_now s r at t m = subst (λ j. Matches (events_of j) c t) (sym (past_is slots id me s r at)) (match_on S (later slots id me s r at) v.seen (legal_now slots id me s r at) c (c_born s r at) t m)
 
     pub match_was : (s : St) (r : Ruled L s) → There slots id me s → (t : Req) → Matches (events_of r.past) c t → Matches (events_of v.seen) c t
-    match_was s r at t m = (m.0, m.1, m.2, sym (placed_same c s r at (c_born s r at)) ∙ m.3, sym (earlier s r at t m.0) ∙ m.4, m.5)
+    match_was s r at t m = match_off S (later slots id me s r at) v.seen (legal_now slots id me s r at) c (c_born s r at) t (subst (λ j. Matches (events_of j) c t) (past_is slots id me s r at) m)
 
     pub answered_now : (s : St) (r : Ruled L s) → There slots id me s → (t : Req) → IsReplied (phase (events_of v.seen) t) → IsReplied (phase (events_of r.past) t)
     answered_now s r at t d = subst (λ j. IsReplied (phase (events_of j) t)) (sym (past_is slots id me s r at)) (replied_later S (later slots id me s r at) v.seen t (legal_now slots id me s r at) d)

@@ -24,3 +24,7 @@ pub mod EndingIdle
 pub mod TimerSteps
 pub mod CancelSteps
 pub mod CancelsKept
+pub mod FactsRead
+pub mod CancelOnce
+pub mod MatchesKept
+pub mod IdleWords

@@ -9,7 +9,7 @@ use Rattle.entry.specs.Entry.{Entry, fails}
 use Rattle.history.specs.declared.req.Req.{Req}
 use Rattle.history.specs.declared.event.Event.{Event}
 use Rattle.history.specs.declared.event.Event.TheVariants.{Park, Reply}
-use Rattle.history.specs.History.{by_reply, waits, runs, replied, phase, submission, submits, IsReplied}
+use Rattle.history.specs.History.{by_reply, waits, runs, replied, phase, submission, submits, hit, nothing, IsReplied}
 use Rattle.history.specs.Chains.{IsPlaced}
 use Rattle.history.specs.Legal.{Legal}
 use Rattle.history.proofs.Requests.{same_itself}
@@ -33,7 +33,7 @@ use Rattle.steps.specs.Cells.{IsCell, request_at, IsParcel, claim_at, slot_at, w
 use Rattle.steps.specs.Rule.{workers, stands_for, apart, owns, Ruled, Extends}
 use Rattle.steps.specs.Plays.{MayReply, sure, replied_with, parked}
 use Rattle.steps.proofs.CellNumbers.{other_cell, other_age, one_word, one_result}
-use Rattle.steps.proofs.CancelsKept.{cancel_now}
+use Rattle.steps.proofs.CancelsKept.{hit_now, cancel_now}
 use Rattle.steps.proofs.PipesKept.{answer_stays, one_data, reply_leaves}
 use Rattle.steps.proofs.PipeSteps.{has_now}
 use Rattle.steps.proofs.Roles.{idle_apart, leaving_apart}
@@ -167,8 +167,9 @@ module _ (slots id : ℕ) (me : Seated) where
         (λ s r at legal. leaves_run s r at (Did (Reply q res data')) q refl legal busy (subst IsReplied (sym (done Leaving e res may (events_of r.past))) tt) (λ _. refl)) (leaving_apart q) is_old is_new fb bits
 
     -- PARK
-    park_does : (old new : ℕ) → data' ≡ [] → ((n : ℕ) → holder v.seen n ≢ Some q) → new ≡ word_of Ready 0 g 0 → (s : St) (r : Ruled L s) → There slots id me s → (get_or s.words (claim_at x) 0 ≡ word_of Running 0 g 0) × Does slots id me L s (claim_at x) new (parked (step slots (claim_at x) old new none) me x q)
-    park_does old new none' bare is_new s r at =
+    park_does : (old new : ℕ) → hit (events_of v.seen) q ≡ nothing → data' ≡ [] → ((n : ℕ) → holder v.seen n ≢ Some q) → new ≡ word_of Ready 0 g 0 → (s : St) (r : Ruled L s) → There slots id me s → (get_or s.words (claim_at x) 0 ≡ word_of Running 0 g 0) × Does slots id me L s (claim_at x) new (parked (step slots (claim_at x) old new none) me x q)
+    park_does old new unhit none' bare is_new s r at =
+        let fair : hit (events_of r.past) q ≡ nothing = hit_now slots id me q busy s r at ∙ unhit in
         let l : Line = Did (Park q) in let now = running_now s r at in let running = now.1 in
         let here = says_of K r.past x _ _ Running 0 g 0 (r.cells x inside) now.2 (omega arith) f (omega arith) in
         let legal : Legal S (events_of (l ∷ r.past)) = ((r.live, running), r.legal) in let waiting : phase (events_of (l ∷ r.past)) q ≡ waits = now_is _ _ _ (same_itself q) in (
@@ -177,7 +178,7 @@ module _ (slots id : ℕ) (me : Seated) where
             with_line slots id me (claim_at x) s r.past l Idle,
             gives,
             tt,
-            home_again slots id me x new (Some (Full p)) s (with_line slots id me (claim_at x) s r.past l Idle) out (adds_claim L s r id v Idle x new (set s.homes (slot_at x) (some (Some (Full p)))) l (tick slots id me (claim_at x) s (l ∷ r.past)) inside refl (quiet_line L r.past l tt r.live refl (λ p. (refl, refl)))
+            home_again slots id me x new (Some (Full p)) s (with_line slots id me (claim_at x) s r.past l Idle) out (adds_claim L s r id v Idle x new (set s.homes (slot_at x) (some (Some (Full p)))) l (tick slots id me (claim_at x) s (l ∷ r.past)) inside refl (quiet_line L r.past l fair r.live refl (λ p. (refl, refl)))
                 (ends_run slots id me s r at l q refl legal busy (λ u. (let z = sym waiting ∙ u in cc)) bare (λ _. refl)) legal at
                 (λ i u other there. ((owned L s r id v l at (own_line l (same_itself q)) i u other there).0, idle_apart u.role))
                 (λ y h other k. other_cell K x y g k inside h other) (λ w. refl) (length-set s.homes (slot_at x) (some (Some (Full p)))) (λ y other. set_else s.homes (slot_at x) y (some (Some (Full p))) other) record {
@@ -190,10 +191,10 @@ module _ (slots id : ℕ) (me : Seated) where
                   says = (refl, refl, waiting, here.0.3, here.0.4, (p, set_here s.homes (slot_at x) (some (Some (Full p))) (r.deep x inside), subst (λ (d : List ℕ). IsParcel r.past q d p) none' (parcel_now s r at q data' p now.0 given)), may_stays S l r.past legal q (counted_in S r.past q runs r.legal running (λ e. cc)) here.0.5);
                   ages = ages_stay S l r.past legal K x g (λ n other. other_age K x g n inside other) here.1;
                 }),
-            (extends slots id me s r at l Idle legal r.live tt (tick slots id me (claim_at x) s (l ∷ r.past)), refl),
+            (extends slots id me s r at l Idle legal r.live fair (tick slots id me (claim_at x) s (l ∷ r.past)), refl),
             refl,
           ),
         )
 
-    pub park_allows : (M : Layout) (old new : ℕ) → data' ≡ [] → ((n : ℕ) → holder v.seen n ≢ Some q) → old ≡ word_of Running 0 g 0 → new ≡ word_of Ready 0 g 0 → Allows (Ruled M) slots id me (claim_at x) (λ n. either (eqb n old) new n) (sure Running parked (step slots (claim_at x) old new none) me)
-    park_allows M old new none' bare is_old is_new = sures slots id me M Running parked x 0 g 0 old new (λ z. (let y = sym busy ∙ z in cc)) (omega arith) f (omega arith) is_old (park_does old new none' bare is_new)
+    pub park_allows : (M : Layout) (old new : ℕ) → hit (events_of v.seen) q ≡ nothing → data' ≡ [] → ((n : ℕ) → holder v.seen n ≢ Some q) → old ≡ word_of Running 0 g 0 → new ≡ word_of Ready 0 g 0 → Allows (Ruled M) slots id me (claim_at x) (λ n. either (eqb n old) new n) (sure Running parked (step slots (claim_at x) old new none) me)
+    park_allows M old new unhit none' bare is_old is_new = sures slots id me M Running parked x 0 g 0 old new (λ z. (let y = sym busy ∙ z in cc)) (omega arith) f (omega arith) is_old (park_does old new unhit none' bare is_new)

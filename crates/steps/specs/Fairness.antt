@@ -3,8 +3,8 @@ use Rattle.std.specs.Prelude.{◌≡◌, ℕ, ◌+◌, ◌*◌, ◌%◌, ◌<◌
 use Rattle.entry.specs.Entry.{Entry, fails}
 use Rattle.history.specs.declared.req.Req.{Req}
 use Rattle.history.specs.declared.event.Event.{Event}
-use Rattle.history.specs.declared.event.Event.TheVariants.{Submit, Reply, Reap}
-use Rattle.history.specs.History.{Cause, Phase, unborn, waits, replied, reaped, Submission, submission, phase, reply}
+use Rattle.history.specs.declared.event.Event.TheVariants.{Submit, Park, Reply, Reap}
+use Rattle.history.specs.History.{Cause, Phase, unborn, waits, replied, reaped, Submission, submission, phase, reply, hit, nothing}
 use Rattle.history.specs.Chains.{before_in, placed, Open, is_timer, IsPlaced, IsChainDone}
 use Rattle.history.specs.Answers.{is_pipe}
 use Rattle.history.specs.Legal.{IsOf}
@@ -56,10 +56,11 @@ IsFactsNote K j r word value unborn = (x : ℕ) × (g : ℕ) × (n : ℕ) × IsI
 IsFactsNote K j r word value (replied c res) = (x : ℕ) × (g : ℕ) × (e : Entry) × IsIn K r x g × (g < 16777216) × (word ≡ facts_at x) × IsPlaced (events_of j) r e × (value ≡ outcome_of (noted j (facts_at x)) (fails e res))
 IsFactsNote K j r word value _ = ⊥
 
--- only who has a pipe of the board changes it or gives it back, and nobody takes it from him; only what waits, is open and is a worker's to run is moved to Ready, and once; a cell goes on only when it is free, and its notes go on with it; a request is reaped by who has its slot
+-- only who has a pipe of the board changes it or gives it back, and nobody takes it from him; only what waits, is open and is a worker's to run is moved to Ready, and once; a cell goes on only when it is free, and its notes go on with it; a request is reaped by who has its slot; a cancel that took its target, or found it running, is not put back
 abbrev pub Fair : Layout → List Line → Line → Type 0
 Fair L j (Did (Submit r e bytes last)) = Serves (before_in (events_of j) r) e × IsFree L.cells (events_of j) r × AreNoted L.cells j r e bytes last
 Fair L j (Did (Reply r res data')) = (p : ℕ) → is_pipe L.caps p ≡ true → touches (placed (events_of j) r) p ≡ true → holder j p ≡ Some r
+Fair L j (Did (Park r)) = hit (events_of j) r ≡ nothing
 Fair L j (Did (Reap r)) = lent j r ≡ true
 Fair L j (Freed r) = (phase (events_of j) r ≡ waits) × Open (events_of j) r × IsOf (events_of j) r is_timer false × (freed j r ≡ false)
 Fair L j (Lent r word value) = IsFactsNote L.cells j r word value (phase (events_of j) r)

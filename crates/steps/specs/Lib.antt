@@ -4,3 +4,4 @@ pub mod Journal
 pub mod Notes
 pub mod Plays
 pub mod Rule
+pub mod FactsTold

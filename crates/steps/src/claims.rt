@@ -1,10 +1,15 @@
 //! The claim words that steps write and look for.
-ghost use Rattle.std.specs.Prelude.{◌≡◌, ◌<◌, ℕ, negsuc, false, cond};
-ghost use Rattle.claim.specs.declared.tag.Tag.TheVariants.{Empty, Held, Ready, Running, Armed, Done};
-ghost use Rattle.history.specs.History.{by_reply, by_take, by_expire, by_fire, by_settle, by_sever};
-ghost use Rattle.steps.specs.Cells.{word_of, reply_bits, cause_bits};
+ghost use Rattle.std.specs.Prelude.{◌≡◌, ◌≢◌, ◌<◌, ℕ, List, negsuc, false, cond};
+ghost use Rattle.claim.specs.declared.tag.Tag.TheVariants.{Empty, Held, Ready, Running as RunningTag, Armed, Done};
+ghost use Rattle.history.specs.History.{by_reply, by_take, by_expire, by_fire, by_settle, by_sever, phase, unborn, IsReplied};
+ghost use Rattle.steps.specs.declared.claims.Standing.TheVariants.{Idle, Running, Over};
+ghost use Rattle.steps.specs.declared.line.Line.{Line};
+ghost use Rattle.steps.specs.Cells.{request_at, word_of, reply_bits, cause_bits};
+ghost use Rattle.steps.specs.Journal.{events_of};
+ghost use Rattle.steps.specs.Plays.{IsIdleWord};
+ghost use Rattle.steps.specs.Rule.{Shown};
 
-use claim::{Cause, ClaimWord, pack};
+use claim::{Cause, ClaimWord, Tag, pack, unpack};
 
 /// The reply of a request that was ended before it ran: -ECANCELED.
 const CANCELED: i32 = -125;
@@ -29,7 +34,7 @@ pub(crate) fn held(generation: u32) -> u64
 }
 
 /// A worker may begin the request.
-pub(crate) fn ready(generation: u32) -> u64
+pub fn ready(generation: u32) -> u64
     requires { generation < 16777216 }
     ensures { result ≡ word_of Ready 0 generation 0 }
 {
@@ -39,7 +44,7 @@ pub(crate) fn ready(generation: u32) -> u64
 /// A worker runs the request.
 pub(crate) fn running(generation: u32) -> u64
     requires { generation < 16777216 }
-    ensures { result ≡ word_of Running 0 generation 0 }
+    ensures { result ≡ word_of RunningTag 0 generation 0 }
 {
     pack(ClaimWord::running(generation))
 }
@@ -99,4 +104,35 @@ pub(crate) fn settled(generation: u32, in_time: bool) -> u64
 {
     let reply = if in_time { TIMED_OUT } else { CANCELED };
     pack(ClaimWord::done(generation, Cause::Settle, false, reply))
+}
+
+/// Where a request stands for one that would end it before it runs.
+#[derive(Clone, Copy, PartialEq, Eq, Debug)]
+pub enum Standing {
+    /// It waits or is armed.
+    Idle,
+    /// A worker runs it.
+    Running,
+    /// It has replied.
+    Over,
+}
+
+/// Where the request of this generation stands, as the word of its cell tells.
+pub fn stands_at(word: u64, generation: u32) -> Standing
+    requires { generation < 16777216 }
+    ensures idle { result ≡ Idle → IsIdleWord generation word }
+    ensures running { result ≡ Running → word ≡ word_of RunningTag 0 generation 0 }
+    ensures over { result ≡ Over → (K : List ℕ) (j : List Line) (x : ℕ) → Shown K j x word → phase (events_of j) (request_at K x generation) ≢ unborn → IsReplied (phase (events_of j) (request_at K x generation)) }
+{
+    let Some(claim) = unpack(word) else {
+        return Standing::Over;
+    };
+    if claim.generation != generation {
+        return Standing::Over;
+    }
+    match claim.tag {
+        Tag::Held | Tag::Ready | Tag::Armed => Standing::Idle,
+        Tag::Running => Standing::Running,
+        Tag::Empty | Tag::Done => Standing::Over,
+    }
 }

@@ -5,7 +5,7 @@ ghost use Rattle.claim.specs.declared.tag.Tag.TheVariants.{Held, Ready, Running}
 ghost use Rattle.entry.specs.Entry.{Entry, fails as fails_with};
 ghost use Rattle.history.specs.declared.event.Event.TheVariants.{Begin, Park, Reply, Sever};
 ghost use Rattle.history.specs.Chains.{IsPlaced, Severed};
-ghost use Rattle.history.specs.History.{submits};
+ghost use Rattle.history.specs.History.{hit, nothing, submits};
 ghost use Rattle.steps.specs.declared.line.Line.TheVariants.{Did, Freed};
 ghost use Rattle.steps.specs.declared.view.Role.TheVariants.{Poller, Idle, Busy, Spent};
 ghost use Rattle.steps.specs.Journal.{events_of, noted, holder};
@@ -126,12 +126,13 @@ pub fn reply(
     words.compare_exchange::<plays::Reply>(seat, claim_word(cell), running, done);
 }
 
-/// Puts the request that this seat runs back to Ready.
+/// Puts the request that this seat runs back to Ready. It is no cancel that took its target, or found it running.
 pub fn park(words: &Words, seat: &mut TableSeat, cell: usize, generation: u32)
     requires fits { Fits words.now.table_id seat.old cell }
     requires small { generation < 16777216 }
     requires busy { seat.old.me.0.role ≡ Busy (request_at seat.old.me.0.layout.cells cell generation) }
     requires parcel { Hands seat.old.me cell (request_at seat.old.me.0.layout.cells cell generation) [] (rest seat.old.me.1) }
+    requires unhit { hit (events_of seat.old.me.0.seen) (request_at seat.old.me.0.layout.cells cell generation) ≡ nothing }
     requires bare { (p : ℕ) → holder seat.old.me.0.seen p ≢ Some (request_at seat.old.me.0.layout.cells cell generation) }
     ensures seat { IsSameSeat seat.old seat.new × (seat.new.me.1 ≡ rest seat.old.me.1) }
     ensures parks { Extends seat.old.me.0 (Did (Park (request_at seat.old.me.0.layout.cells cell generation))) Idle seat.new.me.0 }

@@ -11,10 +11,11 @@ use Rattle.entry.specs.declared.op.Op.TheVariants.{Nop, Close, Read, Write, Poll
 use Rattle.entry.specs.Entry.{Entry}
 use Rattle.history.specs.declared.req.Req.{Req}
 use Rattle.history.specs.declared.event.Event.{Event}
+use Rattle.history.specs.declared.event.Event.TheVariants.{Begin}
 use Rattle.history.specs.Answers.{OpAnswers, is_pipe}
-use Rattle.history.specs.Chains.{IsPlaced, is_link_timeout, hosts, before_in, placed_behind, placed_from}
-use Rattle.history.specs.History.{submission, Submission, was_shut}
-use Rattle.history.specs.Legal.{Legal, Setup, FitsOp}
+use Rattle.history.specs.Chains.{IsPlaced, is_link_timeout, is_timer, hosts, before_in, placed_behind, placed_from}
+use Rattle.history.specs.History.{submission, Submission, hit, nothing, was_shut}
+use Rattle.history.specs.Legal.{Legal, Setup, FitsOp, IsOf as IsOfKind}
 use Rattle.history.proofs.Requests.{bool_cases}
 use Rattle.history.specs.Pipes.{flow, flows, flows_as, End, read_end, write_end, no_end, end_of}
 use Rattle.pipe.specs.Pipe.{Conduit}
@@ -30,10 +31,12 @@ use Rattle.steps.specs.declared.view.Step.{Step}
 use Rattle.steps.specs.declared.view.View.{View}
 use Rattle.steps.specs.Fairness.{Orderly}
 use Rattle.steps.specs.Journal.{event_of, events_of, holder, is_end_of, uses, is_served}
-use Rattle.steps.specs.Cells.{setup_of, IsCell, request_at, slot_at, over, IsParcel, PipeIs}
+use Rattle.steps.specs.Cells.{setup_of, IsCell, request_at, claim_at, slot_at, over, IsParcel, PipeIs}
 use Rattle.steps.specs.Plays.{Seated, MayReply}
 use Rattle.steps.specs.Rule.{NoneOf, Begins, Looks, Extends, IsStep, leaves}
 use Rattle.steps.proofs.JournalGrowth.{lasts, placed_lasts, submission_lasts, submitted_in}
+use Rattle.steps.proofs.CancelOnce.{IsEarly, unhit as not_hit}
+use Rattle.steps.proofs.OwnFacts.{same_hit}
 use Rattle.steps.proofs.Served.{fits_is, serves_is}
 use Rattle.steps.proofs.ViewsKept.{layout_after, role_after, parts_after, parcel_after}
 use Rattle.work.specs.Board.{Facts, IsOf, share_of}
@@ -42,17 +45,18 @@ use Rattle.work.specs.WorkerRuns.{EndsBy, names, op_run, run_as}
 use Rattle.work.proofs.OwnEvents.{own_append, silent_own}
 use Rattle.work.proofs.PassesKept.{extended_of}
 
--- a worker runs the entry as it was placed
-run_op : (b : Option Submission) (op : Op) (e : Entry) → is_served (cond (is_link_timeout op && not (hosts b)) (record e { op = Invalid }) (record e { op = op })).op ≡ true → cond (is_link_timeout op && not (hosts b)) (record e { op = Invalid }) (record e { op = op }) ≡ record e { op = op_run op }
+-- a worker runs the entry as it was placed, which is no timer
+run_op : (b : Option Submission) (op : Op) (e : Entry) → is_timer (cond (is_link_timeout op && not (hosts b)) (record e { op = Invalid }) (record e { op = op })).op ≡ false → cond (is_link_timeout op && not (hosts b)) (record e { op = Invalid }) (record e { op = op }) ≡ record e { op = op_run op }
 run_op b (LinkTimeout ticks) e s = ⊎_elim
-    (λ (w : hosts b ≡ true). absurd (true≢false (sym s ∙ ap (λ (z : Bool). is_served (cond (not z) (record e { op = Invalid }) (record e { op = LinkTimeout ticks })).op) w)))
+    (λ (w : hosts b ≡ true). absurd (true≢false (sym (ap (λ (z : Bool). is_timer (cond (not z) (record e { op = Invalid }) (record e { op = LinkTimeout ticks })).op) w) ∙ s)))
     (λ (w : hosts b ≡ false). ap (λ (z : Bool). cond (not z) (record e { op = Invalid }) (record e { op = LinkTimeout ticks })) w) (bool_cases (hosts b))
 run_op b op e s = refl
 
-pub entry_run : (v : View) (r : Req) (data' : List ℕ) (p : Parcel) → Legal (setup_of v.layout) (events_of v.seen) → Orderly v.layout v.seen → IsParcel v.seen r data' p → IsPlaced (events_of v.seen) r (run_as p.sqe)
-entry_run v r d p l o k =
+pub entry_run : (v : View) (r : Req) (data' : List ℕ) (p : Parcel) → IsOfKind (events_of v.seen) r is_timer false → IsParcel v.seen r data' p → IsPlaced (events_of v.seen) r (run_as p.sqe)
+entry_run v r d p o k =
     let b = before_in (events_of v.seen) r in let is : IsPlaced (events_of v.seen) r (placed_behind b p.sqe) = ap (placed_from b) k.1 in
-    is ∙ ap Some (run_op b p.sqe.op p.sqe (serves_is v.layout (setup_of v.layout) v.seen r _ (placed_behind b p.sqe) l o k.1 is))
+    let same' : o.0 ≡ placed_behind b p.sqe = (let z = sym o.1 ∙ is in cc) in
+    is ∙ ap Some (run_op b p.sqe.op p.sqe (ap (λ (e : Entry). is_timer e.op) (sym same') ∙ o.2))
 
 -- what names a pipe is run as it was handed in
 pub run_named : (op : Op) → pipe_in (op_run op) ≡ pipe_in op
@@ -149,21 +153,30 @@ names_one caps o n is lt = ap (names caps) is ∙ grind (arith, nat_tests)
 -- ---- who runs a request goes on to run it
 
 module _ (table : TableId) (v w : View) (x g : ℕ) (r : Req) (p : Parcel) (pipes : ℕ) (k : RunsIt table v x g r p pipes) where
-  kept_by : w.layout ≡ v.layout → w.role ≡ Busy r → w.parts ≡ v.parts → IsParcel w.seen r [] p → Orderly w.layout w.seen → Legal (setup_of w.layout) (events_of w.seen) → RunsIt table w x g r p pipes
-  kept_by same role parts parcel orderly legal = record {
+  kept_by : w.layout ≡ v.layout → w.role ≡ Busy r → w.parts ≡ v.parts → IsParcel w.seen r [] p → IsOfKind (events_of w.seen) r is_timer false → hit (events_of w.seen) r ≡ nothing → Orderly w.layout w.seen → Legal (setup_of w.layout) (events_of w.seen) → RunsIt table w x g r p pipes
+  kept_by same role parts parcel kind unhit orderly legal = record {
     req_is = ap (λ (L : Layout). request_at L.cells x g) same ∙ k.req_is;
     fits = (k.fits.0, subst (λ (L : Layout). IsCell L.cells x) (sym same) k.fits.1, k.fits.2, k.fits.3);
     pipes_are = (ap (λ (L : Layout). length L.caps) same ∙ k.pipes_are.0, k.pipes_are.1);
     role = role;
     parts = subst (λ (n : ℕ). 0 < n) (sym parts) k.parts;
     parcel = parcel;
+    kind = kind;
+    unhit = unhit;
     orderly = orderly;
     legal = legal;
   }
 
-  pub runs_on : (l : Line) → Extends v l (Busy r) w → RunsIt table w x g r p pipes
-  runs_on l e = let same = layout_after v w l (Busy r) e in let seen = ap (λ (z : View). z.seen) e.is in
+  -- the kind that was placed stays
+  kind_on : (j : List Line) → Legal (setup_of v.layout) (events_of (j ++ v.seen)) → IsOfKind (events_of (j ++ v.seen)) r is_timer false
+  kind_on j l = let S : Setup = setup_of v.layout in (k.kind.0, lasts S (λ h. IsPlaced h r k.kind.0) r (placed_lasts S r k.kind.0) j v.seen l (submitted_in S v.seen r _ k.legal k.parcel.1) k.kind.1, k.kind.2)
+
+  pub runs_on : (l : Line) → ((j : List Line) → events_of (l ∷ j) ≡ events_of j) → Extends v l (Busy r) w → RunsIt table w x g r p pipes
+  runs_on l silent e = let S : Setup = setup_of v.layout in let all : w.seen ≡ (l ∷ e.saw.later) ++ v.seen = ap (λ (z : View). z.seen) e.is ∙ ap (λ (j : List Line). l ∷ j) e.saw.is in
+      let same = layout_after v w l (Busy r) e in let seen = ap (λ (z : View). z.seen) e.is in
       kept_by same (role_after v w l (Busy r) e) (parts_after v w l (Busy r) e) (parcel_after v w l (Busy r) e r [] p k.parcel)
+      (subst (λ (j : List Line). IsOfKind (events_of j) r is_timer false) (sym all) (kind_on (l ∷ e.saw.later) (subst (λ (j : List Line). Legal S (events_of (l ∷ j))) e.saw.is e.legal)))
+      (ap (λ (j : List Line). hit (events_of j) r) all ∙ (ap (λ (h : List Event). hit h r) (silent (e.saw.later ++ v.seen)) ∙ (same_hit r e.saw.later v.seen (subst (λ (z : Role). NoneOf z e.saw.later) k.role e.saw.none) ∙ k.unhit)))
       (subst (λ (z : Layout × List Line). Orderly z.0 z.1) (λ i. (sym same i, sym seen i)) e.orderly) (subst (λ (z : Layout × List Line). Legal (setup_of z.0) (events_of z.1)) (λ i. (sym same i, sym seen i)) e.legal)
 
   pub runs_look : Looks v w → RunsIt table w x g r p pipes
@@ -171,11 +184,13 @@ module _ (table : TableId) (v w : View) (x g : ℕ) (r : Req) (p : Parcel) (pipe
       let legal : Legal S (events_of (e.saw.later ++ v.seen)) = subst (λ (j : List Line). Legal S (events_of j)) e.saw.is e.legal in
       kept_by same (ap (λ (z : View). z.role) e.is ∙ k.role) (ap (λ (z : View). z.parts) e.is)
       (k.parcel.0, subst (λ (j : List Line). submission (events_of j) r ≡ Some (record { entry = p.sqe; bytes = k.parcel.0; last = p.last })) (sym (seen ∙ e.saw.is)) (lasts S (λ h. submission h r ≡ Some (record { entry = p.sqe; bytes = k.parcel.0; last = p.last })) r (submission_lasts S r _) e.saw.later v.seen legal (submitted_in S v.seen r _ k.legal k.parcel.1) k.parcel.1), k.parcel.2)
+      (subst (λ (j : List Line). IsOfKind (events_of j) r is_timer false) (sym (seen ∙ e.saw.is)) (kind_on e.saw.later legal))
+      (ap (λ (j : List Line). hit (events_of j) r) (seen ∙ e.saw.is) ∙ (same_hit r e.saw.later v.seen (subst (λ (z : Role). NoneOf z e.saw.later) k.role e.saw.none) ∙ k.unhit))
       (subst (λ (z : Layout × List Line). Orderly z.0 z.1) (λ i. (sym same i, sym seen i)) e.orderly) (subst (λ (z : Layout × List Line). Legal (setup_of z.0) (events_of z.1)) (λ i. (sym same i, sym seen i)) e.legal)
 
   -- the entry that was placed, and its buffer
   pub runs_placed : IsPlaced (events_of v.seen) r (run_as p.sqe)
-  runs_placed = entry_run v r [] p k.legal k.orderly k.parcel
+  runs_placed = entry_run v r [] p k.kind k.parcel
 
   pub runs_entry : (e : Entry) → IsPlaced (events_of v.seen) r e → run_as p.sqe ≡ e
   runs_entry e is = let z = sym runs_placed ∙ is in cc
@@ -193,6 +208,10 @@ module _ (table : TableId) (v w : View) (x g : ℕ) (r : Req) (p : Parcel) (pipe
   pub runs_served : is_served (op_run p.sqe.op) ≡ true
   runs_served = serves_is v.layout (setup_of v.layout) v.seen r _ (run_as p.sqe) k.legal k.orderly k.parcel.1 runs_placed
 
+  -- it is no timer
+  pub runs_kind : is_timer (op_run p.sqe.op) ≡ false
+  runs_kind = let same' : k.kind.0 ≡ run_as p.sqe = (let z = sym k.kind.1 ∙ runs_placed in cc) in ap (λ (e : Entry). is_timer e.op) (sym same') ∙ k.kind.2
+
   -- the same with another parcel of the same entry and bytes
   pub runs_same : (c : Parcel) → c.sqe ≡ p.sqe → c.last ≡ p.last → c.buffer.items ≡ p.buffer.items → RunsIt table v x g r c pipes
   runs_same c sqe last items = record {
@@ -201,6 +220,8 @@ module _ (table : TableId) (v w : View) (x g : ℕ) (r : Req) (p : Parcel) (pipe
     pipes_are = k.pipes_are;
     role = k.role;
     parts = k.parts;
+    kind = k.kind;
+    unhit = k.unhit;
     parcel = (k.parcel.0, k.parcel.1 ∙ (λ i. Some (record { entry = sym sqe i; bytes = k.parcel.0; last = sym last i })), items ∙ k.parcel.2);
     orderly = k.orderly;
     legal = k.legal;
@@ -217,6 +238,22 @@ module _ (table : TableId) (v w : View) (x g : ℕ) (r : Req) (p : Parcel) (pipe
   pub placed_on : (l : Line) (role : Role) → Extends v l role w → (e : Entry) → IsPlaced (events_of v.seen) r e → IsPlaced (events_of w.seen) r e
   placed_on l role x e is = let S : Setup = setup_of v.layout in let seen : w.seen ≡ (l ∷ x.saw.later) ++ v.seen = ap (λ (z : View). z.seen) x.is ∙ ap (λ (j : List Line). l ∷ j) x.saw.is in
       subst (λ (j : List Line). IsPlaced (events_of j) r e) (sym seen) (lasts S (λ h. IsPlaced h r e) r (placed_lasts S r e) (l ∷ x.saw.later) v.seen (subst (λ (j : List Line). Legal S (events_of (l ∷ j))) x.saw.is x.legal) (submitted_in S v.seen r _ k.legal k.parcel.1) is)
+
+-- who begins a request runs it
+pub runs_begun : (table : TableId) (v w : View) (x g : ℕ) (r : Req) (p : Parcel) (pipes : ℕ) → Extends v (Did (Begin r)) (Busy r) w → request_at v.layout.cells x g ≡ r → (x < 16384) × IsCell v.layout.cells x × (claim_at x + 7 < table.words) × (g < 16777216) → (length v.layout.caps ≡ pipes) × (pipes ≤ 64) → 0 < v.parts → IsParcel w.seen r [] p → RunsIt table w x g r p pipes
+runs_begun table v w x g r p pipes e req_is fits pipes_are parts parcel =
+    let same = sym (layout_after v w (Did (Begin r)) (Busy r) e) in let seen = sym (ap (λ (z : View). z.seen) e.is) in let may = e.legal.0.1 in record {
+      req_is = subst (λ (L : Layout). request_at L.cells x g ≡ r) same req_is;
+      fits = (fits.0, subst (λ (L : Layout). IsCell L.cells x) same fits.1, fits.2, fits.3);
+      pipes_are = (subst (λ (L : Layout). length L.caps ≡ pipes) same pipes_are.0, pipes_are.1);
+      role = role_after v w (Did (Begin r)) (Busy r) e;
+      parts = subst (λ (n : ℕ). 0 < n) (sym (parts_after v w (Did (Begin r)) (Busy r) e)) parts;
+      parcel = parcel;
+      kind = subst (λ (j : List Line). IsOfKind (events_of j) r is_timer false) seen may.2;
+      unhit = subst (λ (j : List Line). hit (events_of j) r ≡ nothing) seen (not_hit v.layout r e.mid e.legal.1 e.orderly.1 (subst IsEarly (sym may.0) tt));
+      orderly = subst (λ (z : Layout × List Line). Orderly z.0 z.1) (λ i. (same i, seen i)) e.orderly;
+      legal = subst (λ (z : Layout × List Line). Legal (setup_of z.0) (events_of z.1)) (λ i. (same i, seen i)) e.legal;
+    }
 
 -- ---- which pipe an operation names
 

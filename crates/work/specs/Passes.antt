@@ -1,9 +1,11 @@
 -- What contracts see of a pass, and when it belongs to a board.
-use Rattle.std.specs.Prelude.{◌≡◌, ◌≢◌, ℕ, ◌+◌, ◌*◌, ◌<◌, ◌≤◌, cond, List, [], ◌∷◌, ◌++◌, length, slice_index, Option, Some, None}
+use Rattle.std.specs.Prelude.{◌≡◌, ◌≢◌, ℕ, ◌+◌, ◌*◌, ◌<◌, ◌≤◌, cond, false, List, [], ◌∷◌, ◌++◌, length, slice_index, Option, Some, None}
 use Rattle.atomic_table.specs.Seated.{TableId}
 use Rattle.atomic_table.specs.declared.shared.Seat.{Seat}
 use Rattle.history.specs.declared.req.Req.{Req}
 use Rattle.history.specs.declared.event.Event.{Event}
+use Rattle.history.specs.Chains.{is_timer}
+use Rattle.history.specs.History.{hit, nothing}
 use Rattle.history.specs.Pipes.{flow}
 use Rattle.pipe.specs.Pipe.{Conduit}
 use Rattle.answers.specs.Answered.{IsPipe}
@@ -20,7 +22,7 @@ use Rattle.steps.specs.Journal.{event_of, events_of, holder}
 use Rattle.steps.specs.Cells.{setup_of, IsCell, request_at, total, claim_at, slot_at, word_of, IsParcel}
 use Rattle.steps.specs.Plays.{HasAlone}
 use Rattle.steps.specs.Rule.{owns, IsStep}
-use Rattle.history.specs.Legal.{Legal}
+use Rattle.history.specs.Legal.{Legal, IsOf}
 use Rattle.claim.specs.declared.tag.Tag.TheVariants.{Ready}
 
 -- the table that a pass is of, and what it knows
@@ -64,7 +66,7 @@ pub record Running : Type 0 where
   pub pass : Pass
   pub req : Req
 
--- the view of a worker that runs the request r of this cell and generation, whose parcel is p, on a board of so many pipes
+-- the view of a worker that runs the request r of this cell and generation, whose parcel is p, on a board of so many pipes; r is no timer, and where it is a cancel it has neither taken a request nor found one running
 pub record RunsIt (table : TableId) (v : View) (x g : ℕ) (r : Req) (p : Parcel) (pipes : ℕ) : Type 0 where
   pub req_is : request_at v.layout.cells x g ≡ r
   pub fits : (x < 16384) × IsCell v.layout.cells x × (claim_at x + 7 < table.words) × (g < 16777216)
@@ -72,6 +74,8 @@ pub record RunsIt (table : TableId) (v : View) (x g : ℕ) (r : Req) (p : Parcel
   pub role : v.role ≡ Busy r
   pub parts : 0 < v.parts
   pub parcel : IsParcel v.seen r [] p
+  pub kind : IsOf (events_of v.seen) r is_timer false
+  pub unhit : hit (events_of v.seen) r ≡ nothing
   pub orderly : Orderly v.layout v.seen
   pub legal : Legal (setup_of v.layout) (events_of v.seen)
 

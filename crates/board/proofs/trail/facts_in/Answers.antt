@@ -11,8 +11,8 @@ use Rattle.steps.specs.Cells.{IsCell, request_at, setup_of}
 use Rattle.steps.specs.Fairness.{Orderly}
 use Rattle.steps.specs.Journal.{events_of}
 use Rattle.steps.specs.Rule.{Looks}
-use Rattle.board.specs.PollerRows.{TellsFacts}
-use Rattle.board.proofs.FactsRead.{own_facts, other_facts}
+use Rattle.steps.specs.FactsTold.{TellsFacts}
+use Rattle.steps.proofs.FactsRead.{own_facts, other_facts}
 use Rattle.board.proofs.Watching.{watched_look, born_on, paid_one}
 use Rattle.board.proofs.trail.facts_in.Goals as goal
 

@@ -5,7 +5,7 @@ use Rattle.steps.proofs.seat.park.Goals as goal
 
 pub compare_exchange-requires : goal.compare_exchange-requires
 compare_exchange-requires c = let f = c.requires.fits in let h = c.requires.parcel in
-    rw c.claim_word.ensures (f.0, omega arith, park_allows _ _ c.args.seat.now.me c.args.cell c.args.generation h.0 [] c.requires.busy f.2 c.requires.small h.1 h.2 _ _ _ refl c.requires.bare c.running-running.ensures c.ready-ready.ensures)
+    rw c.claim_word.ensures (f.0, omega arith, park_allows _ _ c.args.seat.now.me c.args.cell c.args.generation h.0 [] c.requires.busy f.2 c.requires.small h.1 h.2 _ _ _ c.requires.unhit refl c.requires.bare c.running-running.ensures c.ready-ready.ensures)
 
 pub returns : goal.returns
 returns c = let f = c.requires.fits in let d = c.compare_exchange.ensures.2.1 c.args.cell 0 c.args.generation 0 c.claim_word.ensures f.2 (omega arith) c.requires.small (omega arith) c.running-running.ensures in

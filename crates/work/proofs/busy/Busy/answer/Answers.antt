@@ -20,7 +20,7 @@ use Rattle.steps.specs.Plays.{Seated, MayReply}
 use Rattle.steps.specs.Rule.{Extends, IsStep}
 use Rattle.work.specs.Passes.{Pass, Running, seen_of}
 use Rattle.work.specs.WorkerRuns.{op_run, run_as}
-use Rattle.work.proofs.RunsKept.{runs_placed, runs_served, served_plain, plain_may}
+use Rattle.work.proofs.RunsKept.{runs_placed, runs_entry, runs_served, served_plain, plain_may}
 use Rattle.work.proofs.busy.Busy.answer.Goals as goal
 
 pub answer_without-res-requires-clause-plain : goal.answer_without-res-requires-clause-plain
@@ -54,3 +54,6 @@ returns-clause-replied c = let b = c.self.inside in let i = c.self.invariant in 
     let x = subst (λ (y : Seated). Extends y.0 (Did (Reply (request_at y.0.layout.cells b.cell b.generation) res [])) Idle c.reply.new.seat.me.0) m (c.reply.ensures.replies (run_as b.parcel.sqe) [] may) in
     let y = subst (λ (q : Req). Extends b.seat.me.0 (Did (Reply q res [])) Idle c.reply.new.seat.me.0) i.runs.req_is x in
     subst (λ (k : Running × View). Extends k.0.pass.view (Did (Reply k.0.req res [])) Idle k.1) (λ k. (c.self.view_is k, ap (λ (p : Pass). p.view) (sym c.new.ensures) k)) y
+
+pub returns-clause-user_data : goal.returns-clause-user_data
+returns-clause-user_data c = let b = c.self.inside in let i = c.self.invariant in λ e is. c.user_data.ensures ∙ ap (λ (d : Entry). d.user_data) (runs_entry b.words.now.table_id b.seat.me.0 b.seat.me.0 b.cell b.generation b.req b.parcel b.pipes i.runs e (subst (λ (k : Running). IsPlaced (seen_of k.pass) k.req e) (sym c.self.view_is) is))

@@ -53,7 +53,7 @@ pub invariant_of-result-2 : goal.invariant_of-result-2
 invariant_of-result-2 c = let b = c.self.inside in let i = c.self.invariant in let k = c.if-not-hold.ensures in let x = k.holds refl b.req i.runs.role in let h = x.2 in let m = c.exchange-thing.ensures.3 in let v : View = c.hold.new.seat.me.0 in
     let named = named_by b.words.now.table_id b.seat.me.0 b.seat.me.0 b.cell b.generation b.req b.parcel b.pipes i.runs c.args.pipe (length b.seat.me.0.layout.caps) (subst (λ (k : Running). (e : Entry) → IsPlaced (seen_of k.pass) k.req e → (pipe_in e.op ≡ Some c.args.pipe) × (c.args.pipe < length k.pass.view.layout.caps)) (sym c.self.view_is) c.requires.named) in
     let same : h.0 ≡ c.pipe_of.result = same_conduit h.0 c.pipe_of.result (ap in_hand (sym h.1 ∙ c.exchange-thing.ensures.2) ∙ c.pipe_of.ensures.is) in
-    let runs = runs_on b.words.now.table_id b.seat.me.0 v b.cell b.generation b.req b.parcel b.pipes i.runs (Hold b.req c.args.pipe) x.0 in record {
+    let runs = runs_on b.words.now.table_id b.seat.me.0 v b.cell b.generation b.req b.parcel b.pipes i.runs (Hold b.req c.args.pipe) (λ j. refl) x.0 in record {
       table_is = c.exchange-thing.ensures.0 ∙ (k.seat.0 ∙ i.table_is);
       runs = subst (λ (z : Seated). RunsIt b.words.now.table_id z.0 b.cell b.generation b.req b.parcel b.pipes) (sym m) runs;
       out = ap (λ (z : Seated). z.1) m ∙ ap (λ (cs : List (ℕ × Option Thing)). (c.args.pipe, None) ∷ cs) (ap rest h.1 ∙ i.out);

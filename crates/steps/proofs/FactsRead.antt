@@ -18,7 +18,7 @@ use Rattle.steps.specs.Cells.{IsCell, request_at, facts_at, setup_of}
 use Rattle.steps.specs.Notes.{row_number, ticks_in, etime_in, facts_of, outcome_of}
 use Rattle.steps.proofs.FactsKept.{packed_generation}
 use Rattle.steps.proofs.NotesKept.{lent_out}
-use Rattle.board.specs.PollerRows.{AreFacts, TellsFacts}
+use Rattle.steps.specs.FactsTold.{AreFacts, TellsFacts}
 
 pub row_small : (op : Op) → row_number op < 16
 row_small Nop = omega arith
