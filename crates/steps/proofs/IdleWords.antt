@@ -50,6 +50,10 @@ module _ (K : List ℕ) (j : List Line) (x word g : ℕ) where
       (λ low. absurd (born (ok.ages.after g (let h : ok.gen < g = omega arith in h))))
       (λ high. gone q (ok.ages.before g (let h : g < ok.gen = omega arith in h))))
 
+-- nor is it that of a running one
+pub not_running : (word g : ℕ) → g < 16777216 → ((k : Claim) → IsTrue (fits k) → packed k ≡ word → k.generation ≡ g → is_going k.tag ≡ false) → word ≢ word_of Running 0 g 0
+not_running word g f other is = true≢false (other (record { tag = Running; cause = 0; generation = g; payload = 0 }) (rw (lt-ltb g 16777216 f) refl) (sym is) refl)
+
 -- ---- a word that was seen not to be Held
 
 freed_later : (later j : List Line) (q : Req) → freed j q ≡ true → freed (later ++ j) q ≡ true

@@ -122,6 +122,7 @@ pub fn stands_at(word: u64, generation: u32) -> Standing
     requires { generation < 16777216 }
     ensures idle { result ≡ Idle → IsIdleWord generation word }
     ensures running { result ≡ Running → word ≡ word_of RunningTag 0 generation 0 }
+    ensures still { result ≡ Over → word ≢ word_of RunningTag 0 generation 0 }
     ensures over { result ≡ Over → (K : List ℕ) (j : List Line) (x : ℕ) → Shown K j x word → phase (events_of j) (request_at K x generation) ≢ unborn → IsReplied (phase (events_of j) (request_at K x generation)) }
 {
     let Some(claim) = unpack(word) else {

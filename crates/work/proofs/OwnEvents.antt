@@ -21,6 +21,9 @@ pub own_before : (role : Role) (k l : List Line) → own_of role l ≡ [] → ow
 own_before role [] l n = n
 own_before role (x ∷ k) l n = let i = own_before role k l n in ap (λ (h : List Event). cond (owns role x) (event_of x h) h) i
 
--- own lines that are no events
+-- lines that are no events
+pub silent_line : (role : Role) (l : Line) (j : List Line) → ((h : List Event) → event_of l h ≡ h) → own_of role (l ∷ j) ≡ own_of role j
+silent_line role l j silent = ⊎_elim (λ w. ap (λ c. cond c (event_of l (own_of role j)) (own_of role j)) w ∙ silent (own_of role j)) (λ w. ap (λ c. cond c (event_of l (own_of role j)) (own_of role j)) w) (bool_cases (owns role l))
+
 pub silent_own : (role : Role) (l : Line) (j : List Line) → ((h : List Event) → event_of l h ≡ h) → own_of role j ≡ [] → own_of role (l ∷ j) ≡ []
-silent_own role l j silent none = ⊎_elim (λ w. ap (λ c. cond c (event_of l (own_of role j)) (own_of role j)) w ∙ (silent (own_of role j) ∙ none)) (λ w. ap (λ c. cond c (event_of l (own_of role j)) (own_of role j)) w ∙ none) (bool_cases (owns role l))
+silent_own role l j silent none = silent_line role l j silent ∙ none

@@ -1,5 +1,6 @@
 -- A pass of a board stays one of its own.
-use Rattle.std.proofs.Common.{◌≡◌, ℕ, List, [], ◌∷◌, false, sym, refl, ap, ◌∙◌, subst}
+use Rattle.std.proofs.Common.{◌≡◌, ℕ, List, [], ◌∷◌, ◌++◌, false, sym, refl, ap, ◌∙◌, subst}
+use Rattle.std.proofs.lemmas.List.{append_assoc}
 use Rattle.history.specs.History.{was_shut}
 use Rattle.history.specs.Legal.{Legal}
 use Rattle.steps.specs.declared.line.Line.{Line}
@@ -9,7 +10,8 @@ use Rattle.steps.specs.declared.view.View.{View}
 use Rattle.steps.specs.Fairness.{Orderly}
 use Rattle.steps.specs.Journal.{events_of}
 use Rattle.steps.specs.Cells.{setup_of}
-use Rattle.steps.specs.Rule.{Looks, Extends, IsStep}
+use Rattle.steps.specs.Rule.{AllBegin, NoneOf, Looks, Extends, IsStep, seeing}
+use Rattle.steps.proofs.RuleKept.{heard_more}
 use Rattle.work.specs.Board.{Facts, IsOf, share_of}
 use Rattle.work.specs.Passes.{Pass, Took}
 
@@ -40,3 +42,30 @@ extended_of b p q l role o same t x =
 -- one step, with nothing before it
 pub took_one : (v m w u : View) (word n : ℕ) → m ≡ v → IsStep word n m w → u ≡ w → Took v u 1
 took_one v m w u word n e is same' = (record { word = word; found = n; seen = w.seen } ∷ [], refl, ap (λ (z : View). z.steps) same' ∙ (is ∙ ap (λ (z : View). record { word = word; found = n; seen = w.seen } ∷ z.steps) e))
+
+-- ---- two looks are one
+
+none_both : (role : Role) (k l : List Line) → NoneOf role k → NoneOf role l → NoneOf role (k ++ l)
+none_both role [] l a b = b
+none_both role (x ∷ k) l a b = (a.0, none_both role k l a.1 b)
+
+begins_later : (k j : List Line) (xs : List (List Line)) → AllBegin j xs → AllBegin (k ++ j) xs
+begins_later [] j xs a = a
+begins_later (l ∷ k) j xs a = heard_more l (k ++ j) xs (begins_later k j xs a)
+
+pub looks_both : (u v w : View) → Looks u v → Looks v w → Looks u w
+looks_both u v w a b =
+    let then : v.seen ≡ a.now = ap (λ (z : View). z.seen) a.is in let layout : v.layout ≡ u.layout = ap (λ (z : View). z.layout) a.is in let on : b.now ≡ b.saw.later ++ a.now = b.saw.is ∙ ap (λ (j : List Line). b.saw.later ++ j) then in record {
+      now = b.now;
+      saw = record {
+        later = b.saw.later ++ a.saw.later;
+        is = on ∙ (ap (λ (j : List Line). b.saw.later ++ j) a.saw.is ∙ sym (append_assoc b.saw.later a.saw.later u.seen));
+        none = none_both u.role b.saw.later a.saw.later (subst (λ (z : Role). NoneOf z b.saw.later) (ap (λ (z : View). z.role) a.is) b.saw.none) a.saw.none;
+      };
+      heard = subst (λ (j : List Line). AllBegin j u.heard) (sym on) (begins_later b.saw.later a.now u.heard a.heard);
+      legal = subst (λ (L : Layout). Legal (setup_of L) (events_of b.now)) layout b.legal;
+      live = b.live;
+      orderly = subst (λ (L : Layout). Orderly L b.now) layout b.orderly;
+      steps = b.steps;
+      is = b.is ∙ ap (λ (z : View). seeing z z.role b.now b.steps) a.is;
+    }

@@ -1,5 +1,5 @@
 -- What the single steps of a run come to: which events the pass went on by, how many steps it took, and whose pass it stays.
-use Rattle.std.proofs.Common.{◌≡◌, ℕ, suc, ◌+◌, ◌<◌, ◌≤◌, ◌&&◌, not, cond, Bool, true, false, ℤ, List, [], ◌∷◌, ◌++◌, length, slice_index, Option, Some, None, sym, refl, ap, ◌∙◌, subst, ⊎_elim, arith, true≢false, eqb-true, length-append}
+use Rattle.std.proofs.Common.{◌≡◌, ℕ, suc, ◌+◌, ◌*◌, ◌<◌, ◌≤◌, ◌&&◌, not, cond, Bool, true, false, ℤ, List, [], ◌∷◌, ◌++◌, length, slice_index, Option, Some, None, sym, refl, ap, ◌∙◌, subst, ⊎_elim, arith, true≢false, eqb-true, length-append}
 use Rattle.std.proofs.lemmas.Bool.Decides.{nat_tests}
 use Rattle.std.proofs.lemmas.List.{append_assoc}
 use Rattle.atomic_table.specs.Table.{rest, turned}
@@ -7,7 +7,7 @@ use Rattle.atomic_table.specs.Seated.{TableId}
 use Rattle.answers.specs.Answered.{IsPipe, is_plain, IsPast}
 use Rattle.answers.specs.NamedEnds.{pipe_with, pipe_in}
 use Rattle.entry.specs.declared.op.Op.{Op}
-use Rattle.entry.specs.declared.op.Op.TheVariants.{Nop, Close, Read, Write, PollAdd, LinkTimeout, Invalid}
+use Rattle.entry.specs.declared.op.Op.TheVariants.{Nop, Close, Read, Write, PollAdd, Timeout, LinkTimeout, AsyncCancel, TimeoutRemove, Invalid}
 use Rattle.entry.specs.Entry.{Entry}
 use Rattle.history.specs.declared.req.Req.{Req}
 use Rattle.history.specs.declared.event.Event.{Event}
@@ -30,19 +30,22 @@ use Rattle.steps.specs.declared.view.Role.TheVariants.{Idle, Busy, Leaving}
 use Rattle.steps.specs.declared.view.Step.{Step}
 use Rattle.steps.specs.declared.view.View.{View}
 use Rattle.steps.specs.Fairness.{Orderly}
-use Rattle.steps.specs.Journal.{event_of, events_of, holder, is_end_of, uses, is_served}
-use Rattle.steps.specs.Cells.{setup_of, IsCell, request_at, claim_at, slot_at, over, IsParcel, PipeIs}
+use Rattle.steps.specs.Journal.{event_of, events_of, holder, is_end_of, uses}
+use Rattle.steps.specs.Cells.{setup_of, IsCell, cells_in, request_at, claim_at, slot_at, over, IsParcel, PipeIs}
 use Rattle.steps.specs.Plays.{Seated, MayReply}
-use Rattle.steps.specs.Rule.{NoneOf, Begins, Looks, Extends, IsStep, leaves}
+use Rattle.steps.specs.Rule.{NoneOf, owns, Begins, Looks, Extends, IsStep, leaves}
 use Rattle.steps.proofs.JournalGrowth.{lasts, placed_lasts, submission_lasts, submitted_in}
 use Rattle.steps.proofs.CancelOnce.{IsEarly, unhit as not_hit}
 use Rattle.steps.proofs.OwnFacts.{same_hit}
-use Rattle.steps.proofs.Served.{fits_is, serves_is}
+use Rattle.steps.proofs.Served.{fits_is}
 use Rattle.steps.proofs.ViewsKept.{layout_after, role_after, parts_after, parcel_after}
 use Rattle.work.specs.Board.{Facts, IsOf, share_of}
-use Rattle.work.specs.Passes.{Pass, Took, RunsIt, own_of}
-use Rattle.work.specs.WorkerRuns.{EndsBy, names, op_run, run_as}
-use Rattle.work.proofs.OwnEvents.{own_append, silent_own}
+use Rattle.work.specs.Passes.{Pass, Running, Took, RunsIt, IsGridOf, own_of}
+use Rattle.work.specs.Searches.{FewSteps, wanted_in}
+use Rattle.work.specs.declared.cancel.Wanted.{Wanted}
+use Rattle.work.specs.declared.run.Ran.{Ran}
+use Rattle.work.specs.WorkerRuns.{EndsBy, HasStepped, StepsBy, names, op_run, run_as, run_steps}
+use Rattle.work.proofs.OwnEvents.{own_append, silent_line}
 use Rattle.work.proofs.PassesKept.{extended_of}
 
 -- a worker runs the entry as it was placed, which is no timer
@@ -69,36 +72,44 @@ run_piped e n is = by_op e.op is where
   by_op (LinkTimeout ticks) u = absurd (let z = u in cc)
   by_op op u = refl
 
--- the worker of r went on without an event of its own
-pub record Quiet (v m : View) (r : Req) : Type 0 where
+-- the worker of r went on by these events of its own, and has it still
+pub record Went (v m : View) (r : Req) (events : List Event) : Type 0 where
   pub later : List Line
   pub seen_is : m.seen ≡ later ++ v.seen
-  pub own : own_of (Busy r) later ≡ []
+  pub own : own_of (Busy r) later ≡ events
   pub role_is : m.role ≡ Busy r
 
-pub quiet_still : (v : View) (r : Req) → v.role ≡ Busy r → Quiet v v r
+pub quiet_still : (v : View) (r : Req) → v.role ≡ Busy r → Went v v r []
 quiet_still v r busy = record { later = []; seen_is = refl; own = refl; role_is = busy }
 
-module _ (v m n : View) (r : Req) (q : Quiet v m r) where
-  further : (later : List Line) → NoneOf m.role later → own_of (Busy r) (later ++ q.later) ≡ []
+module _ (v m n : View) (r : Req) {events : List Event} (q : Went v m r events) where
+  further : (later : List Line) → NoneOf m.role later → own_of (Busy r) (later ++ q.later) ≡ events
   further later none = own_append (Busy r) later q.later (subst (λ (z : Role). NoneOf z later) q.role_is none) ∙ q.own
 
   behind : (later : List Line) → later ++ m.seen ≡ (later ++ q.later) ++ v.seen
   behind later = ap (λ (j : List Line). later ++ j) q.seen_is ∙ sym (append_assoc later q.later v.seen)
 
-  pub quiet_look : Looks m n → Quiet v n r
+  pub quiet_look : Looks m n → Went v n r events
   quiet_look x = record { later = x.saw.later ++ q.later; seen_is = ap (λ (z : View). z.seen) x.is ∙ (x.saw.is ∙ behind x.saw.later); own = further x.saw.later x.saw.none; role_is = ap (λ (z : View). z.role) x.is ∙ q.role_is }
 
-  pub quiet_line : (l : Line) → ((h : List Event) → event_of l h ≡ h) → Extends m l (Busy r) n → Quiet v n r
+  pub quiet_line : (l : Line) → ((h : List Event) → event_of l h ≡ h) → Extends m l (Busy r) n → Went v n r events
   quiet_line l silent x = record {
     later = l ∷ (x.saw.later ++ q.later);
     seen_is = ap (λ (z : View). z.seen) x.is ∙ ap (λ (j : List Line). l ∷ j) (x.saw.is ∙ behind x.saw.later);
-    own = silent_own (Busy r) l (x.saw.later ++ q.later) silent (further x.saw.later x.saw.none);
+    own = silent_line (Busy r) l (x.saw.later ++ q.later) silent ∙ further x.saw.later x.saw.none;
+    role_is = ap (λ (z : View). z.role) x.is;
+  }
+
+  pub own_event : (e : Event) → owns (Busy r) (Did e) ≡ true → Extends m (Did e) (Busy r) n → Went v n r (e ∷ events)
+  own_event e mine x = record {
+    later = Did e ∷ (x.saw.later ++ q.later);
+    seen_is = ap (λ (z : View). z.seen) x.is ∙ ap (λ (j : List Line). Did e ∷ j) (x.saw.is ∙ behind x.saw.later);
+    own = ap (λ (b : Bool). cond b (e ∷ own_of (Busy r) (x.saw.later ++ q.later)) (own_of (Busy r) (x.saw.later ++ q.later))) mine ∙ ap (λ (h : List Event). e ∷ h) (further x.saw.later x.saw.none);
     role_is = ap (λ (z : View). z.role) x.is;
   }
 
   -- and then by one
-  pub ends_by : (w : View) (e : Event) (role : Role) → Extends m (Did e) role n → w.seen ≡ n.seen → w.role ≡ Idle → EndsBy v w r e
+  pub ends_by : (w : View) (e : Event) (role : Role) → Extends m (Did e) role n → w.seen ≡ n.seen → w.role ≡ Idle → EndsBy v w r events e
   ends_by w e role x same idle = record {
     later = x.saw.later ++ q.later;
     seen_is = same ∙ (ap (λ (z : View). z.seen) x.is ∙ ap (λ (j : List Line). Did e ∷ j) (x.saw.is ∙ behind x.saw.later));
@@ -153,8 +164,8 @@ names_one caps o n is lt = ap (names caps) is ∙ grind (arith, nat_tests)
 -- ---- who runs a request goes on to run it
 
 module _ (table : TableId) (v w : View) (x g : ℕ) (r : Req) (p : Parcel) (pipes : ℕ) (k : RunsIt table v x g r p pipes) where
-  kept_by : w.layout ≡ v.layout → w.role ≡ Busy r → w.parts ≡ v.parts → IsParcel w.seen r [] p → IsOfKind (events_of w.seen) r is_timer false → hit (events_of w.seen) r ≡ nothing → Orderly w.layout w.seen → Legal (setup_of w.layout) (events_of w.seen) → RunsIt table w x g r p pipes
-  kept_by same role parts parcel kind unhit orderly legal = record {
+  kept_by : w.layout ≡ v.layout → w.role ≡ Busy r → w.parts ≡ v.parts → IsParcel w.seen r [] p → IsOfKind (events_of w.seen) r is_timer false → Orderly w.layout w.seen → Legal (setup_of w.layout) (events_of w.seen) → RunsIt table w x g r p pipes
+  kept_by same role parts parcel kind orderly legal = record {
     req_is = ap (λ (L : Layout). request_at L.cells x g) same ∙ k.req_is;
     fits = (k.fits.0, subst (λ (L : Layout). IsCell L.cells x) (sym same) k.fits.1, k.fits.2, k.fits.3);
     pipes_are = (ap (λ (L : Layout). length L.caps) same ∙ k.pipes_are.0, k.pipes_are.1);
@@ -162,7 +173,6 @@ module _ (table : TableId) (v w : View) (x g : ℕ) (r : Req) (p : Parcel) (pipe
     parts = subst (λ (n : ℕ). 0 < n) (sym parts) k.parts;
     parcel = parcel;
     kind = kind;
-    unhit = unhit;
     orderly = orderly;
     legal = legal;
   }
@@ -171,12 +181,11 @@ module _ (table : TableId) (v w : View) (x g : ℕ) (r : Req) (p : Parcel) (pipe
   kind_on : (j : List Line) → Legal (setup_of v.layout) (events_of (j ++ v.seen)) → IsOfKind (events_of (j ++ v.seen)) r is_timer false
   kind_on j l = let S : Setup = setup_of v.layout in (k.kind.0, lasts S (λ h. IsPlaced h r k.kind.0) r (placed_lasts S r k.kind.0) j v.seen l (submitted_in S v.seen r _ k.legal k.parcel.1) k.kind.1, k.kind.2)
 
-  pub runs_on : (l : Line) → ((j : List Line) → events_of (l ∷ j) ≡ events_of j) → Extends v l (Busy r) w → RunsIt table w x g r p pipes
-  runs_on l silent e = let S : Setup = setup_of v.layout in let all : w.seen ≡ (l ∷ e.saw.later) ++ v.seen = ap (λ (z : View). z.seen) e.is ∙ ap (λ (j : List Line). l ∷ j) e.saw.is in
+  pub runs_on : (l : Line) → Extends v l (Busy r) w → RunsIt table w x g r p pipes
+  runs_on l e = let S : Setup = setup_of v.layout in let all : w.seen ≡ (l ∷ e.saw.later) ++ v.seen = ap (λ (z : View). z.seen) e.is ∙ ap (λ (j : List Line). l ∷ j) e.saw.is in
       let same = layout_after v w l (Busy r) e in let seen = ap (λ (z : View). z.seen) e.is in
       kept_by same (role_after v w l (Busy r) e) (parts_after v w l (Busy r) e) (parcel_after v w l (Busy r) e r [] p k.parcel)
       (subst (λ (j : List Line). IsOfKind (events_of j) r is_timer false) (sym all) (kind_on (l ∷ e.saw.later) (subst (λ (j : List Line). Legal S (events_of (l ∷ j))) e.saw.is e.legal)))
-      (ap (λ (j : List Line). hit (events_of j) r) all ∙ (ap (λ (h : List Event). hit h r) (silent (e.saw.later ++ v.seen)) ∙ (same_hit r e.saw.later v.seen (subst (λ (z : Role). NoneOf z e.saw.later) k.role e.saw.none) ∙ k.unhit)))
       (subst (λ (z : Layout × List Line). Orderly z.0 z.1) (λ i. (sym same i, sym seen i)) e.orderly) (subst (λ (z : Layout × List Line). Legal (setup_of z.0) (events_of z.1)) (λ i. (sym same i, sym seen i)) e.legal)
 
   pub runs_look : Looks v w → RunsIt table w x g r p pipes
@@ -185,7 +194,6 @@ module _ (table : TableId) (v w : View) (x g : ℕ) (r : Req) (p : Parcel) (pipe
       kept_by same (ap (λ (z : View). z.role) e.is ∙ k.role) (ap (λ (z : View). z.parts) e.is)
       (k.parcel.0, subst (λ (j : List Line). submission (events_of j) r ≡ Some (record { entry = p.sqe; bytes = k.parcel.0; last = p.last })) (sym (seen ∙ e.saw.is)) (lasts S (λ h. submission h r ≡ Some (record { entry = p.sqe; bytes = k.parcel.0; last = p.last })) r (submission_lasts S r _) e.saw.later v.seen legal (submitted_in S v.seen r _ k.legal k.parcel.1) k.parcel.1), k.parcel.2)
       (subst (λ (j : List Line). IsOfKind (events_of j) r is_timer false) (sym (seen ∙ e.saw.is)) (kind_on e.saw.later legal))
-      (ap (λ (j : List Line). hit (events_of j) r) (seen ∙ e.saw.is) ∙ (same_hit r e.saw.later v.seen (subst (λ (z : Role). NoneOf z e.saw.later) k.role e.saw.none) ∙ k.unhit))
       (subst (λ (z : Layout × List Line). Orderly z.0 z.1) (λ i. (sym same i, sym seen i)) e.orderly) (subst (λ (z : Layout × List Line). Legal (setup_of z.0) (events_of z.1)) (λ i. (sym same i, sym seen i)) e.legal)
 
   -- the entry that was placed, and its buffer
@@ -205,9 +213,6 @@ module _ (table : TableId) (v w : View) (x g : ℕ) (r : Req) (p : Parcel) (pipe
   pub runs_fits : FitsOp p.sqe.op (length p.buffer.items)
   runs_fits = subst (λ (bytes : List ℕ). FitsOp p.sqe.op (length bytes)) (sym k.parcel.2) (fits_is (setup_of v.layout) (events_of v.seen) r _ k.legal k.parcel.1)
 
-  pub runs_served : is_served (op_run p.sqe.op) ≡ true
-  runs_served = serves_is v.layout (setup_of v.layout) v.seen r _ (run_as p.sqe) k.legal k.orderly k.parcel.1 runs_placed
-
   -- it is no timer
   pub runs_kind : is_timer (op_run p.sqe.op) ≡ false
   runs_kind = let same' : k.kind.0 ≡ run_as p.sqe = (let z = sym k.kind.1 ∙ runs_placed in cc) in ap (λ (e : Entry). is_timer e.op) (sym same') ∙ k.kind.2
@@ -221,7 +226,6 @@ module _ (table : TableId) (v w : View) (x g : ℕ) (r : Req) (p : Parcel) (pipe
     role = k.role;
     parts = k.parts;
     kind = k.kind;
-    unhit = k.unhit;
     parcel = (k.parcel.0, k.parcel.1 ∙ (λ i. Some (record { entry = sym sqe i; bytes = k.parcel.0; last = sym last i })), items ∙ k.parcel.2);
     orderly = k.orderly;
     legal = k.legal;
@@ -250,21 +254,55 @@ runs_begun table v w x g r p pipes e req_is fits pipes_are parts parcel =
       parts = subst (λ (n : ℕ). 0 < n) (sym (parts_after v w (Did (Begin r)) (Busy r) e)) parts;
       parcel = parcel;
       kind = subst (λ (j : List Line). IsOfKind (events_of j) r is_timer false) seen may.2;
-      unhit = subst (λ (j : List Line). hit (events_of j) r ≡ nothing) seen (not_hit v.layout r e.mid e.legal.1 e.orderly.1 (subst IsEarly (sym may.0) tt));
       orderly = subst (λ (z : Layout × List Line). Orderly z.0 z.1) (λ i. (same i, seen i)) e.orderly;
       legal = subst (λ (z : Layout × List Line). Legal (setup_of z.0) (events_of z.1)) (λ i. (same i, seen i)) e.legal;
     }
 
+-- and has done nothing yet
+pub unhit_begun : (v w : View) (r : Req) → Extends v (Did (Begin r)) (Busy r) w → hit (events_of w.seen) r ≡ nothing
+unhit_begun v w r e = subst (λ (j : List Line). hit (events_of j) r ≡ nothing) (sym (ap (λ (z : View). z.seen) e.is)) (not_hit v.layout r e.mid e.legal.1 e.orderly.1 (subst IsEarly (sym e.legal.0.1.0) tt))
+
+-- what it did is only what it did itself
+module _ (v w : View) (r : Req) (busy : v.role ≡ Busy r) where
+  pub same_hit_looked : Looks v w → hit (events_of w.seen) r ≡ hit (events_of v.seen) r
+  same_hit_looked e = ap (λ (j : List Line). hit (events_of j) r) (ap (λ (z : View). z.seen) e.is ∙ e.saw.is) ∙ same_hit r e.saw.later v.seen (subst (λ (z : Role). NoneOf z e.saw.later) busy e.saw.none)
+
+  pub same_hit_silent : (l : Line) (role : Role) → ((j : List Line) → events_of (l ∷ j) ≡ events_of j) → Extends v l role w → hit (events_of w.seen) r ≡ hit (events_of v.seen) r
+  same_hit_silent l role silent e = ap (λ (j : List Line). hit (events_of j) r) (ap (λ (z : View). z.seen) e.is ∙ ap (λ (j : List Line). l ∷ j) e.saw.is) ∙ (ap (λ (h : List Event). hit h r) (silent (e.saw.later ++ v.seen)) ∙ same_hit r e.saw.later v.seen (subst (λ (z : Role). NoneOf z e.saw.later) busy e.saw.none))
+
+-- a table's cells stay
+pub grid_on : (table : TableId) (K : List ℕ) (v w : View) → w.layout ≡ v.layout → IsGridOf table K v → IsGridOf table K w
+grid_on table K v w same o = record { cells_are = ap (λ (L : Layout). L.cells) same ∙ o.cells_are; wide = o.wide }
+
 -- ---- which pipe an operation names
 
-pub served_plain : (op : Op) → is_served op ≡ true → is_plain op ≡ true
-served_plain Nop s = refl
-served_plain (Read fd offset len) s = refl
-served_plain (Write fd offset len) s = refl
-served_plain (Close fd) s = refl
-served_plain (PollAdd fd mask) s = refl
-served_plain Invalid s = refl
-served_plain op s = absurd (true≢false (sym s))
+pub plain_run : (op : Op) → is_timer op ≡ false → wanted_in op ≡ None → is_plain op ≡ true
+plain_run Nop t w = refl
+plain_run (Read fd offset len) t w = refl
+plain_run (Write fd offset len) t w = refl
+plain_run (Close fd) t w = refl
+plain_run (PollAdd fd mask) t w = refl
+plain_run Invalid t w = refl
+plain_run (Timeout ticks etime_success) t w = absurd (true≢false t)
+plain_run (LinkTimeout ticks) t w = absurd (true≢false t)
+plain_run (AsyncCancel u) t w = absurd (let z = w in cc)
+plain_run (TimeoutRemove u) t w = absurd (let z = w in cc)
+
+-- what is placed is a cancel where what was handed in is one, and names no pipe then
+pub wanted_run : (op : Op) → wanted_in (op_run op) ≡ wanted_in op
+wanted_run (LinkTimeout ticks) = refl
+wanted_run op = refl
+
+pub piped_plain : (op : Op) (n : ℕ) → pipe_in op ≡ Some n → wanted_in op ≡ None
+piped_plain (AsyncCancel u) n is = absurd (let z = is in cc)
+piped_plain (TimeoutRemove u) n is = absurd (let z = is in cc)
+piped_plain op n is = refl
+
+pub steps_plain : (b : Running) (w : View) (e : Entry) (ran : Ran) → wanted_in e.op ≡ None → Took b.pass.view w (run_steps (names b.pass.view.layout.caps (pipe_in e.op)) ran) → HasStepped b w e ran
+steps_plain b w e ran is t = subst (λ (u : Option Wanted). StepsBy u b w e ran) (sym is) t
+
+pub steps_cancel : (b : Running) (w : View) (e : Entry) (ran : Ran) (u : Wanted) → wanted_in e.op ≡ Some u → FewSteps b.pass.view w 4 (5 * cells_in b.pass.view.layout.cells b.req.ring) → HasStepped b w e ran
+steps_cancel b w e ran u is f = subst (λ (z : Option Wanted). StepsBy z b w e ran) (sym is) f
 
 end_in_use : (z : End) (n : ℕ) → is_end_of z n ≡ true → pipe_with z ≡ Some n
 end_in_use (read_end m) n u = ap Some (eqb-true m n u)

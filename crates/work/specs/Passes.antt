@@ -66,7 +66,7 @@ pub record Running : Type 0 where
   pub pass : Pass
   pub req : Req
 
--- the view of a worker that runs the request r of this cell and generation, whose parcel is p, on a board of so many pipes; r is no timer, and where it is a cancel it has neither taken a request nor found one running
+-- the view of a worker that runs the request r of this cell and generation, whose parcel is p, on a board of so many pipes; r is no timer
 pub record RunsIt (table : TableId) (v : View) (x g : ℕ) (r : Req) (p : Parcel) (pipes : ℕ) : Type 0 where
   pub req_is : request_at v.layout.cells x g ≡ r
   pub fits : (x < 16384) × IsCell v.layout.cells x × (claim_at x + 7 < table.words) × (g < 16777216)
@@ -75,21 +75,29 @@ pub record RunsIt (table : TableId) (v : View) (x g : ℕ) (r : Req) (p : Parcel
   pub parts : 0 < v.parts
   pub parcel : IsParcel v.seen r [] p
   pub kind : IsOf (events_of v.seen) r is_timer false
-  pub unhit : hit (events_of v.seen) r ≡ nothing
   pub orderly : Orderly v.layout v.seen
   pub legal : Legal (setup_of v.layout) (events_of v.seen)
 
--- its seat, with the parcel in hand, and no pipe
-pub record IsBusySeat (table : TableId) (s : Seat (Option Thing) View) (x g : ℕ) (r : Req) (p : Parcel) (pipes : ℕ) : Type 0 where
+-- its table has the cells of the rings that have so many each
+pub record IsGridOf (table : TableId) (K : List ℕ) (v : View) : Type 0 where
+  pub cells_are : v.layout.cells ≡ K
+  pub wide : table.words ≡ 8 * total K + 72
+
+-- its seat, with the parcel in hand, and no pipe; if it runs a cancel, that has neither taken a request nor found one running
+pub record IsBusySeat (table : TableId) (K : List ℕ) (s : Seat (Option Thing) View) (x g : ℕ) (r : Req) (p : Parcel) (pipes : ℕ) : Type 0 where
   pub table_is : s.table_id ≡ table
+  pub grid : IsGridOf table K s.me.0
   pub runs : RunsIt table s.me.0 x g r p pipes
+  pub unhit : hit (events_of s.me.0.seen) r ≡ nothing
   pub out : s.me.1 ≡ (slot_at x, None) ∷ []
   pub bare : (n : ℕ) → holder s.me.0.seen n ≢ Some r
 
 -- the same with the pipe that the entry names in hand, as what was seen tells, and no other
-pub record IsHoldingSeat (table : TableId) (s : Seat (Option Thing) View) (x g : ℕ) (r : Req) (p : Parcel) (pipes n : ℕ) (c : Conduit) : Type 0 where
+pub record IsHoldingSeat (table : TableId) (K : List ℕ) (s : Seat (Option Thing) View) (x g : ℕ) (r : Req) (p : Parcel) (pipes n : ℕ) (c : Conduit) : Type 0 where
   pub table_is : s.table_id ≡ table
+  pub grid : IsGridOf table K s.me.0
   pub runs : RunsIt table s.me.0 x g r p pipes
+  pub unhit : hit (events_of s.me.0.seen) r ≡ nothing
   pub out : s.me.1 ≡ (n, None) ∷ (slot_at x, None) ∷ []
   pub alone : HasAlone s.me.0.seen n r
   pub named : (pipe_in p.sqe.op ≡ Some n) × (n < pipes)

@@ -1,11 +1,11 @@
 -- What a run does.
-use Rattle.std.specs.Prelude.{◌≡◌, ◌≢◌, ℕ, ◌<◌, Bool, true, false, ℤ, List, [], ◌∷◌, ◌++◌, length, Option, Some, None}
+use Rattle.std.specs.Prelude.{◌≡◌, ◌≢◌, ◌⊎◌, ℕ, ◌*◌, ◌<◌, Bool, true, false, ℤ, pos, negsuc, List, [], ◌∷◌, ◌++◌, length, Option, Some, None}
 use Rattle.entry.specs.declared.op.Op.{Op}
 use Rattle.entry.specs.declared.op.Op.TheVariants.{LinkTimeout, Invalid}
 use Rattle.entry.specs.Entry.{Entry}
 use Rattle.history.specs.declared.req.Req.{Req}
 use Rattle.history.specs.declared.event.Event.{Event}
-use Rattle.history.specs.declared.event.Event.TheVariants.{Park, Reply}
+use Rattle.history.specs.declared.event.Event.TheVariants.{Park, Reply, Take, Miss}
 use Rattle.history.specs.Answers.{OpAnswers, is_pipe}
 use Rattle.history.specs.Chains.{IsPlaced}
 use Rattle.history.specs.Legal.{Legal}
@@ -16,13 +16,17 @@ use Rattle.steps.specs.declared.view.Role.TheVariants.{Idle, Busy}
 use Rattle.steps.specs.declared.view.Step.{Step}
 use Rattle.steps.specs.declared.view.View.{View}
 use Rattle.steps.specs.Journal.{events_of, holder}
-use Rattle.steps.specs.Cells.{setup_of, pipe_at}
+use Rattle.steps.specs.Cells.{cells_in, setup_of, pipe_at}
 use Rattle.steps.specs.Rule.{Begins, IsStep}
 use Rattle.work.specs.declared.run.Parked.{Parked as Reason}
 use Rattle.work.specs.declared.run.Parked.TheVariants.{NotReady, PipeBusy}
 use Rattle.work.specs.declared.run.Ran.{Ran}
 use Rattle.work.specs.declared.run.Ran.TheVariants.{Replied, Parked}
-use Rattle.work.specs.Passes.{Pass, Running, seen_of, own_of}
+use Rattle.work.specs.declared.cancel.Searched.{Searched}
+use Rattle.work.specs.declared.cancel.Searched.TheVariants.{NoneLeft, Ended, Found}
+use Rattle.work.specs.declared.cancel.Wanted.{Wanted}
+use Rattle.work.specs.Passes.{Pass, Running, Took, seen_of, own_of}
+use Rattle.work.specs.Searches.{FewSteps, wanted_in}
 
 -- what a worker runs: of the LINK_TIMEOUTs those alone that have no target, and are placed as Invalid
 abbrev pub op_run : Op → Op
@@ -32,12 +36,23 @@ op_run op = op
 abbrev pub run_as : Entry → Entry
 run_as e = record e { op = op_run e.op }
 
--- the worker of r went on by one event of its own, the last that it has seen, and is idle
-pub record EndsBy (v w : View) (r : Req) (e : Event) : Type 0 where
+-- the worker of r went on by these events of its own, then by e, the last that it has seen, and is idle
+pub record EndsBy (v w : View) (r : Req) (first : List Event) (e : Event) : Type 0 where
   pub later : List Line
   pub seen_is : w.seen ≡ Did e ∷ (later ++ v.seen)
-  pub own : own_of (Busy r) later ≡ []
+  pub own : own_of (Busy r) later ≡ first
   pub role_is : w.role ≡ Idle
+
+-- what the run of r did before its reply: where it is a cancel, it took the request that is told, or none, and may have found one running
+abbrev pub IsCaught : Req → Option Req → List Event → Type 0
+IsCaught r (Some t) own = own ≡ Take r t ∷ []
+IsCaught r None own = (own ≡ []) ⊎ ((t : Req) × (own ≡ Miss r t ∷ []))
+
+-- the reply of a cancel, and the request that it ended, by what came of its search
+abbrev pub Told : Searched → ℤ → Option Req → Type 0
+Told NoneLeft res took = (res ≡ negsuc 1) × (took ≡ None)
+Told (Ended t) res took = (res ≡ pos 0) × (took ≡ Some t)
+Told Found res took = (res ≡ negsuc 113) × (took ≡ None)
 
 -- in a legal history between what was seen before and after there was no answer
 pub record NoAnswer (v w : View) (r : Req) (e : Entry) : Type 0 where
@@ -75,14 +90,22 @@ abbrev pub names : List ℕ → Option ℕ → Bool
 names caps None = false
 names caps (Some p) = is_pipe caps p
 
--- a reply is the one that the completion reports, which has the entry's user_data. What is parked names a pipe of the board
+-- a reply is the one that the completion reports, which has the entry's user_data. Before it a cancel may have taken its target, or found it running. What is parked names a pipe of the board
 abbrev pub IsRun : Running → Pass → Ran → Type 0
-IsRun b w (Replied cqe) = ((data' : List ℕ) × EndsBy b.pass.view w.view b.req (Reply b.req cqe.res data')) × ((e : Entry) → IsPlaced (seen_of b.pass) b.req e → cqe.user_data ≡ e.user_data)
-IsRun b w (Parked why) = EndsBy b.pass.view w.view b.req (Park b.req) × ((e : Entry) → IsPlaced (seen_of b.pass) b.req e → (p : ℕ) × (pipe_in e.op ≡ Some p) × (p < length b.pass.view.layout.caps) × IsReason b.pass.view w.view b.req e p why)
+IsRun b w (Replied cqe took) = ((data' : List ℕ) × (own : List Event) × EndsBy b.pass.view w.view b.req own (Reply b.req cqe.res data') × IsCaught b.req took own) × ((e : Entry) → IsPlaced (seen_of b.pass) b.req e → cqe.user_data ≡ e.user_data)
+IsRun b w (Parked why) = EndsBy b.pass.view w.view b.req [] (Park b.req) × ((e : Entry) → IsPlaced (seen_of b.pass) b.req e → (p : ℕ) × (pipe_in e.op ≡ Some p) × (p < length b.pass.view.layout.caps) × IsReason b.pass.view w.view b.req e p why)
 
--- how many steps a run takes, by whether the entry names a pipe of the board
+-- how many steps a run takes that is no cancel's, by whether the entry names a pipe of the board
 abbrev pub run_steps : Bool → Ran → ℕ
-run_steps false (Replied cqe) = 1
-run_steps true (Replied cqe) = 3
+run_steps false (Replied cqe took) = 1
+run_steps true (Replied cqe took) = 3
 run_steps b (Parked NotReady) = 3
 run_steps b (Parked PipeBusy) = 2
+
+abbrev pub StepsBy : Option Wanted → Running → View → Entry → Ran → Type 0
+StepsBy (Some u) b w e ran = FewSteps b.pass.view w 4 (5 * cells_in b.pass.view.layout.cells b.req.ring)
+StepsBy None b w e ran = Took b.pass.view w (run_steps (names b.pass.view.layout.caps (pipe_in e.op)) ran)
+
+-- the steps of a run: a cancel takes at most four at each claim word, and at most five for each cell of its ring in all
+abbrev pub HasStepped : Running → View → Entry → Ran → Type 0
+HasStepped b w e ran = StepsBy (wanted_in e.op) b w e ran

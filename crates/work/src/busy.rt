@@ -1,7 +1,8 @@
 //! A worker that runs a request.
-ghost use Rattle.std.specs.Prelude.{◌≡◌, ℕ, ◌<◌, ◌≤◌, [], ◌∷◌, List, Some, None, length, IfOk, IfErr, IfSome, IfNone};
+ghost use Rattle.std.specs.Prelude.{◌≡◌, ℕ, ◌<◌, ◌≤◌, ◌*◌, [], ◌∷◌, List, Some, None, length, IfOk, IfErr, IfSome, IfNone};
 ghost use Rattle.atomic_table.specs.Table.{rest};
 ghost use Rattle.entry.specs.Entry.{Entry};
+ghost use Rattle.history.specs.declared.event.Event.{Event};
 ghost use Rattle.history.specs.declared.event.Event.TheVariants.{Park, Reply};
 ghost use Rattle.history.specs.Chains.{IsPlaced};
 ghost use Rattle.answers.specs.Answered.{IsPast};
@@ -9,10 +10,13 @@ ghost use Rattle.answers.specs.NamedEnds.{pipe_in};
 ghost use Rattle.steps.specs.declared.line.Line.TheVariants.{Did, Hold};
 ghost use Rattle.steps.specs.declared.parcel.Thing.TheVariants.{Full};
 ghost use Rattle.steps.specs.declared.view.Role.TheVariants.{Idle, Busy as RoleBusy};
-ghost use Rattle.steps.specs.Cells.{pipe_at, slot_at};
+ghost use Rattle.steps.specs.Cells.{cells_in, pipe_at, slot_at};
 ghost use Rattle.steps.specs.Rule.{Looks, Extends, IsStep};
 ghost use Rattle.work.specs.Board.{Facts, IsOf};
+ghost use Rattle.work.specs.WorkerRuns.{Told};
 
+use crate::cancel::{self, Searched, Wanted, wanted_of};
+use crate::grid::Grid;
 use crate::holding::Holding;
 use crate::placed::{fails_placed, op_placed};
 use crate::run::{Parked, Ran};
@@ -27,6 +31,7 @@ use steps::{Parcel, TableSeat, Thing, Words, parcel, pipes, seat};
 /// A worker that runs a request. It has to be spent, by `run` or `park`.
 pub struct Busy<'a> {
     pub(crate) words: &'a Words,
+    pub(crate) grid: &'a Grid,
     pub(crate) seat: TableSeat,
     pub(crate) cell: usize,
     pub(crate) generation: u32,
@@ -42,7 +47,7 @@ impl<'a> Model for Busy<'a> {
 
     ghost view = { λ b. record { pass = pass_of b.seat; req = b.req } };
 
-    ghost invariant = { λ b. IsBusySeat b.words.now.table_id b.seat b.cell b.generation b.req b.parcel b.pipes };
+    ghost invariant = { λ b. IsBusySeat b.words.now.table_id b.grid.now b.seat b.cell b.generation b.req b.parcel b.pipes };
 }
 
 /// The pipe of the board that the entry names by its fd, of so many. None where it names none.
@@ -61,6 +66,23 @@ fn named_pipe(sqe: &Sqe, pipes: usize) -> Option<usize>
     }
 }
 
+/// The reply of a cancel whose target was not found: -ENOENT.
+const NOT_FOUND: i32 = -2;
+
+/// That of one whose target runs: -EALREADY.
+const ALREADY: i32 = -114;
+
+/// The reply of a cancel, and the request that it ended (io_uring_prep_cancel64(3)).
+fn told(searched: Searched) -> (i32, Option<Req>)
+    ensures { Told searched result.0 result.1 }
+{
+    match searched {
+        Searched::NoneLeft => (NOT_FOUND, None),
+        Searched::Ended(target) => (0, Some(target)),
+        Searched::Found => (ALREADY, None),
+    }
+}
+
 /// Puts the parcel back into the slot that the seat has.
 pub(crate) fn put_back(words: &Words, seat: &mut TableSeat, cell: usize, parcel: Parcel)
     requires table { seat.old.table_id ≡ words.now.table_id }
@@ -75,7 +97,8 @@ pub(crate) fn put_back(words: &Words, seat: &mut TableSeat, cell: usize, parcel:
 
 impl<'a> Busy<'a> {
     ghost use Rattle.work.specs.Passes.{Took, seen_of};
-    ghost use Rattle.work.specs.WorkerRuns.{IsRun, MissedPipe, names, run_steps};
+    ghost use Rattle.work.specs.Searches.{FewSteps, wanted_in};
+    ghost use Rattle.work.specs.WorkerRuns.{EndsBy, HasStepped, IsCaught, IsRun, MissedPipe};
 
     /// Puts the request back to Ready.
     pub fn park(self) -> Worker
@@ -85,6 +108,7 @@ impl<'a> Busy<'a> {
     {
         let Busy {
             words,
+            grid: _,
             mut seat,
             cell,
             generation,
@@ -97,8 +121,9 @@ impl<'a> Busy<'a> {
         Worker::new(seat)
     }
 
-    /// Answers the request, which names no pipe of the board.
+    /// Answers the request, which is no cancel and names no pipe of the board.
     fn answer(self) -> (Worker, Cqe)
+        requires plain { (e : Entry) → IsPlaced (seen_of self.pass) self.req e → wanted_in e.op ≡ None }
         requires past { (e : Entry) → IsPlaced (seen_of self.pass) self.req e → IsPast (pipe_in e.op) (length self.pass.view.layout.caps) }
         ensures table { result.0.table ≡ self.entry.pass.table }
         ensures step { (found : ℕ) × (word : ℕ) × IsStep word found self.entry.pass.view result.0.view }
@@ -107,6 +132,7 @@ impl<'a> Busy<'a> {
     {
         let Busy {
             words,
+            grid: _,
             mut seat,
             cell,
             generation,
@@ -133,6 +159,7 @@ impl<'a> Busy<'a> {
     {
         let Busy {
             words,
+            grid,
             mut seat,
             cell,
             generation,
@@ -143,6 +170,7 @@ impl<'a> Busy<'a> {
         if !pipes::hold(words, &mut seat, pipe) {
             return Err(Busy {
                 words,
+                grid,
                 seat,
                 cell,
                 generation,
@@ -154,6 +182,7 @@ impl<'a> Busy<'a> {
         let thing = words.exchange(&mut seat, pipe, None);
         Ok(Holding {
             words,
+            grid,
             seat,
             cell,
             generation,
@@ -165,24 +194,60 @@ impl<'a> Busy<'a> {
         })
     }
 
+    /// Answers the request, which is a cancel: it searches for the first request that it is meant for and that has no reply.
+    /// Gives that one too where it was ended.
+    fn cancel(self, wanted: Wanted) -> (Worker, Cqe, Option<Req>)
+        requires wanted { (e : Entry) → IsPlaced (seen_of self.pass) self.req e → wanted_in e.op ≡ Some wanted }
+        ensures table { result.0.table ≡ self.entry.pass.table }
+        ensures ended { (own : List Event) × EndsBy self.entry.pass.view result.0.view self.entry.req own (Reply self.entry.req result.1.res []) × IsCaught self.entry.req result.2 own }
+        ensures kept { (b : Facts) → IsOf b self.entry.pass → IsOf b result.0 }
+        ensures user_data { (e : Entry) → IsPlaced (seen_of self.entry.pass) self.entry.req e → result.1.user_data ≡ e.user_data }
+        ensures steps { FewSteps self.entry.pass.view result.0.view 4 (5 * cells_in self.entry.pass.view.layout.cells self.entry.req.ring) }
+    {
+        let Busy {
+            words,
+            grid,
+            mut seat,
+            cell,
+            generation,
+            req,
+            parcel,
+            pipes: _,
+        } = self;
+        let searched = cancel::search(words, &mut seat, grid, req, wanted);
+        let (res, took) = told(searched);
+        let fails = fails_placed(&parcel.sqe, res);
+        let cqe = Cqe {
+            user_data: parcel.sqe.user_data(),
+            res,
+        };
+        put_back(words, &mut seat, cell, parcel);
+        seat::reply(words, &mut seat, cell, generation, fails, res);
+        (Worker::new(seat), cqe, took)
+    }
+
     /// Answers the request. Where there is no answer now, or another worker has the pipe, it puts the request back to
-    /// Ready instead.
+    /// Ready instead. A cancel takes at most four steps at each claim word, and at most five for each cell of its ring in all.
     pub fn run(self) -> (Worker, Ran)
         ensures worker { result.0.table ≡ self.entry.pass.table }
         ensures kept { (b : Facts) → IsOf b self.entry.pass → IsOf b result.0 }
-        ensures steps { (e : Entry) → IsPlaced (seen_of self.entry.pass) self.entry.req e → Took self.entry.pass.view result.0.view (run_steps (names self.entry.pass.view.layout.caps (pipe_in e.op)) result.1) }
+        ensures steps { (e : Entry) → IsPlaced (seen_of self.entry.pass) self.entry.req e → HasStepped self.entry result.0.view e result.1 }
         ensures ran { IsRun self.entry result.0 result.1 }
     {
+        if let Some(wanted) = wanted_of(self.parcel.sqe.op()) {
+            let (worker, cqe, took) = self.cancel(wanted);
+            return (worker, Ran::Replied { cqe, took });
+        }
         let Some(pipe) = named_pipe(&self.parcel.sqe, self.pipes) else {
             let (worker, cqe) = self.answer();
-            return (worker, Ran::Replied { cqe });
+            return (worker, Ran::Replied { cqe, took: None });
         };
         let holding = match self.hold(pipe) {
             Ok(holding) => holding,
             Err(busy) => return (busy.park(), Ran::Parked(Parked::PipeBusy)),
         };
         match holding.answer() {
-            Ok((worker, cqe)) => (worker, Ran::Replied { cqe }),
+            Ok((worker, cqe)) => (worker, Ran::Replied { cqe, took: None }),
             Err(busy) => (busy.park(), Ran::Parked(Parked::NotReady)),
         }
     }

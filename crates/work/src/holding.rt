@@ -10,6 +10,7 @@ ghost use Rattle.steps.specs.Cells.{claim_at, pipe_at};
 ghost use Rattle.steps.specs.Rule.{Extends, IsStep, IsTwoSteps, leaves};
 
 use crate::busy::{Busy, put_back};
+use crate::grid::Grid;
 use crate::worker::Worker;
 use answers::answer_with;
 use entry::{Cqe, fails};
@@ -21,6 +22,7 @@ use steps::{Parcel, TableSeat, Thing, Words, pipes};
 /// A worker that runs a request, and has taken the pipe that its entry names.
 pub(crate) struct Holding<'a> {
     pub(crate) words: &'a Words,
+    pub(crate) grid: &'a Grid,
     pub(crate) seat: TableSeat,
     pub(crate) cell: usize,
     pub(crate) generation: u32,
@@ -38,7 +40,7 @@ impl<'a> Model for Holding<'a> {
 
     ghost view = { λ h. record { pass = pass_of h.seat; req = h.req; pipe = h.pipe } };
 
-    ghost invariant = { λ h. IsHoldingSeat h.words.now.table_id h.seat h.cell h.generation h.req h.parcel h.pipes h.pipe h.conduit };
+    ghost invariant = { λ h. IsHoldingSeat h.words.now.table_id h.grid.now h.seat h.cell h.generation h.req h.parcel h.pipes h.pipe h.conduit };
 }
 
 impl<'a> Holding<'a> {
@@ -55,6 +57,7 @@ impl<'a> Holding<'a> {
     {
         let Holding {
             words,
+            grid,
             mut seat,
             cell,
             generation,
@@ -72,6 +75,7 @@ impl<'a> Holding<'a> {
             pipes::free(words, &mut seat, pipe);
             return Err(Busy {
                 words,
+                grid,
                 seat,
                 cell,
                 generation,

@@ -2,6 +2,7 @@
 #![tactic(auto)]
 
 pub mod busy;
+mod cancel;
 pub mod grid;
 mod holding;
 pub mod pass;

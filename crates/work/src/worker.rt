@@ -78,7 +78,7 @@ impl Worker {
     pub fn begin<'a>(
         self,
         words: &'a Words,
-        grid: &Grid,
+        grid: &'a Grid,
         pipes: usize,
         req: Req,
     ) -> Result<Busy<'a>, Worker>
@@ -103,6 +103,7 @@ impl Worker {
         let thing = words.exchange(&mut seat, slot(spot.cell), None);
         Ok(Busy {
             words,
+            grid,
             seat,
             cell: spot.cell,
             generation,

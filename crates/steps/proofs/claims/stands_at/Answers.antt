@@ -5,7 +5,7 @@ use Rattle.claim.specs.Claim.{Claim, fits, packed}
 use Rattle.history.proofs.Requests.{and_left, and_right}
 use Rattle.steps.specs.Cells.{word_of}
 use Rattle.steps.specs.Plays.{IsIdleWord}
-use Rattle.steps.proofs.IdleWords.{over_by, is_going}
+use Rattle.steps.proofs.IdleWords.{over_by, not_running, is_going}
 use Rattle.steps.proofs.claims.stands_at.Goals as goal
 
 same_claim : (k m : Claim) → Some k ≡ Some m → k ≡ m
@@ -23,8 +23,15 @@ idle_by t k g word is idle f at e = (t, k.payload, idle, ltb-true k.payload 4294
 pub returns-in_default-clause-over : goal.returns-in_default-clause-over
 returns-in_default-clause-over c = λ _ K j x shown born. over_by K j x c.args.word c.args.generation shown c.requires born (λ k f at _. absurd (c.in_default.not-Some k (c.unpack.ensures.again k f at)))
 
+pub returns-in_default-clause-still : goal.returns-in_default-clause-still
+returns-in_default-clause-still c = λ _. not_running c.args.word c.args.generation c.requires (λ k f at _. absurd (c.in_default.not-Some k (c.unpack.ensures.again k f at)))
+
 pub returns-then-claim-generation-clause-over : goal.returns-then-claim-generation-clause-over
 returns-then-claim-generation-clause-over c = λ _ K j x shown born. over_by K j x c.args.word c.args.generation shown c.requires born
+    (λ k f at g. let same = same_claim _ _ (sym c.in-Some.is ∙ c.unpack.ensures.again k f at) in absurd (c.if-claim-generation.true (ap (λ (z : Claim). z.generation) (c.claim.view_is ∙ same) ∙ g)))
+
+pub returns-then-claim-generation-clause-still : goal.returns-then-claim-generation-clause-still
+returns-then-claim-generation-clause-still c = λ _. not_running c.args.word c.args.generation c.requires
     (λ k f at g. let same = same_claim _ _ (sym c.in-Some.is ∙ c.unpack.ensures.again k f at) in absurd (c.if-claim-generation.true (ap (λ (z : Claim). z.generation) (c.claim.view_is ∙ same) ∙ g)))
 
 pub returns-in-Held-clause-idle : goal.returns-in-Held-clause-idle
@@ -33,5 +40,10 @@ returns-in-Held-clause-idle c = λ _. let k : Claim = c.in-Some.claim in let s =
 
 pub returns-in-Empty-clause-over : goal.returns-in-Empty-clause-over
 returns-in-Empty-clause-over c = λ _ K j x shown born. over_by K j x c.args.word c.args.generation shown c.requires born
+    (λ k f at _. let same = same_claim _ _ (sym c.in-Some.is ∙ c.unpack.ensures.again k f at) in let tag : k.tag ≡ c.claim.inside.tag = ap (λ (z : Claim). z.tag) (sym (c.claim.view_is ∙ same)) in
+    ⊎_elim (λ e. ap is_going (tag ∙ e)) (λ e. ap is_going (tag ∙ e)) c.in-Empty.is)
+
+pub returns-in-Empty-clause-still : goal.returns-in-Empty-clause-still
+returns-in-Empty-clause-still c = λ _. not_running c.args.word c.args.generation c.requires
     (λ k f at _. let same = same_claim _ _ (sym c.in-Some.is ∙ c.unpack.ensures.again k f at) in let tag : k.tag ≡ c.claim.inside.tag = ap (λ (z : Claim). z.tag) (sym (c.claim.view_is ∙ same)) in
     ⊎_elim (λ e. ap is_going (tag ∙ e)) (λ e. ap is_going (tag ∙ e)) c.in-Empty.is)

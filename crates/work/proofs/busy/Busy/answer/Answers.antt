@@ -1,4 +1,4 @@
-use Rattle.std.proofs.Common.{rules, ◌≡◌, ℕ, ◌<◌, true, ℤ, [], ◌∷◌, length, Some, sym, refl, ap, ◌∙◌, subst, to_z, of_z, w32}
+use Rattle.std.proofs.Common.{rules, ◌≡◌, ℕ, ◌<◌, true, ℤ, [], ◌∷◌, length, Some, None, sym, refl, ap, ◌∙◌, subst, to_z, of_z, w32}
 use Rattle.std.proofs.lemmas.Int.{to_z-of_z}
 use Rattle.atomic_table.specs.Table.{rest}
 use Rattle.answers.specs.Answered.{is_plain, IsPast}
@@ -19,13 +19,15 @@ use Rattle.steps.specs.Cells.{request_at, claim_at, slot_at, word_of}
 use Rattle.steps.specs.Plays.{Seated, MayReply}
 use Rattle.steps.specs.Rule.{Extends, IsStep}
 use Rattle.work.specs.Passes.{Pass, Running, seen_of}
+use Rattle.work.specs.Searches.{wanted_in}
 use Rattle.work.specs.WorkerRuns.{op_run, run_as}
-use Rattle.work.proofs.RunsKept.{runs_placed, runs_entry, runs_served, served_plain, plain_may}
+use Rattle.work.proofs.RunsKept.{runs_placed, runs_entry, runs_kind, plain_run, plain_may}
 use Rattle.work.proofs.busy.Busy.answer.Goals as goal
 
 pub answer_without-res-requires-clause-plain : goal.answer_without-res-requires-clause-plain
-answer_without-res-requires-clause-plain c = let b = c.self.inside in let i = c.self.invariant in
-    subst (λ (o : Op). is_plain o ≡ true) (sym c.op_placed.ensures) (served_plain (op_run b.parcel.sqe.op) (runs_served b.words.now.table_id b.seat.me.0 b.seat.me.0 b.cell b.generation b.req b.parcel b.pipes i.runs))
+answer_without-res-requires-clause-plain c = let b = c.self.inside in let i = c.self.invariant in let table = b.words.now.table_id in
+    let plain = subst (λ (k : Running). (e : Entry) → IsPlaced (seen_of k.pass) k.req e → wanted_in e.op ≡ None) (sym c.self.view_is) c.requires.plain (run_as b.parcel.sqe) (runs_placed table b.seat.me.0 b.seat.me.0 b.cell b.generation b.req b.parcel b.pipes i.runs) in
+    subst (λ (o : Op). is_plain o ≡ true) (sym c.op_placed.ensures) (plain_run (op_run b.parcel.sqe.op) (runs_kind table b.seat.me.0 b.seat.me.0 b.cell b.generation b.req b.parcel b.pipes i.runs) plain)
 
 pub reply-requires-clause-answer : goal.reply-requires-clause-answer
 reply-requires-clause-answer c = let b = c.self.inside in let i = c.self.invariant in let m = c.put_back.ensures.seat.2 in let table = b.words.now.table_id in

@@ -14,11 +14,13 @@ use Rattle.steps.specs.declared.view.View.{View}
 use Rattle.steps.specs.Journal.{events_of}
 use Rattle.steps.specs.Plays.{Seated, HasAlone}
 use Rattle.steps.specs.Rule.{Looks}
+use Rattle.history.specs.History.{hit}
 use Rattle.steps.proofs.StepKinds.{in_hand}
+use Rattle.steps.proofs.ViewsKept.{layout_after}
 use Rattle.steps.proofs.PipeSteps.{lacks_after}
 use Rattle.work.specs.Passes.{Running, RunsIt, seen_of}
 use Rattle.work.specs.WorkerRuns.{MissedPipe}
-use Rattle.work.proofs.RunsKept.{runs_on, runs_look, named_by}
+use Rattle.work.proofs.RunsKept.{runs_on, runs_look, named_by, grid_on, same_hit_looked, same_hit_silent}
 use Rattle.work.proofs.busy.Busy.hold.Goals as goal
 
 same_conduit : (a b : Conduit) → ◌≡◌ {A = Option Thing} (Some (Piped a)) (Some (Piped b)) → a ≡ b
@@ -32,6 +34,8 @@ hold-requires-clause-fits c = let b = c.self.inside in let i = c.self.invariant 
 pub invariant_of-result : goal.invariant_of-result
 invariant_of-result c = let b = c.self.inside in let i = c.self.invariant in let k = c.if-not-hold.ensures in let x = k.looks (λ e. true≢false (sym e)) in record {
   table_is = k.seat.0 ∙ i.table_is;
+  grid = grid_on b.words.now.table_id b.grid.now b.seat.me.0 c.hold.new.seat.me.0 (ap (λ (z : View). z.layout) x.0.is) i.grid;
+  unhit = same_hit_looked b.seat.me.0 c.hold.new.seat.me.0 b.req i.runs.role x.0 ∙ i.unhit;
   runs = runs_look b.words.now.table_id b.seat.me.0 c.hold.new.seat.me.0 b.cell b.generation b.req b.parcel b.pipes i.runs x.0;
   out = x.1 ∙ i.out;
   bare = λ n. lacks_after b.seat.me.0 c.hold.new.seat.me.0 b.req n i.runs.role (i.bare n) x.0;
@@ -53,8 +57,10 @@ pub invariant_of-result-2 : goal.invariant_of-result-2
 invariant_of-result-2 c = let b = c.self.inside in let i = c.self.invariant in let k = c.if-not-hold.ensures in let x = k.holds refl b.req i.runs.role in let h = x.2 in let m = c.exchange-thing.ensures.3 in let v : View = c.hold.new.seat.me.0 in
     let named = named_by b.words.now.table_id b.seat.me.0 b.seat.me.0 b.cell b.generation b.req b.parcel b.pipes i.runs c.args.pipe (length b.seat.me.0.layout.caps) (subst (λ (k : Running). (e : Entry) → IsPlaced (seen_of k.pass) k.req e → (pipe_in e.op ≡ Some c.args.pipe) × (c.args.pipe < length k.pass.view.layout.caps)) (sym c.self.view_is) c.requires.named) in
     let same : h.0 ≡ c.pipe_of.result = same_conduit h.0 c.pipe_of.result (ap in_hand (sym h.1 ∙ c.exchange-thing.ensures.2) ∙ c.pipe_of.ensures.is) in
-    let runs = runs_on b.words.now.table_id b.seat.me.0 v b.cell b.generation b.req b.parcel b.pipes i.runs (Hold b.req c.args.pipe) (λ j. refl) x.0 in record {
+    let runs = runs_on b.words.now.table_id b.seat.me.0 v b.cell b.generation b.req b.parcel b.pipes i.runs (Hold b.req c.args.pipe) x.0 in record {
       table_is = c.exchange-thing.ensures.0 ∙ (k.seat.0 ∙ i.table_is);
+      grid = grid_on b.words.now.table_id b.grid.now b.seat.me.0 c.exchange-thing.new.seat.me.0 (ap (λ (z : Seated). z.0.layout) m ∙ layout_after b.seat.me.0 v (Hold b.req c.args.pipe) (RoleBusy b.req) x.0) i.grid;
+      unhit = ap (λ (z : Seated). hit (events_of z.0.seen) b.req) m ∙ (same_hit_silent b.seat.me.0 v b.req i.runs.role (Hold b.req c.args.pipe) (RoleBusy b.req) (λ j. refl) x.0 ∙ i.unhit);
       runs = subst (λ (z : Seated). RunsIt b.words.now.table_id z.0 b.cell b.generation b.req b.parcel b.pipes) (sym m) runs;
       out = ap (λ (z : Seated). z.1) m ∙ ap (λ (cs : List (ℕ × Option Thing)). (c.args.pipe, None) ∷ cs) (ap rest h.1 ∙ i.out);
       alone = subst (λ (z : Seated). HasAlone z.0.seen c.args.pipe b.req) (sym m) x.1;

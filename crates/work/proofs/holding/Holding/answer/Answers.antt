@@ -22,9 +22,10 @@ use Rattle.steps.specs.declared.view.View.{View}
 use Rattle.steps.specs.Journal.{events_of}
 use Rattle.steps.specs.Cells.{setup_of, PipeIs, request_at, claim_at, pipe_at, slot_at, over}
 use Rattle.steps.specs.Plays.{Seated, HasAlone, HasPipeAfter, MayReply}
+use Rattle.steps.proofs.ViewsKept.{layout_after}
 use Rattle.work.specs.Passes.{Pass, Holding, seen_of}
 use Rattle.work.specs.WorkerRuns.{Unanswered}
-use Rattle.work.proofs.RunsKept.{runs_on, runs_same, piped_entry, runs_fits, pipe_may, pipe_after, in_both_hands}
+use Rattle.work.proofs.RunsKept.{runs_on, grid_on, same_hit_silent, runs_same, piped_entry, runs_fits, pipe_may, pipe_after, in_both_hands}
 use Rattle.steps.specs.Rule.{Extends, IsTwoSteps, leaves}
 use Rattle.answers.specs.NamedEnds.{pipe_in}
 use Rattle.work.proofs.holding.Holding.answer.Goals as goal
@@ -46,8 +47,10 @@ pub invariant_of-result : goal.invariant_of-result
 invariant_of-result c = let b = c.self.inside in let i = c.self.invariant in let m = c.exchange.ensures.3 in let w : View = c.free.new.seat.me.0 in let k = c.in_default-answer.ensures b.seat.me.0.layout.caps (events_of b.seat.me.0.seen) b.req b.pipe (subst (λ (o : Op). pipe_in o ≡ Some b.pipe) (sym c.op.ensures) i.named.0) (subst (λ (n : ℕ). b.pipe < n) (sym i.runs.pipes_are.0) i.named.1) i.pipe_is (sound (setup_of b.seat.me.0.layout) (events_of b.seat.me.0.seen) b.pipe i.runs.legal) in
     let frees = c.free.ensures.frees b.req (ap (λ (z : Seated). z.0.role) m ∙ i.runs.role) in
     let x = subst (λ (z : Seated). Extends z.0 (Free b.req b.pipe) (RoleBusy b.req) w) m frees.0 in
-    let runs = runs_on b.words.now.table_id b.seat.me.0 w b.cell b.generation b.req b.parcel b.pipes i.runs (Free b.req b.pipe) (λ j. refl) x in record {
+    let runs = runs_on b.words.now.table_id b.seat.me.0 w b.cell b.generation b.req b.parcel b.pipes i.runs (Free b.req b.pipe) x in record {
       table_is = c.free.ensures.seat.0.0 ∙ (c.exchange.ensures.0 ∙ i.table_is);
+      grid = grid_on b.words.now.table_id b.grid.now b.seat.me.0 w (layout_after b.seat.me.0 w (Free b.req b.pipe) (RoleBusy b.req) x) i.grid;
+      unhit = same_hit_silent b.seat.me.0 w b.req i.runs.role (Free b.req b.pipe) (RoleBusy b.req) (λ j. refl) x ∙ i.unhit;
       runs = runs_same b.words.now.table_id w w b.cell b.generation b.req b.parcel b.pipes runs (let p : Parcel = record { sqe = b.parcel.sqe; buffer = with_items b.parcel.buffer c.answer_with-answer.new.buffer; last = b.parcel.last } in p) refl refl (with_items_is b.parcel.buffer c.answer_with-answer.new.buffer (search (rules, places)) ∙ (k.buffer ∙ c.as_mut_slice.ensures.value));
       out = c.free.ensures.seat.1 ∙ (ap (λ (z : Seated). rest z.1) m ∙ ap rest i.out);
       bare = frees.1;

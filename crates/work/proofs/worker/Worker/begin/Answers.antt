@@ -1,6 +1,7 @@
 use Rattle.std.proofs.Common.{◌≡◌, ◌≢◌, ℕ, ◌+◌, ◌*◌, ◌<◌, List, [], ◌∷◌, length, Option, Some, None, sym, refl, ap, ◌∙◌, subst, arith}
 use Rattle.atomic_table.specs.Table.{rest}
 use Rattle.history.specs.declared.req.Req.{Req}
+use Rattle.history.specs.History.{hit}
 use Rattle.history.specs.declared.event.Event.TheVariants.{Begin}
 use Rattle.steps.specs.declared.line.Line.TheVariants.{Did}
 use Rattle.steps.specs.declared.parcel.Parcel.{Parcel}
@@ -8,13 +9,14 @@ use Rattle.steps.specs.declared.parcel.Thing.{Thing}
 use Rattle.steps.specs.declared.parcel.Thing.TheVariants.{Full}
 use Rattle.steps.specs.declared.view.Role.TheVariants.{Busy as RoleBusy}
 use Rattle.steps.specs.Cells.{IsCell, IsParcel, request_at, slot_at, total}
-use Rattle.steps.specs.Journal.{holder}
+use Rattle.steps.specs.Journal.{events_of, holder}
+use Rattle.steps.proofs.ViewsKept.{layout_after}
 use Rattle.steps.specs.Plays.{Seated}
 use Rattle.steps.specs.Rule.{Extends}
 use Rattle.steps.proofs.StepKinds.{in_hand}
 use Rattle.work.specs.Passes.{Pass, RunsIt}
 use Rattle.work.proofs.PassesKept.{took_one}
-use Rattle.work.proofs.RunsKept.{runs_begun}
+use Rattle.work.proofs.RunsKept.{grid_on, runs_begun, unhit_begun}
 use Rattle.work.proofs.worker.Worker.begin.Goals as goal
 
 same_parcel : (a b : Parcel) → ◌≡◌ {A = Option Thing} (Some (Full a)) (Some (Full b)) → a ≡ b
@@ -43,6 +45,8 @@ invariant_of-result-2 c =
     (c.in-Some.ensures.some.2, inside, (let n : spot.cell < total s.me.0.layout.cells = inside in omega arith), (let n = c.if-spot-ge-GENERATIONS.false in omega arith))
     (ap (λ (p : Pass). length p.view.layout.caps) c.self.view_is ∙ c.requires.on.pipes_are, c.requires.on.few) c.self.invariant.parts parcel in record {
       table_is = c.exchange-thing.ensures.0 ∙ (k.seat.0 ∙ (ap (λ (p : Pass). p.table) c.self.view_is ∙ c.requires.on.table_is));
+      grid = grid_on table c.args.grid.now s.me.0 c.exchange-thing.new.seat.me.0 (ap (λ (z : Seated). z.0.layout) m ∙ layout_after s.me.0 c.begin.new.seat.me.0 _ _ x.0) record { cells_are = cells; wide = c.requires.on.wide };
+      unhit = ap (λ (z : Seated). hit (events_of z.0.seen) c.args.req) m ∙ unhit_begun s.me.0 c.begin.new.seat.me.0 c.args.req (subst (λ (q : Req). Extends s.me.0 (Did (Begin q)) (RoleBusy q) c.begin.new.seat.me.0) at x.0);
       runs = subst (λ (z : Seated). RunsIt table z.0 spot.cell spot.generation c.args.req c.parcel_of.result c.args.pipes) (sym m) runs;
       out = ap (λ (z : Seated). z.1) m ∙ (ap (λ (n : ℕ). (n, None) ∷ rest c.begin.new.seat.me.1) c.slot.ensures ∙ ap (λ (cs : List (ℕ × Option Thing)). (slot_at spot.cell, None) ∷ cs) (ap rest x.1.1 ∙ c.self.invariant.bare));
       bare = λ n. (subst (λ (z : Seated × Req). holder z.0.0.seen n ≢ Some z.1) (λ i. (sym m i, at i)) (x.2 n));

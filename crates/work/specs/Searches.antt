@@ -1,0 +1,117 @@
+-- What a cancel asks for, and what its search finds.
+use Rattle.std.specs.Prelude.{◌≡◌, ◌⊎◌, ℕ, ◌+◌, ◌<◌, ◌≤◌, ◌==◌, Bool, true, false, not, cond, List, [], ◌∷◌, ◌++◌, length, Option, Some, None}
+use Rattle.atomic_table.specs.Seated.{TableId}
+use Rattle.atomic_table.specs.declared.shared.Seat.{Seat}
+use Rattle.entry.specs.declared.op.Op.{Op}
+use Rattle.entry.specs.declared.op.Op.TheVariants.{AsyncCancel, TimeoutRemove}
+use Rattle.entry.specs.Entry.{Entry}
+use Rattle.history.specs.declared.req.Req.{Req}
+use Rattle.history.specs.declared.event.Event.TheVariants.{Take, Miss}
+use Rattle.history.specs.Answers.{Matches, NoneLeft as NoMatchLeft}
+use Rattle.history.specs.Chains.{IsBefore, IsPlaced, is_link_timeout, is_timeout}
+use Rattle.history.specs.History.{hit, nothing, phase, submits, IsReplied}
+use Rattle.history.specs.Legal.{Legal}
+use Rattle.steps.specs.declared.line.Line.TheVariants.{Did}
+use Rattle.steps.specs.declared.parcel.Thing.{Thing}
+use Rattle.steps.specs.declared.view.Role.TheVariants.{Busy}
+use Rattle.steps.specs.declared.view.Step.{Step}
+use Rattle.steps.specs.declared.view.View.{View}
+use Rattle.steps.specs.Cells.{setup_of, claim_at, facts_at, user_at, request_at}
+use Rattle.steps.specs.Fairness.{Orderly}
+use Rattle.steps.specs.Journal.{events_of}
+use Rattle.steps.specs.Rule.{Extends, Fits, Looks}
+use Rattle.work.specs.declared.cancel.Wanted.{Wanted}
+use Rattle.work.specs.declared.cancel.Target.{Target}
+use Rattle.work.specs.declared.cancel.Searched.{Searched}
+use Rattle.work.specs.declared.cancel.Searched.TheVariants.{NoneLeft, Ended, Found}
+use Rattle.work.specs.declared.cancel.Tried.{Tried}
+use Rattle.work.specs.declared.cancel.Tried.TheVariants.{Passed, Took, Missed}
+
+-- what the operation asks for, if it is a cancel
+abbrev pub wanted_in : Op → Option Wanted
+wanted_in (AsyncCancel u) = Some (record { user_data = u; timeout = false })
+wanted_in (TimeoutRemove u) = Some (record { user_data = u; timeout = true })
+wanted_in _ = None
+
+-- the operations that a cancel may be meant for: TIMEOUTs alone, or any but a LINK_TIMEOUT
+abbrev pub is_kind : Bool → Op → Bool
+is_kind true op = is_timeout op
+is_kind false op = not (is_link_timeout op)
+
+abbrev pub WorkerSeat : Type 0
+WorkerSeat = Seat (Option Thing) View
+
+-- the seat's worker runs the cancel c, which asks for w and has done nothing yet
+pub record Cancels (table : TableId) (s : WorkerSeat) (c : Req) (w : Wanted) : Type 0 where
+  pub table_is : s.table_id ≡ table
+  pub busy : s.me.0.role ≡ Busy c
+  pub unhit : hit (events_of s.me.0.seen) c ≡ nothing
+  pub born : c.k < submits (events_of s.me.0.seen) c.ring
+  pub entry : Entry
+  pub placed_is : IsPlaced (events_of s.me.0.seen) c entry
+  pub asks : wanted_in entry.op ≡ Some w
+  pub legal : Legal (setup_of s.me.0.layout) (events_of s.me.0.seen)
+  pub orderly : Orderly s.me.0.layout s.me.0.seen
+
+abbrev pub target_in : WorkerSeat → Target → Req
+target_in s t = request_at s.me.0.layout.cells t.cell t.generation
+
+-- the target is an earlier request of the ring of c
+pub record IsEarlier (table : TableId) (s : WorkerSeat) (c : Req) (t : Target) : Type 0 where
+  pub fits : Fits table s t.cell
+  pub small : t.generation < 16777216
+  pub before : IsBefore (target_in s t) c
+
+-- the matches of c before this number have replied
+abbrev pub ArePassed : View → Req → ℕ → Type 0
+ArePassed v c k = (t : Req) → Matches (events_of v.seen) c t → t.k < k → IsReplied (phase (events_of v.seen) t)
+
+-- c is meant for q, or q has replied
+abbrev pub IsMeant : View → Req → Req → Type 0
+IsMeant v c q = Matches (events_of v.seen) c q ⊎ IsReplied (phase (events_of v.seen) q)
+
+-- it saw more, or did nothing
+abbrev pub WentOn : View → View → Type 0
+WentOn v w = (w ≡ v) ⊎ Looks v w
+
+-- what was done at the request q: nothing, since it has replied, or a Take, or a Miss
+abbrev pub DidTake : View → View → Req → Req → Tried → Type 0
+DidTake v w c q Passed = WentOn v w × IsReplied (phase (events_of w.seen) q)
+DidTake v w c q Took = (m : View) × WentOn v m × Extends m (Did (Take c q)) (Busy c) w
+DidTake v w c q Missed = (m : View) × WentOn v m × Extends m (Did (Miss c q)) (Busy c) w
+
+-- the same of a request that the cancel may not be meant for: then all matches up to it have replied
+abbrev pub DidTry : View → View → Req → Req → Tried → Type 0
+DidTry v w c q Passed = WentOn v w × ArePassed w c (q.k + 1)
+DidTry v w c q t = DidTake v w c q t
+
+-- how many of the steps were at this word
+abbrev pub steps_at : ℕ → List Step → ℕ
+steps_at word [] = 0
+steps_at word (s ∷ l) = cond (s.word == word) 1 0 + steps_at word l
+
+-- the steps were at the words of the cell x
+abbrev pub AreAt : ℕ → List Step → Type 0
+AreAt x [] = Unit {0}
+AreAt x (s ∷ l) = ((s.word ≡ claim_at x) ⊎ ((s.word ≡ facts_at x) ⊎ (s.word ≡ user_at x))) × AreAt x l
+
+-- all steps were at the words of the cell x, at most n of them at its claim word, and at most so many in all
+pub record StepsIn (v w : View) (x n all : ℕ) : Type 0 where
+  pub steps : List Step
+  pub is : w.steps ≡ steps ++ v.steps
+  pub at : AreAt x steps
+  pub few : steps_at (claim_at x) steps ≤ n
+  pub most : length steps ≤ all
+
+-- what came of the search of the cancel c: all its matches have replied, or a Take, or a Miss
+abbrev pub DidSearch : View → View → Req → Searched → Type 0
+DidSearch v w c NoneLeft = WentOn v w × NoMatchLeft (events_of w.seen) c
+DidSearch v w c (Ended t) = (m : View) × WentOn v m × Extends m (Did (Take c t)) (Busy c) w
+DidSearch v w c Found = (t : Req) × (m : View) × WentOn v m × Extends m (Did (Miss c t)) (Busy c) w
+
+-- at most n steps at each claim word, and at most so many in all
+pub record FewSteps (v w : View) (n all : ℕ) : Type 0 where
+  pub steps : List Step
+  pub is : w.steps ≡ steps ++ v.steps
+  pub few : (x : ℕ) → steps_at (claim_at x) steps ≤ n
+  pub most : length steps ≤ all

@@ -1,0 +1,216 @@
+//! The search of a cancel among the earlier requests of its ring.
+ghost use Rattle.std.specs.Prelude.{◌≡◌, ◌≢◌, ◌⊎◌, ℕ, ◌<◌, ◌≤◌, ◌+◌, ◌*◌, ◌-◌, true, List, IfOk, IfErr, IfSome, IfNone};
+ghost use Rattle.claim.specs.declared.tag.Tag.TheVariants.{Held, Ready, Running};
+ghost use Rattle.entry.specs.declared.op.Op.{Op as OpOf};
+ghost use Rattle.history.specs.declared.req.Req.{Req as Request};
+ghost use Rattle.history.specs.Answers.{Matches};
+ghost use Rattle.history.specs.History.{IsReplied, phase, unborn};
+ghost use Rattle.steps.specs.Cells.{IsCell, cells_in, request_at, word_of};
+ghost use Rattle.steps.specs.Journal.{events_of};
+ghost use Rattle.steps.specs.Notes.{row_number};
+ghost use Rattle.steps.specs.declared.line.Line.{Line};
+ghost use Rattle.steps.specs.Plays.{IsIdleWord};
+ghost use Rattle.steps.specs.Rule.{IsSameSeat, Looks, Shown};
+ghost use Rattle.work.specs.declared.cancel.Wanted.{Wanted as WantedOf};
+ghost use Rattle.work.specs.Passes.{IsGridOf};
+ghost use Rattle.work.specs.Searches.{ArePassed, Cancels, DidSearch, DidTake, DidTry, FewSteps, IsEarlier, IsMeant, StepsIn, is_kind, target_in, wanted_in};
+
+use crate::grid::Grid;
+use claim::unpack_facts;
+use entry::{Op, by_opcode};
+use history::Req;
+use steps::claims::{Standing, ready, stands_at};
+use steps::{TableSeat, Words, cancels, seat};
+
+/// What a cancel asks for: the user_data of its target, and whether that has to be a TIMEOUT.
+#[derive(Clone, Copy, PartialEq, Eq, Debug)]
+pub(crate) struct Wanted {
+    pub user_data: u64,
+    pub timeout: bool,
+}
+
+/// What came of one request.
+#[derive(Clone, Copy, PartialEq, Eq, Debug)]
+pub(crate) enum Tried {
+    /// The cancel isn't meant for it, or it has replied.
+    Passed,
+    /// It was ended.
+    Took,
+    /// A worker runs it.
+    Missed,
+}
+
+/// What came of a search.
+#[derive(Clone, Copy, PartialEq, Eq, Debug)]
+pub(crate) enum Searched {
+    /// Each request that the cancel is meant for has replied, or there is none.
+    NoneLeft,
+    /// This one was ended.
+    Ended(Req),
+    /// One was found running.
+    Found,
+}
+
+/// A request's cell and generation.
+#[derive(Clone, Copy, PartialEq, Eq, Debug)]
+pub(crate) struct Target {
+    pub cell: usize,
+    pub generation: u32,
+}
+
+macro_rules! wanted {
+    ((cancel timer $target:ident) ()) => { Some(Wanted { user_data: $target, timeout: true }) };
+    ((cancel any $target:ident) ()) => { Some(Wanted { user_data: $target, timeout: false }) };
+    ((timer $kind:ident $ticks:ident) ()) => { None };
+    ((plain $kind:ident) ()) => { None };
+    ((pipe $kind:ident $($field:ident)*) ()) => { None };
+}
+
+/// What the operation asks for. None where it is no cancel.
+pub(crate) fn wanted_of(op: Op) -> Option<Wanted>
+    ensures { result ≡ wanted_in op }
+{
+    by_opcode!(op => wanted!())
+}
+
+/// The row number of TIMEOUT among the facts.
+const TIMEOUT: u8 = 2;
+
+/// That of LINK_TIMEOUT.
+const LINK_TIMEOUT: u8 = 5;
+
+/// Whether a cancel may be meant for an entry with this row number.
+fn is_kind(row: u8, timeout: bool) -> bool
+    ensures { (op : OpOf) → row ≡ row_number op → result ≡ is_kind timeout op }
+{
+    if timeout {
+        row == TIMEOUT
+    } else {
+        row != LINK_TIMEOUT
+    }
+}
+
+/// Whether the cancel may be meant for the request, as its notes tell.
+fn may_match(words: &Words, seat: &mut TableSeat, target: Target, wanted: Wanted) -> bool
+    requires cancels { (c : Request) × Cancels words.now.table_id seat.old c wanted × IsEarlier words.now.table_id seat.old c target }
+    ensures seat { IsSameSeat seat.old seat.new × (seat.new.me.1 ≡ seat.old.me.1) }
+    ensures looks { Looks seat.old.me.0 seat.new.me.0 }
+    ensures passed { result ≢ true → (c : Request) → Cancels words.now.table_id seat.old c wanted → Matches (events_of seat.new.me.0.seen) c (target_in seat.old target) → IsReplied (phase (events_of seat.new.me.0.seen) (target_in seat.old target)) }
+    ensures meant { result ≡ true → (c : Request) → Cancels words.now.table_id seat.old c wanted → IsMeant seat.new.me.0 c (target_in seat.old target) }
+    ensures steps { StepsIn seat.old.me.0 seat.new.me.0 target.cell 0 2 }
+{
+    let facts = unpack_facts(seat::look_at_note(words, seat, target.cell, 0));
+    if facts.generation != target.generation {
+        return false;
+    }
+    let user_data = seat::look_at_note(words, seat, target.cell, 1);
+    is_kind(facts.row, wanted.timeout) && user_data == wanted.user_data
+}
+
+/// The word that an exchange looks for, of a request whose claim word was found so: the same, or that of a Ready request where
+/// it was running. None where the request is over.
+fn looked_for(found: u64, generation: u32) -> Option<u64>
+    requires { generation < 16777216 }
+    ensures some { IfSome result (λ e. IsIdleWord generation e × ((e ≡ found) ⊎ ((found ≡ word_of Running 0 generation 0) × (e ≡ word_of Ready 0 generation 0)))) }
+    ensures none { IfNone result ((K : List ℕ) (j : List Line) (x : ℕ) → Shown K j x found → phase (events_of j) (request_at K x generation) ≢ unborn → IsReplied (phase (events_of j) (request_at K x generation))) }
+{
+    match stands_at(found, generation) {
+        Standing::Idle => Some(found),
+        Standing::Running => Some(ready(generation)),
+        Standing::Over => None,
+    }
+}
+
+/// Ends the request where it still stands as its claim word was found, or finds it running or over. Else gives the word that
+/// is there now.
+fn attempt(words: &Words, seat: &mut TableSeat, target: Target, found: u64) -> Result<Tried, u64>
+    requires cancels { (c : Request) × (w : WantedOf) × Cancels words.now.table_id seat.old c w × IsEarlier words.now.table_id seat.old c target × ArePassed seat.old.me.0 c (target_in seat.old target).k × IsMeant seat.old.me.0 c (target_in seat.old target) }
+    requires shown { Shown seat.old.me.0.layout.cells seat.old.me.0.seen target.cell found }
+    ensures seat { IsSameSeat seat.old seat.new × (seat.new.me.1 ≡ seat.old.me.1) }
+    ensures tried { IfOk result (λ t. (c : Request) (w : WantedOf) → Cancels words.now.table_id seat.old c w → DidTake seat.old.me.0 seat.new.me.0 c (target_in seat.old target) t) }
+    ensures again { IfErr result (λ n. Looks seat.old.me.0 seat.new.me.0 × Shown seat.old.me.0.layout.cells seat.new.me.0.seen target.cell n × (found ≡ word_of Held 0 target.generation 0) × (n ≢ word_of Held 0 target.generation 0)) }
+    ensures steps { StepsIn seat.old.me.0 seat.new.me.0 target.cell 1 1 }
+{
+    let Target { cell, generation } = target;
+    let Some(expected) = looked_for(found, generation) else {
+        return Ok(Tried::Passed);
+    };
+    let word = cancels::take(words, seat, cell, generation, expected, true);
+    if word == expected {
+        return Ok(Tried::Took);
+    }
+    match stands_at(word, generation) {
+        Standing::Idle => Err(word),
+        Standing::Running => Ok(Tried::Missed),
+        Standing::Over => Ok(Tried::Passed),
+    }
+}
+
+/// Ends the request, or finds it running or over.
+fn take(words: &Words, seat: &mut TableSeat, target: Target) -> Tried
+    requires cancels { (c : Request) × (w : WantedOf) × Cancels words.now.table_id seat.old c w × IsEarlier words.now.table_id seat.old c target × ArePassed seat.old.me.0 c (target_in seat.old target).k × IsMeant seat.old.me.0 c (target_in seat.old target) }
+    ensures seat { IsSameSeat seat.old seat.new × (seat.new.me.1 ≡ seat.old.me.1) }
+    ensures tried { (c : Request) (w : WantedOf) → Cancels words.now.table_id seat.old c w → DidTake seat.old.me.0 seat.new.me.0 c (target_in seat.old target) result }
+    ensures steps { StepsIn seat.old.me.0 seat.new.me.0 target.cell 3 3 }
+{
+    let first = seat::look(words, seat, target.cell);
+    let second = match attempt(words, seat, target, first) {
+        Ok(tried) => return tried,
+        Err(second) => second,
+    };
+    match attempt(words, seat, target, second) {
+        Ok(tried) => tried,
+        Err(_) => unreachable!(),
+    }
+}
+
+/// Tries a request before which all matches have replied.
+pub(crate) fn try_one(words: &Words, seat: &mut TableSeat, target: Target, wanted: Wanted) -> Tried
+    requires cancels { (c : Request) × Cancels words.now.table_id seat.old c wanted × IsEarlier words.now.table_id seat.old c target × ArePassed seat.old.me.0 c (target_in seat.old target).k }
+    ensures seat { IsSameSeat seat.old seat.new × (seat.new.me.1 ≡ seat.old.me.1) }
+    ensures tried { (c : Request) → Cancels words.now.table_id seat.old c wanted → DidTry seat.old.me.0 seat.new.me.0 c (target_in seat.old target) result }
+    ensures steps { StepsIn seat.old.me.0 seat.new.me.0 target.cell 3 5 }
+{
+    if may_match(words, seat, target, wanted) {
+        take(words, seat, target)
+    } else {
+        Tried::Passed
+    }
+}
+
+/// Goes over the earlier requests of the ring that can still have a cell, in their order, until one of them was ended or found
+/// running.
+pub(crate) fn search(
+    words: &Words,
+    seat: &mut TableSeat,
+    grid: &Grid,
+    req: Req,
+    wanted: Wanted,
+) -> Searched
+    requires cancels { Cancels words.now.table_id seat.old req wanted }
+    requires grid { IsGridOf words.now.table_id grid.now seat.old.me.0 }
+    requires cell { (x : ℕ) × (g : ℕ) × (g < 16777216) × IsCell grid.now x × (request_at grid.now x g ≡ req) }
+    ensures seat { IsSameSeat seat.old seat.new × (seat.new.me.1 ≡ seat.old.me.1) }
+    ensures searched { DidSearch seat.old.me.0 seat.new.me.0 req result }
+    ensures steps { FewSteps seat.old.me.0 seat.new.me.0 3 (5 * (cells_in grid.now req.ring - 1)) }
+{
+    let ring = usize::from(req.ring);
+    let others = grid.cells_in(ring).saturating_sub(1);
+    let first = req.k.saturating_sub(others);
+    for k in first..req.k {
+        let earlier = Req { ring: req.ring, k };
+        let Some(spot) = grid.locate(earlier) else {
+            unreachable!()
+        };
+        let target = Target {
+            cell: spot.cell,
+            generation: spot.generation as u32,
+        };
+        match try_one(words, seat, target, wanted) {
+            Tried::Passed => {}
+            Tried::Took => return Searched::Ended(earlier),
+            Tried::Missed => return Searched::Found,
+        }
+    }
+    Searched::NoneLeft
+}
