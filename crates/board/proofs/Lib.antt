@@ -19,6 +19,7 @@ pub mod FactsWords
 pub mod LaneWalks
 pub mod LaneSeats
 pub mod BatchesKept
+pub mod TimersKept
 pub mod Watching
 pub mod PutBack
 pub mod WordOutcomes
