@@ -1,16 +1,16 @@
 -- Which timers are armed, and which have fired, from what a pass of the poller had seen to what it sees later.
-use Rattle.std.proofs.Common.{◌≡◌, ◌<◌, Bool, true, false, cond, List, [], ◌∷◌, ◌++◌, sym, refl, ap, ◌∙◌, subst, ⊎_elim, true≢false}
+use Rattle.std.proofs.Common.{◌≡◌, ℕ, ◌<◌, Bool, true, false, cond, List, [], ◌∷◌, ◌++◌, Option, Some, None, sym, refl, ap, ◌∙◌, subst, ⊎_elim, true≢false}
 use Rattle.entry.specs.declared.op.Op.{Op}
 use Rattle.entry.specs.declared.op.Op.TheVariants.{LinkTimeout}
 use Rattle.entry.specs.Entry.{Entry}
 use Rattle.history.specs.declared.req.Req.{Req}
 use Rattle.history.specs.declared.event.Event.{Event}
-use Rattle.history.specs.declared.event.Event.TheVariants.{Begin, Take, Arm, Expire, Fire, Settle, Sever, Cut}
-use Rattle.history.specs.History.{Phase, waits, armed, concerns, phase, submits, was_shut, IsIdle}
+use Rattle.history.specs.declared.event.Event.TheVariants.{Begin, Take, Miss, Tick, Arm, Expire, Fire, FireMiss, Settle, Sever, Reap, Shut, Cut}
+use Rattle.history.specs.History.{Phase, unborn, waits, armed, replied, same, concerns, becomes, phase, fired, submits, clock_of, was_shut, IsIdle}
 use Rattle.history.specs.Chains.{IsPlaced, IsLinkTimeout, is_timer, is_link_timeout, before_in, placed_behind, placed_from}
 use Rattle.history.specs.Legal.{Setup, MayCome, shut_for, Legal}
 use Rattle.history.proofs.Requests.{bool_cases, same_true}
-use Rattle.history.proofs.Growth.{MayChange, may_change, unchanged, submission_some}
+use Rattle.history.proofs.Growth.{MayChange, may_change, changed, unchanged, submission_some}
 use Rattle.steps.specs.declared.line.Line.{Line}
 use Rattle.steps.specs.declared.line.Line.TheVariants.{Did}
 use Rattle.steps.specs.declared.view.Role.{Role}
@@ -19,6 +19,8 @@ use Rattle.steps.specs.Rule.{pollers, stands_for, owns}
 use Rattle.steps.proofs.JournalGrowth.{legal_tail, live_tail, counted_in, lasts, placed_lasts, legal_before}
 use Rattle.steps.proofs.OwnFacts.{never_asked}
 use Rattle.work.specs.Passes.{own_of}
+use Rattle.board.specs.declared.alarm.Alarm.{Alarm}
+use Rattle.board.specs.PollerTimers.{IsKept, KnowsAlarm}
 
 -- ---- lines that are no own events
 
@@ -81,3 +83,112 @@ link_was S later seen q h born link =
     let x = submission_some S (events_of seen) q (legal_before S later seen h) born in let e : Entry = placed_behind (before_in (events_of seen) q) x.0.entry in
     let p : IsPlaced (events_of seen) q e = ap (placed_from (before_in (events_of seen) q)) x.1 in let p' = lasts S (λ h. IsPlaced h q e) q (placed_lasts S q e) later seen h born p in
     let same' : e ≡ link.0 = (let z = sym p' ∙ link.1 in cc) in (e, p, ap (λ (z : Entry). is_link_timeout z.op) same' ∙ link.2)
+
+-- ---- what the poller keeps of timers
+
+-- all of these events, or the events of these lines, pass the test
+abbrev pub AllPass : (Event → Bool) → List Event → Type 0
+AllPass t [] = Unit {0}
+AllPass t (e ∷ es) = (t e ≡ true) × AllPass t es
+
+abbrev pub LinePasses : (Event → Bool) → Line → Type 0
+LinePasses t (Did e) = t e ≡ true
+LinePasses t l = Unit {0}
+
+abbrev pub LinesPass : (Event → Bool) → List Line → Type 0
+LinesPass t [] = Unit {0}
+LinesPass t (l ∷ ls) = LinePasses t l × LinesPass t ls
+
+-- events that arm no timer, and fire none but those that are skipped
+abbrev pub is_calm : (Req → Bool) → Event → Bool
+is_calm skip (Arm r d) = false
+is_calm skip (Fire l t) = skip l
+is_calm skip (FireMiss l t) = skip l
+is_calm skip e = true
+
+-- events that leave the clock
+abbrev pub is_still : Event → Bool
+is_still (Tick n) = false
+is_still e = true
+
+module _ (role : Role) (t : Event → Bool) (others : (e : Event) → owns role (Did e) ≡ false → t e ≡ true) where
+  pass_by : (l : Line) (j : List Line) → AllPass t (own_of role (l ∷ j)) → LinePasses t l × AllPass t (own_of role j)
+  pass_by (Did e) j a = ⊎_elim
+      (λ (w : owns role (Did e) ≡ true). subst (AllPass t) (ap (λ b. cond b (e ∷ own_of role j) (own_of role j)) w) a)
+      (λ (w : owns role (Did e) ≡ false). (others e w, subst (AllPass t) (ap (λ b. cond b (e ∷ own_of role j) (own_of role j)) w) a)) (bool_cases (owns role (Did e)))
+  pass_by l j a = (tt, subst (AllPass t) (same_both (owns role l) (own_of role j)) a)
+
+  -- where the own events pass, all lines do
+  pub lines_pass : (later : List Line) → AllPass t (own_of role later) → LinesPass t later
+  lines_pass [] a = tt
+  lines_pass (l ∷ later) a = let p = pass_by l later a in (p.0, lines_pass later p.1)
+
+module _ (role : Role) (mine : stands_for role pollers ≡ true) where
+  pub calm_others : (skip : Req → Bool) (e : Event) → owns role (Did e) ≡ false → is_calm skip e ≡ true
+  calm_others skip (Arm r d) n = absurd (true≢false (sym mine ∙ n))
+  calm_others skip (Fire l t) n = absurd (true≢false (sym mine ∙ n))
+  calm_others skip (FireMiss l t) n = absurd (true≢false (sym mine ∙ n))
+  calm_others skip e n = refl
+
+  pub still_others : (e : Event) → owns role (Did e) ≡ false → is_still e ≡ true
+  still_others (Tick n) o = absurd (true≢false (sym mine ∙ o))
+  still_others e o = refl
+
+still_by : (l : Line) (j : List Line) → LinePasses is_still l → clock_of (events_of (l ∷ j)) ≡ clock_of (events_of j)
+still_by (Did (Tick n)) j p = absurd (true≢false (sym p))
+still_by (Did e) j p = refl
+still_by l j p = refl
+
+pub clock_on : (later seen : List Line) → LinesPass is_still later → clock_of (events_of (later ++ seen)) ≡ clock_of (events_of seen)
+clock_on [] seen p = refl
+clock_on (l ∷ later) seen p = still_by l (later ++ seen) p.0 ∙ clock_on later seen p.1
+
+-- only an Arm arms
+not_armed : (skip : Req → Bool) (e : Event) (h : List Event) (p : Phase) (d : ℕ) → is_calm skip e ≡ true → MayChange p e → becomes h e p ≡ armed d → ⊥
+not_armed skip (Arm r n) h p d c m is = true≢false (sym c)
+not_armed skip (Reap r) h (replied x res) d c m is = cc
+not_armed skip (Reap r) h p d c m is = m
+not_armed skip (Miss y t) h unborn d c m is = m
+not_armed skip (Miss y t) h p d c m is = m
+not_armed skip (Tick n) h unborn d c m is = m
+not_armed skip (Tick n) h p d c m is = m
+not_armed skip (FireMiss l t) h unborn d c m is = m
+not_armed skip (FireMiss l t) h p d c m is = m
+not_armed skip Shut h unborn d c m is = m
+not_armed skip Shut h p d c m is = m
+not_armed skip e h p d c m is = cc
+
+module _ (S : Setup) (skip : Req → Bool) where
+  armed_by : (l : Line) (j : List Line) (q : Req) (d : ℕ) → Legal S (events_of (l ∷ j)) → LinePasses (is_calm skip) l → phase (events_of (l ∷ j)) q ≡ armed d → phase (events_of j) q ≡ armed d
+  armed_by (Did e) j q d h c is = ⊎_elim
+      (λ (w : concerns e q ≡ true). absurd (not_armed skip e (events_of j) (phase (events_of j) q) d c (may_change S e (events_of j) q h.1 h.0.1 w) (sym (changed S e (events_of j) q w) ∙ is)))
+      (λ (w : concerns e q ≡ false). sym (unchanged S e (events_of j) q w) ∙ is) (bool_cases (concerns e q))
+  armed_by l j q d h c is = is
+
+  -- who is armed was armed before
+  pub armed_was : (later seen : List Line) (q : Req) (d : ℕ) → Legal S (events_of (later ++ seen)) → LinesPass (is_calm skip) later → phase (events_of (later ++ seen)) q ≡ armed d → phase (events_of seen) q ≡ armed d
+  armed_was [] seen q d h c is = is
+  armed_was (l ∷ later) seen q d h c is = armed_was later seen q d (legal_tail S l (later ++ seen) h) c.1 (armed_by l (later ++ seen) q d h c.0 is)
+
+  other_timer : (l q : Req) → skip l ≡ true → skip q ≡ false → same l q ≡ false
+  other_timer l q a b = ⊎_elim (λ (w : same l q ≡ true). absurd (true≢false (sym a ∙ (ap skip (same_true l q w) ∙ b)))) (λ w. w) (bool_cases (same l q))
+
+  fired_by : (l : Line) (j : List Line) (q : Req) → LinePasses (is_calm skip) l → skip q ≡ false → fired (events_of (l ∷ j)) q ≡ fired (events_of j) q
+  fired_by (Did (Fire l t)) j q c n = ap (λ (b : Bool). cond b true (fired (events_of j) q)) (other_timer l q c n)
+  fired_by (Did (FireMiss l t)) j q c n = ap (λ (b : Bool). cond b true (fired (events_of j) q)) (other_timer l q c n)
+  fired_by (Did e) j q c n = refl
+  fired_by l j q c n = refl
+
+  pub fired_on : (later seen : List Line) (q : Req) → LinesPass (is_calm skip) later → skip q ≡ false → fired (events_of (later ++ seen)) q ≡ fired (events_of seen) q
+  fired_on [] seen q c n = refl
+  fired_on (l ∷ later) seen q c n = fired_by l (later ++ seen) q c.0 n ∙ fired_on later seen q c.1 n
+
+  kept_later : (later seen : List Line) (q : Req) (o : Option Alarm) → Legal S (events_of (later ++ seen)) → q.k < submits (events_of seen) q.ring → IsKept (events_of seen) q o → IsKept (events_of (later ++ seen)) q o
+  kept_later later seen q None h born k = k
+  kept_later later seen q (Some a) h born k = (k.0, lasts S (λ h. IsPlaced h q k.0) q (placed_lasts S q k.0) later seen h born k.1, k.2)
+
+  -- what is kept of a timer stays right
+  pub alarm_on : (later seen : List Line) (q : Req) (o : Option Alarm) → Legal S (events_of (later ++ seen)) → LinesPass (is_calm skip) later → skip q ≡ false → KnowsAlarm (events_of seen) q o → KnowsAlarm (events_of (later ++ seen)) q o
+  alarm_on later seen q o h c n k d is =
+      let was = armed_was later seen q d h c is in let u = k d was in let born = counted_in S seen q (armed d) (legal_before S later seen h) was (λ e. cc) in
+      (kept_later later seen q o h born u.0, fired_on later seen q c n ∙ u.1)

@@ -6,13 +6,14 @@ use Rattle.history.specs.declared.req.Req.{Req}
 use Rattle.history.specs.History.{phase, submits, IsReplied}
 use Rattle.history.specs.Legal.{Legal}
 use Rattle.steps.specs.declared.line.Line.{Line}
+use Rattle.steps.specs.declared.line.Line.TheVariants.{Did}
 use Rattle.steps.specs.declared.parcel.Thing.{Thing}
 use Rattle.steps.specs.declared.view.Role.TheVariants.{Poller}
 use Rattle.steps.specs.declared.view.Step.{Step}
 use Rattle.steps.specs.declared.view.View.{View}
 use Rattle.steps.specs.Cells.{setup_of}
 use Rattle.steps.specs.Journal.{events_of}
-use Rattle.steps.specs.Rule.{IsSameSeat, IsStep, Looks}
+use Rattle.steps.specs.Rule.{IsSameSeat, IsStep, Looks, Extends}
 use Rattle.steps.specs.Fairness.{IsReaped}
 use Rattle.steps.proofs.FreeCells.{reaped_later}
 use Rattle.steps.proofs.JournalGrowth.{Lasting, lasts, submits_grow, replied_later}
@@ -35,6 +36,10 @@ TableSeat = Seat (Option Thing) View
 
 pub seat_looked : (s t : TableSeat) → IsPollerSeat s → t.me.1 ≡ s.me.1 → Looks s.me.0 t.me.0 → IsPollerSeat t
 seat_looked s t k same x = record { role = ap (λ (z : View). z.role) x.is ∙ (k.role ∙ ap (λ (z : View). Poller (length z.layout.cells)) (sym x.is)); bare = same ∙ k.bare }
+
+-- and so does one that goes on by an event of its own
+pub seat_own : (s t : TableSeat) (e : Event) → IsPollerSeat s → t.me.1 ≡ s.me.1 → Extends s.me.0 (Did e) s.me.0.role t.me.0 → IsPollerSeat t
+seat_own s t e k same x = record { role = ap (λ (z : View). z.role) x.is ∙ (k.role ∙ ap (λ (z : View). Poller (length z.layout.cells)) (sym x.is)); bare = same ∙ k.bare }
 
 pub watched_look : (b : Facts) (s t : TableSeat) → IsOurs b s → IsSameSeat s t × (t.me.1 ≡ s.me.1) → Looks s.me.0 t.me.0 → Watched b s t
 watched_look b s t o same x = record {
