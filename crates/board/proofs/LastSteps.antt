@@ -11,7 +11,7 @@ use Rattle.history.specs.declared.req.Req.{Req}
 use Rattle.history.specs.declared.event.Event.{Event}
 use Rattle.history.specs.declared.event.Event.TheVariants.{Park, Sever}
 use Rattle.history.specs.History.{Submission, submission, submits, phase, replied, by_sever, IsReplied}
-use Rattle.history.specs.Chains.{IsPlaced, Severed, IsTarget, is_timer, is_timeout, is_link_timeout, placed_behind, placed_from, before_in, previous}
+use Rattle.history.specs.Chains.{IsPlaced, Severed, Open, IsClear, gate_of, is_link_timeout_in, IsTarget, IsLinkTimeout, is_timer, is_timeout, is_link_timeout, placed_behind, placed_from, before_in, previous}
 use Rattle.history.specs.Legal.{Setup, Legal, IsOf as IsOfKind}
 use Rattle.history.proofs.Requests.{bool_cases, same_itself}
 use Rattle.history.proofs.Growth.{submission_some}
@@ -25,7 +25,6 @@ use Rattle.steps.specs.Cells.{setup_of, request_at, claim_at, word_of}
 use Rattle.steps.specs.Journal.{events_of, freed}
 use Rattle.steps.specs.Rule.{IsStep, Extends, Shown, owns, stands_for, pollers}
 use Rattle.steps.proofs.JournalGrowth.{lasts, severed_lasts}
-use Rattle.steps.proofs.Served.{serves_is, no_timer}
 use Rattle.work.specs.Board.{Facts}
 use Rattle.work.specs.Passes.{pass_of, own_of}
 use Rattle.work.proofs.OwnEvents.{own_none}
@@ -99,18 +98,46 @@ or_right : (a b : Bool) → b ≡ true → (a || b) ≡ true
 or_right true b e = refl
 or_right false b e = e
 
--- who has a target is a timer
-pub target_timer : (h : List Event) (q : Req) (k : ℕ) → IsTargetOf h q (Some k) → IsOfKind h q is_timer true
-target_timer h q k t = (t.0.0, t.0.1, or_right (is_timeout t.0.0.op) (is_link_timeout t.0.0.op) t.0.2)
+-- a LINK_TIMEOUT is a timer
+pub link_timer : (h : List Event) (q : Req) → IsLinkTimeout h q → IsOfKind h q is_timer true
+link_timer h q t = (t.0, t.1, or_right (is_timeout t.0.op) (is_link_timeout t.0.op) t.2)
+
+-- a target that is there, or not
+pub some_target : (h : List Event) (q : Req) (o : Option ℕ) → is_some o ≡ true → IsTargetOf h q o → IsLinkTimeout h q
+some_target h q (Some k) e t = t.0
+some_target h q None e t = absurd (true≢false (sym e))
+
+pub none_target : (h : List Event) (q : Req) (o : Option ℕ) → is_some o ≡ false → IsTargetOf h q o → IsTargetOf h q None
+none_target h q None e t = t
+none_target h q (Some k) e t = absurd (true≢false e)
 
 -- the entry that a submitted request is placed as
 pub placed_is : (b : Facts) (s : TableSeat) (q : Req) → IsOurs b s → q.k < submits (events_of s.me.0.seen) q.ring → (e : Entry) × IsPlaced (events_of s.me.0.seen) q e
 placed_is b s q o born = let x = submission_some (setup_of b.layout) (events_of s.me.0.seen) q o.ours.legal born in (placed_behind (before_in (events_of s.me.0.seen) q) x.0.entry, ap (placed_from (before_in (events_of s.me.0.seen) q)) x.1)
 
--- no timer is served so far
-pub served_kind : (b : Facts) (s : TableSeat) (q : Req) → IsOurs b s → q.k < submits (events_of s.me.0.seen) q.ring → IsOfKind (events_of s.me.0.seen) q is_timer false
-served_kind b s q o born = let x = submission_some (setup_of b.layout) (events_of s.me.0.seen) q o.ours.legal born in let p = placed_is b s q o born in
-    (p.0, p.1, no_timer p.0.op (serves_is b.layout (setup_of b.layout) s.me.0.seen q x.0 p.0 o.ours.legal o.ours.orderly x.1 p.1))
+-- who has no target and is no TIMEOUT is no timer
+pub no_timer : (h : List Event) (q : Req) → IsTargetOf h q None → IsOfKind h q is_timeout false → IsOfKind h q is_timer false
+no_timer h q none k = (
+  k.0,
+  k.1,
+  ⊎_elim
+      (λ (w : is_link_timeout k.0.op ≡ true). absurd (none (previous q) (has_target h q k.0 k.1 w)))
+      (λ (w : is_link_timeout k.0.op ≡ false). (λ i. k.2 i || w i)) (bool_cases (is_link_timeout k.0.op)),
+)
+
+-- a TIMEOUT is a timer
+pub timeout_timer : (h : List Event) (q : Req) → IsOfKind h q is_timeout true → IsOfKind h q is_timer true
+timeout_timer h q k = (k.0, k.1, ap (λ b. b || is_link_timeout k.0.op) k.2)
+
+only_timeout : (o : Op) → is_timeout o ≡ true → is_link_timeout o ≡ false
+only_timeout (Timeout ticks etime_success) e = refl
+only_timeout o e = absurd (true≢false (sym e))
+
+-- a TIMEOUT that is open isn't severed
+pub timeout_clear : (h : List Event) (q : Req) → IsOfKind h q is_timeout true → Open h q → ¬ Severed h q
+timeout_clear h q k o v =
+    let own : gate_of h q ≡ q = ap (λ (z : Option Entry). cond (is_link_timeout_in z) (previous q) q) k.1 ∙ ap (λ b. cond b (previous q) q) (only_timeout k.0.op k.2) in
+    let clear = subst (λ (g : Req). IsClear h g) own o in clear.unsevered v
 
 -- ---- the exchange
 

@@ -19,6 +19,8 @@ pub mod FactsWords
 pub mod LaneWalks
 pub mod LaneSeats
 pub mod BatchesKept
+pub mod TimersKept
+pub mod TimersHeld
 pub mod Watching
 pub mod PutBack
 pub mod WordOutcomes

@@ -14,12 +14,14 @@ use Rattle.gates.proofs.TrailLaws.{trails_later, trails_more, trails_replied, lo
 use Rattle.history.specs.declared.req.Req.{Req}
 use Rattle.history.specs.declared.event.Event.{Event}
 use Rattle.history.specs.declared.event.Event.TheVariants.{Park}
-use Rattle.history.specs.History.{phase, unborn, waits, submits, IsReplied}
-use Rattle.history.specs.Chains.{IsChainDone}
+use Rattle.history.specs.History.{phase, unborn, waits, submits, was_shut, IsReplied}
+use Rattle.history.specs.Chains.{IsChainDone, IsLinkTimeout}
 use Rattle.history.specs.Legal.{Setup, Legal}
 use Rattle.steps.specs.declared.line.Line.{Line}
 use Rattle.steps.specs.declared.parcel.Thing.{Thing}
+use Rattle.steps.specs.declared.view.Role.{Role}
 use Rattle.steps.specs.declared.view.View.{View}
+use Rattle.steps.specs.Rule.{pollers, stands_for}
 use Rattle.steps.specs.Cells.{setup_of, IsCell, ring_of, place_of, cells_in, request_at}
 use Rattle.steps.proofs.CellNumbers.{first_cell, located, ring_in}
 use Rattle.steps.proofs.NotesKept.{earlier_gone}
@@ -36,6 +38,7 @@ use Rattle.board.proofs.GoesLaws.{events_before}
 use Rattle.work.specs.Passes.{Pass, pass_of}
 use Rattle.board.specs.Calls.{Goes}
 use Rattle.board.proofs.PutBack.{trails_back, parked_later, outcome_put}
+use Rattle.board.proofs.TimersKept.{link_was, link_still}
 
 abbrev TableSeat : Type 0
 TableSeat = Seat (Option Thing) View
@@ -50,15 +53,23 @@ module _ (b : Facts) (p q : Pass) (es : List Event) (x : Goes b p es q) where
   pub knows_goes : (K : List ℕ) (i : ℕ) (r : Kept) → KnowsRow K p.view.seen i r → KnowsRow K q.view.seen i r
   knows_goes K i r k = record { size = k.size; slots = k.slots; stands = k.stands; trails = subst (λ (h : List Event). Trails h i k.slots) (sym grown) (trails_later (setup_of b.layout) (events_of x.later) (events_of p.view.seen) legal i k.slots k.trails) }
 
-  pub watches_goes : (K : List ℕ) (r : Req) (row : Kept) → r.k < submits (events_of p.view.seen) r.ring → Watches K p.view.seen r row → Watches K q.view.seen r row
+  pub watches_goes : (K : List ℕ) (r : Req) (row : Kept) → r.k < submits (events_of p.view.seen) r.ring → (IsLinkTimeout (events_of q.view.seen) r → phase (events_of q.view.seen) r ≡ waits) → Watches K p.view.seen r row → Watches K q.view.seen r row
   unfolding knows_goes
-  watches_goes K r row born w = record { cell = w.cell; knows = knows_goes K r.ring row w.knows; parked = subst (λ (h : List Event). Trails (Park r ∷ h) r.ring w.knows.slots) (sym grown) (parked_later (setup_of b.layout) (events_of x.later) (events_of p.view.seen) r legal born r.ring w.knows.slots w.parked) }
+  watches_goes K r row born timer w = record { cell = w.cell; knows = knows_goes K r.ring row w.knows; parked = subst (λ (h : List Event). Trails (Park r ∷ h) r.ring w.knows.slots) (sym grown) (parked_later (setup_of b.layout) (events_of x.later) (events_of p.view.seen) r legal born r.ring w.knows.slots w.parked); timer = timer }
 
 pub knows_on : (b : Facts) (s t : TableSeat) → Watched b s t → (K : List ℕ) (i : ℕ) (r : Kept) → KnowsRow K s.me.0.seen i r → KnowsRow K t.me.0.seen i r
 knows_on b s t x K i r k = knows_goes b (pass_of s) (pass_of t) [] x.goes K i r k
 
+-- a LINK_TIMEOUT that waits goes on to wait
+timer_on : (b : Facts) (s t : TableSeat) → Watched b s t → (q : Req) → q.k < submits (events_of s.me.0.seen) q.ring → (IsLinkTimeout (events_of s.me.0.seen) q → phase (events_of s.me.0.seen) q ≡ waits) → IsLinkTimeout (events_of t.me.0.seen) q → phase (events_of t.me.0.seen) q ≡ waits
+timer_on b s t x q born held link =
+    let S : Setup = setup_of b.layout in let j : List Line = s.me.0.seen in let later : List Line = x.goes.later in let all : t.me.0.seen ≡ later ++ j = x.goes.seen_is in
+    let legal' = subst (λ (l : List Line). Legal S (events_of l)) all x.goes.kept.legal in let live = subst (λ (l : List Line). was_shut (events_of l) ≡ false) all x.goes.kept.live in
+    let was = link_was S later j q legal' born (subst (λ (l : List Line). IsLinkTimeout (events_of l) q) all link) in
+    subst (λ (l : List Line). phase (events_of l) q ≡ waits) (sym all) (link_still s.me.0.role (ap (λ (z : Role). stands_for z pollers) (sym x.goes.role_is ∙ x.seat.role)) S q waits tt later j legal' live x.goes.own was (held was))
+
 pub watches_on : (b : Facts) (s t : TableSeat) → Watched b s t → (K : List ℕ) (q : Req) (r : Kept) → q.k < submits (events_of s.me.0.seen) q.ring → Watches K s.me.0.seen q r → Watches K t.me.0.seen q r
-watches_on b s t x K q r born w = watches_goes b (pass_of s) (pass_of t) [] x.goes K q r born w
+watches_on b s t x K q r born w = watches_goes b (pass_of s) (pass_of t) [] x.goes K q r born (timer_on b s t x q born w.timer) w
 
 -- a request that waits may be watched
 pub watches_held : (K : List ℕ) (j : List Line) (q : Req) (r : Kept) → phase (events_of j) q ≡ waits → q.k < added r → KnowsRow K j q.ring r → Watches K j q r
@@ -66,6 +77,7 @@ watches_held K j q r is lt k = record {
   cell = record { kept = (let n : ¬ (q.k < r.lost) = λ lost. subst IsReplied is (lost_replied (events_of j) q.ring k.slots r q.k k.stands k.trails lost) in omega arith); there = lt };
   knows = k;
   parked = trails_back q (events_of j) is q.ring k.slots k.trails;
+  timer = λ _. is;
 }
 
 -- ---- the row was told of a reply, or got an entry more
@@ -149,6 +161,7 @@ watches_replied K j q k r r' f w lt way o stands size lost count = let n = w.kno
   cell = record { kept = (let z = w.cell.kept in omega arith); there = (let z = w.cell.there in omega arith) };
   knows = knows_replied K j q.ring k r r' f n way (real_outcome (events_of j) (nth q.ring k) f o) stands size;
   parked = trails_replied (Park q ∷ events_of j) q.ring n.slots k f w.parked (way n.slots n.stands).pending (outcome_put q (nth q.ring k) (events_of j) o.0 o.1 f (same_false q (nth q.ring k) (λ e. let z : q.k ≡ k = ap (λ (y : Req). y.k) e in absurd (omega arith))) o.2 o.3 o.4);
+  timer = w.timer;
 }
 
 -- ---- bounds

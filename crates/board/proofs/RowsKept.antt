@@ -1,5 +1,5 @@
 -- The rows of all rings, from one look to the next.
-use Rattle.std.proofs.Common.{◌≡◌, ℕ, zero, suc, get_or, ◌+◌, ◌≤◌, ⊎_elim, ◌<◌, List, [], ◌∷◌, ◌++◌, Some, length, set, sym, ap, ◌∙◌, subst, arith, length-set, length-append}
+use Rattle.std.proofs.Common.{◌≡◌, ℕ, zero, suc, get_or, ◌+◌, ◌≤◌, ⊎_elim, ◌<◌, List, [], ◌∷◌, ◌++◌, Some, Option, length, set, sym, ap, ◌∙◌, subst, arith, length-set, length-append}
 use Rattle.std.specs.List.{slice_get}
 use Rattle.std.proofs.lemmas.Bool.{cases_lt}
 use Rattle.std.proofs.lemmas.Option.{slice_get_within}
@@ -15,12 +15,18 @@ use Rattle.steps.specs.declared.view.View.{View}
 use Rattle.steps.specs.Cells.{setup_of, cells_in}
 use Rattle.steps.specs.Journal.{events_of}
 use Rattle.steps.specs.Rule.{Looks}
-use Rattle.work.specs.Board.{Facts}
-use Rattle.work.specs.Passes.{Pass}
+use Rattle.work.specs.Board.{Facts, IsOf}
+use Rattle.work.specs.Passes.{Pass, pass_of}
+use Rattle.atomic_table.specs.declared.shared.Seat.{Seat}
+use Rattle.steps.specs.declared.parcel.Thing.{Thing}
+use Rattle.steps.specs.declared.view.Layout.{Layout}
 use Rattle.board.specs.Calls.{Goes}
 use Rattle.board.specs.PollerRows.{KnowsRow, KnowsRows}
 use Rattle.board.proofs.GoesLaws.{events_before}
 use Rattle.board.proofs.RowLaws.{knows_goes}
+
+abbrev TableSeat : Type 0
+TableSeat = Seat (Option Thing) View
 
 -- a look leaves what the rows tell
 pub rows_looked : (v w : View) (rows : List Kept) → Looks v w → KnowsRows v.layout.cells v.seen rows → KnowsRows w.layout.cells w.seen rows
@@ -42,6 +48,12 @@ rows_goes b p q es rows after i r g k is lt n = record {
       subst (λ (z : ℕ). KnowsRow b.layout.cells q.view.seen z s) (sym at) (subst (λ (z : Kept). KnowsRow b.layout.cells q.view.seen i z) one n))
       (λ ne. knows_goes b p q es g b.layout.cells m s (k.each m s (sym (get_set_other rows i m r ne) ∙ e'))));
 }
+
+-- a call of the poller that leaves the rows as they are
+pub rows_on : (b : Facts) (s t : TableSeat) (es : List Event) → IsOf b (pass_of s) → Goes b (pass_of s) es (pass_of t) → (rows : List Kept) → KnowsRows s.me.0.layout.cells s.me.0.seen rows → KnowsRows t.me.0.layout.cells t.me.0.seen rows
+rows_on b s t es o x rows k =
+    let same : s.me.0.layout ≡ t.me.0.layout = o.layout_is ∙ sym x.kept.layout_is in
+    subst (λ (L : Layout). KnowsRows L.cells t.me.0.seen rows) same record { count = k.count; each = λ i r e. knows_goes b (pass_of s) (pass_of t) es x s.me.0.layout.cells i r (k.each i r e) }
 
 -- ---- new rows
 

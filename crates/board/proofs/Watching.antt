@@ -6,21 +6,26 @@ use Rattle.history.specs.declared.req.Req.{Req}
 use Rattle.history.specs.History.{phase, submits, IsReplied}
 use Rattle.history.specs.Legal.{Legal}
 use Rattle.steps.specs.declared.line.Line.{Line}
+use Rattle.steps.specs.declared.line.Line.TheVariants.{Did}
 use Rattle.steps.specs.declared.parcel.Thing.{Thing}
 use Rattle.steps.specs.declared.view.Role.TheVariants.{Poller}
 use Rattle.steps.specs.declared.view.Step.{Step}
 use Rattle.steps.specs.declared.view.View.{View}
 use Rattle.steps.specs.Cells.{setup_of}
 use Rattle.steps.specs.Journal.{events_of}
-use Rattle.steps.specs.Rule.{IsSameSeat, IsStep, Looks}
+use Rattle.steps.specs.Rule.{IsSameSeat, IsStep, Looks, Extends}
 use Rattle.steps.specs.Fairness.{IsReaped}
 use Rattle.steps.proofs.FreeCells.{reaped_later}
-use Rattle.steps.proofs.JournalGrowth.{submits_grow, replied_later}
+use Rattle.steps.proofs.JournalGrowth.{Lasting, lasts, submits_grow, replied_later}
+use Rattle.history.specs.declared.event.Event.{Event}
 use Rattle.work.specs.Board.{Facts}
 use Rattle.work.specs.Passes.{pass_of}
 use Rattle.board.specs.Calls.{LastAt, Stepped, FoundHeld}
 use Rattle.board.specs.Seats.{IsPollerSeat}
-use Rattle.board.specs.PollerRows.{IsOurs, Watched, Paid, Decided, Decides}
+use Rattle.board.specs.PollerRows.{IsOurs, Watched, Paid, Decided, Decides, IsShutOut, Gated}
+use Rattle.board.specs.declared.trail.Gating.{Gating}
+use Rattle.board.specs.declared.trail.Gating.TheVariants.{Severed as NowSevered, Open as NowOpen, Linked as NowLinked, Shut as NowShut, Lost as NowLost}
+use Rattle.gates.specs.EntryRows.{Kept}
 use Rattle.board.specs.declared.poller.Released.{Released}
 use Rattle.board.specs.declared.poller.Released.TheVariants.{Severed as IsSevered, Freed as IsFreed, Shut as IsShut, Timer as IsTimer, NotHeld}
 use Rattle.board.proofs.GoesLaws.{goes_looked, goes_still, goes_then}
@@ -31,6 +36,10 @@ TableSeat = Seat (Option Thing) View
 
 pub seat_looked : (s t : TableSeat) → IsPollerSeat s → t.me.1 ≡ s.me.1 → Looks s.me.0 t.me.0 → IsPollerSeat t
 seat_looked s t k same x = record { role = ap (λ (z : View). z.role) x.is ∙ (k.role ∙ ap (λ (z : View). Poller (length z.layout.cells)) (sym x.is)); bare = same ∙ k.bare }
+
+-- and so does one that goes on by an event of its own
+pub seat_own : (s t : TableSeat) (e : Event) → IsPollerSeat s → t.me.1 ≡ s.me.1 → Extends s.me.0 (Did e) s.me.0.role t.me.0 → IsPollerSeat t
+seat_own s t e k same x = record { role = ap (λ (z : View). z.role) x.is ∙ (k.role ∙ ap (λ (z : View). Poller (length z.layout.cells)) (sym x.is)); bare = same ∙ k.bare }
 
 pub watched_look : (b : Facts) (s t : TableSeat) → IsOurs b s → IsSameSeat s t × (t.me.1 ≡ s.me.1) → Looks s.me.0 t.me.0 → Watched b s t
 watched_look b s t o same x = record {
@@ -60,6 +69,9 @@ replied_on b s t q x is = subst (λ (j : List Line). IsReplied (phase (events_of
 
 pub reaped_on : (b : Facts) (s t : TableSeat) (q : Req) → Watched b s t → IsReaped (phase (events_of s.me.0.seen) q) → IsReaped (phase (events_of t.me.0.seen) q)
 reaped_on b s t q x is = subst (λ (j : List Line). IsReaped (phase (events_of j) q)) (sym x.goes.seen_is) (reaped_later (setup_of b.layout) x.goes.later s.me.0.seen q (legal_on b s t x) is)
+
+pub lasts_on : (b : Facts) (s t : TableSeat) → Watched b s t → (P : List Event → Type 0) (q : Req) → Lasting (setup_of b.layout) P q → q.k < submits (events_of s.me.0.seen) q.ring → P (events_of s.me.0.seen) → P (events_of t.me.0.seen)
+lasts_on b s t x P q k born p = subst (λ (j : List Line). P (events_of j)) (sym x.goes.seen_is) (lasts (setup_of b.layout) P q k x.goes.later s.me.0.seen (legal_on b s t x) born p)
 
 -- ---- steps
 
@@ -97,10 +109,13 @@ stepped_after K r s t u b n m x k = (k.0, k.1, k.2, last_after K r s t u b k.0 k
 found_after : (K : List ℕ) (r : Req) (s t u : TableSeat) (b : Facts) (n m : ℕ) → Paid s.me.0 t.me.0 n m → FoundHeld K r (pass_of t) (pass_of u) → FoundHeld K r (pass_of s) (pass_of u)
 found_after K r s t u b n m x k = (k.0, k.1, last_after K r s t u b k.0 k.1 _ n m x k.2)
 
+shut_after : (b : Facts) (r : Req) (s t u : TableSeat) (n m : ℕ) → Paid s.me.0 t.me.0 n m → IsShutOut b.layout.cells r (pass_of t) (pass_of u) → IsShutOut b.layout.cells r (pass_of s) (pass_of u)
+shut_after b r s t u n m x d = let w = d.1.1 in (d.0, (d.1.0, (w.0, w.1, stepped_after b.layout.cells d.1.0 s t u b n m x w.2)))
+
 decided_after : (b : Facts) (r : Req) (s t u : TableSeat) (n m : ℕ) (y : Released) → Paid s.me.0 t.me.0 n m → Decided b r (pass_of t) (pass_of u) y → Decided b r (pass_of s) (pass_of u) y
 decided_after b r s t u n m IsSevered x d = (d.0, found_after b.layout.cells r s t u b n m x d.1)
 decided_after b r s t u n m IsFreed x d = (d.0, d.1, found_after b.layout.cells r s t u b n m x d.2)
-decided_after b r s t u n m IsShut x d = let w = d.1.1 in (d.0, (d.1.0, (w.0, w.1, stepped_after b.layout.cells d.1.0 s t u b n m x w.2)))
+decided_after b r s t u n m IsShut x d = shut_after b r s t u n m x d
 decided_after b r s t u n m IsTimer x d = d
 decided_after b r s t u n m NotHeld x d = (d.0, stepped_after b.layout.cells r s t u b n m x d.1)
 
@@ -111,3 +126,10 @@ decides_after b r s t u n m y x p d = record {
   was_free = λ is. sym (x.freed_is r) ∙ d.was_free is;
   others = λ i ne. d.others i ne ∙ x.freed_is i;
 }
+
+pub gated_after : (b : Facts) (r : Req) (s t u : TableSeat) (n m : ℕ) (l : Kept) (y : Gating) → Watched b s t → Paid s.me.0 t.me.0 n m → Gated b r t u l y → Gated b r s u l y
+gated_after b r s t u n m l NowSevered x p g = (watched_then b s t u x g.0, g.1, g.2)
+gated_after b r s t u n m l NowOpen x p g = (watched_then b s t u x g.0, g.1, g.2, g.3)
+gated_after b r s t u n m l NowLinked x p g = (watched_then b s t u x g.0, g.1, g.2, g.3, g.4)
+gated_after b r s t u n m l NowShut x p g = (watched_then b s t u x g.0, g.1, shut_after b r s t u n m p g.2)
+gated_after b r s t u n m l NowLost x p g = (decides_after b r s t u n m NotHeld x p g.0, g.1, g.2)

@@ -9,3 +9,4 @@ pub mod Remains
 pub mod Reports
 pub mod PollerRows
 pub mod Seats
+pub mod PollerTimers

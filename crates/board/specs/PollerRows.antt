@@ -1,25 +1,23 @@
 -- What the poller knows of the requests of each ring, and what it finds out for a release.
 use Rattle.std.specs.Prelude.{◌≡◌, ℕ, ◌+◌, ◌-◌, ◌*◌, ◌<◌, ◌≤◌, Bool, true, false, ℤ, negsuc, List, [], ◌∷◌, ◌++◌, length, slice_get, Option, Some, None}
 use Rattle.atomic_table.specs.declared.shared.Seat.{Seat}
-use Rattle.claim.specs.Facts.{Facts as FactsParts, bit}
-use Rattle.entry.specs.Entry.{Entry, fails, drains, links_soft, links_hard}
+use Rattle.claim.specs.Facts.{Facts as FactsParts}
+use Rattle.entry.specs.Entry.{Entry, fails}
 use Rattle.gates.specs.EntryRows.{Kept, Stands, HasCell, added, waiting}
 use Rattle.gates.specs.Shows.{Trails}
 use Rattle.gates.specs.Slots.{Slot}
 use Rattle.history.specs.declared.req.Req.{Req}
 use Rattle.history.specs.declared.event.Event.{Event}
 use Rattle.history.specs.declared.event.Event.TheVariants.{Park, Sever}
-use Rattle.history.specs.History.{Submission, submission, phase, replied, by_sever, reply, same, IsReplied}
-use Rattle.history.specs.Chains.{IsPlaced, IsChainDone, IsBefore, Severed, Open, is_timer}
+use Rattle.history.specs.History.{phase, waits, replied, by_sever, reply, same, IsReplied}
+use Rattle.history.specs.Chains.{IsPlaced, IsChainDone, IsBefore, IsLinkTimeout, Severed, Open, is_timer}
 use Rattle.history.specs.Legal.{IsOf as IsOfKind}
 use Rattle.steps.specs.declared.line.Line.{Line}
 use Rattle.steps.specs.declared.parcel.Thing.{Thing}
 use Rattle.steps.specs.declared.view.Step.{Step}
 use Rattle.steps.specs.declared.view.View.{View}
-use Rattle.steps.specs.Fairness.{IsReaped}
 use Rattle.steps.specs.FactsTold.{TellsFacts}
 use Rattle.steps.specs.Journal.{events_of, freed}
-use Rattle.steps.specs.Notes.{row_number}
 use Rattle.steps.specs.Cells.{IsCell, cells_in, request_at}
 use Rattle.work.specs.Board.{Facts, IsOf}
 use Rattle.work.specs.Passes.{Pass, pass_of, seen_of}
@@ -29,6 +27,8 @@ use Rattle.board.specs.declared.trail.Outcome.{Outcome}
 use Rattle.board.specs.declared.trail.Outcome.TheVariants.{Pending, Replied, ChainDone}
 use Rattle.board.specs.declared.trail.Passing.{Passing}
 use Rattle.board.specs.declared.trail.Passing.TheVariants.{Waits, Passed, Lost}
+use Rattle.board.specs.declared.trail.Gating.{Gating}
+use Rattle.board.specs.declared.trail.Gating.TheVariants.{Severed as NowSevered, Open as NowOpen, Linked as NowLinked, Shut as NowShut, Lost as NowLost}
 use Rattle.board.specs.declared.poller.Released.{Released}
 use Rattle.board.specs.declared.poller.Released.TheVariants.{Severed as IsSevered, Freed as IsFreed, Shut as IsShut, Timer as IsTimer, NotHeld}
 
@@ -44,11 +44,12 @@ pub record KnowsRows (K : List ℕ) (j : List Line) (rows : List Kept) : Type 0 
   pub count : length rows ≡ length K
   pub each : (i : ℕ) (r : Kept) → slice_get rows i ≡ Some r → KnowsRow K j i r
 
--- the row has the request q, and is right of it whether it has replied or not: it trails the history with q put back too
+-- the row has the request q, and is right of it whether it has replied or not: it trails the history with q put back too. A LINK_TIMEOUT waits still, since nobody else ends it
 pub record Watches (K : List ℕ) (j : List Line) (q : Req) (r : Kept) : Type 0 where
   pub cell : HasCell r q.k
   pub knows : KnowsRow K j q.ring r
   pub parked : Trails (Park q ∷ events_of j) q.ring knows.slots
+  pub timer : IsLinkTimeout (events_of j) q → phase (events_of j) q ≡ waits
 
 -- the number of one of the requests that a ring's cells may have
 pub record IsNumbered (K : List ℕ) (q : Req) : Type 0 where
@@ -115,9 +116,9 @@ WaitsFor K p q r w = IsBefore w r × (¬ IsReplied (phase (seen_of q) w)) × Ste
 abbrev pub IsShutOut : List ℕ → Req → Pass → Pass → Type 0
 IsShutOut K r p q = (¬ Open (seen_of q) r) × ((w : Req) × WaitsFor K p q r w)
 
--- it is a timer that may be armed
+-- it is a timer that waits and may be armed
 abbrev pub MayArm : List Event → Req → Type 0
-MayArm h r = Open h r × (¬ Severed h r) × IsOfKind h r is_timer true
+MayArm h r = (phase h r ≡ waits) × Open h r × (¬ Severed h r) × IsOfKind h r is_timer true
 
 -- what a release says of a request that was found Held, by its answer
 abbrev pub Decided : Facts → Req → Pass → Pass → Released → Type 0
@@ -140,7 +141,21 @@ Passes b r w s t k l Waits = Watched b s t × Watches b.layout.cells t.me.0.seen
 Passes b r w s t k l Passed = Watched b s t × Watches b.layout.cells t.me.0.seen r l × (waiting l < waiting k) × Paid s.me.0 t.me.0 (3 * waiting l) (3 * waiting k)
 Passes b r w s t k l Lost = Decides b r (pass_of s) (pass_of t) NotHeld × IsPollerSeat t × KnowsRow b.layout.cells t.me.0.seen r.ring l × Paid s.me.0 t.me.0 0 (3 * waiting k)
 
+-- what is known of a request that was found Held, by whether it may start. The poller's seat looked, from s to t, and has the row l
+abbrev pub Gated : Facts → Req → Seat (Option Thing) View → Seat (Option Thing) View → Kept → Gating → Type 0
+Gated b r s t l NowSevered = Watched b s t × Watches b.layout.cells t.me.0.seen r l × Severed (events_of t.me.0.seen) r
+Gated b r s t l NowOpen = Watched b s t × Watches b.layout.cells t.me.0.seen r l × (¬ Severed (events_of t.me.0.seen) r) × Open (events_of t.me.0.seen) r
+Gated b r s t l NowLinked = Watched b s t × Watches b.layout.cells t.me.0.seen r l × IsLinkTimeout (events_of t.me.0.seen) r × (¬ Severed (events_of t.me.0.seen) r) × Open (events_of t.me.0.seen) r
+Gated b r s t l NowShut = Watched b s t × Watches b.layout.cells t.me.0.seen r l × IsShutOut b.layout.cells r (pass_of s) (pass_of t)
+Gated b r s t l NowLost = Decides b r (pass_of s) (pass_of t) NotHeld × IsPollerSeat t × KnowsRow b.layout.cells t.me.0.seen r.ring l
+
+-- what the last look at another request costs
+abbrev pub looks_of : Gating → ℕ
+looks_of NowLinked = 1
+looks_of NowShut = 1
+looks_of _ = 0
+
 -- a step towards an answer for r took the seat from s to t and the row from k to l: it is there, or fewer requests are in the way
-abbrev pub Advances : Facts → Req → Seat (Option Thing) View → Seat (Option Thing) View → Kept → Kept → Option Released → Type 0
-Advances b r s t k l (Some x) = Decides b r (pass_of s) (pass_of t) x × IsPollerSeat t × KnowsRow b.layout.cells t.me.0.seen r.ring l × Paid s.me.0 t.me.0 0 (3 * waiting k + 1)
+abbrev pub Advances : Facts → Req → Seat (Option Thing) View → Seat (Option Thing) View → Kept → Kept → Option Gating → Type 0
+Advances b r s t k l (Some x) = Gated b r s t l x × Paid s.me.0 t.me.0 0 (3 * waiting k + looks_of x)
 Advances b r s t k l None = Watched b s t × Watches b.layout.cells t.me.0.seen r l × (waiting l < waiting k) × Paid s.me.0 t.me.0 (3 * waiting l) (3 * waiting k)

@@ -20,6 +20,7 @@ ghost use Rattle.board.specs.New.{IsNew, AreSubmitters, AreWorkers, IsCutting};
 ghost use Rattle.board.specs.Refusals.{RefusesReap};
 ghost use Rattle.board.specs.PollerRows.{KnowsRows};
 
+use crate::alarm::Alarm;
 use crate::bounds::is_shape;
 use crate::completion::Completion;
 use crate::error::{BoardError, ReapError};
@@ -148,13 +149,14 @@ impl Board {
         let submitters = cut_submitters(alloc, &table.shared, &mut seat, &grid)?;
         let workers = cut_workers(alloc, &table.shared, &mut seat, shape.workers)?;
         let rows = rows_of(alloc, &grid)?;
+        let alarms = Vec::from_elem(alloc, Alarm::Linked, grid.total())?;
         let board = Board {
             table,
             grid,
             pipes: shape.pipes.len(),
             workers: shape.workers,
         };
-        Ok((board, Poller::new(seat, rows), submitters, workers))
+        Ok((board, Poller::new(seat, rows, alarms), submitters, workers))
     }
 
     /// Where the request stands.

@@ -66,6 +66,11 @@ pub enum ReapError {
     Foreign,
 }
 
+/// The clock doesn't go back, and it ends at tick 2,147,483,647.
+#[derive(Clone, Copy, PartialEq, Eq, Debug, Error)]
+#[error("the clock doesn't go there")]
+pub struct ClockEnd;
+
 /// Why a board isn't ended.
 #[derive(Clone, Copy, PartialEq, Eq, Debug, Error)]
 pub enum FinishError {

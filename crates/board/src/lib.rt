@@ -1,6 +1,7 @@
 //! The board: rings, pipes and workers over one shared table, as its passes use it. No lock guards it.
 #![tactic(auto)]
 
+mod alarm;
 mod batch;
 pub mod board;
 mod bounds;
@@ -17,12 +18,13 @@ pub mod served;
 pub mod shape;
 mod submit;
 pub mod submitter;
+mod timing;
 mod trail;
 
 pub use board::Board;
 pub use completion::{Completion, Report};
 pub use end::Unfinished;
-pub use error::{BoardError, FinishError, ReapError, SubmitError};
+pub use error::{BoardError, ClockEnd, FinishError, ReapError, SubmitError};
 pub use phase::Phase;
 pub use poller::{Poller, Released};
 pub use served::{hosts_next, is_served};

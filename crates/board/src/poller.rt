@@ -1,40 +1,55 @@
 //! The poller's pass.
-ghost use Rattle.std.specs.Prelude.{◌≡◌, ◌+◌, ◌*◌, List, length};
+ghost use Rattle.std.specs.Prelude.{◌≡◌, ◌+◌, ◌*◌, List, [], ◌∷◌, length, IfOk, IfErr};
+ghost use Rattle.history.specs.declared.event.Event.TheVariants.{Tick};
+ghost use Rattle.history.specs.declared.req.Req.{Req as Request};
 ghost use Rattle.history.specs.History.{submits};
-ghost use Rattle.steps.specs.Cells.{claim_at};
+ghost use Rattle.steps.specs.Journal.{freed};
+ghost use Rattle.steps.specs.Cells.{claim_at, total};
 ghost use Rattle.steps.specs.declared.view.Role.TheVariants.{Poller as PollerRole};
 ghost use Rattle.steps.specs.Rule.{Looks, Shown, IsStep};
 ghost use Rattle.work.specs.Board.{IsOf};
-ghost use Rattle.work.specs.Passes.{pass_of, seen_of, CanReach};
+ghost use Rattle.work.specs.Passes.{pass_of, seen_of, CanReach, Took};
+ghost use Rattle.board.specs.Calls.{Goes};
+ghost use Rattle.board.specs.PollerTimers.{IsPast};
 ghost use Rattle.board.specs.PollerRows.{Decides, IsAt, KnowsRows, Paid};
 ghost use Rattle.board.specs.Seats.{IsPollerSeat};
 
+use crate::alarm::Alarm;
 use crate::board::Board;
+use crate::error::ClockEnd;
 use crate::trail;
 use gates::Row;
 use history::Req;
 use std::marker::Model;
-use steps::{TableSeat, Words, seat, table};
+use steps::{TableSeat, Words, seat, table, timers};
 use work::{Messenger, Pass, Spot};
 
+/// The clock goes up to this tick.
+const LAST_TICK: u32 = 2_147_483_647;
+
 /// The poller's pass: it moves what may begin to the workers, and ends what is severed. Of each ring it keeps a row of what it
-/// has seen. Contracts see its table and what it knows.
+/// has seen, and of each cell what timer it armed last for a request of it. It alone sets the clock, so it knows the time.
+/// Contracts see its table and what it knows.
 #[derive(Drop)]
 pub struct Poller {
     seat: TableSeat,
     rows: Vec<Row>,
+    clock: u32,
+    alarms: Vec<Alarm>,
 }
 
 impl Model for Poller {
     ghost use Rattle.work.specs.Passes.{Pass, pass_of};
+    ghost use Rattle.steps.specs.Journal.{events_of};
     ghost use Rattle.board.specs.PollerRows.{KnowsRows};
+    ghost use Rattle.board.specs.PollerTimers.{KnowsTimers};
     ghost use Rattle.board.specs.Seats.{IsPollerSeat};
 
     ghost Value = { Pass };
 
     ghost view = { λ p. pass_of p.seat };
 
-    ghost invariant = { λ p. IsPollerSeat p.seat × KnowsRows p.seat.me.0.layout.cells p.seat.me.0.seen p.rows.items };
+    ghost invariant = { λ p. IsPollerSeat p.seat × KnowsRows p.seat.me.0.layout.cells p.seat.me.0.seen p.rows.items × KnowsTimers p.seat.me.0.layout.cells (events_of p.seat.me.0.seen) p.clock p.alarms.items };
 }
 
 /// What became of a request that was to be released.
@@ -53,13 +68,19 @@ pub enum Released {
 }
 
 impl Poller {
-    /// The pass of the poller's seat, with the rows of the rings.
-    pub(crate) fn new(seat: TableSeat, rows: Vec<Row>) -> Poller
+    /// The pass of the poller's seat, which has seen nothing yet, with the rows of the rings, and a place for each cell's timer.
+    pub(crate) fn new(seat: TableSeat, rows: Vec<Row>, alarms: Vec<Alarm>) -> Poller
         requires seat { IsPollerSeat seat }
         requires rows { KnowsRows seat.me.0.layout.cells seat.me.0.seen rows.items }
+        requires alarms { (seat.me.0.seen ≡ []) × (length alarms.items ≡ total seat.me.0.layout.cells) }
         ensures { result ≡ pass_of seat }
     {
-        Poller { seat, rows }
+        Poller {
+            seat,
+            rows,
+            clock: 0,
+            alarms,
+        }
     }
 
     /// Its seat.
@@ -92,6 +113,20 @@ impl Poller {
     {
         let ring = usize::from(req.ring);
         trail::release(board, &mut self.seat, &mut self.rows[ring], spot, req)
+    }
+
+    /// Sets the clock on.
+    pub(crate) fn tick(&mut self, board: &Board, to: u32) -> Result<(), ClockEnd>
+        requires { IsOf board.now self.old }
+        ensures ticked { IfOk result (λ u. Goes board.now self.old (Tick to ∷ []) self.new × Took self.old.view self.new.view 1 × ((q : Request) → freed self.new.view.seen q ≡ freed self.old.view.seen q)) }
+        ensures refused { IfErr result (λ e. (self.new ≡ self.old) × IsPast (seen_of self.old) to) }
+    {
+        if to < self.clock || LAST_TICK < to {
+            return Err(ClockEnd);
+        }
+        timers::tick(&board.table.shared, &mut self.seat, to);
+        self.clock = to;
+        Ok(())
     }
 }
 

@@ -1,12 +1,13 @@
 //! What the poller finds out of the requests of one ring: it takes in what was submitted, and looks for replies.
-ghost use Rattle.std.specs.Prelude.{◌≡◌, ℕ, ◌+◌, ◌*◌, ◌<◌, ◌≤◌, Bool, true, false, List, Some, None, length, IfSome, IfNone};
+ghost use Rattle.std.specs.Prelude.{◌≡◌, ◌⊎◌, ℕ, ◌+◌, ◌*◌, ◌<◌, ◌≤◌, Bool, true, false, List, Some, None, length, IfSome, IfNone};
 ghost use Rattle.claim.specs.Facts.{fits_facts};
 ghost use Rattle.entry.specs.Entry.{Entry};
 ghost use Rattle.gates.specs.EntryRows.{Stands, added, waiting, way_in, Waits};
 ghost use Rattle.board.specs.declared.poller.Released.TheVariants.{NotHeld};
 ghost use Rattle.gates.specs.Slots.{Slot, traits_of};
 ghost use Rattle.history.specs.History.{submits, phase, waits, IsReplied};
-ghost use Rattle.history.specs.Chains.{Open, Severed};
+ghost use Rattle.history.specs.Chains.{Open, Severed, is_timeout};
+ghost use Rattle.history.specs.Legal.{IsOf as IsOfKind};
 ghost use Rattle.steps.specs.Journal.{events_of};
 ghost use Rattle.steps.specs.Cells.{claim_at};
 ghost use Rattle.work.specs.Passes.{pass_of};
@@ -46,8 +47,26 @@ pub(crate) enum Passing {
     Lost,
 }
 
+/// Whether a request that waits may start.
+#[derive(Clone, Copy, PartialEq, Eq, Debug)]
+pub(crate) enum Gating {
+    /// An earlier member of its chain failed.
+    Severed,
+    /// It may.
+    Open,
+    /// It is a LINK_TIMEOUT, and may be armed: its target may start, and has no reply.
+    Linked,
+    /// It waits for another request.
+    Shut,
+    /// It doesn't wait any more.
+    Lost,
+}
+
 /// The row number of all Invalid entries among the facts.
 const INVALID: u8 = 9;
+
+/// That of TIMEOUT.
+const TIMEOUT: u8 = 2;
 
 /// That of LINK_TIMEOUT.
 const LINK_TIMEOUT: u8 = 5;
@@ -248,7 +267,26 @@ fn pass(
     }
 }
 
-/// Moves the request, which is open, to the workers, unless it is a linked timer, which has a target.
+/// Whether a worker is to run the request, which is no LINK_TIMEOUT: its facts tell whether it is a TIMEOUT. They don't any more
+/// once it has replied.
+fn is_worked(board: &Board, seat: &mut TableSeat, spot: Spot, req: Req) -> bool
+    requires ours { IsOurs board.now seat.old }
+    requires at { IsAt board.now.layout.cells spot.cell spot.generation req }
+    requires small { spot.generation < 16777216 }
+    requires born { req.k < submits (events_of seat.old.me.0.seen) req.ring }
+    ensures watched { Watched board.now seat.old seat.new }
+    ensures worked { result ≡ true → IsOfKind (events_of seat.new.me.0.seen) req is_timeout false }
+    ensures timer { result ≡ false → IsOfKind (events_of seat.new.me.0.seen) req is_timeout true ⊎ IsReplied (phase (events_of seat.new.me.0.seen) req) }
+    ensures steps { Paid seat.old.me.0 seat.new.me.0 0 1 }
+{
+    match facts_in(board, seat, spot, req) {
+        Some(facts) => facts.row != TIMEOUT,
+        None => false,
+    }
+}
+
+/// Moves the request, which is open, to the workers, unless it is a timer: a linked one, which has a target, or a TIMEOUT that
+/// still waits.
 fn free(board: &Board, seat: &mut TableSeat, row: &Row, spot: Spot, req: Req) -> Released
     requires ours { IsOurs board.now seat.old }
     requires at { IsAt board.now.layout.cells spot.cell spot.generation req }
@@ -258,18 +296,22 @@ fn free(board: &Board, seat: &mut TableSeat, row: &Row, spot: Spot, req: Req) ->
     requires open { (Severed (events_of seat.old.me.0.seen) req → ⊥) × Open (events_of seat.old.me.0.seen) req }
     ensures seat { IsPollerSeat seat.new }
     ensures decides { Decides board.now req (pass_of seat.old) (pass_of seat.new) result }
-    ensures steps { Paid seat.old.me.0 seat.new.me.0 0 1 }
+    ensures steps { Paid seat.old.me.0 seat.new.me.0 0 2 }
 {
-    match row.target_of(req.k) {
-        Some(_) => Released::Timer,
-        None => {
-            let words = &board.table.shared;
-            if seat::release(words, seat, spot.cell, spot.generation as u32) {
-                Released::Freed
-            } else {
-                Released::NotHeld
-            }
+    if row.target_of(req.k).is_some() {
+        return Released::Timer;
+    }
+    if !is_worked(board, seat, spot, req) {
+        if !is_held(board, seat, spot, req) {
+            return Released::NotHeld;
         }
+        return Released::Timer;
+    }
+    let words = &board.table.shared;
+    if seat::release(words, seat, spot.cell, spot.generation as u32) {
+        Released::Freed
+    } else {
+        Released::NotHeld
     }
 }
 
@@ -294,32 +336,53 @@ fn sever(board: &Board, seat: &mut TableSeat, row: &Row, spot: Spot, req: Req) -
     }
 }
 
-/// Releases the request, or passes one that is in its way.
+/// Asks the row whether the request may start, or passes one that is in its way.
 fn advance(
     board: &Board,
     seat: &mut TableSeat,
     row: &mut Row,
     spot: Spot,
     req: Req,
-) -> Option<Released>
+) -> Option<Gating>
     requires ours { IsOurs board.now seat.old }
     requires at { IsAt board.now.layout.cells spot.cell spot.generation req }
-    requires small { spot.generation < 16777216 }
     requires numbered { IsNumbered board.now.layout.cells req }
     requires born { req.k < submits (events_of seat.old.me.0.seen) req.ring }
     requires watches { Watches board.now.layout.cells seat.old.me.0.seen req row.old }
     ensures { Advances board.now req seat.old seat.new row.old row.new result }
 {
     let (first, waits) = match row.ask(req.k) {
-        Asked::Severed => return Some(sever(board, seat, row, spot, req)),
-        Asked::Open => return Some(free(board, seat, row, spot, req)),
-        Asked::OpenWith(target) => (target, Released::Timer),
-        Asked::Blocked(first) => (first, Released::Shut),
+        Asked::Severed => return Some(Gating::Severed),
+        Asked::Open => return Some(Gating::Open),
+        Asked::OpenWith(target) => (target, Gating::Linked),
+        Asked::Blocked(first) => (first, Gating::Shut),
     };
     match pass(board, seat, row, spot, req, first) {
         Passing::Waits => Some(waits),
         Passing::Passed => None,
-        Passing::Lost => Some(Released::NotHeld),
+        Passing::Lost => Some(Gating::Lost),
+    }
+}
+
+/// Whether the request, which the row has, may start.
+pub(crate) fn gate(
+    board: &Board,
+    seat: &mut TableSeat,
+    row: &mut Row,
+    spot: Spot,
+    req: Req,
+) -> Gating
+    requires ours { IsOurs board.now seat.old }
+    requires at { IsAt board.now.layout.cells spot.cell spot.generation req }
+    requires numbered { IsNumbered board.now.layout.cells req }
+    requires born { req.k < submits (events_of seat.old.me.0.seen) req.ring }
+    requires watches { Watches board.now.layout.cells seat.old.me.0.seen req row.old }
+    ensures { Advances board.now req seat.old seat.new row.old row.new (Some result) }
+{
+    loop {
+        if let Some(gating) = advance(board, seat, row, spot, req) {
+            return gating;
+        }
     }
 }
 
@@ -331,12 +394,17 @@ fn decide(board: &Board, seat: &mut TableSeat, row: &mut Row, spot: Spot, req: R
     requires numbered { IsNumbered board.now.layout.cells req }
     requires born { req.k < submits (events_of seat.old.me.0.seen) req.ring }
     requires watches { Watches board.now.layout.cells seat.old.me.0.seen req row.old }
-    ensures { Advances board.now req seat.old seat.new row.old row.new (Some result) }
+    ensures seat { IsPollerSeat seat.new }
+    ensures decides { Decides board.now req (pass_of seat.old) (pass_of seat.new) result }
+    ensures knows { KnowsRow board.now.layout.cells seat.new.me.0.seen req.ring row.new }
+    ensures steps { Paid seat.old.me.0 seat.new.me.0 0 (3 * waiting row.old + 2) }
 {
-    loop {
-        if let Some(released) = advance(board, seat, row, spot, req) {
-            return released;
-        }
+    match gate(board, seat, row, spot, req) {
+        Gating::Severed => sever(board, seat, row, spot, req),
+        Gating::Open => free(board, seat, row, spot, req),
+        Gating::Linked => Released::Timer,
+        Gating::Shut => Released::Shut,
+        Gating::Lost => Released::NotHeld,
     }
 }
 

@@ -44,14 +44,14 @@ decide-requires-clause-watches c = c.follow.ensures.watches c.if-not-follow.fals
 
 pub returns-clause-decides : goal.returns-clause-decides
 returns-clause-decides c = let e = c.is_held.ensures in let f = c.follow.ensures in
-    decides_after c.args.board.now c.args.req c.args.seat.now c.is_held.new.seat c.decide.new.seat 0 1 c.decide.result e.watched e.steps (decides_after c.args.board.now c.args.req c.is_held.new.seat c.follow.new.seat c.decide.new.seat _ _ c.decide.result f.watched f.steps c.decide.ensures.0)
+    decides_after c.args.board.now c.args.req c.args.seat.now c.is_held.new.seat c.decide.new.seat 0 1 c.decide.result e.watched e.steps (decides_after c.args.board.now c.args.req c.is_held.new.seat c.follow.new.seat c.decide.new.seat _ _ c.decide.result f.watched f.steps c.decide.ensures.decides)
 
 pub returns-clause-steps : goal.returns-clause-steps
 returns-clause-steps c =
     let b = c.args.board.now in let s = c.args.seat.now in let t = c.is_held.new.seat in let u = c.follow.new.seat in let v = c.decide.new.seat in let row = c.args.row.now in let q = c.args.req in let e = c.is_held.ensures in let f = c.follow.ensures in let d = c.decide.ensures in
     let n : ℕ = submits (events_of s.me.0.seen) q.ring in let m : ℕ = submits (events_of t.me.0.seen) q.ring in let l : ℕ = submits (events_of u.me.0.seen) q.ring in let z : ℕ = submits (events_of v.me.0.seen) q.ring in let old : ℕ = owed row (q.k + 1) in let w : ℕ = waiting c.follow.new.row in
-    let g : n ≤ m = submits_goes b (pass_of s) (pass_of t) [] q.ring e.watched.goes in let h : m ≤ l = submits_goes b (pass_of t) (pass_of u) [] q.ring f.watched.goes in let i : l ≤ z = submits_goes b (pass_of u) (pass_of v) (severed_by c.decide.result q) q.ring d.0.goes in
+    let g : n ≤ m = submits_goes b (pass_of s) (pass_of t) [] q.ring e.watched.goes in let h : m ≤ l = submits_goes b (pass_of t) (pass_of u) [] q.ring f.watched.goes in let i : l ≤ z = submits_goes b (pass_of u) (pass_of v) (severed_by c.decide.result q) q.ring d.decides.goes in
     let born : q.k < m = held_born b t q (still_ours b s t e.watched) (e.held c.if-not-is_held.false).0 in let few = few_added b s b.layout.cells q.ring row c.requires.ours c.requires.knows in
     let most : old ≤ 4 * z = owed_bound row q.k z (few_wait b.layout.cells s.me.0.seen q.ring row c.requires.knows) (omega arith) (omega arith) in
     paid_on s.me.0 t.me.0 v.me.0 (4 * z + 4) (4 * z + 3) 0 (paid_with s.me.0 t.me.0 1 0 (4 * z + 4) (4 * z + 3) e.steps (4 * z + 3) (omega arith) (omega arith))
-    (paid_on t.me.0 u.me.0 v.me.0 (4 * z + 3) (3 * w + 1) 0 (paid_with t.me.0 u.me.0 (old + 1) (3 * w) (4 * z + 3) (3 * w + 1) f.steps 1 (omega arith) (omega arith)) d.3)
+    (paid_on t.me.0 u.me.0 v.me.0 (4 * z + 3) (3 * w + 2) 0 (paid_with t.me.0 u.me.0 (old + 1) (3 * w) (4 * z + 3) (3 * w + 2) f.steps 2 (omega arith) (omega arith)) d.steps)

@@ -99,3 +99,12 @@ cut_workers-requires-clause-seat c = let s = shape_says c.args.shape.now (sym c.
     let items : c.in_ok-cells.cells.items ≡ counts c.args.shape.now.rings.items = c.in_ok-cells.ensures ∙ ap counts c.as_slice.ensures.value in
     let grid : c.in_ok-grid.grid ≡ counts c.args.shape.now.rings.items = c.in_ok-grid.ensures ∙ (c.as_slice-2.ensures.value ∙ items) in let r = s.rings in let l = s.long in let g = ap (λ (K : List ℕ). length K) grid in let k = c.in_ok-submitters.ensures.seat in
     (length c.in_ok-grid.grid, subst (λ (L : Layout). Rattle.board.specs.New.IsCutting L c.in_ok-table.table.shared.table_id (length c.in_ok-grid.grid) 0 c.cut_submitters.new.seat) (sym k.layout_is) k, omega arith)
+
+pub new-requires-2-clause-alarms : goal.new-requires-2-clause-alarms
+new-requires-2-clause-alarms c = let e = c.in_ok-table.ensures in
+    let items : c.in_ok-cells.cells.items ≡ counts c.args.shape.now.rings.items = c.in_ok-cells.ensures ∙ ap counts c.as_slice.ensures.value in
+    let first : c.in_ok-table.seat.me.0.layout.cells ≡ counts c.args.shape.now.rings.items = ap (λ (m : Me (Option Thing) View). m.0.layout.cells) e.1 ∙ items in
+    let grid : c.in_ok-grid.grid ≡ counts c.args.shape.now.rings.items = c.in_ok-grid.ensures ∙ (c.as_slice-2.ensures.value ∙ items) in
+    let k = cut_all c.in_ok-table.seat.me.0.layout c.in_ok-table.table.shared.table_id (length c.in_ok-grid.grid) c.args.shape.now.workers c.cut_submitters.new.seat c.cut_workers.new.seat c.in_ok-submitters.ensures.seat c.in_ok-workers.ensures.seat in
+    let cells : c.in_ok-grid.grid ≡ c.cut_workers.new.seat.me.0.layout.cells = grid ∙ (sym first ∙ sym (ap (λ (L : Layout). L.cells) k.layout_is)) in
+    (k.seen, sym c.in_ok-alarms.alarms.ok.0 ∙ c.in_ok-alarms.ensures.len ∙ (c.total-2.ensures ∙ ap total cells))

@@ -4,6 +4,8 @@ use Rattle.steps.specs.declared.view.Layout.{Layout}
 use Rattle.steps.proofs.CellNumbers.{ring_in}
 use Rattle.work.specs.Passes.{Pass, pass_of}
 use Rattle.board.specs.PollerRows.{KnowsRow, KnowsRows, severed_by}
+use Rattle.work.specs.Board.{IsOf}
+use Rattle.board.proofs.TimersHeld.{timers_on, released_calm}
 use Rattle.board.proofs.RowsKept.{rows_goes, at_index}
 use Rattle.board.proofs.poller.Poller.release.Goals as goal
 
@@ -25,4 +27,5 @@ invariant_of-self c =
       e.seat,
       subst (λ (L : Layout). KnowsRows L.cells t.me.0.seen (set rows c.from-ring.result c.release.new.row)) (sym e.decides.goes.kept.layout_is) (rows_goes b (pass_of s) (pass_of t) (severed_by c.release.result c.args.req) rows (set rows c.from-ring.result c.release.new.row) c.from-ring.result c.release.new.row e.decides.goes
           (subst (λ (K : List ℕ). KnowsRows K s.me.0.seen rows) (ap (λ (L : Layout). L.cells) same) i) refl (omega arith) (subst (λ (m : ℕ). KnowsRow b.layout.cells t.me.0.seen m c.release.new.row) (sym f) e.knows)),
+      timers_on b s t (severed_by c.release.result c.args.req) c.self.invariant.0 e.decides.goes (subst (IsOf b) (sym c.self.view_is) r.ours) (released_calm c.release.result c.args.req).0 (released_calm c.release.result c.args.req).1 c.self.inside.clock c.self.inside.alarms.items c.self.invariant.2,
     )
