@@ -10,11 +10,11 @@ macro_rules! is_work_served {
     ((plain $kind:ident) ()) => { true };
     ((pipe $kind:ident $($field:ident)*) ()) => { true };
     ((timer $kind:ident $ticks:ident) ()) => { false };
-    ((cancel $kind:ident $target:ident) ()) => { false };
+    ((cancel $kind:ident $target:ident) ()) => { true };
 }
 
-/// Whether the board serves such an entry: a NOP, READ, WRITE, CLOSE, POLL_ADD or Invalid entry, or a LINK_TIMEOUT that no
-/// entry hosts, and which is placed as Invalid. `hosted` says whether the entry before it hosts one (`hosts_next`).
+/// Whether the board serves such an entry: any but a TIMEOUT, and of the LINK_TIMEOUTs those alone that no entry hosts, which
+/// are placed as Invalid. `hosted` says whether the entry before it hosts one (`hosts_next`).
 pub fn is_served(sqe: &Sqe, hosted: bool) -> bool
     ensures { IsTrue result ↔ IsServed hosted sqe.now }
 {

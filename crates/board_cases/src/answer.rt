@@ -15,7 +15,7 @@ pub(crate) enum Answer {
     Submitted(Req),
     NotSubmitted(SubmitError, Vec<u8>),
     NoBatch(SubmitError, Batch),
-    Ran(Cqe),
+    Ran(Cqe, Option<Req>),
     Parked(Parked),
     Reaped(Completion),
     NotReaped(ReapError),
@@ -87,7 +87,11 @@ impl fmt::Display for Answer {
                 }
                 Ok(())
             }
-            Answer::Ran(cqe) => cqe.fmt(f),
+            Answer::Ran(cqe, None) => cqe.fmt(f),
+            Answer::Ran(cqe, Some(target)) => {
+                let target = Named(*target);
+                write!(f, "{cqe}, took {target}")
+            }
             Answer::Parked(why) => write!(f, "parked: {why:?}"),
             Answer::Reaped(completion) => Whole(completion).fmt(f),
             Answer::NotReaped(error) => error.fmt(f),

@@ -267,7 +267,7 @@ fn run(board: &Board, cast: &mut Cast<'_>, number: usize) -> Answer
     let (worker, ran) = busy.run();
     put_idle(board, &mut cast.idle, number, worker);
     match ran {
-        Ran::Replied { cqe } => Answer::Ran(cqe),
+        Ran::Replied { cqe, took } => Answer::Ran(cqe, took),
         Ran::Parked(why) => Answer::Parked(why),
     }
 }
@@ -279,7 +279,7 @@ fn serve_one<'a>(board: &'a Board, cast: &mut Cast<'a>, number: usize, req: Req)
 {
     board.release(&mut cast.poller, req);
     begin(board, cast, number, req);
-    matches!(run(board, cast, number), Answer::Ran(_))
+    matches!(run(board, cast, number), Answer::Ran(..))
 }
 
 /// Serves so many requests of a ring, from this one on, up to the first that can't be.

@@ -1,7 +1,7 @@
 -- What holds of the requests that the board serves so far: a worker runs each, as it is placed.
 use Rattle.std.proofs.Common.{◌≡◌, ℕ, ◌-◌, ◌≤◌, ◌==◌, Bool, true, false, cond, List, [], ◌∷◌, Some, None, sym, refl, ap, ◌∙◌, subst, ⊎_elim, arith, true≢false, eq-eqb}
 use Rattle.entry.specs.declared.op.Op.{Op}
-use Rattle.entry.specs.declared.op.Op.TheVariants.{Nop, Close, Read, Write, PollAdd, Invalid}
+use Rattle.entry.specs.declared.op.Op.TheVariants.{Nop, Close, Read, Write, PollAdd, AsyncCancel, TimeoutRemove, Invalid}
 use Rattle.entry.specs.Entry.{Entry}
 use Rattle.history.specs.declared.req.Req.{Req}
 use Rattle.history.specs.declared.event.Event.{Event}
@@ -25,6 +25,8 @@ no_timer (Read fd offset len) a = refl
 no_timer (Write fd offset len) a = refl
 no_timer (Close fd) a = refl
 no_timer (PollAdd fd mask) a = refl
+no_timer (AsyncCancel user_data) a = refl
+no_timer (TimeoutRemove user_data) a = refl
 no_timer Invalid a = refl
 no_timer op a = absurd (true≢false (sym a))
 

@@ -1,7 +1,7 @@
 -- The journal: the history's events, newest first, and between them what seats do without an event. Who was moved to Ready, which slot or pipe is out with whom, and what stands in a note word, is read off it.
 use Rattle.std.specs.Prelude.{◌≡◌, ℕ, ◌==◌, Bool, true, false, cond, List, [], ◌∷◌, Option, Some, None}
 use Rattle.entry.specs.declared.op.Op.{Op}
-use Rattle.entry.specs.declared.op.Op.TheVariants.{Nop, Close, Read, Write, PollAdd, Invalid}
+use Rattle.entry.specs.declared.op.Op.TheVariants.{Nop, Close, Read, Write, PollAdd, AsyncCancel, TimeoutRemove, Invalid}
 use Rattle.entry.specs.Entry.{Entry}
 use Rattle.history.specs.declared.req.Req.{Req}
 use Rattle.history.specs.declared.event.Event.{Event}
@@ -78,13 +78,15 @@ abbrev pub touches : Option Entry → ℕ → Bool
 touches None p = false
 touches (Some e) p = uses e.op p
 
--- what a worker runs so far: NOP, READ, WRITE, CLOSE, POLL_ADD and Invalid entries
+-- what a worker runs: all but timers
 abbrev pub is_served : Op → Bool
 is_served Nop = true
 is_served (Read fd offset len) = true
 is_served (Write fd offset len) = true
 is_served (Close fd) = true
 is_served (PollAdd fd mask) = true
+is_served (AsyncCancel user_data) = true
+is_served (TimeoutRemove user_data) = true
 is_served Invalid = true
 is_served _ = false
 
