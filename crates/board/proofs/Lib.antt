@@ -21,9 +21,12 @@ pub mod LaneSeats
 pub mod BatchesKept
 pub mod TimersKept
 pub mod TimersHeld
+pub mod TimerFacts
 pub mod Watching
+pub mod TimerLooks
 pub mod PutBack
 pub mod WordOutcomes
 pub mod RowLaws
 pub mod LastSteps
 pub mod RowsKept
+pub mod AlarmsSet

@@ -22,7 +22,7 @@ use Rattle.board.proofs.PassFacts.{same_freed}
 use Rattle.board.specs.declared.alarm.Alarm.{Alarm}
 use Rattle.board.specs.declared.poller.Released.{Released}
 use Rattle.board.specs.declared.poller.Released.TheVariants.{Severed as IsSevered}
-use Rattle.board.specs.PollerRows.{severed_by}
+use Rattle.board.specs.PollerRows.{severed_by, Watched}
 use Rattle.board.specs.Seats.{IsPollerSeat}
 use Rattle.atomic_table.specs.declared.shared.Seat.{Seat}
 use Rattle.steps.specs.declared.parcel.Thing.{Thing}
@@ -48,8 +48,8 @@ module _ (b : Facts) (p q : Pass) (es : List Event) (x : Goes b p es q) (mine : 
   calm : (skip : Req → Bool) → AllPass (is_calm skip) es → LinesPass (is_calm skip) x.later
   calm skip a = lines_pass p.view.role (is_calm skip) (calm_others p.view.role mine skip) x.later (subst (AllPass (is_calm skip)) (sym x.own) a)
 
-  pub armed_before : (skip : Req → Bool) → AllPass (is_calm skip) es → (r : Req) (d : ℕ) → phase (seen_of q) r ≡ armed d → phase (seen_of p) r ≡ armed d
-  armed_before skip a r d is = armed_was S skip x.later p.view.seen r d legal (calm skip a) (subst (λ (j : List Line). phase (events_of j) r ≡ armed d) x.seen_is is)
+  pub armed_before : (skip : Req → Bool) → AllPass (is_calm skip) es → (r : Req) (d : ℕ) → skip r ≡ false → phase (seen_of q) r ≡ armed d → phase (seen_of p) r ≡ armed d
+  armed_before skip a r d n is = armed_was S skip x.later p.view.seen r d legal (calm skip a) n (subst (λ (j : List Line). phase (events_of j) r ≡ armed d) x.seen_is is)
 
   pub fired_after : (skip : Req → Bool) → AllPass (is_calm skip) es → (r : Req) → skip r ≡ false → fired (seen_of q) r ≡ fired (seen_of p) r
   fired_after skip a r n = ap (λ (j : List Line). fired (events_of j) r) x.seen_is ∙ fired_on S skip x.later p.view.seen r (calm skip a) n
@@ -128,3 +128,7 @@ ticked_timers b s t to seat o x e last clock alarms k =
       many = k.many;
       each = λ y g inside. alarm_goes b (pass_of s) (pass_of t) (Tick to ∷ []) x mine none (refl, tt) (request_at s.me.0.layout.cells y g) (slice_get alarms y) refl (k.each y g inside);
     }
+
+-- looks leave the clock
+pub clock_watched : (b : Facts) (s t : TableSeat) → IsPollerSeat s → Watched b s t → clock_of (events_of t.me.0.seen) ≡ clock_of (events_of s.me.0.seen)
+clock_watched b s t seat x = clock_goes b (pass_of s) (pass_of t) [] x.goes (ap (λ (z : Role). stands_for z pollers) seat.role) tt

@@ -6,9 +6,9 @@ use Rattle.entry.specs.Entry.{Entry}
 use Rattle.history.specs.declared.req.Req.{Req}
 use Rattle.history.specs.declared.event.Event.{Event}
 use Rattle.history.specs.declared.event.Event.TheVariants.{Begin, Take, Miss, Tick, Arm, Expire, Fire, FireMiss, Settle, Sever, Reap, Shut, Cut}
-use Rattle.history.specs.History.{Phase, unborn, waits, armed, replied, same, concerns, becomes, phase, fired, submits, clock_of, was_shut, IsIdle}
+use Rattle.history.specs.History.{Phase, unborn, waits, armed, replied, reaped, same, concerns, becomes, phase, fired, submits, clock_of, was_shut, IsIdle}
 use Rattle.history.specs.Chains.{IsPlaced, IsLinkTimeout, is_timer, is_link_timeout, before_in, placed_behind, placed_from}
-use Rattle.history.specs.Legal.{Setup, MayCome, shut_for, Legal}
+use Rattle.history.specs.Legal.{Setup, MayCome, shut_for, Legal, IsDue}
 use Rattle.history.proofs.Requests.{bool_cases, same_true}
 use Rattle.history.proofs.Growth.{MayChange, may_change, changed, unchanged, submission_some}
 use Rattle.steps.specs.declared.line.Line.{Line}
@@ -42,7 +42,7 @@ no_own role l j is = (tt, sym (same_both (owns role l) (own_of role j)) ∙ is)
 
 -- ---- a LINK_TIMEOUT that waits or is armed, which the poller alone changes
 
-timer_is : (o : Op) → is_link_timeout o ≡ true → is_timer o ≡ true
+pub timer_is : (o : Op) → is_link_timeout o ≡ true → is_timer o ≡ true
 timer_is (LinkTimeout n) e = refl
 timer_is o e = absurd (true≢false (sym e))
 
@@ -99,9 +99,9 @@ abbrev pub LinesPass : (Event → Bool) → List Line → Type 0
 LinesPass t [] = Unit {0}
 LinesPass t (l ∷ ls) = LinePasses t l × LinesPass t ls
 
--- events that arm no timer, and fire none but those that are skipped
+-- events that arm and fire no timer but those that are skipped
 abbrev pub is_calm : (Req → Bool) → Event → Bool
-is_calm skip (Arm r d) = false
+is_calm skip (Arm r d) = skip r
 is_calm skip (Fire l t) = skip l
 is_calm skip (FireMiss l t) = skip l
 is_calm skip e = true
@@ -143,39 +143,39 @@ pub clock_on : (later seen : List Line) → LinesPass is_still later → clock_o
 clock_on [] seen p = refl
 clock_on (l ∷ later) seen p = still_by l (later ++ seen) p.0 ∙ clock_on later seen p.1
 
+other_timer : (skip : Req → Bool) (l q : Req) → skip l ≡ true → skip q ≡ false → same l q ≡ false
+other_timer skip l q a b = ⊎_elim (λ (w : same l q ≡ true). absurd (true≢false (sym a ∙ (ap skip (same_true l q w) ∙ b)))) (λ w. w) (bool_cases (same l q))
+
 -- only an Arm arms
-not_armed : (skip : Req → Bool) (e : Event) (h : List Event) (p : Phase) (d : ℕ) → is_calm skip e ≡ true → MayChange p e → becomes h e p ≡ armed d → ⊥
-not_armed skip (Arm r n) h p d c m is = true≢false (sym c)
-not_armed skip (Reap r) h (replied x res) d c m is = cc
-not_armed skip (Reap r) h p d c m is = m
-not_armed skip (Miss y t) h unborn d c m is = m
-not_armed skip (Miss y t) h p d c m is = m
-not_armed skip (Tick n) h unborn d c m is = m
-not_armed skip (Tick n) h p d c m is = m
-not_armed skip (FireMiss l t) h unborn d c m is = m
-not_armed skip (FireMiss l t) h p d c m is = m
-not_armed skip Shut h unborn d c m is = m
-not_armed skip Shut h p d c m is = m
-not_armed skip e h p d c m is = cc
+not_armed : (skip : Req → Bool) (e : Event) (h : List Event) (q : Req) (p : Phase) (d : ℕ) → is_calm skip e ≡ true → skip q ≡ false → concerns e q ≡ true → MayChange p e → becomes h e p ≡ armed d → ⊥
+not_armed skip (Arm r n) h q p d c k w m is = true≢false (sym w ∙ other_timer skip r q c k)
+not_armed skip (Reap r) h q (replied x res) d c k w m is = cc
+not_armed skip (Reap r) h q p d c k w m is = m
+not_armed skip (Miss y t) h q unborn d c k w m is = m
+not_armed skip (Miss y t) h q p d c k w m is = m
+not_armed skip (Tick n) h q unborn d c k w m is = m
+not_armed skip (Tick n) h q p d c k w m is = m
+not_armed skip (FireMiss l t) h q unborn d c k w m is = m
+not_armed skip (FireMiss l t) h q p d c k w m is = m
+not_armed skip Shut h q unborn d c k w m is = m
+not_armed skip Shut h q p d c k w m is = m
+not_armed skip e h q p d c k w m is = cc
 
 module _ (S : Setup) (skip : Req → Bool) where
-  armed_by : (l : Line) (j : List Line) (q : Req) (d : ℕ) → Legal S (events_of (l ∷ j)) → LinePasses (is_calm skip) l → phase (events_of (l ∷ j)) q ≡ armed d → phase (events_of j) q ≡ armed d
-  armed_by (Did e) j q d h c is = ⊎_elim
-      (λ (w : concerns e q ≡ true). absurd (not_armed skip e (events_of j) (phase (events_of j) q) d c (may_change S e (events_of j) q h.1 h.0.1 w) (sym (changed S e (events_of j) q w) ∙ is)))
+  armed_by : (l : Line) (j : List Line) (q : Req) (d : ℕ) → Legal S (events_of (l ∷ j)) → LinePasses (is_calm skip) l → skip q ≡ false → phase (events_of (l ∷ j)) q ≡ armed d → phase (events_of j) q ≡ armed d
+  armed_by (Did e) j q d h c k is = ⊎_elim
+      (λ (w : concerns e q ≡ true). absurd (not_armed skip e (events_of j) q (phase (events_of j) q) d c k w (may_change S e (events_of j) q h.1 h.0.1 w) (sym (changed S e (events_of j) q w) ∙ is)))
       (λ (w : concerns e q ≡ false). sym (unchanged S e (events_of j) q w) ∙ is) (bool_cases (concerns e q))
-  armed_by l j q d h c is = is
+  armed_by l j q d h c k is = is
 
   -- who is armed was armed before
-  pub armed_was : (later seen : List Line) (q : Req) (d : ℕ) → Legal S (events_of (later ++ seen)) → LinesPass (is_calm skip) later → phase (events_of (later ++ seen)) q ≡ armed d → phase (events_of seen) q ≡ armed d
-  armed_was [] seen q d h c is = is
-  armed_was (l ∷ later) seen q d h c is = armed_was later seen q d (legal_tail S l (later ++ seen) h) c.1 (armed_by l (later ++ seen) q d h c.0 is)
-
-  other_timer : (l q : Req) → skip l ≡ true → skip q ≡ false → same l q ≡ false
-  other_timer l q a b = ⊎_elim (λ (w : same l q ≡ true). absurd (true≢false (sym a ∙ (ap skip (same_true l q w) ∙ b)))) (λ w. w) (bool_cases (same l q))
+  pub armed_was : (later seen : List Line) (q : Req) (d : ℕ) → Legal S (events_of (later ++ seen)) → LinesPass (is_calm skip) later → skip q ≡ false → phase (events_of (later ++ seen)) q ≡ armed d → phase (events_of seen) q ≡ armed d
+  armed_was [] seen q d h c k is = is
+  armed_was (l ∷ later) seen q d h c k is = armed_was later seen q d (legal_tail S l (later ++ seen) h) c.1 k (armed_by l (later ++ seen) q d h c.0 k is)
 
   fired_by : (l : Line) (j : List Line) (q : Req) → LinePasses (is_calm skip) l → skip q ≡ false → fired (events_of (l ∷ j)) q ≡ fired (events_of j) q
-  fired_by (Did (Fire l t)) j q c n = ap (λ (b : Bool). cond b true (fired (events_of j) q)) (other_timer l q c n)
-  fired_by (Did (FireMiss l t)) j q c n = ap (λ (b : Bool). cond b true (fired (events_of j) q)) (other_timer l q c n)
+  fired_by (Did (Fire l t)) j q c n = ap (λ (b : Bool). cond b true (fired (events_of j) q)) (other_timer skip l q c n)
+  fired_by (Did (FireMiss l t)) j q c n = ap (λ (b : Bool). cond b true (fired (events_of j) q)) (other_timer skip l q c n)
   fired_by (Did e) j q c n = refl
   fired_by l j q c n = refl
 
@@ -190,5 +190,43 @@ module _ (S : Setup) (skip : Req → Bool) where
   -- what is kept of a timer stays right
   pub alarm_on : (later seen : List Line) (q : Req) (o : Option Alarm) → Legal S (events_of (later ++ seen)) → LinesPass (is_calm skip) later → skip q ≡ false → KnowsAlarm (events_of seen) q o → KnowsAlarm (events_of (later ++ seen)) q o
   alarm_on later seen q o h c n k d is =
-      let was = armed_was later seen q d h c is in let u = k d was in let born = counted_in S seen q (armed d) (legal_before S later seen h) was (λ e. cc) in
+      let was = armed_was later seen q d h c n is in let u = k d was in let born = counted_in S seen q (armed d) (legal_before S later seen h) was (λ e. cc) in
       (kept_later later seen q o h born u.0, fired_on later seen q c n ∙ u.1)
+
+-- ---- a timer that waits hasn't fired
+
+abbrev IsArmedOrOver : Phase → Type 0
+IsArmedOrOver (armed d) = Unit {0}
+IsArmedOrOver (replied c res) = Unit {0}
+IsArmedOrOver (reaped c res) = Unit {0}
+IsArmedOrOver p = ⊥
+
+goes_over : (h : List Event) (e : Event) (p : Phase) → MayChange p e → IsArmedOrOver p → IsArmedOrOver (becomes h e p)
+goes_over h (Take c t) (armed d) m i = tt
+goes_over h (Expire r) (armed d) m i = tt
+goes_over h (Fire l t) (armed d) m i = tt
+goes_over h (Settle l) (armed d) m i = tt
+goes_over h (Cut r) (armed d) m i = tt
+goes_over h (Reap r) (replied c res) m i = tt
+goes_over h e (armed d) m i = absurd m
+goes_over h e (replied c res) m i = absurd m
+goes_over h e (reaped c res) m i = absurd m
+goes_over h e p m i = absurd i
+
+module _ (S : Setup) where
+  over_on : (e : Event) (h : List Event) (q : Req) → Legal S (e ∷ h) → IsArmedOrOver (phase h q) → IsArmedOrOver (phase (e ∷ h) q)
+  over_on e h q l i = ⊎_elim
+      (λ (w : concerns e q ≡ true). subst IsArmedOrOver (sym (changed S e h q w)) (goes_over h e (phase h q) (may_change S e h q l.1 l.0.1 w) i))
+      (λ (w : concerns e q ≡ false). subst IsArmedOrOver (sym (unchanged S e h q w)) i) (bool_cases (concerns e q))
+
+  due_over : (l q : Req) (h : List Event) → same l q ≡ true → IsDue h l → IsArmedOrOver (phase h q)
+  due_over l q h w due = subst IsArmedOrOver (sym (ap (phase h) (sym (same_true l q w)) ∙ due.1)) tt
+
+  pub fired_over : (h : List Event) (q : Req) → Legal S h → fired h q ≡ true → IsArmedOrOver (phase h q)
+  fired_over [] q l f = absurd (true≢false (sym f))
+  fired_over (Fire x t ∷ h) q l f = over_on (Fire x t) h q l (⊎_elim (λ (w : same x q ≡ true). due_over x q h w l.0.1.0) (λ (w : same x q ≡ false). fired_over h q l.1 (sym (ap (λ (b : Bool). cond b true (fired h q)) w) ∙ f)) (bool_cases (same x q)))
+  fired_over (FireMiss x t ∷ h) q l f = over_on (FireMiss x t) h q l (⊎_elim (λ (w : same x q ≡ true). due_over x q h w l.0.1.0) (λ (w : same x q ≡ false). fired_over h q l.1 (sym (ap (λ (b : Bool). cond b true (fired h q)) w) ∙ f)) (bool_cases (same x q)))
+  fired_over (e ∷ h) q l f = over_on e h q l (fired_over h q l.1 f)
+
+  pub unfired_yet : (h : List Event) (q : Req) → Legal S h → phase h q ≡ waits → fired h q ≡ false
+  unfired_yet h q l is = ⊎_elim (λ (w : fired h q ≡ true). absurd (subst IsArmedOrOver is (fired_over h q l w))) (λ w. w) (bool_cases (fired h q))

@@ -94,6 +94,12 @@ paid_first word found v w is = let z = paid_one word found v w is in (z.0, z.1, 
 pub paid_with : (v w : View) (a b c d : ℕ) → Paid v w b a → (n : ℕ) → a + n ≤ c → d ≤ b + n → Paid v w d c
 paid_with v w a b c d x n p q = (x.0, x.1, (let z = x.2 in omega arith))
 
+pub paid_most : (v w : View) (a c : ℕ) → Paid v w 0 a → a ≤ c → Paid v w 0 c
+paid_most v w a c x le = (x.0, x.1, (let z = x.2 in omega arith))
+
+pub paid_add : (u v w : View) (a c : ℕ) → Paid u v 0 a → Paid v w 0 c → Paid u w 0 (a + c)
+paid_add u v w a c x y = paid_on u v w (a + c) c 0 (paid_with u v a 0 (a + c) c x c (omega arith) (omega arith)) y
+
 -- ---- what a look before a decision leaves
 
 pub last_after : (K : List ℕ) (r : Req) (s t u : TableSeat) (b : Facts) (cell gen found n m : ℕ) → Paid s.me.0 t.me.0 n m → LastAt K r (pass_of t) (pass_of u) cell gen found → LastAt K r (pass_of s) (pass_of u) cell gen found
@@ -106,10 +112,10 @@ last_after K r s t u b cell gen found n m x k = record {
 pub stepped_after : (K : List ℕ) (r : Req) (s t u : TableSeat) (b : Facts) (n m : ℕ) → Paid s.me.0 t.me.0 n m → Stepped K r (pass_of t) (pass_of u) → Stepped K r (pass_of s) (pass_of u)
 stepped_after K r s t u b n m x k = (k.0, k.1, k.2, last_after K r s t u b k.0 k.1 k.2 n m x k.3, k.4)
 
-found_after : (K : List ℕ) (r : Req) (s t u : TableSeat) (b : Facts) (n m : ℕ) → Paid s.me.0 t.me.0 n m → FoundHeld K r (pass_of t) (pass_of u) → FoundHeld K r (pass_of s) (pass_of u)
+pub found_after : (K : List ℕ) (r : Req) (s t u : TableSeat) (b : Facts) (n m : ℕ) → Paid s.me.0 t.me.0 n m → FoundHeld K r (pass_of t) (pass_of u) → FoundHeld K r (pass_of s) (pass_of u)
 found_after K r s t u b n m x k = (k.0, k.1, last_after K r s t u b k.0 k.1 _ n m x k.2)
 
-shut_after : (b : Facts) (r : Req) (s t u : TableSeat) (n m : ℕ) → Paid s.me.0 t.me.0 n m → IsShutOut b.layout.cells r (pass_of t) (pass_of u) → IsShutOut b.layout.cells r (pass_of s) (pass_of u)
+pub shut_after : (b : Facts) (r : Req) (s t u : TableSeat) (n m : ℕ) → Paid s.me.0 t.me.0 n m → IsShutOut b.layout.cells r (pass_of t) (pass_of u) → IsShutOut b.layout.cells r (pass_of s) (pass_of u)
 shut_after b r s t u n m x d = let w = d.1.1 in (d.0, (d.1.0, (w.0, w.1, stepped_after b.layout.cells d.1.0 s t u b n m x w.2)))
 
 decided_after : (b : Facts) (r : Req) (s t u : TableSeat) (n m : ℕ) (y : Released) → Paid s.me.0 t.me.0 n m → Decided b r (pass_of t) (pass_of u) y → Decided b r (pass_of s) (pass_of u) y

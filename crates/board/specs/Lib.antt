@@ -10,3 +10,4 @@ pub mod Reports
 pub mod PollerRows
 pub mod Seats
 pub mod PollerTimers
+pub mod TimerCalls

@@ -4,9 +4,11 @@ use Rattle.entry.specs.Entry.{Entry, fails}
 use Rattle.history.specs.declared.req.Req.{Req}
 use Rattle.history.specs.declared.event.Event.{Event}
 use Rattle.history.specs.History.{phase, armed, fired, clock_of}
-use Rattle.history.specs.Chains.{IsPlaced, is_timeout, is_link_timeout}
+use Rattle.history.specs.Chains.{IsPlaced, is_timer, is_timeout, is_link_timeout}
+use Rattle.history.specs.Legal.{ticks_of, IsOf as IsOfKind}
 use Rattle.steps.specs.Cells.{IsCell, request_at, total}
 use Rattle.board.specs.declared.alarm.Alarm.{Alarm}
+use Rattle.board.specs.declared.alarm.Timer.{Timer}
 use Rattle.board.specs.declared.alarm.Alarm.TheVariants.{Linked, Alone}
 
 -- what is kept of a timer that is placed as e
@@ -32,3 +34,8 @@ pub record KnowsTimers (K : List ℕ) (h : List Event) (clock : ℕ) (alarms : L
 -- the clock doesn't go to this tick: it is past it, or would go past its last tick (this profile)
 abbrev pub IsPast : List Event → ℕ → Type 0
 IsPast h to = (to < clock_of h) ⊎ (2147483647 < to)
+
+-- which timer the request is placed as, if any
+abbrev pub IsTimerAs : List Event → Req → Option Timer → Type 0
+IsTimerAs h q None = IsOfKind h q is_timer false
+IsTimerAs h q (Some t) = (e : Entry) × IsPlaced h q e × (ticks_of e.op ≡ Some t.ticks) × (t.ticks ≤ 2147483647) × IsAlarm e t.alarm

@@ -1,4 +1,24 @@
-//! What the poller finds out of timers, and what it keeps of those that it armed.
+//! What the poller finds out of timers, what it keeps of those that it armed, and how it arms one.
+ghost use Rattle.std.specs.Prelude.{◌≡◌, ◌+◌, ◌*◌, ◌<◌, ◌≤◌, true, false, Some};
+ghost use Rattle.gates.specs.EntryRows.{added, waiting};
+ghost use Rattle.history.specs.Chains.{Open, Severed};
+ghost use Rattle.history.specs.History.{IsReplied, clock_of, phase, submits};
+ghost use Rattle.steps.specs.Journal.{events_of};
+ghost use Rattle.work.specs.Passes.{pass_of};
+ghost use Rattle.board.specs.declared.poller.Released.TheVariants.{NotHeld};
+ghost use Rattle.board.specs.PollerRows.{Decides, IsAt, IsOurs, KnowsRow, Paid, Watched, owed};
+ghost use Rattle.board.specs.PollerTimers.{IsTimerAs};
+ghost use Rattle.board.specs.TimerCalls.{Arms, Keeps};
+ghost use Rattle.board.specs.Seats.{IsPollerSeat};
+
+use crate::board::Board;
+use crate::poller::Arming;
+use crate::trail::{Gating, LINK_TIMEOUT, TIMEOUT, gate, is_held, take_in};
+use claim::unpack_facts;
+use gates::Row;
+use history::Req;
+use steps::{TableSeat, seat, timers};
+use work::Spot;
 
 /// What the poller keeps of a timer that it armed.
 #[derive(Clone, Copy, PartialEq, Eq, Debug)]
@@ -7,4 +27,155 @@ pub(crate) enum Alarm {
     Linked,
     /// It is a TIMEOUT. The flag says whether running out is a failure of it: not with IORING_TIMEOUT_ETIME_SUCCESS.
     Alone(bool),
+}
+
+/// A timer's ticks, and what is kept of it.
+#[derive(Clone, Copy, PartialEq, Eq, Debug)]
+pub(crate) struct Timer {
+    pub ticks: u32,
+    pub alarm: Alarm,
+}
+
+/// Which timer the request is, if any, by the facts in its cell. They are right where it has no reply.
+fn timer_in(board: &Board, seat: &mut TableSeat, spot: Spot, req: Req) -> Option<Timer>
+    requires ours { IsOurs board.now seat.old }
+    requires at { IsAt board.now.layout.cells spot.cell spot.generation req }
+    requires born { req.k < submits (events_of seat.old.me.0.seen) req.ring }
+    ensures watched { Watched board.now seat.old seat.new }
+    ensures told { spot.generation < 16777216 → (IsReplied (phase (events_of seat.new.me.0.seen) req) → ⊥) → IsTimerAs (events_of seat.new.me.0.seen) req result }
+    ensures steps { Paid seat.old.me.0 seat.new.me.0 0 1 }
+{
+    let facts = unpack_facts(seat::look_at_note(&board.table.shared, seat, spot.cell, 0));
+    if u64::from(facts.generation) != spot.generation {
+        return None;
+    }
+    if facts.row == TIMEOUT {
+        return Some(Timer {
+            ticks: facts.payload,
+            alarm: Alarm::Alone(!facts.etime_success),
+        });
+    }
+    if facts.row == LINK_TIMEOUT {
+        return Some(Timer {
+            ticks: facts.payload,
+            alarm: Alarm::Linked,
+        });
+    }
+    None
+}
+
+/// Arms the timer, which may start, and keeps what is needed of it.
+fn set_alarm(
+    board: &Board,
+    seat: &mut TableSeat,
+    clock: u32,
+    alarm: &mut Alarm,
+    spot: Spot,
+    req: Req,
+    timer: Timer,
+) -> Arming
+    requires ours { IsOurs board.now seat.old }
+    requires at { IsAt board.now.layout.cells spot.cell spot.generation req }
+    requires small { spot.generation < 16777216 }
+    requires born { req.k < submits (events_of seat.old.me.0.seen) req.ring }
+    requires open { (Severed (events_of seat.old.me.0.seen) req → ⊥) × Open (events_of seat.old.me.0.seen) req }
+    requires timer { IsTimerAs (events_of seat.old.me.0.seen) req (Some timer) }
+    requires clock { (clock ≡ clock_of (events_of seat.old.me.0.seen)) × (clock ≤ 2147483647) }
+    ensures seat { IsPollerSeat seat.new }
+    ensures arms { Arms board.now req (pass_of seat.old) (pass_of seat.new) result }
+    ensures keeps { Keeps (events_of seat.new.me.0.seen) req alarm.old alarm.new result }
+    ensures steps { Paid seat.old.me.0 seat.new.me.0 0 1 }
+{
+    let deadline = clock + timer.ticks;
+    let words = &board.table.shared;
+    if timers::arm(words, seat, spot.cell, spot.generation as u32, deadline) {
+        *alarm = timer.alarm;
+        Arming::Armed(deadline)
+    } else {
+        Arming::NotHeld
+    }
+}
+
+/// Takes in what the row lacks up to the request, if that is there. Whether the row has it.
+fn take_up(board: &Board, seat: &mut TableSeat, row: &mut Row, spot: Spot, req: Req) -> bool
+    requires ours { IsOurs board.now seat.old }
+    requires at { IsAt board.now.layout.cells spot.cell spot.generation req }
+    requires knows { KnowsRow board.now.layout.cells seat.old.me.0.seen req.ring row.old }
+    ensures watched { Watched board.now seat.old seat.new }
+    ensures knows { KnowsRow board.now.layout.cells seat.new.me.0.seen req.ring row.new }
+    ensures has { result ≡ true → req.k < added row.new }
+    ensures lost { result ≡ false → Decides board.now req (pass_of seat.old) (pass_of seat.new) NotHeld × Paid seat.old.me.0 seat.new.me.0 0 1 }
+    ensures steps { result ≡ true → Paid seat.old.me.0 seat.new.me.0 (3 * waiting row.new) (owed row.old (req.k + 1) + 1) }
+{
+    if req.k < row.count() {
+        return true;
+    }
+    if !is_held(board, seat, spot, req) {
+        return false;
+    }
+    take_in(board, seat, row, req);
+    true
+}
+
+/// Arms the request, which the row has.
+fn arm_known(
+    board: &Board,
+    seat: &mut TableSeat,
+    row: &mut Row,
+    clock: u32,
+    alarm: &mut Alarm,
+    spot: Spot,
+    req: Req,
+) -> Arming
+    requires ours { IsOurs board.now seat.old }
+    requires at { IsAt board.now.layout.cells spot.cell spot.generation req }
+    requires knows { KnowsRow board.now.layout.cells seat.old.me.0.seen req.ring row.old }
+    requires has { req.k < added row.old }
+    requires clock { (clock ≡ clock_of (events_of seat.old.me.0.seen)) × (clock ≤ 2147483647) }
+    ensures seat { IsPollerSeat seat.new }
+    ensures arms { Arms board.now req (pass_of seat.old) (pass_of seat.new) result }
+    ensures keeps { Keeps (events_of seat.new.me.0.seen) req alarm.old alarm.new result }
+    ensures knows { KnowsRow board.now.layout.cells seat.new.me.0.seen req.ring row.new }
+    ensures steps { Paid seat.old.me.0 seat.new.me.0 0 (3 * waiting row.old + 4) }
+{
+    let found = timer_in(board, seat, spot, req);
+    if !is_held(board, seat, spot, req) {
+        return Arming::NotHeld;
+    }
+    let Some(timer) = found else {
+        return Arming::NotTimer;
+    };
+    match gate(board, seat, row, spot, req) {
+        Gating::Open => set_alarm(board, seat, clock, alarm, spot, req, timer),
+        Gating::Linked => set_alarm(board, seat, clock, alarm, spot, req, timer),
+        Gating::Severed => Arming::Shut,
+        Gating::Shut => Arming::Shut,
+        Gating::Lost => Arming::NotHeld,
+    }
+}
+
+/// Arms the request: it takes in what the row lacks, looks which timer it is and whether it waits, and passes what is in its way.
+pub(crate) fn arm(
+    board: &Board,
+    seat: &mut TableSeat,
+    row: &mut Row,
+    clock: u32,
+    alarm: &mut Alarm,
+    spot: Spot,
+    req: Req,
+) -> Arming
+    requires ours { IsOurs board.now seat.old }
+    requires at { IsAt board.now.layout.cells spot.cell spot.generation req }
+    requires knows { KnowsRow board.now.layout.cells seat.old.me.0.seen req.ring row.old }
+    requires clock { (clock ≡ clock_of (events_of seat.old.me.0.seen)) × (clock ≤ 2147483647) }
+    ensures seat { IsPollerSeat seat.new }
+    ensures arms { Arms board.now req (pass_of seat.old) (pass_of seat.new) result }
+    ensures keeps { Keeps (events_of seat.new.me.0.seen) req alarm.old alarm.new result }
+    ensures knows { KnowsRow board.now.layout.cells seat.new.me.0.seen req.ring row.new }
+    ensures steps { Paid seat.old.me.0 seat.new.me.0 0 (4 * submits (events_of seat.new.me.0.seen) req.ring + 5) }
+{
+    if !take_up(board, seat, row, spot, req) {
+        return Arming::NotHeld;
+    }
+    arm_known(board, seat, row, clock, alarm, spot, req)
 }

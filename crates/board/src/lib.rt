@@ -26,7 +26,7 @@ pub use completion::{Completion, Report};
 pub use end::Unfinished;
 pub use error::{BoardError, ClockEnd, FinishError, ReapError, SubmitError};
 pub use phase::Phase;
-pub use poller::{Poller, Released};
+pub use poller::{Arming, Poller, Released};
 pub use served::{hosts_next, is_served};
 pub use shape::{RingShape, Shape};
 pub use submitter::Submitter;

@@ -11,10 +11,11 @@ ghost use Rattle.work.specs.Board.{IsOf};
 ghost use Rattle.work.specs.Passes.{pass_of, seen_of, CanReach, Took};
 ghost use Rattle.board.specs.Calls.{Goes};
 ghost use Rattle.board.specs.PollerTimers.{IsPast};
+ghost use Rattle.board.specs.TimerCalls.{Arms};
 ghost use Rattle.board.specs.PollerRows.{Decides, IsAt, KnowsRows, Paid};
 ghost use Rattle.board.specs.Seats.{IsPollerSeat};
 
-use crate::alarm::Alarm;
+use crate::alarm::{self, Alarm};
 use crate::board::Board;
 use crate::error::ClockEnd;
 use crate::trail;
@@ -67,6 +68,19 @@ pub enum Released {
     NotHeld,
 }
 
+/// What became of a timer that was to be armed. They are tested in the order `NotHeld`, `NotTimer`, `Shut`.
+#[derive(Clone, Copy, PartialEq, Eq, Debug)]
+pub enum Arming {
+    /// It is armed, and runs out at this tick of the clock.
+    Armed(u32),
+    /// It doesn't wait for the poller. Nothing has changed.
+    NotHeld,
+    /// It waits, and is no timer. Nothing has changed.
+    NotTimer,
+    /// It waits for another request, or an earlier member of its chain failed. Nothing has changed.
+    Shut,
+}
+
 impl Poller {
     /// The pass of the poller's seat, which has seen nothing yet, with the rows of the rings, and a place for each cell's timer.
     pub(crate) fn new(seat: TableSeat, rows: Vec<Row>, alarms: Vec<Alarm>) -> Poller
@@ -113,6 +127,18 @@ impl Poller {
     {
         let ring = usize::from(req.ring);
         trail::release(board, &mut self.seat, &mut self.rows[ring], spot, req)
+    }
+
+    /// Arms the request in this cell.
+    pub(crate) fn arm(&mut self, board: &Board, spot: Spot, req: Req) -> Arming
+        requires ours { IsOf board.now self.old }
+        requires at { IsAt board.now.layout.cells spot.cell spot.generation req }
+        ensures arms { Arms board.now req self.old self.new result }
+        ensures steps { Paid self.old.view self.new.view 0 (4 * submits (seen_of self.new) req.ring + 5) }
+    {
+        let row = &mut self.rows[usize::from(req.ring)];
+        let alarm = &mut self.alarms[spot.cell];
+        alarm::arm(board, &mut self.seat, row, self.clock, alarm, spot, req)
     }
 
     /// Sets the clock on.

@@ -66,10 +66,10 @@ pub(crate) enum Gating {
 const INVALID: u8 = 9;
 
 /// That of TIMEOUT.
-const TIMEOUT: u8 = 2;
+pub(crate) const TIMEOUT: u8 = 2;
 
 /// That of LINK_TIMEOUT.
-const LINK_TIMEOUT: u8 = 5;
+pub(crate) const LINK_TIMEOUT: u8 = 5;
 
 /// What a row looks at in an entry, by its facts.
 fn traits_in(facts: FactsWord) -> Traits
@@ -127,7 +127,7 @@ fn look_for_reply(board: &Board, seat: &mut TableSeat, req: Req) -> Outcome
 }
 
 /// Whether the request waits for the poller, as its claim word tells.
-fn is_held(board: &Board, seat: &mut TableSeat, spot: Spot, req: Req) -> bool
+pub(crate) fn is_held(board: &Board, seat: &mut TableSeat, spot: Spot, req: Req) -> bool
     requires ours { IsOurs board.now seat.old }
     requires at { IsAt board.now.layout.cells spot.cell spot.generation req }
     ensures watched { Watched board.now seat.old seat.new }
@@ -215,7 +215,7 @@ fn take_one(board: &Board, seat: &mut TableSeat, row: &mut Row, req: Req)
 }
 
 /// Takes in what the row lacks up to the request, one after the other.
-fn take_in(board: &Board, seat: &mut TableSeat, row: &mut Row, req: Req)
+pub(crate) fn take_in(board: &Board, seat: &mut TableSeat, row: &mut Row, req: Req)
     requires ours { IsOurs board.now seat.old }
     requires numbered { IsNumbered board.now.layout.cells req }
     requires born { req.k < submits (events_of seat.old.me.0.seen) req.ring }

@@ -29,8 +29,8 @@ returns-then-not-is_worked-clause-decides c =
     let held = (f.held c.if-not-is_held.false).0 in let w = watched_then b s t u e.watched f.watched in
     let open' : Open (events_of u.me.0.seen) q = lasts_on b s u w (λ h. Open h q) q (open_lasts (setup_of b.layout) q) r.born r.open.1 in
     let kind = ⊎_elim
-        (λ k. lasts_on b t u f.watched (λ h. Rattle.history.specs.Legal.IsOf h q Rattle.history.specs.Chains.is_timeout true) q (Rattle.steps.proofs.JournalGrowth.kind_lasts (setup_of b.layout) q Rattle.history.specs.Chains.is_timeout true) (born_on b s t q.ring q.k e.watched r.born) k)
-        (λ d. absurd (subst IsReplied held (replied_on b t u q f.watched d))) (e.timer c.if-not-is_worked.true) in
+    (λ k. lasts_on b t u f.watched (λ h. Rattle.history.specs.Legal.IsOf h q Rattle.history.specs.Chains.is_timeout true) q (Rattle.steps.proofs.JournalGrowth.kind_lasts (setup_of b.layout) q Rattle.history.specs.Chains.is_timeout true) (born_on b s t q.ring q.k e.watched r.born) k)
+    (λ d. absurd (subst IsReplied held (replied_on b t u q f.watched d))) (e.timer c.if-not-is_worked.true) in
     decides_timer b s u q w (held, open', timeout_clear (events_of u.me.0.seen) q kind open', timeout_timer (events_of u.me.0.seen) q kind)
 
 pub returns-then-not-is_worked-clause-steps : goal.returns-then-not-is_worked-clause-steps
