@@ -1,5 +1,5 @@
 -- What is tested of a batch, and what its submission comes to, entry by entry.
-use Rattle.std.proofs.Common.{◌≡◌, ⊎_elim, ℕ, zero, suc, ◌+◌, ◌*◌, ◌/◌, ◌==◌, ◌<◌, ◌≤◌, Bool, true, false, cond, List, [], ◌∷◌, ◌++◌, Some, length, drop, reverse, get_or, sym, refl, ap, ◌∙◌, subst, arith, eq-eqb, eqb-true, ne_eqb, true≢false, append-nil}
+use Rattle.std.proofs.Common.{◌≡◌, ℕ, zero, suc, ◌+◌, ◌*◌, ◌/◌, ◌==◌, ◌<◌, ◌≤◌, Bool, true, false, cond, List, [], ◌∷◌, ◌++◌, Some, length, drop, reverse, get_or, sym, refl, ap, ◌∙◌, subst, arith, eq-eqb, ne_eqb, append-nil}
 use Rattle.std.proofs.Math.Seq.{drop-cons}
 use Rattle.std.proofs.lemmas.List.{append_assoc, reverse-append}
 use Rattle.std.specs.Global.{Vec}
@@ -8,15 +8,14 @@ use Rattle.history.specs.declared.req.Req.{Req}
 use Rattle.history.specs.declared.event.Event.{Event}
 use Rattle.history.specs.declared.event.Event.TheVariants.{Submit}
 use Rattle.history.specs.History.{submits}
-use Rattle.history.proofs.Requests.{bool_cases}
-use Rattle.history.specs.Chains.{before_in, hosts}
+use Rattle.history.specs.Chains.{before_in}
 use Rattle.steps.specs.declared.line.Line.{Line}
 use Rattle.steps.specs.declared.line.Line.TheVariants.{Did, Lent, Noted}
 use Rattle.steps.specs.declared.view.Role.{Role}
 use Rattle.steps.specs.declared.view.Role.TheVariants.{Submitter, Lending}
 use Rattle.steps.specs.declared.view.View.{View}
 use Rattle.steps.specs.Fairness.{IsFree}
-use Rattle.steps.specs.Journal.{event_of, events_of, Serves}
+use Rattle.steps.specs.Journal.{event_of, events_of}
 use Rattle.steps.specs.Cells.{cells_in, facts_at, user_at}
 use Rattle.steps.specs.Rule.{owns, ExtendsThrice}
 use Rattle.steps.proofs.JournalGrowth.{same_submits}
@@ -24,7 +23,7 @@ use Rattle.steps.proofs.ViewsKept.{submits_after}
 use Rattle.work.specs.Board.{Facts}
 use Rattle.work.specs.Passes.{Pass, seen_of, own_of, Took}
 use Rattle.work.proofs.RunsKept.{took_both}
-use Rattle.board.specs.Batches.{Entries, AreServed, AreFit, IsReady, is_empty, submits_of}
+use Rattle.board.specs.Batches.{Entries, AreFit, IsReady, is_empty, submits_of}
 use Rattle.board.specs.Calls.{EndsWith, Goes}
 use Rattle.board.specs.Lanes.{nth, RefusesRoom}
 use Rattle.board.specs.Refusals.{RefusesBatch}
@@ -44,17 +43,6 @@ none_left [] zero le = refl
 none_left [] (suc i) le = refl
 none_left (x ∷ xs) zero le = absurd (omega arith)
 none_left (x ∷ xs) (suc i) le = none_left xs i (omega arith)
-
-pub is_last : (xs : Entries) (i : ℕ) → i < length xs → is_empty (drop (suc i) xs) ≡ (i + 1 == length xs)
-is_last [] i lt = absurd (omega arith)
-is_last (x ∷ []) zero lt = sym (eq-eqb (0 + 1) (length (x ∷ [])) refl)
-is_last (x ∷ y ∷ xs) zero lt = sym (ne_eqb (0 + 1) (length (x ∷ y ∷ xs)) (λ e. let n : ℕ = length xs in omega arith))
-is_last (x ∷ xs) (suc i) lt = is_last xs i (omega arith) ∙ same_test (i + 1) (length xs) (suc i + 1) (length (x ∷ xs)) (omega arith) (let n : ℕ = length xs in omega arith) where
-  same_test : (a b c d : ℕ) → c ≡ a + 1 → d ≡ b + 1 → (a == b) ≡ (c == d)
-  same_test a b c d u v = ⊎_elim
-      (λ (w : (a == b) ≡ true). w ∙ sym (eq-eqb c d (let e : a ≡ b = eqb-true a b w in omega arith)))
-      (λ (w : (a == b) ≡ false). w ∙ sym (ne_eqb c d (λ e. true≢false (sym (eq-eqb a b (omega arith)) ∙ w))))
-      (bool_cases (a == b))
 
 -- ---- a pass that goes on by several events of its own
 
@@ -97,10 +85,9 @@ going_start b p ring k all r = record {
 }
 
 pub going_more : (b : Facts) (p q w : Pass) (ring k : ℕ) (all rest : Entries) (x : Entry × Vec ℕ) (r : Req) (last : Bool) (g : Going b p q ring k all (x ∷ rest)) → last ≡ is_empty rest → r ≡ nth ring g.at → Goes b q (Submit r x.0 x.1.items last ∷ []) w → Took q.view w.view 3
-    → submits (seen_of w) ring ≡ g.at + 1 → before_in (seen_of w) (nth ring (g.at + 1)) ≡ Some (record { entry = x.0; bytes = x.1.items; last = last }) → Going b p w ring k all rest
-going_more b p q w ring k all rest x r last g ends is goes took next before' = let e : Event = Submit (nth ring g.at) x.0 x.1.items (is_empty rest) in let y = g.ready in
+    → submits (seen_of w) ring ≡ g.at + 1 → Going b p w ring k all rest
+going_more b p q w ring k all rest x r last g ends is goes took next = let e : Event = Submit (nth ring g.at) x.0 x.1.items (is_empty rest) in let y = g.ready in
     let go : Goes b q (e ∷ []) w = subst (λ (z : Req × Bool). Goes b q (Submit z.0 x.0 x.1.items z.1 ∷ []) w) (λ i. (is i, ends i)) goes in
-    let before : before_in (seen_of w) (nth ring (g.at + 1)) ≡ Some (record { entry = x.0; bytes = x.1.items; last = is_empty rest }) = before' ∙ ap (λ (z : Bool). Some (record { entry = x.0; bytes = x.1.items; last = z })) ends in
     let at : suc g.at ≡ g.at + 1 = omega arith in record {
       at = suc g.at;
       done = e ∷ g.done;
@@ -112,7 +99,6 @@ going_more b p q w ring k all rest x r last g ends is goes took next before' = l
         next = at ∙ sym next;
         free = λ i lt. subst (λ (z : ℕ). IsFree b.layout.cells (seen_of w) (nth ring z)) (let e' : g.at + suc i ≡ suc g.at + i = omega arith in e') (free_then b q w (e ∷ []) (nth ring (g.at + suc i)) go (y.free (suc i) (let n : ℕ = length rest in omega arith)));
         fresh = λ i lt. subst (λ (z : ℕ). z / cells_in b.layout.cells ring < 16777215) (let e' : g.at + suc i ≡ suc g.at + i = omega arith in e') (y.fresh (suc i) (let n : ℕ = length rest in omega arith));
-        served = subst (λ (z : Bool). AreServed z rest) (sym (ap (λ (m : ℕ). hosts (before_in (seen_of w) (nth ring m))) at ∙ ap hosts before)) y.served.1;
         fit = y.fit.1;
       };
       took = (let t = g.took in (3 + t.0, took_both p.view q.view w.view t.0 3 t.1 took, (let c = t.2 in let n : ℕ = length rest in omega arith)));
@@ -150,9 +136,6 @@ module _ (b : Facts) (p q : Pass) (ring k : ℕ) (all rest : Entries) (x : Entry
       subst (λ (z : ℕ). IsFree b.layout.cells (seen_of q) (nth z (submits (seen_of q) z)) × (submits (seen_of q) z / cells_in b.layout.cells z < 16777215)) r
       (subst (λ (z : ℕ). IsFree b.layout.cells (seen_of q) (nth ring z)) at (g.ready.free 0 (let n : ℕ = length rest in omega arith)), subst (λ (z : ℕ). z / cells_in b.layout.cells ring < 16777215) at (g.ready.fresh 0 (let n : ℕ = length rest in omega arith)))
 
-  pub going_served : (i : ℕ) → q.view.role ≡ Submitter i → Serves (before_in (seen_of q) (nth i (submits (seen_of q) i))) x.0
-  going_served i role = let r = going_ring i role in subst (λ (z : ℕ). Serves (before_in (seen_of q) (nth z (submits (seen_of q) z))) x.0) r (subst (λ (z : ℕ). Serves (before_in (seen_of q) (nth ring z)) x.0) g.ready.next g.ready.served.0)
-
 -- nothing is left
 pub reverse_none : (xs : Entries) → length xs ≡ 0 → reverse xs ≡ []
 reverse_none [] e = refl
@@ -167,7 +150,7 @@ turned_back [] = refl
 turned_back (x ∷ xs) = ap reverse (reverse-append (x ∷ []) xs) ∙ (reverse-append (reverse xs) (x ∷ []) ∙ ap (λ (z : Entries). x ∷ z) (turned_back xs))
 
 -- why there was no room for a batch
-pub batch_reason : (b : Facts) (xs : Entries) (ring k : ℕ) (p q : Pass) (error : SubmitError) → AreServed (hosts (before_in (seen_of p) (nth ring k))) xs × AreFit xs → RefusesRoom b.layout.cells ring k (length xs) p q error → RefusesBatch b xs ring k p q error
+pub batch_reason : (b : Facts) (xs : Entries) (ring k : ℕ) (p q : Pass) (error : SubmitError) → AreFit xs → RefusesRoom b.layout.cells ring k (length xs) p q error → RefusesBatch b xs ring k p q error
 batch_reason b xs ring k p q Full fits no' = (fits, no')
 batch_reason b xs ring k p q Spent fits no' = (fits, no')
 batch_reason b xs ring k p q error fits no' = absurd no'

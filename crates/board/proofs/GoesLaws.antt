@@ -1,5 +1,5 @@
 -- A pass that looked, or went on by one event of its own, from what the single steps of its seat tell.
-use Rattle.std.proofs.Common.{◌≡◌, ◌==◌, ℕ, true, cond, List, [], ◌∷◌, ◌++◌, sym, refl, ap, ◌∙◌, subst, ⊎_elim, eq-eqb}
+use Rattle.std.proofs.Common.{◌≡◌, ◌==◌, ℕ, true, cond, List, [], ◌∷◌, ◌++◌, Bool, false, sym, refl, ap, ◌∙◌, subst, ⊎_elim, eq-eqb}
 use Rattle.std.proofs.lemmas.List.{append_assoc}
 use Rattle.history.specs.declared.req.Req.{Req}
 use Rattle.history.specs.declared.event.Event.{Event}
@@ -53,6 +53,25 @@ goes_then b p m q es x y = record {
   seen_is = y.seen_is ∙ (ap (λ (j : List Line). y.later ++ j) x.seen_is ∙ sym (append_assoc y.later x.later p.view.seen));
   own = own_before p.view.role y.later x.later x.own ∙ (ap (λ (z : Role). own_of z y.later) (sym x.role_is) ∙ y.own);
   last = subst (EndsWith es) (sym (events_before y.later x.later)) (ends_before es (events_of y.later) (events_of x.later) y.last);
+}
+
+-- the own events of two parts
+own_both : (role : Role) (k l : List Line) → own_of role (k ++ l) ≡ own_of role k ++ own_of role l
+own_both role [] l = refl
+own_both role (x ∷ k) l = ⊎_elim
+    (λ (w : owns role x ≡ true). ap (λ (c : Bool). cond c (event_of x (own_of role (k ++ l))) (own_of role (k ++ l))) w ∙ (ap (event_of x) (own_both role k l) ∙ (event_before x (own_of role k) (own_of role l) ∙ ap (λ (h : List Event). h ++ own_of role l) (sym (ap (λ (c : Bool). cond c (event_of x (own_of role k)) (own_of role k)) w)))))
+    (λ (w : owns role x ≡ false). ap (λ (c : Bool). cond c (event_of x (own_of role (k ++ l))) (own_of role (k ++ l))) w ∙ (own_both role k l ∙ ap (λ (h : List Event). h ++ own_of role l) (sym (ap (λ (c : Bool). cond c (event_of x (own_of role k)) (own_of role k)) w))))
+    (bool_cases (owns role x))
+
+-- a pass that went on by events of its own, and then by more
+pub goes_more : (b : Facts) (p m q : Pass) (e : Event) (es fs : List Event) → Goes b p es m → Goes b m (e ∷ fs) q → Goes b p (e ∷ (fs ++ es)) q
+goes_more b p m q e es fs x y = record {
+  kept = y.kept;
+  role_is = y.role_is ∙ x.role_is;
+  later = y.later ++ x.later;
+  seen_is = y.seen_is ∙ (ap (λ (j : List Line). y.later ++ j) x.seen_is ∙ sym (append_assoc y.later x.later p.view.seen));
+  own = own_both p.view.role y.later x.later ∙ ((λ i. own_of (sym x.role_is i) y.later ++ own_of p.view.role x.later) ∙ (λ i. y.own i ++ x.own i));
+  last = (y.last.0 ++ events_of x.later, events_before y.later x.later ∙ ap (λ (h : List Event). h ++ events_of x.later) y.last.1);
 }
 
 -- the poller moved a request to Ready, which is no event

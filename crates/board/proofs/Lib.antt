@@ -30,3 +30,6 @@ pub mod RowLaws
 pub mod LastSteps
 pub mod RowsKept
 pub mod AlarmsSet
+pub mod Expiries
+pub mod Settlings
+pub mod Strikes

@@ -31,7 +31,7 @@ adds_nothing : (s : Setup) (e : Event) (h : List Event) (i : ℕ) → MayCome s 
 adds_nothing s (Submit r e bytes last) h i a le = let lt = a.0 in ap (λ b. cond b 1 0) (ne_eqb r.ring i (λ is. absurd (omega arith)))
 adds_nothing s e h i a le = refl
 
-no_submits : (s : Setup) (h : List Event) (i : ℕ) → Legal s h → s.rings ≤ i → submits h i ≡ 0
+pub no_submits : (s : Setup) (h : List Event) (i : ℕ) → Legal s h → s.rings ≤ i → submits h i ≡ 0
 no_submits s [] i l le = refl
 no_submits s (e ∷ h) i l le = let a = adds_nothing s e h i l.0.1 le in let n = no_submits s h i l.1 le in omega arith
 

@@ -18,9 +18,7 @@ use Rattle.work.specs.Passes.{Pass, seen_of}
 use Rattle.steps.proofs.FreeCells.{free_later}
 use Rattle.entry.specs.Entry.{Entry}
 use Rattle.history.specs.declared.event.Event.{Event}
-use Rattle.history.specs.Chains.{before_in}
 use Rattle.history.specs.Legal.{Fits}
-use Rattle.steps.specs.Journal.{Serves}
 use Rattle.board.specs.declared.error.SubmitError.{SubmitError}
 use Rattle.board.specs.declared.error.SubmitError.TheVariants.{Full, Spent}
 use Rattle.board.specs.Lanes.{nth, RefusesRoom, Watched}
@@ -61,7 +59,7 @@ pub free_then : (b : Facts) (p q : Pass) (es : List Event) (r : Req) → Goes b 
 free_then b p q es r go free = subst (λ (j : List Line). IsFree b.layout.cells (events_of j) r) (sym go.seen_is) (free_later (setup_of b.layout) b.layout.cells go.later p.view.seen r (subst (λ (j : List Line). Legal (setup_of b.layout) (events_of j)) go.seen_is go.kept.legal) free)
 
 -- why there was no room for one
-pub entry_reason : (b : Facts) (e : Entry) (bytes : List ℕ) (ring k : ℕ) (p q : Pass) (error : SubmitError) → 0 < cells_in b.layout.cells ring → Serves (before_in (seen_of p) (nth ring k)) e × Fits e bytes → RefusesRoom b.layout.cells ring k 1 p q error → RefusesEntry b e bytes (nth ring k) p q error
+pub entry_reason : (b : Facts) (e : Entry) (bytes : List ℕ) (ring k : ℕ) (p q : Pass) (error : SubmitError) → 0 < cells_in b.layout.cells ring → Fits e bytes → RefusesRoom b.layout.cells ring k 1 p q error → RefusesEntry b e bytes (nth ring k) p q error
 entry_reason b e bytes ring k p q Full some fits no' = ⊎_elim (λ less. absurd (omega arith)) (λ r. (let i = r.0 in let z : k + i.0 ≡ k = (let lt = i.1 in omega arith) in (fits, subst (λ (m : ℕ). ¬ IsFree b.layout.cells (seen_of q) (nth ring m)) z i.2, r.1))) no'
 entry_reason b e bytes ring k p q Spent some fits no' = let i = no'.1 in let z : k + i.0 ≡ k = (let lt = i.1 in omega arith) in let y : k + 0 ≡ k = omega arith in
     (fits, subst (λ (m : ℕ). IsFree b.layout.cells (seen_of q) (nth ring m)) y (no'.0 0 (omega arith)), subst (λ (m : ℕ). m / cells_in b.layout.cells ring ≡ 16777215) z i.2)

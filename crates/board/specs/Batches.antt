@@ -1,28 +1,17 @@
 -- What a batch is, entry by entry, and what it asks for.
-use Rattle.std.specs.Prelude.{◌≡◌, ℕ, suc, ◌+◌, ◌/◌, ◌<◌, ◌&&◌, not, Bool, true, false, cond, List, [], ◌∷◌, ◌++◌, length}
+use Rattle.std.specs.Prelude.{◌≡◌, ℕ, suc, ◌+◌, ◌/◌, ◌<◌, Bool, true, false, List, [], ◌∷◌, ◌++◌, length}
 use Rattle.std.specs.Global.{Vec}
-use Rattle.entry.specs.declared.op.Op.TheVariants.{Invalid}
-use Rattle.entry.specs.Entry.{Entry, links}
+use Rattle.entry.specs.Entry.{Entry}
 use Rattle.history.specs.declared.event.Event.{Event}
 use Rattle.history.specs.declared.event.Event.TheVariants.{Submit}
 use Rattle.history.specs.History.{submits}
-use Rattle.history.specs.Chains.{before_in, hosts, is_link_timeout}
 use Rattle.history.specs.Legal.{Fits}
 use Rattle.steps.specs.declared.view.Role.TheVariants.{Submitter}
 use Rattle.steps.specs.Cells.{cells_in}
 use Rattle.steps.specs.Fairness.{IsFree}
-use Rattle.steps.specs.Journal.{is_served}
 use Rattle.work.specs.Board.{Facts, IsOf}
 use Rattle.work.specs.Passes.{Pass, seen_of}
 use Rattle.board.specs.Lanes.{nth}
-
--- the board serves the entry, where the one before it hosts a LINK_TIMEOUT, or not
-abbrev pub IsServed : Bool → Entry → Type 0
-IsServed hosted e = is_served (cond (is_link_timeout e.op && not hosted) (record e { op = Invalid }) e).op ≡ true
-
--- the entry hosts a LINK_TIMEOUT
-abbrev pub hosts_next : Entry → Bool → Bool
-hosts_next e last = (links e && not last) && not (is_link_timeout e.op)
 
 abbrev pub Entries : Type 0
 Entries = List (Entry × Vec ℕ)
@@ -30,11 +19,6 @@ Entries = List (Entry × Vec ℕ)
 abbrev pub is_empty : Entries → Bool
 is_empty [] = true
 is_empty _ = false
-
--- each entry is served
-abbrev pub AreServed : Bool → Entries → Type 0
-AreServed hosted [] = Unit {0}
-AreServed hosted (x ∷ xs) = IsServed hosted x.0 × AreServed (hosts_next x.0 (is_empty xs)) xs
 
 -- the buffer of each is as long as it asks for
 abbrev pub AreFit : Entries → Type 0
@@ -53,5 +37,4 @@ pub record IsReady (b : Facts) (p : Pass) (ring k : ℕ) (xs : Entries) : Type 0
   pub next : k ≡ submits (seen_of p) ring
   pub free : (i : ℕ) → i < length xs → IsFree b.layout.cells (seen_of p) (nth ring (k + i))
   pub fresh : (i : ℕ) → i < length xs → (k + i) / cells_in b.layout.cells ring < 16777215
-  pub served : AreServed (hosts (before_in (seen_of p) (nth ring k))) xs
   pub fit : AreFit xs

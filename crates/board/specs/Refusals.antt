@@ -3,16 +3,14 @@ use Rattle.std.specs.Prelude.{◌≡◌, ℕ, ◌/◌, ◌≤◌, ◌⊎◌, Lis
 use Rattle.entry.specs.Entry.{Entry}
 use Rattle.history.specs.declared.req.Req.{Req}
 use Rattle.history.specs.History.{phase, IsReplied}
-use Rattle.history.specs.Chains.{before_in, hosts}
 use Rattle.history.specs.Legal.{Fits}
-use Rattle.steps.specs.Journal.{Serves}
 use Rattle.steps.specs.Cells.{cells_in}
 use Rattle.steps.specs.Fairness.{IsFree, IsReaped}
-use Rattle.board.specs.Batches.{Entries, AreServed, AreFit}
+use Rattle.board.specs.Batches.{Entries, AreFit}
 use Rattle.board.specs.Calls.{Stepped}
-use Rattle.board.specs.Lanes.{nth, HasLookedAt, RefusesRoom}
+use Rattle.board.specs.Lanes.{HasLookedAt, RefusesRoom}
 use Rattle.board.specs.declared.error.SubmitError.{SubmitError}
-use Rattle.board.specs.declared.error.SubmitError.TheVariants.{Full, BufferLength, Spent, Unserved}
+use Rattle.board.specs.declared.error.SubmitError.TheVariants.{Full, BufferLength, Spent}
 use Rattle.board.specs.declared.error.ReapError.{ReapError}
 use Rattle.board.specs.declared.error.ReapError.TheVariants.{NotYet, Gone, Foreign}
 use Rattle.work.specs.Board.{Facts}
@@ -20,16 +18,14 @@ use Rattle.work.specs.Passes.{Pass, seen_of}
 
 -- why the entry e with these bytes is not submitted as r, by the pass p that became q
 abbrev pub RefusesEntry : Facts → Entry → List ℕ → Req → Pass → Pass → SubmitError → Type 0
-RefusesEntry b e bytes r p q Unserved = ¬ Serves (before_in (seen_of p) r) e
-RefusesEntry b e bytes r p q BufferLength = Serves (before_in (seen_of p) r) e × ¬ Fits e bytes
-RefusesEntry b e bytes r p q Full = (Serves (before_in (seen_of p) r) e × Fits e bytes) × (¬ IsFree b.layout.cells (seen_of q) r) × HasLookedAt b.layout.cells r.ring p q
-RefusesEntry b e bytes r p q Spent = (Serves (before_in (seen_of p) r) e × Fits e bytes) × IsFree b.layout.cells (seen_of q) r × (r.k / cells_in b.layout.cells r.ring ≡ 16777215)
+RefusesEntry b e bytes r p q BufferLength = ¬ Fits e bytes
+RefusesEntry b e bytes r p q Full = Fits e bytes × (¬ IsFree b.layout.cells (seen_of q) r) × HasLookedAt b.layout.cells r.ring p q
+RefusesEntry b e bytes r p q Spent = Fits e bytes × IsFree b.layout.cells (seen_of q) r × (r.k / cells_in b.layout.cells r.ring ≡ 16777215)
 
 -- why this batch is not submitted as the ring's requests from k on, by the pass p that became q
 abbrev pub RefusesBatch : Facts → Entries → ℕ → ℕ → Pass → Pass → SubmitError → Type 0
-RefusesBatch b xs ring k p q Unserved = ¬ AreServed (hosts (before_in (seen_of p) (nth ring k))) xs
-RefusesBatch b xs ring k p q BufferLength = AreServed (hosts (before_in (seen_of p) (nth ring k))) xs × ¬ AreFit xs
-RefusesBatch b xs ring k p q e = (AreServed (hosts (before_in (seen_of p) (nth ring k))) xs × AreFit xs) × RefusesRoom b.layout.cells ring k (length xs) p q e
+RefusesBatch b xs ring k p q BufferLength = ¬ AreFit xs
+RefusesBatch b xs ring k p q e = AreFit xs × RefusesRoom b.layout.cells ring k (length xs) p q e
 
 -- why the request r is not reaped by the pass p, whose ring's next request is the k-th, and which became q
 abbrev pub RefusesReap : List ℕ → Req → ℕ → ℕ → Pass → Pass → ReapError → Type 0

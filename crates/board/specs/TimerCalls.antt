@@ -1,11 +1,11 @@
 -- What the poller's calls on timers make of its pass, and what their answers say.
-use Rattle.std.specs.Prelude.{◌≡◌, ◌⊎◌, ℕ, ◌+◌, true, false, List, [], ◌∷◌, Some}
+use Rattle.std.specs.Prelude.{◌≡◌, ◌≢◌, ◌⊎◌, ℕ, ◌+◌, ◌<◌, ◌≤◌, negsuc, true, false, List, [], ◌∷◌, Some}
 use Rattle.entry.specs.Entry.{Entry}
 use Rattle.history.specs.declared.req.Req.{Req}
 use Rattle.history.specs.declared.event.Event.{Event}
-use Rattle.history.specs.declared.event.Event.TheVariants.{Arm}
-use Rattle.history.specs.History.{phase, waits, armed, fired, clock_of}
-use Rattle.history.specs.Chains.{IsPlaced, Severed, is_timer}
+use Rattle.history.specs.declared.event.Event.TheVariants.{Arm, Expire, Fire, FireMiss, Settle}
+use Rattle.history.specs.History.{phase, waits, armed, replied, by_expire, by_settle, fired, clock_of, submits, IsReplied}
+use Rattle.history.specs.Chains.{IsLinkTimeout, IsPlaced, IsTarget, Severed, is_timeout, is_timer, previous}
 use Rattle.history.specs.Legal.{ticks_of, IsOf as IsOfKind}
 use Rattle.steps.specs.declared.line.Line.{Line}
 use Rattle.steps.specs.Journal.{events_of, freed}
@@ -16,6 +16,14 @@ use Rattle.board.specs.Calls.{Goes, Stepped, FoundHeld, IsUnheld}
 use Rattle.board.specs.PollerRows.{IsShutOut}
 use Rattle.board.specs.PollerTimers.{IsKept}
 use Rattle.board.specs.declared.alarm.Alarm.{Alarm}
+use Rattle.board.specs.declared.poller.Expiry.{Expiry}
+use Rattle.board.specs.declared.poller.Expiry.TheVariants.{Expired, Early, NotArmed}
+use Rattle.board.specs.declared.linked.Struck.{Struck}
+use Rattle.board.specs.declared.linked.Struck.TheVariants.{Took as StruckTook, Missed as StruckMissed, Over}
+use Rattle.board.specs.declared.poller.Firing.{Firing}
+use Rattle.board.specs.declared.poller.Firing.TheVariants.{Took, Missed, TargetDone, Early as TooEarly, NotArmed as NoneToFire}
+use Rattle.board.specs.declared.poller.Settling.{Settling}
+use Rattle.board.specs.declared.poller.Settling.TheVariants.{Settled, TargetOpen, NotArmed as NothingArmed}
 use Rattle.board.specs.declared.poller.Arming.{Arming}
 use Rattle.board.specs.declared.poller.Arming.TheVariants.{Armed, NotHeld, NotTimer, Shut}
 
@@ -57,3 +65,126 @@ pub record Arms (b : Facts) (r : Req) (p q : Pass) (x : Arming) : Type 0 where
 abbrev pub Keeps : List Event → Req → Alarm → Alarm → Arming → Type 0
 Keeps h r old new (Armed d) = IsKept h r (Some new) × (fired h r ≡ false)
 Keeps h r old new _ = new ≡ old
+
+-- ---- an expiry
+
+abbrev pub expired_by : Expiry → Req → List Event
+expired_by Expired r = Expire r ∷ []
+expired_by _ r = []
+
+-- it ran out, with -62 (ETIME)
+abbrev pub HasExpired : List Event → Req → Type 0
+HasExpired h r = phase h r ≡ replied by_expire (negsuc 61)
+
+-- it is armed, and its deadline is after the clock's time
+abbrev pub IsEarly : List Event → Req → Type 0
+IsEarly h r = (d : ℕ) × (phase h r ≡ armed d) × (clock_of h < d)
+
+-- it isn't armed, or is no TIMEOUT
+abbrev pub IsNoneToExpire : List Event → Req → Type 0
+IsNoneToExpire h r = ((d : ℕ) → phase h r ≢ armed d) ⊎ IsLinkTimeout h r
+
+-- what an expiry says of the request, by its answer
+abbrev pub ExpiryTells : Facts → Req → Pass → Pass → Expiry → Type 0
+ExpiryTells b r p q Expired = HasExpired (seen_of q) r
+ExpiryTells b r p q Early = IsEarly (seen_of q) r × Stepped b.layout.cells r p q
+ExpiryTells b r p q NotArmed = IsNoneToExpire (seen_of q) r × Stepped b.layout.cells r p q
+
+-- what became of the pass that was to let r run out
+pub record Expires (b : Facts) (r : Req) (p q : Pass) (x : Expiry) : Type 0 where
+  pub goes : Goes b p (expired_by x r) q
+  pub tells : ExpiryTells b r p q x
+  pub others : (i : Req) → freed q.view.seen i ≡ freed p.view.seen i
+
+-- ---- a settling
+
+abbrev pub settled_by : Settling → Req → List Event
+settled_by Settled r = Settle r ∷ []
+settled_by _ r = []
+
+-- it was answered with -125 (ECANCELED), since its target replied before it ran out
+abbrev pub HasSettled : List Event → Req → Type 0
+HasSettled h r = phase h r ≡ replied by_settle (negsuc 124)
+
+-- its target had no reply when the last step of the call looked at it
+abbrev pub IsTargetOpen : List ℕ → Req → Pass → Pass → Type 0
+IsTargetOpen K r p q = (t : Req) × IsTarget (seen_of q) r t × (¬ IsReplied (phase (seen_of q) t)) × Stepped K t p q
+
+-- it isn't armed, or is a TIMEOUT
+abbrev pub IsNoneToSettle : List Event → Req → Type 0
+IsNoneToSettle h r = ((d : ℕ) → phase h r ≢ armed d) ⊎ IsOfKind h r is_timeout true
+
+-- what a settling says of the request, by its answer
+abbrev pub SettlingTells : Facts → Req → Pass → Pass → Settling → Type 0
+SettlingTells b r p q Settled = HasSettled (seen_of q) r
+SettlingTells b r p q TargetOpen = IsTargetOpen b.layout.cells r p q
+SettlingTells b r p q NothingArmed = IsNoneToSettle (seen_of q) r × Stepped b.layout.cells r p q
+
+-- what became of the pass that was to settle r
+pub record Settles (b : Facts) (r : Req) (p q : Pass) (x : Settling) : Type 0 where
+  pub goes : Goes b p (settled_by x r) q
+  pub tells : SettlingTells b r p q x
+  pub others : (i : Req) → freed q.view.seen i ≡ freed p.view.seen i
+
+-- ---- a firing
+
+-- the events that the poller causes by it, the newest first
+abbrev pub fired_by : Firing → Req → List Event
+fired_by Took r = Settle r ∷ (Fire r (previous r) ∷ [])
+fired_by Missed r = Settle r ∷ (FireMiss r (previous r) ∷ [])
+fired_by _ r = []
+
+-- it ran out before its target replied, with -62 (ETIME)
+abbrev pub HasFired : List Event → Req → Type 0
+HasFired h r = phase h r ≡ replied by_settle (negsuc 61)
+
+-- a LINK_TIMEOUT that hasn't fired, and whose deadline has come
+pub record IsDueLinked (h : List Event) (r : Req) : Type 0 where
+  pub linked : IsLinkTimeout h r
+  pub born : r.k < submits h r.ring
+  pub unfired : fired h r ≡ false
+  pub deadline : ℕ
+  pub armed_is : phase h r ≡ armed deadline
+  pub due : deadline ≤ clock_of h
+
+-- its deadline has come, and its target has replied
+abbrev pub IsTargetDone : List Event → Req → Type 0
+IsTargetDone h r = IsDueLinked h r × IsTarget h r (previous r) × IsReplied (phase h (previous r))
+
+-- what a firing says of the request, by its answer
+abbrev pub FiringTells : Facts → Req → Pass → Pass → Firing → Type 0
+FiringTells b r p q Took = HasFired (seen_of q) r × IsTarget (seen_of q) r (previous r)
+FiringTells b r p q Missed = HasFired (seen_of q) r × IsTarget (seen_of q) r (previous r)
+FiringTells b r p q TargetDone = IsTargetDone (seen_of q) r
+FiringTells b r p q TooEarly = IsEarly (seen_of q) r × IsLinkTimeout (seen_of q) r × Stepped b.layout.cells r p q
+FiringTells b r p q NoneToFire = IsNoneToSettle (seen_of q) r × Stepped b.layout.cells r p q
+
+-- what became of the pass that was to fire r
+pub record Fires (b : Facts) (r : Req) (p q : Pass) (x : Firing) : Type 0 where
+  pub goes : Goes b p (fired_by x r) q
+  pub tells : FiringTells b r p q x
+  pub others : (i : Req) → freed q.view.seen i ≡ freed p.view.seen i
+
+-- the events that the poller causes at the target
+abbrev pub struck_by : Struck → Req → List Event
+struck_by StruckTook r = Fire r (previous r) ∷ []
+struck_by StruckMissed r = FireMiss r (previous r) ∷ []
+struck_by Over r = []
+
+abbrev pub StrikeTells : List Event → Req → Struck → Type 0
+StrikeTells h r Over = IsReplied (phase h (previous r))
+StrikeTells h r _ = fired h r ≡ true
+
+-- what became of the pass that struck the target of r. The timer itself is still armed
+pub record DidStrike (b : Facts) (r : Req) (p q : Pass) (x : Struck) : Type 0 where
+  pub goes : Goes b p (struck_by x r) q
+  pub tells : StrikeTells (seen_of q) r x
+  pub others : (i : Req) → freed q.view.seen i ≡ freed p.view.seen i
+  pub linked : IsLinkTimeout (seen_of q) r
+  pub still : (d : ℕ) → phase (seen_of p) r ≡ armed d → phase (seen_of q) r ≡ armed d
+
+-- what became of the pass that answered r, which has fired
+pub record EndsFired (b : Facts) (r : Req) (p q : Pass) : Type 0 where
+  pub goes : Goes b p (Settle r ∷ []) q
+  pub tells : HasFired (seen_of q) r
+  pub others : (i : Req) → freed q.view.seen i ≡ freed p.view.seen i

@@ -1,18 +1,21 @@
 //! What the poller finds out of timers, what it keeps of those that it armed, and how it arms one.
 ghost use Rattle.std.specs.Prelude.{◌≡◌, ◌+◌, ◌*◌, ◌<◌, ◌≤◌, true, false, Some};
 ghost use Rattle.gates.specs.EntryRows.{added, waiting};
+ghost use Rattle.history.specs.declared.req.Req.{Req as Request};
 ghost use Rattle.history.specs.Chains.{Open, Severed};
-ghost use Rattle.history.specs.History.{IsReplied, clock_of, phase, submits};
+ghost use Rattle.history.specs.History.{IsReplied, armed, clock_of, phase, submits};
 ghost use Rattle.steps.specs.Journal.{events_of};
 ghost use Rattle.work.specs.Passes.{pass_of};
 ghost use Rattle.board.specs.declared.poller.Released.TheVariants.{NotHeld};
 ghost use Rattle.board.specs.PollerRows.{Decides, IsAt, IsOurs, KnowsRow, Paid, Watched, owed};
-ghost use Rattle.board.specs.PollerTimers.{IsTimerAs};
-ghost use Rattle.board.specs.TimerCalls.{Arms, Keeps};
+ghost use Rattle.board.specs.declared.alarm.Alarm.TheVariants.{Alone};
+ghost use Rattle.board.specs.PollerTimers.{IsKept, IsTimerAs, KnowsAlarm};
+ghost use Rattle.board.specs.TimerCalls.{Arms, Expires, Keeps};
 ghost use Rattle.board.specs.Seats.{IsPollerSeat};
 
 use crate::board::Board;
-use crate::poller::Arming;
+use crate::phase::{Phase, told};
+use crate::poller::{Arming, Expiry};
 use crate::trail::{Gating, LINK_TIMEOUT, TIMEOUT, gate, is_held, take_in};
 use claim::unpack_facts;
 use gates::Row;
@@ -178,4 +181,64 @@ pub(crate) fn arm(
         return Arming::NotHeld;
     }
     arm_known(board, seat, row, clock, alarm, spot, req)
+}
+
+/// Answers a TIMEOUT that is armed with this deadline, which has come.
+fn run_out(
+    board: &Board,
+    seat: &mut TableSeat,
+    spot: Spot,
+    req: Req,
+    deadline: u32,
+    fails: bool,
+) -> Expiry
+    requires ours { IsOurs board.now seat.old }
+    requires at { IsAt board.now.layout.cells spot.cell spot.generation req }
+    requires small { spot.generation < 16777216 }
+    requires armed { phase (events_of seat.old.me.0.seen) req ≡ armed deadline }
+    requires born { req.k < submits (events_of seat.old.me.0.seen) req.ring }
+    requires due { deadline ≤ clock_of (events_of seat.old.me.0.seen) }
+    requires timeout { IsKept (events_of seat.old.me.0.seen) req (Some (Alone fails)) }
+    ensures seat { IsPollerSeat seat.new }
+    ensures expires { Expires board.now req (pass_of seat.old) (pass_of seat.new) result }
+    ensures steps { Paid seat.old.me.0 seat.new.me.0 0 1 }
+{
+    let _ = req;
+    let words = &board.table.shared;
+    let generation = spot.generation as u32;
+    if timers::expire(words, seat, spot.cell, generation, deadline, fails) {
+        Expiry::Expired
+    } else {
+        Expiry::NotArmed
+    }
+}
+
+/// Lets the request's TIMEOUT run out, where it is armed and its deadline has come. `alarm` is what is kept of the cell's timer.
+pub(crate) fn expire(
+    board: &Board,
+    seat: &mut TableSeat,
+    clock: u32,
+    alarm: Alarm,
+    spot: Spot,
+    req: Req,
+) -> Expiry
+    requires ours { IsOurs board.now seat.old }
+    requires at { IsAt board.now.layout.cells spot.cell spot.generation req }
+    requires clock { clock ≡ clock_of (events_of seat.old.me.0.seen) }
+    requires knows { KnowsAlarm (events_of seat.old.me.0.seen) req (Some alarm) }
+    ensures seat { IsPollerSeat seat.new }
+    ensures expires { Expires board.now req (pass_of seat.old) (pass_of seat.new) result }
+    ensures steps { Paid seat.old.me.0 seat.new.me.0 0 2 }
+{
+    let word = seat::look(&board.table.shared, seat, spot.cell);
+    let Phase::Armed(deadline) = told(word, spot.generation) else {
+        return Expiry::NotArmed;
+    };
+    let Alarm::Alone(fails) = alarm else {
+        return Expiry::NotArmed;
+    };
+    if clock < deadline {
+        return Expiry::Early;
+    }
+    run_out(board, seat, spot, req, deadline, fails)
 }

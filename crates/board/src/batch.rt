@@ -1,23 +1,27 @@
-//! What is tested of all entries of a batch.
+//! Which buffers go with an entry, and with the entries of a batch.
 ghost use Rattle.std.specs.Prelude.{◌↔◌, IsTrue};
-ghost use Rattle.board.specs.Batches.{AreFit, AreServed};
+ghost use Rattle.history.specs.Legal.{FitsOp};
+ghost use Rattle.board.specs.Batches.{AreFit};
 
-use crate::served::{fits_length, hosts_next, is_served};
-use entry::Sqe;
+use entry::{Sqe, by_opcode};
 
-/// Whether the board serves each entry. `hosted` says whether a LINK_TIMEOUT may be the first one.
-pub(crate) fn are_served(batch: &[(Sqe, Vec<u8>)], hosted: bool) -> bool
-    ensures { IsTrue result ↔ AreServed hosted batch.now }
+macro_rules! fits_work {
+    ((plain nothing) ($length:ident)) => { $length == 0 };
+    ((plain invalid) ($length:ident)) => { true };
+    ((pipe read $fd:ident $len:ident) ($length:ident)) => { $length == $len as usize };
+    ((pipe write $fd:ident $len:ident) ($length:ident)) => { $length == $len as usize };
+    ((pipe close $fd:ident) ($length:ident)) => { $length == 0 };
+    ((pipe poll $fd:ident $mask:ident) ($length:ident)) => { $length == 0 };
+    ((timer $kind:ident $ticks:ident) ($length:ident)) => { $length == 0 };
+    ((cancel $kind:ident $target:ident) ($length:ident)) => { $length == 0 };
+}
+
+/// Whether a buffer of this length goes with the entry.
+pub(crate) fn fits_length(sqe: &Sqe, length: usize) -> bool
+    ensures { IsTrue result ↔ FitsOp sqe.now.op length }
 {
-    let mut is_hosted = hosted;
-    for i in 0..batch.len() {
-        let (sqe, _) = &batch[i];
-        if !is_served(sqe, is_hosted) {
-            return false;
-        }
-        is_hosted = hosts_next(sqe, i + 1 == batch.len());
-    }
-    true
+    let op = sqe.op();
+    by_opcode!(op => fits_work!(length))
 }
 
 /// Whether the buffer of each entry has the length that the entry asks for.

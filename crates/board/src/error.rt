@@ -35,7 +35,7 @@ impl<T: Drop> From<AllocFailed<T>> for BoardError {
     }
 }
 
-/// Why an entry or a batch isn't taken (io_uring_enter(2)). They are tested in the order `Unserved`, `BufferLength`, `Full`, `Spent`.
+/// Why an entry or a batch isn't taken (io_uring_enter(2)). They are tested in the order `BufferLength`, `Full`, `Spent`.
 #[derive(Clone, Copy, PartialEq, Eq, Debug, Error)]
 pub enum SubmitError {
     /// A cell that the entry or the batch needs is not free, or the batch is longer than its ring has cells.
@@ -47,9 +47,6 @@ pub enum SubmitError {
     /// A cell that it needs has had all requests that it can have.
     #[error("the cell has had all its requests")]
     Spent,
-    /// It holds an entry that the board can't serve yet.
-    #[error("not served yet")]
-    Unserved,
 }
 
 /// Why there is no completion to take.

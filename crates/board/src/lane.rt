@@ -1,8 +1,8 @@
 //! What a submitter keeps of its ring, and whether the cells of the next requests are free.
-ghost use Rattle.std.specs.Prelude.{◌≡◌, ◌≢◌, ◌⊎◌, ℕ, ◌+◌, ◌*◌, ◌%◌, ◌<◌, ◌≤◌, ◌/◌, true, Option, IfOk, IfErr, IfSome, IfNone, IsTrue, length, slice_set as set};
+ghost use Rattle.std.specs.Prelude.{◌≡◌, ◌≢◌, ◌⊎◌, ℕ, ◌+◌, ◌*◌, ◌%◌, ◌<◌, ◌≤◌, ◌/◌, true, List, Option, Some, IfOk, IfErr, IfSome, IfNone, IsTrue, length, slice_set as set};
 ghost use Rattle.claim.specs.Facts.{Facts as FactsOf, fits_facts, packed_facts};
 ghost use Rattle.history.specs.History.{phase, IsReplied};
-ghost use Rattle.history.specs.Chains.{IsChainDone, before_in, joins};
+ghost use Rattle.history.specs.Chains.{IsChainDone, before_in, hosts, joins};
 ghost use Rattle.steps.specs.Fairness.{IsFree, IsReaped};
 ghost use Rattle.steps.specs.Journal.{events_of};
 ghost use Rattle.steps.specs.Rule.{IsSameSeat};
@@ -18,7 +18,9 @@ ghost use Rattle.steps.specs.Cells.{cells_in};
 use crate::error::SubmitError;
 use crate::phase::{Phase, told};
 use claim::unpack_facts;
+use entry::Sqe;
 use history::Req;
+use steps::facts::is_link_timeout;
 use steps::{TableSeat, Words, seat};
 use work::{Grid, Spot};
 
@@ -59,6 +61,14 @@ impl Lane {
             .done
             .max(self.next.saturating_sub(self.ages.len() as u64));
     }
+}
+
+/// Whether a LINK_TIMEOUT may stand directly after this entry: it is linked to the next one of its batch, and no LINK_TIMEOUT
+/// itself (io_uring_prep_link_timeout(3)). `last` says that it ends its batch.
+pub(crate) fn hosts(sqe: &Sqe, last: bool) -> bool
+    ensures { (bytes : List ℕ) → result ≡ hosts (Some (record { entry = sqe.now; bytes = bytes; last = last })) }
+{
+    (sqe.links_soft() || sqe.links_hard()) && !last && !is_link_timeout(sqe.op())
 }
 
 /// Whether these facts are those of a request of this generation, whose chain goes on after it.

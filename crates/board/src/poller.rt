@@ -11,14 +11,14 @@ ghost use Rattle.work.specs.Board.{IsOf};
 ghost use Rattle.work.specs.Passes.{pass_of, seen_of, CanReach, Took};
 ghost use Rattle.board.specs.Calls.{Goes};
 ghost use Rattle.board.specs.PollerTimers.{IsPast};
-ghost use Rattle.board.specs.TimerCalls.{Arms};
+ghost use Rattle.board.specs.TimerCalls.{Arms, Expires, Fires, Settles};
 ghost use Rattle.board.specs.PollerRows.{Decides, IsAt, KnowsRows, Paid};
 ghost use Rattle.board.specs.Seats.{IsPollerSeat};
 
 use crate::alarm::{self, Alarm};
 use crate::board::Board;
 use crate::error::ClockEnd;
-use crate::trail;
+use crate::{linked, trail};
 use gates::Row;
 use history::Req;
 use std::marker::Model;
@@ -81,6 +81,43 @@ pub enum Arming {
     Shut,
 }
 
+/// What became of a TIMEOUT that was to run out. They are tested in the order `NotArmed`, `Early`.
+#[derive(Clone, Copy, PartialEq, Eq, Debug)]
+pub enum Expiry {
+    /// It was answered with -62 (ETIME) now.
+    Expired,
+    /// It is armed, and its deadline is after the clock's time. Nothing has changed.
+    Early,
+    /// It isn't armed, or is a LINK_TIMEOUT. Nothing has changed.
+    NotArmed,
+}
+
+/// What became of a LINK_TIMEOUT that was to fire. They are tested in the order `NotArmed`, `Early`, `TargetDone`.
+#[derive(Clone, Copy, PartialEq, Eq, Debug)]
+pub enum Firing {
+    /// Its target was answered with -125 (ECANCELED) now, and it with -62 (ETIME).
+    Took,
+    /// A worker runs its target, which goes on. It was answered with -62 (ETIME) now.
+    Missed,
+    /// Its target has replied: it is to be settled. Nothing has changed.
+    TargetDone,
+    /// Its deadline is after the clock's time. Nothing has changed.
+    Early,
+    /// It isn't armed, or is a TIMEOUT. Nothing has changed.
+    NotArmed,
+}
+
+/// What became of a LINK_TIMEOUT that was to be settled. They are tested in the order `NotArmed`, `TargetOpen`.
+#[derive(Clone, Copy, PartialEq, Eq, Debug)]
+pub enum Settling {
+    /// Its target had replied before it ran out: it was answered with -125 (ECANCELED) now.
+    Settled,
+    /// Its target has no reply. Nothing has changed.
+    TargetOpen,
+    /// It isn't armed, or is a TIMEOUT. Nothing has changed.
+    NotArmed,
+}
+
 impl Poller {
     /// The pass of the poller's seat, which has seen nothing yet, with the rows of the rings, and a place for each cell's timer.
     pub(crate) fn new(seat: TableSeat, rows: Vec<Row>, alarms: Vec<Alarm>) -> Poller
@@ -139,6 +176,39 @@ impl Poller {
         let row = &mut self.rows[usize::from(req.ring)];
         let alarm = &mut self.alarms[spot.cell];
         alarm::arm(board, &mut self.seat, row, self.clock, alarm, spot, req)
+    }
+
+    /// Lets the timer in this cell run out.
+    pub(crate) fn expire(&mut self, board: &Board, spot: Spot, req: Req) -> Expiry
+        requires ours { IsOf board.now self.old }
+        requires at { IsAt board.now.layout.cells spot.cell spot.generation req }
+        ensures expires { Expires board.now req self.old self.new result }
+        ensures steps { Paid self.old.view self.new.view 0 2 }
+    {
+        let alarm = self.alarms[spot.cell];
+        alarm::expire(board, &mut self.seat, self.clock, alarm, spot, req)
+    }
+
+    /// Fires the timer in this cell.
+    pub(crate) fn fire(&mut self, board: &Board, spot: Spot, req: Req) -> Firing
+        requires ours { IsOf board.now self.old }
+        requires at { IsAt board.now.layout.cells spot.cell spot.generation req }
+        ensures fires { Fires board.now req self.old self.new result }
+        ensures steps { Paid self.old.view self.new.view 0 4 }
+    {
+        let alarm = self.alarms[spot.cell];
+        linked::fire(board, &mut self.seat, self.clock, alarm, spot, req)
+    }
+
+    /// Settles the timer in this cell.
+    pub(crate) fn settle(&mut self, board: &Board, spot: Spot, req: Req) -> Settling
+        requires ours { IsOf board.now self.old }
+        requires at { IsAt board.now.layout.cells spot.cell spot.generation req }
+        ensures settles { Settles board.now req self.old self.new result }
+        ensures steps { Paid self.old.view self.new.view 0 3 }
+    {
+        let alarm = self.alarms[spot.cell];
+        linked::settle(board, &mut self.seat, alarm, spot, req)
     }
 
     /// Sets the clock on.

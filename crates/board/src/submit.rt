@@ -7,7 +7,6 @@ ghost use Rattle.history.specs.Legal.{Fits};
 ghost use Rattle.steps.specs.declared.view.Role.TheVariants.{Submitter as SubmitterRole};
 ghost use Rattle.steps.specs.Cells.{cells_in};
 ghost use Rattle.steps.specs.Fairness.{IsFree};
-ghost use Rattle.steps.specs.Journal.{Serves};
 ghost use Rattle.work.specs.Board.{IsOf};
 ghost use Rattle.work.specs.Passes.{seen_of, Took};
 ghost use Rattle.board.specs.Calls.{Goes, next_of};
@@ -15,10 +14,9 @@ ghost use Rattle.board.specs.Batches.{IsReady, submits_of};
 ghost use Rattle.board.specs.Lanes.{nth, LinkedAreReaped};
 ghost use Rattle.board.specs.Refusals.{RefusesBatch, RefusesEntry};
 
-use crate::batch::{are_fit, are_served};
+use crate::batch::{are_fit, fits_length};
 use crate::board::Board;
 use crate::error::SubmitError;
-use crate::served::{fits_length, is_served};
 use crate::submitter::Submitter;
 use entry::Sqe;
 use history::Req;
@@ -39,9 +37,6 @@ impl Board {
         ensures refused { IfErr result (λ e. Goes self.now submitter.old [] submitter.new × (e.1 ≡ buffer)) }
         ensures reason { (ring : ℕ) → submitter.old.view.role ≡ SubmitterRole ring → IfErr result (λ e. RefusesEntry self.now sqe buffer.items (next_of submitter.old ring) submitter.old submitter.new e.0) }
     {
-        if !is_served(&sqe, submitter.is_hosted()) {
-            return Err((SubmitError::Unserved, buffer));
-        }
         if !fits_length(&sqe, buffer.len()) {
             return Err((SubmitError::BufferLength, buffer));
         }
@@ -73,9 +68,6 @@ impl Board {
         ensures refused { IfErr result (λ e. Goes self.now submitter.old [] submitter.new × (e.1 ≡ batch)) }
         ensures reason { (ring : ℕ) → submitter.old.view.role ≡ SubmitterRole ring → IfErr result (λ e. RefusesBatch self.now batch.items ring (next_of submitter.old ring).k submitter.old submitter.new e.0) }
     {
-        if !are_served(batch.as_slice(), submitter.is_hosted()) {
-            return Err((SubmitError::Unserved, batch));
-        }
         if !are_fit(batch.as_slice()) {
             return Err((SubmitError::BufferLength, batch));
         }
@@ -107,7 +99,6 @@ impl Board {
     fn submit_next(&self, submitter: &mut Submitter, parcel: Parcel) -> Req
         requires of { IsOf self.now submitter.old }
         requires free { (ring : ℕ) → submitter.old.view.role ≡ SubmitterRole ring → IsFree self.now.layout.cells (seen_of submitter.old) (next_of submitter.old ring) × ((next_of submitter.old ring).k / cells_in self.now.layout.cells ring < 16777215) }
-        requires served { (ring : ℕ) → submitter.old.view.role ≡ SubmitterRole ring → Serves (before_in (seen_of submitter.old) (next_of submitter.old ring)) parcel.sqe }
         requires fits { Fits parcel.sqe parcel.buffer.items }
         ensures role { submitter.old.view.role ≡ SubmitterRole result.ring }
         ensures next { (ring : ℕ) → submitter.old.view.role ≡ SubmitterRole ring → (submits (seen_of submitter.new) ring ≡ submits (seen_of submitter.old) ring + 1) × (before_in (seen_of submitter.new) (nth ring (submits (seen_of submitter.old) ring + 1)) ≡ Some (record { entry = parcel.sqe; bytes = parcel.buffer.items; last = parcel.last })) }

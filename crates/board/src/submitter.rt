@@ -4,12 +4,10 @@ ghost use Rattle.claim.specs.declared.tag.Tag.TheVariants.{Done};
 ghost use Rattle.history.specs.declared.req.Req.{Req};
 ghost use Rattle.history.specs.declared.event.Event.TheVariants.{Submit, Reap};
 ghost use Rattle.history.specs.History.{Cause, data_of, submits};
-ghost use Rattle.history.specs.Chains.{before_in, hosts};
 ghost use Rattle.history.specs.Legal.{Fits as FitsEntry};
 ghost use Rattle.steps.specs.declared.line.Line.TheVariants.{Did, Lent, Noted};
 ghost use Rattle.steps.specs.declared.view.Role.TheVariants.{Submitter as SubmitterRole, Lending};
 ghost use Rattle.steps.specs.Fairness.{IsFree};
-ghost use Rattle.steps.specs.Journal.{Serves};
 ghost use Rattle.steps.specs.Cells.{claim_at, ring_of, place_of, request_at, cells_in, total, facts_at, user_at, word_of, cause_bits, IsParcel};
 ghost use Rattle.steps.specs.Rule.{Looks, Shown, IsStep, IsTwoSteps, IsThreeSteps, ExtendsTwice, ExtendsThrice, IsDone};
 ghost use Rattle.work.specs.Passes.{pass_of, seen_of, CanReach};
@@ -19,7 +17,6 @@ ghost use Rattle.board.specs.Seats.{IsSubmitterSeat, IsNextCell};
 
 use crate::error::SubmitError;
 use crate::lane::{self, Lane};
-use crate::served::hosts_next;
 use claim::with_outcome;
 use history::Req;
 use std::marker::Model;
@@ -104,18 +101,11 @@ impl Submitter {
         seat::look(words, &mut self.seat, cell)
     }
 
-    /// Whether a LINK_TIMEOUT may be its next entry.
-    pub(crate) fn is_hosted(&self) -> bool
-        ensures there { (ring : ℕ) → self.now.view.role ≡ SubmitterRole ring → ring < length self.now.view.layout.cells }
-        ensures hosted { (ring : ℕ) → self.now.view.role ≡ SubmitterRole ring → result ≡ hosts (before_in (seen_of self.now) (next_of self.now ring)) }
-    {
-        self.lane.hosted
-    }
-
     /// Whether there is room for its next requests, so many of them.
     pub(crate) fn room(&mut self, words: &Words, grid: &Grid, count: u64) -> Result<(), SubmitError>
         requires over { (self.old.table ≡ words.now.table_id) × (grid.now ≡ self.old.view.layout.cells) × (words.now.table_id.words ≡ 8 * total grid.now + 72) }
         ensures table { self.new.table ≡ self.old.table }
+        ensures there { (ring : ℕ) → self.old.view.role ≡ SubmitterRole ring → ring < length self.old.view.layout.cells }
         ensures looks { (n : ℕ) × ((ring : ℕ) → self.old.view.role ≡ SubmitterRole ring → n ≤ cells_in grid.now ring + 1) × Watched n self.old.view self.new.view × IfOk result (λ _. (ring : ℕ) → self.old.view.role ≡ SubmitterRole ring → LinkedAreReaped (seen_of self.old) ring → n ≡ 0) }
         ensures free { IfOk result (λ _. (ring : ℕ) → self.old.view.role ≡ SubmitterRole ring → AreFree grid.now self.new.view ring (submits (seen_of self.old) ring) count) }
         ensures fresh { IfOk result (λ _. (ring : ℕ) → self.old.view.role ≡ SubmitterRole ring → (i : ℕ) → i < count → (submits (seen_of self.old) ring + i) / cells_in grid.now ring < 16777215) }
@@ -131,12 +121,12 @@ impl Submitter {
         requires small { spot.generation < 16777215 }
         requires next { IsNextCell self.old spot.cell spot.number spot.generation }
         requires free { IsFree self.old.view.layout.cells (seen_of self.old) (request_at self.old.view.layout.cells spot.cell spot.generation) }
-        requires served { Serves (before_in (seen_of self.old) (request_at self.old.view.layout.cells spot.cell spot.generation)) parcel.sqe × FitsEntry parcel.sqe parcel.buffer.items }
+        requires buffer { FitsEntry parcel.sqe parcel.buffer.items }
         ensures table { self.new.table ≡ self.old.table }
         ensures submits { let r : Req = request_at self.old.view.layout.cells spot.cell spot.generation in (facts : ℕ) × ExtendsThrice self.old.view (Lent r (facts_at spot.cell) facts) (Lending r) (Noted r (user_at spot.cell) parcel.sqe.user_data) (Lending r) (Did (Submit r parcel.sqe parcel.buffer.items parcel.last)) (SubmitterRole r.ring) self.new.view }
         ensures steps { IsThreeSteps (facts_at spot.cell) (user_at spot.cell) (claim_at spot.cell) self.old.view self.new.view }
     {
-        let hosted = hosts_next(&parcel.sqe, parcel.last);
+        let hosted = lane::hosts(&parcel.sqe, parcel.last);
         let facts = submitter::submit(
             words,
             &mut self.seat,

@@ -2,21 +2,24 @@
 ghost use Rattle.std.specs.Prelude.{◌≡◌, ◌⊎◌, ◌+◌, ◌*◌, ◌≤◌, ℕ, true, [], ◌∷◌, length, IfOk, IfErr};
 ghost use Rattle.history.specs.declared.event.Event.TheVariants.{Tick};
 ghost use Rattle.history.specs.declared.req.Req.{Req as Request};
-ghost use Rattle.history.specs.Chains.{is_timer};
+ghost use Rattle.history.specs.Chains.{IsLinkTimeout, IsTarget, is_timer, previous};
 ghost use Rattle.history.specs.History.{submits};
 ghost use Rattle.history.specs.Legal.{IsOf as IsOfKind};
 ghost use Rattle.steps.specs.Journal.{freed};
 ghost use Rattle.work.specs.Board.{IsOf};
 ghost use Rattle.work.specs.Passes.{seen_of, Took};
 ghost use Rattle.board.specs.declared.poller.Arming.TheVariants.{Armed, NotHeld, NotTimer, Shut};
+ghost use Rattle.board.specs.declared.poller.Expiry.TheVariants.{Early, Expired, NotArmed};
+ghost use Rattle.board.specs.declared.poller.Firing.TheVariants.{Early as TooEarly, Missed, NotArmed as NoneToFire, TargetDone, Took as TookTarget};
+ghost use Rattle.board.specs.declared.poller.Settling.TheVariants.{NotArmed as NothingArmed, Settled, TargetOpen};
 ghost use Rattle.board.specs.Calls.{FoundHeld, Goes, IsUnheld, Stepped};
 ghost use Rattle.board.specs.PollerRows.{Paid};
 ghost use Rattle.board.specs.PollerTimers.{IsPast};
-ghost use Rattle.board.specs.TimerCalls.{IsArmedFor, IsBarred, IsNoTimer, WasClear, armed_by};
+ghost use Rattle.board.specs.TimerCalls.{HasExpired, HasFired, HasSettled, IsArmedFor, IsBarred, IsEarly, IsNoneToExpire, IsNoneToSettle, IsNoTimer, IsTargetDone, IsTargetOpen, WasClear, armed_by, expired_by, fired_by, settled_by};
 
 use crate::board::Board;
 use crate::error::ClockEnd;
-use crate::poller::{Arming, Poller};
+use crate::poller::{Arming, Expiry, Firing, Poller, Settling};
 use history::Req;
 
 impl Board {
@@ -48,6 +51,57 @@ impl Board {
         match self.grid.locate(req) {
             Some(spot) => poller.arm(self, spot, req),
             None => Arming::NotHeld,
+        }
+    }
+
+    /// Answers a TIMEOUT with -62 (ETIME), where it is armed and its deadline has come (io_uring_prep_timeout(3)).
+    pub fn expire(&self, poller: &mut Poller, req: Req) -> Expiry
+        requires { IsOf self.now poller.old }
+        ensures goes { Goes self.now poller.old (expired_by result req) poller.new }
+        ensures expired { result ≡ Expired → HasExpired (seen_of poller.new) req }
+        ensures early { result ≡ Early → IsEarly (seen_of poller.new) req × Stepped self.now.layout.cells req poller.old poller.new }
+        ensures not_armed { result ≡ NotArmed → IsNoneToExpire (seen_of poller.new) req × ((length self.now.layout.cells ≤ req.ring) ⊎ Stepped self.now.layout.cells req poller.old poller.new) }
+        ensures steps { Paid poller.old.view poller.new.view 0 2 }
+        ensures alone { (q : Request) → freed poller.new.view.seen q ≡ freed poller.old.view.seen q }
+    {
+        match self.grid.locate(req) {
+            Some(spot) => poller.expire(self, spot, req),
+            None => Expiry::NotArmed,
+        }
+    }
+
+    /// Fires a LINK_TIMEOUT that is armed and whose deadline has come: its target is answered with -125 (ECANCELED), or goes on
+    /// where a worker runs it, and it is answered with -62 (ETIME) (io_uring_prep_link_timeout(3)).
+    pub fn fire(&self, poller: &mut Poller, req: Req) -> Firing
+        requires { IsOf self.now poller.old }
+        ensures goes { Goes self.now poller.old (fired_by result req) poller.new }
+        ensures took { result ≡ TookTarget → HasFired (seen_of poller.new) req × IsTarget (seen_of poller.new) req (previous req) }
+        ensures missed { result ≡ Missed → HasFired (seen_of poller.new) req × IsTarget (seen_of poller.new) req (previous req) }
+        ensures target_done { result ≡ TargetDone → IsTargetDone (seen_of poller.new) req }
+        ensures early { result ≡ TooEarly → IsEarly (seen_of poller.new) req × IsLinkTimeout (seen_of poller.new) req × Stepped self.now.layout.cells req poller.old poller.new }
+        ensures not_armed { result ≡ NoneToFire → IsNoneToSettle (seen_of poller.new) req × ((length self.now.layout.cells ≤ req.ring) ⊎ Stepped self.now.layout.cells req poller.old poller.new) }
+        ensures steps { Paid poller.old.view poller.new.view 0 4 }
+        ensures alone { (q : Request) → freed poller.new.view.seen q ≡ freed poller.old.view.seen q }
+    {
+        match self.grid.locate(req) {
+            Some(spot) => poller.fire(self, spot, req),
+            None => Firing::NotArmed,
+        }
+    }
+
+    /// Answers a LINK_TIMEOUT whose target replied before it ran out, with -125 (io_uring_prep_link_timeout(3)).
+    pub fn settle(&self, poller: &mut Poller, req: Req) -> Settling
+        requires { IsOf self.now poller.old }
+        ensures goes { Goes self.now poller.old (settled_by result req) poller.new }
+        ensures settled { result ≡ Settled → HasSettled (seen_of poller.new) req }
+        ensures target_open { result ≡ TargetOpen → IsTargetOpen self.now.layout.cells req poller.old poller.new }
+        ensures not_armed { result ≡ NothingArmed → IsNoneToSettle (seen_of poller.new) req × ((length self.now.layout.cells ≤ req.ring) ⊎ Stepped self.now.layout.cells req poller.old poller.new) }
+        ensures steps { Paid poller.old.view poller.new.view 0 3 }
+        ensures alone { (q : Request) → freed poller.new.view.seen q ≡ freed poller.old.view.seen q }
+    {
+        match self.grid.locate(req) {
+            Some(spot) => poller.settle(self, spot, req),
+            None => Settling::NotArmed,
         }
     }
 }

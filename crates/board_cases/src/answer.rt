@@ -1,6 +1,9 @@
 //! What the calls of a case answered.
 use crate::call::Batch;
-use board::{Completion, Parked, Phase, ReapError, Released, SubmitError};
+use board::{
+    Arming, ClockEnd, Completion, Expiry, Firing, Parked, Phase, ReapError, Released, Settling,
+    SubmitError,
+};
 use entry::Cqe;
 use history::Req;
 use std::fmt;
@@ -12,6 +15,11 @@ pub(crate) enum Answer {
     Next(u16, Req),
     Stands(Phase),
     Told(Released),
+    NotTicked(ClockEnd),
+    Armed(Arming),
+    Expired(Expiry),
+    Fired(Firing),
+    Settled(Settling),
     Submitted(Req),
     NotSubmitted(SubmitError, Vec<u8>),
     NoBatch(SubmitError, Batch),
@@ -74,6 +82,11 @@ impl fmt::Display for Answer {
             }
             Answer::Stands(phase) => fmt::Debug::fmt(phase, f),
             Answer::Told(released) => fmt::Debug::fmt(released, f),
+            Answer::NotTicked(error) => error.fmt(f),
+            Answer::Armed(arming) => fmt::Debug::fmt(arming, f),
+            Answer::Expired(expiry) => fmt::Debug::fmt(expiry, f),
+            Answer::Fired(firing) => fmt::Debug::fmt(firing, f),
+            Answer::Settled(settling) => fmt::Debug::fmt(settling, f),
             Answer::Submitted(req) => Named(*req).fmt(f),
             Answer::NotSubmitted(error, buffer) => {
                 let buffer = Digits(buffer);

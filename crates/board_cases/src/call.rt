@@ -24,6 +24,16 @@ pub(crate) enum Call {
     Batch(usize, Batch),
     /// `release REQUEST`
     Release(Req),
+    /// `tick NUMBER`
+    Tick(u32),
+    /// `arm REQUEST`
+    Arm(Req),
+    /// `expire REQUEST`
+    Expire(Req),
+    /// `fire REQUEST`
+    Fire(Req),
+    /// `settle REQUEST`
+    Settle(Req),
     /// `begin WORKER REQUEST`
     Begin(usize, Req),
     /// `park WORKER`
@@ -162,6 +172,11 @@ fn plain_call(kind: &str, words: &mut Words<'_>) -> Call {
         "look" => Call::Look(name_of(words), words.req()),
         "meet" => Call::Meet(name_of(words), name_of(words)),
         "release" => Call::Release(words.req()),
+        "tick" => Call::Tick(words.number()),
+        "arm" => Call::Arm(words.req()),
+        "expire" => Call::Expire(words.req()),
+        "fire" => Call::Fire(words.req()),
+        "settle" => Call::Settle(words.req()),
         "begin" => Call::Begin(words.number(), words.req()),
         "park" => Call::Park(words.number()),
         "run" => Call::Run(words.number()),

@@ -8,7 +8,7 @@ use crate::answer::{Answer, NO_PASS};
 use crate::call::{Batch, Call};
 use crate::cast::{Away, Cast};
 use crate::words::Name;
-use board::{Board, Busy, Pass, Ran, Submitter, Worker};
+use board::{Board, Busy, Pass, Poller, Ran, Submitter, Worker};
 use entry::Sqe;
 use history::Req;
 
@@ -224,6 +224,33 @@ fn carry_submitter(board: &Board, submitter: &mut Submitter, call: Call) -> Answ
     }
 }
 
+/// Sets the clock on.
+fn tick(board: &Board, poller: &mut Poller, to: u32) -> Answer
+    requires { IsOf board.now poller.old }
+    ensures { IsOf board.now poller.new }
+{
+    match board.tick(poller, to) {
+        Ok(()) => Answer::Said("ticked"),
+        Err(error) => Answer::NotTicked(error),
+    }
+}
+
+/// The call of the poller: `release`, `tick`, `arm`, `expire`, `fire` or `settle`.
+fn carry_poller(board: &Board, poller: &mut Poller, call: Call) -> Answer
+    requires { IsOf board.now poller.old }
+    ensures { IsOf board.now poller.new }
+{
+    match call {
+        Call::Release(req) => Answer::Told(board.release(poller, req)),
+        Call::Tick(to) => tick(board, poller, to),
+        Call::Arm(req) => Answer::Armed(board.arm(poller, req)),
+        Call::Expire(req) => Answer::Expired(board.expire(poller, req)),
+        Call::Fire(req) => Answer::Fired(board.fire(poller, req)),
+        Call::Settle(req) => Answer::Settled(board.settle(poller, req)),
+        _ => NO_PASS,
+    }
+}
+
 /// Gives a request to a worker.
 fn begin<'a>(board: &'a Board, cast: &mut Cast<'a>, number: usize, req: Req) -> Answer
     requires { IsCast board.now cast.old }
@@ -311,7 +338,6 @@ pub(crate) fn carry<'a>(board: &'a Board, cast: &mut Cast<'a>, call: Call) -> An
     match call {
         Call::Look(name, req) => look(board, cast, name, req),
         Call::Meet(first, second) => meet(board, cast, first, second),
-        Call::Release(req) => Answer::Told(board.release(&mut cast.poller, req)),
         Call::Begin(number, req) => begin(board, cast, number, req),
         Call::Park(number) => park(board, cast, number),
         Call::Run(number) => run(board, cast, number),
@@ -322,5 +348,11 @@ pub(crate) fn carry<'a>(board: &'a Board, cast: &mut Cast<'a>, call: Call) -> An
                 None => NO_PASS,
             }
         }
+        Call::Release(_)
+        | Call::Tick(_)
+        | Call::Arm(_)
+        | Call::Expire(_)
+        | Call::Fire(_)
+        | Call::Settle(_) => carry_poller(board, &mut cast.poller, call),
     }
 }

@@ -13,6 +13,8 @@
 //! - `batch RING ENTRY WORD.. / ENTRY WORD..`, of no entry or more, which are written as at `submit`;
 //! - `release REQUEST`, `begin WORKER REQUEST`, `park WORKER`, `run WORKER`, which says `parked: NotReady` of a request without an
 //!   answer now, `reap RING REQUEST`;
+//! - `tick NUMBER`, `arm REQUEST`, `expire REQUEST`, `fire REQUEST`, `settle REQUEST`: what the poller does with the clock and with
+//!   timers, which are entries as `timeout TICKS`, `timeout-ok TICKS` (IORING_TIMEOUT_ETIME_SUCCESS) and `link-timeout TICKS`;
 //! - `serve WORKER REQUEST COUNT`: releases, begins and runs so many requests of a ring, from this one on, up to the first that
 //!   doesn't reply, and says how many did;
 //! - `finish`, before which all workers put their requests back; with `turned` the submitters are handed in in the other

@@ -4,8 +4,11 @@ use std::alloc::{AllocError, Global};
 use std::thread::Threads;
 use std::time::Clock;
 
-/// The most lines `wait` of a script that may be left out.
+/// The most waiting lines of a script that may be left out.
 const WAITS: u32 = 16;
+
+/// The first words of the lines that wait.
+const WAITING: [&str; 2] = ["wait", "armed"];
 
 /// The name of the entry at whose line a run was stuck.
 fn stuck_at(text: &str) -> Option<&str> {
@@ -14,9 +17,20 @@ fn stuck_at(text: &str) -> Option<&str> {
     if before.is_empty() { Some(name) } else { None }
 }
 
-/// The script without the line that waits for this entry.
-fn without_wait(alloc: Global, script: &str, name: &str) -> Result<Option<String>, AllocError> {
-    let line = format!(in alloc; "/wait {name}/")?;
+/// The line of the script that waits for this entry: `wait`, or else `armed`, since a ring's line is told before the clock's.
+fn waiting_line(alloc: Global, script: &str, name: &str) -> Result<Option<String>, AllocError> {
+    for word in WAITING {
+        let line = format!(in alloc; "{word} {name}")?;
+        if script.split('/').any(|other| other == line.as_str()) {
+            return Ok(Some(line));
+        }
+    }
+    Ok(None)
+}
+
+/// The script without the first line that reads so.
+fn without_line(alloc: Global, script: &str, line: &str) -> Result<Option<String>, AllocError> {
+    let line = format!(in alloc; "/{line}/")?;
     match script.split_once(line.as_str()) {
         Some((before, after)) => Ok(Some(format!(in alloc; "{before}/{after}")?)),
         None => Ok(None),
@@ -39,18 +53,18 @@ fn is_cut_in(alloc: Global, listed: &str, name: &str) -> Result<bool, AllocError
     Ok(listed.as_str().contains(row.as_str()))
 }
 
-/// The script without its lines `wait`, and without those of the entry's ring after the line that waits for it.
-fn before_wait(alloc: Global, script: &str, name: &str) -> Result<String, AllocError> {
+/// The script without its waiting lines, and without those that its actor has after this one.
+fn before_line(alloc: Global, script: &str, stuck: &str) -> Result<String, AllocError> {
     let mut kept = String::new(alloc);
     let mut is_over = false;
     for line in script.split('/') {
-        let (word, rest) = line.split_once(' ').unwrap_or((line, ""));
+        let (word, _) = line.split_once(' ').unwrap_or((line, ""));
         if word == "on" {
             is_over = false;
-        } else if word == "wait" {
-            is_over |= rest == name;
+        } else if line == stuck {
+            is_over = true;
         }
-        if !line.is_empty() && word != "wait" && !is_over {
+        if !line.is_empty() && !WAITING.contains(&word) && !is_over {
             kept.push_str(line)?;
             kept.push_str("/")?;
         }
@@ -68,15 +82,18 @@ fn shorter<R: Threads + Sync + Clock + AllocGlobal>(
     let Some(name) = stuck_at(text) else {
         return Ok(None);
     };
-    let before = before_wait(alloc, script, name)?;
+    let Some(line) = waiting_line(alloc, script, name)? else {
+        return Ok(None);
+    };
+    let before = before_line(alloc, script, line.as_str())?;
     if is_cut_in(alloc, outcomes_of(rt, before.as_str())?.as_str(), name)? {
-        without_wait(alloc, script, name)
+        without_line(alloc, script, line.as_str())
     } else {
         Ok(None)
     }
 }
 
-/// Whether a run prints a table that `outcomes` lists: `yes`, or else what it prints. A line `wait` that runs out of tries is left
+/// Whether a run prints a table that `outcomes` lists: `yes`, or else what it prints. A line that waits and runs out of tries is left
 /// out, where its entry may be without a reply until then, and the script is run again.
 pub fn runs<R: Threads + Sync + Clock + AllocGlobal>(
     rt: &R,

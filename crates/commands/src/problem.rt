@@ -18,14 +18,12 @@ pub enum Problem {
     Output,
     /// Memory ran out, or a thread was refused.
     Memory,
-    /// The board could not be ended.
+    /// The board refused a call, or could not be ended.
     Shared,
     /// Another number of workers than 1 to 64.
     Workers,
     /// A search met more states than the program's limit.
     TooManyStates,
-    /// The script asks for what the board can't serve yet, in the line whose first entry has this label.
-    Unserved(String),
     /// A line of the script ran out of turns: the label that it waits for, or of the first entry that it submits.
     Stuck(String),
     /// A line of the script has a fault.
@@ -64,7 +62,6 @@ impl fmt::Display for Problem {
             Problem::Shared => write!(f, "fault: shared"),
             Problem::Workers => write!(f, "fault: workers"),
             Problem::TooManyStates => write!(f, "fault: too many states"),
-            Problem::Unserved(label) => write!(f, "fault: not served yet: {label}"),
             Problem::Stuck(label) => write!(f, "stuck {label}"),
             Problem::Line(fault) => write!(f, "{fault}"),
         }
@@ -99,7 +96,6 @@ impl From<RunFault> for Problem {
     fn from(fault: RunFault) -> Problem {
         match fault {
             RunFault::Stuck(label) => Problem::Stuck(label),
-            RunFault::Unserved(label) => Problem::Unserved(label),
             RunFault::Memory | RunFault::Thread => Problem::Memory,
             RunFault::Workers => Problem::Workers,
             RunFault::Shared => Problem::Shared,

@@ -28,8 +28,8 @@ pub(crate) enum Tried {
     Submitted,
     /// A cell isn't free; the batch comes back.
     Full(Batch),
-    /// The board can't serve it, or takes no such batch.
-    Unserved,
+    /// The board takes no such batch, however often it is tried.
+    Refused,
 }
 
 impl Client {
@@ -58,7 +58,7 @@ impl Client {
                 Ok(Tried::Submitted)
             }
             Err((SubmitError::Full, batch)) => Ok(Tried::Full(batch)),
-            Err(_) => Ok(Tried::Unserved),
+            Err(_) => Ok(Tried::Refused),
         }
     }
 

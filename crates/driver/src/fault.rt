@@ -14,9 +14,6 @@ pub enum RunFault {
     /// several lines the lowest ring's is told, the clock's last.
     #[error("stuck {0}")]
     Stuck(String),
-    /// A line asks for what the board can't serve yet. The label is that of its first entry, or `tick` for the clock's.
-    #[error("not served yet: {0}")]
-    Unserved(String),
     /// Memory ran out.
     #[error("out of memory")]
     Memory,
@@ -26,9 +23,9 @@ pub enum RunFault {
     /// The number of workers is not one that a board may have, 1 to 64.
     #[error("not 1 to 64 workers")]
     Workers,
-    /// The board could not be ended though all threads had come to their ends, or an entry had no completion. No script is
-    /// known for which it comes.
-    #[error("the board could not be ended")]
+    /// The board refused what a script may ask for: a batch that it has room for, or a tick; or it could not be ended though all
+    /// threads had come to their ends; or an entry had no completion. No script is known for which it comes.
+    #[error("the board refused a call")]
     Shared,
 }
 

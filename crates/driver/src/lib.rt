@@ -1,6 +1,7 @@
 //! Scripts carried out on a board by threads: one for each ring, and one with the poller and a worker.
 #![tactic(auto)]
 
+mod alarms;
 mod client;
 mod clock;
 pub mod fault;
@@ -9,7 +10,6 @@ mod lines;
 mod poll;
 mod rows;
 pub mod run;
-mod served;
 mod stage;
 mod threads;
 mod window;

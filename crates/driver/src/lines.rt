@@ -12,8 +12,8 @@ use std::thread;
 pub(crate) enum Halt {
     /// A line ran out of tries: the place of the entry that it waits for, or of the first one that it submits.
     Stuck(u32),
-    /// The board can't serve the line whose first entry has this place.
-    Unserved(u32),
+    /// The board refused what a script may ask for.
+    Refused,
     /// Memory ran out.
     Memory,
     /// The threads didn't all begin.
@@ -88,7 +88,7 @@ fn submit_line(stage: &Stage<'_>, client: &mut Client, places: &[u32]) -> Result
     for _ in 0..stage.turns {
         batch = match client.try_submit(stage.board, batch)? {
             Tried::Submitted => return Ok(()),
-            Tried::Unserved => return Err(Halt::Unserved(*first)),
+            Tried::Refused => return Err(Halt::Refused),
             Tried::Full(batch) => batch,
         };
         client.take_all(stage.board)?;

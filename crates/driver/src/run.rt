@@ -11,7 +11,6 @@ use crate::gate::Gate;
 use crate::lines::Halt;
 use crate::poll::{Desk, windows_of};
 use crate::rows::table_of;
-use crate::served::{first_unserved, label_at};
 use crate::stage::Stage;
 use crate::threads::run_all;
 use board::{Board, Completion, FinishError, Poller, Report, RingShape, Shape, Submitter, Worker};
@@ -32,9 +31,6 @@ pub fn run_script<R: Threads + Sync>(
 ) -> Result<Table, RunFault>
     ensures lines { IfOk result (λ table. length table.lines.items ≡ length script.now.entries.items) }
 {
-    if let Some(label) = first_unserved(script) {
-        return Err(RunFault::Unserved(label.to_string(alloc)?));
-    }
     let homes = homes_of(alloc, script)?;
     let cast = cast_of(alloc, script, workers)?;
     let (taken, report) = play(rt, alloc, script, homes.as_slice(), turns, cast)?;
@@ -72,6 +68,7 @@ fn cast_of(alloc: Global, script: &Script, workers: u32) -> Result<Cast, RunFaul
         worker,
         windows,
         clock: Clock::new(),
+        is_short: false,
     };
     Ok(Cast {
         board,
@@ -114,9 +111,13 @@ fn play<R: Threads + Sync>(
         worker,
         windows: _,
         clock,
+        is_short,
     } = desk;
     idle.push(worker)?;
     let (submitters, taken, halt) = parts_of(alloc, clients)?;
+    if is_short {
+        return Err(RunFault::Memory);
+    }
     if let Some(halt) = halt.or(clock.halt) {
         return Err(fault_of(alloc, script, halt));
     }
@@ -182,10 +183,7 @@ fn fault_of(alloc: Global, script: &Script, halt: Halt) -> RunFault {
             Ok(label) => RunFault::Stuck(label),
             Err(_) => RunFault::Memory,
         },
-        Halt::Unserved(place) => match label_of(alloc, script, place) {
-            Ok(label) => RunFault::Unserved(label),
-            Err(_) => RunFault::Memory,
-        },
+        Halt::Refused => RunFault::Shared,
         Halt::Memory => RunFault::Memory,
         Halt::Thread => RunFault::Thread,
     }
@@ -193,7 +191,10 @@ fn fault_of(alloc: Global, script: &Script, halt: Halt) -> RunFault {
 
 /// The label of the entry at a place.
 fn label_of(alloc: Global, script: &Script, place: u32) -> Result<String, AllocError> {
-    label_at(script, place).unwrap_or("").to_string(alloc)
+    match script.entries.get(place as usize) {
+        Some(entry) => entry.label.clone(),
+        None => Ok(String::new(alloc)),
+    }
 }
 
 /// Ends the board.

@@ -24,8 +24,27 @@ pub(crate) fn is_replied<P: Pass>(stage: &Stage<'_>, pass: &mut P, place: u32) -
     requires { IsOf stage.now.board.now (P.knows pass.old) }
     ensures { IsOf stage.now.board.now (P.knows pass.new) }
 {
-    let Some(Some(req)) = stage.homes.get(place as usize) else {
-        return false;
-    };
-    matches!(stage.board.look(pass, *req), Phase::Done(_) | Phase::Gone)
+    matches!(phase_of(stage, pass, place), Phase::Done(_) | Phase::Gone)
+}
+
+/// Whether the timer of the entry at a place is armed or has its reply, as this pass sees it now.
+pub(crate) fn is_armed<P: Pass>(stage: &Stage<'_>, pass: &mut P, place: u32) -> bool
+    requires { IsOf stage.now.board.now (P.knows pass.old) }
+    ensures { IsOf stage.now.board.now (P.knows pass.new) }
+{
+    matches!(
+        phase_of(stage, pass, place),
+        Phase::Armed(_) | Phase::Done(_) | Phase::Gone
+    )
+}
+
+/// Where the request of the entry at a place stands, as this pass sees it now.
+fn phase_of<P: Pass>(stage: &Stage<'_>, pass: &mut P, place: u32) -> Phase
+    requires { IsOf stage.now.board.now (P.knows pass.old) }
+    ensures { IsOf stage.now.board.now (P.knows pass.new) }
+{
+    match stage.homes.get(place as usize) {
+        Some(Some(req)) => stage.board.look(pass, *req),
+        _ => Phase::Unborn,
+    }
 }

@@ -1,6 +1,7 @@
 //! The requests of a ring that the poller's thread looks after.
 ghost use Rattle.work.specs.Board.{IsOf};
 
+use crate::alarms::Alarms;
 use board::{Board, Phase, Poller, Ran, Released, Worker};
 use history::Req;
 
@@ -66,17 +67,29 @@ impl Window {
         self.low = self.tail;
     }
 
-    /// Moves the requests that may begin to the workers, and answers those whose chain has failed. True where there was one.
-    pub fn release(&self, board: &Board, poller: &mut Poller) -> bool
+    /// Moves the requests that may begin to the workers, arms the timers that may start, and answers those whose chain has failed.
+    /// True where there was one.
+    pub fn release(&self, board: &Board, poller: &mut Poller, alarms: &mut Alarms) -> bool
         requires { IsOf board.now poller.old }
         ensures { IsOf board.now poller.new }
     {
         let mut moved = false;
         for k in self.low..self.tail {
-            if matches!(
-                board.release(poller, self.req(k)),
-                Released::Freed | Released::Severed
-            ) {
+            if start(board, poller, alarms, self.req(k)) {
+                moved = true;
+            }
+        }
+        moved
+    }
+
+    /// Answers the LINK_TIMEOUTs whose targets have replied. True where there was one.
+    pub fn settle(&self, board: &Board, poller: &mut Poller, alarms: &mut Alarms) -> bool
+        requires { IsOf board.now poller.old }
+        ensures { IsOf board.now poller.new }
+    {
+        let mut moved = false;
+        for k in self.low..self.tail {
+            if alarms.settle(board, poller, self.req(k)) {
                 moved = true;
             }
         }
@@ -98,6 +111,19 @@ impl Window {
             }
         }
         (worker, moved)
+    }
+}
+
+/// Moves the request to the workers where it may begin, arms it where it is a timer, or answers it where its chain has failed.
+/// False where it has to wait.
+fn start(board: &Board, poller: &mut Poller, alarms: &mut Alarms, req: Req) -> bool
+    requires { IsOf board.now poller.old }
+    ensures { IsOf board.now poller.new }
+{
+    match board.release(poller, req) {
+        Released::Freed | Released::Severed => true,
+        Released::Timer => alarms.arm(board, poller, req),
+        Released::Shut | Released::NotHeld => false,
     }
 }
 

@@ -1,10 +1,10 @@
 -- What a worker knows of the cancel that it runs stays: what it did, which requests it is meant for, and so its answer.
-use Rattle.std.proofs.Common.{◌≡◌, ℕ, ◌<◌, ℤ, Option, List, sym, refl, ap, ◌∙◌, subst, arith}
+use Rattle.std.proofs.Common.{◌≡◌, ℕ, ◌<◌, ℤ, Option, List, sym, ap, ◌∙◌, subst}
 use Rattle.atomic_table.specs.Table.{State}
 use Rattle.history.specs.declared.req.Req.{Req}
 use Rattle.history.specs.declared.event.Event.{Event}
 use Rattle.history.specs.History.{Hit, nothing, took, missed, runs, hit, phase, submits, IsReplied}
-use Rattle.history.specs.Chains.{IsBefore, placed}
+use Rattle.history.specs.Chains.{placed}
 use Rattle.history.specs.Answers.{Matches, NoneLeft, CancelAnswers}
 use Rattle.history.specs.Legal.{Setup}
 use Rattle.steps.specs.declared.parcel.Thing.{Thing}

@@ -110,3 +110,20 @@ one_result (pos n) (pos m) b x y = let e : n ≡ m = sym x.1 ∙ y.1 in ap pos e
 one_result (pos n) (negsuc m) b x y = absurd (let p = x in let q = y in omega arith)
 one_result (negsuc n) (pos m) b x y = absurd (let p = x in let q = y in omega arith)
 one_result (negsuc n) (negsuc m) b x y = let e : n ≡ m = (let p = x in let q = y in omega arith) in ap negsuc e
+
+-- the ring of a request that has a cell has cells
+pub some_cells : (K : List ℕ) (x g : ℕ) (r : Req) → IsCell K x → request_at K x g ≡ r → place_of K x < cells_in K r.ring
+some_cells K x g r inside at = subst (λ (i : ℕ). place_of K x < cells_in K i) (ap (λ (q : Req). q.ring) at) (located K x inside).1
+
+-- an earlier request's generation is no greater
+age_before : (n g h p q : ℕ) → q < n → h * n + p < g * n + q → h ≤ g
+age_before n g h p q small lt = two_ways (nat_lt g h) _
+    (λ w. let gt : g < h = ltb-true g h w in let m : suc g * n ≤ h * n = mul-le-mul_right n gt in let u : suc g * n ≡ g * n + n = suc-mul g n in
+    absurd (let x : ℕ = g * n in let y : ℕ = h * n in let z : ℕ = suc g * n in let m' : z ≤ y = m in let u' : z ≡ x + n = u in let e' : y + p < x + q = lt in omega arith))
+    (λ w. ltb-false g h w)
+
+pub age_small : (K : List ℕ) (x y g h : ℕ) (r q : Req) → IsCell K x → request_at K x g ≡ r → request_at K y h ≡ q → q.ring ≡ r.ring → q.k < r.k → g < 16777216 → h < 16777216
+age_small K x y g h r q inside at is same_ring lt small =
+    let n : ℕ = cells_in K r.ring in let here : cells_in K (ring_of K x) ≡ n = ap (λ (z : Req). cells_in K z.ring) at in let there : cells_in K (ring_of K y) ≡ n = ap (λ (z : Req). cells_in K z.ring) is ∙ ap (cells_in K) same_ring in
+    let a : g * n + place_of K x ≡ r.k = ap (λ (m : ℕ). g * m + place_of K x) (sym here) ∙ ap (λ (z : Req). z.k) at in let b : h * n + place_of K y ≡ q.k = ap (λ (m : ℕ). h * m + place_of K y) (sym there) ∙ ap (λ (z : Req). z.k) is in
+    let le : h ≤ g = age_before n g h (place_of K y) (place_of K x) (some_cells K x g r inside at) (let u : ℕ = g * n + place_of K x in let v : ℕ = h * n + place_of K y in let a' : u ≡ r.k = a in let b' : v ≡ q.k = b in let lt' : v < u = omega arith in lt') in omega arith

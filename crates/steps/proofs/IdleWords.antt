@@ -14,7 +14,7 @@ use Rattle.history.proofs.Growth.{MayChange, may_change, changed, unchanged, rep
 use Rattle.history.specs.Legal.{Setup, Legal}
 use Rattle.steps.specs.declared.line.Line.{Line}
 use Rattle.steps.specs.Journal.{events_of, frees, freed}
-use Rattle.steps.specs.Cells.{request_at, CellOk, Home, Says, word_of}
+use Rattle.steps.specs.Cells.{request_at, Home, Says, word_of}
 use Rattle.steps.specs.Rule.{Shown}
 use Rattle.steps.specs.Plays.{is_idle, IsIdleWord}
 use Rattle.steps.proofs.JournalGrowth.{Lasting, lasts, counted_in, legal_before}

@@ -10,7 +10,7 @@ pub mod LoadReleaseBegin
 pub mod Roles
 pub mod ReplyPark
 pub mod SeverStep
-pub mod Served
+pub mod Submissions
 pub mod NewSlots
 pub mod RuleKept
 pub mod ViewsKept

@@ -1,8 +1,8 @@
 -- Which requests a cancel is meant for stays as the journal grows, and what had a cell before has gone.
-use Rattle.std.proofs.Common.{◌≡◌, ℕ, ◌+◌, ◌<◌, ◌≤◌, Bool, true, false, cond, List, [], ◌∷◌, ◌++◌, Option, Some, None, sym, refl, ap, ◌∙◌, subst, ⊎_elim, arith}
+use Rattle.std.proofs.Common.{◌≡◌, ℕ, ◌+◌, ◌<◌, ◌≤◌, true, false, cond, List, [], ◌∷◌, ◌++◌, Some, sym, refl, ap, ◌∙◌, subst, ⊎_elim, arith}
 use Rattle.history.specs.declared.req.Req.{Req}
 use Rattle.history.specs.declared.event.Event.TheVariants.{Submit}
-use Rattle.history.specs.History.{Submission, phase, same, submission, submits, IsReplied}
+use Rattle.history.specs.History.{Submission, phase, same, submission, submits}
 use Rattle.history.specs.Chains.{IsBefore, placed}
 use Rattle.history.specs.Answers.{Matches}
 use Rattle.history.specs.Legal.{Setup, Legal}
@@ -15,7 +15,7 @@ use Rattle.steps.specs.declared.view.Layout.{Layout}
 use Rattle.steps.specs.Fairness.{IsReaped, IsFree, Orderly}
 use Rattle.steps.specs.Journal.{events_of}
 use Rattle.steps.specs.Cells.{setup_of, cells_in}
-use Rattle.steps.proofs.JournalGrowth.{lasts, replied_later}
+use Rattle.steps.proofs.JournalGrowth.{lasts}
 use Rattle.steps.proofs.FreeCells.{free_later}
 
 module _ (S : Setup) (later seen : List Line) (legal : Legal S (events_of (later ++ seen))) where
@@ -42,7 +42,7 @@ module _ (L : Layout) where
   pub was_free : (j : List Line) (u : Req) (y : Submission) → Legal T (events_of j) → Orderly L j → submission (events_of j) u ≡ Some y → IsFree L.cells (events_of j) u
   was_free [] u y legal orderly is = absurd (let z = is in cc)
   was_free (Did (Submit q e bytes last) ∷ j) u y legal orderly is = ⊎_elim
-      (λ (w : same q u ≡ true). free_later T L.cells (Did (Submit q e bytes last) ∷ []) j u legal (subst (IsFree L.cells (events_of j)) (same_true q u w) orderly.0.1))
+      (λ (w : same q u ≡ true). free_later T L.cells (Did (Submit q e bytes last) ∷ []) j u legal (subst (IsFree L.cells (events_of j)) (same_true q u w) orderly.0.0))
       (λ (w : same q u ≡ false). free_later T L.cells (Did (Submit q e bytes last) ∷ []) j u legal (was_free j u y legal.1 orderly.1 (sym (ap (λ b. cond b (Some (record { entry = e; bytes = bytes; last = last })) (submission (events_of j) u)) w) ∙ is)))
       (bool_cases (same q u))
   was_free (Did e ∷ j) u y legal orderly is = free_later T L.cells (Did e ∷ []) j u legal (was_free j u y legal.1 orderly.1 is)

@@ -75,7 +75,7 @@ module _ (L : Layout) (s : Setup) where
     in_turn g [] h o n = absurd (n refl)
     in_turn g (l ∷ j) h o n = gone_on l j (at g) h (⊎_elim
         (λ (was : phase (events_of j) (at (suc g)) ≡ unborn). (let b = born_by l j (at (suc g)) h was n in let f = subst (Fair L j) b.3 o.0 in
-        let c : ℕ = cells_in K (ring_of K x) in let u : suc g * c ≡ g * c + c = suc-mul g c in let a : ℕ = suc g * c in let d : ℕ = g * c in let u' : a ≡ d + c = u in let e : (d + place_of K x) + c ≡ a + place_of K x = omega arith in f.1 (at g) refl e))
+        let c : ℕ = cells_in K (ring_of K x) in let u : suc g * c ≡ g * c + c = suc-mul g c in let a : ℕ = suc g * c in let d : ℕ = g * c in let u' : a ≡ d + c = u in let e : (d + place_of K x) + c ≡ a + place_of K x = omega arith in f.0 (at g) refl e))
         (λ (was : phase (events_of j) (at (suc g)) ≢ unborn). in_turn g j (legal_tail s l j h) o.1 was) (either_born (phase (events_of j) (at (suc g)))))
 
     pub earlier_gone : (j : List Line) → Legal s (events_of j) → Orderly L j → (g n : ℕ) → n < g → phase (events_of j) (at g) ≢ unborn → IsReaped (phase (events_of j) (at n)) × IsChainDone (events_of j) (at n)
@@ -177,7 +177,7 @@ module _ (L : Layout) (s : Setup) where
     at_submit q e bytes last j y d w fair is p =
         let z : Submission = record { entry = e; bytes = bytes; last = last } in let one : q ≡ r = same_true q r w in
         let given : z ≡ y = (let k : Some z ≡ Some y = sym (ap (λ b. cond b (Some z) (submission (events_of j) r)) w) ∙ is in cc) in
-        let a = subst (λ (k : Req). AreNoted K j k e bytes last) one fair.2 in let at' = one_cell K a.0 x a.1 g a.3.0 inside a.3.1 in
+        let a = subst (λ (k : Req). AreNoted K j k e bytes last) one fair.1 in let at' = one_cell K a.0 x a.1 g a.3.0 inside a.3.1 in
         let p' : IsPlaced (Submit r e bytes last ∷ events_of j) r d = subst (λ (k : Req). IsPlaced (Submit k e bytes last ∷ events_of j) r d) one p in let same_entry : a.2 ≡ d = (let k = sym a.4 ∙ p' in cc) in record {
           facts = λ _. sym (ap (λ (n : ℕ). noted j (facts_at n)) at'.0) ∙ (a.5 ∙ (λ i. facts_of (at'.1 i) (same_entry i) (given i).last));
           outcome = λ c res k f. absurd (true≢false (sym f ∙ ap (λ b. cond b false (lent j r)) w));

@@ -1,5 +1,5 @@
 -- What the facts of a cell tell of its request.
-use Rattle.std.specs.Prelude.{◌≡◌, ℕ, Bool, ℤ, List, Option, Some}
+use Rattle.std.specs.Prelude.{◌≡◌, Bool, ℤ, List, Some}
 use Rattle.claim.specs.Facts.{Facts as FactsParts, bit}
 use Rattle.entry.specs.Entry.{Entry, fails, drains, links_soft, links_hard}
 use Rattle.history.specs.declared.req.Req.{Req}

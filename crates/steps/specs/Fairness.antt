@@ -5,13 +5,13 @@ use Rattle.history.specs.declared.req.Req.{Req}
 use Rattle.history.specs.declared.event.Event.{Event}
 use Rattle.history.specs.declared.event.Event.TheVariants.{Submit, Park, Reply, Reap}
 use Rattle.history.specs.History.{Cause, Phase, unborn, waits, replied, reaped, Submission, submission, phase, reply, hit, nothing}
-use Rattle.history.specs.Chains.{before_in, placed, Open, is_timer, IsPlaced, IsChainDone}
+use Rattle.history.specs.Chains.{placed, Open, is_timer, IsPlaced, IsChainDone}
 use Rattle.history.specs.Answers.{is_pipe}
 use Rattle.history.specs.Legal.{IsOf}
 use Rattle.steps.specs.declared.line.Line.{Line}
 use Rattle.steps.specs.declared.line.Line.TheVariants.{Did, Freed, Lent, Noted, Hold, Free}
 use Rattle.steps.specs.declared.view.Layout.{Layout}
-use Rattle.steps.specs.Journal.{events_of, freed, lent, noted, holder, touches, Serves}
+use Rattle.steps.specs.Journal.{events_of, freed, lent, noted, holder, touches}
 use Rattle.steps.specs.Cells.{IsCell, cells_in, request_at, facts_at, user_at}
 use Rattle.steps.specs.Notes.{facts_of, outcome_of}
 
@@ -58,7 +58,7 @@ IsFactsNote K j r word value _ = ⊥
 
 -- only who has a pipe of the board changes it or gives it back, and nobody takes it from him; only what waits, is open and is a worker's to run is moved to Ready, and once; a cell goes on only when it is free, and its notes go on with it; a request is reaped by who has its slot; a cancel that took its target, or found it running, is not put back
 abbrev pub Fair : Layout → List Line → Line → Type 0
-Fair L j (Did (Submit r e bytes last)) = Serves (before_in (events_of j) r) e × IsFree L.cells (events_of j) r × AreNoted L.cells j r e bytes last
+Fair L j (Did (Submit r e bytes last)) = IsFree L.cells (events_of j) r × AreNoted L.cells j r e bytes last
 Fair L j (Did (Reply r res data')) = (p : ℕ) → is_pipe L.caps p ≡ true → touches (placed (events_of j) r) p ≡ true → holder j p ≡ Some r
 Fair L j (Did (Park r)) = hit (events_of j) r ≡ nothing
 Fair L j (Did (Reap r)) = lent j r ≡ true

@@ -1,13 +1,12 @@
 -- The journal: the history's events, newest first, and between them what seats do without an event. Who was moved to Ready, which slot or pipe is out with whom, and what stands in a note word, is read off it.
-use Rattle.std.specs.Prelude.{◌≡◌, ℕ, ◌==◌, Bool, true, false, cond, List, [], ◌∷◌, Option, Some, None}
+use Rattle.std.specs.Prelude.{ℕ, ◌==◌, Bool, true, false, cond, List, [], ◌∷◌, Option, Some, None}
 use Rattle.entry.specs.declared.op.Op.{Op}
-use Rattle.entry.specs.declared.op.Op.TheVariants.{Nop, Close, Read, Write, PollAdd, AsyncCancel, TimeoutRemove, Invalid}
+use Rattle.entry.specs.declared.op.Op.TheVariants.{Close, Read, Write, PollAdd}
 use Rattle.entry.specs.Entry.{Entry}
 use Rattle.history.specs.declared.req.Req.{Req}
 use Rattle.history.specs.declared.event.Event.{Event}
 use Rattle.history.specs.declared.event.Event.TheVariants.{Submit, Reap}
-use Rattle.history.specs.History.{Submission, same}
-use Rattle.history.specs.Chains.{placed_behind}
+use Rattle.history.specs.History.{same}
 use Rattle.history.specs.Pipes.{End, no_end, read_end, write_end, end_of}
 use Rattle.steps.specs.declared.line.Line.{Line}
 use Rattle.steps.specs.declared.line.Line.TheVariants.{Did, Freed, Lent, Noted, Hold, Free}
@@ -77,19 +76,3 @@ uses _ p = false
 abbrev pub touches : Option Entry → ℕ → Bool
 touches None p = false
 touches (Some e) p = uses e.op p
-
--- what a worker runs: all but timers
-abbrev pub is_served : Op → Bool
-is_served Nop = true
-is_served (Read fd offset len) = true
-is_served (Write fd offset len) = true
-is_served (Close fd) = true
-is_served (PollAdd fd mask) = true
-is_served (AsyncCancel user_data) = true
-is_served (TimeoutRemove user_data) = true
-is_served Invalid = true
-is_served _ = false
-
--- the board serves an entry behind this one if it is placed as one of these
-abbrev pub Serves : Option Submission → Entry → Type 0
-Serves before e = is_served (placed_behind before e).op ≡ true

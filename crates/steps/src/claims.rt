@@ -1,5 +1,5 @@
 //! The claim words that steps write and look for.
-ghost use Rattle.std.specs.Prelude.{◌≡◌, ◌≢◌, ◌<◌, ℕ, List, negsuc, false, cond};
+ghost use Rattle.std.specs.Prelude.{◌≡◌, ◌≢◌, ◌⊎◌, ◌<◌, ℕ, List, negsuc, false, cond, IfSome, IfNone};
 ghost use Rattle.claim.specs.declared.tag.Tag.TheVariants.{Empty, Held, Ready, Running as RunningTag, Armed, Done};
 ghost use Rattle.history.specs.History.{by_reply, by_take, by_expire, by_fire, by_settle, by_sever, phase, unborn, IsReplied};
 ghost use Rattle.steps.specs.declared.claims.Standing.TheVariants.{Idle, Running, Over};
@@ -135,5 +135,19 @@ pub fn stands_at(word: u64, generation: u32) -> Standing
         Tag::Held | Tag::Ready | Tag::Armed => Standing::Idle,
         Tag::Running => Standing::Running,
         Tag::Empty | Tag::Done => Standing::Over,
+    }
+}
+
+/// The word that an exchange looks for, of a request whose claim word was found so: the same, or that of a Ready request where
+/// it was running. None where the request is over.
+pub fn looked_for(found: u64, generation: u32) -> Option<u64>
+    requires { generation < 16777216 }
+    ensures some { IfSome result (λ e. IsIdleWord generation e × ((e ≡ found) ⊎ ((found ≡ word_of RunningTag 0 generation 0) × (e ≡ word_of Ready 0 generation 0)))) }
+    ensures none { IfNone result ((K : List ℕ) (j : List Line) (x : ℕ) → Shown K j x found → phase (events_of j) (request_at K x generation) ≢ unborn → IsReplied (phase (events_of j) (request_at K x generation))) }
+{
+    match stands_at(found, generation) {
+        Standing::Idle => Some(found),
+        Standing::Running => Some(ready(generation)),
+        Standing::Over => None,
     }
 }

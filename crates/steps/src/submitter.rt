@@ -10,7 +10,7 @@ ghost use Rattle.steps.specs.declared.line.Line.TheVariants.{Did, Lent, Noted};
 ghost use Rattle.steps.specs.declared.parcel.Parcel.{Parcel};
 ghost use Rattle.steps.specs.declared.parcel.Thing.TheVariants.{Full};
 ghost use Rattle.steps.specs.declared.view.Role.TheVariants.{Submitter, Lending};
-ghost use Rattle.steps.specs.Journal.{events_of, lent, noted, Serves};
+ghost use Rattle.steps.specs.Journal.{events_of, lent, noted};
 ghost use Rattle.steps.specs.Cells.{ring_of, request_at, claim_at, facts_at, user_at, slot_at, word_of, IsParcel};
 ghost use Rattle.steps.specs.Notes.{facts_of};
 ghost use Rattle.steps.specs.Rule.{Extends, ExtendsTwice, ExtendsThrice, IsStep, IsTwoSteps, IsThreeSteps, Vacant, Fits, IsSameSeat, IsDone, IsOutcome};
@@ -74,7 +74,7 @@ fn submit_filled(words: &Words, seat: &mut TableSeat, cell: usize, generation: u
     requires submitter { (seat.old.me.0.role ≡ Lending (request_at seat.old.me.0.layout.cells cell generation)) × (0 < seat.old.me.0.parts) }
     requires free { Vacant seat.old.me.0.layout.cells seat.old.me.0.seen cell generation }
     requires next { (request_at seat.old.me.0.layout.cells cell generation).k ≡ submits (events_of seat.old.me.0.seen) (ring_of seat.old.me.0.layout.cells cell) }
-    requires filled { (p : Parcel) × (seat.old.me.1 ≡ (slot_at cell, Some (Full p)) ∷ rest seat.old.me.1) × Serves (before_in (events_of seat.old.me.0.seen) (request_at seat.old.me.0.layout.cells cell generation)) p.sqe × FitsEntry p.sqe p.buffer.items × (noted seat.old.me.0.seen (facts_at cell) ≡ facts_of generation (placed_behind (before_in (events_of seat.old.me.0.seen) (request_at seat.old.me.0.layout.cells cell generation)) p.sqe) p.last) × (noted seat.old.me.0.seen (user_at cell) ≡ p.sqe.user_data) }
+    requires filled { (p : Parcel) × (seat.old.me.1 ≡ (slot_at cell, Some (Full p)) ∷ rest seat.old.me.1) × FitsEntry p.sqe p.buffer.items × (noted seat.old.me.0.seen (facts_at cell) ≡ facts_of generation (placed_behind (before_in (events_of seat.old.me.0.seen) (request_at seat.old.me.0.layout.cells cell generation)) p.sqe) p.last) × (noted seat.old.me.0.seen (user_at cell) ≡ p.sqe.user_data) }
     ensures seat { IsSameSeat seat.old seat.new × (seat.new.me.1 ≡ rest seat.old.me.1) }
     ensures submits { (p : Parcel) → seat.old.me.1 ≡ (slot_at cell, Some (Full p)) ∷ rest seat.old.me.1 → Extends seat.old.me.0 (Did (Submit (request_at seat.old.me.0.layout.cells cell generation) p.sqe p.buffer.items p.last)) (Submitter (ring_of seat.old.me.0.layout.cells cell)) seat.new.me.0 }
     ensures step { IsStep (claim_at cell) (word_of Empty 0 generation 0) seat.old.me.0 seat.new.me.0 }
@@ -101,7 +101,7 @@ pub fn submit(
     requires next { (request_at seat.old.me.0.layout.cells cell generation).k ≡ submits (events_of seat.old.me.0.seen) (ring_of seat.old.me.0.layout.cells cell) }
     requires home { lent seat.old.me.0.seen (request_at seat.old.me.0.layout.cells cell generation) ≡ false }
     requires hosted { hosted ≡ hosts (before_in (events_of seat.old.me.0.seen) (request_at seat.old.me.0.layout.cells cell generation)) }
-    requires served { Serves (before_in (events_of seat.old.me.0.seen) (request_at seat.old.me.0.layout.cells cell generation)) parcel.sqe × FitsEntry parcel.sqe parcel.buffer.items }
+    requires buffer { FitsEntry parcel.sqe parcel.buffer.items }
     ensures facts { result ≡ facts_of generation (placed_behind (before_in (events_of seat.old.me.0.seen) (request_at seat.old.me.0.layout.cells cell generation)) parcel.sqe) parcel.last }
     ensures seat { IsSameSeat seat.old seat.new × (seat.new.me.1 ≡ seat.old.me.1) }
     ensures submits { ExtendsThrice seat.old.me.0 (Lent (request_at seat.old.me.0.layout.cells cell generation) (facts_at cell) result) (Lending (request_at seat.old.me.0.layout.cells cell generation)) (Noted (request_at seat.old.me.0.layout.cells cell generation) (user_at cell) parcel.sqe.user_data) (Lending (request_at seat.old.me.0.layout.cells cell generation)) (Did (Submit (request_at seat.old.me.0.layout.cells cell generation) parcel.sqe parcel.buffer.items parcel.last)) (Submitter (ring_of seat.old.me.0.layout.cells cell)) seat.new.me.0 }

@@ -132,7 +132,7 @@ module _ (table : TableId) (s : WorkerSeat) (c : Req) (w : Wanted) (x : Target) 
 -- ---- the exchange at the request that it is meant for
 
 -- -125 (ECANCELED) is a failure of any entry but a LINK_TIMEOUT
-canceled_fails : (o : Op) → is_link_timeout o ≡ false → fails_op o (negsuc 124) ≡ true
+pub canceled_fails : (o : Op) → is_link_timeout o ≡ false → fails_op o (negsuc 124) ≡ true
 canceled_fails (LinkTimeout n) is = absurd (true≢false is)
 canceled_fails (Timeout n e) is = ap not (and-false e)
 canceled_fails o is = refl

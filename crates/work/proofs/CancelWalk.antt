@@ -1,5 +1,5 @@
 -- A cancel goes over the earlier requests of its ring that can still have a cell: those before the next one have replied where they match, and each cell was visited once.
-use Rattle.std.proofs.Common.{◌≡◌, ◌≢◌, ◌⊎◌, ⊎_elim, inl, ℕ, suc, ◌+◌, ◌*◌, ◌-◌, ◌<◌, ◌≤◌, ◌==◌, nat_lt, ltb-true, ltb-false, mul-le-mul_right, suc-mul, Bool, true, false, cond, true≢false, List, [], ◌∷◌, ◌++◌, length, length-append, sym, refl, ap, ◌∙◌, subst, arith, eqb-true}
+use Rattle.std.proofs.Common.{◌≡◌, ◌≢◌, ◌⊎◌, ⊎_elim, inl, ℕ, ◌+◌, ◌*◌, ◌-◌, ◌<◌, ◌≤◌, ◌==◌, Bool, true, false, cond, true≢false, List, [], ◌∷◌, ◌++◌, length, length-append, sym, refl, ap, ◌∙◌, subst, arith, eqb-true}
 use mathlib.Core.Logic.{dite}
 use native.Mathlib.Decide.{ℕ_discrete}
 use Rattle.std.proofs.lemmas.List.{append_assoc}
@@ -59,13 +59,6 @@ searching_first table s c u first k is some = record {
 }
 
 -- ---- what is known where it has come to
-
--- an earlier request's generation is no greater
-pub age_before : (n g h p q : ℕ) → q < n → h * n + p < g * n + q → h ≤ g
-age_before n g h p q small lt = ⊎_elim
-    (λ (w : nat_lt g h ≡ true). let gt : g < h = ltb-true g h w in let m : suc g * n ≤ h * n = mul-le-mul_right n gt in let u : suc g * n ≡ g * n + n = suc-mul g n in
-    absurd (let x : ℕ = g * n in let y : ℕ = h * n in let z : ℕ = suc g * n in let m' : z ≤ y = m in let u' : z ≡ x + n = u in let e' : y + p < x + q = lt in omega arith))
-    (λ (w : nat_lt g h ≡ false). ltb-false g h w) (bool_cases (nat_lt g h))
 
 went_layout : (v w : View) → WentOn v w → w.layout ≡ v.layout
 went_layout v w d = ⊎_elim (λ (e : w ≡ v). ap (λ (z : View). z.layout) e) (λ (x : Looks v w). ap (λ (z : View). z.layout) x.is) d

@@ -37,7 +37,7 @@ use Rattle.steps.specs.Rule.{NoneOf, owns, Begins, Looks, Extends, IsStep, leave
 use Rattle.steps.proofs.JournalGrowth.{lasts, placed_lasts, submission_lasts, submitted_in}
 use Rattle.steps.proofs.CancelOnce.{IsEarly, unhit as not_hit}
 use Rattle.steps.proofs.OwnFacts.{same_hit}
-use Rattle.steps.proofs.Served.{fits_is}
+use Rattle.steps.proofs.Submissions.{fits_is}
 use Rattle.steps.proofs.ViewsKept.{layout_after, role_after, parts_after, parcel_after}
 use Rattle.work.specs.Board.{Facts, IsOf, share_of}
 use Rattle.work.specs.Passes.{Pass, Running, Took, RunsIt, IsGridOf, own_of}

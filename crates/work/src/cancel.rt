@@ -19,7 +19,7 @@ use crate::grid::Grid;
 use claim::unpack_facts;
 use entry::{Op, by_opcode};
 use history::Req;
-use steps::claims::{Standing, ready, stands_at};
+use steps::claims::{Standing, looked_for, stands_at};
 use steps::{TableSeat, Words, cancels, seat};
 
 /// What a cancel asks for: the user_data of its target, and whether that has to be a TIMEOUT.
@@ -105,20 +105,6 @@ fn may_match(words: &Words, seat: &mut TableSeat, target: Target, wanted: Wanted
     }
     let user_data = seat::look_at_note(words, seat, target.cell, 1);
     is_kind(facts.row, wanted.timeout) && user_data == wanted.user_data
-}
-
-/// The word that an exchange looks for, of a request whose claim word was found so: the same, or that of a Ready request where
-/// it was running. None where the request is over.
-fn looked_for(found: u64, generation: u32) -> Option<u64>
-    requires { generation < 16777216 }
-    ensures some { IfSome result (λ e. IsIdleWord generation e × ((e ≡ found) ⊎ ((found ≡ word_of Running 0 generation 0) × (e ≡ word_of Ready 0 generation 0)))) }
-    ensures none { IfNone result ((K : List ℕ) (j : List Line) (x : ℕ) → Shown K j x found → phase (events_of j) (request_at K x generation) ≢ unborn → IsReplied (phase (events_of j) (request_at K x generation))) }
-{
-    match stands_at(found, generation) {
-        Standing::Idle => Some(found),
-        Standing::Running => Some(ready(generation)),
-        Standing::Over => None,
-    }
 }
 
 /// Ends the request where it still stands as its claim word was found, or finds it running or over. Else gives the word that

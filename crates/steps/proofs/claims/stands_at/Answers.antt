@@ -1,6 +1,6 @@
 use Rattle.std.proofs.Common.{◌≡◌, ◌≢◌, ⊎_elim, ℕ, ◌<◌, true, false, Some, List, sym, refl, ap, ◌∙◌, subst, arith, eqb-true, ltb-true, IsTrue}
 use Rattle.claim.specs.declared.tag.Tag.{Tag}
-use Rattle.claim.specs.declared.tag.Tag.TheVariants.{Empty, Held, Ready, Running as RunningTag, Armed, Done}
+use Rattle.claim.specs.declared.tag.Tag.TheVariants.{Held, Ready, Armed}
 use Rattle.claim.specs.Claim.{Claim, fits, packed}
 use Rattle.history.proofs.Requests.{and_left, and_right}
 use Rattle.steps.specs.Cells.{word_of}

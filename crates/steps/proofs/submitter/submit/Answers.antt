@@ -9,7 +9,7 @@ use Rattle.steps.specs.declared.parcel.Thing.TheVariants.{Full}
 use Rattle.steps.specs.declared.view.Layout.{Layout}
 use Rattle.steps.specs.declared.view.Role.{Role}
 use Rattle.steps.specs.declared.view.Role.TheVariants.{Submitter, Lending}
-use Rattle.steps.specs.Journal.{events_of, noted, Serves}
+use Rattle.steps.specs.Journal.{events_of, noted}
 use Rattle.steps.specs.Notes.{facts_of}
 use Rattle.steps.specs.Cells.{IsCell, slot_at, request_at, ring_of, facts_at, user_at}
 use Rattle.steps.specs.Rule.{Extends, Vacant}
@@ -45,7 +45,7 @@ submit_filled-requires c = let f = c.requires.fits in let s = c.requires.submitt
       submitter = (subst (λ (M : Layout). u.role ≡ Lending (request_at M.cells cell g)) (sym both) (role_after w u _ _ y ∙ role), subst (λ (n : ℕ). 0 < n) (sym (parts_after w u _ _ y ∙ parts_after v w _ _ x)) s.1);
       free = subst (λ (M : Layout). Vacant M.cells u.seen cell g) (sym same') (vacant_after w u _ _ (λ j. refl) y cell g second' free');
       next = subst (λ (M : Layout). (request_at M.cells cell g).k ≡ submits (events_of u.seen) (ring_of M.cells cell)) (sym both) next';
-      filled = (p, (c.note_user_data.ensures.seat.1 ∙ c.fill-facts.ensures.seat.1) ∙ ap (λ cs. (slot_at cell, Some (Full p)) ∷ rest cs) (sym (c.note_user_data.ensures.seat.1 ∙ c.fill-facts.ensures.seat.1)), subst (λ (b : Option Submission). Serves b p.sqe) (sym before) c.requires.served.0, c.requires.served.1, facts ∙ ap (λ (b : Option Submission). facts_of g (placed_behind b p.sqe) p.last) (sym before), user);
+      filled = (p, (c.note_user_data.ensures.seat.1 ∙ c.fill-facts.ensures.seat.1) ∙ ap (λ cs. (slot_at cell, Some (Full p)) ∷ rest cs) (sym (c.note_user_data.ensures.seat.1 ∙ c.fill-facts.ensures.seat.1)), c.requires.buffer, facts ∙ ap (λ (b : Option Submission). facts_of g (placed_behind b p.sqe) p.last) (sym before), user);
     }
 
 pub returns : goal.returns

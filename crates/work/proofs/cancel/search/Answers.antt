@@ -1,24 +1,14 @@
-use Rattle.std.proofs.Common.{◌≡◌, ℕ, ◌+◌, ◌*◌, ◌-◌, ◌<◌, ◌≤◌, List, sym, refl, ap, ◌∙◌, subst, arith}
+use Rattle.std.proofs.Common.{◌≡◌, ℕ, ◌+◌, ◌-◌, ◌<◌, ◌≤◌, List, sym, refl, ap, ◌∙◌, subst, arith}
 use Rattle.history.specs.declared.req.Req.{Req}
 use Rattle.history.specs.declared.event.Event.TheVariants.{Take, Miss}
 use Rattle.steps.specs.declared.line.Line.TheVariants.{Did}
 use Rattle.steps.specs.declared.view.Role.TheVariants.{Busy}
-use Rattle.steps.specs.Cells.{IsCell, cells_in, place_of, ring_of, request_at}
+use Rattle.steps.specs.Cells.{cells_in}
 use Rattle.steps.specs.Rule.{Extends}
-use Rattle.steps.proofs.CellNumbers.{located}
+use Rattle.steps.proofs.CellNumbers.{age_small, some_cells}
 use Rattle.work.specs.Searches.{ArePassed}
-use Rattle.work.proofs.CancelWalk.{age_before, cancels_now, earlier_now, few_now, in_ring, passed_now, searching_first, searching_next, target_now, went_both}
+use Rattle.work.proofs.CancelWalk.{cancels_now, earlier_now, few_now, in_ring, passed_now, searching_first, searching_next, target_now, went_both}
 use Rattle.work.proofs.cancel.search.Goals as goal
-
--- the ring of a request that has a cell has cells
-some_cells : (K : List ℕ) (x g : ℕ) (r : Req) → IsCell K x → request_at K x g ≡ r → place_of K x < cells_in K r.ring
-some_cells K x g r inside at = subst (λ (i : ℕ). place_of K x < cells_in K i) (ap (λ (q : Req). q.ring) at) (located K x inside).1
-
-age_small : (K : List ℕ) (x y g h k : ℕ) (r : Req) → IsCell K x → request_at K x g ≡ r → IsCell K y → request_at K y h ≡ in_ring r.ring k → k < r.k → g < 16777216 → h < 16777216
-age_small K x y g h k r inside at other is lt small =
-    let n : ℕ = cells_in K r.ring in let here : cells_in K (ring_of K x) ≡ n = ap (λ (q : Req). cells_in K q.ring) at in let there : cells_in K (ring_of K y) ≡ n = ap (λ (q : Req). cells_in K q.ring) is in
-    let a : g * n + place_of K x ≡ r.k = ap (λ (m : ℕ). g * m + place_of K x) (sym here) ∙ ap (λ (q : Req). q.k) at in let b : h * n + place_of K y ≡ k = ap (λ (m : ℕ). h * m + place_of K y) (sym there) ∙ ap (λ (q : Req). q.k) is in
-    let le : h ≤ g = age_before n g h (place_of K y) (place_of K x) (some_cells K x g r inside at) (let u : ℕ = g * n + place_of K x in let v : ℕ = h * n + place_of K y in let a' : u ≡ r.k = a in let b' : v ≡ k = b in let lt' : v < u = omega arith in lt') in omega arith
 
 pub loop-k-init : goal.loop-k-init
 loop-k-init c = let r = c.requires in let K = c.args.grid.now in let s = c.args.seat.now in let same : cells_in s.me.0.layout.cells c.args.req.ring ≡ cells_in K c.args.req.ring = ap (λ (L : List ℕ). cells_in L c.args.req.ring) r.grid.cells_are in
@@ -31,23 +21,23 @@ loop-k-init c = let r = c.requires in let K = c.args.grid.now in let s = c.args.
     )
 
 pub overflow_cast-target : goal.overflow_cast-target
-overflow_cast-target c = let r = c.requires in let spot = c.in-Some.spot in let o = c.in-Some.ensures.some in let lt = c.loop-k-test.true in let z = age_small c.args.grid.now r.cell.0 spot.cell r.cell.1 spot.generation c.loop-k.k c.args.req r.cell.3 r.cell.4 o.0 o.1 (omega arith) r.cell.2 in omega arith
+overflow_cast-target c = let r = c.requires in let spot = c.in-Some.spot in let o = c.in-Some.ensures.some in let lt = c.loop-k-test.true in let z = age_small c.args.grid.now r.cell.0 spot.cell r.cell.1 spot.generation c.args.req (in_ring c.args.req.ring c.loop-k.k) r.cell.3 r.cell.4 o.1 refl (omega arith) r.cell.2 in omega arith
 
 pub try_one-requires : goal.try_one-requires
 try_one-requires c = let first = c.saturating_sub-first.result in let spot = c.in-Some.spot in let l = c.loop-k.invariant in let r = c.requires in let o = c.in-Some.ensures.some in let lt = c.loop-k-test.true in let less : c.loop-k.k < c.args.req.k = omega arith in
-    let young : spot.generation < 16777216 = age_small c.args.grid.now r.cell.0 spot.cell r.cell.1 spot.generation c.loop-k.k c.args.req r.cell.3 r.cell.4 o.0 o.1 less r.cell.2 in record {
+    let young : spot.generation < 16777216 = age_small c.args.grid.now r.cell.0 spot.cell r.cell.1 spot.generation c.args.req (in_ring c.args.req.ring c.loop-k.k) r.cell.3 r.cell.4 o.1 refl less r.cell.2 in record {
       cancels = (c.args.req, cancels_now c.args.words.now.table_id c.args.grid.now c.args.seat.now c.loop-k.seat c.args.req c.args.wanted first c.loop-k.k spot.cell spot.generation r.cancels r.grid l.2 l.0.0 less o.0 o.1 o.2 young, earlier_now c.args.words.now.table_id c.args.grid.now c.args.seat.now c.loop-k.seat c.args.req c.args.wanted first c.loop-k.k spot.cell spot.generation r.cancels r.grid l.2 l.0.0 less o.0 o.1 o.2 young, passed_now c.args.words.now.table_id c.args.grid.now c.args.seat.now c.loop-k.seat c.args.req c.args.wanted first c.loop-k.k spot.cell spot.generation r.cancels r.grid l.2 l.0.0 less o.0 o.1 o.2 young);
     }
 
 pub returns-in-Took-clause-searched : goal.returns-in-Took-clause-searched
 returns-in-Took-clause-searched c = let first = c.saturating_sub-first.result in let spot = c.in-Some.spot in let l = c.loop-k.invariant in let r = c.requires in let o = c.in-Some.ensures.some in let lt = c.loop-k-test.true in let less : c.loop-k.k < c.args.req.k = omega arith in
-    let young : spot.generation < 16777216 = age_small c.args.grid.now r.cell.0 spot.cell r.cell.1 spot.generation c.loop-k.k c.args.req r.cell.3 r.cell.4 o.0 o.1 less r.cell.2 in
+    let young : spot.generation < 16777216 = age_small c.args.grid.now r.cell.0 spot.cell r.cell.1 spot.generation c.args.req (in_ring c.args.req.ring c.loop-k.k) r.cell.3 r.cell.4 o.1 refl less r.cell.2 in
     let x = c.in-Took.ensures.tried c.args.req (cancels_now c.args.words.now.table_id c.args.grid.now c.args.seat.now c.loop-k.seat c.args.req c.args.wanted first c.loop-k.k spot.cell spot.generation r.cancels r.grid l.2 l.0.0 less o.0 o.1 o.2 young) in
     (x.0, went_both c.args.seat.now.me.0 c.loop-k.seat.me.0 x.0 l.2.went x.1, subst (λ (q : Req). Extends x.0 (Did (Take c.args.req q)) (Busy c.args.req) c.try_one.new.seat.me.0) (target_now c.args.words.now.table_id c.args.grid.now c.args.seat.now c.loop-k.seat c.args.req c.args.wanted first c.loop-k.k spot.cell spot.generation r.cancels r.grid l.2 l.0.0 less o.0 o.1 o.2 young) x.2)
 
 pub returns-in-Took-clause-steps : goal.returns-in-Took-clause-steps
 returns-in-Took-clause-steps c = let first = c.saturating_sub-first.result in let spot = c.in-Some.spot in let l = c.loop-k.invariant in let r = c.requires in let o = c.in-Some.ensures.some in let lt = c.loop-k-test.true in let less : c.loop-k.k < c.args.req.k = omega arith in
-    let young : spot.generation < 16777216 = age_small c.args.grid.now r.cell.0 spot.cell r.cell.1 spot.generation c.loop-k.k c.args.req r.cell.3 r.cell.4 o.0 o.1 less r.cell.2 in
+    let young : spot.generation < 16777216 = age_small c.args.grid.now r.cell.0 spot.cell r.cell.1 spot.generation c.args.req (in_ring c.args.req.ring c.loop-k.k) r.cell.3 r.cell.4 o.1 refl less r.cell.2 in
     let same : cells_in c.args.seat.now.me.0.layout.cells c.args.req.ring ≡ cells_in c.args.grid.now c.args.req.ring = ap (λ (L : List ℕ). cells_in L c.args.req.ring) r.grid.cells_are in
     let some = some_cells c.args.grid.now r.cell.0 r.cell.1 c.args.req r.cell.3 r.cell.4 in let n : ℕ = cells_in c.args.grid.now c.args.req.ring in
     let others : c.saturating_sub-others.result ≡ n - 1 = c.saturating_sub-others.ensures ∙ ap (λ (n : ℕ). n - 1) (c.cells_in.ensures ∙ ap (cells_in c.args.grid.now) c.from-ring.ensures) in let begins : first ≡ c.args.req.k - (n - 1) = c.saturating_sub-first.ensures ∙ ap (λ (n : ℕ). c.args.req.k - n) others in
@@ -56,13 +46,13 @@ returns-in-Took-clause-steps c = let first = c.saturating_sub-first.result in le
 
 pub returns-in-Missed-clause-searched : goal.returns-in-Missed-clause-searched
 returns-in-Missed-clause-searched c = let first = c.saturating_sub-first.result in let spot = c.in-Some.spot in let l = c.loop-k.invariant in let r = c.requires in let o = c.in-Some.ensures.some in let lt = c.loop-k-test.true in let less : c.loop-k.k < c.args.req.k = omega arith in
-    let young : spot.generation < 16777216 = age_small c.args.grid.now r.cell.0 spot.cell r.cell.1 spot.generation c.loop-k.k c.args.req r.cell.3 r.cell.4 o.0 o.1 less r.cell.2 in
+    let young : spot.generation < 16777216 = age_small c.args.grid.now r.cell.0 spot.cell r.cell.1 spot.generation c.args.req (in_ring c.args.req.ring c.loop-k.k) r.cell.3 r.cell.4 o.1 refl less r.cell.2 in
     let x = c.in-Missed.ensures.tried c.args.req (cancels_now c.args.words.now.table_id c.args.grid.now c.args.seat.now c.loop-k.seat c.args.req c.args.wanted first c.loop-k.k spot.cell spot.generation r.cancels r.grid l.2 l.0.0 less o.0 o.1 o.2 young) in
     (in_ring c.args.req.ring c.loop-k.k, x.0, went_both c.args.seat.now.me.0 c.loop-k.seat.me.0 x.0 l.2.went x.1, subst (λ (q : Req). Extends x.0 (Did (Miss c.args.req q)) (Busy c.args.req) c.try_one.new.seat.me.0) (target_now c.args.words.now.table_id c.args.grid.now c.args.seat.now c.loop-k.seat c.args.req c.args.wanted first c.loop-k.k spot.cell spot.generation r.cancels r.grid l.2 l.0.0 less o.0 o.1 o.2 young) x.2)
 
 pub returns-in-Missed-clause-steps : goal.returns-in-Missed-clause-steps
 returns-in-Missed-clause-steps c = let first = c.saturating_sub-first.result in let spot = c.in-Some.spot in let l = c.loop-k.invariant in let r = c.requires in let o = c.in-Some.ensures.some in let lt = c.loop-k-test.true in let less : c.loop-k.k < c.args.req.k = omega arith in
-    let young : spot.generation < 16777216 = age_small c.args.grid.now r.cell.0 spot.cell r.cell.1 spot.generation c.loop-k.k c.args.req r.cell.3 r.cell.4 o.0 o.1 less r.cell.2 in
+    let young : spot.generation < 16777216 = age_small c.args.grid.now r.cell.0 spot.cell r.cell.1 spot.generation c.args.req (in_ring c.args.req.ring c.loop-k.k) r.cell.3 r.cell.4 o.1 refl less r.cell.2 in
     let same : cells_in c.args.seat.now.me.0.layout.cells c.args.req.ring ≡ cells_in c.args.grid.now c.args.req.ring = ap (λ (L : List ℕ). cells_in L c.args.req.ring) r.grid.cells_are in
     let some = some_cells c.args.grid.now r.cell.0 r.cell.1 c.args.req r.cell.3 r.cell.4 in let n : ℕ = cells_in c.args.grid.now c.args.req.ring in
     let others : c.saturating_sub-others.result ≡ n - 1 = c.saturating_sub-others.ensures ∙ ap (λ (n : ℕ). n - 1) (c.cells_in.ensures ∙ ap (cells_in c.args.grid.now) c.from-ring.ensures) in let begins : first ≡ c.args.req.k - (n - 1) = c.saturating_sub-first.ensures ∙ ap (λ (n : ℕ). c.args.req.k - n) others in
@@ -71,7 +61,7 @@ returns-in-Missed-clause-steps c = let first = c.saturating_sub-first.result in 
 
 pub loop-k-preserved : goal.loop-k-preserved
 loop-k-preserved c = let first = c.saturating_sub-first.result in let spot = c.in-Some.spot in let l = c.loop-k.invariant in let r = c.requires in let o = c.in-Some.ensures.some in let lt = c.loop-k-test.true in let less : c.loop-k.k < c.args.req.k = omega arith in
-    let young : spot.generation < 16777216 = age_small c.args.grid.now r.cell.0 spot.cell r.cell.1 spot.generation c.loop-k.k c.args.req r.cell.3 r.cell.4 o.0 o.1 less r.cell.2 in
+    let young : spot.generation < 16777216 = age_small c.args.grid.now r.cell.0 spot.cell r.cell.1 spot.generation c.args.req (in_ring c.args.req.ring c.loop-k.k) r.cell.3 r.cell.4 o.1 refl less r.cell.2 in
     let same : cells_in c.args.seat.now.me.0.layout.cells c.args.req.ring ≡ cells_in c.args.grid.now c.args.req.ring = ap (λ (L : List ℕ). cells_in L c.args.req.ring) r.grid.cells_are in
     let some = some_cells c.args.grid.now r.cell.0 r.cell.1 c.args.req r.cell.3 r.cell.4 in let n : ℕ = cells_in c.args.grid.now c.args.req.ring in
     let others : c.saturating_sub-others.result ≡ n - 1 = c.saturating_sub-others.ensures ∙ ap (λ (n : ℕ). n - 1) (c.cells_in.ensures ∙ ap (cells_in c.args.grid.now) c.from-ring.ensures) in let begins : first ≡ c.args.req.k - (n - 1) = c.saturating_sub-first.ensures ∙ ap (λ (n : ℕ). c.args.req.k - n) others in

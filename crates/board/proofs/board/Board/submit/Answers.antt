@@ -2,22 +2,19 @@ use Rattle.std.proofs.Common.{◌≡◌, ℕ, ◌+◌, ◌/◌, ◌<◌, ◌≤�
 use Rattle.history.specs.declared.req.Req.{Req}
 use Rattle.history.specs.declared.event.Event.TheVariants.{Submit}
 use Rattle.history.specs.History.{submits}
-use Rattle.history.specs.Chains.{before_in}
 use Rattle.history.specs.Legal.{Fits, FitsOp}
 use Rattle.steps.specs.declared.view.Role.TheVariants.{Submitter}
 use Rattle.steps.specs.Cells.{cells_in}
 use Rattle.steps.specs.Fairness.{IsFree}
-use Rattle.steps.specs.Journal.{Serves}
 use Rattle.work.specs.Board.{Facts, IsBoard}
 use Rattle.work.proofs.GridRows.{counts_at}
 use Rattle.steps.specs.declared.view.Layout.{Layout}
 use Rattle.work.specs.Passes.{Pass, seen_of, Took}
 use Rattle.work.proofs.RunsKept.{took_both}
-use Rattle.board.specs.Batches.{IsServed}
 use Rattle.board.specs.Calls.{Goes, next_of}
 use Rattle.board.specs.Lanes.{nth, RefusesRoom}
 use Rattle.board.proofs.GoesLaws.{goes_then}
-use Rattle.board.proofs.LaneWalks.{watched_took, watched_submits, watched_before}
+use Rattle.board.proofs.LaneWalks.{watched_took, watched_submits}
 use Rattle.board.proofs.SubmitterLooks.{goes_watched, free_then, entry_reason}
 use Rattle.board.proofs.board.Board.submit.Goals as goal
 
@@ -27,9 +24,8 @@ returns-in-Err-clause-refused c = let b : Facts = c.args.self.now in let p : Pas
 pub returns-in-Err-clause-reason : goal.returns-in-Err-clause-reason
 returns-in-Err-clause-reason c = λ ring role. let b : Facts = c.args.self.now in let p : Pass = c.args.submitter.now in let m : Pass = c.room.new.self in let r = c.in-Err.ensures in let go : Goes b p [] m = goes_watched b p m r.looks.0 c.requires r.table r.looks.2 in
     let grid : c.self.inside.grid ≡ b.layout.cells = ap (λ (z : Facts). z.layout.cells) c.self.view_is in
-    let served : Serves (before_in (seen_of p) (next_of p ring)) c.args.sqe = subst (λ (z : _). IsServed z c.args.sqe) (c.is_hosted.ensures.hosted ring role) (c.is_served.ensures.0 c.if-not-is_served.false) in
     let fits : Fits c.args.sqe c.args.buffer.items = subst (λ (z : ℕ). FitsOp c.args.sqe.op z) (c.len.ensures ∙ c.args.buffer.ok.0) (c.fits_length.ensures.0 c.if-not-fits_length.false) in
-    entry_reason b c.args.sqe c.args.buffer.items ring (submits (seen_of p) ring) p m c.in-Err.error (counts_at b.layout.cells ring (subst IsBoard c.self.view_is c.self.invariant.0).cells.0 (subst (λ (L : Layout). ring < length L.cells) c.requires.layout_is (c.is_hosted.ensures.there ring role))).0 (served, fits)
+    entry_reason b c.args.sqe c.args.buffer.items ring (submits (seen_of p) ring) p m c.in-Err.error (counts_at b.layout.cells ring (subst IsBoard c.self.view_is c.self.invariant.0).cells.0 (subst (λ (L : Layout). ring < length L.cells) c.requires.layout_is (r.there ring role))).0 fits
     (subst (λ (K : List ℕ). RefusesRoom K ring (submits (seen_of p) ring) 1 p m c.in-Err.error) grid (r.refused ring role))
 
 pub submit_next-requires-clause-of : goal.submit_next-requires-clause-of
@@ -41,11 +37,6 @@ submit_next-requires-clause-free c = λ ring role. let b : Facts = c.args.self.n
       subst (λ (z : List ℕ × ℕ). IsFree z.0 (seen_of m) (nth ring z.1)) (λ i. (grid i, zero i)) (r.free ring old 0 (omega arith)),
       subst (λ (z : List ℕ × ℕ). z.1 / cells_in z.0 ring < 16777215) (λ i. (grid i, zero i)) (r.fresh ring old 0 (omega arith)),
     )
-
-pub submit_next-requires-clause-served : goal.submit_next-requires-clause-served
-submit_next-requires-clause-served c = λ ring role. let b : Facts = c.args.self.now in let p : Pass = c.args.submitter.now in let m : Pass = c.room.new.self in let r = c.in_default.ensures in let go : Goes b p [] m = goes_watched b p m r.looks.0 c.requires r.table r.looks.2 in let old : p.view.role ≡ Submitter ring = sym go.role_is ∙ role in let same : submits (seen_of m) ring ≡ submits (seen_of p) ring = watched_submits r.looks.0 p.view m.view ring old r.looks.2 in
-    let served : Serves (before_in (seen_of p) (next_of p ring)) c.args.sqe = subst (λ (z : _). IsServed z c.args.sqe) (c.is_hosted.ensures.hosted ring old) (c.is_served.ensures.0 c.if-not-is_served.false) in
-    subst (λ (z : _). Serves z c.args.sqe) (sym (ap (λ (k : ℕ). before_in (seen_of m) (nth ring k)) same ∙ watched_before r.looks.0 p.view m.view ring (submits (seen_of p) ring) old r.looks.2)) served
 
 pub returns-clause-submitted : goal.returns-clause-submitted
 returns-clause-submitted c = λ ring old. let b : Facts = c.args.self.now in let p : Pass = c.args.submitter.now in let m : Pass = c.room.new.self in let r = c.in_default.ensures in let go : Goes b p [] m = goes_watched b p m r.looks.0 c.requires r.table r.looks.2 in let s = c.submit_next.ensures.submitted ring (go.role_is ∙ old) in

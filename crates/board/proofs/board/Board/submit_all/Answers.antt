@@ -1,13 +1,12 @@
 use Rattle.std.proofs.Common.{◌≡◌, ℕ, ◌+◌, ◌*◌, ◌==◌, reverse, sym, ap, ◌∙◌, subst}
 use Rattle.std.proofs.lemmas.List.{length-reverse}
 use Rattle.history.specs.History.{submits}
-use Rattle.history.specs.Chains.{before_in}
 use Rattle.steps.specs.declared.view.Role.TheVariants.{Submitter}
 use Rattle.work.specs.Passes.{Pass, seen_of, Took}
 use Rattle.board.specs.Batches.{Entries, is_empty, submits_of}
 use Rattle.board.specs.Calls.{Goes}
 use Rattle.board.specs.Lanes.{nth}
-use Rattle.board.proofs.BatchesKept.{Going, going_start, going_more, going_free, going_served, popped, empty_is, reverse_none, going_end}
+use Rattle.board.proofs.BatchesKept.{Going, going_start, going_more, going_free, popped, empty_is, reverse_none, going_end}
 use Rattle.board.proofs.board.Board.submit_all.Goals as goal
 
 pub loop-sqe-init : goal.loop-sqe-init
@@ -20,10 +19,6 @@ pub submit_next-requires-clause-free : goal.submit_next-requires-clause-free
 submit_next-requires-clause-free c = λ ring role. let i = c.loop-sqe.invariant.0 in let at = popped c.loop-sqe.left.items c.pop.new.self.items _ c.in-Some.ensures.items in let b = c.args.self.now in let p : Pass = c.args.submitter.now in let q : Pass = c.loop-sqe.submitter in let all : Entries = reverse c.args.left.items in
     let g = subst (λ (z : Entries). Going b p q i (submits (seen_of p) i) all z) at c.loop-sqe.invariant.1 in going_free b p q i (submits (seen_of p) i) all _ _ g ring role
 
-pub submit_next-requires-clause-served : goal.submit_next-requires-clause-served
-submit_next-requires-clause-served c = λ ring role. let i = c.loop-sqe.invariant.0 in let at = popped c.loop-sqe.left.items c.pop.new.self.items _ c.in-Some.ensures.items in let b = c.args.self.now in let p : Pass = c.args.submitter.now in let q : Pass = c.loop-sqe.submitter in let all : Entries = reverse c.args.left.items in
-    let g = subst (λ (z : Entries). Going b p q i (submits (seen_of p) i) all z) at c.loop-sqe.invariant.1 in going_served b p q i (submits (seen_of p) i) all _ _ g ring role
-
 pub submit_next-requires-clause-fits : goal.submit_next-requires-clause-fits
 submit_next-requires-clause-fits c = let i = c.loop-sqe.invariant.0 in let at = popped c.loop-sqe.left.items c.pop.new.self.items _ c.in-Some.ensures.items in let b = c.args.self.now in let p : Pass = c.args.submitter.now in let q : Pass = c.loop-sqe.submitter in let all : Entries = reverse c.args.left.items in
     let g = subst (λ (z : Entries). Going b p q i (submits (seen_of p) i) all z) at c.loop-sqe.invariant.1 in g.ready.fit.0
@@ -35,7 +30,7 @@ loop-sqe-preserved c = let i = c.loop-sqe.invariant.0 in let at = popped c.loop-
     let last : c.is_empty-last.result ≡ is_empty rest = c.is_empty-last.ensures ∙ (ap (λ (z : ℕ). z == 0) (c.pop.new.self.ok.0 ∙ sym (length-reverse c.pop.new.self.items)) ∙ sym (empty_is rest)) in let now : g.at ≡ submits (seen_of q) i = g.ready.next in (
       i,
       going_more b p q w i (submits (seen_of p) i) all rest _ c.submit_next.result c.is_empty-last.result g last (s.0 ∙ ap (λ (z : ℕ). nth i z) (sym now)) s.1 c.submit_next.ensures.steps
-          (n.0 ∙ ap (λ (z : ℕ). z + 1) (sym now)) (ap (λ (z : ℕ). before_in (seen_of w) (nth i (z + 1))) now ∙ n.1),
+          (n.0 ∙ ap (λ (z : ℕ). z + 1) (sym now)),
     )
 
 pub returns-clause-submitted : goal.returns-clause-submitted

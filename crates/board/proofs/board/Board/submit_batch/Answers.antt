@@ -2,18 +2,17 @@ use Rattle.std.proofs.Common.{◌≡◌, ℕ, ◌+◌, ◌*◌, ◌/◌, ◌<◌
 use Rattle.std.proofs.lemmas.List.{length-reverse}
 use Rattle.history.specs.declared.req.Req.{Req}
 use Rattle.history.specs.History.{submits}
-use Rattle.history.specs.Chains.{before_in, hosts}
 use Rattle.steps.specs.declared.view.Role.TheVariants.{Submitter}
 use Rattle.steps.specs.Cells.{cells_in}
 use Rattle.steps.specs.Fairness.{IsFree}
 use Rattle.work.specs.Board.{Facts}
 use Rattle.work.specs.Passes.{Pass, seen_of, Took}
 use Rattle.work.proofs.RunsKept.{took_both}
-use Rattle.board.specs.Batches.{Entries, AreServed, AreFit, IsReady, submits_of}
-use Rattle.board.specs.Calls.{Goes, next_of}
+use Rattle.board.specs.Batches.{Entries, AreFit, IsReady, submits_of}
+use Rattle.board.specs.Calls.{Goes}
 use Rattle.board.specs.Lanes.{nth, RefusesRoom}
 use Rattle.board.proofs.GoesLaws.{goes_then}
-use Rattle.board.proofs.LaneWalks.{watched_took, watched_submits, watched_before}
+use Rattle.board.proofs.LaneWalks.{watched_took, watched_submits}
 use Rattle.board.proofs.SubmitterLooks.{goes_watched, free_then}
 use Rattle.board.proofs.BatchesKept.{batch_reason, turned_back}
 use Rattle.board.proofs.board.Board.submit_batch.Goals as goal
@@ -23,14 +22,12 @@ returns-in-Err-clause-refused c = let b : Facts = c.args.self.now in let p : Pas
 
 pub returns-in-Err-clause-reason : goal.returns-in-Err-clause-reason
 returns-in-Err-clause-reason c = λ ring role. let b : Facts = c.args.self.now in let p : Pass = c.args.submitter.now in let m : Pass = c.room.new.self in let xs : Entries = c.args.batch.items in let r = c.in-Err.ensures in let go : Goes b p [] m = goes_watched b p m r.looks.0 c.requires r.table r.looks.2 in let grid : c.self.inside.grid ≡ b.layout.cells = ap (λ (z : Facts). z.layout.cells) c.self.view_is in let count : c.len.result ≡ length xs = c.len.ensures ∙ c.args.batch.ok.0 in
-    let served : AreServed (hosts (before_in (seen_of p) (next_of p ring))) xs = subst (λ (z : _). AreServed z xs) (c.is_hosted.ensures.hosted ring role) (subst (AreServed c.is_hosted.result) c.as_slice.ensures.value (c.are_served.ensures.0 c.if-not-are_served.false)) in
-    let fits : AreFit xs = subst AreFit c.as_slice-2.ensures.value (c.are_fit.ensures.0 c.if-not-are_fit.false) in
-    batch_reason b xs ring (submits (seen_of p) ring) p m c.in-Err.error (served, fits) (subst (λ (z : List ℕ × ℕ). RefusesRoom z.0 ring (submits (seen_of p) ring) z.1 p m c.in-Err.error) (λ i. (grid i, count i)) (r.refused ring role))
+    let fits : AreFit xs = subst AreFit c.as_slice.ensures.value (c.are_fit.ensures.0 c.if-not-are_fit.false) in
+    batch_reason b xs ring (submits (seen_of p) ring) p m c.in-Err.error fits (subst (λ (z : List ℕ × ℕ). RefusesRoom z.0 ring (submits (seen_of p) ring) z.1 p m c.in-Err.error) (λ i. (grid i, count i)) (r.refused ring role))
 
 pub submit_all-requires : goal.submit_all-requires
 submit_all-requires c = let b : Facts = c.args.self.now in let p : Pass = c.args.submitter.now in let m : Pass = c.room.new.self in let xs : Entries = c.args.batch.items in let r = c.in_default.ensures in let go : Goes b p [] m = goes_watched b p m r.looks.0 c.requires r.table r.looks.2 in let n = c.next_request-req.ensures in let ring = c.next_request-req.result.ring in let old : p.view.role ≡ Submitter ring = sym go.role_is ∙ n.role in let same : submits (seen_of m) ring ≡ submits (seen_of p) ring = watched_submits r.looks.0 p.view m.view ring old r.looks.2 in let grid : c.self.inside.grid ≡ b.layout.cells = ap (λ (z : Facts). z.layout.cells) c.self.view_is in let count : c.len.result ≡ length xs = c.len.ensures ∙ c.args.batch.ok.0 in let back : reverse c.reverse.new.self.items ≡ xs = ap reverse c.reverse.ensures.items ∙ turned_back xs in
-    let served : AreServed (hosts (before_in (seen_of p) (next_of p ring))) xs = subst (λ (z : _). AreServed z xs) (c.is_hosted.ensures.hosted ring old) (subst (AreServed c.is_hosted.result) c.as_slice.ensures.value (c.are_served.ensures.0 c.if-not-are_served.false)) in
-    let fits : AreFit xs = subst AreFit c.as_slice-2.ensures.value (c.are_fit.ensures.0 c.if-not-are_fit.false) in
+    let fits : AreFit xs = subst AreFit c.as_slice.ensures.value (c.are_fit.ensures.0 c.if-not-are_fit.false) in
     record {
       ready = (
         ring,
@@ -40,7 +37,6 @@ submit_all-requires c = let b : Facts = c.args.self.now in let p : Pass = c.args
           next = sym same;
           free = λ i lt. subst (λ (K : List ℕ). IsFree K (seen_of m) (nth ring (submits (seen_of p) ring + i))) grid (r.free ring old i (omega arith));
           fresh = λ i lt. subst (λ (K : List ℕ). (submits (seen_of p) ring + i) / cells_in K ring < 16777215) grid (r.fresh ring old i (omega arith));
-          served = subst (λ (z : _). AreServed (hosts z) xs) (sym (watched_before r.looks.0 p.view m.view ring (submits (seen_of p) ring) old r.looks.2)) served;
           fit = fits;
         }),
       );

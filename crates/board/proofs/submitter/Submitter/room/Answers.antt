@@ -1,4 +1,4 @@
-use Rattle.std.proofs.Common.{◌≡◌, ℕ, ◌+◌, ◌≤◌, sym, subst}
+use Rattle.std.proofs.Common.{◌≡◌, ℕ, ◌+◌, ◌<◌, ◌≤◌, length, sym, subst}
 use Rattle.steps.specs.declared.view.Role.TheVariants.{Submitter}
 use Rattle.steps.specs.Cells.{cells_in}
 use Rattle.work.specs.Passes.{Pass, pass_of, seen_of}
@@ -21,3 +21,6 @@ returns-clause-looks c = let x = c.room.ensures.looks in let ring_is : (ring : �
   subst (λ (p : Pass). Watched x.0 p.view c.room.new.seat.me.0) c.self.view_is x.2,
   ok_more c.room.result _ _ (λ _ spent ring role linked. spent (subst (λ (z : Pass × ℕ). LinkedAreReaped (seen_of z.0) z.1) (λ i. (sym c.self.view_is i, sym (ring_is ring role) i)) linked)) x.3,
 )
+
+pub returns-clause-there : goal.returns-clause-there
+returns-clause-there c = λ ring role. let i = c.self.inside in subst (λ (z : Pass × ℕ). z.1 < length z.0.view.layout.cells) (λ j. (c.self.view_is j, (lane_ring i.seat i.lane c.args.self.now c.self.invariant c.self.view_is ring role).0 j)) c.self.invariant.0.ring_there

@@ -33,7 +33,7 @@ invariant_of-self c = let s = c.self.inside in let o = c.args.spot in let k = su
     let many : length s.lane.ages.items ≡ cells_in K s.lane.ring = c.self.invariant.0.many.0 in let b = c.go_on.new.self in
     let free = subst (λ (q : Pass). IsFree q.view.layout.cells (seen_of q) (request_at q.view.layout.cells o.cell o.generation)) (sym c.self.view_is) c.requires.free in
     let chains : KnowsChains c.submit-facts.new.seat.me.0 s.lane.ring (s.lane.next + 1) b.done b.hosted = chains_after s.seat.me.0 c.submit-facts.new.seat.me.0 s.lane.ring s.lane.next s.lane.done s.lane.hosted (request_at K o.cell o.generation) p.sqe p.buffer.items p.last b.done b.hosted c.self.invariant.0.role r c.self.invariant.1 o.cell c.submit-facts.result p.sqe.user_data
-    c.submit-facts.ensures.submits free (g.next.2 ∙ c.hosts_next-hosted.ensures) (subst (λ (z : ℕ × ℕ). (b.done ≡ s.lane.done) ⊎ ((s.lane.done < b.done) × (b.done + z.0 ≡ z.1))) (λ i. (many i, g.next.1 i)) g.done) (subst (λ (z : ℕ × ℕ). z.1 ≤ b.done + z.0) (λ i. (many i, g.next.1 i)) g.near) in (
+    c.submit-facts.ensures.submits free (g.next.2 ∙ c.hosts-hosted.ensures p.buffer.items) (subst (λ (z : ℕ × ℕ). (b.done ≡ s.lane.done) ⊎ ((s.lane.done < b.done) × (b.done + z.0 ≡ z.1))) (λ i. (many i, g.next.1 i)) g.done) (subst (λ (z : ℕ × ℕ). z.1 ≤ b.done + z.0) (λ i. (many i, g.next.1 i)) g.near) in (
       subst (λ (z : ℕ × ℕ × List ℕ × List ℕ). IsSubmitterSeat c.submit-facts.new.seat z.0 z.1 z.2 z.3) (λ i. (sym g.next.0 i, sym g.next.1 i, sym (ap (λ v. v.items) g.cells.0) i, sym g.cells.1 i))
           (subst (λ (i : ℕ). IsSubmitterSeat c.submit-facts.new.seat s.lane.ring (s.lane.next + 1) s.lane.ages.items (set s.lane.facts.items i c.submit-facts.result)) (sym k.number_is)
           (seat_submitted s.seat c.submit-facts.new.seat s.lane.ring s.lane.next s.lane.ages.items s.lane.facts.items c.self.invariant.0 o.cell o.generation c.submit-facts.result k.inside h.0 c.submit-facts.ensures.seat.1 p.sqe p.buffer.items p.last p.sqe.user_data c.submit-facts.ensures.submits f)),

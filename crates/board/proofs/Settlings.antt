@@ -1,0 +1,174 @@
+-- What the poller's looks at a LINK_TIMEOUT and at its target, and its step that settles one, tell it.
+use Rattle.std.proofs.Common.{◌≡◌, ◌≢◌, ⊎_elim, inl, inr, ℕ, suc, ◌-◌, ◌<◌, ◌==◌, ◌&&◌, not, Bool, true, false, cond, negsuc, List, [], ◌∷◌, ◌++◌, Option, Some, None, refl, sym, ap, ◌∙◌, subst, arith, true≢false, eq-eqb}
+use Rattle.atomic_table.specs.declared.shared.Seat.{Seat}
+use Rattle.claim.specs.declared.tag.Tag.TheVariants.{Armed as ArmedTag}
+use Rattle.entry.specs.declared.op.Op.TheVariants.{Invalid}
+use Rattle.entry.specs.Entry.{Entry}
+use Rattle.history.specs.declared.req.Req.{Req}
+use Rattle.history.specs.declared.event.Event.{Event}
+use Rattle.history.specs.declared.event.Event.TheVariants.{Settle}
+use Rattle.history.specs.History.{Submission, phase, armed, replied, by_settle, fired, submission, submits, was_shut, IsReplied}
+use Rattle.history.specs.Chains.{IsLinkTimeout, hosts, is_link_timeout, placed_from}
+use Rattle.history.proofs.Requests.{bool_cases, same_itself}
+use Rattle.steps.specs.declared.line.Line.{Line}
+use Rattle.steps.specs.declared.line.Line.TheVariants.{Did}
+use Rattle.steps.specs.declared.parcel.Thing.{Thing}
+use Rattle.steps.specs.declared.view.Layout.{Layout}
+use Rattle.steps.specs.declared.view.Role.{Role}
+use Rattle.steps.specs.declared.view.View.{View}
+use Rattle.steps.specs.Cells.{request_at, claim_at, word_of}
+use Rattle.steps.specs.Journal.{events_of}
+use Rattle.steps.specs.Rule.{pollers, stands_for, Extends, IsStep, Shown}
+use Rattle.steps.proofs.OwnFacts.{same_fired}
+use Rattle.work.specs.Board.{Facts}
+use Rattle.work.specs.Passes.{Pass, pass_of, seen_of}
+use Rattle.board.specs.declared.alarm.Alarm.{Alarm}
+use Rattle.board.specs.declared.phase.Phase.{Phase as Standing}
+use Rattle.board.specs.declared.phase.Phase.TheVariants.{Armed}
+use Rattle.board.specs.declared.poller.Settling.{Settling}
+use Rattle.board.specs.declared.poller.Settling.TheVariants.{Settled, TargetOpen, NotArmed as NothingArmed}
+use Rattle.board.specs.declared.poller.Expiry.TheVariants.{NotArmed}
+use Rattle.board.specs.Calls.{Goes, Stands, Stepped}
+use Rattle.board.specs.PollerRows.{IsAt, IsOurs, Watched, Paid}
+use Rattle.board.specs.TimerCalls.{Expires, IsTargetOpen, Settles, SettlingTells, settled_by}
+use Rattle.board.proofs.Expiries.{no_more_armed, stepped_by, unarmed}
+use Rattle.board.proofs.GoesLaws.{goes_then}
+use Rattle.board.proofs.TimersHeld.{freed_one, goes_one, none}
+use Rattle.board.proofs.TimersKept.{AllPass, is_calm, is_still, link_still}
+use Rattle.board.proofs.Watching.{stepped_after}
+use Rattle.board.specs.declared.alarm.Alarm.TheVariants.{Linked, Alone}
+use Rattle.board.specs.declared.phase.Phase.TheVariants.{Done, Gone}
+use Rattle.board.specs.PollerTimers.{IsKept, KnowsAlarm}
+use Rattle.board.proofs.TimersHeld.{alarm_goes, fired_after}
+use Rattle.board.proofs.Watching.{lasts_on}
+use Rattle.history.specs.Chains.{IsPlaced, IsTarget, is_timeout, previous}
+use Rattle.history.specs.Legal.{IsOf as IsOfKind, Legal}
+use Rattle.steps.specs.Cells.{setup_of}
+use Rattle.steps.proofs.JournalGrowth.{counted_in, lasts, placed_lasts, submits_grow}
+use Rattle.std.proofs.Common.{◌⊎◌, ℤ}
+
+abbrev TableSeat : Type 0
+TableSeat = Seat (Option Thing) View
+
+-- a LINK_TIMEOUT stands directly after an entry that hosts it
+pub hosted : (before s : Option Submission) (e : Entry) → placed_from before s ≡ Some e → is_link_timeout e.op ≡ true → hosts before ≡ true
+hosted before None e p l = absurd (let z = p in cc)
+hosted before (Some s) e p l = ⊎_elim (λ w. w)
+    (λ (w : hosts before ≡ false). absurd (⊎_elim
+    (λ (v : is_link_timeout s.entry.op ≡ true). let one : record s.entry { op = Invalid } ≡ e = (let z : Some (record s.entry { op = Invalid }) ≡ Some e = sym (λ i. Some (cond (v i && not (w i)) (record s.entry { op = Invalid }) s.entry)) ∙ p in cc) in true≢false (sym l ∙ sym (ap (λ (d : Entry). is_link_timeout d.op) one)))
+    (λ (v : is_link_timeout s.entry.op ≡ false). let one : s.entry ≡ e = (let z : Some s.entry ≡ Some e = sym (ap (λ (c : Bool). Some (cond (c && not (hosts before)) (record s.entry { op = Invalid }) s.entry)) v) ∙ p in cc) in true≢false (sym l ∙ (sym (ap (λ (d : Entry). is_link_timeout d.op) one) ∙ v)))
+    (bool_cases (is_link_timeout s.entry.op)))) (bool_cases (hosts before))
+
+-- and so has a request before it
+pub link_first : (h : List Event) (r : Req) → IsLinkTimeout h r → (r.k == 0) ≡ false
+link_first h r link = ⊎_elim (λ (w : (r.k == 0) ≡ true). absurd (true≢false (sym (hosted None (submission h r) link.0 (sym (ap (λ (b : Bool). placed_from (cond b None (submission h (previous r))) (submission h r)) w) ∙ link.1) link.2)))) (λ w. w) (bool_cases (r.k == 0))
+
+pub link_later : (h : List Event) (r : Req) → IsLinkTimeout h r → 0 < r.k
+link_later h r link = let n : ¬ (r.k ≡ 0) = λ e. true≢false (sym (eq-eqb r.k 0 e) ∙ link_first h r link) in omega arith
+
+-- ---- the step
+
+module _ (b : Facts) (s t : TableSeat) (r : Req) (x g : ℕ) (o : IsOurs b s) (a : IsAt b.layout.cells x g r) where
+  pub at_is : request_at s.me.0.layout.cells x g ≡ r
+  at_is = ap (λ (L : Layout). request_at L.cells x g) o.ours.layout_is ∙ a.at
+
+  pub mine : stands_for s.me.0.role pollers ≡ true
+  mine = ap (λ (z : Role). stands_for z pollers) o.seat.role
+
+  -- it settled the timer
+  pub settles_now : t.table_id ≡ s.table_id → fired (events_of s.me.0.seen) r ≡ false → Extends s.me.0 (Did (Settle (request_at s.me.0.layout.cells x g))) s.me.0.role t.me.0 → Settles b r (pass_of s) (pass_of t) Settled
+  settles_now id unfired y = let e = subst (λ (q : Req). Extends s.me.0 (Did (Settle q)) s.me.0.role t.me.0) at_is y in let now : t.me.0.seen ≡ Did (Settle r) ∷ (e.saw.later ++ s.me.0.seen) = ap (λ (z : View). z.seen) e.is ∙ ap (λ (j : List Line). Did (Settle r) ∷ j) e.saw.is in
+      let before = e.saw.later ++ s.me.0.seen in let still : fired (events_of before) r ≡ false = same_fired s.me.0.role mine r e.saw.later s.me.0.seen e.saw.none ∙ unfired in record {
+        goes = goes_one b (pass_of s) (pass_of t) (Settle r) o.ours mine id e;
+        tells = ap (λ (j : List Line). phase (events_of j) r) now ∙ (ap (λ c. cond c (replied by_settle (cond (fired (events_of before) r) (negsuc 61) (negsuc 124))) (phase (events_of before) r)) (same_itself r) ∙ ap (λ (f : Bool). replied by_settle (cond f (negsuc 61) (negsuc 124))) still);
+        others = freed_one s.me.0 t.me.0 (Settle r) mine e;
+      }
+
+  -- it was armed with this deadline, and is so no more
+  pub settles_missed : (d : ℕ) → phase (events_of s.me.0.seen) r ≡ armed d → Watched b s t → (n : ℕ) × IsStep (claim_at x) n s.me.0 t.me.0 × Shown s.me.0.layout.cells t.me.0.seen x n × (n ≢ word_of ArmedTag 0 g d) → Settles b r (pass_of s) (pass_of t) NothingArmed
+  settles_missed d was w f = record { goes = w.goes; tells = (inl (no_more_armed b s t r x g o a d was w f), stepped_by b s t r x g o a f.0 f.1 f.2); others = w.freed_is }
+
+  -- ---- a look
+
+  module _ (w : Watched b s t) (n : ℕ) (step : IsStep (claim_at x) n s.me.0 t.me.0) (shown : Shown s.me.0.layout.cells t.me.0.seen x n) where
+    -- it isn't armed
+    pub settles_unarmed : (y : Standing) → ((d : ℕ) → y ≡ Armed d → ⊥) → Stands t.me.0.seen (request_at s.me.0.layout.cells x g) y → Settles b r (pass_of s) (pass_of t) NothingArmed
+    settles_unarmed y ne k = record { goes = w.goes; tells = (inl (unarmed b s t r x g o a w n step shown r y ne (subst (λ (q : Req). Stands t.me.0.seen q y) at_is k)), stepped_by b s t r x g o a n step shown); others = w.freed_is }
+
+    -- it is a TIMEOUT
+    pub settles_alone : IsOfKind (events_of t.me.0.seen) r is_timeout true → Settles b r (pass_of s) (pass_of t) NothingArmed
+    settles_alone k = record { goes = w.goes; tells = (inr k, stepped_by b s t r x g o a n step shown); others = w.freed_is }
+
+-- its target has no reply
+pub settles_open : (b : Facts) (r : Req) (s t : TableSeat) → Watched b s t → IsTargetOpen b.layout.cells r (pass_of s) (pass_of t) → Settles b r (pass_of s) (pass_of t) TargetOpen
+settles_open b r s t w k = record { goes = w.goes; tells = k; others = w.freed_is }
+
+-- looks before it
+pub settles_after : (b : Facts) (r : Req) (s t u : TableSeat) (n m : ℕ) (x : Settling) → Watched b s t → Paid s.me.0 t.me.0 n m → Settles b r (pass_of t) (pass_of u) x → Settles b r (pass_of s) (pass_of u) x
+settles_after b r s t u n m x w p k = record { goes = goes_then b (pass_of s) (pass_of t) (pass_of u) _ w.goes k.goes; tells = tells_after x k.tells; others = λ i. k.others i ∙ w.freed_is i } where
+  tells_after : (x : Settling) → SettlingTells b r (pass_of t) (pass_of u) x → SettlingTells b r (pass_of s) (pass_of u) x
+  tells_after Settled k = k
+  tells_after TargetOpen k = (k.0, k.1, k.2, stepped_after b.layout.cells k.0 s t u b n m p k.3)
+  tells_after NothingArmed k = (k.0, stepped_after b.layout.cells r s t u b n m p k.1)
+
+-- it arms and fires no timer, and leaves the clock
+pub settled_calm : (x : Settling) (r : Req) → AllPass (is_calm none) (settled_by x r) × AllPass is_still (settled_by x r)
+settled_calm Settled r = ((refl, tt), (refl, tt))
+settled_calm TargetOpen r = (tt, tt)
+settled_calm NothingArmed r = (tt, tt)
+
+-- ---- a look at a timer that is armed
+
+module _ (b : Facts) (s t : TableSeat) (r : Req) (x g d : ℕ) (alarm : Alarm) (o : IsOurs b s) (a : IsAt b.layout.cells x g r) (w : Watched b s t) (stands : Stands t.me.0.seen (request_at s.me.0.layout.cells x g) (Armed d)) (knows : KnowsAlarm (events_of s.me.0.seen) r (Some alarm)) where
+  pub found_phase : phase (events_of t.me.0.seen) r ≡ armed d
+  found_phase = subst (λ (q : Req). phase (events_of t.me.0.seen) q ≡ armed d) (at_is b s t r x g o a) stands
+
+  pub found_born : r.k < submits (events_of t.me.0.seen) r.ring
+  found_born = counted_in (setup_of b.layout) t.me.0.seen r (armed d) w.goes.kept.legal found_phase (λ u. cc)
+
+  found_kept : IsKept (events_of t.me.0.seen) r (Some alarm) × (fired (events_of t.me.0.seen) r ≡ false)
+  found_kept = alarm_goes b (pass_of s) (pass_of t) [] w.goes (mine b s t r x g o a) none tt r (Some alarm) refl knows d found_phase
+
+  pub found_unfired : fired (events_of t.me.0.seen) r ≡ false
+  found_unfired = found_kept.1
+
+  pub found_linked : alarm ≡ Linked → IsLinkTimeout (events_of t.me.0.seen) r
+  found_linked is = let k : IsKept (events_of t.me.0.seen) r (Some Linked) = subst (λ (z : Alarm). IsKept (events_of t.me.0.seen) r (Some z)) is found_kept.0 in (k.0, k.1, k.2)
+
+  alone_of : (z : Alarm) → IsKept (events_of t.me.0.seen) r (Some z) → (z ≡ Linked → ⊥) → IsOfKind (events_of t.me.0.seen) r is_timeout true
+  alone_of Linked k n = absurd (n refl)
+  alone_of (Alone f) k n = (k.0, k.1, k.2.0)
+
+  pub found_alone : (alarm ≡ Linked → ⊥) → IsOfKind (events_of t.me.0.seen) r is_timeout true
+  found_alone n = alone_of alarm found_kept.0 n
+
+-- ---- the target, which is the request before it
+
+pub target_is : (h : List Event) (r : Req) → IsLinkTimeout h r → IsTarget h r (previous r)
+target_is h r link = let later = link_later h r link in (link, refl, (let z : suc (r.k - 1) ≡ r.k = omega arith in z))
+
+pub born_goes : (b : Facts) (p q : Pass) (es : List Event) → Goes b p es q → (r : Req) → r.k < submits (seen_of p) r.ring → r.k < submits (seen_of q) r.ring
+born_goes b p q es x r lt = subst (λ (j : List Line). r.k < submits (events_of j) r.ring) (sym x.seen_is) (let z = submits_grow (setup_of b.layout) x.later p.view.seen r.ring in omega arith)
+
+-- a LINK_TIMEOUT is placed as one for ever
+pub linked_goes : (b : Facts) (p q : Pass) (es : List Event) → Goes b p es q → (r : Req) → r.k < submits (seen_of p) r.ring → IsLinkTimeout (seen_of p) r → IsLinkTimeout (seen_of q) r
+linked_goes b p q es x r born link = let S = setup_of b.layout in let legal : Legal S (events_of (x.later ++ p.view.seen)) = subst (λ (j : List Line). Legal S (events_of j)) x.seen_is x.kept.legal in
+    (link.0, subst (λ (j : List Line). IsPlaced (events_of j) r link.0) (sym x.seen_is) (lasts S (λ h. IsPlaced h r link.0) r (placed_lasts S r link.0) x.later p.view.seen legal born link.1), link.2)
+
+pub linked_on : (b : Facts) (s t : TableSeat) (r : Req) → Watched b s t → r.k < submits (events_of s.me.0.seen) r.ring → IsLinkTimeout (events_of s.me.0.seen) r → IsLinkTimeout (events_of t.me.0.seen) r
+linked_on b s t r w = linked_goes b (pass_of s) (pass_of t) [] w.goes r
+
+-- a LINK_TIMEOUT that is armed stays armed, and unfired, while the poller looks
+pub armed_on : (b : Facts) (s t : TableSeat) (r : Req) (d : ℕ) → Watched b s t → IsLinkTimeout (events_of s.me.0.seen) r → phase (events_of s.me.0.seen) r ≡ armed d → phase (events_of t.me.0.seen) r ≡ armed d
+armed_on b s t r d w link is = let S = setup_of b.layout in let j : List Line = s.me.0.seen in let later : List Line = w.goes.later in let all : t.me.0.seen ≡ later ++ j = w.goes.seen_is in
+    let legal : Legal S (events_of (later ++ j)) = subst (λ (l : List Line). Legal S (events_of l)) all w.goes.kept.legal in let live : was_shut (events_of (later ++ j)) ≡ false = subst (λ (l : List Line). was_shut (events_of l) ≡ false) all w.goes.kept.live in
+    subst (λ (l : List Line). phase (events_of l) r ≡ armed d) (sym all) (link_still s.me.0.role (ap (λ (z : Role). stands_for z pollers) (sym w.goes.role_is ∙ w.seat.role)) S r (armed d) tt later j legal live w.goes.own link is)
+
+pub unfired_on : (b : Facts) (s t : TableSeat) (r : Req) → Watched b s t → fired (events_of s.me.0.seen) r ≡ false → fired (events_of t.me.0.seen) r ≡ false
+unfired_on b s t r w is = fired_after b (pass_of s) (pass_of t) [] w.goes (ap (λ (z : Role). stands_for z pollers) (sym w.goes.role_is ∙ w.seat.role)) none tt r refl ∙ is
+
+-- it is Done or Gone
+pub replied_by : (j : List Line) (q : Req) (y : Standing) → Stands j q y → ((res : ℤ) × (y ≡ Done res)) ⊎ (y ≡ Gone) → IsReplied (phase (events_of j) q)
+replied_by j q y k is = ⊎_elim
+    (λ (z : (res : ℤ) × (y ≡ Done res)). let m : Stands j q (Done z.0) = subst (Stands j q) z.1 k in subst IsReplied (sym m.1) tt)
+    (λ (z : y ≡ Gone). let m : Stands j q Gone = subst (Stands j q) z k in subst IsReplied (sym m.2) tt) is

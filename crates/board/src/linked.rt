@@ -1,0 +1,210 @@
+//! How the poller ends a LINK_TIMEOUT that it armed: it fires, or is settled after its target's reply.
+ghost use Rattle.std.specs.Prelude.{◌≡◌, ◌≤◌, ◌<◌, ℕ, List, true, false, Some};
+ghost use Rattle.history.specs.declared.event.Event.{Event};
+ghost use Rattle.history.specs.declared.req.Req.{Req as Request};
+ghost use Rattle.history.specs.Chains.{IsLinkTimeout, IsTarget, previous};
+ghost use Rattle.history.specs.History.{IsReplied, armed, clock_of, fired, phase, submits};
+ghost use Rattle.history.specs.Legal.{Legal};
+ghost use Rattle.steps.specs.Cells.{setup_of};
+ghost use Rattle.steps.specs.Journal.{events_of};
+ghost use Rattle.work.specs.Passes.{pass_of};
+ghost use Rattle.board.specs.PollerRows.{IsAt, IsOurs, Paid, Watched};
+ghost use Rattle.board.specs.PollerTimers.{KnowsAlarm};
+ghost use Rattle.board.specs.Seats.{IsPollerSeat};
+ghost use Rattle.board.specs.TimerCalls.{DidStrike, EndsFired, Fires, IsDueLinked, IsTargetOpen, Settles};
+
+use crate::alarm::Alarm;
+use crate::board::Board;
+use crate::phase::{Phase, told};
+use crate::poller::{Firing, Settling};
+use history::Req;
+use steps::claims::{Standing, looked_for, stands_at};
+use steps::{TableSeat, seat, timers};
+use work::Spot;
+
+/// What came of the target of a LINK_TIMEOUT whose deadline has come.
+#[derive(Clone, Copy, PartialEq, Eq, Debug)]
+pub(crate) enum Struck {
+    /// It was ended.
+    Took,
+    /// A worker runs it.
+    Missed,
+    /// It has replied.
+    Over,
+}
+
+/// Where the target of a LINK_TIMEOUT lies, the request before it.
+fn target_spot(board: &Board, spot: Spot, req: Req) -> Spot
+    requires at { IsAt board.now.layout.cells spot.cell spot.generation req }
+    requires small { spot.generation < 16777216 }
+    requires linked { (h : List Event) × Legal (setup_of board.now.layout) h × (req.k < submits h req.ring) × IsLinkTimeout h req }
+    ensures at { IsAt board.now.layout.cells result.cell result.generation (previous req) }
+    ensures small { result.generation < 16777216 }
+{
+    let target = Req {
+        ring: req.ring,
+        k: req.k - 1,
+    };
+    let _ = spot;
+    let Some(found) = board.grid.locate(target) else {
+        unreachable!()
+    };
+    found
+}
+
+/// Answers a LINK_TIMEOUT that is armed with this deadline, and whose target has replied.
+fn end_linked(board: &Board, seat: &mut TableSeat, spot: Spot, req: Req, deadline: u32) -> Settling
+    requires ours { IsOurs board.now seat.old }
+    requires at { IsAt board.now.layout.cells spot.cell spot.generation req }
+    requires small { spot.generation < 16777216 }
+    requires armed { phase (events_of seat.old.me.0.seen) req ≡ armed deadline }
+    requires born { req.k < submits (events_of seat.old.me.0.seen) req.ring }
+    requires linked { IsLinkTimeout (events_of seat.old.me.0.seen) req }
+    requires unfired { fired (events_of seat.old.me.0.seen) req ≡ false }
+    requires target { (t : Request) × IsTarget (events_of seat.old.me.0.seen) req t × IsReplied (phase (events_of seat.old.me.0.seen) t) }
+    ensures seat { IsPollerSeat seat.new }
+    ensures settles { Settles board.now req (pass_of seat.old) (pass_of seat.new) result }
+    ensures steps { Paid seat.old.me.0 seat.new.me.0 0 1 }
+{
+    let _ = req;
+    let words = &board.table.shared;
+    let generation = spot.generation as u32;
+    if timers::settle(words, seat, spot.cell, generation, deadline, false) {
+        Settling::Settled
+    } else {
+        Settling::NotArmed
+    }
+}
+
+/// Looks whether the target of a LINK_TIMEOUT has replied.
+fn target_replied(board: &Board, seat: &mut TableSeat, spot: Spot, req: Req) -> bool
+    requires ours { IsOurs board.now seat.old }
+    requires at { IsAt board.now.layout.cells spot.cell spot.generation req }
+    requires small { spot.generation < 16777216 }
+    requires born { req.k < submits (events_of seat.old.me.0.seen) req.ring }
+    requires linked { IsLinkTimeout (events_of seat.old.me.0.seen) req }
+    ensures watched { Watched board.now seat.old seat.new }
+    ensures replied { result ≡ true → (t : Request) × IsTarget (events_of seat.new.me.0.seen) req t × IsReplied (phase (events_of seat.new.me.0.seen) t) }
+    ensures pending { result ≡ false → IsTargetOpen board.now.layout.cells req (pass_of seat.old) (pass_of seat.new) }
+    ensures steps { Paid seat.old.me.0 seat.new.me.0 0 1 }
+{
+    let target = target_spot(board, spot, req);
+    let word = seat::look(&board.table.shared, seat, target.cell);
+    matches!(told(word, target.generation), Phase::Done(_) | Phase::Gone)
+}
+
+/// Answers a LINK_TIMEOUT whose target replied before it ran out. `alarm` is what is kept of the cell's timer.
+pub(crate) fn settle(
+    board: &Board,
+    seat: &mut TableSeat,
+    alarm: Alarm,
+    spot: Spot,
+    req: Req,
+) -> Settling
+    requires ours { IsOurs board.now seat.old }
+    requires at { IsAt board.now.layout.cells spot.cell spot.generation req }
+    requires knows { KnowsAlarm (events_of seat.old.me.0.seen) req (Some alarm) }
+    ensures seat { IsPollerSeat seat.new }
+    ensures settles { Settles board.now req (pass_of seat.old) (pass_of seat.new) result }
+    ensures steps { Paid seat.old.me.0 seat.new.me.0 0 3 }
+{
+    let word = seat::look(&board.table.shared, seat, spot.cell);
+    let Phase::Armed(deadline) = told(word, spot.generation) else {
+        return Settling::NotArmed;
+    };
+    let Alarm::Linked = alarm else {
+        return Settling::NotArmed;
+    };
+    if !target_replied(board, seat, spot, req) {
+        return Settling::TargetOpen;
+    }
+    end_linked(board, seat, spot, req, deadline)
+}
+
+/// Ends the target of a LINK_TIMEOUT whose deadline has come, or finds it running, or with a reply.
+fn strike(board: &Board, seat: &mut TableSeat, spot: Spot, req: Req) -> Struck
+    requires ours { IsOurs board.now seat.old }
+    requires at { IsAt board.now.layout.cells spot.cell spot.generation req }
+    requires small { spot.generation < 16777216 }
+    requires due { IsDueLinked (events_of seat.old.me.0.seen) req }
+    ensures seat { IsPollerSeat seat.new }
+    ensures strikes { DidStrike board.now req (pass_of seat.old) (pass_of seat.new) result }
+    ensures steps { Paid seat.old.me.0 seat.new.me.0 0 2 }
+{
+    let target = target_spot(board, spot, req);
+    let generation = target.generation as u32;
+    let words = &board.table.shared;
+    let word = seat::look(words, seat, target.cell);
+    let Some(expected) = looked_for(word, generation) else {
+        return Struck::Over;
+    };
+    let found = timers::fire(words, seat, target.cell, generation, expected, true);
+    if found == expected {
+        return Struck::Took;
+    }
+    match stands_at(found, generation) {
+        Standing::Running => Struck::Missed,
+        Standing::Over => Struck::Over,
+        Standing::Idle => unreachable!(),
+    }
+}
+
+/// Answers a LINK_TIMEOUT that has fired.
+fn end_fired(board: &Board, seat: &mut TableSeat, spot: Spot, req: Req, deadline: u32)
+    requires ours { IsOurs board.now seat.old }
+    requires at { IsAt board.now.layout.cells spot.cell spot.generation req }
+    requires small { spot.generation < 16777216 }
+    requires armed { phase (events_of seat.old.me.0.seen) req ≡ armed deadline }
+    requires born { req.k < submits (events_of seat.old.me.0.seen) req.ring }
+    requires linked { IsLinkTimeout (events_of seat.old.me.0.seen) req }
+    requires fired { fired (events_of seat.old.me.0.seen) req ≡ true }
+    ensures seat { IsPollerSeat seat.new }
+    ensures ends { EndsFired board.now req (pass_of seat.old) (pass_of seat.new) }
+    ensures steps { Paid seat.old.me.0 seat.new.me.0 0 1 }
+{
+    let _ = req;
+    let words = &board.table.shared;
+    let generation = spot.generation as u32;
+    timers::settle(words, seat, spot.cell, generation, deadline, true);
+}
+
+/// Fires a LINK_TIMEOUT that is armed, whose deadline has come and whose target hasn't replied, and answers it. `alarm` is what
+/// is kept of the cell's timer.
+pub(crate) fn fire(
+    board: &Board,
+    seat: &mut TableSeat,
+    clock: u32,
+    alarm: Alarm,
+    spot: Spot,
+    req: Req,
+) -> Firing
+    requires ours { IsOurs board.now seat.old }
+    requires at { IsAt board.now.layout.cells spot.cell spot.generation req }
+    requires clock { clock ≡ clock_of (events_of seat.old.me.0.seen) }
+    requires knows { KnowsAlarm (events_of seat.old.me.0.seen) req (Some alarm) }
+    ensures seat { IsPollerSeat seat.new }
+    ensures fires { Fires board.now req (pass_of seat.old) (pass_of seat.new) result }
+    ensures steps { Paid seat.old.me.0 seat.new.me.0 0 4 }
+{
+    let word = seat::look(&board.table.shared, seat, spot.cell);
+    let Phase::Armed(deadline) = told(word, spot.generation) else {
+        return Firing::NotArmed;
+    };
+    let Alarm::Linked = alarm else {
+        return Firing::NotArmed;
+    };
+    if clock < deadline {
+        return Firing::Early;
+    }
+    match strike(board, seat, spot, req) {
+        Struck::Over => Firing::TargetDone,
+        Struck::Took => {
+            end_fired(board, seat, spot, req, deadline);
+            Firing::Took
+        }
+        Struck::Missed => {
+            end_fired(board, seat, spot, req, deadline);
+            Firing::Missed
+        }
+    }
+}

@@ -1,0 +1,26 @@
+-- What a Submit says of its own request: the entry before it, and that its buffer fits.
+use Rattle.std.proofs.Common.{◌≡◌, ℕ, ◌-◌, ◌==◌, Bool, true, false, cond, List, [], ◌∷◌, Some, None, sym, ap, ◌∙◌, subst, ⊎_elim, arith, true≢false, eq-eqb}
+use Rattle.entry.specs.Entry.{Entry}
+use Rattle.history.specs.declared.req.Req.{Req}
+use Rattle.history.specs.declared.event.Event.{Event}
+use Rattle.history.specs.declared.event.Event.TheVariants.{Submit}
+use Rattle.history.specs.History.{Submission, submission, same}
+use Rattle.history.specs.Chains.{before_in, previous}
+use Rattle.history.specs.Legal.{Setup, Legal, Fits}
+use Rattle.history.proofs.Requests.{bool_cases, same_false}
+
+-- its own Submit leaves what stands before a request
+pub before_own : (h : List Event) (q : Req) (e : Entry) (bytes : List ℕ) (last : Bool) → before_in (Submit q e bytes last ∷ h) q ≡ before_in h q
+before_own h q e bytes last = ⊎_elim
+    (λ (w : (q.k == 0) ≡ true). ap (λ b. cond b None (submission (Submit q e bytes last ∷ h) (previous q))) w ∙ sym (ap (λ b. cond b None (submission h (previous q))) w))
+    (λ (w : (q.k == 0) ≡ false). ap (λ x. cond (q.k == 0) None x) (ap (λ b. cond b (Some (record { entry = e; bytes = bytes; last = last })) (submission h (previous q)))
+    (same_false q (previous q) (λ u. let k : q.k ≡ q.k - 1 = ap (λ (z : Req). z.k) u in let n : ¬ (q.k ≡ 0) = λ z. true≢false (sym (eq-eqb q.k 0 z) ∙ w) in omega arith))))
+    (bool_cases (q.k == 0))
+
+-- the buffer that was handed in fits the entry
+pub fits_is : (s : Setup) (h : List Event) (q : Req) (x : Submission) → Legal s h → submission h q ≡ Some x → Fits x.entry x.bytes
+fits_is s [] q x l is = absurd (let z = is in cc)
+fits_is s (Submit r e bytes last ∷ h) q x l is = let y : Submission = record { entry = e; bytes = bytes; last = last } in ⊎_elim
+    (λ (w : same r q ≡ true). let z : Some y ≡ Some x = sym (ap (λ b. cond b (Some y) (submission h q)) w) ∙ is in let same' : y ≡ x = cc in subst (λ (k : Submission). Fits k.entry k.bytes) same' l.0.1.2)
+    (λ (w : same r q ≡ false). fits_is s h q x l.1 (sym (ap (λ b. cond b (Some y) (submission h q)) w) ∙ is)) (bool_cases (same r q))
+fits_is s (e ∷ h) q x l is = fits_is s h q x l.1 is

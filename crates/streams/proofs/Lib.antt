@@ -1,0 +1,2 @@
+mod ReadIn
+mod WrittenOut

@@ -1,0 +1,12 @@
+//! Streams: bytes written out whole, and read in to their end.
+#![tactic(auto)]
+
+pub mod fault;
+pub mod input;
+pub mod output;
+#[cfg(test)]
+mod tests;
+
+pub use fault::{InputFault, OutputFault};
+pub use input::read_all;
+pub use output::write_out;
