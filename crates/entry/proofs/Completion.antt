@@ -6,8 +6,8 @@ use Rattle.std.proofs.lemmas.Int.{of_z-to_z, to_z-of_z}
 use Rattle.std.proofs.lemmas.List.{drop_all}
 use Rattle.entry.specs.declared.cqe.Cqe.{Cqe}
 use Rattle.entry.specs.Text.{cqe_text, number_at}
-use Rattle.entry.proofs.Again.{IsBytes}
-use Rattle.entry.proofs.Spelled.{cast_unsigned-lt, front, number_at-layout, number_at-lt}
+use Rattle.entry.proofs.NumberBytes.{IsBytes}
+use Rattle.entry.proofs.EntryBytes.{cast_unsigned-lt, front, number_at-layout, number_at-lt}
 
 -- the completion that stands in the bytes
 abbrev pub cqe_at : List ℕ → Cqe

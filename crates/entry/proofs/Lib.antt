@@ -1,7 +1,7 @@
-pub mod Again
+pub mod NumberBytes
 pub mod RowTests
-pub mod Spelled
+pub mod EntryBytes
 pub mod Completion
 pub mod Masks
-pub mod Meaning
-pub mod Places
+pub mod RowMeaning
+pub mod BytePlaces

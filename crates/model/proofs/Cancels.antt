@@ -17,13 +17,13 @@ use Rattle.model.specs.Decides.{wanted, any_below}
 use Rattle.model.specs.Agrees.{Agrees, Decided}
 use Rattle.model.specs.Moves.{put_stage, put_found, is_running, is_idle, seeks, is_nothing, is_first_wanted, comes_upon, may_take, may_miss, cancelled}
 use Rattle.history.proofs.Requests.{not_true, and_left, and_right}
-use Rattle.model.proofs.Listing.{apart}
-use Rattle.model.proofs.Moving.{put_length}
+use Rattle.model.proofs.RequestLists.{apart}
+use Rattle.model.proofs.RequestWrites.{put_length}
 use Rattle.model.proofs.Phases.{runs_from, idle_from, from_idle}
-use Rattle.model.proofs.Reading.{stage_is, placed_of, is_first, was_first}
-use Rattle.model.proofs.Keeping.{row, put_row, row_within, Calm, same_setup, here_is, one_kept, ring_kept, put_own, decides}
-use Rattle.model.proofs.Singles.{some_runs, reads, nothing_taken}
-use Rattle.model.proofs.Timed.{some_idle, idle_unreplied, put_other}
+use Rattle.model.proofs.RequestReading.{stage_is, placed_of, is_first, was_first}
+use Rattle.model.proofs.RingWrites.{row, put_row, row_within, Calm, same_setup, here_is, one_kept, ring_kept, put_own, decides}
+use Rattle.model.proofs.SingleEvents.{some_runs, reads, nothing_taken}
+use Rattle.model.proofs.TimerEvents.{some_idle, idle_unreplied, put_other}
 
 seen_found : (o : Option Request) → is_nothing (seen_of o).found ≡ true → (x : Request) → o ≡ Some x → is_nothing x.found ≡ true
 seen_found o w x is = sym (ap (λ z. is_nothing (seen_of z).found) is) ∙ w

@@ -4,7 +4,7 @@ use Rattle.std.specs.Int.RustNames.{FitsSigned}
 use Rattle.std.proofs.lemmas.Int.{to_z-of_z}
 use Rattle.byteorder.specs.Endian.{little_bytes}
 use Rattle.entry.specs.Text.{put}
-use Rattle.entry.proofs.Spelled.{layout-written}
+use Rattle.entry.proofs.EntryBytes.{layout-written}
 use Rattle.entry.proofs.bytes.layout.Goals as goal
 
 pub returns : goal.returns

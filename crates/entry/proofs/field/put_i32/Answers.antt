@@ -3,7 +3,7 @@ use Rattle.std.specs.Int.{w32, cast_signed, cast_unsigned}
 use Rattle.std.proofs.lemmas.Int.{to_z-of_z}
 use Rattle.byteorder.specs.Endian.{little_bytes}
 use Rattle.entry.specs.Text.{put}
-use Rattle.entry.proofs.Places.{put-from_tail}
+use Rattle.entry.proofs.BytePlaces.{put-from_tail}
 use Rattle.entry.proofs.field.put_i32.Goals as goal
 
 pub returns : goal.returns

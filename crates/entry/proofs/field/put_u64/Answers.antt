@@ -1,5 +1,5 @@
 use Rattle.byteorder.specs.Endian.{little_bytes}
-use Rattle.entry.proofs.Places.{put-from_tail}
+use Rattle.entry.proofs.BytePlaces.{put-from_tail}
 use Rattle.entry.proofs.field.put_u64.Goals as goal
 
 pub returns : goal.returns

@@ -1,5 +1,5 @@
 use Rattle.std.proofs.lemmas.Option.{slice_get_read}
-use Rattle.model.proofs.Ends.{poll_read_there, poll_write_there, told, reached_as}
+use Rattle.model.proofs.PipeEnds.{poll_read_there, poll_write_there, told, reached_as}
 use Rattle.model.proofs.answer.answers_poll.Goals as goal
 use Rattle.std.proofs.Common.{refl}
 

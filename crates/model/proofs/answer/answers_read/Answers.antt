@@ -1,5 +1,5 @@
 use Rattle.std.proofs.lemmas.Option.{slice_get_read}
-use Rattle.model.proofs.Ends.{read_there, told, reached_as}
+use Rattle.model.proofs.PipeEnds.{read_there, told, reached_as}
 use Rattle.model.proofs.answer.answers_read.Goals as goal
 use Rattle.std.proofs.Common.{refl}
 

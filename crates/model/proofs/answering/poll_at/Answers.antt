@@ -1,7 +1,7 @@
 use Rattle.std.proofs.Common.{refl, sym, ap, ◌∙◌}
 use Rattle.std.proofs.lemmas.Option.{slice_get_read}
 use Rattle.model.specs.Asked.{told_by}
-use Rattle.model.proofs.Ends.{poll_read_there, poll_write_there, reached_as}
+use Rattle.model.proofs.PipeEnds.{poll_read_there, poll_write_there, reached_as}
 use Rattle.model.proofs.answering.poll_at.Goals as goal
 
 pub returns-in-Read : goal.returns-in-Read

@@ -3,7 +3,7 @@ use Rattle.std.specs.Prelude.{IfOk, OnErr}
 use Rattle.std.proofs.lemmas.Option.{slice_get_read}
 use Rattle.history.specs.Answers.{Answer}
 use Rattle.model.specs.Asked.{told_by, IsTold}
-use Rattle.model.proofs.Ends.{read_there, reached_as}
+use Rattle.model.proofs.PipeEnds.{read_there, reached_as}
 use Rattle.model.proofs.answering.read_at.Goals as goal
 
 pub returns-in-Read-clause-answer : goal.returns-in-Read-clause-answer

@@ -1,7 +1,7 @@
 use Rattle.std.proofs.Common.{refl, sym, ap, ◌∙◌}
 use Rattle.std.proofs.lemmas.Option.{slice_get_read}
 use Rattle.model.specs.Asked.{told_by}
-use Rattle.model.proofs.Ends.{write_there, reached_as}
+use Rattle.model.proofs.PipeEnds.{write_there, reached_as}
 use Rattle.model.proofs.answering.write_at.Goals as goal
 
 pub returns-in-Write : goal.returns-in-Write

@@ -5,9 +5,9 @@ use Rattle.entry.specs.declared.op.Op.{Op}
 use Rattle.model.specs.declared.request.Stage.TheVariants.{Runs}
 use Rattle.model.specs.Seen.{stage_at, placed_in, handed_in, with_op}
 use Rattle.model.specs.Replies.{may_reply, op_replies}
-use Rattle.model.proofs.Ends.{signed}
-use Rattle.model.proofs.Moving.{stage_within}
-use Rattle.model.proofs.Replying.{may_reply_is}
+use Rattle.model.proofs.PipeEnds.{signed}
+use Rattle.model.proofs.RequestWrites.{stage_within}
+use Rattle.model.proofs.ReplyEvents.{may_reply_is}
 use Rattle.model.proofs.reply.may_reply.Goals as goal
 
 pub returns-clause-yes : goal.returns-clause-yes

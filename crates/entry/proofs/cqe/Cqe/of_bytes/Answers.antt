@@ -4,7 +4,7 @@ use Rattle.std.specs.Int.RustNames.{FitsSigned}
 use Rattle.entry.specs.declared.cqe.Cqe.{Cqe}
 use Rattle.entry.specs.Text.{cqe_text}
 use Rattle.entry.proofs.Completion.{cqe_at, cqe_at-cqe_text, cqe_text-cqe_at, cqe_with, cqe_with-read, flags-cqe_text}
-use Rattle.entry.proofs.Meaning.{is_i32-fits, is_u64-lt}
+use Rattle.entry.proofs.RowMeaning.{is_i32-fits, is_u64-lt}
 use Rattle.entry.proofs.cqe.Cqe.of_bytes.Goals as goal
 
 pub returns-then-u32_at-ne0-clause-again : goal.returns-then-u32_at-ne0-clause-again

@@ -2,8 +2,8 @@ use Rattle.std.proofs.Common.{◌≡◌, length, sym, ◌∙◌, rules, subst}
 use Rattle.std.proofs.lemmas.Bool.{false≢true}
 use Rattle.entry.specs.Entry.{Entry}
 use Rattle.entry.specs.Text.{Says, invalid_of}
-use Rattle.entry.proofs.Again.{IsBytes}
-use Rattle.entry.proofs.Meaning.{Reads-text, Says-other, Says-plain, text-valid}
+use Rattle.entry.proofs.NumberBytes.{IsBytes}
+use Rattle.entry.proofs.RowMeaning.{Reads-text, Says-other, Says-plain, text-valid}
 use Rattle.entry.proofs.sqe.Sqe.of_bytes.Goals as goal
 
 says : (c : goal.After-of_row) → Says c.args.bytes.now c.of_row.result

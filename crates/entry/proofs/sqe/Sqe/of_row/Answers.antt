@@ -1,8 +1,8 @@
 use Rattle.std.proofs.Common.{ℕ, rules, sym, subst}
 use Rattle.entry.specs.Entry.{Entry}
 use Rattle.entry.specs.Text.{Says, layout}
-use Rattle.entry.proofs.Meaning.{Says-none, Says-row, refused}
-use Rattle.entry.proofs.Spelled.{InTypes}
+use Rattle.entry.proofs.RowMeaning.{Says-none, Says-row, refused}
+use Rattle.entry.proofs.EntryBytes.{InTypes}
 use Rattle.entry.proofs.sqe.Sqe.of_row.Goals as goal
 
 pub returns-then-is_written_as-clause-says : goal.returns-then-is_written_as-clause-says

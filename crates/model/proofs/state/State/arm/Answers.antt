@@ -2,8 +2,8 @@ use Rattle.std.proofs.Common.{arith}
 use Rattle.history.specs.declared.event.Event.TheVariants.{Arm}
 use Rattle.model.specs.declared.request.Stage.TheVariants.{Armed}
 use Rattle.model.specs.Moves.{put_stage, may_arm}
-use Rattle.model.proofs.Keeping.{meets}
-use Rattle.model.proofs.Timed.{arm_decides}
+use Rattle.model.proofs.RingWrites.{meets}
+use Rattle.model.proofs.TimerEvents.{arm_decides}
 use Rattle.model.proofs.state.State.arm.Goals as goal
 
 pub returns : goal.returns

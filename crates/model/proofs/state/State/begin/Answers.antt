@@ -2,8 +2,8 @@ use Rattle.std.proofs.Common.{arith}
 use Rattle.history.specs.declared.event.Event.TheVariants.{Begin}
 use Rattle.model.specs.declared.request.Stage.TheVariants.{Runs}
 use Rattle.model.specs.Moves.{put_stage, may_begin}
-use Rattle.model.proofs.Keeping.{meets}
-use Rattle.model.proofs.Singles.{begin_decides}
+use Rattle.model.proofs.RingWrites.{meets}
+use Rattle.model.proofs.SingleEvents.{begin_decides}
 use Rattle.model.proofs.state.State.begin.Goals as goal
 
 pub returns : goal.returns

@@ -1,8 +1,8 @@
 use Rattle.std.proofs.Common.{arith}
 use Rattle.history.specs.declared.event.Event.TheVariants.{Cut}
 use Rattle.model.specs.Moves.{put_stage, cancelled, may_cut}
-use Rattle.model.proofs.Keeping.{meets}
-use Rattle.model.proofs.Singles.{cut_decides}
+use Rattle.model.proofs.RingWrites.{meets}
+use Rattle.model.proofs.SingleEvents.{cut_decides}
 use Rattle.model.proofs.state.State.cut.Goals as goal
 
 pub returns : goal.returns

@@ -1,8 +1,8 @@
 use Rattle.std.proofs.Common.{arith}
 use Rattle.history.specs.declared.event.Event.TheVariants.{Expire}
 use Rattle.model.specs.Moves.{put_stage, timed_out, may_expire}
-use Rattle.model.proofs.Keeping.{meets}
-use Rattle.model.proofs.Timed.{expire_decides}
+use Rattle.model.proofs.RingWrites.{meets}
+use Rattle.model.proofs.TimerEvents.{expire_decides}
 use Rattle.model.proofs.state.State.expire.Goals as goal
 
 pub returns : goal.returns

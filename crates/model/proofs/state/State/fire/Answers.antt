@@ -1,8 +1,8 @@
 use Rattle.std.proofs.Common.{arith, ◌≡◌}
 use Rattle.history.specs.declared.event.Event.TheVariants.{Fire}
 use Rattle.model.specs.Moves.{put_stage, put_fired, cancelled, may_fire}
-use Rattle.model.proofs.Keeping.{meets, retarget}
-use Rattle.model.proofs.Timed.{fire_decides}
+use Rattle.model.proofs.RingWrites.{meets, retarget}
+use Rattle.model.proofs.TimerEvents.{fire_decides}
 use Rattle.model.proofs.state.State.fire.Goals as goal
 
 pub returns : goal.returns

@@ -1,8 +1,8 @@
 use Rattle.std.proofs.Common.{arith, ◌≡◌}
 use Rattle.history.specs.declared.event.Event.TheVariants.{FireMiss}
 use Rattle.model.specs.Moves.{put_fired, may_fire_miss}
-use Rattle.model.proofs.Keeping.{meets, retarget}
-use Rattle.model.proofs.Timed.{fire_miss_decides}
+use Rattle.model.proofs.RingWrites.{meets, retarget}
+use Rattle.model.proofs.TimerEvents.{fire_miss_decides}
 use Rattle.model.proofs.state.State.fire_miss.Goals as goal
 
 pub returns : goal.returns

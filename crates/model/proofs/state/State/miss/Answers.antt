@@ -2,7 +2,7 @@ use Rattle.std.proofs.Common.{arith, ◌≡◌}
 use Rattle.history.specs.declared.event.Event.TheVariants.{Miss}
 use Rattle.model.specs.declared.request.Found.TheVariants.{Missed}
 use Rattle.model.specs.Moves.{put_found, may_miss}
-use Rattle.model.proofs.Keeping.{meets, retarget}
+use Rattle.model.proofs.RingWrites.{meets, retarget}
 use Rattle.model.proofs.Cancels.{miss_decides}
 use Rattle.model.proofs.state.State.miss.Goals as goal
 

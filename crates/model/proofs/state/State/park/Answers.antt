@@ -2,8 +2,8 @@ use Rattle.std.proofs.Common.{arith}
 use Rattle.history.specs.declared.event.Event.TheVariants.{Park}
 use Rattle.model.specs.declared.request.Stage.TheVariants.{Waits}
 use Rattle.model.specs.Moves.{put_stage, may_park}
-use Rattle.model.proofs.Keeping.{meets}
-use Rattle.model.proofs.Singles.{park_decides}
+use Rattle.model.proofs.RingWrites.{meets}
+use Rattle.model.proofs.SingleEvents.{park_decides}
 use Rattle.model.proofs.state.State.park.Goals as goal
 
 pub returns : goal.returns

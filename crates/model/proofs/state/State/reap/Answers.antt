@@ -1,8 +1,8 @@
 use Rattle.std.proofs.Common.{arith}
 use Rattle.history.specs.declared.event.Event.TheVariants.{Reap}
 use Rattle.model.specs.Moves.{put_reaped, may_reap}
-use Rattle.model.proofs.Keeping.{meets}
-use Rattle.model.proofs.Singles.{reap_decides}
+use Rattle.model.proofs.RingWrites.{meets}
+use Rattle.model.proofs.SingleEvents.{reap_decides}
 use Rattle.model.proofs.state.State.reap.Goals as goal
 
 pub returns : goal.returns

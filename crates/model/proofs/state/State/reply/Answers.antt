@@ -2,9 +2,9 @@ use Rattle.std.proofs.Common.{refl, ◌≡◌, ◌∙◌, ◌<◌, true, false, 
 use Rattle.std.specs.List.{slice_get}
 use Rattle.model.specs.declared.request.Request.{Request}
 use Rattle.model.specs.Replies.{may_reply, put_reply, bytes_in, moved}
-use Rattle.model.proofs.Ends.{signed}
-use Rattle.model.proofs.Keeping.{row_of}
-use Rattle.model.proofs.Replying.{reply_follows, reply_meets, reply_misses}
+use Rattle.model.proofs.PipeEnds.{signed}
+use Rattle.model.proofs.RingWrites.{row_of}
+use Rattle.model.proofs.ReplyEvents.{reply_follows, reply_meets, reply_misses}
 use Rattle.model.proofs.state.State.reply.Goals as goal
 
 pub returns-in_default-clause-decided : goal.returns-in_default-clause-decided

@@ -1,8 +1,8 @@
 use Rattle.std.proofs.Common.{arith}
 use Rattle.history.specs.declared.event.Event.TheVariants.{Settle}
 use Rattle.model.specs.Moves.{put_settled, may_settle}
-use Rattle.model.proofs.Keeping.{meets}
-use Rattle.model.proofs.Timed.{settle_decides}
+use Rattle.model.proofs.RingWrites.{meets}
+use Rattle.model.proofs.TimerEvents.{settle_decides}
 use Rattle.model.proofs.state.State.settle.Goals as goal
 
 pub returns : goal.returns

@@ -1,8 +1,8 @@
 use Rattle.std.proofs.Common.{arith}
 use Rattle.history.specs.declared.event.Event.TheVariants.{Sever}
 use Rattle.model.specs.Moves.{put_stage, cancelled, may_sever}
-use Rattle.model.proofs.Keeping.{meets}
-use Rattle.model.proofs.Singles.{sever_decides}
+use Rattle.model.proofs.RingWrites.{meets}
+use Rattle.model.proofs.SingleEvents.{sever_decides}
 use Rattle.model.proofs.state.State.sever.Goals as goal
 
 pub returns : goal.returns

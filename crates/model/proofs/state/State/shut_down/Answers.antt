@@ -4,7 +4,7 @@ use Rattle.history.specs.declared.event.Event.TheVariants.{Shut}
 use Rattle.model.specs.Machine.{Machine}
 use Rattle.model.specs.Agrees.{Carries}
 use Rattle.model.specs.Moves.{runs_in}
-use Rattle.model.proofs.Wide.{shut_carries, shut_refuses}
+use Rattle.model.proofs.WideEvents.{shut_carries, shut_refuses}
 use Rattle.model.proofs.state.State.shut_down.Goals as goal
 
 pub returns-then-any_runs : goal.returns-then-any_runs

@@ -1,7 +1,7 @@
 use Rattle.std.proofs.Common.{rules, ◌≡◌, length, ◌<◌, sym, ap, ◌∙◌, arith}
 use Rattle.history.specs.Legal.{Fits}
-use Rattle.model.proofs.Keeping.{row_of}
-use Rattle.model.proofs.Wide.{submit_meets}
+use Rattle.model.proofs.RingWrites.{row_of}
+use Rattle.model.proofs.WideEvents.{submit_meets}
 use Rattle.model.proofs.state.State.submit.Goals as goal
 
 pub returns-clause-decided : goal.returns-clause-decided

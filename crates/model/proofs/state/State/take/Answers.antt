@@ -2,7 +2,7 @@ use Rattle.std.proofs.Common.{arith, ◌≡◌}
 use Rattle.history.specs.declared.event.Event.TheVariants.{Take}
 use Rattle.model.specs.declared.request.Found.TheVariants.{Took}
 use Rattle.model.specs.Moves.{put_stage, put_found, cancelled, may_take}
-use Rattle.model.proofs.Keeping.{meets, retarget}
+use Rattle.model.proofs.RingWrites.{meets, retarget}
 use Rattle.model.proofs.Cancels.{take_decides}
 use Rattle.model.proofs.state.State.take.Goals as goal
 

@@ -1,0 +1,227 @@
+-- What the requests of a ring tell is what the history tells of them.
+use Rattle.std.proofs.Common.{◌≡◌, ℕ, ◌-◌, ◌<◌, ◌==◌, ◌&&◌, ◌||◌, not, Bool, true, false, cond, ℤ, List, length, get_or, Option, Some, None, refl, sym, ap, ◌∙◌, subst, ⊎_elim, true≢false, arith}
+use Rattle.std.specs.List.{slice_get}
+use Rattle.std.proofs.lemmas.Option.{slice_get_within, slice_get-get_or}
+use Rattle.entry.specs.Entry.{Entry, drains}
+use Rattle.entry.specs.declared.op.Op.{Op}
+use Rattle.entry.specs.declared.op.Op.TheVariants.{Invalid}
+use Rattle.history.specs.declared.req.Req.{Req}
+use Rattle.history.specs.declared.event.Event.{Event}
+use Rattle.model.specs.declared.request.Request.{Request}
+use Rattle.model.specs.declared.request.Stage.{Stage}
+use Rattle.history.specs.History.{Phase, unborn, waits, runs, armed, replied, reaped, submission, phase, reply_in, reply, IsReplied}
+use Rattle.history.specs.Chains.{joins, placed_behind, placed_from, placed, IsBefore, Severed, IsClear}
+use Rattle.history.specs.Answers.{asks_for, Matches, IsFirst, NoneLeft}
+use Rattle.model.specs.Seen.{is_pending, reply_at, stage_of, Seen, seen, seen_of, handed_at, stage_at, handed_in, placed_in}
+use Rattle.model.specs.Decides.{reply_in_of, severed_in, pending_of, chain_done, any_below, drains_of, blocks, held_back, clear_in, asked_for, wanted}
+use Rattle.history.proofs.Requests.{bool_cases, not_true, and_left, and_right}
+use Rattle.model.proofs.NumberSearches.{any_at, any_found}
+use Rattle.model.proofs.ChainWalks.{severed_by, severed_from, done_by, done_from, severs_at_by, severs_at_from}
+
+seen_handed : (o : Option Request) → (seen_of o).handed ≡ handed_at o
+seen_handed None = refl
+seen_handed (Some x) = refl
+
+seen_stage : (o : Option Request) → (seen_of o).stage ≡ stage_at o
+seen_stage None = refl
+seen_stage (Some x) = refl
+
+abbrev reply_as : Option Stage → Option ℤ
+reply_as None = None
+reply_as (Some s) = reply_at s
+
+reply_of_stage : (p : Phase) → reply_in p ≡ reply_as (stage_of p)
+reply_of_stage unborn = refl
+reply_of_stage waits = refl
+reply_of_stage runs = refl
+reply_of_stage (armed d) = refl
+reply_of_stage (replied c res) = refl
+reply_of_stage (reaped c res) = refl
+
+reply_as_at : (o : Option Request) → reply_as (stage_at o) ≡ reply_in_of o
+reply_as_at None = refl
+reply_as_at (Some x) = refl
+
+-- an answered request: its stage tells
+abbrev answered_as : Option Stage → Bool
+answered_as None = false
+answered_as (Some s) = not (is_pending s)
+
+answered_from : (p : Phase) → answered_as (stage_of p) ≡ true → IsReplied p
+answered_from unborn e = true≢false (sym e)
+answered_from waits e = true≢false (sym e)
+answered_from runs e = true≢false (sym e)
+answered_from (armed d) e = true≢false (sym e)
+answered_from (replied c res) e = tt
+answered_from (reaped c res) e = tt
+
+answered_by : (p : Phase) → IsReplied p → answered_as (stage_of p) ≡ true
+answered_by unborn i = absurd i
+answered_by waits i = absurd i
+answered_by runs i = absurd i
+answered_by (armed d) i = absurd i
+answered_by (replied c res) i = refl
+answered_by (reaped c res) i = refl
+
+-- the entry that is placed has the flags of the one that was handed in
+drains_placed : (b : Bool) (e d : Entry) → Some (cond b (record e { op = Invalid }) e) ≡ Some d → drains d ≡ drains e
+drains_placed true e d is = let same : record e { op = Invalid } ≡ d = cc in sym (ap drains same)
+drains_placed false e d is = let same : e ≡ d = cc in sym (ap drains same)
+
+module _ (h : List Event) (i : ℕ) (xs : List Request) (reads : (k : ℕ) → seen h (record { ring = i; k = k }) ≡ seen_of (slice_get xs k)) where
+  abbrev at : ℕ → Req
+  at k = record { ring = i; k = k }
+
+  pub handed_is : (k : ℕ) → submission h (at k) ≡ handed_in xs k
+  handed_is k = ap (λ (z : Seen). z.handed) (reads k) ∙ seen_handed (slice_get xs k)
+
+  pub stage_is : (k : ℕ) → stage_of (phase h (at k)) ≡ stage_at (slice_get xs k)
+  stage_is k = ap (λ (z : Seen). z.stage) (reads k) ∙ seen_stage (slice_get xs k)
+
+  pub placed_is : (k : ℕ) → placed h (at k) ≡ placed_in xs k
+  placed_is k = ap (λ z. placed_from z (submission h (at k))) (ap (λ z. cond (k == 0) None z) (handed_is (k - 1))) ∙ ap (placed_from (cond (k == 0) None (handed_in xs (k - 1)))) (handed_is k)
+
+  pub reply_is : (k : ℕ) → reply h (at k) ≡ reply_in_of (slice_get xs k)
+  reply_is k = reply_of_stage (phase h (at k)) ∙ ap reply_as (stage_is k) ∙ reply_as_at (slice_get xs k)
+
+  -- a request that is kept was answered where it isn't pending
+  answered_kept : (o : Option Request) (x : Request) → o ≡ Some x → pending_of o ≡ false → answered_as (stage_at o) ≡ true
+  answered_kept o x e p = let q : is_pending x.stage ≡ false = sym (ap pending_of e) ∙ p in ap (λ z. answered_as (stage_at z)) e ∙ ap not q
+
+  pub is_answered : (k : ℕ) (x : Request) → slice_get xs k ≡ Some x → pending_of (slice_get xs k) ≡ false → IsReplied (phase h (at k))
+  is_answered k x e p = answered_from (phase h (at k)) (ap answered_as (stage_is k) ∙ answered_kept (slice_get xs k) x e p)
+
+  not_pending : (o : Option Request) → answered_as (stage_at o) ≡ true → pending_of o ≡ false
+  not_pending None e = refl
+  not_pending (Some x) e = not_true (is_pending x.stage) (λ p. true≢false (sym e ∙ ap not p))
+
+  pub was_answered : (k : ℕ) → IsReplied (phase h (at k)) → pending_of (slice_get xs k) ≡ false
+  was_answered k r = not_pending (slice_get xs k) (sym (ap answered_as (stage_is k)) ∙ answered_by (phase h (at k)) r)
+
+  joins_is : (k : ℕ) → joins (submission h (at k)) ≡ joins (handed_in xs k)
+  joins_is k = ap joins (handed_is k)
+
+  pub severed_is : (k : ℕ) → severed_in xs k ≡ true → Severed h (at k)
+  severed_is k is = let b = severed_by xs k is in let p = severs_at_by xs b.0 b.3 in
+      (at b.0, p.0, p.1, ((refl, b.1), λ m x y. joins_is m ∙ b.2 m x y), placed_is b.0 ∙ p.2, reply_is b.0 ∙ p.3, p.4)
+
+  pub was_severed : (k : ℕ) → Severed h (at k) → severed_in xs k ≡ true
+  was_severed k v =
+      let q = v.0 in let e : q ≡ at q.k = λ j. record { ring = v.3.0.0 j; k = q.k } in
+      severed_from xs k q.k v.3.0.1 (λ m x y. sym (joins_is m) ∙ v.3.1 m x y)
+      (severs_at_from xs q.k v.1 v.2 (sym (placed_is q.k) ∙ ap (placed h) (sym e) ∙ v.4) (sym (reply_is q.k) ∙ ap (reply h) (sym e) ∙ v.5) v.6)
+
+  pub here : (q : Req) (k : ℕ) → IsBefore q (at k) → q ≡ at q.k
+  here q k b j = record { ring = b.0 j; k = q.k }
+
+  -- the request before k is kept too
+  pub kept_before : (k m : ℕ) (x : Request) → slice_get xs k ≡ Some x → m < k → (y : Request) × (slice_get xs m ≡ Some y)
+  kept_before k m x is lt = let le : k < length xs = slice_get_within xs k x is in let m' : m < length xs = omega arith in (get_or xs m x, slice_get-get_or xs m x m')
+
+  pub placed_of : (k : ℕ) (y : Request) → slice_get xs k ≡ Some y → placed_in xs k ≡ Some (placed_behind (cond (k == 0) None (handed_in xs (k - 1))) y.sqe)
+  placed_of k y is = ap (λ o. placed_from (cond (k == 0) None (handed_in xs (k - 1))) (handed_at o)) is
+
+  pub drains_of_placed : (k : ℕ) (y : Request) (d : Entry) → slice_get xs k ≡ Some y → placed h (at k) ≡ Some d → drains d ≡ drains y.sqe
+  drains_of_placed k y d is p = drains_placed _ y.sqe d (sym (placed_of k y is) ∙ sym (placed_is k) ∙ p)
+
+  module _ (k : ℕ) (x : Request) (is : slice_get xs k ≡ Some x) where
+    unblocked : (d : Bool) (m : ℕ) (y : Request) → any_below (λ j. blocks d (slice_get xs j)) k ≡ false → m < k → slice_get xs m ≡ Some y → (d || drains y.sqe) ≡ true → pending_of (slice_get xs m) ≡ false
+    unblocked d m y none lt e t = not_true _ (λ p. true≢false (sym (any_at (λ j. blocks d (slice_get xs j)) k m lt
+        (ap (blocks d) e ∙ ap (λ b. b && (d || drains y.sqe)) (sym (ap pending_of e) ∙ p) ∙ t)) ∙ none))
+
+    unanswered_none : (m : ℕ) → (d : Bool) → drains_of (slice_get xs k) ≡ d → held_back xs k ≡ false → any_below (λ j. blocks d (slice_get xs j)) k ≡ false
+    unanswered_none m d e n = sym (ap (λ b. any_below (λ j. blocks b (slice_get xs j)) k) e) ∙ n
+
+    pub clear_is : clear_in xs k ≡ true → IsClear h (at k)
+    clear_is c =
+        let s : not (severed_in xs k) ≡ true = and_left _ _ c in let r : (chain_done xs k && not (held_back xs k)) ≡ true = and_right (not (severed_in xs k)) _ c in
+        let done : chain_done xs k ≡ true = and_left _ _ r in let free : not (held_back xs k) ≡ true = and_right (chain_done xs k) _ r in
+        let none : any_below (λ j. blocks (drains x.sqe) (slice_get xs j)) k ≡ false = unanswered_none k (drains x.sqe) (ap drains_of is) (not_true _ (λ u. true≢false (sym free ∙ ap not u))) in
+        let back : (q : Req) → IsBefore q (at k) → pending_of (slice_get xs q.k) ≡ false → IsReplied (phase h q) = λ q b p. subst (λ (z : Req). IsReplied (phase h z)) (sym (here q k b)) (let y = kept_before k q.k x is b.1 in is_answered q.k y.0 y.1 p) in
+        record {
+          unsevered = λ v. true≢false (sym s ∙ ap not (was_severed k v));
+          chain = λ q b. back q b.0 (done_by xs k done q.k b.0.1 (λ m u v. sym (joins_is m) ∙ b.1 m u v));
+          drains_before = λ q d b p t. let y = kept_before k q.k x is b.1 in
+              let f : drains y.0.sqe ≡ true = sym (drains_of_placed q.k y.0 d y.1 (ap (placed h) (sym (here q k b)) ∙ p)) ∙ t in
+              back q b (unblocked (drains x.sqe) q.k y.0 none b.1 y.1 (rw f (elim (drains x.sqe) as (λ z. (z || true) ≡ true) [ true ↦ refl | false ↦ refl ])));
+          drain = λ d p t q b. let y = kept_before k q.k x is b.1 in
+              let f : drains x.sqe ≡ true = sym (drains_of_placed k x d is p) ∙ t in
+              back q b (unblocked (drains x.sqe) q.k y.0 none b.1 y.1 (rw f refl));
+        }
+
+    -- a request that blocks k was not answered, though it was to be
+    blocked : (d : Bool) → drains_of (slice_get xs k) ≡ d → ((m : ℕ) × (m < k) × (blocks d (slice_get xs m) ≡ true)) → IsClear h (at k) → ⊥
+    blocked d e b c =
+        let y = kept_before k b.0 x is b.1 in let t : (is_pending y.0.stage && (d || drains y.0.sqe)) ≡ true = sym (ap (blocks d) y.1) ∙ b.2 in
+        let p : pending_of (slice_get xs b.0) ≡ true = ap pending_of y.1 ∙ and_left _ _ t in
+        let no : IsReplied (phase h (at b.0)) → ⊥ = λ r. true≢false (sym p ∙ was_answered b.0 r) in
+        let e' : drains x.sqe ≡ d = sym (ap drains_of is) ∙ e in
+        ⊎_elim
+        (λ (w : d ≡ true). let dx = placed_is k ∙ placed_of k x is in no (c.drain _ dx (drains_of_placed k x _ is dx ∙ e' ∙ w) (at b.0) (refl, b.1)))
+        (λ (w : d ≡ false). let dy = placed_is b.0 ∙ placed_of b.0 y.0 y.1 in
+        let f : drains y.0.sqe ≡ true = let G : Bool → Type 0 = λ z. (z || drains y.0.sqe) ≡ true in subst G w (and_right (is_pending y.0.stage) _ t) in
+        no (c.drains_before (at b.0) _ (refl, b.1) dy (drains_of_placed b.0 y.0 _ y.1 dy ∙ f)))
+        (bool_cases d)
+
+    pub was_clear : IsClear h (at k) → clear_in xs k ≡ true
+    was_clear c =
+        let s : severed_in xs k ≡ false = not_true _ (λ u. c.unsevered (severed_is k u)) in
+        let d : chain_done xs k ≡ true = done_from xs k (λ m lt l. was_answered m (c.chain (at m) ((refl, lt), λ j u v. joins_is j ∙ l j u v))) in
+        let f : held_back xs k ≡ false = not_true _ (λ u. blocked (drains_of (slice_get xs k)) refl (any_found _ k u) c) in
+        rw (s, d, f) refl
+
+  asked_some : (op : Op) (o : Option Entry) → asked_for op o ≡ true → (e : Entry) × (o ≡ Some e) × (asks_for op e ≡ true)
+  asked_some op None a = absurd (true≢false (sym a))
+  asked_some op (Some e) a = (e, refl, a)
+
+  pending_some : (o : Option Request) → pending_of o ≡ true → (y : Request) × (o ≡ Some y)
+  pending_some None p = absurd (true≢false (sym p))
+  pending_some (Some y) p = (y, refl)
+
+  -- what a cancel means
+  module _ (k : ℕ) (x : Request) (is : slice_get xs k ≡ Some x) (d : Entry) (p : placed_in xs k ≡ Some d) where
+    matched : (m : ℕ) → m < k → asked_for d.op (placed_in xs m) ≡ true → Matches h (at k) (at m)
+    matched m lt a = let e = asked_some d.op (placed_in xs m) a in ((refl, lt), d, e.0, placed_is k ∙ p, placed_is m ∙ e.1, e.2)
+
+    was_matched : (q : Req) → Matches h (at k) q → asked_for d.op (placed_in xs q.k) ≡ true
+    was_matched q m =
+        let same : Some d ≡ Some m.1 = sym p ∙ sym (placed_is k) ∙ m.3 in let one : d ≡ m.1 = cc in
+        let e : placed_in xs q.k ≡ Some m.2 = sym (placed_is q.k) ∙ ap (placed h) (sym (here q k m.0)) ∙ m.4 in
+        ap (asked_for d.op) e ∙ ap (λ (z : Entry). asks_for z.op m.2) one ∙ m.5
+
+    -- a match that is not wanted was answered
+    unwanted : (q : Req) → Matches h (at k) q → wanted xs d.op q.k ≡ false → IsReplied (phase h q)
+    unwanted q m w =
+        let a = was_matched q m in let y = kept_before k q.k x is m.0.1 in
+        let no : pending_of (slice_get xs q.k) ≡ false = not_true _ (λ u. true≢false (sym (ap (λ b. b && asked_for d.op (placed_in xs q.k)) u ∙ a) ∙ w)) in
+        subst (λ (z : Req). IsReplied (phase h z)) (sym (here q k m.0)) (is_answered q.k y.0 y.1 no)
+
+    none_below : (n : ℕ) → any_below (wanted xs d.op) n ≡ false → (m : ℕ) → m < n → wanted xs d.op m ≡ false
+    none_below n b m lt = not_true _ (λ u. true≢false (sym (any_at (wanted xs d.op) n m lt u) ∙ b))
+
+    pub is_first : (m : ℕ) → m < k → wanted xs d.op m ≡ true → any_below (wanted xs d.op) m ≡ false → IsFirst h (at k) (at m)
+    is_first m lt w b = record {
+      matches = matched m lt (and_right _ _ w);
+      unanswered = λ r. true≢false (sym (and_left _ _ w) ∙ was_answered m r);
+      first = λ q n l. unwanted q n (none_below m b q.k l);
+    }
+
+    pub is_none_left : any_below (wanted xs d.op) k ≡ false → NoneLeft h (at k)
+    is_none_left b q n = unwanted q n (none_below k b q.k n.0.1)
+
+    pub was_none_left : NoneLeft h (at k) → any_below (wanted xs d.op) k ≡ false
+    was_none_left n = not_true _ (λ u. (let f = any_found (wanted xs d.op) k u in
+        true≢false (sym (and_left _ _ f.2) ∙ was_answered f.0 (n (at f.0) (matched f.0 f.1 (and_right _ _ f.2))))))
+
+    pub was_first : (t : Req) → IsFirst h (at k) t → (t ≡ at t.k) × (t.k < k) × (wanted xs d.op t.k ≡ true) × (any_below (wanted xs d.op) t.k ≡ false)
+    was_first t f =
+        let e = here t k f.matches.0 in let a = was_matched t f.matches in let y = kept_before k t.k x is f.matches.0.1 in
+        let alive : pending_of (slice_get xs t.k) ≡ true = ⊎_elim (λ (w : pending_of (slice_get xs t.k) ≡ true). w)
+        (λ (w : pending_of (slice_get xs t.k) ≡ false). absurd (f.unanswered (subst (λ (z : Req). IsReplied (phase h z)) (sym e) (is_answered t.k y.0 y.1 w)))) (bool_cases (pending_of (slice_get xs t.k))) in
+        let lt : t.k < k = f.matches.0.1 in (
+          e,
+          lt,
+          ap (λ b. b && asked_for d.op (placed_in xs t.k)) alive ∙ a,
+          not_true _ (λ u. (let g = any_found (wanted xs d.op) t.k u in let l : g.0 < k = omega (arith, g.1) in
+              true≢false (sym (and_left _ _ g.2) ∙ was_answered g.0 (f.first (at g.0) (matched g.0 l (and_right _ _ g.2)) g.1)))),
+        )

@@ -1,0 +1,134 @@
+-- What is kept goes on agreeing with the history when the requests of one ring are written.
+use Rattle.std.proofs.Common.{◌≡◌, ℕ, zero, suc, ◌<◌, ◌≤◌, ◌==◌, ◌≢◌, Bool, true, false, cond, List, [], ◌∷◌, length, get_or, set, Some, refl, sym, ap, ◌∙◌, subst, ⊎_elim, true≢false, eqb-true, eq-eqb, get_or-set_same, get_or-set_other, arith}
+use Rattle.std.proofs.lemmas.List.{set-get_or}
+use Rattle.std.specs.List.{slice_get}
+use Rattle.std.proofs.Math.ListN.{length-set}
+use Rattle.std.proofs.lemmas.Option.{slice_get_within}
+use Rattle.history.specs.declared.req.Req.{Req}
+use Rattle.history.specs.declared.event.Event.{Event}
+use Rattle.model.specs.declared.request.Request.{Request}
+use Rattle.history.specs.History.{submits, clock_of, was_shut}
+use Rattle.history.specs.Pipes.{flow}
+use Rattle.history.specs.Legal.{Setup, MayCome, Legal, shut_for}
+use Rattle.model.specs.Machine.{Machine, setup_of}
+use Rattle.model.specs.Seen.{Seen, seen, seen_of}
+use Rattle.model.specs.Agrees.{PipeIs, Agrees, Carries, Decided}
+use Rattle.model.specs.Moves.{put, put_at}
+use Rattle.history.proofs.Requests.{bool_cases}
+use Rattle.model.proofs.RequestLists.{slice_get-set}
+use Rattle.model.proofs.RequestWrites.{put_length}
+
+abbrev pub row : List (List Request) → ℕ → List Request
+row rings i = get_or rings i []
+
+-- the requests of a ring were written
+abbrev pub put_row : Machine → ℕ → List Request → Machine
+put_row m i ys = record m { rings = set m.rings i ys }
+
+pub row_within : (rings : List (List Request)) (i k : ℕ) (x : Request) → slice_get (row rings i) k ≡ Some x → i < length rings
+row_within [] i k x is = cc
+row_within (r ∷ rs) zero k x is = omega arith
+row_within (r ∷ rs) (suc i) k x is = let lt : i < length rs = row_within rs i k x is in omega arith
+
+-- the rows after a write
+pub row_put : (rings : List (List Request)) (i j : ℕ) (ys : List Request) → i < length rings → row (set rings i ys) j ≡ cond (i == j) ys (row rings j)
+row_put rings i j ys lt = ⊎_elim
+    (λ (w : (i == j) ≡ true). let e : i ≡ j = eqb-true i j w in ap (λ z. row (set rings i ys) z) (sym e) ∙ get_or-set_same rings i ys [] lt ∙ sym (ap (λ b. cond b ys (row rings j)) w))
+    (λ (w : (i == j) ≡ false). let n : j ≢ i = λ e. true≢false (sym (eq-eqb i j (sym e)) ∙ w) in get_or-set_other rings i j ys [] n ∙ sym (ap (λ b. cond b ys (row rings j)) w))
+    (bool_cases (i == j))
+
+-- the event leaves the counts, the pipes, the clock and the end as they were
+pub record Calm (h : List Event) (e : Event) : Type 0 where
+  pub counts : (j : ℕ) → submits (e ∷ h) j ≡ submits h j
+  pub flows : (p : ℕ) → flow (e ∷ h) p ≡ flow h p
+  pub clock : clock_of (e ∷ h) ≡ clock_of h
+  pub shut : was_shut (e ∷ h) ≡ was_shut h
+
+pub same_setup : (m : Machine) (i : ℕ) (ys : List Request) → setup_of (put_row m i ys) ≡ setup_of m
+same_setup m i ys = ap (λ (n : ℕ). let s : Setup = record { rings = n; caps = (setup_of m).caps } in s) (length-set m.rings i ys)
+
+module _ (m : Machine) (h : List Event) (a : Agrees h m) (i : ℕ) where
+  abbrev pub at : ℕ → Req
+  at k = record { ring = i; k = k }
+
+  -- the event e touches the ring i alone, whose requests are ys after it
+  pub ring_kept : (e : Event) (ys : List Request) → i < length m.rings → length ys ≡ length (row m.rings i) → MayCome (setup_of m) h e → m.shut ≡ shut_for e → Calm h e
+      → ((k : ℕ) → seen (e ∷ h) (at k) ≡ seen_of (slice_get ys k)) → ((q : Req) → (i == q.ring) ≡ false → seen (e ∷ h) q ≡ seen h q) → Agrees (e ∷ h) (put_row m i ys)
+  ring_kept e ys lt len may shut calm own others = record {
+    legal = subst (λ (s : Setup). Legal s (e ∷ h)) (sym (same_setup m i ys)) ((a.shut ∙ shut, may), a.legal);
+    requests = λ q. ⊎_elim
+        (λ (w : (i == q.ring) ≡ true). let one : i ≡ q.ring = eqb-true i q.ring w in let name : at q.k ≡ q = λ j. record { ring = one j; k = q.k } in
+        sym (ap (seen (e ∷ h)) name) ∙ own q.k ∙ sym (ap (λ (r : List Request). seen_of (slice_get r q.k)) (row_put m.rings i q.ring ys lt ∙ ap (λ b. cond b ys (row m.rings q.ring)) w)))
+        (λ (w : (i == q.ring) ≡ false). others q w ∙ a.requests q ∙ sym (ap (λ (r : List Request). seen_of (slice_get r q.k)) (row_put m.rings i q.ring ys lt ∙ ap (λ b. cond b ys (row m.rings q.ring)) w)))
+        (bool_cases (i == q.ring));
+    counts = λ j. calm.counts j ∙ a.counts j ∙ ⊎_elim
+        (λ (w : (i == j) ≡ true). let one : i ≡ j = eqb-true i j w in ap (λ z. length (row m.rings z)) (sym one) ∙ sym len ∙ sym (ap length (row_put m.rings i j ys lt ∙ ap (λ b. cond b ys (row m.rings j)) w)))
+        (λ (w : (i == j) ≡ false). sym (ap length (row_put m.rings i j ys lt ∙ ap (λ b. cond b ys (row m.rings j)) w)))
+        (bool_cases (i == j));
+    pipes = λ p x is. subst (λ w. PipeIs w x) (sym (calm.flows p)) (a.pipes p x is);
+    clock = calm.clock ∙ a.clock;
+    shut = calm.shut ∙ a.shut;
+  }
+
+  -- one request was written
+  pub put_own : (after : ℕ → Seen) (xs : List Request) (k : ℕ) (f : Request → Request) (x : Request) → slice_get xs k ≡ Some x
+      → after k ≡ seen_of (Some (f x)) → ((j : ℕ) → (k == j) ≡ false → after j ≡ seen_of (slice_get xs j)) → (j : ℕ) → after j ≡ seen_of (slice_get (put xs k f) j)
+  put_own after xs k f x is here there j =
+      let p : put xs k f ≡ set xs k (f x) = ap (put_at xs k f) is in let g = ap (λ zs. slice_get zs j) p ∙ slice_get-set xs k j (f x) (slice_get_within xs k x is) in ⊎_elim
+      (λ (w : (k == j) ≡ true). ap after (sym (eqb-true k j w)) ∙ here ∙ sym (ap seen_of (g ∙ ap (λ b. cond b (Some (f x)) (slice_get xs j)) w)))
+      (λ (w : (k == j) ≡ false). there j w ∙ sym (ap seen_of (g ∙ ap (λ b. cond b (Some (f x)) (slice_get xs j)) w)))
+      (bool_cases (k == j))
+
+module _ (m : Machine) (h : List Event) (a : Agrees h m) (i k : ℕ) (x : Request) (is : slice_get (row m.rings i) k ≡ Some x) where
+  pub here_is : seen h (record { ring = i; k = k }) ≡ seen_of (Some x)
+  here_is = a.requests (record { ring = i; k = k }) ∙ ap seen_of is
+
+  -- the event e touches that request alone
+  pub one_kept : (e : Event) (f : Request → Request) → MayCome (setup_of m) h e → m.shut ≡ shut_for e → Calm h e
+      → seen (e ∷ h) (at m h a i k) ≡ seen_of (Some (f x)) → ((j : ℕ) → (k == j) ≡ false → seen (e ∷ h) (at m h a i j) ≡ seen h (at m h a i j))
+      → ((q : Req) → (i == q.ring) ≡ false → seen (e ∷ h) q ≡ seen h q) → Agrees (e ∷ h) (put_row m i (put (row m.rings i) k f))
+  one_kept e f may shut calm here there others =
+      ring_kept m h a i e (put (row m.rings i) k f) (row_within m.rings i k x is) (put_length (row m.rings i) k f) may shut calm
+      (put_own m h a i (λ j. seen (e ∷ h) (at m h a i j)) (row m.rings i) k f x is here (λ j w. there j w ∙ a.requests (at m h a i j))) others
+
+pub decides : (b : Bool) (m n' n : Machine) (e : Event) → n ≡ cond b n' m → (b ≡ true → Carries m e n') → (b ≡ false → (h : List Event) → Agrees h m → ¬ MayCome (setup_of m) h e) → Decided b m e n
+decides true m n' n e is yes' no' = subst (λ (z : Machine). Carries m e z) (sym is) (yes' refl)
+decides false m n' n e is yes' no' = (is, no' refl)
+
+-- a contract over a row, as the code meets it
+get_or_same : (rings : List (List Request)) (i : ℕ) (c d : List Request) → i < length rings → get_or rings i c ≡ get_or rings i d
+get_or_same [] i c d lt = absurd (omega arith)
+get_or_same (r ∷ rs) zero c d lt = refl
+get_or_same (r ∷ rs) (suc i) c d lt = get_or_same rs i c d (omega arith)
+
+pub row_of : (rings : List (List Request)) (i : ℕ) (r : List Request) → i < length rings → r ≡ get_or rings i r → r ≡ row rings i
+row_of rings i r lt e = e ∙ get_or_same rings i r [] lt
+
+after_row : (m : Machine) (i : ℕ) (r s : List Request) (b : Bool) (ys : List Request → List Request) → i < length m.rings → r ≡ row m.rings i → s ≡ cond b (ys r) r → put_row m i s ≡ cond b (put_row m i (ys (row m.rings i))) m
+after_row m i r s true ys lt e f = ap (put_row m i) (f ∙ ap ys e)
+after_row m i r s false ys lt e f = ap (put_row m i) (f ∙ e) ∙ ap (λ (z : List (List Request)). let n : Machine = record m { rings = z } in n) (set-get_or m.rings i [])
+
+abbrev pub IsDecided : Event → ℕ → (Machine → List Request → Bool) → (List Request → List Request) → Type 0
+IsDecided e i may ys = (m n : Machine) (b : Bool) → m.shut ≡ shut_for e → b ≡ may m (row m.rings i) → n ≡ cond b (put_row m i (ys (row m.rings i))) m → Decided b m e n
+
+pub meets : (e : Event) (i : ℕ) (may : Machine → List Request → Bool) (ys : List Request → List Request) → IsDecided e i may ys
+    → (m now : Machine) → m ≡ now → (r s : List Request) (b : Bool) → now.shut ≡ shut_for e → i < length m.rings → r ≡ get_or m.rings i r → b ≡ may m r → s ≡ cond b (ys r) r → Decided b now e (put_row m i s)
+meets e i may ys dec m now v r s b sh lt is by-row after =
+    let one = row_of m.rings i r lt is in
+    subst (λ (z : Machine). Decided b z e (put_row m i s)) v
+    (dec m (put_row m i s) b (ap (λ (z : Machine). z.shut) v ∙ sh) (by-row ∙ ap (may m) one) (after_row m i r s b ys lt one after))
+
+-- no such ring
+no_row : (rings : List (List Request)) (i : ℕ) → length rings ≤ i → row rings i ≡ []
+no_row [] i le = refl
+no_row (r ∷ rs) zero le = absurd (omega arith)
+no_row (r ∷ rs) (suc i) le = no_row rs i (omega arith)
+
+pub misses : (e : Event) (i : ℕ) (may : Machine → List Request → Bool) (ys : List Request → List Request) → IsDecided e i may ys
+    → (m now : Machine) → m ≡ now → now.shut ≡ shut_for e → length m.rings ≤ i → may m [] ≡ false → Decided false now e m
+misses e i may ys dec m now v sh le never =
+    subst (λ (z : Machine). Decided false z e m) v (dec m m false (ap (λ (z : Machine). z.shut) v ∙ sh) (sym (ap (may m) (no_row m.rings i le) ∙ never)) refl)
+
+-- a request is named by its ring and its number
+pub retarget : (E : Req → Event) (b : Bool) (m n : Machine) (i : ℕ) (t : Req) → i ≡ t.ring → Decided b m (E (record { ring = i; k = t.k })) n → Decided b m (E t) n
+retarget E b m n i t e d = subst (λ (z : Req). Decided b m (E z) n) (λ j. record { ring = e j; k = t.k }) d
