@@ -9,7 +9,7 @@ use crate::ring::Ring;
 
 impl Ring {
     /// The cancel runs and has found nothing yet, and `target` is the first request that it means.
-    #[tactic(auto, using(crate::proofs::Moving::stage_within))]
+    #[tactic(auto, using(crate::proofs::RequestWrites::stage_within))]
     fn comes_upon(&self, cancel: u64, target: u64) -> bool
         ensures { result ≡ comes_upon self.now cancel target }
     {
@@ -23,7 +23,7 @@ impl Ring {
         target < cancel && self.is_wanted(op, target) && !self.any_wanted(op, target)
     }
 
-    #[tactic(auto, using(crate::proofs::Moving::stage_within, crate::proofs::Moving::found_length))]
+    #[tactic(auto, using(crate::proofs::RequestWrites::stage_within, crate::proofs::RequestWrites::found_length))]
     pub fn take(&mut self, cancel: u64, target: u64) -> bool
         ensures may { result ≡ may_take self.old cancel target }
         ensures after { self.new ≡ cond result (put_stage (put_found self.old cancel Took) target cancelled) self.old }
@@ -38,7 +38,7 @@ impl Ring {
         true
     }
 
-    #[tactic(auto, using(crate::proofs::Moving::stage_within))]
+    #[tactic(auto, using(crate::proofs::RequestWrites::stage_within))]
     pub fn miss(&mut self, cancel: u64, target: u64) -> bool
         ensures may { result ≡ may_miss self.old cancel target }
         ensures after { self.new ≡ cond result (put_found self.old cancel Missed) self.old }

@@ -31,7 +31,7 @@ impl Ring {
         }
     }
 
-    #[tactic(auto, using(crate::proofs::Moving::stage_within))]
+    #[tactic(auto, using(crate::proofs::RequestWrites::stage_within))]
     pub fn begin(&mut self, k: u64) -> bool
         ensures may { result ≡ may_begin self.old k }
         ensures after { self.new ≡ cond result (put_stage self.old k Runs) self.old }
@@ -47,7 +47,7 @@ impl Ring {
         true
     }
 
-    #[tactic(auto, using(crate::proofs::Moving::stage_within))]
+    #[tactic(auto, using(crate::proofs::RequestWrites::stage_within))]
     pub fn park(&mut self, k: u64) -> bool
         ensures may { result ≡ may_park self.old k }
         ensures after { self.new ≡ cond result (put_stage self.old k Waits) self.old }
@@ -59,7 +59,7 @@ impl Ring {
         true
     }
 
-    #[tactic(auto, using(crate::proofs::Moving::stage_within))]
+    #[tactic(auto, using(crate::proofs::RequestWrites::stage_within))]
     pub fn sever(&mut self, k: u64) -> bool
         ensures may { result ≡ may_sever self.old k }
         ensures after { self.new ≡ cond result (put_stage self.old k cancelled) self.old }
@@ -71,7 +71,7 @@ impl Ring {
         true
     }
 
-    #[tactic(auto, using(crate::proofs::Moving::stage_within, crate::proofs::Moving::put_reaped_is))]
+    #[tactic(auto, using(crate::proofs::RequestWrites::stage_within, crate::proofs::RequestWrites::put_reaped_is))]
     pub fn reap(&mut self, k: u64) -> bool
         ensures may { result ≡ may_reap self.old k }
         ensures after { self.new ≡ cond result (put_reaped self.old k) self.old }
@@ -83,7 +83,7 @@ impl Ring {
         true
     }
 
-    #[tactic(auto, using(crate::proofs::Moving::stage_within))]
+    #[tactic(auto, using(crate::proofs::RequestWrites::stage_within))]
     pub fn cut(&mut self, k: u64) -> bool
         ensures may { result ≡ may_cut self.old k }
         ensures after { self.new ≡ cond result (put_stage self.old k cancelled) self.old }

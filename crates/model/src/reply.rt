@@ -42,7 +42,7 @@ impl Ring {
     }
 
     /// The running request is answered.
-    #[tactic(auto, using(crate::proofs::Moving::taken_length))]
+    #[tactic(auto, using(crate::proofs::RequestWrites::taken_length))]
     pub fn answer(&mut self, k: usize, res: i32, taken: Bytes)
         requires { k < length self.old }
         ensures { self.new ≡ put_reply self.old k res taken }
@@ -103,7 +103,7 @@ fn tells_op(ring: &Ring, pipes: &[Pipe], k: u64, op: Op, res: i32, taken: &[u8])
 }
 
 /// The operation of the running request `k`, where this reply may come.
-#[tactic(auto, using(crate::proofs::Moving::stage_within, crate::proofs::Replying::may_reply_is))]
+#[tactic(auto, using(crate::proofs::RequestWrites::stage_within, crate::proofs::ReplyEvents::may_reply_is))]
 pub fn may_reply(ring: &Ring, pipes: &[Pipe], k: u64, res: i32, taken: &[u8]) -> Option<Op>
     ensures no { result ≡ None → may_reply pipes.now ring.now k res taken.now ≡ false }
     ensures yes { (op : Op) → result ≡ Some op → (may_reply pipes.now ring.now k res taken.now ≡ true) × (placed_in ring.now k ≡ with_op (handed_in ring.now k) op) × (k < length ring.now) }

@@ -10,7 +10,7 @@ use std::alloc::{AllocError, Global};
 impl State {
     /// True where the event was allowed; it then has happened. Else nothing changes. An error comes for an allowed
     /// event alone.
-    #[tactic(auto, using(crate::proofs::Deciding::decision, crate::proofs::Deciding::ill_timed, crate::proofs::Deciding::following))]
+    #[tactic(auto, using(crate::proofs::RunAgreement::decision, crate::proofs::RunAgreement::ill_timed, crate::proofs::RunAgreement::following))]
     pub fn carry_out(&mut self, alloc: Global, event: &Event) -> Result<bool, AllocError>
         ensures decision { IfOk result (λ done. Decision done self.old event.now self.new) }
         ensures wanting { OnErr result (IsNext self.old event.now) }

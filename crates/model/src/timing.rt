@@ -13,7 +13,7 @@ use crate::ring::Ring;
 const TIMED_OUT: i32 = -62;
 
 impl Ring {
-    #[tactic(auto, using(crate::proofs::Moving::stage_within))]
+    #[tactic(auto, using(crate::proofs::RequestWrites::stage_within))]
     pub fn arm(&mut self, clock: u32, k: u64, deadline: u32) -> bool
         ensures may { result ≡ may_arm clock self.old k deadline }
         ensures after { self.new ≡ cond result (put_stage self.old k (Armed deadline)) self.old }
@@ -41,7 +41,7 @@ impl Ring {
         }
     }
 
-    #[tactic(auto, using(crate::proofs::Moving::due_within))]
+    #[tactic(auto, using(crate::proofs::RequestWrites::due_within))]
     pub fn expire(&mut self, clock: u32, k: u64) -> bool
         ensures may { result ≡ may_expire clock self.old k }
         ensures after { self.new ≡ cond result (put_stage self.old k timed_out) self.old }
@@ -54,7 +54,7 @@ impl Ring {
     }
 
     /// The timer runs out now, and `target` is its target.
-    #[tactic(auto, using(crate::proofs::Moving::due_within))]
+    #[tactic(auto, using(crate::proofs::RequestWrites::due_within))]
     fn runs_out(&self, clock: u32, timer: u64, target: u64) -> bool
         ensures { result ≡ runs_out clock self.now timer target }
     {
@@ -73,7 +73,7 @@ impl Ring {
         }
     }
 
-    #[tactic(auto, using(crate::proofs::Moving::stage_within, crate::proofs::Moving::fired_length))]
+    #[tactic(auto, using(crate::proofs::RequestWrites::stage_within, crate::proofs::RequestWrites::fired_length))]
     pub fn fire(&mut self, clock: u32, timer: u64, target: u64) -> bool
         ensures may { result ≡ may_fire clock self.old timer target }
         ensures after { self.new ≡ cond result (put_stage (put_fired self.old timer) target cancelled) self.old }
@@ -88,7 +88,7 @@ impl Ring {
         true
     }
 
-    #[tactic(auto, using(crate::proofs::Moving::stage_within))]
+    #[tactic(auto, using(crate::proofs::RequestWrites::stage_within))]
     pub fn fire_miss(&mut self, clock: u32, timer: u64, target: u64) -> bool
         ensures may { result ≡ may_fire_miss clock self.old timer target }
         ensures after { self.new ≡ cond result (put_fired self.old timer) self.old }
@@ -102,7 +102,7 @@ impl Ring {
         true
     }
 
-    #[tactic(auto, using(crate::proofs::Moving::stage_within))]
+    #[tactic(auto, using(crate::proofs::RequestWrites::stage_within))]
     pub fn settle(&mut self, k: u64) -> bool
         ensures may { result ≡ may_settle self.old k }
         ensures after { self.new ≡ cond result (put_settled self.old k) self.old }
