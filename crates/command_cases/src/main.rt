@@ -2,6 +2,7 @@
 //! input, and prints each that goes wrong and how many there were.
 #![tactic(auto)]
 
+mod broken;
 mod case;
 mod drawn;
 mod events;
@@ -42,6 +43,9 @@ fn told<R: Threads + Sync + Clock + Files + Input + AllocGlobal>(
         "among" => case::is_among(rt, case),
         "stats" => case::surveyed(rt, case),
         "listed" => case::prints_listed(rt, case),
+        "writes" => broken::writes(rt, case.text, case.second),
+        "reads" => broken::reads(rt, case.text, case.second),
+        "finds" => broken::finds(rt, case.text, case.second),
         "drawn" => drawn::runs(rt, case.text),
         "legal" => histories::is_legal(rt, case),
         "events" => case::folded(rt.alloc(), &mut events::told(rt.alloc(), case.text)?),

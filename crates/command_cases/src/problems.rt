@@ -5,6 +5,7 @@ use explore::ExploreError;
 use script_text::{Fault, ScriptFault};
 use std::alloc::{AllocError, Global};
 use std::io;
+use streams::{InputFault, OutputFault};
 
 /// The problem of this name.
 fn named(alloc: Global, name: &str) -> Result<Problem, AllocError> {
@@ -21,9 +22,10 @@ fn named(alloc: Global, name: &str) -> Result<Problem, AllocError> {
         "thread" => Problem::from(RunFault::Thread),
         "shared" => Problem::from(RunFault::Shared),
         "workers" => Problem::from(RunFault::Workers),
-        "reading" => Problem::of_input(&io::Error::from(io::ErrorKind::OutOfMemory)),
-        "missing" => Problem::of_input(&io::Error::from(io::ErrorKind::NotFound)),
-        _ => Problem::Output,
+        "reading" => Problem::from(InputFault::Memory),
+        "missing" => Problem::from(InputFault::Input(io::Error::from(io::ErrorKind::NotFound))),
+        "full" => Problem::from(OutputFault::WriteZero),
+        _ => Problem::from(OutputFault::Output(io::Error::from(io::ErrorKind::BrokenPipe))),
     })
 }
 

@@ -1,5 +1,10 @@
 //! A command carried out.
-ghost use Rattle.std.specs.Prelude.{◌≡◌, ◌≤◌, ◌*◌, ◌/◌, min, max};
+ghost use Rattle.std.specs.Prelude.{◌≡◌, ◌≢◌, ◌≤◌, ◌*◌, ◌/◌, ◌⊎◌, min, max, map, length, IfOk, OnOk, IfErr};
+ghost use Rattle.std.specs.Io.KnownBytes.{Keeps};
+ghost use Rattle.explore.specs.Rows.{rows_of};
+ghost use Rattle.script_text.specs.declared.fault.ScriptFault.{ScriptFault};
+ghost use Rattle.commands.specs.Printed.{tables_text, counted_text, HasBegun, HasPrinted, IsHistoryOfText, IsOutcomesText, IsQuiet, IsRunText, Prints};
+ghost use Rattle.commands.specs.Status.{status_of, Ends, Explains, IsFaultOf, IsOfHistory, IsOfMemory, IsOfRun, IsOfSearch, IsRun};
 
 use crate::job::Job;
 use crate::problem::Problem;
@@ -12,6 +17,7 @@ use std::io;
 use std::io::{Read, Write};
 use std::thread::Threads;
 use std::time::{Clock, Instant};
+use streams::{read_all, write_out};
 
 /// Carries a job out: reads the script, for a history the table too, and writes the answer to `out`. The status is 0 where
 /// all of it is written. Else one line on `err` says why: status 1, or 2 for a fault of the script or the table, or 3 for a
@@ -26,19 +32,52 @@ pub fn perform<R: Threads + Sync + Clock, S: Read, T: Read, W: Write, E: Write>(
     out: &mut W,
     err: &mut E,
 ) -> u8
-    ensures { result ≤ 3 }
+    ensures bound { result ≤ 3 }
+    // With status 0, what the job prints of what was read went out, all of it and nothing else.
+    ensures printed { result ≡ 0 → HasPrinted job.now (S.remaining script.old) (T.remaining table.old) (W.contents out.old) (W.contents out.new) }
+    // With any other status nothing went out, or else the writing failed.
+    ensures unprinted { result ≢ 0 → Keeps (W.contents out.old) (W.contents out.new) ⊎ ((result ≡ 1) × HasBegun job.now (S.remaining script.old) (T.remaining table.old) (W.contents out.old) (W.contents out.new)) }
+    // Status 2 tells of a fault that is there.
+    ensures faulty { result ≡ 2 → (fault : ScriptFault) × IsFaultOf job.now (S.remaining script.old) (T.remaining table.old) fault }
+    // Only a run is stuck.
+    ensures stuck { result ≡ 3 → IsRun job.now }
+    // Where all went well, only statistics go to `err`.
+    ensures quiet { result ≡ 0 → IsQuiet job.now → Keeps (E.contents err.old) (E.contents err.new) }
 {
-    let done = match answer(rt, alloc, job, script, table, err) {
-        Ok(text) => write_all(out, &text),
-        Err(problem) => Err(problem),
-    };
-    match done {
+    match carry_out(rt, alloc, job, script, table, out, err) {
         Ok(()) => 0,
-        Err(problem) => {
-            let _ = writeln!(err, "{problem}");
-            let _ = err.flush();
-            problem.status()
-        }
+        Err(problem) => tell(&problem, err),
+    }
+}
+
+/// Says on `err` why there is no answer. What is told is the status.
+pub fn tell<E: Write>(problem: &Problem, err: &mut E) -> u8
+    ensures { result ≡ status_of problem.now }
+{
+    let _ = writeln!(err, "{problem}");
+    let _ = err.flush();
+    problem.status()
+}
+
+/// Makes the answer to a job, and writes it to `out`.
+fn carry_out<R: Threads + Sync + Clock, S: Read, T: Read, W: Write, E: Write>(
+    rt: &R,
+    alloc: Global,
+    job: &Job,
+    script: &mut S,
+    table: &mut T,
+    out: &mut W,
+    err: &mut E,
+) -> Result<(), Problem>
+    ensures printed { OnOk result (HasPrinted job.now (S.remaining script.old) (T.remaining table.old) (W.contents out.old) (W.contents out.new)) }
+    ensures ends { IfErr result (Ends job.now (S.remaining script.old) (T.remaining table.old) (W.contents out.old) (W.contents out.new)) }
+    ensures quiet { IsQuiet job.now → Keeps (E.contents err.old) (E.contents err.new) }
+{
+    let text = answer(rt, alloc, job, script, table, err)?;
+    write_out(out, &text)?;
+    match out.flush() {
+        Ok(()) => Ok(()),
+        Err(_) => Err(Problem::Output),
     }
 }
 
@@ -50,14 +89,15 @@ fn answer<R: Threads + Sync + Clock, S: Read, T: Read, E: Write>(
     script: &mut S,
     table: &mut T,
     err: &mut E,
-) -> Result<Vec<u8>, Problem> {
+) -> Result<Vec<u8>, Problem>
+    ensures prints { IfOk result (λ text. Prints job.now (S.remaining script.old) (T.remaining table.old) text.items) }
+    ensures explains { IfErr result (Explains job.now (S.remaining script.old) (T.remaining table.old)) }
+    ensures quiet { IsQuiet job.now → Keeps (E.contents err.old) (E.contents err.new) }
+{
     let text = read_all(alloc, script)?;
     let script = read_script(alloc, &text)?;
     match *job {
-        Job::Run { workers, turns } => {
-            let table = run_script(rt, alloc, &script, workers, turns)?;
-            Ok(write_table(alloc, &script, &table)?)
-        }
+        Job::Run { workers, turns } => run_text(rt, alloc, &script, workers, turns),
         Job::Outcomes { stats: false } => outcomes_text(alloc, &script),
         Job::Outcomes { stats: true } => survey_text(rt, alloc, &script, err),
         Job::History => {
@@ -67,8 +107,26 @@ fn answer<R: Threads + Sync + Clock, S: Read, T: Read, E: Write>(
     }
 }
 
+/// The table of a run.
+fn run_text<R: Threads + Sync>(
+    rt: &R,
+    alloc: Global,
+    script: &Script,
+    workers: u32,
+    turns: u32,
+) -> Result<Vec<u8>, Problem>
+    ensures prints { IfOk result (λ text. IsRunText script.now text.items) }
+    ensures explains { IfErr result IsOfRun }
+{
+    let table = run_script(rt, alloc, script, workers, turns)?;
+    Ok(write_table(alloc, script, &table)?)
+}
+
 /// All tables of a script, each followed by an empty line, and how many there are.
-fn outcomes_text(alloc: Global, script: &Script) -> Result<Vec<u8>, Problem> {
+fn outcomes_text(alloc: Global, script: &Script) -> Result<Vec<u8>, Problem>
+    ensures prints { IfOk result (λ text. IsOutcomesText script.now text.items) }
+    ensures explains { IfErr result (IsOfSearch script.now) }
+{
     let tables = outcomes(alloc, script, STATES)?;
     tables_text(alloc, script, &tables)
 }
@@ -79,7 +137,10 @@ fn survey_text<R: Clock, E: Write>(
     alloc: Global,
     script: &Script,
     err: &mut E,
-) -> Result<Vec<u8>, Problem> {
+) -> Result<Vec<u8>, Problem>
+    ensures prints { IfOk result (λ text. IsOutcomesText script.now text.items) }
+    ensures explains { IfErr result (IsOfSearch script.now) }
+{
     let start = Instant::now(rt);
     let survey = survey_script(alloc, script, STATES)?;
     let nanos = nanos_since(rt, start);
@@ -110,7 +171,10 @@ pub fn rate_of(count: u64, nanos: u64) -> u64
 }
 
 /// These tables, each followed by an empty line, and how many there are.
-fn tables_text(alloc: Global, script: &Script, tables: &[Table]) -> Result<Vec<u8>, Problem> {
+fn tables_text(alloc: Global, script: &Script, tables: &[Table]) -> Result<Vec<u8>, Problem>
+    ensures text { IfOk result (λ text. text.items ≡ counted_text script.now (map rows_of tables.now)) }
+    ensures memory { IfErr result IsOfMemory }
+{
     let mut text = Vec::new(alloc);
     for table in tables {
         text.extend_from_slice(&write_table(alloc, script, table)?)?;
@@ -122,27 +186,13 @@ fn tables_text(alloc: Global, script: &Script, tables: &[Table]) -> Result<Vec<u
 }
 
 /// A history of a script with the table that a text writes, or that there is none.
-fn history_text(alloc: Global, script: &Script, table: &[u8]) -> Result<Vec<u8>, Problem> {
+fn history_text(alloc: Global, script: &Script, table: &[u8]) -> Result<Vec<u8>, Problem>
+    ensures prints { IfOk result (λ text. IsHistoryOfText script.now table.now text.items) }
+    ensures explains { IfErr result (IsOfHistory script.now table.now) }
+{
     let table = read_table(alloc, script, table)?;
     match find_history(alloc, script, &table, STATES)? {
         Some(events) => Ok(write_history(alloc, script, &events)?.into_bytes()),
         None => Ok(Vec::from_slice(alloc, b"no history\n")?),
     }
-}
-
-/// All bytes of a reader.
-fn read_all<S: Read>(alloc: Global, reader: &mut S) -> Result<Vec<u8>, Problem> {
-    let mut bytes = Vec::new(alloc);
-    match reader.read_to_end(&mut bytes) {
-        Ok(_) => Ok(bytes),
-        Err(error) => Err(Problem::of_input(&error)),
-    }
-}
-
-/// Writes all bytes out.
-fn write_all<W: Write>(out: &mut W, bytes: &[u8]) -> Result<(), Problem> {
-    if out.write_all(bytes).is_err() || out.flush().is_err() {
-        return Err(Problem::Output);
-    }
-    Ok(())
 }

@@ -1,7 +1,10 @@
 //! An invocation carried out over the files that it names.
-ghost use Rattle.std.specs.Prelude.{◌≤◌};
+ghost use Rattle.std.specs.Prelude.{◌≡◌, ◌≢◌, ◌≤◌, ◌⊎◌, None};
+ghost use Rattle.std.specs.Io.KnownBytes.{Keeps};
+ghost use Rattle.commands.specs.Printed.{HasBegun, HasPrinted, IsQuiet};
+ghost use Rattle.commands.specs.Status.{IsRun};
 
-use crate::answer::perform;
+use crate::answer::{perform, tell};
 use crate::job::Invocation;
 use crate::problem::Problem;
 use std::fs::open;
@@ -20,14 +23,22 @@ pub fn serve<T: Threads + Sync + Clock, R: Files + Input + AllocGlobal, W: Write
     out: &mut W,
     err: &mut E,
 ) -> u8
-    ensures { result ≤ 3 }
+    ensures bound { result ≤ 3 }
+    // With status 0, what the job prints of some script went out, and nothing else.
+    ensures printed { result ≡ 0 → HasPrinted invocation.now.job None None (W.contents out.old) (W.contents out.new) }
+    // With any other status nothing went out, or else the writing failed.
+    ensures unprinted { result ≢ 0 → Keeps (W.contents out.old) (W.contents out.new) ⊎ ((result ≡ 1) × HasBegun invocation.now.job None None (W.contents out.old) (W.contents out.new)) }
+    // Only a run is stuck.
+    ensures stuck { result ≡ 3 → IsRun invocation.now.job }
+    // Where all went well, only statistics go to `err`.
+    ensures quiet { result ≡ 0 → IsQuiet invocation.now.job → Keeps (E.contents err.old) (E.contents err.new) }
 {
     if invocation.file == "-" {
         return serve_script(threads, rt, invocation, &mut rt.reader(), out, err);
     }
     match open(rt, invocation.file) {
         Ok(mut script) => serve_script(threads, rt, invocation, &mut script, out, err),
-        Err(_) => refused(err),
+        Err(_) => tell(&Problem::Input, err),
     }
 }
 
@@ -40,7 +51,11 @@ fn serve_script<T: Threads + Sync + Clock, R: Files + AllocGlobal, S: Read, W: W
     out: &mut W,
     err: &mut E,
 ) -> u8
-    ensures { result ≤ 3 }
+    ensures bound { result ≤ 3 }
+    ensures printed { result ≡ 0 → HasPrinted invocation.now.job None None (W.contents out.old) (W.contents out.new) }
+    ensures unprinted { result ≢ 0 → Keeps (W.contents out.old) (W.contents out.new) ⊎ ((result ≡ 1) × HasBegun invocation.now.job None None (W.contents out.old) (W.contents out.new)) }
+    ensures stuck { result ≡ 3 → IsRun invocation.now.job }
+    ensures quiet { result ≡ 0 → IsQuiet invocation.now.job → Keeps (E.contents err.old) (E.contents err.new) }
 {
     let (alloc, job) = (rt.alloc(), &invocation.job);
     let Some(path) = invocation.table else {
@@ -48,16 +63,6 @@ fn serve_script<T: Threads + Sync + Clock, R: Files + AllocGlobal, S: Read, W: W
     };
     match open(rt, path) {
         Ok(mut table) => perform(threads, alloc, job, script, &mut table, out, err),
-        Err(_) => refused(err),
+        Err(_) => tell(&Problem::Input, err),
     }
-}
-
-/// Says that a file can't be opened. The answer is the status.
-fn refused<E: Write>(err: &mut E) -> u8
-    ensures { result ≤ 3 }
-{
-    let problem = Problem::Input;
-    let _ = writeln!(err, "{problem}");
-    let _ = err.flush();
-    problem.status()
 }

@@ -1,13 +1,15 @@
 //! Why a command gives no answer.
 ghost use Rattle.std.specs.Prelude.{◌≡◌};
 ghost use Rattle.commands.specs.declared.problem.Problem.TheVariants.{Memory as OutOfMemory};
-ghost use Rattle.commands.specs.Status.{of_script, of_search, of_run};
+ghost use Rattle.commands.specs.declared.problem.Problem.TheVariants.{Output as NotWritten};
+ghost use Rattle.commands.specs.Status.{of_input, of_script, of_search, of_run};
 
 use driver::RunFault;
 use explore::ExploreError;
 use script_text::{Memory, ScriptFault};
 use std::alloc::{AllocError, AllocFailed};
-use std::{fmt, io};
+use std::fmt;
+use streams::{InputFault, OutputFault};
 
 /// Why a command gives no answer.
 #[derive(Drop)]
@@ -43,14 +45,6 @@ impl Problem {
             _ => 1,
         }
     }
-
-    /// What a read that failed means.
-    pub fn of_input(error: &io::Error) -> Problem {
-        match error.kind() {
-            io::ErrorKind::OutOfMemory => Problem::Memory,
-            _ => Problem::Input,
-        }
-    }
 }
 
 impl fmt::Display for Problem {
@@ -64,6 +58,27 @@ impl fmt::Display for Problem {
             Problem::TooManyStates => write!(f, "fault: too many states"),
             Problem::Stuck(label) => write!(f, "stuck {label}"),
             Problem::Line(fault) => write!(f, "{fault}"),
+        }
+    }
+}
+
+impl From<InputFault> for Problem {
+    ghost from_gives = { λ fault p. p ≡ of_input fault };
+
+    fn from(fault: InputFault) -> Problem {
+        match fault {
+            InputFault::Input(_) => Problem::Input,
+            InputFault::Memory => Problem::Memory,
+        }
+    }
+}
+
+impl From<OutputFault> for Problem {
+    ghost from_gives = { λ _ p. p ≡ NotWritten };
+
+    fn from(fault: OutputFault) -> Problem {
+        match fault {
+            OutputFault::Output(_) | OutputFault::WriteZero => Problem::Output,
         }
     }
 }

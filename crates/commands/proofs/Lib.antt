@@ -1,0 +1,3 @@
+mod Listings
+mod Printing
+mod Problems

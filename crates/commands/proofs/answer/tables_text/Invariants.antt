@@ -1,0 +1,8 @@
+-- The text so far, and that of the tables that are left, are the whole text.
+use Rattle.std.proofs.Common.{◌≡◌, ◌++◌, drop, map}
+use Rattle.explore.specs.Rows.{rows_of}
+use Rattle.commands.specs.Printed.{tables_text}
+use Rattle.commands.proofs.answer.tables_text.Given as goal
+
+abbrev pub invariant-loop-table : goal.invariant-loop-table
+invariant-loop-table l = l.text.items ++ tables_text l.script (map rows_of (drop l.table-index l.tables)) ≡ tables_text l.script (map rows_of l.tables)
