@@ -60,6 +60,7 @@ pub fn tell<E: Write>(problem: &Problem, err: &mut E) -> u8
 }
 
 /// Makes the answer to a job, and writes it to `out`.
+#[tactic(auto, using(crate::proofs::Printing::begun_whole))]
 fn carry_out<R: Threads + Sync + Clock, S: Read, T: Read, W: Write, E: Write>(
     rt: &R,
     alloc: Global,
