@@ -85,13 +85,15 @@ pub record HasPrinted (job : Job) (script table old new : Option (List ℕ)) : T
   pub prints : Prints job script table text
   pub went : Appends old new text
 
--- a beginning of it went to the writer's end, or all of it, and nothing else
+-- a beginning of these bytes, or all of them, went to the writer's end, and nothing else
+abbrev pub AppendsSome : Option (List ℕ) → Option (List ℕ) → List ℕ → Type 0
+AppendsSome old new bytes = (count : ℕ) × (count ≤ length bytes) × Appends old new (take count bytes)
+
+-- a beginning of what the job prints went to the writer's end, or all of it, and nothing else
 pub record HasBegun (job : Job) (script table old new : Option (List ℕ)) : Type 0 where
   pub text : List ℕ
   pub prints : Prints job script table text
-  pub count : ℕ
-  pub within : count ≤ length text
-  pub went : Appends old new (take count text)
+  pub went : AppendsSome old new text
 
 -- a job that writes no statistics
 abbrev pub IsQuiet : Job → Type 0

@@ -1,9 +1,10 @@
 //! A command carried out.
-ghost use Rattle.std.specs.Prelude.{◌≡◌, ◌≢◌, ◌≤◌, ◌*◌, ◌/◌, ◌⊎◌, min, max, map, length, IfOk, OnOk, IfErr};
-ghost use Rattle.std.specs.Io.KnownBytes.{Keeps};
+ghost use Rattle.std.specs.Prelude.{◌≡◌, ◌≢◌, ◌≤◌, ◌*◌, ◌/◌, ◌⊎◌, min, max, map, length, IfOk, OnOk, IfErr, OnErr};
+ghost use Rattle.std.specs.Io.KnownBytes.{Appends, Keeps};
 ghost use Rattle.explore.specs.Rows.{rows_of};
 ghost use Rattle.script_text.specs.declared.fault.ScriptFault.{ScriptFault};
-ghost use Rattle.commands.specs.Printed.{tables_text, counted_text, HasBegun, HasPrinted, IsHistoryOfText, IsOutcomesText, IsQuiet, IsRunText, Prints};
+ghost use Rattle.commands.specs.declared.problem.Problem.{Problem};
+ghost use Rattle.commands.specs.Printed.{counted_text, AppendsSome, HasBegun, HasPrinted, IsHistoryOfText, IsOutcomesText, IsQuiet, IsRunText, Prints};
 ghost use Rattle.commands.specs.Status.{status_of, Ends, Explains, IsFaultOf, IsOfHistory, IsOfMemory, IsOfRun, IsOfSearch, IsRun};
 
 use crate::job::Job;
@@ -60,7 +61,6 @@ pub fn tell<E: Write>(problem: &Problem, err: &mut E) -> u8
 }
 
 /// Makes the answer to a job, and writes it to `out`.
-#[tactic(auto, using(crate::proofs::Printing::begun_whole))]
 fn carry_out<R: Threads + Sync + Clock, S: Read, T: Read, W: Write, E: Write>(
     rt: &R,
     alloc: Global,
@@ -75,7 +75,17 @@ fn carry_out<R: Threads + Sync + Clock, S: Read, T: Read, W: Write, E: Write>(
     ensures quiet { IsQuiet job.now → Keeps (E.contents err.old) (E.contents err.new) }
 {
     let text = answer(rt, alloc, job, script, table, err)?;
-    write_out(out, &text)?;
+    put_out(&text, out)
+}
+
+/// Writes a text out, and flushes. Where that fails, a beginning of the text went out, or all of it.
+#[tactic(auto, using(crate::proofs::Printing::some_begun, crate::proofs::Printing::whole_begun))]
+fn put_out<W: Write>(text: &[u8], out: &mut W) -> Result<(), Problem>
+    ensures all { OnOk result (Appends (W.contents out.old) (W.contents out.new) text.now) }
+    ensures begun { OnErr result (AppendsSome (W.contents out.old) (W.contents out.new) text.now) }
+    ensures output { IfErr result (λ problem. problem ≡ Problem.Output) }
+{
+    write_out(out, text)?;
     match out.flush() {
         Ok(()) => Ok(()),
         Err(_) => Err(Problem::Output),
