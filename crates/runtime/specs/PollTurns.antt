@@ -1,8 +1,9 @@
 -- What a poll turn makes of its desk and of the outbox.
-use Rattle.std.specs.Prelude.{◌≡◌, ◌⊎◌, ℕ, ◌+◌, ◌≤◌, Bool, true, false, cond, List, [], ◌++◌, ◌∷◌, length, Option, None}
+use Rattle.std.specs.Prelude.{◌≡◌, ◌⊎◌, ℕ, ◌+◌, ◌≤◌, Bool, true, false, cond, List, [], ◌++◌, ◌∷◌, length, sum_by, Option, None}
 use Rattle.history.specs.declared.req.Req.{Req}
 use Rattle.history.specs.declared.event.Event.{Event}
 use Rattle.history.specs.History.{same}
+use Rattle.board.specs.declared.shape.RingShape.{RingShape}
 use Rattle.steps.specs.Journal.{freed}
 use Rattle.work.specs.Board.{Facts, IsOf}
 use Rattle.work.specs.Passes.{Pass}
@@ -64,6 +65,10 @@ pub record Rang (b : Facts) (old : Hands) (before : Waiting) (new : Hands) (afte
   pub room : length after.answered + new.room ≡ length before.answered + old.room
   pub alone : (r : Req) → freed new.poller.view.seen r ≡ freed old.poller.view.seen r
   pub same : (new.ready ≡ old.ready) × (new.kept ≡ old.kept)
+
+-- how many cells the rings have in all
+abbrev pub cells_in_all : List RingShape → ℕ
+cells_in_all rings = sum_by (λ r. r.cells) rings
 
 -- the desk of a poller with these passes that has done nothing yet
 pub record IsNewDesk (rings : ℕ) (poller : Pass) (sleeper : Sleeping) (ready : Moves) (d : Desk) : Type 0 where

@@ -10,6 +10,8 @@ mod ringing;
 pub mod serving;
 mod shelf;
 #[cfg(test)]
+mod stage;
+#[cfg(test)]
 mod tests;
 pub mod turn;
 

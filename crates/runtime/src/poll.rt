@@ -1,10 +1,10 @@
 //! The poller's desk, and its turns.
-ghost use Rattle.std.specs.Prelude.{◌≡◌, ◌≤◌, ◌+◌, ◌<◌, [], ◌∷◌, None, false, length, IfOk, IfErr};
-ghost use Rattle.bell.specs.BellPasses.{IsSleeperOf};
+ghost use Rattle.std.specs.Prelude.{◌≡◌, ◌≤◌, ◌+◌, ◌<◌, ◌==◌, ◌^◌, [], ◌∷◌, None, false, length, slice_index, IfOk, IfErr};
+ghost use Rattle.bell.specs.BellPasses.{HasLoaded, HaveRisen, IsSleeperOf};
 ghost use Rattle.work.specs.Board.{IsOf};
 ghost use Rattle.ready.specs.Ready.{IsOf as IsOfQueue};
 ghost use Rattle.board.specs.Calls.{Goes};
-ghost use Rattle.runtime.specs.PollTurns.{AreAt, Did, HasRoom, HasTicked, Rang, IsPollTurn, IsNewDesk};
+ghost use Rattle.runtime.specs.PollTurns.{AreAt, Did, HasRoom, HasTicked, Rang, IsPollTurn, IsNewDesk, cells_in_all};
 
 use crate::error::Memory;
 use crate::hands::Hands;
@@ -56,7 +56,9 @@ fn intakes_of(alloc: Global, rings: &[RingShape]) -> Result<Vec<Intake>, AllocEr
 }
 
 /// How many cells the rings have in all.
-fn places_of(rings: &[RingShape]) -> usize {
+fn places_of(rings: &[RingShape]) -> usize
+    ensures { cells_in_all rings.now < 2 ^ 64 → result ≡ cells_in_all rings.now }
+{
     let mut places = 0usize;
     for ring in rings {
         places = places.saturating_add(ring.cells as usize);
@@ -74,6 +76,7 @@ impl PollDesk {
         ready: ReadyPass,
     ) -> Result<PollDesk, (Memory, Poller, Sleeper, ReadyPass)>
         ensures new { IfOk result (IsNewDesk (length shape.now.rings.items) poller sleeper ready) }
+        ensures places { cells_in_all shape.now.rings.items < 2 ^ 64 → IfOk result (λ d. d.places ≡ cells_in_all shape.now.rings.items) }
         ensures refused { IfErr result (λ e. (e.1 ≡ poller) × (e.2 ≡ sleeper) × (e.3 ≡ ready)) }
     {
         let places = places_of(shape.rings.as_slice());
@@ -112,9 +115,17 @@ impl PollDesk {
         (poller, sleeper, ready)
     }
 
+    /// How many cells its board has: so many places the outbox of a turn needs.
+    pub fn places(&self) -> usize
+        ensures { result ≡ self.now.places }
+    {
+        self.places
+    }
+
     /// Whether the poller was told to end: by the tail 2^64 - 1 of ring 0.
     pub fn is_over(&self) -> bool
         requires { 0 < length self.now.sleeper.tails }
+        ensures { result ≡ (slice_index self.now.sleeper.tails 0 == 18446744073709551615) }
     {
         self.sleeper.tail(0) == END
     }
@@ -212,6 +223,8 @@ pub fn poll_turn<R: Wait, C: Clock>(
     requires outbox { (outbox.old.answered ≡ []) × (desk.old.places ≤ outbox.old.places) }
     ensures turned { IsPollTurn board.now queue.now desk.old desk.new outbox.new }
     ensures sleeper { IsSleeperOf bell.now desk.new.sleeper }
+    ensures read { HasLoaded desk.old.sleeper desk.new.sleeper }
+    ensures risen { HaveRisen desk.old.sleeper.tails desk.new.sleeper.tails }
     ensures places { outbox.new.places ≡ outbox.old.places }
     ensures idle { IfOk result (λ turn. turn ≡ Turn.Idle → desk.new.kept ≡ None) }
 {
