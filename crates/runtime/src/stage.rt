@@ -503,6 +503,23 @@ impl Stage {
         }
     }
 
+    /// Carries the words out in order, and tells what each came to.
+    fn traced<R: Wait>(
+        &mut self,
+        rt: &R,
+        first: &[Entry],
+        second: &[Entry],
+        words: &str,
+    ) -> Result<String, Fail> {
+        let mut trace = String::new(self.alloc);
+        for word in words.split(' ') {
+            let text = self.go(rt, first, second, word)?;
+            trace.push_str(text.as_str())?;
+            trace.push_str(" ")?;
+        }
+        Ok(trace)
+    }
+
     /// The poller sets the clock on to this tick, by its pass alone, as the turns left it. Whether the clock let it.
     fn tick_at_the_end(self, to: u32) -> bool {
         let Stage { board, desk, .. } = self;
@@ -531,13 +548,9 @@ pub(crate) fn play<R: Wait>(
     requires { 0 < places }
 {
     let mut stage = Stage::new(alloc, cells, places)?;
-    let mut trace = String::new(alloc);
-    for word in words.split(' ') {
-        let text = stage.go(rt, first, second, word)?;
-        trace.push_str(text.as_str())?;
-        trace.push_str(" ")?;
-    }
+    let traced = stage.traced(rt, first, second, words);
     let is_on = stage.tick_at_the_end(last);
+    let mut trace = traced?;
     trace.push_str(if is_on { "on" } else { "past" })?;
     Ok(trace)
 }
