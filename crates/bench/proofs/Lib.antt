@@ -1,2 +1,2 @@
 pub mod WordParts
-pub mod Turns
+pub mod ReadSums

@@ -1,7 +1,7 @@
 use Rattle.std.proofs.Common.{rules, ◌≡◌, ◌+◌, ◌%◌, ◌<◌, [], get_or, ap, arith}
 use Rattle.entry.specs.Text.{text}
 use Rattle.bench.specs.Sums.{read_at}
-use Rattle.bench.proofs.Turns.{read_adds, read_fits}
+use Rattle.bench.proofs.ReadSums.{read_adds, read_fits}
 use Rattle.bench.proofs.loops.of_bytes.Goals.{in-Read, in_default}
 use Rattle.bench.proofs.loops.of_bytes.Goals as goal
 

@@ -1,0 +1,9 @@
+use Rattle.std.proofs.Common.{◌≡◌, length}
+use Rattle.runtime.specs.PollTurns.{Did}
+use Rattle.runtime.proofs.releasing.take_ring.Given as goal
+
+abbrev pub invariant-loop-k : goal.invariant-loop-k
+invariant-loop-k g l = record {
+  did : Did l.board l.queue l.fn.hands l.fn.outbox l.hands l.outbox;
+  rings : length l.lists.rings.items ≡ length l.fn.lists.rings.items;
+}

@@ -1,0 +1,4 @@
+pub mod Shelves
+pub mod Turns
+pub mod PollTurns
+pub mod WorkTurns
