@@ -18,6 +18,7 @@ use crate::report::add_rings;
 use crate::submitter::Submitter;
 use atomic_table::Closed;
 use std::alloc::{AllocError, Global};
+use std::marker::Model;
 use steps::{TableSeat, Thing, Words, table};
 use work::{Grid, Worker};
 
@@ -32,9 +33,27 @@ pub struct Unfinished {
 }
 
 /// The room that a report needs.
+#[derive(Drop)]
 struct Room {
     remains: Remains,
     lines: Vec<(Completion, bool)>,
+}
+
+/// The room of a report, made ahead of the end. Contracts see for how many cells it is enough.
+#[derive(Drop)]
+pub struct ReportRoom {
+    room: Room,
+    cells: usize,
+}
+
+impl Model for ReportRoom {
+    ghost use Rattle.std.specs.Prelude.{◌≡◌, ◌≤◌, ℕ, [], vec_capacity};
+
+    ghost Value = { ℕ };
+
+    ghost view = { λ r. r.cells };
+
+    ghost invariant = { λ r. ((r.room.remains.claims.items ≡ []) × (r.cells ≤ vec_capacity r.room.remains.claims)) × ((r.room.remains.slots.items ≡ []) × (r.cells ≤ vec_capacity r.room.remains.slots)) × ((r.room.lines.items ≡ []) × (r.cells ≤ vec_capacity r.room.lines)) };
 }
 
 impl Room {
@@ -112,6 +131,32 @@ impl Board {
             submitters,
             workers,
         })
+    }
+
+    /// The room that the report of this board needs. It is made ahead, so that `finish_in` can't fail.
+    pub fn make_room(&self, alloc: Global) -> Result<ReportRoom, AllocError>
+        ensures { IfOk result (λ r. r ≡ total self.now.layout.cells) }
+    {
+        let cells = self.grid.total();
+        let room = Room::new(alloc, cells)?;
+        Ok(ReportRoom { room, cells })
+    }
+
+    /// Ends the board as `finish` does, in room that was made ahead. All passes are there.
+    pub fn finish_in(
+        self,
+        poller: Poller,
+        submitters: Vec<Submitter>,
+        workers: Vec<Worker>,
+        room: ReportRoom,
+    ) -> Report
+        requires poller { IsOf self poller }
+        requires submitters { AreOf self submitters.items × (length submitters.items ≡ length self.layout.cells) }
+        requires workers { AreOf self workers.items × (length workers.items ≡ self.workers) }
+        requires room { total self.layout.cells ≤ room }
+        ensures report { IsReport self (poller ∷ (submitters.items ++ workers.items)) result }
+    {
+        self.end(poller, submitters, workers, room.room)
     }
 
     /// The report, for which there is room. All passes are there.

@@ -23,7 +23,7 @@ mod trail;
 
 pub use board::Board;
 pub use completion::{Completion, Report};
-pub use end::Unfinished;
+pub use end::{ReportRoom, Unfinished};
 pub use error::{BoardError, ClockEnd, FinishError, ReapError, SubmitError};
 pub use phase::Phase;
 pub use poller::{Arming, Expiry, Firing, Poller, Released, Settling};

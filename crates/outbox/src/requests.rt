@@ -1,5 +1,5 @@
 //! The answered requests of an outbox, in the order in which they were put in.
-ghost use Rattle.std.specs.Prelude.{◌≡◌, ◌<◌, ◌==◌, length, IfOk, slice_get};
+ghost use Rattle.std.specs.Prelude.{◌≡◌, ◌+◌, ◌<◌, ◌==◌, length, IfOk, slice_get};
 ghost use Rattle.outbox.specs.Outbox.{empty, with_answered};
 
 use crate::error::Memory;
@@ -41,6 +41,27 @@ impl Outbox {
         ensures { result ≡ slice_get self.now.answered 0 }
     {
         self.answered.front().copied()
+    }
+
+    /// How many requests wait.
+    pub fn len(&self) -> usize
+        ensures { result ≡ length self.now.answered }
+    {
+        self.answered.len()
+    }
+
+    /// The request at this place, of those that wait: the oldest is at 0.
+    pub fn get(&self, place: usize) -> Option<Req>
+        ensures { result ≡ slice_get self.now.answered place }
+    {
+        self.answered.get(place).copied()
+    }
+
+    /// How many places are free.
+    pub fn room(&self) -> usize
+        ensures { result + length self.now.answered ≡ self.now.places }
+    {
+        self.places - self.answered.len()
     }
 
     /// Whether all places are taken.

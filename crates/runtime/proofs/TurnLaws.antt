@@ -1,5 +1,5 @@
 -- Parts of a turn, one after another.
-use Rattle.std.proofs.Common.{◌≡◌, ℕ, ◌+◌, ◌≤◌, Bool, true, false, cond, List, [], ◌∷◌, ◌++◌, length, length-append, sym, refl, ap, ◌∙◌, subst, ⊎_elim, arith, ◌≢◌, ◌⊎◌, inl, inr, true≢false, Option, None}
+use Rattle.std.proofs.Common.{◌≡◌, ℕ, ◌+◌, Bool, true, false, cond, List, [], ◌∷◌, ◌++◌, length, length-append, sym, refl, ap, ◌∙◌, subst, ⊎_elim, arith, ◌≢◌, ◌⊎◌, inl, true≢false, Option, None}
 use Rattle.std.proofs.lemmas.List.{append_assoc, append-nil}
 use Rattle.history.specs.declared.req.Req.{Req}
 use Rattle.history.specs.declared.event.Event.{Event}
@@ -7,7 +7,7 @@ use Rattle.history.specs.History.{same}
 use Rattle.history.proofs.Requests.{bool_cases, same_true}
 use Rattle.steps.specs.declared.line.Line.{Line}
 use Rattle.steps.specs.declared.view.Role.{Role}
-use Rattle.steps.specs.Journal.{event_of, events_of, freed}
+use Rattle.steps.specs.Journal.{event_of, freed}
 use Rattle.steps.specs.Rule.{owns}
 use Rattle.work.specs.Board.{Facts, IsOf}
 use Rattle.work.specs.Passes.{Pass, own_of}

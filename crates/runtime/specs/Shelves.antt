@@ -1,5 +1,5 @@
 -- What contracts see of a list of requests with so many places.
-use Rattle.std.specs.Prelude.{◌≡◌, ℕ, ◌≤◌, List, [], ◌++◌, ◌∷◌, length}
+use Rattle.std.specs.Prelude.{ℕ, ◌≤◌, List, [], ◌++◌, ◌∷◌, length}
 use Rattle.history.specs.declared.req.Req.{Req}
 
 -- the places, and the requests, the oldest first

@@ -1,5 +1,5 @@
 -- What a turn makes of its pass and of its outbox.
-use Rattle.std.specs.Prelude.{◌≡◌, ℕ, List, [], ◌++◌, ◌∷◌, Option, Some, None}
+use Rattle.std.specs.Prelude.{◌≡◌, List, [], ◌++◌, ◌∷◌, Option, Some, None}
 use Rattle.history.specs.declared.req.Req.{Req}
 use Rattle.history.specs.declared.event.Event.{Event}
 use Rattle.history.specs.declared.event.Event.TheVariants.{Reply, Take, Expire, Fire, Settle, Sever, Cut}

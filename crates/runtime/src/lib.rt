@@ -1,21 +1,36 @@
 //! The runtime: a poller, workers and clients over one board, with a doorbell, a ready queue and completion rings.
 #![tactic(auto)]
 
+pub mod client;
 pub mod error;
 mod hands;
+pub mod join;
 mod lists;
+#[cfg(test)]
+mod pair;
 pub mod poll;
+mod posting;
 mod releasing;
 mod ringing;
 pub mod serving;
+mod shared;
 mod shelf;
 #[cfg(test)]
 mod stage;
+pub mod started;
+pub mod startup;
 #[cfg(test)]
 mod tests;
+#[cfg(test)]
+mod thread_tests;
+mod threads;
 pub mod turn;
 
-pub use error::Memory;
+pub use client::Client;
+pub use error::{JoinError, Memory, StartError};
+pub use join::{Unjoined, join_all};
 pub use poll::{PollDesk, poll_turn};
 pub use serving::{WorkDesk, work_turn};
+pub use started::Runtime;
+pub use startup::start;
 pub use turn::Turn;

@@ -12,7 +12,7 @@ use crate::lists::{Intake, Lists};
 use crate::releasing::{END, release_waiting, take_new};
 use crate::ringing::{has_timers, ring_due, settle_linked};
 use crate::turn::Turn;
-use bell::{Bell, Sleeper};
+use bell::{Bell, Nap, Sleeper};
 use board::{Board, Phase, Poller, RingShape, Shape};
 use controls::Clock;
 use history::Req;
@@ -56,7 +56,7 @@ fn intakes_of(alloc: Global, rings: &[RingShape]) -> Result<Vec<Intake>, AllocEr
 }
 
 /// How many cells the rings have in all.
-fn places_of(rings: &[RingShape]) -> usize
+pub(crate) fn places_of(rings: &[RingShape]) -> usize
     ensures { cells_in_all rings.now < 2 ^ 64 → result ≡ cells_in_all rings.now }
 {
     let mut places = 0usize;
@@ -128,6 +128,17 @@ impl PollDesk {
         ensures { result ≡ (slice_index self.now.sleeper.tails 0 == 18446744073709551615) }
     {
         self.sleeper.tail(0) == END
+    }
+}
+
+/// The poller sleeps until a tail is published, unless one was since they were read last.
+pub(crate) fn rest<R: Wait>(rt: &R, bell: &Bell, desk: &mut PollDesk)
+    requires { IsSleeperOf bell.now desk.old.sleeper }
+    ensures sleeper { IsSleeperOf bell.now desk.new.sleeper }
+    ensures same { desk.new ≡ record desk.old { sleeper = desk.new.sleeper } }
+{
+    if bell.doze(&mut desk.sleeper) == Nap::Dozed {
+        bell.sleep(rt, &mut desk.sleeper);
     }
 }
 

@@ -42,7 +42,10 @@ fn buffer_of(alloc: Global, entry: &Entry) -> Result<Vec<u8>, AllocError> {
 }
 
 /// The entries with their buffers.
-fn batch_of(alloc: Global, entries: &[Entry]) -> Result<Vec<(Sqe, Vec<u8>)>, AllocError> {
+pub(crate) fn batch_of(
+    alloc: Global,
+    entries: &[Entry],
+) -> Result<Vec<(Sqe, Vec<u8>)>, AllocError> {
     let mut batch = Vec::new(alloc);
     for entry in entries {
         let sqe = with_user_data(with_flags(entry.sqe, entry.flags), entry.user_data);

@@ -1,4 +1,4 @@
-use Rattle.std.proofs.Common.{◌≡◌, refl, sym, ap, ◌∙◌, subst, length}
+use Rattle.std.proofs.Common.{◌≡◌, sym, ap, ◌∙◌, subst, length}
 use Rattle.ready.specs.Ready.{IsOf as IsOfQueue}
 use Rattle.runtime.specs.PollTurns.{Desk, IsPollTurn}
 use Rattle.runtime.proofs.TurnLaws.{moved_not_idle, turned}

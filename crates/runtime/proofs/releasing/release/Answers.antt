@@ -1,7 +1,7 @@
 use Rattle.std.proofs.Common.{refl, inr, [], ◌∷◌}
 use Rattle.history.specs.declared.event.Event.TheVariants.{Sever}
 use Rattle.board.specs.declared.poller.Released.TheVariants.{Severed, Shut, Timer, NotHeld}
-use Rattle.runtime.proofs.TurnLaws.{did_freed, did_moved, did_ring, others_alone, rang_answered, rang_armed, rang_looked, rang_then}
+use Rattle.runtime.proofs.TurnLaws.{did_freed, did_ring, others_alone, rang_answered, rang_armed, rang_looked, rang_then}
 use Rattle.runtime.proofs.releasing.release.Goals as goal
 
 pub returns-in-Timer-clause-did : goal.returns-in-Timer-clause-did

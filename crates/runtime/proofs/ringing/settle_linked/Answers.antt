@@ -1,4 +1,4 @@
-use Rattle.std.proofs.Common.{◌≡◌, ap, ◌∙◌, length}
+use Rattle.std.proofs.Common.{ap, ◌∙◌, length}
 use Rattle.runtime.specs.declared.lists.Lists.{Lists}
 use Rattle.runtime.proofs.TurnLaws.{rang_then}
 use Rattle.runtime.proofs.ringing.settle_linked.Goals as goal

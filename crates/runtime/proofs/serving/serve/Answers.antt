@@ -1,7 +1,7 @@
 use Rattle.std.proofs.Common.{◌≡◌, refl, sym, ap, ◌∙◌, inl, inr, List, [], ◌∷◌, ◌++◌, Option}
 use Rattle.std.proofs.lemmas.List.{append_assoc, append-nil}
 use Rattle.history.specs.declared.req.Req.{Req}
-use Rattle.outbox.specs.Outbox.{Waiting, with_answered}
+use Rattle.outbox.specs.Outbox.{with_answered}
 use Rattle.runtime.specs.Turns.{kept_in}
 use Rattle.runtime.specs.WorkTurns.{answered_in, ended_in}
 use Rattle.runtime.proofs.serving.serve.Goals as goal

@@ -1,4 +1,4 @@
-use Rattle.std.proofs.Common.{◌≡◌, refl, sym, ap, ◌∙◌, subst, cond, Bool, List, inl, inr, [], ◌∷◌}
+use Rattle.std.proofs.Common.{refl, sym, ap, subst, cond, Bool, List, inl, inr, [], ◌∷◌}
 use Rattle.std.proofs.lemmas.List.{append-nil}
 use Rattle.history.specs.declared.req.Req.{Req}
 use Rattle.runtime.specs.WorkTurns.{Desk, Shifts}

@@ -1,4 +1,4 @@
-use Rattle.std.proofs.Common.{◌≡◌, subst, [], ◌∷◌, ◌++◌, ◌≤◌, Some, length, sym}
+use Rattle.std.proofs.Common.{subst, [], ◌∷◌, ◌++◌, ◌≤◌, Some, length, sym}
 use Rattle.runtime.specs.Turns.{kept_in}
 use Rattle.runtime.specs.WorkTurns.{Desk, Shifts}
 use Rattle.runtime.proofs.ShiftLaws.{keeps_first, keeps_second}

@@ -1,0 +1,72 @@
+-- Passes and clients of a runtime, as they are taken out of their lists and put into them.
+use Rattle.std.proofs.Common.{◌≡◌, ℕ, zero, suc, ◌+◌, List, [], ◌∷◌, ◌++◌, All, length, map, reverse, slice_get, get_or, drop, None, sym, refl, ap, ◌∙◌, subst, arith}
+use Rattle.std.proofs.lemmas.List.{append_assoc, map-append, reverse-append}
+use Rattle.std.proofs.lemmas.List.{length-map}
+use Rattle.std.proofs.lemmas.Option.{none-some}
+use Rattle.work.specs.Board.{Facts, IsOf}
+use Rattle.work.specs.Passes.{Pass}
+use Rattle.steps.specs.declared.view.Role.{Role}
+use Rattle.steps.specs.declared.view.Role.TheVariants.{Submitter}
+use Rattle.board.specs.declared.shape.RingShape.{RingShape}
+use Rattle.board.specs.New.{AreSubmitters, IsFresh}
+use Rattle.board.specs.Reports.{AreOf}
+use Rattle.board.specs.ShapeLimits.{counts}
+use Rattle.runtime.specs.Clients.{ClientFacts, AreClients, AreNewClients, IsNewClient, submitter_of, without_tail}
+
+-- a list without a first element
+pub none_first : {X : Type 0} (xs : List X) → slice_get xs 0 ≡ None → xs ≡ []
+none_first [] none = refl
+none_first (x ∷ xs) none = absurd (none-some x (sym none))
+
+-- passes of a board, each by itself
+pub are_of : (b : Facts) (ps : List Pass) → All (λ p. IsOf b p) ps → AreOf b ps
+are_of b [] all = tt
+are_of b (p ∷ ps) all = (all 0 p (omega arith), are_of b ps (λ k d lt. all (suc k) d (omega (arith, lt))))
+
+-- the last of the submitters
+pub last_submitter : (b : Facts) (n : ℕ) (ps : List Pass) (p : Pass) → AreSubmitters b n (ps ++ p ∷ []) → AreSubmitters b n ps × IsFresh b (Submitter (n + length ps)) p
+last_submitter b n [] p s = (tt, subst (λ (k : ℕ). IsFresh b (Submitter k) p) (omega arith) s.0)
+last_submitter b n (q ∷ ps) p s =
+    let rest = last_submitter b (suc n) ps p s.1 in
+    ((s.0, rest.0), subst (λ (k : ℕ). IsFresh b (Submitter k) p) (omega arith) rest.1)
+
+-- a client in front of the clients of the rings after its own
+pub more_clients : (b : Facts) (n : ℕ) (cs : List ClientFacts) (c : ClientFacts) → IsNewClient b n c → AreNewClients b (suc n) (reverse cs) → AreNewClients b n (reverse (cs ++ c ∷ []))
+more_clients b n cs c new are = subst (λ (l : List ClientFacts). AreNewClients b n l) (sym (reverse-append cs (c ∷ []))) (new, are)
+
+-- the last of a list goes over to the end of another, which is kept the other way round
+pub goes_over : {X Y : Type 0} (f : X → Y) (xs : List X) (x : X) (ys : List Y) → map f xs ++ reverse (ys ++ f x ∷ []) ≡ map f (xs ++ x ∷ []) ++ reverse ys
+goes_over f xs x ys =
+    ap (λ l. map f xs ++ l) (reverse-append ys (f x ∷ []))
+    ∙ (sym (append_assoc (map f xs) (f x ∷ []) (reverse ys)) ∙ ap (λ l. l ++ reverse ys) (sym (map-append f xs (x ∷ []))))
+
+-- as many numbers of cells as rings
+pub counts_long : (rings : List RingShape) → length (counts rings) ≡ length rings
+counts_long [] = refl
+counts_long (r ∷ rings) = ap suc (counts_long rings)
+
+-- the ring of a submitter
+ring_in : Role → ℕ
+ring_in (Submitter n) = n
+ring_in _ = 0
+
+pub same_ring : (m n : ℕ) → Submitter m ≡ Submitter n → m ≡ n
+unfolding ring_in
+same_ring m n e = ap ring_in e
+
+-- clients that differ by their tails alone are of the same board, and have the same submitters
+pub same_board : (b : Facts) (xs ys : List ClientFacts) → map without_tail ys ≡ map without_tail xs → AreClients b xs → AreClients b ys
+same_board b xs [] e are k d lt = absurd (omega (arith, lt))
+same_board b [] (y ∷ ys) e are k d lt = absurd (let n = ap length e in omega (arith, n))
+same_board b (x ∷ xs) (y ∷ ys) e are zero d lt = ap (λ (l : List ClientFacts). (get_or l 0 (without_tail d)).board) e ∙ are 0 d (omega arith)
+same_board b (x ∷ xs) (y ∷ ys) e are (suc k) d lt = same_board b xs ys (ap (drop 1) e) (λ n c below. are (suc n) c (omega (arith, below))) k d (omega (arith, lt))
+
+pub same_count : (xs ys : List ClientFacts) → map without_tail ys ≡ map without_tail xs → length ys ≡ length xs
+same_count xs ys e = sym (length-map ys without_tail) ∙ (ap length e ∙ length-map xs without_tail)
+
+submitters_alone : (cs : List ClientFacts) → map submitter_of (map without_tail cs) ≡ map submitter_of cs
+submitters_alone [] = refl
+submitters_alone (c ∷ cs) = ap (λ ps. c.submitter ∷ ps) (submitters_alone cs)
+
+pub same_submitters : (xs ys : List ClientFacts) → map without_tail ys ≡ map without_tail xs → map submitter_of ys ≡ map submitter_of xs
+same_submitters xs ys e = sym (submitters_alone ys) ∙ (ap (λ cs. map submitter_of cs) e ∙ submitters_alone xs)

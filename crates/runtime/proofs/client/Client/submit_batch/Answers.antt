@@ -1,0 +1,26 @@
+use Rattle.std.proofs.Common.{ℕ, ◌+◌, sym, ap, ◌∙◌, subst}
+use Rattle.steps.specs.Fairness.{IsFree}
+use Rattle.work.specs.Board.{Facts}
+use Rattle.work.specs.Passes.{Pass, seen_of}
+use Rattle.board.specs.Calls.{next_of}
+use Rattle.board.specs.Lanes.{nth}
+use Rattle.board.specs.Refusals.{RefusesBatch}
+use Rattle.runtime.specs.Clients.{ClientFacts}
+use Rattle.runtime.specs.declared.shared.Shared.{Shared}
+use Rattle.runtime.proofs.client.Client.submit_batch.Goals as goal
+
+pub returns-in-Ok-clause-free : goal.returns-in-Ok-clause-free
+returns-in-Ok-clause-free c =
+    let board = ap (λ (s : Shared). s.board) c.deref.ensures ∙ ap (λ (d : ClientFacts). d.board) c.self.view_is in
+    λ (i : ℕ) lt. subst (λ (p : Pass). IsFree c.args.self.now.board.layout.cells (seen_of p) (nth c.in-Ok.req.ring (c.in-Ok.req.k + i))) (sym c.tell.ensures.same.2)
+    (subst (λ (b : Facts). IsFree b.layout.cells (seen_of c.submit_batch.new.submitter) (nth c.in-Ok.req.ring (c.in-Ok.req.k + i))) board (c.in-Ok.ensures.free i lt))
+
+pub returns-in-Err-clause-reason : goal.returns-in-Err-clause-reason
+returns-in-Err-clause-reason c =
+    let board = ap (λ (s : Shared). s.board) c.deref.ensures ∙ ap (λ (d : ClientFacts). d.board) c.self.view_is in
+    let submitter = ap (λ (d : ClientFacts). d.submitter) c.self.view_is in
+    let ring = ap (λ (d : ClientFacts). d.ring) c.self.view_is in
+    let role = c.self.invariant.3 in
+    subst (λ (b : Facts). RefusesBatch b c.args.batch.items c.args.self.now.ring (next_of c.args.self.now.submitter c.args.self.now.ring).k c.args.self.now.submitter c.submit_batch.new.submitter c.in-Err.refused.0) board
+    (subst (λ (d : ClientFacts). RefusesBatch c.deref.result.now.board c.args.batch.items d.ring (next_of d.submitter d.ring).k d.submitter c.submit_batch.new.submitter c.in-Err.refused.0) c.self.view_is
+    (c.in-Err.ensures.reason c.self.inside.ring role))

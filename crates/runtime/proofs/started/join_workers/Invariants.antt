@@ -1,0 +1,15 @@
+use Rattle.std.proofs.Common.{◌≡◌, ◌+◌, ◌≤◌, All, length, vec_capacity}
+use Rattle.work.specs.Board.{IsOf}
+use Rattle.runtime.specs.Crews.{AreWorking}
+use Rattle.runtime.proofs.started.join_workers.Given as goal
+
+abbrev pub invariant-loop-thread : goal.invariant-loop-thread
+invariant-loop-thread g l = record {
+  threads : AreWorking l.shared l.workers.items;
+  ended : All (λ p. IsOf l.shared.board p) l.ended.items;
+  count : length l.workers.items + length l.ended.items ≡ length l.fn.workers.items + length l.fn.ended.items;
+  room : length l.fn.workers.items + length l.fn.ended.items ≤ vec_capacity l.ended;
+}
+
+abbrev pub decreases-loop-thread : goal.decreases-loop-thread
+decreases-loop-thread g l = length l.workers.items

@@ -1,0 +1,6 @@
+use Rattle.std.proofs.Common.{◌≡◌, map}
+use Rattle.runtime.specs.Clients.{without_tail}
+use Rattle.runtime.proofs.started.tell_end.Given as goal
+
+abbrev pub invariant-loop-client : goal.invariant-loop-client
+invariant-loop-client l = map without_tail l.client-items ≡ map without_tail l.fn.clients.items

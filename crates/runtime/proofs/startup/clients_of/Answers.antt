@@ -1,0 +1,51 @@
+use Rattle.std.proofs.Common.{◌≡◌, ◌+◌, ◌∷◌, [], Some, length, reverse, length-append, sym, ap, ◌∙◌, subst, arith}
+use Rattle.std.specs.Arc.{arc_value}
+use Rattle.std.proofs.lemmas.List.Elements.{All-pop}
+use Rattle.bell.specs.BellPasses.{Ringing, IsRingerOf}
+use Rattle.steps.specs.declared.view.Role.TheVariants.{Submitter}
+use Rattle.work.specs.Board.{IsOf}
+use Rattle.work.specs.Passes.{Pass}
+use Rattle.board.specs.New.{AreSubmitters, IsFresh}
+use Rattle.runtime.specs.Clients.{AreNewClients, IsNewClient}
+use Rattle.runtime.specs.declared.shared.Shared.{Shared}
+use Rattle.runtime.proofs.RuntimeParts.{last_submitter, more_clients, same_ring}
+use Rattle.runtime.proofs.startup.clients_of.Goals as goal
+
+pub new-requires-clause-submitter : goal.new-requires-clause-submitter
+new-requires-clause-submitter c =
+    let s = arc_value c.args.shared.now in
+    let last = last_submitter s.board 0 c.pop.new.self.items c.in-Some.submitter (subst (λ ps. AreSubmitters s.board 0 ps) c.in-Some.ensures.items c.loop-submitter.invariant.submitters) in
+    subst (λ (t : Shared). IsOf t.board c.in-Some.submitter) (sym c.in_ok-theirs.ensures) last.1.0
+
+pub new-requires-clause-ringer : goal.new-requires-clause-ringer
+new-requires-clause-ringer c =
+    let s = arc_value c.args.shared.now in
+    let last = All-pop (λ (r : Ringing). IsRingerOf s.bell r × (r.tail ≡ 0)) c.loop-submitter.ringers.items c.pop-in-Some.new.self.items (Some c.in-Some-pop.ringer) c.in-Some-pop.ensures.items c.loop-submitter.invariant.ringers in
+    subst (λ (t : Shared). IsRingerOf t.bell c.in-Some-pop.ringer × (c.in-Some-pop.ringer.tail ≡ 0)) (sym c.in_ok-theirs.ensures) last.1
+
+pub loop-submitter-preserved : goal.loop-submitter-preserved
+loop-submitter-preserved c =
+    let s = arc_value c.args.shared.now in
+    let inv = c.loop-submitter.invariant in
+    let last = last_submitter s.board 0 c.pop.new.self.items c.in-Some.submitter (subst (λ ps. AreSubmitters s.board 0 ps) c.in-Some.ensures.items inv.submitters) in
+    let ringers = All-pop (λ (r : Ringing). IsRingerOf s.bell r × (r.tail ≡ 0)) c.loop-submitter.ringers.items c.pop-in-Some.new.self.items (Some c.in-Some-pop.ringer) c.in-Some-pop.ensures.items inv.ringers in
+    let n = length c.pop.new.self.items in
+    let one = ap length c.in-Some.ensures.items ∙ length-append c.pop.new.self.items (c.in-Some.submitter ∷ []) in
+    let other = ap length c.in-Some-pop.ensures.items ∙ length-append c.pop-in-Some.new.self.items (c.in-Some-pop.ringer ∷ []) in
+    let more = ap length c.push_reserved.ensures.items ∙ length-append c.loop-submitter.clients.items (c.new.result ∷ []) in
+    let plus : 0 + n ≡ n = omega arith in
+    let fresh : IsFresh s.board (Submitter n) c.in-Some.submitter = subst (λ k. IsFresh s.board (Submitter k) c.in-Some.submitter) plus last.1 in
+    let new : IsNewClient s.board n c.new.result = (
+      c.new.ensures.board ∙ ap (λ (t : Shared). t.board) c.in_ok-theirs.ensures,
+      same_ring c.new.result.ring n (sym c.new.ensures.ring ∙ fresh.1),
+      c.new.ensures.tail,
+      subst (λ (p : Pass). IsFresh s.board (Submitter n) p) (sym c.new.ensures.submitter) fresh,
+    ) in
+    record {
+      submitters = last.0;
+      ringers = ringers.0;
+      pairs = omega (arith, one, other, inv.pairs);
+      clients = subst (λ cs. AreNewClients s.board n (reverse cs)) (sym c.push_reserved.ensures.items) (more_clients s.board n c.loop-submitter.clients.items c.new.result new (subst (λ m. AreNewClients s.board m (reverse c.loop-submitter.clients.items)) (one ∙ (omega arith)) inv.clients));
+      count = omega (arith, one, more, inv.count);
+      room = rw c.push_reserved.ensures.capacity inv.room;
+    }

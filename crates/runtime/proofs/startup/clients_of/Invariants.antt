@@ -1,0 +1,19 @@
+use Rattle.std.proofs.Common.{◌≡◌, ◌+◌, ◌≤◌, length, reverse, vec_capacity}
+use Rattle.std.specs.Arc.{arc_value}
+use Rattle.board.specs.New.{AreSubmitters}
+use Rattle.runtime.specs.Clients.{AreNewClients}
+use Rattle.runtime.specs.StartParts.{AreRingers}
+use Rattle.runtime.proofs.startup.clients_of.Given as goal
+
+abbrev pub invariant-loop-submitter : goal.invariant-loop-submitter
+invariant-loop-submitter l = record {
+  submitters : AreSubmitters (arc_value l.shared).board 0 l.submitters.items;
+  ringers : AreRingers (arc_value l.shared).bell l.ringers.items;
+  pairs : length l.ringers.items ≡ length l.submitters.items;
+  clients : AreNewClients (arc_value l.shared).board (length l.submitters.items) (reverse l.clients.items);
+  count : length l.clients.items + length l.submitters.items ≡ length l.fn.submitters.items;
+  room : length l.fn.submitters.items ≤ vec_capacity l.clients;
+}
+
+abbrev pub decreases-loop-submitter : goal.decreases-loop-submitter
+decreases-loop-submitter l = length l.submitters.items

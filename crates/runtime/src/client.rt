@@ -1,0 +1,179 @@
+//! The client of one ring.
+ghost use Rattle.std.specs.Prelude.{◌≡◌, ◌+◌, ◌*◌, ◌<◌, ◌≤◌, ℕ, [], ◌∷◌, length, IfOk, IfErr, IfSome, MatchOption};
+ghost use Rattle.std.specs.Arc.{arc_value};
+ghost use Rattle.history.specs.declared.event.Event.TheVariants.{Reap};
+ghost use Rattle.history.specs.History.{phase, submits};
+ghost use Rattle.steps.specs.declared.view.Role.TheVariants.{Submitter as SubmitterRole};
+ghost use Rattle.steps.specs.Cells.{cells_in};
+ghost use Rattle.steps.specs.Fairness.{IsFree, IsReaped};
+ghost use Rattle.work.specs.Board.{IsOf};
+ghost use Rattle.work.specs.Passes.{seen_of, Took};
+ghost use Rattle.bell.specs.BellPasses.{IsRingerOf};
+ghost use Rattle.board.specs.Batches.{submits_of};
+ghost use Rattle.board.specs.Calls.{Goes, Finds, next_of};
+ghost use Rattle.board.specs.Headline.{IsCompletion, HasOnce};
+ghost use Rattle.board.specs.Lanes.{nth, LinkedAreReaped};
+ghost use Rattle.board.specs.Refusals.{RefusesBatch};
+ghost use Rattle.runtime.specs.Clients.{without_tail};
+
+use crate::releasing::END;
+use crate::shared::Shared;
+use bell::Ringer;
+use board::{Completion, Phase, SubmitError, Submitter};
+use entry::Sqe;
+use history::Req;
+use std::marker::Model;
+use std::sync::{Arc, Wait};
+
+/// Submits to one ring and takes its completions. No call but `take` waits, and `take` only for the lock of its ring's completions.
+/// Contracts see its board, its submitter's pass, its ring and the tail that it published last.
+#[derive(Drop)]
+pub struct Client {
+    shared: Arc<Shared>,
+    submitter: Submitter,
+    ringer: Ringer,
+    tail: u64,
+    ring: u16,
+}
+
+impl Model for Client {
+    ghost use Rattle.std.specs.Prelude.{◌≡◌};
+    ghost use Rattle.std.specs.Arc.{arc_value};
+    ghost use Rattle.steps.specs.declared.view.Role.TheVariants.{Submitter as SubmitterRole};
+    ghost use Rattle.bell.specs.BellPasses.{IsRingerOf};
+    ghost use Rattle.work.specs.Board.{IsOf};
+    ghost use Rattle.runtime.specs.Clients.{ClientFacts};
+
+    ghost Value = { ClientFacts };
+
+    ghost view = { λ c. record { board = (arc_value c.shared).board; submitter = c.submitter; ring = c.ring; tail = c.tail } };
+
+    ghost invariant = { λ c. IsOf (arc_value c.shared).board c.submitter × IsRingerOf (arc_value c.shared).bell c.ringer × (c.ringer.tail ≡ c.tail) × (c.submitter.view.role ≡ SubmitterRole c.ring) };
+}
+
+impl Client {
+    /// The client of a ring that has submitted nothing yet.
+    pub(crate) fn new(shared: Arc<Shared>, submitter: Submitter, ringer: Ringer) -> Client
+        requires submitter { IsOf (arc_value shared).board submitter }
+        requires ringer { IsRingerOf (arc_value shared).bell ringer × (ringer.tail ≡ 0) }
+        ensures board { result.board ≡ (arc_value shared).board }
+        ensures submitter { result.submitter ≡ submitter }
+        ensures ring { submitter.view.role ≡ SubmitterRole result.ring }
+        ensures tail { result.tail ≡ 0 }
+    {
+        let ring = submitter.ring();
+        Client {
+            shared,
+            submitter,
+            ringer,
+            tail: 0,
+            ring,
+        }
+    }
+
+    /// Its ring.
+    pub fn ring(&self) -> u16
+        ensures { result ≡ self.now.ring }
+    {
+        self.ring
+    }
+
+    /// The request that it submits next.
+    pub fn next_request(&self) -> Req
+        ensures { result ≡ next_of self.now.submitter self.now.ring }
+    {
+        self.submitter.next_request()
+    }
+
+    /// Submits a batch, in order, or none of it, tells the poller, and gives its first request: the entry i is the i-th after that.
+    /// `Full`, `BufferLength` and `Spent` come as from the board, and give the batch back (io_uring_enter(2)).
+    pub fn submit_batch(
+        &mut self,
+        batch: Vec<(Sqe, Vec<u8>)>,
+    ) -> Result<Req, (SubmitError, Vec<(Sqe, Vec<u8>)>)>
+        ensures same { (self.new.board ≡ self.old.board) × (self.new.ring ≡ self.old.ring) }
+        ensures submitted { IfOk result (λ r. (r ≡ next_of self.old.submitter self.old.ring) × Goes self.old.board self.old.submitter (submits_of self.old.ring r.k batch.items) self.new.submitter) }
+        ensures told { IfOk result (λ r. submits (seen_of self.new.submitter) self.old.ring ≤ self.new.tail) }
+        ensures free { IfOk result (λ r. (i : ℕ) → i < length batch.items → IsFree self.old.board.layout.cells (seen_of self.new.submitter) (nth r.ring (r.k + i))) }
+        ensures steps { IfOk result (λ r. (n : ℕ) × (n ≤ cells_in self.old.board.layout.cells r.ring + 1) × (LinkedAreReaped (seen_of self.old.submitter) r.ring → n ≡ 0) × Took self.old.submitter.view self.new.submitter.view (n + 3 * length batch.items)) }
+        ensures refused { IfErr result (λ e. Goes self.old.board self.old.submitter [] self.new.submitter × (e.1 ≡ batch)) }
+        ensures reason { IfErr result (λ e. RefusesBatch self.old.board batch.items self.old.ring (next_of self.old.submitter self.old.ring).k self.old.submitter self.new.submitter e.0) }
+    {
+        match self.shared.board.submit_batch(&mut self.submitter, batch) {
+            Ok(req) => {
+                self.tell();
+                Ok(req)
+            }
+            Err(refused) => Err(refused),
+        }
+    }
+
+    /// Where a request stands.
+    pub fn look(&mut self, req: Req) -> Phase
+        ensures same { (self.new.board ≡ self.old.board) × (self.new.ring ≡ self.old.ring) × (self.new.tail ≡ self.old.tail) }
+        ensures looks { Goes self.old.board self.old.submitter [] self.new.submitter }
+        ensures finds { Finds self.old.board req result self.old.submitter self.new.submitter }
+    {
+        self.shared.board.look(&mut self.submitter, req)
+    }
+
+    /// Takes the oldest completion of its ring, if there is one (io_uring_peek_cqe(3)).
+    pub fn take<R: Wait>(&mut self, rt: &R) -> Option<Completion>
+        ensures same { (self.new.board ≡ self.old.board) × (self.new.ring ≡ self.old.ring) × (self.new.tail ≡ self.old.tail) }
+        ensures reaped { MatchOption result (Goes self.old.board self.old.submitter [] self.new.submitter) (λ x. Goes self.old.board self.old.submitter (Reap x.req ∷ []) self.new.submitter) }
+        ensures completion { IfSome result (λ x. IsCompletion (seen_of self.new.submitter) x.req x × IsReaped (phase (seen_of self.new.submitter) x.req)) }
+        ensures once { IfSome result (λ x. HasOnce (seen_of self.new.submitter) x.req) }
+    {
+        let req = self.next_post(rt)?;
+        match self.shared.board.reap(&mut self.submitter, req) {
+            Ok(completion) => Some(completion),
+            Err(_) => None,
+        }
+    }
+
+    /// Takes the oldest post of its ring.
+    fn next_post<R: Wait>(&self, rt: &R) -> Option<Req> {
+        let posts = self.shared.posts.get(usize::from(self.ring))?;
+        let (_number, req) = posts.lock(rt).take()?;
+        Some(req)
+    }
+
+    /// Tells the poller how many requests were submitted, unless it was told a greater tail.
+    fn tell(&mut self)
+        ensures same { (self.new.board ≡ self.old.board) × (self.new.ring ≡ self.old.ring) × (self.new.submitter ≡ self.old.submitter) }
+        ensures told { submits (seen_of self.old.submitter) self.old.ring ≤ self.new.tail }
+    {
+        let tail = self.submitter.next_request().k;
+        if self.tail < tail {
+            self.publish(tail);
+        }
+    }
+
+    /// Tells the poller this tail, and wakes it where it sleeps.
+    fn publish(&mut self, tail: u64)
+        requires { self.old.tail ≤ tail }
+        ensures { self.new ≡ record self.old { tail = tail } }
+    {
+        let wake = self.shared.bell.publish(&mut self.ringer, tail);
+        self.tail = tail;
+        self.shared.bell.ring(wake);
+    }
+
+    /// Tells the poller to end, where this is the client of ring 0.
+    pub(crate) fn tell_end(&mut self)
+        ensures { without_tail self.new ≡ without_tail self.old }
+    {
+        if self.ring == 0 {
+            self.publish(END);
+        }
+    }
+
+    /// Its submitter's pass. It gives up what it shares.
+    pub(crate) fn into_submitter(self) -> Submitter
+        ensures pass { result ≡ self.submitter }
+        ensures own { IsOf self.board result }
+    {
+        let Client { submitter, .. } = self;
+        submitter
+    }
+}

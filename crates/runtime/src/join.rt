@@ -1,0 +1,128 @@
+//! The end of a runtime.
+ghost use Rattle.std.specs.Prelude.{◌≡◌, ◌≢◌, ◌↔◌, ◌≤◌, ◌++◌, ◌∷◌, [], List, All, length, map, vec_capacity, IfOk, IfErr};
+ghost use Rattle.std.specs.Arc.{arc_value};
+ghost use Rattle.steps.specs.Cells.{total};
+ghost use Rattle.work.specs.Board.{IsOf};
+ghost use Rattle.work.specs.Passes.{Pass};
+ghost use Rattle.board.specs.Reports.{AreOf, IsReport};
+ghost use Rattle.runtime.specs.Clients.{AreClients, submitter_of, without_tail};
+ghost use Rattle.runtime.specs.declared.error.JoinError.TheVariants.{Missing};
+
+use crate::client::Client;
+use crate::error::JoinError;
+use crate::shared::Shared;
+use crate::started::{Runtime, Stopped, tell_end};
+use board::{Board, Report, ReportRoom, Submitter};
+use std::alloc::Global;
+use std::sync::{Arc, Wait};
+use std::thread;
+use std::thread::Threads;
+
+/// The runtime and its clients, which come back where it isn't ended.
+#[derive(Drop)]
+pub struct Unjoined {
+    pub error: JoinError,
+    pub runtime: Runtime,
+    pub clients: Vec<Client>,
+}
+
+/// The passes of the clients of this board, in order. There is room for them.
+fn submitters_of(
+    board: &Board,
+    mut clients: Vec<Client>,
+    mut submitters: Vec<Submitter>,
+) -> Vec<Submitter>
+    requires own { AreClients board.now clients.items }
+    requires room { (submitters.items ≡ []) × (length clients.items ≤ vec_capacity submitters) }
+    ensures order { result.items ≡ map submitter_of clients.items }
+    ensures own { AreOf board.now result.items }
+{
+    let _ = board;
+    while let Some(client) = clients.pop() {
+        submitters.push_reserved(client.into_submitter());
+    }
+    submitters.reverse();
+    submitters
+}
+
+/// What is shared, once no one else shares it.
+fn sole<R: Wait>(rt: &R, mut shared: Arc<Shared>) -> Shared
+    ensures { result ≡ arc_value shared }
+{
+    for _ in rt.forever() {
+        match Arc::try_unwrap(shared) {
+            Ok(own) => return own,
+            Err(back) => shared = back,
+        }
+        thread::yield_now();
+    }
+    unreachable!()
+}
+
+/// Ends the board of a runtime whose threads have ended, and whose clients are these.
+fn end<R: Wait>(
+    rt: &R,
+    stopped: Stopped,
+    clients: Vec<Client>,
+    submitters: Vec<Submitter>,
+    report: ReportRoom,
+) -> Report
+    requires own { AreClients stopped.shared.board clients.items }
+    requires complete { length clients.items ≡ length stopped.shared.board.layout.cells }
+    requires room { (submitters.items ≡ []) × (length clients.items ≤ vec_capacity submitters) }
+    requires report { total stopped.shared.board.layout.cells ≤ report }
+    ensures { (poller : Pass) × (workers : List Pass) × IsReport stopped.shared.board (poller ∷ (map submitter_of clients.items ++ workers)) result }
+{
+    let (shared, poller, workers) = stopped.parts();
+    let submitters = submitters_of(&shared.board, clients, submitters);
+    let Shared { board, .. } = sole(rt, shared);
+    board.finish_in(poller, submitters, workers, report)
+}
+
+/// Ends a runtime: it tells all threads to end, waits for them, and ends the board. The report has each request that no client has
+/// taken; those without a reply are cut off with -125 (ECANCELED).
+///
+/// `Missing` comes only where a client is not among those handed in, and `Memory` where the report's room isn't found; both before
+/// anything is stopped. `Shared` comes where the board was not given up though all threads have ended. After each of them it may be
+/// called again.
+pub fn join_all<R: Threads + Wait>(
+    rt: &R,
+    alloc: Global,
+    runtime: Runtime,
+    clients: Vec<Client>,
+) -> Result<Report, Unjoined>
+    requires own { AreClients runtime clients.items }
+    ensures report { IfOk result (λ r. (poller : Pass) × (workers : List Pass) × IsReport runtime (poller ∷ (map submitter_of clients.items ++ workers)) r) }
+    ensures complete { IfOk result (λ _. length clients.items ≡ length runtime.layout.cells) }
+    ensures missing { IfErr result (λ u. (u.error ≡ Missing) ↔ (length clients.items ≢ length runtime.layout.cells)) }
+    ensures back { IfErr result (λ u. (u.runtime ≡ runtime) × (map without_tail u.clients.items ≡ map without_tail clients.items)) }
+{
+    let mut clients = clients;
+    if clients.len() != runtime.rings() {
+        return Err(Unjoined {
+            error: JoinError::Missing,
+            runtime,
+            clients,
+        });
+    }
+    let (Ok(report), Ok(submitters)) = (
+        runtime.make_room(alloc),
+        Vec::with_capacity(alloc, clients.len()),
+    ) else {
+        return Err(Unjoined {
+            error: JoinError::Memory,
+            runtime,
+            clients,
+        });
+    };
+    tell_end(&mut clients);
+    let stopped = runtime.stop(rt);
+    if !stopped.is_shared_by(clients.len()) {
+        return Err(Unjoined {
+            error: JoinError::Shared,
+            runtime: stopped.resumed(),
+            clients,
+        });
+    }
+    Ok(end(rt, stopped, clients, submitters, report))
+}

@@ -1,0 +1,153 @@
+//! A runtime of two rings on real threads, with both of its clients in one thread.
+ghost use Rattle.std.specs.Prelude.{◌≡◌, IfOk};
+
+use crate::stage::{Entry, batch_of};
+use crate::{Client, Runtime, join_all, start};
+use board::{Completion, RingShape, Shape};
+use controls::{Clock, Turnstile};
+use history::Req;
+use std::alloc::{AllocError, Global};
+use std::marker::Model;
+use std::sync::Wait;
+use std::test::Fail;
+use std::thread;
+use std::thread::Threads;
+
+/// How often one looks for a completion that has to come.
+const LOOKS: u32 = 100_000_000;
+
+/// The cells of each ring, and the room of its completion ring.
+const CELLS: u32 = 4;
+
+const POSTS: u32 = 1;
+
+/// A runtime and the clients of its rings 0 and 1.
+#[derive(Drop)]
+pub(crate) struct Pair {
+    alloc: Global,
+    runtime: Runtime,
+    zero: Client,
+    one: Client,
+}
+
+impl Model for Pair {
+    ghost use Rattle.std.specs.Prelude.{◌≡◌};
+    ghost use Rattle.work.specs.Board.{Facts};
+
+    ghost Value = { Facts };
+
+    ghost view = { λ p. p.runtime };
+
+    ghost invariant = { λ p. (p.zero.board ≡ p.runtime) × (p.one.board ≡ p.runtime) };
+}
+
+/// Two rings, one pipe of 16 bytes, and so many workers.
+fn shape_of(alloc: Global, workers: u32) -> Result<Shape, AllocError> {
+    let ring = RingShape {
+        cells: CELLS,
+        posts: Some(POSTS),
+    };
+    Ok(Shape {
+        rings: Vec::from_elem(alloc, ring, 2)?,
+        pipes: Vec::from_elem(alloc, 16u32, 1)?,
+        workers,
+    })
+}
+
+/// The next completion, once it is there, as text: its request, user_data and result, and the bytes of its buffer.
+fn taken<R: Wait>(rt: &R, alloc: Global, client: &mut Client) -> Result<String, Fail>
+    ensures { client.new.board ≡ client.old.board }
+{
+    for _look in 0..LOOKS {
+        if let Some(completion) = client.take(rt) {
+            return shown(alloc, completion);
+        }
+        thread::yield_now();
+    }
+    Err(Fail::new("no completion comes"))
+}
+
+/// A completion, as text.
+fn shown(alloc: Global, completion: Completion) -> Result<String, Fail> {
+    let Completion { req, cqe, buffer } = completion;
+    let mut text = format!(in alloc; "{}.{} {} {}", req.ring, req.k, cqe.user_data, cqe.res)?;
+    for byte in buffer.as_slice() {
+        write!(text, ":{byte}")?;
+    }
+    Ok(text)
+}
+
+/// Submits the entries, and tells the first request.
+fn submitted(alloc: Global, client: &mut Client, entries: &[Entry]) -> Result<Req, Fail>
+    ensures { client.new.board ≡ client.old.board }
+{
+    let batch = batch_of(alloc, entries)?;
+    match client.submit_batch(batch) {
+        Ok(req) => Ok(req),
+        Err(_) => Err(Fail::new("the batch was refused")),
+    }
+}
+
+impl Pair {
+    /// A started runtime.
+    pub fn new<
+        R: Threads + Wait + Copy + Send + 'static,
+        G: Turnstile + Send + Sync + Drop + 'static,
+        C: Clock + Send + Drop + 'static,
+    >(rt: R, alloc: Global, workers: u32, idle: u32, turnstile: G, clock: C) -> Result<Pair, Fail> {
+        let shape = shape_of(alloc, workers)?;
+        let Ok((runtime, mut clients)) = start(rt, alloc, &shape, idle, turnstile, clock) else {
+            return Err(Fail::new("the runtime isn't started"));
+        };
+        let (Some(one), Some(zero)) = (clients.pop(), clients.pop()) else {
+            return Err(Fail::new("the clients"));
+        };
+        Ok(Pair {
+            alloc,
+            runtime,
+            zero,
+            one,
+        })
+    }
+
+    /// Submits the entries in one batch to ring 0, or to ring 1.
+    pub fn submit(&mut self, ring: u16, entries: &[Entry]) -> Result<Req, Fail> {
+        if ring == 0 {
+            submitted(self.alloc, &mut self.zero, entries)
+        } else {
+            submitted(self.alloc, &mut self.one, entries)
+        }
+    }
+
+    /// Takes the next completion of ring 0, or of ring 1, once it is there.
+    pub fn take<R: Wait>(&mut self, rt: &R, ring: u16) -> Result<String, Fail> {
+        if ring == 0 {
+            taken(rt, self.alloc, &mut self.zero)
+        } else {
+            taken(rt, self.alloc, &mut self.one)
+        }
+    }
+
+    /// Ends the runtime. The lines of its report: each request, its result, and whether the end cut it off.
+    pub fn end<R: Threads + Wait>(self, rt: &R) -> Result<String, Fail> {
+        let Pair {
+            alloc,
+            runtime,
+            zero,
+            one,
+        } = self;
+        let mut clients = Vec::new(alloc);
+        clients.push(one)?;
+        clients.push(zero)?;
+        let Ok(report) = join_all(rt, alloc, runtime, clients) else {
+            return Err(Fail::new("the runtime isn't ended"));
+        };
+        let mut text = String::new(alloc);
+        for (completion, is_cut) in report.lines() {
+            let req = completion.req;
+            let res = completion.cqe.res;
+            write!(text, "{}.{} {res} {is_cut};", req.ring, req.k)?;
+        }
+        Ok(text)
+    }
+}

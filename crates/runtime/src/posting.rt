@@ -1,0 +1,43 @@
+//! The posts of what a thread's turns answered.
+ghost use Rattle.std.specs.Prelude.{◌≡◌, []};
+
+use compring::CompletionRing;
+use controls::{Point, Turnstile};
+use outbox::{Outbox, deliver_all};
+use std::sync::{Mutex, Wait};
+use std::thread;
+
+/// Goes through the turnstile with each answered request, before any is posted.
+fn pass_all<G: Turnstile>(turnstile: &G, outbox: &Outbox) {
+    for place in 0..outbox.len() {
+        if let Some(req) = outbox.get(place) {
+            turnstile.pass(Point::Post, req);
+        }
+    }
+}
+
+/// Posts all answered requests, and takes the lock of a ring once for all that are its own. A post for which no memory is found is
+/// tried again, until it is.
+pub(crate) fn post_all<R: Wait, G: Turnstile>(
+    rt: &R,
+    posts: &[Mutex<CompletionRing>],
+    turnstile: &G,
+    outbox: &mut Outbox,
+)
+    ensures empty { outbox.new.answered ≡ [] }
+    ensures places { outbox.new.places ≡ outbox.old.places }
+{
+    pass_all(turnstile, outbox);
+    for _ in rt.forever() {
+        let Some(req) = outbox.first() else {
+            return;
+        };
+        if let Some(ring) = posts.get(usize::from(req.ring)) {
+            if deliver_all(outbox, req.ring, &mut *ring.lock(rt)).is_ok() {
+                continue;
+            }
+        }
+        thread::yield_now();
+    }
+    unreachable!()
+}

@@ -1,0 +1,18 @@
+//! What the poller, the workers and the clients of a runtime share.
+use bell::Bell;
+use board::Board;
+use compring::CompletionRing;
+use ready::ReadyQueue;
+use std::sync::Mutex;
+use std::sync::atomic::AtomicBool;
+
+/// The board, its doorbell and its ready queue; the completion ring of each ring, each under a lock of its own; and whether the
+/// workers are to end.
+#[derive(Drop)]
+pub(crate) struct Shared {
+    pub board: Board,
+    pub bell: Bell,
+    pub queue: ReadyQueue,
+    pub posts: Vec<Mutex<CompletionRing>>,
+    pub is_over: AtomicBool,
+}

@@ -1,0 +1,159 @@
+//! What the threads of a runtime do: that of the poller, and those of the workers.
+ghost use Rattle.std.specs.Prelude.{◌≡◌, ◌≤◌, []};
+ghost use Rattle.work.specs.Board.{IsOf};
+ghost use Rattle.ready.specs.Ready.{IsOf as IsOfQueue};
+ghost use Rattle.runtime.specs.Loops.{IsPolling, IsServing};
+
+use crate::poll::{PollDesk, poll_turn, rest};
+use crate::posting::post_all;
+use crate::serving::{WorkDesk, work_turn};
+use crate::shared::Shared;
+use crate::turn::Turn;
+use board::{Poller, Worker};
+use controls::{Clock, Turnstile};
+use outbox::Outbox;
+use std::sync::Wait;
+use std::sync::atomic::Ordering;
+use std::thread;
+
+/// How many turns in a row were idle, and after how many of them the poller dozes.
+#[derive(Clone, Copy)]
+struct Idling {
+    most: u32,
+    count: u32,
+}
+
+impl Idling {
+    /// Notes a turn. Whether the poller may doze after it.
+    fn note(&mut self, turn: Turn) -> bool {
+        self.count = match turn {
+            Turn::Idle => self.count.saturating_add(1),
+            Turn::Moved => 0,
+        };
+        self.most <= self.count
+    }
+}
+
+/// One turn of the poller. What it answered is posted. A turn that found no memory isn't idle.
+fn poll_round<R: Wait, G: Turnstile, C: Clock>(
+    rt: &R,
+    shared: &Shared,
+    desk: &mut PollDesk,
+    clock: &mut C,
+    turnstile: &G,
+    outbox: &mut Outbox,
+) -> Turn
+    requires desk { IsPolling shared.now desk.old }
+    requires outbox { (outbox.old.answered ≡ []) × (desk.old.places ≤ outbox.old.places) }
+    ensures desk { IsPolling shared.now desk.new }
+    ensures outbox { (outbox.new.answered ≡ []) × (desk.new.places ≤ outbox.new.places) }
+{
+    let turn = poll_turn(
+        rt,
+        &shared.board,
+        &shared.bell,
+        &shared.queue,
+        desk,
+        clock,
+        outbox,
+    );
+    post_all(rt, shared.posts.as_slice(), turnstile, outbox);
+    match turn {
+        Ok(turn) => turn,
+        Err(_) => Turn::Moved,
+    }
+}
+
+/// The thread of the poller. It ends once it is told to. After `idle` idle turns in a row it sleeps until it is rung, unless its clock
+/// asks for something.
+pub(crate) fn poll<R: Wait, G: Turnstile, C: Clock + Drop>(
+    rt: &R,
+    shared: &Shared,
+    mut desk: PollDesk,
+    mut clock: C,
+    turnstile: &G,
+    idle: u32,
+    mut outbox: Outbox,
+) -> Poller
+    requires desk { IsPolling shared.now desk }
+    requires outbox { (outbox.answered ≡ []) × (desk.places ≤ outbox.places) }
+    ensures { IsOf shared.now.board result }
+{
+    let mut idling = Idling {
+        most: idle.max(1),
+        count: 0,
+    };
+    for _ in rt.forever() {
+        let turn = poll_round(rt, shared, &mut desk, &mut clock, turnstile, &mut outbox);
+        if desk.is_over() {
+            let (poller, _sleeper, _ready) = desk.parts();
+            return poller;
+        }
+        if idling.note(turn) && clock.ask().is_none() {
+            rest(rt, &shared.bell, &mut desk);
+        } else if turn == Turn::Idle {
+            thread::yield_now();
+        }
+    }
+    unreachable!()
+}
+
+/// One turn of a worker. What it answered stays in the outbox while that has room for another turn. Whether it answered nothing.
+fn work_round<R: Wait, G: Turnstile>(
+    rt: &R,
+    shared: &Shared,
+    desk: &mut WorkDesk,
+    worker: Worker,
+    turnstile: &G,
+    outbox: &mut Outbox,
+) -> (Worker, bool)
+    requires desk { IsServing shared.now desk.old worker }
+    requires places { 2 ≤ outbox.old.places }
+    ensures desk { IsServing shared.now desk.new result.0 }
+    ensures places { outbox.new.places ≡ outbox.old.places }
+{
+    if outbox.room() < 2 {
+        post_all(rt, shared.posts.as_slice(), turnstile, outbox);
+    }
+    let before = outbox.len();
+    let (worker, _turn) = work_turn(
+        rt,
+        &shared.board,
+        &shared.queue,
+        desk,
+        worker,
+        turnstile,
+        outbox,
+    );
+    let is_silent = outbox.len() == before;
+    (worker, is_silent)
+}
+
+/// The thread of a worker. What it answered is posted at the first turn that answers nothing, or once the outbox is full. It ends
+/// after such a turn, once the workers are told to.
+pub(crate) fn work<R: Wait, G: Turnstile>(
+    rt: &R,
+    shared: &Shared,
+    mut desk: WorkDesk,
+    mut worker: Worker,
+    turnstile: &G,
+    mut outbox: Outbox,
+) -> Worker
+    requires desk { IsServing shared.now desk worker }
+    requires places { 2 ≤ outbox.places }
+    ensures { IsOf shared.now.board result }
+{
+    for _ in rt.forever() {
+        let (next, is_silent) = work_round(rt, shared, &mut desk, worker, turnstile, &mut outbox);
+        worker = next;
+        if !is_silent {
+            continue;
+        }
+        post_all(rt, shared.posts.as_slice(), turnstile, &mut outbox);
+        if shared.is_over.load(Ordering::SeqCst) {
+            return worker;
+        }
+        thread::yield_now();
+    }
+    unreachable!()
+}
