@@ -34,6 +34,12 @@ last_submitter b n (q ∷ ps) p s =
 pub more_clients : (b : Facts) (n : ℕ) (cs : List ClientFacts) (c : ClientFacts) → IsNewClient b n c → AreNewClients b (suc n) (reverse cs) → AreNewClients b n (reverse (cs ++ c ∷ []))
 more_clients b n cs c new are = subst (λ (l : List ClientFacts). AreNewClients b n l) (sym (reverse-append cs (c ∷ []))) (new, are)
 
+-- the clients of a new runtime are over its board
+pub new_clients : (b : Facts) (n : ℕ) (cs : List ClientFacts) → AreNewClients b n cs → AreClients b cs
+new_clients b n [] are k d lt = absurd (omega (arith, lt))
+new_clients b n (c ∷ cs) are zero d lt = are.0.0
+new_clients b n (c ∷ cs) are (suc k) d lt = new_clients b (suc n) cs are.1 k d (omega (arith, lt))
+
 -- the last of a list goes over to the end of another, which is kept the other way round
 pub goes_over : {X Y : Type 0} (f : X → Y) (xs : List X) (x : X) (ys : List Y) → map f xs ++ reverse (ys ++ f x ∷ []) ≡ map f (xs ++ x ∷ []) ++ reverse ys
 goes_over f xs x ys =

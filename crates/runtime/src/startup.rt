@@ -6,7 +6,7 @@ ghost use Rattle.ready.specs.Ready.{IsOf as IsOfQueue};
 ghost use Rattle.bell.specs.BellPasses.{IsSleeperOf};
 ghost use Rattle.board.specs.New.{AreSubmitters};
 ghost use Rattle.board.specs.ShapeLimits.{is_shape};
-ghost use Rattle.runtime.specs.Clients.{AreNewClients, IsStarted};
+ghost use Rattle.runtime.specs.Clients.{AreClients, AreNewClients, IsStarted};
 ghost use Rattle.runtime.specs.Crews.{AreWorking};
 ghost use Rattle.runtime.specs.Loops.{IsPolling, IsServing};
 ghost use Rattle.runtime.specs.PollTurns.{IsNewDesk};
@@ -311,6 +311,7 @@ fn start_threads<
 ) -> Result<(Runtime, Vec<Client>), StartError>
     requires { IsParts shape.now parts }
     ensures started { IfOk result (λ t. IsStarted shape.now t.0 t.1.items) }
+    ensures own { IfOk result (λ t. AreClients t.0 t.1.items) }
     ensures refused { IfErr result (λ e. e ≢ BadShape) }
 {
     let Parts {
@@ -380,6 +381,7 @@ pub fn start<
     clock: C,
 ) -> Result<(Runtime, Vec<Client>), StartError>
     ensures started { IfOk result (λ t. IsStarted shape.now t.0 t.1.items) }
+    ensures own { IfOk result (λ t. AreClients t.0 t.1.items) }
     ensures bad_shape { result ≡ Err BadShape → is_shape shape.now ≡ false }
     ensures refused { is_shape shape.now ≡ false → result ≡ Err BadShape }
 {

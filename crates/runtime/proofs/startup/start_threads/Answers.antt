@@ -2,11 +2,13 @@ use Rattle.std.proofs.Common.{◌<◌, All, Some, sym, ◌∙◌, subst}
 use Rattle.std.proofs.lemmas.List.Elements.{All-pop}
 use Rattle.bell.specs.BellPasses.{Sleeping, IsSleeperOf}
 use Rattle.ready.specs.Ready.{Moves, IsOf as IsOfQueue}
-use Rattle.work.specs.Board.{IsOf}
+use Rattle.work.specs.Board.{Facts, IsOf}
 use Rattle.work.specs.Passes.{Pass}
+use Rattle.runtime.specs.Clients.{AreClients}
 use Rattle.runtime.specs.Loops.{IsPolling}
 use Rattle.runtime.specs.declared.shared.Shared.{Shared}
 use Rattle.runtime.proofs.NewParts.{workers_of}
+use Rattle.runtime.proofs.RuntimeParts.{new_clients}
 use Rattle.runtime.proofs.startup.start_threads.Goals as goal
 
 pub start_poller-requires-clause-desk : goal.start_poller-requires-clause-desk
@@ -32,3 +34,7 @@ start_workers-requires-clause-passes g c κs inside =
     let s = c.args.parts.shared in
     subst (λ (t : Shared). All (λ p. IsOfQueue t.queue p) c.pop.new.self.items) (sym c.in-Ok-Ok-Ok-Ok-Ok.ensures.ok)
     (All-pop (λ (p : Moves). IsOfQueue s.queue p) c.args.parts.passes.items c.pop.new.self.items (Some c.in-Some.ready) c.in-Some.ensures.items c.requires.passes).0
+
+pub returns-in-Ok-start_workers-clause-own : goal.returns-in-Ok-start_workers-clause-own
+returns-in-Ok-start_workers-clause-own g c =
+    subst (λ (b : Facts). AreClients b c.in-Ok-Ok.clients.items) (sym c.new-in-Ok-start_workers.ensures) (new_clients _ 0 _ c.in-Ok-Ok.ensures.clients.0)
