@@ -1,0 +1,38 @@
+-- Which row an entry has, by the completion of its request.
+use Rattle.std.specs.Prelude.{◌≡◌, ◌⊎◌, ℕ, ◌<◌, ◌≤◌, Bool, ℤ, pos, negsuc, List, length, take, slice_get, Option, Some}
+use Rattle.std.specs.Global.{Vec}
+use Rattle.entry.specs.declared.op.Op.{Op}
+use Rattle.entry.specs.declared.op.Op.TheVariants.{Read}
+use Rattle.history.specs.declared.req.Req.{Req}
+use Rattle.board.specs.declared.completion.Completion.{Completion}
+use Rattle.script.specs.declared.named.Named.{Named}
+use Rattle.script.specs.declared.script.Script.{Script}
+
+-- how many bytes of data belong to this reply: as many as it says of a READ, and none of another entry
+abbrev pub data_count : Op → ℤ → ℕ
+data_count (Read fd offset len) (pos n) = n
+data_count _ _ = 0
+
+-- the request's completion, among those that were taken and those of the end
+abbrev pub IsFound : Req → List Completion → List (Completion × Bool) → Completion → Type 0
+IsFound r taken left x = (x.req ≡ r) × (((i : ℕ) × (slice_get taken i ≡ Some x)) ⊎ ((i : ℕ) × (is_cut : Bool) × (slice_get left i ≡ Some (x, is_cut))))
+
+-- the reply of this completion, with its data
+pub record IsRowOf (e : Named) (x : Completion) (row : ℤ × Vec ℕ) : Type 0 where
+  pub reply : row.0 ≡ x.cqe.res
+  pub long : data_count e.sqe.op x.cqe.res ≤ length x.buffer.items
+  pub bytes : row.1.items ≡ take (data_count e.sqe.op x.cqe.res) x.buffer.items
+
+-- the row of the entry at a place is that of the completion of its request
+pub record IsRow (c : Script) (homes : List (Option Req)) (taken : List Completion) (left : List (Completion × Bool)) (place : ℕ) (row : ℤ × Vec ℕ) : Type 0 where
+  pub entry : Named
+  pub entry_is : slice_get c.entries.items place ≡ Some entry
+  pub req : Req
+  pub home_is : slice_get homes place ≡ Some (Some req)
+  pub completion : Completion
+  pub found : IsFound req taken left completion
+  pub row_is : IsRowOf entry completion row
+
+-- each entry has its row
+abbrev pub AreRows : Script → List (Option Req) → List Completion → List (Completion × Bool) → List (ℤ × Vec ℕ) → Type 0
+AreRows c homes taken left rows = (place : ℕ) (row : ℤ × Vec ℕ) → slice_get rows place ≡ Some row → IsRow c homes taken left place row

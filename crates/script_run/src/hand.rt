@@ -1,0 +1,89 @@
+//! The client of a ring with what it has taken of its completions.
+ghost use Rattle.std.specs.Prelude.{◌≡◌};
+
+use crate::lines::Halt;
+use board::{Completion, Phase, SubmitError};
+use entry::Sqe;
+use history::Req;
+use runtime::Client;
+use std::alloc::{AllocError, Global};
+use std::sync::Wait;
+
+/// The client of a ring, the completions that it has taken, how many requests it has submitted, and why its lines were stopped, if
+/// they were.
+#[derive(Drop)]
+pub(crate) struct Hand {
+    pub client: Client,
+    pub taken: Vec<Completion>,
+    pub submitted: usize,
+    pub halt: Option<Halt>,
+}
+
+/// The entries of a line, with their buffers.
+pub(crate) type Batch = Vec<(Sqe, Vec<u8>)>;
+
+/// What became of a try to submit a batch.
+#[derive(Drop)]
+pub(crate) enum Tried {
+    Submitted,
+    /// A cell isn't free; the batch comes back.
+    Full(Batch),
+    /// The board takes no such batch, however often it is tried.
+    Refused,
+}
+
+impl Hand {
+    /// The hand of a client that has submitted nothing yet.
+    pub fn new(alloc: Global, client: Client) -> Hand
+        ensures { result.client ≡ client }
+    {
+        Hand {
+            client,
+            taken: Vec::new(alloc),
+            submitted: 0,
+            halt: None,
+        }
+    }
+
+    /// Tries to submit a batch.
+    pub fn try_submit(&mut self, batch: Batch) -> Tried
+        ensures { self.new.client.board ≡ self.old.client.board }
+    {
+        let count = batch.len();
+        match self.client.submit_batch(batch) {
+            Ok(_first) => {
+                self.submitted = self.submitted.saturating_add(count);
+                Tried::Submitted
+            }
+            Err((SubmitError::Full, batch)) => Tried::Full(batch),
+            Err(_) => Tried::Refused,
+        }
+    }
+
+    /// Takes all completions that are there. Whether there was one.
+    pub fn take_all<R: Wait>(&mut self, rt: &R) -> Result<bool, AllocError>
+        ensures { self.new.client.board ≡ self.old.client.board }
+    {
+        let before = self.taken.len();
+        for _ in rt.forever() {
+            self.taken.reserve(1)?;
+            let Some(completion) = self.client.take(rt) else {
+                return Ok(before < self.taken.len());
+            };
+            self.taken.push(completion)?;
+        }
+        unreachable!()
+    }
+
+    /// Whether the request has its reply.
+    pub fn sees_reply(&mut self, req: Req) -> bool
+        ensures { self.new.client.board ≡ self.old.client.board }
+    {
+        matches!(self.client.look(req), Phase::Done(_) | Phase::Gone)
+    }
+
+    /// Whether it has taken the completions of all requests that it submitted.
+    pub fn is_done(&self) -> bool {
+        self.submitted == self.taken.len()
+    }
+}

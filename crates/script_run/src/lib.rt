@@ -1,0 +1,17 @@
+//! Scripts carried out on a runtime: each ring's lines in a thread of its own, the clock's in the poller's.
+#![tactic(auto)]
+
+mod clock;
+pub mod fault;
+mod gate;
+mod hand;
+mod lines;
+mod rows;
+pub mod run;
+mod stage;
+#[cfg(test)]
+mod tests;
+mod watch;
+
+pub use fault::RunFault;
+pub use run::run_script;

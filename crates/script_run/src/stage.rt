@@ -1,0 +1,23 @@
+//! What the threads of all rings share.
+use crate::gate::Gate;
+use history::Req;
+use script::Script;
+use std::alloc::Global;
+
+/// Where memory comes from, the script, the request of each entry, how often a line is tried, and the gate.
+#[derive(Clone, Copy)]
+pub(crate) struct Stage<'a> {
+    pub alloc: Global,
+    pub script: &'a Script,
+    pub homes: &'a [Option<Req>],
+    pub turns: u32,
+    pub gate: &'a Gate,
+}
+
+/// The request of the entry at a place.
+pub(crate) fn home_of(homes: &[Option<Req>], place: u32) -> Option<Req> {
+    match homes.get(place as usize) {
+        Some(home) => *home,
+        None => None,
+    }
+}
