@@ -1,5 +1,7 @@
 -- Passes and clients of a runtime, as they are taken out of their lists and put into them.
-use Rattle.std.proofs.Common.{◌≡◌, ℕ, zero, suc, ◌+◌, List, [], ◌∷◌, ◌++◌, All, length, map, reverse, slice_get, get_or, drop, None, sym, refl, ap, ◌∙◌, subst, arith}
+use Rattle.std.proofs.Common.{◌≡◌, ℕ, zero, suc, ◌+◌, ◌<◌, List, [], ◌∷◌, ◌++◌, All, length, map, reverse, slice_get, get_or, drop, None, sym, refl, ap, ◌∙◌, subst, arith}
+use mathlib.Core.Option.{some}
+use lib.ListN.{get_elem?}
 use Rattle.std.proofs.lemmas.List.{append_assoc, map-append, reverse-append}
 use Rattle.std.proofs.lemmas.List.{length-map}
 use Rattle.std.proofs.lemmas.Option.{none-some}
@@ -11,6 +13,9 @@ use Rattle.board.specs.declared.shape.RingShape.{RingShape}
 use Rattle.board.specs.New.{AreSubmitters, IsFresh}
 use Rattle.board.specs.Reports.{AreOf}
 use Rattle.board.specs.ShapeLimits.{counts}
+use Rattle.board.proofs.TakenCells.{some_get}
+use Rattle.bell.specs.BellPasses.{Facts as Bell, IsNew, Ringing, Sleeping, new_ringing}
+use Rattle.runtime.specs.StartParts.{AreRingers, IsNewRinger}
 use Rattle.runtime.specs.Clients.{ClientFacts, AreClients, AreNewClients, IsNewClient, submitter_of, without_tail}
 
 -- a list without a first element
@@ -29,6 +34,27 @@ last_submitter b n [] p s = (tt, subst (λ (k : ℕ). IsFresh b (Submitter k) p)
 last_submitter b n (q ∷ ps) p s =
     let rest = last_submitter b (suc n) ps p s.1 in
     ((s.0, rest.0), subst (λ (k : ℕ). IsFresh b (Submitter k) p) (omega arith) rest.1)
+
+-- the ringers of a new bell, from the ring n on
+ringers_from : (b : Bell) (n : ℕ) (rs : List Ringing) → ((k : ℕ) → k < length rs → get_elem? rs k ≡ some (new_ringing b.table (n + k))) → n + length rs ≡ b.rings → AreRingers b n rs
+ringers_from b n [] each count = tt
+ringers_from b n (r ∷ rs) each count =
+    let first : r ≡ new_ringing b.table (n + 0) = some_get (r ∷ rs) 0 (new_ringing b.table (n + 0)) r (each 0 (omega arith)) in
+    let next : (k : ℕ) → k < length rs → get_elem? rs k ≡ some (new_ringing b.table (suc n + k)) = λ k lt. subst (λ (m : ℕ). get_elem? rs k ≡ some (new_ringing b.table m)) (omega arith) (each (suc k) (omega (arith, lt))) in
+    (subst (λ (x : Ringing). IsNewRinger b n x) (sym first) ((refl, omega (arith, count)), omega arith, refl), ringers_from b (suc n) rs next (omega (arith, count)))
+
+pub new_ringers : (rings : ℕ) (b : Bell) (rs : List Ringing) (s : Sleeping) → IsNew rings b rs s → AreRingers b 0 rs
+new_ringers rings b rs s new =
+    let each : (k : ℕ) → k < length rs → get_elem? rs k ≡ some (new_ringing b.table (0 + k)) = λ k lt.
+    subst (λ (m : ℕ). get_elem? rs k ≡ some (new_ringing b.table m)) (omega arith) (new.each k (subst (λ (m : ℕ). k < m) new.count lt)) in
+    ringers_from b 0 rs each (let count = new.count in let same = new.rings_are in omega (arith, count, same))
+
+-- the last of the ringers
+pub last_ringer : (b : Bell) (n : ℕ) (rs : List Ringing) (r : Ringing) → AreRingers b n (rs ++ r ∷ []) → AreRingers b n rs × IsNewRinger b (n + length rs) r
+last_ringer b n [] r s = (tt, subst (λ (k : ℕ). IsNewRinger b k r) (omega arith) s.0)
+last_ringer b n (q ∷ rs) r s =
+    let rest = last_ringer b (suc n) rs r s.1 in
+    ((s.0, rest.0), subst (λ (k : ℕ). IsNewRinger b k r) (omega arith) rest.1)
 
 -- a client in front of the clients of the rings after its own
 pub more_clients : (b : Facts) (n : ℕ) (cs : List ClientFacts) (c : ClientFacts) → IsNewClient b n c → AreNewClients b (suc n) (reverse cs) → AreNewClients b n (reverse (cs ++ c ∷ []))

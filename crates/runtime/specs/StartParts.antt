@@ -1,14 +1,19 @@
 -- What a new runtime is made of.
-use Rattle.std.specs.Prelude.{◌≡◌, ◌+◌, ◌<◌, List, All, length}
+use Rattle.std.specs.Prelude.{◌≡◌, ℕ, suc, ◌+◌, ◌<◌, List, [], ◌∷◌, All, length}
 use Rattle.bell.specs.BellPasses.{Facts as Bell, Ringing, IsRingerOf, IsSleeperOf}
 use Rattle.board.specs.declared.shape.Shape.{Shape}
 use Rattle.board.specs.New.{IsNew}
 use Rattle.ready.specs.Ready.{IsOf as IsOfQueue}
 use Rattle.runtime.specs.declared.startup.Parts.{Parts}
 
--- these are ringers of this bell that have told no tail
-abbrev pub AreRingers : Bell → List Ringing → Type 0
-AreRingers b rs = All (λ r. IsRingerOf b r × (r.tail ≡ 0)) rs
+-- the ringer of this bell and of the ring n, which has told no tail
+abbrev pub IsNewRinger : Bell → ℕ → Ringing → Type 0
+IsNewRinger b n r = IsRingerOf b r × (r.ring ≡ n) × (r.tail ≡ 0)
+
+-- the ringers of the rings from the n-th on
+abbrev pub AreRingers : Bell → ℕ → List Ringing → Type 0
+AreRingers b n [] = Unit {0}
+AreRingers b n (r ∷ rs) = IsNewRinger b n r × AreRingers b (suc n) rs
 
 -- a board of this shape, a bell and a ready queue that go with it, and all their passes
 pub record IsParts (s : Shape) (p : Parts) : Type 0 where
@@ -16,6 +21,7 @@ pub record IsParts (s : Shape) (p : Parts) : Type 0 where
   pub some : 0 < length s.rings.items
   pub rings : p.shared.bell.rings ≡ length s.rings.items
   pub sleeper : IsSleeperOf p.shared.bell p.sleeper
-  pub ringers : AreRingers p.shared.bell p.ringers.items × (length p.ringers.items ≡ length s.rings.items)
+  pub ringers : AreRingers p.shared.bell 0 p.ringers.items × (length p.ringers.items ≡ length s.rings.items)
   pub passes : All (λ q. IsOfQueue p.shared.queue q) p.passes.items
   pub count : length p.passes.items ≡ length p.workers.items + 1
+  pub posts : length p.shared.posts.items ≡ length s.rings.items

@@ -48,14 +48,15 @@ impl Model for Client {
 
     ghost view = { λ c. record { board = (arc_value c.shared).board; submitter = c.submitter; ring = c.ring; tail = c.tail } };
 
-    ghost invariant = { λ c. IsOf (arc_value c.shared).board c.submitter × IsRingerOf (arc_value c.shared).bell c.ringer × (c.ringer.tail ≡ c.tail) × (c.submitter.view.role ≡ SubmitterRole c.ring) };
+    ghost invariant = { λ c. IsOf (arc_value c.shared).board c.submitter × IsRingerOf (arc_value c.shared).bell c.ringer × (c.ringer.tail ≡ c.tail) × (c.submitter.view.role ≡ SubmitterRole c.ring) × (c.ringer.ring ≡ c.ring) };
 }
 
 impl Client {
-    /// The client of a ring that has submitted nothing yet.
+    /// The client of a ring that has submitted nothing yet, by the submitter and the ringer of that ring.
     pub(crate) fn new(shared: Arc<Shared>, submitter: Submitter, ringer: Ringer) -> Client
         requires submitter { IsOf (arc_value shared).board submitter }
         requires ringer { IsRingerOf (arc_value shared).bell ringer × (ringer.tail ≡ 0) }
+        requires ring { submitter.view.role ≡ SubmitterRole ringer.ring }
         ensures board { result.board ≡ (arc_value shared).board }
         ensures submitter { result.submitter ≡ submitter }
         ensures ring { submitter.view.role ≡ SubmitterRole result.ring }
@@ -161,7 +162,8 @@ impl Client {
 
     /// Tells the poller to end, where this is the client of ring 0.
     pub(crate) fn tell_end(&mut self)
-        ensures { without_tail self.new ≡ without_tail self.old }
+        ensures same { without_tail self.new ≡ without_tail self.old }
+        ensures told { self.old.ring ≡ 0 → self.new.tail ≡ 18446744073709551615 }
     {
         if self.ring == 0 {
             self.publish(END);

@@ -96,6 +96,7 @@ pub fn join_all<R: Threads + Wait>(
     ensures complete { IfOk result (λ _. length clients.items ≡ length runtime.layout.cells) }
     ensures missing { IfErr result (λ u. (u.error ≡ Missing) ↔ (length clients.items ≢ length runtime.layout.cells)) }
     ensures back { IfErr result (λ u. (u.runtime ≡ runtime) × (map without_tail u.clients.items ≡ map without_tail clients.items)) }
+    ensures early { IfErr result (λ u. u.error ≢ JoinError.Shared → u.clients.items ≡ clients.items) }
 {
     let mut clients = clients;
     if clients.len() != runtime.rings() {

@@ -49,7 +49,9 @@ struct Parts {
 }
 
 /// The completion ring of each ring: of so many posts as it says, else of twice as many as it has cells.
-fn posts_of(alloc: Global, rings: &[RingShape]) -> Result<Vec<Mutex<CompletionRing>>, Memory> {
+fn posts_of(alloc: Global, rings: &[RingShape]) -> Result<Vec<Mutex<CompletionRing>>, Memory>
+    ensures { IfOk result (λ v. length v.items ≡ length rings.now) }
+{
     let mut posts = Vec::with_capacity(alloc, rings.len())?;
     for ring in rings {
         let size = ring.posts.unwrap_or(ring.cells.saturating_mul(2));
@@ -64,7 +66,7 @@ fn posts_of(alloc: Global, rings: &[RingShape]) -> Result<Vec<Mutex<CompletionRi
 /// A new bell and its passes.
 fn bell_of(alloc: Global, rings: u16) -> Result<(Bell, Vec<Ringer>, Sleeper), Memory>
     ensures rings { IfOk result (λ t. t.0.rings ≡ rings) }
-    ensures ringers { IfOk result (λ t. AreRingers t.0 t.1.items × (length t.1.items ≡ rings)) }
+    ensures ringers { IfOk result (λ t. AreRingers t.0 0 t.1.items × (length t.1.items ≡ rings)) }
     ensures sleeper { IfOk result (λ t. IsSleeperOf t.0 t.2) }
 {
     match Bell::new(alloc, rings) {
@@ -132,7 +134,7 @@ fn clients_of(
     mut ringers: Vec<Ringer>,
 ) -> Result<Vec<Client>, Memory>
     requires submitters { AreSubmitters (arc_value shared.now).board 0 submitters.items }
-    requires ringers { AreRingers (arc_value shared.now).bell ringers.items }
+    requires ringers { AreRingers (arc_value shared.now).bell 0 ringers.items }
     requires count { length ringers.items ≡ length submitters.items }
     ensures clients { IfOk result (λ v. AreNewClients (arc_value shared.now).board 0 v.items × (length v.items ≡ length submitters.items)) }
 {

@@ -1,8 +1,12 @@
 //! What the threads of a runtime do: that of the poller, and those of the workers.
-ghost use Rattle.std.specs.Prelude.{◌≡◌, ◌≤◌, []};
+ghost use Rattle.std.specs.Prelude.{◌≡◌, ◌↔◌, ◌⊎◌, ◌+◌, ◌≤◌, ◌==◌, [], IsTrue, length};
 ghost use Rattle.work.specs.Board.{IsOf};
 ghost use Rattle.ready.specs.Ready.{IsOf as IsOfQueue};
+ghost use Rattle.bell.specs.BellPasses.{HasLoaded};
+ghost use Rattle.outbox.specs.Outbox.{Waiting};
 ghost use Rattle.runtime.specs.Loops.{IsPolling, IsServing};
+ghost use Rattle.runtime.specs.PollTurns.{IsPollTurn};
+ghost use Rattle.runtime.specs.WorkTurns.{IsWorkTurn};
 
 use crate::poll::{PollDesk, poll_turn, rest};
 use crate::posting::post_all;
@@ -25,7 +29,12 @@ struct Idling {
 
 impl Idling {
     /// Notes a turn. Whether the poller may doze after it.
-    fn note(&mut self, turn: Turn) -> bool {
+    fn note(&mut self, turn: Turn) -> bool
+        ensures most { self.new.most ≡ self.old.most }
+        ensures moved { turn ≡ Turn.Moved → self.new.count ≡ 0 }
+        ensures idle { turn ≡ Turn.Idle → (self.new.count ≡ self.old.count + 1) ⊎ ((self.old.count ≡ 4294967295) × (self.new.count ≡ 4294967295)) }
+        ensures may { IsTrue result ↔ (self.new.most ≤ self.new.count) }
+    {
         self.count = match turn {
             Turn::Idle => self.count.saturating_add(1),
             Turn::Moved => 0,
@@ -46,6 +55,8 @@ fn poll_round<R: Wait, G: Turnstile, C: Clock>(
     requires desk { IsPolling shared.now desk.old }
     requires outbox { (outbox.old.answered ≡ []) × (desk.old.places ≤ outbox.old.places) }
     ensures desk { IsPolling shared.now desk.new }
+    ensures turned { (o : Waiting) × IsPollTurn shared.now.board shared.now.queue desk.old desk.new o }
+    ensures read { HasLoaded desk.old.sleeper desk.new.sleeper }
     ensures outbox { (outbox.new.answered ≡ []) × (desk.new.places ≤ outbox.new.places) }
 {
     let turn = poll_turn(
@@ -110,6 +121,7 @@ fn work_round<R: Wait, G: Turnstile>(
     requires desk { IsServing shared.now desk.old worker }
     requires places { 2 ≤ outbox.old.places }
     ensures desk { IsServing shared.now desk.new result.0 }
+    ensures turned { (o : Waiting) × ((o ≡ outbox.old) ⊎ (o ≡ record outbox.old { answered = [] })) × IsWorkTurn shared.now.board desk.old desk.new worker result.0 o outbox.new × (result.1 ≡ (length outbox.new.answered == length o.answered)) }
     ensures places { outbox.new.places ≡ outbox.old.places }
 {
     if outbox.room() < 2 {

@@ -1,14 +1,14 @@
-use Rattle.std.proofs.Common.{◌≡◌, ◌+◌, ◌∷◌, [], Some, length, reverse, length-append, sym, ap, ◌∙◌, subst, arith}
+use Rattle.std.proofs.Common.{◌≡◌, ◌+◌, ◌∷◌, [], length, reverse, length-append, sym, ap, ◌∙◌, subst, arith}
 use Rattle.std.specs.Arc.{arc_value}
-use Rattle.std.proofs.lemmas.List.Elements.{All-pop}
-use Rattle.bell.specs.BellPasses.{Ringing, IsRingerOf}
+use Rattle.bell.specs.BellPasses.{IsRingerOf}
 use Rattle.steps.specs.declared.view.Role.TheVariants.{Submitter}
 use Rattle.work.specs.Board.{IsOf}
 use Rattle.work.specs.Passes.{Pass}
 use Rattle.board.specs.New.{AreSubmitters, IsFresh}
+use Rattle.runtime.specs.StartParts.{AreRingers}
 use Rattle.runtime.specs.Clients.{AreNewClients, IsNewClient}
 use Rattle.runtime.specs.declared.shared.Shared.{Shared}
-use Rattle.runtime.proofs.RuntimeParts.{last_submitter, more_clients, same_ring}
+use Rattle.runtime.proofs.RuntimeParts.{last_ringer, last_submitter, more_clients, same_ring}
 use Rattle.runtime.proofs.startup.clients_of.Goals as goal
 
 pub new-requires-clause-submitter : goal.new-requires-clause-submitter
@@ -20,15 +20,26 @@ new-requires-clause-submitter c =
 pub new-requires-clause-ringer : goal.new-requires-clause-ringer
 new-requires-clause-ringer c =
     let s = arc_value c.args.shared.now in
-    let last = All-pop (λ (r : Ringing). IsRingerOf s.bell r × (r.tail ≡ 0)) c.loop-submitter.ringers.items c.pop-in-Some.new.self.items (Some c.in-Some-pop.ringer) c.in-Some-pop.ensures.items c.loop-submitter.invariant.ringers in
-    subst (λ (t : Shared). IsRingerOf t.bell c.in-Some-pop.ringer × (c.in-Some-pop.ringer.tail ≡ 0)) (sym c.in_ok-theirs.ensures) last.1
+    let last = last_ringer s.bell 0 c.pop-in-Some.new.self.items c.in-Some-pop.ringer (subst (λ rs. AreRingers s.bell 0 rs) c.in-Some-pop.ensures.items c.loop-submitter.invariant.ringers) in
+    subst (λ (t : Shared). IsRingerOf t.bell c.in-Some-pop.ringer × (c.in-Some-pop.ringer.tail ≡ 0)) (sym c.in_ok-theirs.ensures) (last.1.0, last.1.2)
+
+pub new-requires-clause-ring : goal.new-requires-clause-ring
+new-requires-clause-ring c =
+    let s = arc_value c.args.shared.now in
+    let inv = c.loop-submitter.invariant in
+    let last = last_submitter s.board 0 c.pop.new.self.items c.in-Some.submitter (subst (λ ps. AreSubmitters s.board 0 ps) c.in-Some.ensures.items inv.submitters) in
+    let ringer = last_ringer s.bell 0 c.pop-in-Some.new.self.items c.in-Some-pop.ringer (subst (λ rs. AreRingers s.bell 0 rs) c.in-Some-pop.ensures.items inv.ringers) in
+    let one = ap length c.in-Some.ensures.items ∙ length-append c.pop.new.self.items (c.in-Some.submitter ∷ []) in
+    let other = ap length c.in-Some-pop.ensures.items ∙ length-append c.pop-in-Some.new.self.items (c.in-Some-pop.ringer ∷ []) in
+    let ring = ringer.1.1 in
+    subst (λ k. c.in-Some.submitter.view.role ≡ Submitter k) (omega (arith, one, other, inv.pairs, ring)) last.1.1
 
 pub loop-submitter-preserved : goal.loop-submitter-preserved
 loop-submitter-preserved c =
     let s = arc_value c.args.shared.now in
     let inv = c.loop-submitter.invariant in
     let last = last_submitter s.board 0 c.pop.new.self.items c.in-Some.submitter (subst (λ ps. AreSubmitters s.board 0 ps) c.in-Some.ensures.items inv.submitters) in
-    let ringers = All-pop (λ (r : Ringing). IsRingerOf s.bell r × (r.tail ≡ 0)) c.loop-submitter.ringers.items c.pop-in-Some.new.self.items (Some c.in-Some-pop.ringer) c.in-Some-pop.ensures.items inv.ringers in
+    let ringers = last_ringer s.bell 0 c.pop-in-Some.new.self.items c.in-Some-pop.ringer (subst (λ rs. AreRingers s.bell 0 rs) c.in-Some-pop.ensures.items inv.ringers) in
     let n = length c.pop.new.self.items in
     let one = ap length c.in-Some.ensures.items ∙ length-append c.pop.new.self.items (c.in-Some.submitter ∷ []) in
     let other = ap length c.in-Some-pop.ensures.items ∙ length-append c.pop-in-Some.new.self.items (c.in-Some-pop.ringer ∷ []) in

@@ -8,7 +8,7 @@ use Rattle.runtime.proofs.startup.clients_of.Given as goal
 abbrev pub invariant-loop-submitter : goal.invariant-loop-submitter
 invariant-loop-submitter l = record {
   submitters : AreSubmitters (arc_value l.shared).board 0 l.submitters.items;
-  ringers : AreRingers (arc_value l.shared).bell l.ringers.items;
+  ringers : AreRingers (arc_value l.shared).bell 0 l.ringers.items;
   pairs : length l.ringers.items ≡ length l.submitters.items;
   clients : AreNewClients (arc_value l.shared).board (length l.submitters.items) (reverse l.clients.items);
   count : length l.clients.items + length l.submitters.items ≡ length l.fn.submitters.items;
