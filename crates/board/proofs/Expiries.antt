@@ -1,14 +1,11 @@
 -- What the poller's look at a timer, and its step that lets one run out, tell it.
-use Rattle.std.proofs.Common.{◌≡◌, ◌≢◌, ⊎_elim, inl, inr, ℕ, ◌+◌, ◌-◌, ◌<◌, ◌≤◌, true, false, cond, negsuc, List, [], ◌∷◌, ◌++◌, Option, Some, None, refl, sym, ap, ◌∙◌, subst, arith, true≢false}
-use mathlib.Core.Logic.{dite}
-use native.Mathlib.Decide.{ℕ_discrete}
+use Rattle.std.proofs.Common.{◌≡◌, ◌≢◌, inl, inr, ℕ, ◌<◌, true, cond, negsuc, List, [], ◌∷◌, Option, Some, refl, sym, ap, ◌∙◌, subst, arith}
 use Rattle.atomic_table.specs.declared.shared.Seat.{Seat}
 use Rattle.claim.specs.declared.tag.Tag.{Tag}
 use Rattle.claim.specs.declared.tag.Tag.TheVariants.{Empty as EmptyTag, Held as HeldTag, Ready as ReadyTag, Running as RunningTag, Armed as ArmedTag, Done as DoneTag}
 use Rattle.history.specs.declared.req.Req.{Req}
 use Rattle.history.specs.declared.event.Event.TheVariants.{Expire}
-use Rattle.history.specs.History.{phase, armed, replied, by_expire, clock_of, submits}
-use Rattle.history.specs.Chains.{IsLinkTimeout}
+use Rattle.history.specs.History.{phase, armed, replied, by_expire, clock_of}
 use Rattle.history.proofs.Requests.{same_itself}
 use Rattle.steps.specs.declared.line.Line.{Line}
 use Rattle.steps.specs.declared.line.Line.TheVariants.{Did}
@@ -20,8 +17,7 @@ use Rattle.steps.specs.Cells.{CellOk, Home, Says, request_at, claim_at, word_of}
 use Rattle.steps.specs.Journal.{events_of}
 use Rattle.steps.specs.Rule.{pollers, stands_for, Extends, IsStep, Shown}
 use Rattle.work.specs.Board.{Facts}
-use Rattle.work.specs.Passes.{Pass, pass_of}
-use Rattle.board.specs.declared.alarm.Alarm.{Alarm}
+use Rattle.work.specs.Passes.{pass_of}
 use Rattle.board.specs.declared.alarm.Alarm.TheVariants.{Linked}
 use Rattle.board.specs.declared.phase.Phase.{Phase as Standing}
 use Rattle.board.specs.declared.phase.Phase.TheVariants.{Unborn, Held, Ready, Running, Armed, Done, Gone}

@@ -2,17 +2,18 @@
 use Rattle.std.proofs.Common.{◌≡◌, ℕ, ◌+◌, ◌⊎◌, inl, inr, List, [], ◌∷◌, ◌++◌, length, refl, ap, ◌∙◌, subst, ⊎_elim, arith, length-append}
 use Rattle.history.specs.declared.event.Event.{Event}
 use Rattle.steps.specs.declared.line.Line.{Line}
+use Rattle.steps.specs.declared.view.Heard.{Heard}
 use Rattle.steps.specs.declared.view.Role.TheVariants.{Submitter, Idle}
 use Rattle.steps.specs.declared.view.View.{View}
-use Rattle.steps.specs.Rule.{AllBegin, IsOneOf, Knows, Begins, hearing}
+use Rattle.steps.specs.Rule.{IsHeard, AllSaw, IsOneOf, Knows, Saw, hearing}
 use Rattle.work.specs.Board.{Facts, IsOf, share_of}
 use Rattle.work.specs.Passes.{Pass}
 use Rattle.board.specs.Remains.{told_by, hearing_all}
-use Rattle.board.specs.Reports.{AreOf, IsSeen, BeginsWith}
+use Rattle.board.specs.Reports.{AreOf, IsSeen, BeginsWith, SawOwnLines}
 
-told_last : (ps : List Pass) (p : Pass) (xs : List (List Line)) → told_by ps (p.view.seen ∷ (p.view.heard ++ xs)) ≡ told_by (ps ++ p ∷ []) xs
+told_last : (ps : List Pass) (p : Pass) (xs : List Heard) → told_by ps (record { role = p.view.role; seen = p.view.seen } ∷ (p.view.heard ++ xs)) ≡ told_by (ps ++ p ∷ []) xs
 told_last [] p xs = refl
-told_last (q ∷ ps) p xs = ap (λ (z : List (List Line)). q.view.seen ∷ (q.view.heard ++ z)) (told_last ps p xs)
+told_last (q ∷ ps) p xs = ap (λ (z : List Heard). record { role = q.view.role; seen = q.view.seen } ∷ (q.view.heard ++ z)) (told_last ps p xs)
 
 pub heard_last : (v : View) (ps : List Pass) (p : Pass) → p.view.parts ≡ 1 → hearing_all (hearing v p.view) ps ≡ hearing_all v (ps ++ p ∷ [])
 heard_last v ps p one =
@@ -23,10 +24,10 @@ pub are_of_last : (b : Facts) (ps : List Pass) (p : Pass) → AreOf b (ps ++ p �
 are_of_last b [] p h = (tt, h.0)
 are_of_last b (q ∷ ps) p h = let r = are_of_last b ps p h.1 in ((h.0, r.0), r.1)
 
-known_of : (b : Facts) (j : List Event) (ps : List Pass) (xs : List (List Line)) → AreOf b ps → IsOneOf j (told_by ps xs) → IsSeen j ps ⊎ IsOneOf j xs
+known_of : (b : Facts) (j : List Event) (ps : List Pass) (xs : List Heard) → AreOf b ps → IsOneOf j (told_by ps xs) → IsSeen j ps ⊎ IsOneOf j xs
 known_of b j [] xs o h = inr h
 known_of b j (p ∷ ps) xs o (inl e) = inl (inl e)
-known_of b j (p ∷ ps) xs o (inr h) = ⊎_elim (λ a. inl (inr a)) (λ a. inr a) (known_of b j ps xs o.1 (subst (λ (z : List (List Line)). IsOneOf j (z ++ told_by ps xs)) o.0.looked h))
+known_of b j (p ∷ ps) xs o (inr h) = ⊎_elim (λ a. inl (inr a)) (λ a. inr a) (known_of b j ps xs o.1 (subst (λ (z : List Heard). IsOneOf j (z ++ told_by ps xs)) o.0.looked h))
 
 seen_first : (j : List Event) (ps qs : List Pass) → IsSeen j ps → IsSeen j (ps ++ qs)
 seen_first j [] qs h = absurd h
@@ -42,21 +43,25 @@ pub known_by : (b : Facts) (j : List Event) (p : Pass) (ss ws : List Pass) → I
 known_by b j p ss ws o os ow (inl e) = inl e
 known_by b j p ss ws o os ow (inr h) = ⊎_elim (λ a. inr (seen_second j ss ws a)) (λ a. ⊎_elim (λ c. inr (seen_first j ss ws c)) (λ c. absurd (subst (IsOneOf j) o.looked c)) (known_of b j ss p.view.heard os a)) (known_of b j ws (told_by ss p.view.heard) ow h)
 
-pub begin_second : (j : List Line) (xs ys : List (List Line)) → AllBegin j (xs ++ ys) → AllBegin j ys
-begin_second j [] ys h = h
-begin_second j (x ∷ xs) ys h = begin_second j xs ys h.1
+pub heard_second : (xs ys : List Heard) (x : Heard) → IsHeard x ys → IsHeard x (xs ++ ys)
+heard_second [] ys x h = h
+heard_second (y ∷ xs) ys x h = inr (heard_second xs ys x h)
 
-begins_of : (j : List Line) (ps : List Pass) (xs : List (List Line)) → AllBegin j (told_by ps xs) → BeginsWith j ps × AllBegin j xs
-begins_of j [] xs h = (tt, h)
-begins_of j (p ∷ ps) xs h = let r = begins_of j ps xs (begin_second j p.view.heard (told_by ps xs) h.1) in ((h.0, r.0), r.1)
+saw_of : (j : List Line) (ps : List Pass) (xs : List Heard) → AllSaw j (told_by ps xs) → SawOwnLines j ps × AllSaw j xs
+saw_of j [] xs a = (tt, a)
+saw_of j (p ∷ ps) xs a = let r = saw_of j ps xs (λ x h. a x (inr (heard_second p.view.heard (told_by ps xs) x h))) in ((a (record { role = p.view.role; seen = p.view.seen }) (inl refl), r.0), r.1)
 
-begins_both : (j : List Line) (ps qs : List Pass) → BeginsWith j ps → BeginsWith j qs → BeginsWith j (ps ++ qs)
-begins_both j [] qs h k = k
-begins_both j (p ∷ ps) qs h k = (h.0, begins_both j ps qs h.1 k)
+saw_both : (j : List Line) (ps qs : List Pass) → SawOwnLines j ps → SawOwnLines j qs → SawOwnLines j (ps ++ qs)
+saw_both j [] qs h k = k
+saw_both j (p ∷ ps) qs h k = (h.0, saw_both j ps qs h.1 k)
 
--- what they had seen are beginnings of what is known at the end
-pub begins_by : (j : List Line) (p : Pass) (ss ws : List Pass) → Begins j p.view.seen → AllBegin j (told_by ws (told_by ss p.view.heard)) → BeginsWith j (p ∷ (ss ++ ws))
-begins_by j p ss ws b h = let w = begins_of j ws (told_by ss p.view.heard) h in let s = begins_of j ss p.view.heard w.1 in (b, begins_both j ss ws s.0 w.0)
+-- what is known at the end goes on after what they had seen without lines of their own
+pub saw_by : (j : List Line) (p : Pass) (ss ws : List Pass) → Saw p.view.role p.view.seen j → AllSaw j (told_by ws (told_by ss p.view.heard)) → SawOwnLines j (p ∷ (ss ++ ws))
+saw_by j p ss ws b a = let w = saw_of j ws (told_by ss p.view.heard) a in let s = saw_of j ss p.view.heard w.1 in (b, saw_both j ss ws s.0 w.0)
+
+pub begins_by : (j : List Line) (ps : List Pass) → SawOwnLines j ps → BeginsWith j ps
+begins_by j [] s = tt
+begins_by j (p ∷ ps) s = ((s.0.later, s.0.is), begins_by j ps s.1)
 
 -- one more was heard
 pub heard_more : {R : Type 0} (v w : View) (r : R) (me : View × R) (ps : List Pass) (p : Pass) → p.view.parts ≡ 1 → w ≡ p.view → me ≡ (hearing v w, r) → hearing_all me.0 ps ≡ hearing_all v (ps ++ p ∷ [])

@@ -8,6 +8,7 @@ use Rattle.history.specs.Chains.{hosts}
 use Rattle.history.specs.Legal.{Legal}
 use Rattle.steps.specs.declared.line.Line.{Line}
 use Rattle.steps.specs.declared.line.Line.TheVariants.{Did, Lent, Noted}
+use Rattle.steps.specs.declared.view.Heard.{Heard}
 use Rattle.steps.specs.declared.view.Layout.{Layout}
 use Rattle.steps.specs.declared.view.Role.{Role}
 use Rattle.steps.specs.declared.view.Role.TheVariants.{Submitter, Lending}
@@ -28,7 +29,7 @@ use Rattle.board.proofs.LaneWalks.{TableSeat, reseat}
 use Rattle.board.proofs.SubmitterSeats.{submits_it, lends_it}
 
 -- a seat that heard another
-pub lane_hears : (s t : TableSeat) (a : Lane) → IsLane s a → (parts : ℕ) (heard : List (List Line)) → t.me ≡ ((let v : View = record s.me.0 { parts = parts; heard = heard } in v), s.me.1) → IsLane t a
+pub lane_hears : (s t : TableSeat) (a : Lane) → IsLane s a → (parts : ℕ) (heard : List Heard) → t.me ≡ ((let v : View = record s.me.0 { parts = parts; heard = heard } in v), s.me.1) → IsLane t a
 lane_hears s t a l parts heard is = let k = l.0 in let c = l.1 in reseat s t a (subst (λ (z : _). IsLane (record s { me = z }) a) (sym is) (
   record { role = k.role; bare = k.bare; ring_there = k.ring_there; next_is = k.next_is; narrow = k.narrow; few = k.few; unlent = k.unlent; many = k.many; legal = k.legal; knows = k.knows },
   record { orderly = c.orderly; hosted_is = c.hosted_is; done_are = c.done_are; low = c.low; near = c.near },

@@ -1,5 +1,5 @@
 -- What a pass of a board knows, and what a step of its seat tells it.
-use Rattle.std.proofs.Common.{◌≡◌, ℕ, ◌+◌, ◌<◌, ◌≤◌, true, false, true≢false, cond, List, [], ◌∷◌, ◌++◌, length, sym, refl, ap, ◌∙◌, subst, arith, ne_eqb}
+use Rattle.std.proofs.Common.{◌≡◌, ℕ, ◌+◌, ◌<◌, ◌≤◌, inl, inr, true, false, true≢false, cond, List, [], ◌∷◌, ◌++◌, length, sym, refl, ap, ◌∙◌, subst, arith, ne_eqb}
 use Rattle.history.specs.declared.req.Req.{Req}
 use Rattle.history.specs.declared.event.Event.{Event}
 use Rattle.history.specs.declared.event.Event.TheVariants.{Submit}
@@ -16,13 +16,13 @@ use Rattle.steps.specs.Journal.{freed}
 use Rattle.steps.specs.declared.view.Step.{Step}
 use Rattle.steps.specs.declared.view.View.{View}
 use Rattle.steps.specs.Cells.{setup_of, IsCell, request_at, claim_at, total}
-use Rattle.steps.specs.Rule.{pollers, stands_for, owns, NoneOf, Looks, Extends, Shown, IsStep, hearing, seeing}
+use Rattle.steps.specs.Rule.{pollers, stands_for, owns, NoneOf, Begins, Looks, Extends, Shown, IsStep, hearing, seeing}
 use Rattle.work.specs.Board.{Facts, IsBoard, IsOf}
 use Rattle.work.specs.Grid.{AreCellCounts}
 use Rattle.work.specs.Passes.{Pass, CanReach, seen_of, Took}
 use Rattle.work.proofs.PassesKept.{looked_of}
 use Rattle.board.proofs.Standings.{word_is}
-use Rattle.board.proofs.HeardPasses.{begin_second}
+use Rattle.board.proofs.HeardPasses.{heard_second}
 use Rattle.board.specs.Calls.{IsWord, LastAt, Stepped, HasLooked, Goes, MayStart}
 use Rattle.board.proofs.GoesLaws.{goes_looked}
 
@@ -84,13 +84,17 @@ looks_told v m w none x =
     let e : v.parts + m.parts ≡ v.parts = omega arith in record {
       now = x.now;
       saw = x.saw;
-      heard = begin_second x.now m.heard v.heard x.heard.1;
+      heard = λ y h. x.heard y (inr (heard_second m.heard v.heard y h));
       legal = x.legal;
       live = x.live;
       orderly = x.orderly;
       steps = x.steps;
       is = x.is ∙ (λ i. seeing (record v { parts = e i }) v.role x.now x.steps);
     }
+
+-- and its journal begins with what the messenger brought
+pub begins_told : (p h q : Pass) (v : View) → h ≡ record { table = p.table; view = hearing p.view v } → Looks h.view q.view → Begins q.view.seen v.seen
+begins_told p h q v is x = let y = subst (λ (z : Pass). Looks z.view q.view) is x in let b = y.heard (record { role = v.role; seen = v.seen }) (inl refl) in (b.0, ap (λ (z : View). z.seen) y.is ∙ b.1)
 
 pub goes_told : (b : Facts) (p h q : Pass) (v : View) → IsOf b p → h ≡ record { table = p.table; view = hearing p.view v } → v.parts ≡ 0 → q.table ≡ h.table → Looks h.view q.view → Goes b p [] q
 goes_told b p h q v o is none t x = goes_looked b p q o (t ∙ ap (λ (z : Pass). z.table) is) (looks_told p.view v q.view none (subst (λ (z : Pass). Looks z.view q.view) is x))

@@ -27,10 +27,9 @@ use Rattle.board.specs.declared.phase.Phase.{Phase as Standing}
 use Rattle.board.specs.declared.phase.Phase.TheVariants.{Armed}
 use Rattle.board.specs.declared.poller.Settling.{Settling}
 use Rattle.board.specs.declared.poller.Settling.TheVariants.{Settled, TargetOpen, NotArmed as NothingArmed}
-use Rattle.board.specs.declared.poller.Expiry.TheVariants.{NotArmed}
-use Rattle.board.specs.Calls.{Goes, Stands, Stepped}
+use Rattle.board.specs.Calls.{Goes, Stands}
 use Rattle.board.specs.PollerRows.{IsAt, IsOurs, Watched, Paid}
-use Rattle.board.specs.TimerCalls.{Expires, IsTargetOpen, Settles, SettlingTells, settled_by}
+use Rattle.board.specs.TimerCalls.{IsTargetOpen, Settles, SettlingTells, settled_by}
 use Rattle.board.proofs.Expiries.{no_more_armed, stepped_by, unarmed}
 use Rattle.board.proofs.GoesLaws.{goes_then}
 use Rattle.board.proofs.TimersHeld.{freed_one, goes_one, none}
@@ -40,7 +39,6 @@ use Rattle.board.specs.declared.alarm.Alarm.TheVariants.{Linked, Alone}
 use Rattle.board.specs.declared.phase.Phase.TheVariants.{Done, Gone}
 use Rattle.board.specs.PollerTimers.{IsKept, KnowsAlarm}
 use Rattle.board.proofs.TimersHeld.{alarm_goes, fired_after}
-use Rattle.board.proofs.Watching.{lasts_on}
 use Rattle.history.specs.Chains.{IsPlaced, IsTarget, is_timeout, previous}
 use Rattle.history.specs.Legal.{IsOf as IsOfKind, Legal}
 use Rattle.steps.specs.Cells.{setup_of}

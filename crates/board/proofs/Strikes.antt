@@ -1,7 +1,6 @@
 -- What the poller's exchange at the target of a LINK_TIMEOUT whose deadline has come tells it.
-use Rattle.std.proofs.Common.{◌≡◌, ◌≢◌, ◌⊎◌, ⊎_elim, inl, inr, ℕ, suc, ◌+◌, ◌-◌, ◌<◌, ◌≤◌, ◌==◌, ◌&&◌, not, Bool, true, false, cond, negsuc, List, [], ◌∷◌, ◌++◌, Option, Some, None, refl, sym, ap, ◌∙◌, subst, arith, true≢false, eq-eqb}
+use Rattle.std.proofs.Common.{◌≡◌, ◌≢◌, ◌⊎◌, ⊎_elim, ℕ, suc, ◌-◌, ◌<◌, ◌≤◌, ◌&&◌, not, Bool, true, false, cond, negsuc, List, [], ◌∷◌, ◌++◌, Option, Some, None, refl, sym, ap, ◌∙◌, subst, arith, true≢false}
 use Rattle.std.proofs.Math.Bool.{and-false}
-use Rattle.std.proofs.lemmas.List.{append_assoc}
 use Rattle.atomic_table.specs.declared.shared.Seat.{Seat}
 use Rattle.claim.specs.declared.tag.Tag.{Tag}
 use Rattle.claim.specs.declared.tag.Tag.TheVariants.{Held as HeldTag, Ready as ReadyTag, Running as RunningTag, Armed as ArmedTag}
@@ -9,7 +8,7 @@ use Rattle.entry.specs.Entry.{Entry, fails, links}
 use Rattle.history.specs.declared.req.Req.{Req}
 use Rattle.history.specs.declared.event.Event.{Event}
 use Rattle.history.specs.declared.event.Event.TheVariants.{Fire, FireMiss, Settle}
-use Rattle.history.specs.History.{Submission, Phase, phase, armed, unborn, waits, replied, becomes, by_settle, clock_of, fired, same, submission, submits, was_shut, IsReplied}
+use Rattle.history.specs.History.{Submission, phase, armed, unborn, replied, becomes, by_settle, clock_of, fired, same, submission, submits, was_shut, IsReplied}
 use Rattle.entry.specs.declared.op.Op.TheVariants.{Invalid}
 use Rattle.history.specs.Chains.{IsLinkTimeout, IsPlaced, IsTarget, before_in, hosts, is_link_timeout, placed_from, previous}
 use Rattle.history.specs.Legal.{Legal, Setup}
@@ -22,13 +21,13 @@ use Rattle.steps.specs.declared.view.Layout.{Layout}
 use Rattle.steps.specs.declared.view.Role.{Role}
 use Rattle.steps.specs.declared.view.View.{View}
 use Rattle.steps.specs.Cells.{Ages, Says, claim_at, request_at, ring_of, setup_of, word_of}
-use Rattle.steps.specs.Journal.{event_of, events_of, freed}
+use Rattle.steps.specs.Journal.{events_of, freed}
 use Rattle.steps.specs.Plays.{IsIdleWord, is_idle, next_of}
 use Rattle.steps.specs.Rule.{owns, pollers, stands_for, Extends, IsStep, Shown}
 use Rattle.steps.proofs.ClaimWords.{says_of}
 use Rattle.steps.proofs.JournalGrowth.{lasts, legal_tail, live_tail, placed_lasts}
 use Rattle.work.specs.Board.{Facts, IsOf}
-use Rattle.work.specs.Passes.{Pass, own_of, pass_of}
+use Rattle.work.specs.Passes.{Pass, pass_of}
 use Rattle.work.proofs.CancelSearch.{canceled_fails, held_before, held_no_more}
 use Rattle.board.specs.declared.linked.Struck.{Struck}
 use Rattle.board.specs.declared.linked.Struck.TheVariants.{Took, Missed, Over}
@@ -48,7 +47,7 @@ use Rattle.board.proofs.GoesLaws.{goes_more, goes_then}
 use Rattle.board.proofs.Settlings.{at_is as timer_at, mine as timer_mine, armed_on, born_goes, hosted, link_first, link_later, linked_goes, linked_on, target_is, unfired_on}
 use Rattle.board.proofs.TimersHeld.{alarm_goes, armed_before, clock_goes, freed_one, goes_one, none}
 use Rattle.board.proofs.TimersKept.{AllPass, is_calm, is_still, link_still}
-use Rattle.board.proofs.Watching.{born_on, still_ours, watched_then}
+use Rattle.board.proofs.Watching.{born_on}
 use Rattle.work.proofs.OwnEvents.{own_none}
 
 abbrev TableSeat : Type 0

@@ -18,7 +18,7 @@ use Rattle.steps.specs.declared.view.Role.TheVariants.{Poller}
 use Rattle.steps.specs.declared.view.View.{View}
 use Rattle.steps.specs.Journal.{events_of, lent}
 use Rattle.steps.specs.Cells.{IsCell, request_at, total, setup_of, slot_at, Home, Says, Keeps, CellOk}
-use Rattle.steps.specs.Rule.{Ended}
+use Rattle.steps.specs.Rule.{AllSaw, Saw, Ended}
 use Rattle.work.specs.Board.{Facts, IsOf, share_of}
 use Rattle.work.specs.Grid.{AreCells}
 use Rattle.work.specs.Passes.{Pass}
@@ -26,7 +26,7 @@ use Rattle.board.specs.declared.completion.Completion.{Completion}
 use Rattle.board.specs.Remains.{IsLeft, data_left, full_slots, hearing_all, AreTaken, Reports, Closing}
 use Rattle.board.specs.Reports.{AreOf, IsListed, IsReport}
 use Rattle.board.proofs.TakenCells.{some_inside}
-use Rattle.board.proofs.HeardPasses.{known_by, begins_by}
+use Rattle.board.proofs.HeardPasses.{known_by, saw_by, begins_by}
 use Rattle.board.proofs.ReportLines.{left_age}
 use Rattle.board.proofs.ShutAndCuts.{ended_legal, all_tell, all_answered, listed_unreaped}
 use Rattle.board.proofs.Standings.{word_is}
@@ -109,11 +109,13 @@ module _ (L : Layout) (v : View) (words : List ℕ) (slots : List (Option Thing)
   is_report b p ss ws claims things lines space layout o os ow is so =
       let h : List Event = events_of e.all in let s : Setup = setup_of L in
       let born : (r : Req) → IsLeft (phase h r) → ¬ (phase h r ≡ unborn) = λ r l u. subst IsLeft u l in
+      let own = saw_by e.all p ss ws (subst (λ (z : View). Saw z.role z.seen e.all) is e.seen) (subst (λ (z : View). AllSaw e.all z.heard) is e.heard) in
       let listed : (r : Req) → IsLeft (phase h r) → IsListed r lines = λ r l. so.listed r (inl (ring_there s h r.ring e.legal (let c = counted s h r e.legal (born r l) in omega arith))) l in
       record {
         all = e.all;
         longest = known_by b (events_of e.all) p ss ws o os ow (subst (λ (z : View). Rattle.steps.specs.Rule.Knows z (events_of e.all)) is (e.known whole));
-        begins = begins_by e.all p ss ws (subst (λ (z : View). Rattle.steps.specs.Rule.Begins e.all z.seen) is e.seen) (subst (λ (z : View). Rattle.steps.specs.Rule.AllBegin e.all z.heard) is e.heard);
+        begins = begins_by e.all (p ∷ (ss ++ ws)) own;
+        own = own;
         legal = subst (λ (z : Layout). Legal (setup_of z) (Rattle.board.specs.Reports.ended lines h)) (sym layout) (ended_legal s h e.legal e.live still lines so.ordered so.right);
         ordered = so.ordered;
         unreaped = λ r. (λ w. ⊎_elim (λ u. absurd (w.1 u)) (λ l. l) (all_answered s h e.legal e.live still lines so.right listed r w.0), listed_unreaped s h e.legal e.live still lines so.right listed r);

@@ -11,6 +11,7 @@ use Rattle.steps.specs.declared.line.Line.{Line}
 use Rattle.steps.specs.declared.parcel.Parcel.{Parcel}
 use Rattle.steps.specs.declared.parcel.Thing.{Thing}
 use Rattle.steps.specs.declared.parcel.Thing.TheVariants.{Full}
+use Rattle.steps.specs.declared.view.Heard.{Heard}
 use Rattle.steps.specs.declared.view.Role.TheVariants.{Poller}
 use Rattle.steps.specs.declared.view.View.{View}
 use Rattle.steps.specs.Journal.{events_of}
@@ -26,9 +27,9 @@ use Rattle.board.specs.Calls.{IsWord}
 use Rattle.board.specs.Reports.{AreOf, IsBefore, Ordered, IsListed}
 
 -- what the passes have seen and were told, before what was known
-abbrev pub told_by : List Pass → List (List Line) → List (List Line)
+abbrev pub told_by : List Pass → List Heard → List Heard
 told_by [] xs = xs
-told_by (p ∷ ps) xs = p.view.seen ∷ (p.view.heard ++ told_by ps xs)
+told_by (p ∷ ps) xs = record { role = p.view.role; seen = p.view.seen } ∷ (p.view.heard ++ told_by ps xs)
 
 -- the view after it heard passes of one part each
 abbrev pub hearing_all : View → List Pass → View

@@ -8,7 +8,7 @@ use Rattle.history.specs.Legal.{Legal}
 use Rattle.steps.specs.declared.line.Line.{Line}
 use Rattle.steps.specs.Journal.{events_of}
 use Rattle.steps.specs.Cells.{setup_of}
-use Rattle.steps.specs.Rule.{Begins}
+use Rattle.steps.specs.Rule.{Begins, Saw}
 use Rattle.work.specs.Board.{Facts, IsOf}
 use Rattle.work.specs.Passes.{Pass, seen_of}
 use Rattle.board.specs.declared.completion.Completion.{Completion}
@@ -61,11 +61,17 @@ abbrev pub BeginsWith : List Line → List Pass → Type 0
 BeginsWith j [] = Unit {0}
 BeginsWith j (p ∷ ps) = Begins j p.view.seen × BeginsWith j ps
 
--- the report of the board b with these passes: the longest that they have seen, followed by Shut and the Cuts alone, is legal, and just its requests without Reap have a line
+-- and goes on after that without lines of the pass's own role
+abbrev pub SawOwnLines : List Line → List Pass → Type 0
+SawOwnLines j [] = Unit {0}
+SawOwnLines j (p ∷ ps) = Saw p.view.role p.view.seen j × SawOwnLines j ps
+
+-- the report of the board b with these passes: the longest that they have seen lacks no pass's own lines; followed by Shut and the Cuts alone it is legal, and just its requests without Reap have a line
 pub record IsReport (b : Facts) (passes : List Pass) (lines : List (Completion × Bool)) : Type 0 where
   pub all : List Line
   pub longest : IsSeen (events_of all) passes
   pub begins : BeginsWith all passes
+  pub own : SawOwnLines all passes
   pub legal : Legal (setup_of b.layout) (ended lines (events_of all))
   pub ordered : Ordered lines
   pub unreaped : (r : Req) → ((r.k < submits (ended lines (events_of all)) r.ring) × (¬ IsReaped (phase (ended lines (events_of all)) r))) ↔ IsListed r lines

@@ -7,6 +7,7 @@ use commands::{Job, perform};
 use std::alloc::{AllocError, Global};
 use std::io;
 use std::io::{ErrorKind, Read, Write};
+use std::sync::Wait;
 use std::thread::Threads;
 use std::time::Clock;
 
@@ -140,7 +141,7 @@ fn told(
 }
 
 /// What `outcomes` of a script writes to a writer of this manner.
-pub fn writes<R: Threads + Sync + Clock + AllocGlobal>(
+pub fn writes<R: Threads + Wait + Copy + Send + Sync + 'static + Clock + AllocGlobal>(
     rt: &R,
     script: &str,
     how: &str,
@@ -163,7 +164,7 @@ pub fn writes<R: Threads + Sync + Clock + AllocGlobal>(
 }
 
 /// What `outcomes` writes of a script that it reads from a reader of this manner.
-pub fn reads<R: Threads + Sync + Clock + AllocGlobal>(
+pub fn reads<R: Threads + Wait + Copy + Send + Sync + 'static + Clock + AllocGlobal>(
     rt: &R,
     script: &str,
     how: &str,
@@ -180,7 +181,7 @@ pub fn reads<R: Threads + Sync + Clock + AllocGlobal>(
 }
 
 /// What `history` writes for a table that it reads from a reader of this manner.
-pub fn finds<R: Threads + Sync + Clock + AllocGlobal>(
+pub fn finds<R: Threads + Wait + Copy + Send + Sync + 'static + Clock + AllocGlobal>(
     rt: &R,
     table: &str,
     how: &str,

@@ -1,6 +1,7 @@
 //! A case of a command, and what the command answers.
 use commands::{Job, perform};
 use std::alloc::{AllocError, Global};
+use std::sync::Wait;
 use std::thread::Threads;
 use std::time::Clock;
 
@@ -74,7 +75,7 @@ fn run_of(turns: u32) -> Job {
 }
 
 /// The status of a job, and what it writes on standard output and then on standard error.
-pub fn written<R: Threads + Sync + Clock + AllocGlobal>(
+pub fn written<R: Threads + Wait + Copy + Send + Sync + 'static + Clock + AllocGlobal>(
     rt: &R,
     job: &Job,
     script: &str,
@@ -91,7 +92,7 @@ pub fn written<R: Threads + Sync + Clock + AllocGlobal>(
 }
 
 /// The status that the case's command ends with, and what it writes.
-pub fn answered<R: Threads + Sync + Clock + AllocGlobal>(
+pub fn answered<R: Threads + Wait + Copy + Send + Sync + 'static + Clock + AllocGlobal>(
     rt: &R,
     case: &Case<'_>,
 ) -> Result<String, AllocError> {
@@ -102,7 +103,7 @@ pub fn answered<R: Threads + Sync + Clock + AllocGlobal>(
 }
 
 /// The same, but for the number at its end: how fast the machine was.
-pub fn surveyed<R: Threads + Sync + Clock + AllocGlobal>(
+pub fn surveyed<R: Threads + Wait + Copy + Send + Sync + 'static + Clock + AllocGlobal>(
     rt: &R,
     case: &Case<'_>,
 ) -> Result<String, AllocError> {
@@ -122,7 +123,7 @@ pub fn has_table(alloc: Global, listed: &str, table: &str) -> Result<bool, Alloc
 }
 
 /// Whether the script has this table, by what `outcomes` lists.
-fn is_listed<R: Threads + Sync + Clock + AllocGlobal>(
+fn is_listed<R: Threads + Wait + Copy + Send + Sync + 'static + Clock + AllocGlobal>(
     rt: &R,
     script: &str,
     table: &str,
@@ -135,7 +136,7 @@ fn is_listed<R: Threads + Sync + Clock + AllocGlobal>(
 }
 
 /// Whether the case's table is one of those that `outcomes` lists.
-pub fn is_among<R: Threads + Sync + Clock + AllocGlobal>(
+pub fn is_among<R: Threads + Wait + Copy + Send + Sync + 'static + Clock + AllocGlobal>(
     rt: &R,
     case: &Case<'_>,
 ) -> Result<String, AllocError> {
@@ -143,7 +144,7 @@ pub fn is_among<R: Threads + Sync + Clock + AllocGlobal>(
 }
 
 /// Whether the table that `run` prints is one of those that `outcomes` lists. Where it prints none, the status and its text.
-pub fn prints_listed<R: Threads + Sync + Clock + AllocGlobal>(
+pub fn prints_listed<R: Threads + Wait + Copy + Send + Sync + 'static + Clock + AllocGlobal>(
     rt: &R,
     case: &Case<'_>,
 ) -> Result<String, AllocError> {

@@ -1,6 +1,7 @@
 //! Runs of scripts that were drawn at random.
 use crate::case::{folded, has_table, job_of, written};
 use std::alloc::{AllocError, Global};
+use std::sync::Wait;
 use std::thread::Threads;
 use std::time::Clock;
 
@@ -38,7 +39,7 @@ fn without_line(alloc: Global, script: &str, line: &str) -> Result<Option<String
 }
 
 /// What `outcomes` lists of a script, with `/` for its lines' ends.
-fn outcomes_of<R: Threads + Sync + Clock + AllocGlobal>(
+fn outcomes_of<R: Threads + Wait + Copy + Send + Sync + 'static + Clock + AllocGlobal>(
     rt: &R,
     script: &str,
 ) -> Result<String, AllocError> {
@@ -73,7 +74,7 @@ fn before_line(alloc: Global, script: &str, stuck: &str) -> Result<String, Alloc
 }
 
 /// The script without the line at which its run was stuck, where its entry may be without a reply until then.
-fn shorter<R: Threads + Sync + Clock + AllocGlobal>(
+fn shorter<R: Threads + Wait + Copy + Send + Sync + 'static + Clock + AllocGlobal>(
     rt: &R,
     script: &str,
     text: &str,
@@ -95,7 +96,7 @@ fn shorter<R: Threads + Sync + Clock + AllocGlobal>(
 
 /// Whether a run prints a table that `outcomes` lists: `yes`, or else what it prints. A line that waits and runs out of tries is left
 /// out, where its entry may be without a reply until then, and the script is run again.
-pub fn runs<R: Threads + Sync + Clock + AllocGlobal>(
+pub fn runs<R: Threads + Wait + Copy + Send + Sync + 'static + Clock + AllocGlobal>(
     rt: &R,
     script: &str,
 ) -> Result<String, AllocError> {

@@ -4,11 +4,12 @@ use commands::{Invocation, Job, serve};
 use std::alloc::AllocError;
 use std::io::Input;
 use std::rt::Files;
+use std::sync::Wait;
 use std::thread::Threads;
 use std::time::Clock;
 
 /// The status that an invocation ends with, and what it writes.
-fn served<R: Threads + Sync + Clock + Files + Input + AllocGlobal>(
+fn served<R: Threads + Wait + Copy + Send + Sync + 'static + Clock + Files + Input + AllocGlobal>(
     rt: &R,
     invocation: &Invocation<'_>,
 ) -> Result<(u8, Vec<u8>), AllocError> {
@@ -20,11 +21,9 @@ fn served<R: Threads + Sync + Clock + Files + Input + AllocGlobal>(
 }
 
 /// The status that a search for a history of one file with the table of another ends with, and what it writes.
-pub fn history<R: Threads + Sync + Clock + Files + Input + AllocGlobal>(
-    rt: &R,
-    script: &str,
-    table: &str,
-) -> Result<String, AllocError> {
+pub fn history<
+    R: Threads + Wait + Copy + Send + Sync + 'static + Clock + Files + Input + AllocGlobal,
+>(rt: &R, script: &str, table: &str) -> Result<String, AllocError> {
     let alloc = rt.alloc();
     let (status, mut out) = served(
         rt,
@@ -39,10 +38,9 @@ pub fn history<R: Threads + Sync + Clock + Files + Input + AllocGlobal>(
 }
 
 /// Whether the outcomes of an example are what stands beside it.
-pub fn is_example<R: Threads + Sync + Clock + Files + Input + AllocGlobal>(
-    rt: &R,
-    name: &str,
-) -> Result<String, AllocError> {
+pub fn is_example<
+    R: Threads + Wait + Copy + Send + Sync + 'static + Clock + Files + Input + AllocGlobal,
+>(rt: &R, name: &str) -> Result<String, AllocError> {
     let alloc = rt.alloc();
     let script = format!(in alloc; "{name}.ring")?;
     let wanted = format!(in alloc; "{name}.outcomes")?;
@@ -63,10 +61,9 @@ pub fn is_example<R: Threads + Sync + Clock + Files + Input + AllocGlobal>(
 
 /// Whether the table that `run` prints of an example is one of those that stand beside it. Where it prints none, the status
 /// and its text.
-pub fn is_carried<R: Threads + Sync + Clock + Files + Input + AllocGlobal>(
-    rt: &R,
-    name: &str,
-) -> Result<String, AllocError> {
+pub fn is_carried<
+    R: Threads + Wait + Copy + Send + Sync + 'static + Clock + Files + Input + AllocGlobal,
+>(rt: &R, name: &str) -> Result<String, AllocError> {
     let alloc = rt.alloc();
     let script = format!(in alloc; "{name}.ring")?;
     let (status, mut out) = served(

@@ -7,6 +7,7 @@ use limits::STATES;
 use model::Object;
 use script_text::{read_script, read_table, write_history};
 use std::alloc::{AllocError, Global};
+use std::sync::Wait;
 use std::thread::Threads;
 use std::time::Clock;
 
@@ -39,7 +40,7 @@ fn accepted_text(alloc: Global, script: &[u8], table: &[u8]) -> Option<String> {
 
 /// Whether the history that is printed for the case's script and table is one that the one-thread ring accepts, event by
 /// event.
-pub fn is_legal<R: Threads + Sync + Clock + AllocGlobal>(
+pub fn is_legal<R: Threads + Wait + Copy + Send + Sync + 'static + Clock + AllocGlobal>(
     rt: &R,
     case: &Case<'_>,
 ) -> Result<String, AllocError> {

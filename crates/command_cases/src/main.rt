@@ -18,11 +18,12 @@ use std::alloc::AllocError;
 use std::io;
 use std::io::{Input, Read};
 use std::rt::Files;
+use std::sync::Wait;
 use std::thread::Threads;
 use std::time::Clock;
 
 /// What is told of a case, by its kind.
-fn told<R: Threads + Sync + Clock + Files + Input + AllocGlobal>(
+fn told<R: Threads + Wait + Copy + Send + Sync + 'static + Clock + Files + Input + AllocGlobal>(
     rt: &R,
     case: &Case<'_>,
 ) -> Result<String, AllocError> {

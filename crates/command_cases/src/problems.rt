@@ -1,7 +1,7 @@
 //! Why a command gives no answer: the texts and statuses of problems that no script can bring about.
 use commands::Problem;
-use driver::RunFault;
 use explore::ExploreError;
+use script_run::RunFault;
 use script_text::{Fault, ScriptFault};
 use std::alloc::{AllocError, Global};
 use std::io;

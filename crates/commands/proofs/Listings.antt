@@ -4,7 +4,7 @@ use Rattle.script.specs.declared.script.Script.{Script}
 use Rattle.script.specs.declared.table.Table.{Table}
 use Rattle.script.proofs.Items.{rest_at}
 use Rattle.script_text.specs.TableText.{shown_lines, table_text}
-use Rattle.explore.specs.Rows.{rows_of}
+use Rattle.script.specs.Rows.{rows_of}
 use Rattle.commands.specs.Printed.{tables_text}
 
 -- one table was written, and an empty line

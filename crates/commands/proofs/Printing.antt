@@ -8,8 +8,8 @@ use Rattle.std.proofs.KnownBytes.{Appends-kept}
 use Rattle.script.specs.declared.script.Script.{Script}
 use Rattle.script.specs.declared.table.Table.{Table}
 use Rattle.explore.specs.Courses.{Among}
-use Rattle.explore.specs.Rows.{AreInOrder, rows_of}
-use Rattle.explore.specs.Tables.{IsTableOf}
+use Rattle.script.specs.Rows.{AreInOrder, rows_of}
+use Rattle.script.specs.Tables.{IsTableOf}
 use Rattle.script_text.specs.Scripts.{SaysScript}
 use Rattle.streams.specs.Streams.{AppendsBeginning}
 use Rattle.commands.specs.declared.job.Job.{Job}

@@ -7,8 +7,8 @@ use Rattle.script_text.specs.HistoryText.{history_text}
 use Rattle.script_text.specs.Scripts.{SaysScript}
 use Rattle.script_text.specs.TableText.{IsTableText, table_text}
 use Rattle.explore.specs.Courses.{Among}
-use Rattle.explore.specs.Rows.{AreInOrder}
-use Rattle.explore.specs.Tables.{IsTableOf}
+use Rattle.script.specs.Rows.{AreInOrder}
+use Rattle.script.specs.Tables.{IsTableOf}
 use Rattle.explore.specs.Trails.{IsHistoryOf}
 use Rattle.commands.specs.declared.job.Job.{Job}
 use Rattle.commands.specs.declared.job.Job.TheVariants.{Run, Outcomes, History}

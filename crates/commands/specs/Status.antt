@@ -12,8 +12,8 @@ use Rattle.script_text.specs.declared.fault.ScriptFault.TheVariants.{Memory as N
 use Rattle.explore.specs.Search.{HasMore}
 use Rattle.explore.specs.declared.error.ExploreError.{ExploreError}
 use Rattle.explore.specs.declared.error.ExploreError.TheVariants.{TooMany, Memory as SearchMemory}
-use Rattle.driver.specs.declared.fault.RunFault.{RunFault}
-use Rattle.driver.specs.declared.fault.RunFault.TheVariants.{Stuck as StuckAt, Memory as RunMemory, Thread, Workers as NoSuchWorkers, Shared}
+use Rattle.script_run.specs.declared.fault.RunFault.{RunFault}
+use Rattle.script_run.specs.declared.fault.RunFault.TheVariants.{Stuck as StuckAt, Memory as RunMemory, Thread, Workers as NoSuchWorkers, Shared}
 use Rattle.streams.specs.declared.fault.InputFault.{InputFault}
 use Rattle.streams.specs.declared.fault.InputFault.TheVariants.{Input as FailedRead, Memory as ReadMemory}
 use Rattle.commands.specs.declared.job.Job.{Job}

@@ -1,7 +1,7 @@
 //! A command carried out.
 ghost use Rattle.std.specs.Prelude.{◌≡◌, ◌≢◌, ◌≤◌, ◌*◌, ◌/◌, ◌⊎◌, min, max, map, length, IfOk, OnOk, IfErr, OnErr};
 ghost use Rattle.std.specs.Io.KnownBytes.{Appends, Keeps};
-ghost use Rattle.explore.specs.Rows.{rows_of};
+ghost use Rattle.script.specs.Rows.{rows_of};
 ghost use Rattle.script_text.specs.declared.fault.ScriptFault.{ScriptFault};
 ghost use Rattle.commands.specs.declared.problem.Problem.{Problem};
 ghost use Rattle.commands.specs.Printed.{counted_text, AppendsSome, HasBegun, HasPrinted, IsHistoryOfText, IsOutcomesText, IsQuiet, IsRunText, Prints};
@@ -9,13 +9,15 @@ ghost use Rattle.commands.specs.Status.{status_of, Ends, Explains, IsFaultOf, Is
 
 use crate::job::Job;
 use crate::problem::Problem;
-use driver::run_script;
+use controls::Open;
 use explore::{Script, Table, find_history, outcomes, survey_script};
 use limits::STATES;
+use script_run::run_script;
 use script_text::{read_script, read_table, write_history, write_table};
 use std::alloc::Global;
 use std::io;
 use std::io::{Read, Write};
+use std::sync::Wait;
 use std::thread::Threads;
 use std::time::{Clock, Instant};
 use streams::{read_all, write_out};
@@ -24,15 +26,13 @@ use streams::{read_all, write_out};
 /// all of it is written. Else one line on `err` says why: status 1, or 2 for a fault of the script or the table, or 3 for a
 /// line that ran out of turns; `out` gets nothing then, unless the writing itself failed. Where statistics are asked for, `err`
 /// gets them.
-pub fn perform<R: Threads + Sync + Clock, S: Read, T: Read, W: Write, E: Write>(
-    rt: &R,
-    alloc: Global,
-    job: &Job,
-    script: &mut S,
-    table: &mut T,
-    out: &mut W,
-    err: &mut E,
-) -> u8
+pub fn perform<
+    R: Threads + Wait + Copy + Send + Sync + 'static + Clock,
+    S: Read,
+    T: Read,
+    W: Write,
+    E: Write,
+>(rt: &R, alloc: Global, job: &Job, script: &mut S, table: &mut T, out: &mut W, err: &mut E) -> u8
     ensures bound { result ≤ 3 }
     // With status 0, what the job prints of what was read went out, all of it and nothing else.
     ensures printed { result ≡ 0 → HasPrinted job.now (S.remaining script.old) (T.remaining table.old) (W.contents out.old) (W.contents out.new) }
@@ -61,7 +61,13 @@ pub fn tell<E: Write>(problem: &Problem, err: &mut E) -> u8
 }
 
 /// Makes the answer to a job, and writes it to `out`.
-fn carry_out<R: Threads + Sync + Clock, S: Read, T: Read, W: Write, E: Write>(
+fn carry_out<
+    R: Threads + Wait + Copy + Send + Sync + 'static + Clock,
+    S: Read,
+    T: Read,
+    W: Write,
+    E: Write,
+>(
     rt: &R,
     alloc: Global,
     job: &Job,
@@ -93,7 +99,7 @@ fn put_out<W: Write>(text: &[u8], out: &mut W) -> Result<(), Problem>
 }
 
 /// The whole answer to a job. Statistics go to `err`.
-fn answer<R: Threads + Sync + Clock, S: Read, T: Read, E: Write>(
+fn answer<R: Threads + Wait + Copy + Send + Sync + 'static + Clock, S: Read, T: Read, E: Write>(
     rt: &R,
     alloc: Global,
     job: &Job,
@@ -119,7 +125,7 @@ fn answer<R: Threads + Sync + Clock, S: Read, T: Read, E: Write>(
 }
 
 /// The table of a run.
-fn run_text<R: Threads + Sync>(
+fn run_text<R: Threads + Wait + Copy + Send + Sync + 'static>(
     rt: &R,
     alloc: Global,
     script: &Script,
@@ -129,7 +135,7 @@ fn run_text<R: Threads + Sync>(
     ensures prints { IfOk result (λ text. IsRunText script.now text.items) }
     ensures explains { IfErr result IsOfRun }
 {
-    let table = run_script(rt, alloc, script, workers, turns)?;
+    let table = run_script(rt, alloc, script, workers, turns, Open)?;
     Ok(write_table(alloc, script, &table)?)
 }
 

@@ -11,18 +11,18 @@ use std::fs::open;
 use std::io;
 use std::io::{Input, Read, Write};
 use std::rt::Files;
+use std::sync::Wait;
 use std::thread::Threads;
 use std::time::Clock;
 
 /// Carries an invocation out: opens its script, which may be standard input, and its table, and performs its job. The status is
 /// that of `perform`; a file that can't be opened is a fault of input, reported before the script is read.
-pub fn serve<T: Threads + Sync + Clock, R: Files + Input + AllocGlobal, W: Write, E: Write>(
-    threads: &T,
-    rt: &R,
-    invocation: &Invocation<'_>,
-    out: &mut W,
-    err: &mut E,
-) -> u8
+pub fn serve<
+    T: Threads + Wait + Copy + Send + Sync + 'static + Clock,
+    R: Files + Input + AllocGlobal,
+    W: Write,
+    E: Write,
+>(threads: &T, rt: &R, invocation: &Invocation<'_>, out: &mut W, err: &mut E) -> u8
     ensures bound { result ≤ 3 }
     // With status 0, what the job prints of some script went out, and nothing else.
     ensures printed { result ≡ 0 → HasPrinted invocation.now.job None None (W.contents out.old) (W.contents out.new) }
@@ -43,14 +43,13 @@ pub fn serve<T: Threads + Sync + Clock, R: Files + Input + AllocGlobal, W: Write
 }
 
 /// Carries an invocation out over its opened script.
-fn serve_script<T: Threads + Sync + Clock, R: Files + AllocGlobal, S: Read, W: Write, E: Write>(
-    threads: &T,
-    rt: &R,
-    invocation: &Invocation<'_>,
-    script: &mut S,
-    out: &mut W,
-    err: &mut E,
-) -> u8
+fn serve_script<
+    T: Threads + Wait + Copy + Send + Sync + 'static + Clock,
+    R: Files + AllocGlobal,
+    S: Read,
+    W: Write,
+    E: Write,
+>(threads: &T, rt: &R, invocation: &Invocation<'_>, script: &mut S, out: &mut W, err: &mut E) -> u8
     ensures bound { result ≤ 3 }
     ensures printed { result ≡ 0 → HasPrinted invocation.now.job None None (W.contents out.old) (W.contents out.new) }
     ensures unprinted { result ≢ 0 → Keeps (W.contents out.old) (W.contents out.new) ⊎ ((result ≡ 1) × HasBegun invocation.now.job None None (W.contents out.old) (W.contents out.new)) }

@@ -4,8 +4,8 @@ ghost use Rattle.commands.specs.declared.problem.Problem.TheVariants.{Memory as 
 ghost use Rattle.commands.specs.declared.problem.Problem.TheVariants.{Output as NotWritten};
 ghost use Rattle.commands.specs.Status.{of_input, of_script, of_search, of_run};
 
-use driver::RunFault;
 use explore::ExploreError;
+use script_run::RunFault;
 use script_text::{Memory, ScriptFault};
 use std::alloc::{AllocError, AllocFailed};
 use std::fmt;

@@ -4,4 +4,5 @@ pub mod History
 pub mod Legal
 pub mod Pipes
 pub mod State
+pub mod Ticked
 pub mod Users

@@ -5,11 +5,15 @@ use clap::error::ErrorKind;
 use commands::{invocation_of, serve};
 use std::io;
 use std::process::ExitCode;
+use std::sync::Wait;
 use std::thread::Threads;
 use std::time::Clock;
 
 /// Reads the command line and carries it out. The answer is the program's status.
-fn run<T: Threads + Sync + Clock>(threads: &T, rt: &HostRuntime) -> io::Result<u8> {
+fn run<T: Threads + Wait + Copy + Send + Sync + 'static + Clock>(
+    threads: &T,
+    rt: &HostRuntime,
+) -> io::Result<u8> {
     let alloc = rt.alloc();
     let words: Vec<String> = std::env::args(rt)?.collect(alloc)?;
     let mut texts = Vec::new(alloc);

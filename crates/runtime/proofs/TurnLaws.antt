@@ -4,6 +4,7 @@ use Rattle.std.proofs.lemmas.List.{append_assoc, append-nil}
 use Rattle.history.specs.declared.req.Req.{Req}
 use Rattle.history.specs.declared.event.Event.{Event}
 use Rattle.history.specs.History.{same}
+use Rattle.history.specs.Ticked.{ticked}
 use Rattle.history.proofs.Requests.{bool_cases, same_true}
 use Rattle.steps.specs.declared.line.Line.{Line}
 use Rattle.steps.specs.declared.view.Role.{Role}
@@ -21,6 +22,7 @@ use Rattle.runtime.specs.declared.hands.Hands.{Hands}
 use Rattle.runtime.specs.declared.turn.Turn.{Turn}
 use Rattle.runtime.specs.declared.turn.Turn.TheVariants.{Moved, Idle}
 use Rattle.runtime.specs.Turns.{GoesOn, HandedOver, answered_by, answered_one, kept_in}
+use Rattle.runtime.proofs.ClockLaws.{none_then}
 use Rattle.runtime.specs.PollTurns.{AreAt, HasRoom, HasArmed, HasTicked, IsPollTurn, Did, Rang, is_among}
 use Rattle.bell.specs.BellPasses.{Sleeping}
 
@@ -59,6 +61,7 @@ pub rang_then : (b : Facts) (h m k : Hands) (o u w : Waiting) → Rang b h o m u
 rang_then b h m k o u w x y = record {
   events = y.events ++ x.events;
   goes = goes_on_then b h.poller m.poller k.poller x.events y.events x.goes y.goes;
+  still = none_then y.events x.events y.still x.still;
   answered = answered_then o.answered u.answered w.answered x.events y.events x.answered y.answered;
   places = y.places ∙ x.places;
   room = y.room ∙ x.room;
@@ -67,7 +70,7 @@ rang_then b h m k o u w x y = record {
 }
 
 pub rang_still : (b : Facts) (h : Hands) (o : Waiting) → IsOf b h.poller → Rang b h o h o
-rang_still b h o of = record { events = []; goes = goes_nowhere b h.poller of; answered = sym (append-nil o.answered); places = refl; room = refl; alone = λ r. refl; same = (refl, refl) }
+rang_still b h o of = record { events = []; goes = goes_nowhere b h.poller of; still = refl; answered = sym (append-nil o.answered); places = refl; room = refl; alone = λ r. refl; same = (refl, refl) }
 
 spread : (s A R S c : Bool) → cond A true (cond R true c) ≡ cond S true c → cond A true (cond (cond s true R) true c) ≡ cond (cond s true S) true c
 spread true true R S c e = refl
@@ -88,6 +91,7 @@ pub did_then : (b : Facts) (q : QueueFacts) (h m k : Hands) (o u w : Waiting) �
 did_then b q h m k o u w x y = record {
   events = y.events ++ x.events;
   goes = goes_on_then b h.poller m.poller k.poller x.events y.events x.goes y.goes;
+  still = none_then y.events x.events y.still x.still;
   answered = answered_then o.answered u.answered w.answered x.events y.events x.answered y.answered;
   places = y.places ∙ x.places;
   room = y.room ∙ x.room;
@@ -106,6 +110,7 @@ pub did_ring : (b : Facts) (q : QueueFacts) (h k : Hands) (o w : Waiting) → Ra
 did_ring b q h k o w x = record {
   events = x.events;
   goes = x.goes;
+  still = x.still;
   answered = x.answered;
   places = x.places;
   room = x.room;
@@ -124,6 +129,7 @@ pub rang_armed : (b : Facts) (h k : Hands) (o : Waiting) → HasArmed b h k → 
 rang_armed b h k o x = record {
   events = x.events;
   goes = x.goes;
+  still = x.still;
   answered = sym (append-nil o.answered) ∙ ap (λ (z : List Req). o.answered ++ z) (sym x.silent);
   places = refl;
   room = ap (λ (n : ℕ). length o.answered + n) x.same.2;
@@ -136,6 +142,7 @@ pub did_retry : (b : Facts) (q : QueueFacts) (h k : Hands) (o : Waiting) → IsO
 did_retry b q h k o of x same room = record {
   events = [];
   goes = subst (λ (z : Pass). GoesOn b h.poller [] z) (sym same) (goes_nowhere b h.poller of);
+  still = refl;
   answered = sym (append-nil o.answered);
   places = refl;
   room = ap (λ (n : ℕ). length o.answered + n) room;
@@ -157,11 +164,12 @@ pub room_rang : (b : Facts) (h k : Hands) (o w : Waiting) → HasRoom h o → Ra
 room_rang b h k o w a x = let e = x.room in let p = x.places in omega (arith, a, e, p)
 
 -- the poller went on by these events, and one request was put into the outbox
-pub rang_answered : (b : Facts) (h k : Hands) (p : Pass) (o w : Waiting) (es : List Event) (r : Req) → answered_by es ≡ r ∷ [] → Goes b h.poller es p → ((q : Req) → freed p.view.seen q ≡ freed h.poller.view.seen q)
+pub rang_answered : (b : Facts) (h k : Hands) (p : Pass) (o w : Waiting) (es : List Event) (r : Req) → ticked es ≡ 0 → answered_by es ≡ r ∷ [] → Goes b h.poller es p → ((q : Req) → freed p.view.seen q ≡ freed h.poller.view.seen q)
     → (k.poller ≡ p) × (k.ready ≡ h.ready) × (k.kept ≡ h.kept) → k.room + 1 ≡ h.room → w ≡ with_answered r o → Rang b h o k w
-rang_answered b h k p o w es r one goes alone same room put = record {
+rang_answered b h k p o w es r still one goes alone same room put = record {
   events = es;
   goes = subst (λ (z : Pass). GoesOn b h.poller es z) (sym same.0) (goes_on b h.poller p es goes);
+  still = still;
   answered = ap (λ (z : Waiting). z.answered) put ∙ ap (λ (z : List Req). o.answered ++ z) (sym one);
   places = ap (λ (z : Waiting). z.places) put;
   room = let e : length w.answered ≡ length (o.answered ++ r ∷ []) = ap (λ (z : Waiting). length z.answered) put in omega (arith, e, length-append o.answered (r ∷ []), room);
@@ -170,12 +178,13 @@ rang_answered b h k p o w es r one goes alone same room put = record {
 }
 
 -- and two were
-pub rang_twice : (b : Facts) (h m k : Hands) (p : Pass) (o u w : Waiting) (es : List Event) (t r : Req) → answered_by es ≡ t ∷ r ∷ [] → Goes b h.poller es p → ((q : Req) → freed p.view.seen q ≡ freed h.poller.view.seen q)
+pub rang_twice : (b : Facts) (h m k : Hands) (p : Pass) (o u w : Waiting) (es : List Event) (t r : Req) → ticked es ≡ 0 → answered_by es ≡ t ∷ r ∷ [] → Goes b h.poller es p → ((q : Req) → freed p.view.seen q ≡ freed h.poller.view.seen q)
     → (m.poller ≡ p) × (m.ready ≡ h.ready) × (m.kept ≡ h.kept) → m.room + 1 ≡ h.room → u ≡ with_answered t o
     → (k.poller ≡ m.poller) × (k.ready ≡ m.ready) × (k.kept ≡ m.kept) → k.room + 1 ≡ m.room → w ≡ with_answered r u → Rang b h o k w
-rang_twice b h m k p o u w es t r both goes alone same room put then more last = record {
+rang_twice b h m k p o u w es t r still both goes alone same room put then more last = record {
   events = es;
   goes = subst (λ (z : Pass). GoesOn b h.poller es z) (sym (then.0 ∙ same.0)) (goes_on b h.poller p es goes);
+  still = still;
   answered = ap (λ (z : Waiting). z.answered) last ∙ (ap (λ (z : Waiting). z.answered ++ r ∷ []) put ∙ (append_assoc o.answered (t ∷ []) (r ∷ []) ∙ ap (λ (z : List Req). o.answered ++ z) (sym both)));
   places = ap (λ (z : Waiting). z.places) last ∙ ap (λ (z : Waiting). z.places) put;
   room = let e : length w.answered ≡ length (u.answered ++ r ∷ []) = ap (λ (z : Waiting). length z.answered) last in
@@ -190,6 +199,7 @@ pub rang_looked : (b : Facts) (h k : Hands) (o : Waiting) → Goes b h.poller []
 rang_looked b h k o goes alone same = record {
   events = [];
   goes = goes_on b h.poller k.poller [] goes;
+  still = refl;
   answered = sym (append-nil o.answered);
   places = refl;
   room = ap (λ (n : ℕ). length o.answered + n) same.2;
@@ -199,10 +209,10 @@ rang_looked b h k o goes alone same = record {
 
 -- that a turn did something changes nothing else
 pub rang_moved : (b : Facts) (h k : Hands) (o w : Waiting) (m : Bool) → Rang b h o k w → Rang b h o (record k { moved = m }) w
-rang_moved b h k o w m x = record { events = x.events; goes = x.goes; answered = x.answered; places = x.places; room = x.room; alone = x.alone; same = x.same }
+rang_moved b h k o w m x = record { events = x.events; goes = x.goes; still = x.still; answered = x.answered; places = x.places; room = x.room; alone = x.alone; same = x.same }
 
 pub did_moved : (b : Facts) (q : QueueFacts) (h k : Hands) (o w : Waiting) (m : Bool) → Did b q h o k w → Did b q h o (record k { moved = m }) w
-did_moved b q h k o w m x = record { events = x.events; goes = x.goes; answered = x.answered; places = x.places; room = x.room; released = x.released; freed_are = x.freed_are; puts = x.puts; ready = x.ready; handed = x.handed }
+did_moved b q h k o w m x = record { events = x.events; goes = x.goes; still = x.still; answered = x.answered; places = x.places; room = x.room; released = x.released; freed_are = x.freed_are; puts = x.puts; ready = x.ready; handed = x.handed }
 
 abbrev pub is_freed : Released → Bool
 is_freed Freed = true
@@ -227,6 +237,7 @@ pub did_freed : (b : Facts) (q : QueueFacts) (h k : Hands) (p : Pass) (o : Waiti
 did_freed b q h k p o r goes is alone same x none = record {
   events = [];
   goes = subst (λ (z : Pass). GoesOn b h.poller [] z) (sym same.0) (goes_on b h.poller p [] goes);
+  still = refl;
   answered = sym (append-nil o.answered);
   places = refl;
   room = ap (λ (n : ℕ). length o.answered + n) same.1;

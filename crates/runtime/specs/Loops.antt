@@ -5,12 +5,13 @@ use Rattle.work.specs.Passes.{Pass}
 use Rattle.bell.specs.BellPasses.{IsSleeperOf}
 use Rattle.ready.specs.Ready.{IsOf as IsOfQueue}
 use Rattle.runtime.specs.declared.shared.Shared.{Shared}
-use Rattle.runtime.specs.PollTurns.{Desk}
+use Rattle.runtime.specs.PollTurns.{Desk, IsPollers}
 use Rattle.runtime.specs.WorkTurns.{Desk as WorkDesk}
 
 -- the passes of the poller's desk are those of this board, bell and queue
 pub record IsPolling (s : Shared) (d : Desk) : Type 0 where
   pub poller : IsOf s.board d.poller
+  pub role : IsPollers d.poller
   pub sleeper : IsSleeperOf s.bell d.sleeper
   pub rings : d.rings ≡ s.bell.rings
   pub some : 0 < d.rings

@@ -3,7 +3,9 @@ use Rattle.std.specs.Prelude.{◌≡◌, ℕ, ◌+◌, ◌≤◌, Bool, true, fa
 use Rattle.history.specs.declared.req.Req.{Req}
 use Rattle.history.specs.declared.event.Event.{Event}
 use Rattle.history.specs.History.{same}
+use Rattle.history.specs.Ticked.{ticked}
 use Rattle.board.specs.declared.shape.RingShape.{RingShape}
+use Rattle.steps.specs.declared.view.Role.TheVariants.{Poller}
 use Rattle.steps.specs.Journal.{freed}
 use Rattle.work.specs.Board.{Facts, IsOf}
 use Rattle.work.specs.Passes.{Pass}
@@ -27,6 +29,10 @@ abbrev pub is_among : List Req → Req → Bool
 is_among [] q = false
 is_among (r ∷ rs) q = cond (same r q) true (is_among rs q)
 
+-- the pass is a poller's, which alone sets the clock
+abbrev pub IsPollers : Pass → Type 0
+IsPollers p = (n : ℕ) × (p.view.role ≡ Poller n)
+
 -- the passes are those of this board and of this queue
 abbrev pub AreAt : Facts → QueueFacts → Hands → Type 0
 AreAt b q h = IsOf b h.poller × IsOfQueue q h.ready
@@ -35,10 +41,11 @@ AreAt b q h = IsOf b h.poller × IsOfQueue q h.ready
 abbrev pub HasRoom : Hands → Waiting → Type 0
 HasRoom h o = length o.answered + h.room ≤ o.places
 
--- a part of a poll turn: what the poller's events answered is in the outbox, each once and in order, and each request that it moved to Ready was put into the ready queue, or is kept
+-- a part of a poll turn: what the poller's events answered is in the outbox, each once and in order, and each request that it moved to Ready was put into the ready queue, or is kept. The clock was not set
 pub record Did (b : Facts) (q : QueueFacts) (old : Hands) (before : Waiting) (new : Hands) (after : Waiting) : Type 0 where
   pub events : List Event
   pub goes : GoesOn b old.poller events new.poller
+  pub still : ticked events ≡ 0
   pub answered : after.answered ≡ before.answered ++ answered_by events
   pub places : after.places ≡ before.places
   pub room : length after.answered + new.room ≡ length before.answered + old.room
@@ -52,14 +59,16 @@ pub record Did (b : Facts) (q : QueueFacts) (old : Hands) (before : Waiting) (ne
 pub record HasArmed (b : Facts) (old new : Hands) : Type 0 where
   pub events : List Event
   pub goes : GoesOn b old.poller events new.poller
+  pub still : ticked events ≡ 0
   pub silent : answered_by events ≡ []
   pub alone : (r : Req) → freed new.poller.view.seen r ≡ freed old.poller.view.seen r
   pub same : (new.ready ≡ old.ready) × (new.kept ≡ old.kept) × (new.room ≡ old.room)
 
--- the poller went on with timers: what its events answered is in the outbox, each once and in order, and no request was moved to Ready
+-- the poller went on with timers: what its events answered is in the outbox, each once and in order, and no request was moved to Ready. The clock was not set
 pub record Rang (b : Facts) (old : Hands) (before : Waiting) (new : Hands) (after : Waiting) : Type 0 where
   pub events : List Event
   pub goes : GoesOn b old.poller events new.poller
+  pub still : ticked events ≡ 0
   pub answered : after.answered ≡ before.answered ++ answered_by events
   pub places : after.places ≡ before.places
   pub room : length after.answered + new.room ≡ length before.answered + old.room

@@ -2,8 +2,9 @@
 ghost use Rattle.std.specs.Prelude.{◌≡◌, ◌≢◌, ◌↔◌, ◌≤◌, ◌++◌, ◌∷◌, [], List, All, length, map, vec_capacity, IfOk, IfErr};
 ghost use Rattle.std.specs.Arc.{arc_value};
 ghost use Rattle.steps.specs.Cells.{total};
+ghost use Rattle.steps.specs.declared.view.Role.TheVariants.{Poller as PollerRole};
 ghost use Rattle.work.specs.Board.{IsOf};
-ghost use Rattle.work.specs.Passes.{Pass};
+ghost use Rattle.work.specs.Passes.{Pass, seen_of};
 ghost use Rattle.board.specs.Reports.{AreOf, IsReport};
 ghost use Rattle.runtime.specs.Clients.{AreClients, submitter_of, without_tail};
 ghost use Rattle.runtime.specs.declared.error.JoinError.TheVariants.{Missing};
@@ -13,6 +14,7 @@ use crate::error::JoinError;
 use crate::shared::Shared;
 use crate::started::{Runtime, Stopped, tell_end};
 use board::{Board, Report, ReportRoom, Submitter};
+use controls::Clock;
 use std::alloc::Global;
 use std::sync::{Arc, Wait};
 use std::thread;
@@ -20,9 +22,9 @@ use std::thread::Threads;
 
 /// The runtime and its clients, which come back where it isn't ended.
 #[derive(Drop)]
-pub struct Unjoined {
+pub struct Unjoined<C: Clock> {
     pub error: JoinError,
-    pub runtime: Runtime,
+    pub runtime: Runtime<C>,
     pub clients: Vec<Client>,
 }
 
@@ -59,24 +61,24 @@ fn sole<R: Wait>(rt: &R, mut shared: Arc<Shared>) -> Shared
     unreachable!()
 }
 
-/// Ends the board of a runtime whose threads have ended, and whose clients are these.
-fn end<R: Wait>(
+/// Ends the board of a runtime whose threads have ended, and whose clients are these. It gives back the clock.
+fn end<R: Wait, C: Clock>(
     rt: &R,
-    stopped: Stopped,
+    stopped: Stopped<C>,
     clients: Vec<Client>,
     submitters: Vec<Submitter>,
     report: ReportRoom,
-) -> Report
+) -> (Report, C)
     requires own { AreClients stopped.shared.board clients.items }
     requires complete { length clients.items ≡ length stopped.shared.board.layout.cells }
     requires room { (submitters.items ≡ []) × (length clients.items ≤ vec_capacity submitters) }
     requires report { total stopped.shared.board.layout.cells ≤ report }
-    ensures { (poller : Pass) × (workers : List Pass) × IsReport stopped.shared.board (poller ∷ (map submitter_of clients.items ++ workers)) result }
+    ensures { (poller : Pass) × (workers : List Pass) × IsReport stopped.shared.board (poller ∷ (map submitter_of clients.items ++ workers)) result.0 × C.follows result.1 (seen_of poller) × (poller.view.role ≡ PollerRole (length stopped.shared.board.layout.cells)) }
 {
-    let (shared, poller, workers) = stopped.parts();
+    let (shared, poller, workers, clock) = stopped.parts();
     let submitters = submitters_of(&shared.board, clients, submitters);
     let Shared { board, .. } = sole(rt, shared);
-    board.finish_in(poller, submitters, workers, report)
+    (board.finish_in(poller, submitters, workers, report), clock)
 }
 
 /// Ends a runtime: it tells all threads to end, waits for them, and ends the board. The report has each request that no client has
@@ -85,14 +87,32 @@ fn end<R: Wait>(
 /// `Missing` comes only where a client is not among those handed in, and `Memory` where the report's room isn't found; both before
 /// anything is stopped. `Shared` comes where the board was not given up though all threads have ended. After each of them it may be
 /// called again.
-pub fn join_all<R: Threads + Wait>(
+pub fn join_all<R: Threads + Wait, C: Clock + Drop>(
     rt: &R,
     alloc: Global,
-    runtime: Runtime,
+    runtime: Runtime<C>,
     clients: Vec<Client>,
-) -> Result<Report, Unjoined>
+) -> Result<Report, Unjoined<C>>
     requires own { AreClients runtime clients.items }
     ensures report { IfOk result (λ r. (poller : Pass) × (workers : List Pass) × IsReport runtime (poller ∷ (map submitter_of clients.items ++ workers)) r) }
+    ensures complete { IfOk result (λ _. length clients.items ≡ length runtime.layout.cells) }
+    ensures missing { IfErr result (λ u. (u.error ≡ Missing) ↔ (length clients.items ≢ length runtime.layout.cells)) }
+    ensures back { IfErr result (λ u. (u.runtime ≡ runtime) × (map without_tail u.clients.items ≡ map without_tail clients.items)) }
+    ensures early { IfErr result (λ u. u.error ≢ JoinError.Shared → u.clients.items ≡ clients.items) }
+{
+    let (report, _clock) = join_with_clock(rt, alloc, runtime, clients)?;
+    Ok(report)
+}
+
+/// As `join_all`, and gives back the clock, which has gone along with all that the poller saw.
+pub fn join_with_clock<R: Threads + Wait, C: Clock>(
+    rt: &R,
+    alloc: Global,
+    runtime: Runtime<C>,
+    clients: Vec<Client>,
+) -> Result<(Report, C), Unjoined<C>>
+    requires own { AreClients runtime clients.items }
+    ensures report { IfOk result (λ r. (poller : Pass) × (workers : List Pass) × IsReport runtime (poller ∷ (map submitter_of clients.items ++ workers)) r.0 × C.follows r.1 (seen_of poller) × (poller.view.role ≡ PollerRole (length runtime.layout.cells))) }
     ensures complete { IfOk result (λ _. length clients.items ≡ length runtime.layout.cells) }
     ensures missing { IfErr result (λ u. (u.error ≡ Missing) ↔ (length clients.items ≢ length runtime.layout.cells)) }
     ensures back { IfErr result (λ u. (u.runtime ≡ runtime) × (map without_tail u.clients.items ≡ map without_tail clients.items)) }

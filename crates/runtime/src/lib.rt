@@ -28,7 +28,7 @@ pub mod turn;
 
 pub use client::Client;
 pub use error::{JoinError, Memory, StartError};
-pub use join::{Unjoined, join_all};
+pub use join::{Unjoined, join_all, join_with_clock};
 pub use poll::{PollDesk, poll_turn};
 pub use serving::{WorkDesk, work_turn};
 pub use started::Runtime;

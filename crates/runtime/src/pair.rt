@@ -1,5 +1,5 @@
 //! A runtime of two rings on real threads, with both of its clients in one thread.
-ghost use Rattle.std.specs.Prelude.{◌≡◌, IfOk};
+ghost use Rattle.std.specs.Prelude.{◌≡◌, [], IfOk};
 
 use crate::stage::{Entry, batch_of};
 use crate::{Client, Runtime, join_all, start};
@@ -23,14 +23,14 @@ const POSTS: u32 = 1;
 
 /// A runtime and the clients of its rings 0 and 1.
 #[derive(Drop)]
-pub(crate) struct Pair {
+pub(crate) struct Pair<C: Clock> {
     alloc: Global,
-    runtime: Runtime,
+    runtime: Runtime<C>,
     zero: Client,
     one: Client,
 }
 
-impl Model for Pair {
+impl<C: Clock> Model for Pair<C> {
     ghost use Rattle.std.specs.Prelude.{◌≡◌};
     ghost use Rattle.work.specs.Board.{Facts};
 
@@ -88,13 +88,21 @@ fn submitted(alloc: Global, client: &mut Client, entries: &[Entry]) -> Result<Re
     }
 }
 
-impl Pair {
+impl<C: Clock + Send + Drop + 'static> Pair<C> {
     /// A started runtime.
     pub fn new<
         R: Threads + Wait + Copy + Send + 'static,
         G: Turnstile + Send + Sync + Drop + 'static,
-        C: Clock + Send + Drop + 'static,
-    >(rt: R, alloc: Global, workers: u32, idle: u32, turnstile: G, clock: C) -> Result<Pair, Fail> {
+    >(
+        rt: R,
+        alloc: Global,
+        workers: u32,
+        idle: u32,
+        turnstile: G,
+        clock: C,
+    ) -> Result<Pair<C>, Fail>
+        requires { C.follows clock [] }
+    {
         let shape = shape_of(alloc, workers)?;
         let Ok((runtime, mut clients)) = start(rt, alloc, &shape, idle, turnstile, clock) else {
             return Err(Fail::new("the runtime isn't started"));
@@ -109,7 +117,9 @@ impl Pair {
             one,
         })
     }
+}
 
+impl<C: Clock + Drop> Pair<C> {
     /// Submits the entries in one batch to ring 0, or to ring 1.
     pub fn submit(&mut self, ring: u16, entries: &[Entry]) -> Result<Req, Fail> {
         if ring == 0 {

@@ -2,9 +2,11 @@
 ghost use Rattle.std.specs.Prelude.{◌≡◌, ◌≤◌, ◌+◌, ◌<◌, ◌==◌, ◌^◌, [], ◌∷◌, None, false, length, slice_index, IfOk, IfErr};
 ghost use Rattle.bell.specs.BellPasses.{HasLoaded, HaveRisen, IsSleeperOf};
 ghost use Rattle.work.specs.Board.{IsOf};
+ghost use Rattle.work.specs.Passes.{seen_of};
 ghost use Rattle.ready.specs.Ready.{IsOf as IsOfQueue};
 ghost use Rattle.board.specs.Calls.{Goes};
-ghost use Rattle.runtime.specs.PollTurns.{AreAt, Did, HasRoom, HasTicked, Rang, IsPollTurn, IsNewDesk, cells_in_all};
+ghost use Rattle.controls.specs.Clocks.{Asked};
+ghost use Rattle.runtime.specs.PollTurns.{AreAt, Did, HasRoom, HasTicked, Rang, IsPollTurn, IsPollers, IsNewDesk, cells_in_all};
 
 use crate::error::Memory;
 use crate::hands::Hands;
@@ -145,7 +147,8 @@ pub(crate) fn rest<R: Wait>(rt: &R, bell: &Bell, desk: &mut PollDesk)
 /// The phase of the request that the clock asks for, if any.
 fn phase_of(board: &Board, poller: &mut Poller, asked: Option<Req>) -> Option<Phase>
     requires { IsOf board.now poller.old }
-    ensures { Goes board.now poller.old [] poller.new }
+    ensures looks { Goes board.now poller.old [] poller.new }
+    ensures asked { Asked poller.new.view.seen asked result }
 {
     match asked {
         Some(req) => Some(board.look(poller, req)),
@@ -157,6 +160,7 @@ fn phase_of(board: &Board, poller: &mut Poller, asked: Option<Req>) -> Option<Ph
 fn ask_clock<C: Clock>(board: &Board, hands: &mut Hands, lists: &mut Lists, clock: &mut C)
     requires own { IsOf board.now hands.old.poller }
     ensures ticked { HasTicked board.now hands.old hands.new }
+    ensures follows { IsPollers hands.old.poller → C.follows clock.old (seen_of hands.old.poller) → C.follows clock.new (seen_of hands.new.poller) }
     ensures rings { length lists.new.rings.items ≡ length lists.old.rings.items }
 {
     let phase = phase_of(board, &mut hands.poller, clock.ask());
@@ -218,7 +222,7 @@ fn has_work(board: &Board, hands: &mut Hands, lists: &mut Lists, outbox: &mut Ou
 /// One turn of the poller. It reads all tails, asks the clock, goes over the requests that wait for others and those that are new,
 /// and over the timers that are due and those whose targets have replied. What it answered is in the outbox. It is `Idle` only
 /// where it did nothing, keeps no number, and no request that it has taken up waits or is armed. After `Memory` what was done
-/// stands, and the next turn goes on.
+/// stands, and the next turn goes on. Nothing but what the clock tells sets the board's clock.
 pub fn poll_turn<R: Wait, C: Clock>(
     rt: &R,
     board: &Board,
@@ -238,6 +242,7 @@ pub fn poll_turn<R: Wait, C: Clock>(
     ensures risen { HaveRisen desk.old.sleeper.tails desk.new.sleeper.tails }
     ensures places { outbox.new.places ≡ outbox.old.places }
     ensures idle { IfOk result (λ turn. turn ≡ Turn.Idle → desk.new.kept ≡ None) }
+    ensures follows { IsPollers desk.old.poller → C.follows clock.old (seen_of desk.old.poller) → C.follows clock.new (seen_of desk.new.poller) }
 {
     bell.collect(&mut desk.sleeper);
     desk.hands.room = desk.places;

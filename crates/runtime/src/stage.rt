@@ -1,5 +1,5 @@
 //! A board with its poller's and one worker's desks, for turns in one thread.
-ghost use Rattle.std.specs.Prelude.{◌≡◌, ◌<◌, All, IfOk, IfSome};
+ghost use Rattle.std.specs.Prelude.{◌≡◌, ◌<◌, All, None, Some, IfOk, IfSome};
 ghost use Rattle.bell.specs.BellPasses.{IsRingerOf, IsSleeperOf};
 ghost use Rattle.ready.specs.Ready.{IsOf as IsOfQueue};
 ghost use Rattle.work.specs.Board.{IsOf};
@@ -61,6 +61,10 @@ struct Once {
 }
 
 impl Clock for Once {
+    ghost asked = { λ _. None };
+
+    ghost stays = { λ _ _ _ _ _ _ _. tt };
+
     fn ask(&self) -> Option<Req> {
         None
     }
@@ -77,6 +81,10 @@ struct WhenArmed {
 }
 
 impl Clock for WhenArmed {
+    ghost asked = { λ c. Some c.req };
+
+    ghost stays = { λ _ _ _ _ _ _ _. tt };
+
     fn ask(&self) -> Option<Req> {
         Some(self.req)
     }

@@ -3,6 +3,7 @@ ghost use Rattle.std.specs.Prelude.{◌≡◌, ◌+◌, ◌≤◌, [], All, leng
 ghost use Rattle.std.specs.Arc.{arc_value};
 ghost use Rattle.steps.specs.Cells.{total};
 ghost use Rattle.work.specs.Board.{IsOf};
+ghost use Rattle.work.specs.Passes.{seen_of};
 ghost use Rattle.board.specs.Reports.{AreOf};
 ghost use Rattle.runtime.specs.Clients.{without_tail};
 ghost use Rattle.runtime.specs.Crews.{IsPollThread, AreWorking};
@@ -10,6 +11,7 @@ ghost use Rattle.runtime.specs.Crews.{IsPollThread, AreWorking};
 use crate::client::Client;
 use crate::shared::Shared;
 use board::{Poller, ReportRoom, Worker};
+use controls::Clock;
 use std::alloc::{AllocError, Global};
 use std::marker::Model;
 use std::snapshot::Snapshot;
@@ -17,15 +19,17 @@ use std::sync::Arc;
 use std::sync::atomic::Ordering;
 use std::thread::{Promise, PromisedHandle, Threads};
 
-/// The pass that a thread brings back is one of the board that it shares.
+/// The pass that a thread brings back is one of the board that it shares. The clock that the poller's thread brings back has gone
+/// along with what the poller has seen.
 #[derive(Drop)]
 pub(crate) struct Ours(pub Snapshot<Arc<Shared>>);
 
-impl Promise<Poller> for Ours {
+impl<C: Clock> Promise<(Poller, C)> for Ours {
     ghost use Rattle.std.specs.Arc.{arc_value};
     ghost use Rattle.work.specs.Board.{IsOf};
+    ghost use Rattle.work.specs.Passes.{seen_of};
 
-    ghost kept_by = { λ p pass. IsOf (arc_value p.0.value).board pass };
+    ghost kept_by = { λ p r. IsOf (arc_value p.0.value).board r.0 × C.follows r.1 (seen_of r.0) };
 }
 
 impl Promise<Worker> for Ours {
@@ -41,24 +45,25 @@ pub(crate) struct WorkThread {
     pub handle: PromisedHandle<Worker, Ours>,
 }
 
-/// The poller's thread, or its pass once that was joined.
+/// The poller's thread, or its pass and the clock once that was joined.
 #[derive(Drop)]
-pub(crate) enum PollThread {
-    Runs(PromisedHandle<Poller, Ours>),
-    Ended(Poller),
+pub(crate) enum PollThread<C: Clock> {
+    Runs(PromisedHandle<(Poller, C), Ours>),
+    Ended(Poller, C),
 }
 
-/// A board's poller and workers, each in a thread of its own. It is ended by `join_all`. Contracts see its board.
+/// A board's poller and workers, each in a thread of its own, and the clock that the poller asks. It is ended by `join_all`.
+/// Contracts see its board.
 #[derive(Drop)]
-pub struct Runtime {
+pub struct Runtime<C: Clock> {
     shared: Arc<Shared>,
     rings: usize,
-    poller: PollThread,
+    poller: PollThread<C>,
     workers: Vec<WorkThread>,
     ended: Vec<Worker>,
 }
 
-impl Model for Runtime {
+impl<C: Clock> Model for Runtime<C> {
     ghost use Rattle.std.specs.Prelude.{vec_capacity};
     ghost use Rattle.std.specs.Arc.{arc_value};
     ghost use Rattle.work.specs.Board.{Facts};
@@ -68,40 +73,42 @@ impl Model for Runtime {
 
     ghost view = { λ r. (arc_value r.shared).board };
 
-    ghost invariant = { λ r. HasThreads (arc_value r.shared) r.rings r.poller r.workers.items r.ended.items (vec_capacity r.ended) };
+    ghost invariant = { λ r. HasThreads C.follows (arc_value r.shared) r.rings r.poller r.workers.items r.ended.items (vec_capacity r.ended) };
 }
 
 /// A runtime whose threads have ended. Contracts see its board and the passes that the threads brought back.
 #[derive(Drop)]
-pub(crate) struct Stopped {
+pub(crate) struct Stopped<C: Clock> {
     shared: Arc<Shared>,
     rings: usize,
     poller: Poller,
+    clock: C,
     workers: Vec<Worker>,
     threads: Vec<WorkThread>,
 }
 
-impl Model for Stopped {
+impl<C: Clock> Model for Stopped<C> {
     ghost use Rattle.std.specs.Prelude.{vec_capacity};
     ghost use Rattle.std.specs.Arc.{arc_value};
+    ghost use Rattle.work.specs.Passes.{seen_of};
     ghost use Rattle.runtime.specs.Crews.{Crew, HasStopped};
 
     ghost Value = { Crew };
 
     ghost view = { λ s. record { shared = arc_value s.shared; poller = s.poller; workers = s.workers.items } };
 
-    ghost invariant = { λ s. HasStopped (arc_value s.shared) s.rings s.poller s.workers.items (vec_capacity s.workers) s.threads.items };
+    ghost invariant = { λ s. HasStopped (arc_value s.shared) s.rings s.poller s.workers.items (vec_capacity s.workers) s.threads.items × C.follows s.clock (seen_of s.poller) };
 }
 
 /// Waits for the poller's thread.
-fn join_poller<R: Threads>(rt: &R, shared: &Shared, poller: PollThread) -> Poller
-    requires { IsPollThread shared.now poller }
-    ensures { IsOf shared.now.board result }
+fn join_poller<R: Threads, C: Clock>(rt: &R, shared: &Shared, poller: PollThread<C>) -> (Poller, C)
+    requires { IsPollThread C.follows shared.now poller }
+    ensures { IsOf shared.now.board result.0 × C.follows result.1 (seen_of result.0) }
 {
     let _ = shared;
     match poller {
         PollThread::Runs(handle) => handle.join(rt),
-        PollThread::Ended(poller) => poller,
+        PollThread::Ended(poller, clock) => (poller, clock),
     }
 }
 
@@ -127,15 +134,15 @@ fn join_workers<R: Threads>(
     }
 }
 
-impl Runtime {
+impl<C: Clock> Runtime<C> {
     /// The runtime of these threads.
     pub(crate) fn new(
         shared: Arc<Shared>,
         rings: usize,
-        poller: PromisedHandle<Poller, Ours>,
+        poller: PromisedHandle<(Poller, C), Ours>,
         workers: Vec<WorkThread>,
         ended: Vec<Worker>,
-    ) -> Runtime
+    ) -> Runtime<C>
         requires rings { rings ≡ length (arc_value shared).board.layout.cells }
         requires poller { arc_value poller.promise.0.value ≡ arc_value shared }
         requires workers { AreWorking (arc_value shared) workers.items × (length workers.items ≡ (arc_value shared).board.workers) }
@@ -166,7 +173,7 @@ impl Runtime {
     }
 
     /// Tells the workers to end, and waits for all threads. The poller was told by the client of ring 0.
-    pub(crate) fn stop<R: Threads>(self, rt: &R) -> Stopped
+    pub(crate) fn stop<R: Threads>(self, rt: &R) -> Stopped<C>
         ensures { result.shared.board ≡ self }
     {
         let Runtime {
@@ -177,57 +184,61 @@ impl Runtime {
             mut ended,
         } = self;
         shared.is_over.store(true, Ordering::SeqCst);
-        let poller = join_poller(rt, &shared, poller);
+        let (poller, clock) = join_poller(rt, &shared, poller);
         join_workers(rt, &shared, &mut workers, &mut ended);
         Stopped {
             shared,
             rings,
             poller,
+            clock,
             workers: ended,
             threads: workers,
         }
     }
 }
 
-impl Stopped {
+impl<C: Clock> Stopped<C> {
     /// Whether no one but so many clients shares the board with it.
     pub(crate) fn is_shared_by(&self, clients: usize) -> bool {
         Arc::strong_count(&self.shared) - 1 == clients
     }
 
     /// The runtime, whose threads have ended.
-    pub(crate) fn resumed(self) -> Runtime
+    pub(crate) fn resumed(self) -> Runtime<C>
         ensures { result ≡ self.shared.board }
     {
         let Stopped {
             shared,
             rings,
             poller,
+            clock,
             workers,
             threads,
         } = self;
         Runtime {
             shared,
             rings,
-            poller: PollThread::Ended(poller),
+            poller: PollThread::Ended(poller, clock),
             workers: threads,
             ended: workers,
         }
     }
 
-    /// What was shared, and the passes of the poller and of all workers.
-    pub(crate) fn parts(self) -> (Arc<Shared>, Poller, Vec<Worker>)
+    /// What was shared, the passes of the poller and of all workers, and the clock.
+    pub(crate) fn parts(self) -> (Arc<Shared>, Poller, Vec<Worker>, C)
         ensures shared { arc_value result.0 ≡ self.shared }
         ensures poller { IsOf self.shared.board result.1 }
         ensures workers { AreOf self.shared.board result.2.items × (length result.2.items ≡ self.shared.board.workers) }
+        ensures follows { C.follows result.3 (seen_of result.1) }
     {
         let Stopped {
             shared,
             poller,
+            clock,
             workers,
             ..
         } = self;
-        (shared, poller, workers)
+        (shared, poller, workers, clock)
     }
 }
 

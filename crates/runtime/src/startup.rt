@@ -2,6 +2,7 @@
 ghost use Rattle.std.specs.Prelude.{◌≡◌, ◌≢◌, ◌<◌, ◌≤◌, [], All, false, length, vec_capacity, Err, IfOk, IfErr};
 ghost use Rattle.std.specs.Arc.{arc_value};
 ghost use Rattle.work.specs.Board.{IsOf};
+ghost use Rattle.work.specs.Passes.{seen_of};
 ghost use Rattle.ready.specs.Ready.{IsOf as IsOfQueue};
 ghost use Rattle.bell.specs.BellPasses.{IsSleeperOf};
 ghost use Rattle.board.specs.New.{AreSubmitters};
@@ -184,8 +185,9 @@ fn start_poller<
     turnstile: Arc<G>,
     idle: u32,
     outbox: Outbox,
-) -> Result<PromisedHandle<Poller, Ours>, StartError>
+) -> Result<PromisedHandle<(Poller, C), Ours>, StartError>
     requires desk { IsPolling (arc_value shared.now) desk }
+    requires clock { C.follows clock (seen_of desk.poller) }
     requires outbox { (outbox.answered ≡ []) × (desk.places ≤ outbox.places) }
     ensures thread { IfOk result (λ h. arc_value h.promise.0.value ≡ arc_value shared.now) }
     ensures refused { IfErr result (λ e. e ≢ BadShape) }
@@ -197,10 +199,11 @@ fn start_poller<
     match thread::spawn_with(
         &rt,
         promise,
-        move || -> Poller
+        move || -> (Poller, C)
             requires desk { IsPolling (arc_value theirs) desk }
+            requires clock { C.follows clock (seen_of desk.poller) }
             requires outbox { (outbox.answered ≡ []) × (desk.places ≤ outbox.places) }
-            ensures { IsOf (arc_value theirs).board result }
+            ensures { IsOf (arc_value theirs).board result.0 × C.follows result.1 (seen_of result.0) }
         { poll(&rt, &theirs, desk, clock, &*turnstile, idle, outbox) },
     ) {
         Ok(handle) => Ok(handle),
@@ -281,11 +284,11 @@ fn start_workers<
 }
 
 /// Stops the threads that were started, and waits for them.
-fn abandon<R: Threads>(
+fn abandon<R: Threads, C: Clock + Drop>(
     rt: &R,
     shared: &Shared,
     clients: &mut Vec<Client>,
-    poller: PromisedHandle<Poller, Ours>,
+    poller: PromisedHandle<(Poller, C), Ours>,
     threads: Vec<WorkThread>,
 ) {
     shared.is_over.store(true, Ordering::SeqCst);
@@ -310,8 +313,9 @@ fn start_threads<
     turnstile: G,
     clock: C,
     parts: Parts,
-) -> Result<(Runtime, Vec<Client>), StartError>
-    requires { IsParts shape.now parts }
+) -> Result<(Runtime<C>, Vec<Client>), StartError>
+    requires parts { IsParts shape.now parts }
+    requires clock { C.follows clock [] }
     ensures started { IfOk result (λ t. IsStarted shape.now t.0 t.1.items) }
     ensures own { IfOk result (λ t. AreClients t.0 t.1.items) }
     ensures refused { IfErr result (λ e. e ≢ BadShape) }
@@ -369,6 +373,8 @@ fn start_threads<
 /// ring, in order. After `idle` idle turns in a row, 0 counting as 1, the poller sleeps until a batch is submitted, while its clock asks
 /// for nothing (IORING_SETUP_SQPOLL of io_uring_setup(2), with turns in the place of `sq_thread_idle` milliseconds).
 ///
+/// The clock is one that may stand so where nothing has happened yet. `join_with_clock` gives it back.
+///
 /// `BadShape` comes only where the shape is outside its limits, `Memory` where room isn't found, and `Thread` where a thread can't be made.
 pub fn start<
     R: Threads + Wait + Copy + Send + 'static,
@@ -381,7 +387,8 @@ pub fn start<
     idle: u32,
     turnstile: G,
     clock: C,
-) -> Result<(Runtime, Vec<Client>), StartError>
+) -> Result<(Runtime<C>, Vec<Client>), StartError>
+    requires clock { C.follows clock [] }
     ensures started { IfOk result (λ t. IsStarted shape.now t.0 t.1.items) }
     ensures own { IfOk result (λ t. AreClients t.0 t.1.items) }
     ensures bad_shape { result ≡ Err BadShape → is_shape shape.now ≡ false }

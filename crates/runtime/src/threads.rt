@@ -1,6 +1,7 @@
 //! What the threads of a runtime do: that of the poller, and those of the workers.
 ghost use Rattle.std.specs.Prelude.{◌≡◌, ◌↔◌, ◌⊎◌, ◌+◌, ◌≤◌, ◌==◌, [], IsTrue, length};
 ghost use Rattle.work.specs.Board.{IsOf};
+ghost use Rattle.work.specs.Passes.{seen_of};
 ghost use Rattle.ready.specs.Ready.{IsOf as IsOfQueue};
 ghost use Rattle.bell.specs.BellPasses.{HasLoaded};
 ghost use Rattle.outbox.specs.Outbox.{Waiting};
@@ -57,6 +58,7 @@ fn poll_round<R: Wait, G: Turnstile, C: Clock>(
     ensures desk { IsPolling shared.now desk.new }
     ensures turned { (o : Waiting) × IsPollTurn shared.now.board shared.now.queue desk.old desk.new o }
     ensures read { HasLoaded desk.old.sleeper desk.new.sleeper }
+    ensures follows { C.follows clock.old (seen_of desk.old.poller) → C.follows clock.new (seen_of desk.new.poller) }
     ensures outbox { (outbox.new.answered ≡ []) × (desk.new.places ≤ outbox.new.places) }
 {
     let turn = poll_turn(
@@ -76,8 +78,8 @@ fn poll_round<R: Wait, G: Turnstile, C: Clock>(
 }
 
 /// The thread of the poller. It ends once it is told to. After `idle` idle turns in a row it sleeps until it is rung, unless its clock
-/// asks for something.
-pub(crate) fn poll<R: Wait, G: Turnstile, C: Clock + Drop>(
+/// asks for something. It gives back the clock, which has gone along with what the poller has seen.
+pub(crate) fn poll<R: Wait, G: Turnstile, C: Clock>(
     rt: &R,
     shared: &Shared,
     mut desk: PollDesk,
@@ -85,10 +87,12 @@ pub(crate) fn poll<R: Wait, G: Turnstile, C: Clock + Drop>(
     turnstile: &G,
     idle: u32,
     mut outbox: Outbox,
-) -> Poller
+) -> (Poller, C)
     requires desk { IsPolling shared.now desk }
+    requires clock { C.follows clock (seen_of desk.poller) }
     requires outbox { (outbox.answered ≡ []) × (desk.places ≤ outbox.places) }
-    ensures { IsOf shared.now.board result }
+    ensures own { IsOf shared.now.board result.0 }
+    ensures follows { C.follows result.1 (seen_of result.0) }
 {
     let mut idling = Idling {
         most: idle.max(1),
@@ -98,7 +102,7 @@ pub(crate) fn poll<R: Wait, G: Turnstile, C: Clock + Drop>(
         let turn = poll_round(rt, shared, &mut desk, &mut clock, turnstile, &mut outbox);
         if desk.is_over() {
             let (poller, _sleeper, _ready) = desk.parts();
-            return poller;
+            return (poller, clock);
         }
         if idling.note(turn) && clock.ask().is_none() {
             rest(rt, &shared.bell, &mut desk);

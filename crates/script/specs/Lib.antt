@@ -1,3 +1,6 @@
+pub mod Carried
 pub mod Homes
+pub mod Rows
 pub mod Rules
 pub mod Steps
+pub mod Tables

@@ -1,16 +1,11 @@
 -- Lists of hands, of clients and of rows, one element more or less.
-use Rattle.std.proofs.Common.{◌≡◌, ◌⊎◌, ℕ, zero, suc, ◌<◌, List, [], ◌∷◌, ◌++◌, length, map, get_or, drop, slice_get, Option, Some, None, inl, inr, ⊎_elim, refl, sym, ap, ◌∙◌, arith}
+use Rattle.std.proofs.Common.{◌≡◌, ◌⊎◌, ℕ, zero, suc, ◌<◌, List, [], ◌∷◌, ◌++◌, length, map, reverse, get_or, slice_get, Option, Some, None, inl, inr, ⊎_elim, refl, sym, ap, ◌∙◌, arith}
 use Rattle.std.proofs.lemmas.Option.{none-some}
-use Rattle.work.specs.Board.{Facts}
+use Rattle.std.proofs.lemmas.List.{append_assoc, map-append, reverse-append}
+use Rattle.board.specs.declared.completion.Completion.{Completion}
+use Rattle.runtime.specs.Clients.{ClientFacts}
 use Rattle.script_run.specs.declared.hand.Hand.{Hand}
-use Rattle.script_run.specs.Hands.{AreHands, board_of}
-
--- hands of the same boards
-pub same_boards : (b : Facts) (xs ys : List Hand) → map board_of ys ≡ map board_of xs → AreHands b xs → AreHands b ys
-same_boards b xs [] e are k d lt = absurd (omega (arith, lt))
-same_boards b [] (y ∷ ys) e are k d lt = absurd (let n = ap length e in omega (arith, n))
-same_boards b (x ∷ xs) (y ∷ ys) e are zero d lt = ap (λ (l : List Facts). get_or l 0 b) e ∙ are 0 d (omega arith)
-same_boards b (x ∷ xs) (y ∷ ys) e are (suc k) d lt = same_boards b xs ys (ap (drop 1) e) (λ n h below. are (suc n) h (omega (arith, below))) k d (omega (arith, lt))
+use Rattle.script_run.specs.Hands.{client_of, taken_by}
 
 from : {X : Type 0} → Option X → X → X
 from None d = d
@@ -23,3 +18,27 @@ get_last [] x zero y e = inr (refl, ap (λ o. from o x) (sym e))
 get_last [] x (suc i) y e = absurd (none-some y e)
 get_last (z ∷ xs) x zero y e = inl e
 get_last (z ∷ xs) x (suc i) y e = ⊎_elim (λ p. inl p) (λ p. inr (ap suc p.0, p.1)) (get_last xs x i y e)
+
+-- the last one, which comes first in the other order
+pub last_first : {X : Type 0} (xs : List X) (x : X) → reverse (xs ++ x ∷ []) ≡ x ∷ reverse xs
+last_first {X} xs x = reverse-append xs (x ∷ [])
+
+-- a client that becomes a hand
+pub next_hand : (hands : List Hand) (h : Hand) (left old : List ClientFacts) (c : ClientFacts) → h.client ≡ c → old ≡ left ++ c ∷ [] → map client_of (hands ++ h ∷ []) ++ reverse left ≡ map client_of hands ++ reverse old
+next_hand hands h left old c is at =
+    ap (λ (z : List ClientFacts). z ++ reverse left) (map-append client_of hands (h ∷ []))
+    ∙ (append_assoc (map client_of hands) (client_of h ∷ []) (reverse left)
+    ∙ (ap (λ (z : ClientFacts). map client_of hands ++ z ∷ reverse left) is ∙ ap (λ (z : List ClientFacts). map client_of hands ++ z) (sym (last_first left c) ∙ ap reverse (sym at))))
+
+-- a hand that is taken apart
+pub next_client : (clients : List ClientFacts) (left old : List Hand) (h : Hand) → old ≡ left ++ h ∷ [] → (clients ++ client_of h ∷ []) ++ map client_of (reverse left) ≡ clients ++ map client_of (reverse old)
+next_client clients left old h at = append_assoc clients (client_of h ∷ []) (map client_of (reverse left)) ∙ ap (λ (z : List Hand). clients ++ map client_of z) (sym (last_first left h) ∙ ap reverse (sym at))
+
+pub next_taken : (all : List Completion) (left old : List Hand) (h : Hand) → old ≡ left ++ h ∷ [] → (all ++ h.taken.items) ++ taken_by (reverse left) ≡ all ++ taken_by (reverse old)
+next_taken all left old h at = append_assoc all h.taken.items (taken_by (reverse left)) ∙ ap (λ (z : List Hand). all ++ taken_by z) (sym (last_first left h) ∙ ap reverse (sym at))
+
+-- an element of a mapped list
+pub get_map : {A B : Type 0} (f : A → B) (xs : List A) (k : ℕ) (a : A) (b : B) → k < length xs → get_or (map f xs) k b ≡ f (get_or xs k a)
+get_map {A} {B} f [] k a b lt = absurd (omega arith)
+get_map {A} {B} f (x ∷ xs) zero a b lt = refl
+get_map {A} {B} f (x ∷ xs) (suc k) a b lt = get_map f xs k a b (omega arith)

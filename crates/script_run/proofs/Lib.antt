@@ -1,1 +1,7 @@
 pub mod HandLists
+pub mod ClientCalls
+pub mod HandSteps
+pub mod ClockSteps
+pub mod RowData
+pub mod WholeTables
+pub mod RunSteps

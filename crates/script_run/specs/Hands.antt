@@ -1,11 +1,119 @@
--- The boards of a run's clients.
-use Rattle.std.specs.Prelude.{◌≡◌, List, All}
+-- What the clients of a run have done: the lines that they carried out, and the completions that they took.
+use Rattle.std.specs.Prelude.{◌≡◌, ℕ, ◌<◌, ◌++◌, length, List, [], ◌∷◌, All, Some, None, slice_get, slice_index_or}
+use Rattle.std.specs.Global.{Vec}
+use Rattle.entry.specs.Entry.{Entry}
+use Rattle.history.specs.declared.event.Event.{Event}
+use Rattle.history.specs.History.{submits}
 use Rattle.work.specs.Board.{Facts}
+use Rattle.work.specs.Passes.{seen_of}
+use Rattle.steps.specs.declared.view.Role.TheVariants.{Submitter}
+use Rattle.board.specs.declared.completion.Completion.{Completion}
+use Rattle.board.specs.Batches.{Entries, submits_of}
+use Rattle.board.specs.Calls.{Goes}
+use Rattle.board.specs.Headline.{IsCompletion}
+use Rattle.runtime.specs.Clients.{ClientFacts}
+use Rattle.script.specs.declared.act.Act.{Act}
+use Rattle.script.specs.declared.named.Named.{Named}
+use Rattle.script.specs.declared.script.Script.{Script}
+use Rattle.script.specs.Carried.{HasCarried}
 use Rattle.script_run.specs.declared.hand.Hand.{Hand}
+use Rattle.script_run.specs.declared.hand.Tried.{Tried}
+use Rattle.script_run.specs.declared.hand.Tried.TheVariants.{Submitted, Full, Refused}
+
+abbrev pub client_of : Hand → ClientFacts
+client_of h = h.client
 
 abbrev pub board_of : Hand → Facts
 board_of h = h.client.board
 
+-- what the submitter of its client has seen
+abbrev pub seen_by : Hand → List Event
+seen_by h = seen_of h.client.submitter
+
 -- the clients are those of a runtime over this board
 abbrev pub AreHands : Facts → List Hand → Type 0
 AreHands b hands = All (λ h. h.client.board ≡ b) hands
+
+-- these are completions of their requests in this history
+abbrev pub AreTaken : List Event → List Completion → Type 0
+AreTaken h [] = Unit {0}
+AreTaken h (x ∷ xs) = IsCompletion h x.req x × AreTaken h xs
+
+-- the client is the same, and nothing of what it had taken is lost
+pub record Stayed (old new : Hand) : Type 0 where
+  pub board : new.client.board ≡ old.client.board
+  pub ring : new.client.ring ≡ old.client.ring
+  pub role : new.client.submitter.view.role ≡ old.client.submitter.view.role
+  pub taken : AreTaken (seen_by old) old.taken.items → AreTaken (seen_by new) new.taken.items
+
+-- the client of the ring has carried out these lines of the script, and handed in n entries of the next
+pub record HandAt (c : Script) (acts : List Act) (n : ℕ) (h : Hand) : Type 0 where
+  pub role : h.client.submitter.view.role ≡ Submitter h.client.ring
+  pub carried : HasCarried c h.client.ring acts n (seen_by h)
+
+-- it looked, took completions, or was refused: it has handed nothing in
+pub record Went (old new : Hand) : Type 0 where
+  pub stayed : Stayed old new
+  pub at : (c : Script) (acts : List Act) (n : ℕ) → HandAt c acts n old → HandAt c acts n new
+  pub halt : new.halt ≡ old.halt
+
+-- it handed these entries in as one batch
+pub record HandedIn (xs : Entries) (old new : Hand) : Type 0 where
+  pub stayed : Stayed old new
+  pub goes : Goes old.client.board old.client.submitter (submits_of old.client.ring (submits (seen_by old) old.client.ring) xs) new.client.submitter
+
+-- what a try to submit these entries came to
+abbrev pub CameTo : Entries → Hand → Hand → Tried → Type 0
+CameTo xs old new Submitted = HandedIn xs old new
+CameTo xs old new (Full batch) = Went old new × (batch.items ≡ xs)
+CameTo xs old new Refused = Went old new
+
+-- the entry of the script at a place, with its buffer
+abbrev pub IsEntryAt : Script → ℕ → Entry × Vec ℕ → Type 0
+IsEntryAt c p x = (e : Named) × (slice_get c.entries.items p ≡ Some e) × (x.0 ≡ e.sqe) × (x.1.items ≡ e.buffer.items)
+
+abbrev pub AreEntries : Script → List ℕ → Entries → Type 0
+AreEntries c [] [] = Unit {0}
+AreEntries c (p ∷ ps) (x ∷ xs) = IsEntryAt c p x × AreEntries c ps xs
+AreEntries c _ _ = ⊥
+
+-- it carried this line out, after those before it
+pub record Carries (c : Script) (act : Act) (old new : Hand) : Type 0 where
+  pub stayed : Stayed old new
+  pub at : (v : Vec Act) (acts left : List Act) → slice_get c.acts.items old.client.ring ≡ Some v → v.items ≡ acts ++ act ∷ left → HandAt c acts 0 old → HandAt c (acts ++ act ∷ []) 0 new
+
+-- it has carried out all lines of its ring
+abbrev pub IsThrough : Script → Hand → Type 0
+IsThrough c h = (v : Vec Act) → slice_get c.acts.items h.client.ring ≡ Some v → HandAt c v.items 0 h
+
+-- it has carried out no line yet
+pub record IsNewHand (c : Script) (h : Hand) : Type 0 where
+  pub at : HandAt c [] 0 h
+  pub taken : AreTaken (seen_by h) h.taken.items
+
+-- they have done nothing yet
+abbrev pub AreNew : List Hand → Type 0
+AreNew hands = All (λ h. (h.taken.items ≡ []) × (h.halt ≡ None)) hands
+
+-- it was stopped, or it is through and what it took are completions
+pub record IsCarried (c : Script) (h : Hand) : Type 0 where
+  pub through : IsThrough c h
+  pub taken : AreTaken (seen_by h) h.taken.items
+
+-- its thread carried its lines out, unless it was stopped
+pub record CarriedOut (c : Script) (old new : Hand) : Type 0 where
+  pub board : new.client.board ≡ old.client.board
+  pub ring : new.client.ring ≡ old.client.ring
+  pub carried : IsNewHand c old → new.halt ≡ None → IsCarried c new
+
+-- place by place, each of these came of the one that stands there
+abbrev pub AllWent : List Hand → List Hand → Type 0
+AllWent xs ys = (length ys ≡ length xs) × ((k : ℕ) (d e : Hand) → k < length xs → Went (slice_index_or xs k d) (slice_index_or ys k e))
+
+abbrev pub AllCarriedOut : Script → List Hand → List Hand → Type 0
+AllCarriedOut c xs ys = (length ys ≡ length xs) × ((k : ℕ) (d e : Hand) → k < length xs → CarriedOut c (slice_index_or xs k d) (slice_index_or ys k e))
+
+-- all that they took
+abbrev pub taken_by : List Hand → List Completion
+taken_by [] = []
+taken_by (h ∷ hs) = h.taken.items ++ taken_by hs

@@ -1,9 +1,14 @@
 //! The clock's lines, carried out by the poller's thread: one try a turn.
+ghost use Rattle.std.specs.Prelude.{◌≡◌, ◌+◌, ◌<◌, ◌≤◌, [], IfOk, IfSome, IsTrue, length, true, false};
+ghost use Rattle.script.specs.Homes.{AreHomes};
+ghost use Rattle.script_run.specs.ClockLines.{IsClockLine, AreClockLines, IsAlong, has_reply, is_ready, line_at};
+
+use crate::fault::RunFault;
 use crate::stage::home_of;
 use board::Phase;
 use controls::Clock;
 use history::Req;
-use script::Act;
+use script::{Act, Script};
 use std::alloc::{AllocError, Global};
 use std::sync::Arc;
 use std::sync::atomic::{AtomicU64, Ordering};
@@ -46,25 +51,30 @@ impl Progress {
 
 /// A line of the clock: it waits for the reply of a request, or until a timer is armed, or sets the clock. The entry's place
 /// stands beside its request.
-#[derive(Clone, Copy)]
-enum ClockLine {
+#[derive(Clone, Copy, PartialEq, Eq)]
+pub(crate) enum ClockLine {
     Wait(Req, u32),
     Armed(Req, u32),
     Tick(u32),
 }
 
-/// The lines of a script's clock, which of them is next, how often that was tried, and how often it may be.
+/// The lines of a script's clock, which of them is next, how often that was tried, how often it may be, and whether it was stopped.
 #[derive(Drop)]
 pub(crate) struct LineClock {
     lines: Vec<ClockLine>,
     next: usize,
     tries: u32,
     most: u32,
+    is_stuck: bool,
     progress: Arc<Progress>,
 }
 
 /// A line of the clock. None where it waits for an entry that is in no ring.
-fn line_of(homes: &[Option<Req>], act: &Act) -> Option<ClockLine> {
+fn line_of(script: &Script, homes: &[Option<Req>], act: &Act) -> Option<ClockLine>
+    requires { AreHomes script.now homes.now }
+    ensures { IfSome result (IsClockLine script.now act.now) }
+{
+    let _ = script;
     match act {
         Act::Wait(place) => Some(ClockLine::Wait(home_of(homes, *place)?, *place)),
         Act::Armed(place) => Some(ClockLine::Armed(home_of(homes, *place)?, *place)),
@@ -73,20 +83,47 @@ fn line_of(homes: &[Option<Req>], act: &Act) -> Option<ClockLine> {
     }
 }
 
+/// The lines of the script's clock.
+pub(crate) fn lines_of(
+    alloc: Global,
+    script: &Script,
+    homes: &[Option<Req>],
+) -> Result<Vec<ClockLine>, RunFault>
+    requires { AreHomes script.now homes.now }
+    ensures { IfOk result (λ v. AreClockLines script.now script.now.clock.items v.items) }
+{
+    let mut lines = Vec::with_capacity(alloc, script.clock.len())?;
+    for act in &script.clock {
+        let Some(line) = line_of(script, homes, act) else {
+            return Err(RunFault::Shared);
+        };
+        lines.push(line)?;
+    }
+    Ok(lines)
+}
+
+/// Whether these are the same lines.
+fn are_same(lines: &[ClockLine], others: &[ClockLine]) -> bool
+    ensures { IsTrue result → lines.now ≡ others.now }
+{
+    match lines {
+        [] => others.is_empty(),
+        [line, lines @ ..] => match others {
+            [] => false,
+            [other, others @ ..] => *line == *other && are_same(lines, others),
+        },
+    }
+}
+
 impl LineClock {
-    /// A clock before its first line, and its progress.
+    /// A clock of these lines, before the first, and its progress.
     pub fn new(
         alloc: Global,
-        acts: &[Act],
-        homes: &[Option<Req>],
+        lines: Vec<ClockLine>,
         turns: u32,
-    ) -> Result<(LineClock, Arc<Progress>), AllocError> {
-        let mut lines = Vec::with_capacity(alloc, acts.len())?;
-        for act in acts {
-            if let Some(line) = line_of(homes, act) {
-                lines.push(line)?;
-            }
-        }
+    ) -> Result<(LineClock, Arc<Progress>), AllocError>
+        ensures { IfOk result (λ t. IsAlong t.0.lines.items t.0.next []) }
+    {
         let progress = Arc::new(alloc, Progress::new(lines.len() as u64))?;
         let theirs = Arc::try_clone(&progress)?;
         let clock = LineClock {
@@ -94,26 +131,45 @@ impl LineClock {
             next: 0,
             tries: 0,
             most: turns,
+            is_stuck: false,
             progress: theirs,
         };
         Ok((clock, progress))
     }
 
     /// Its next line. None where it has come to the end of its lines, or stopped.
-    fn line(&self) -> Option<ClockLine> {
+    fn line(&self) -> Option<ClockLine>
+        ensures { result ≡ line_at self.now.is_stuck self.now.lines.items self.now.next }
+    {
+        if self.is_stuck {
+            return None;
+        }
         self.lines.get(self.next).copied()
     }
 
+    /// Whether these are its lines, and it has come to their end.
+    pub fn has_carried(&self, lines: &[ClockLine]) -> bool
+        ensures { IsTrue result → (self.now.lines.items ≡ lines.now) × (length lines.now ≤ self.now.next) }
+    {
+        are_same(self.lines.as_slice(), lines) && lines.len() <= self.next
+    }
+
     /// Goes on to the line after this one.
-    fn go_on(&mut self) {
-        self.next = self.next.saturating_add(1);
+    fn go_on(&mut self)
+        requires { self.old.next < length self.old.lines.items }
+        ensures same { self.new.lines ≡ self.old.lines }
+        ensures next { self.new.next ≡ self.old.next + 1 }
+    {
+        self.next += 1;
         self.tries = 0;
         self.progress.left.fetch_sub(1, Ordering::SeqCst);
     }
 
     /// Stops, and tells the place of the entry for which it waited.
-    fn stop(&mut self, place: u32) {
-        self.next = self.lines.len();
+    fn stop(&mut self, place: u32)
+        ensures { (self.new.lines ≡ self.old.lines) × (self.new.next ≡ self.old.next) }
+    {
+        self.is_stuck = true;
         self.progress
             .stuck
             .store(u64::from(place).saturating_add(1), Ordering::SeqCst);
@@ -121,7 +177,12 @@ impl LineClock {
     }
 
     /// Goes on where the line is done. Else it counts a try that was in vain.
-    fn count(&mut self, place: u32, is_done: bool) {
+    fn count(&mut self, place: u32, is_done: bool)
+        requires { self.old.next < length self.old.lines.items }
+        ensures same { self.new.lines ≡ self.old.lines }
+        ensures gone { is_done ≡ true → self.new.next ≡ self.old.next + 1 }
+        ensures still { is_done ≡ false → self.new.next ≡ self.old.next }
+    {
         if is_done {
             self.go_on();
             return;
@@ -133,7 +194,36 @@ impl LineClock {
     }
 }
 
+/// Whether the request that was asked for has its reply.
+fn has_reply(phase: Option<Phase>) -> bool
+    ensures { result ≡ has_reply phase }
+{
+    match phase {
+        Some(Phase::Done(_)) | Some(Phase::Gone) => true,
+        _ => false,
+    }
+}
+
+/// Whether the timer that was asked for is armed, or has its reply.
+fn is_ready(phase: Option<Phase>) -> bool
+    ensures { result ≡ is_ready phase }
+{
+    match phase {
+        Some(Phase::Armed(_)) | Some(Phase::Done(_)) | Some(Phase::Gone) => true,
+        _ => false,
+    }
+}
+
 impl Clock for LineClock {
+    ghost use Rattle.script_run.specs.ClockLines.{IsAlong, line_at, asked_of};
+    ghost use Rattle.script_run.specs.ClockStays.{along_stays};
+
+    ghost asked = { λ c. asked_of (line_at c.is_stuck c.lines.items c.next) };
+
+    ghost follows = { λ c h. IsAlong c.lines.items c.next h };
+
+    ghost stays = { λ c s e h l none k. along_stays c.lines.items c.next s e h l none k };
+
     fn ask(&self) -> Option<Req> {
         match self.line()? {
             ClockLine::Wait(req, _) | ClockLine::Armed(req, _) => Some(req),
@@ -145,13 +235,11 @@ impl Clock for LineClock {
         self.progress.turns.fetch_add(1, Ordering::SeqCst);
         match self.line()? {
             ClockLine::Wait(_, place) => {
-                let is_done = matches!(phase, Some(Phase::Done(_) | Phase::Gone));
-                self.count(place, is_done);
+                self.count(place, has_reply(phase));
                 None
             }
             ClockLine::Armed(_, place) => {
-                let is_done = matches!(phase, Some(Phase::Armed(_) | Phase::Done(_) | Phase::Gone));
-                self.count(place, is_done);
+                self.count(place, is_ready(phase));
                 None
             }
             ClockLine::Tick(to) => {

@@ -1,5 +1,7 @@
 //! The client of a ring with what it has taken of its completions.
-ghost use Rattle.std.specs.Prelude.{◌≡◌};
+ghost use Rattle.std.specs.Prelude.{◌≡◌, [], None, IsTrue};
+ghost use Rattle.history.specs.History.{phase, IsReplied};
+ghost use Rattle.script_run.specs.Hands.{Went, CameTo, seen_by};
 
 use crate::lines::Halt;
 use board::{Completion, Phase, SubmitError};
@@ -35,7 +37,8 @@ pub(crate) enum Tried {
 impl Hand {
     /// The hand of a client that has submitted nothing yet.
     pub fn new(alloc: Global, client: Client) -> Hand
-        ensures { result.client ≡ client }
+        ensures client { result.client ≡ client }
+        ensures none { (result.taken.items ≡ []) × (result.halt ≡ None) }
     {
         Hand {
             client,
@@ -47,7 +50,7 @@ impl Hand {
 
     /// Tries to submit a batch.
     pub fn try_submit(&mut self, batch: Batch) -> Tried
-        ensures { self.new.client.board ≡ self.old.client.board }
+        ensures { CameTo batch.items self.old self.new result }
     {
         let count = batch.len();
         match self.client.submit_batch(batch) {
@@ -62,7 +65,7 @@ impl Hand {
 
     /// Takes all completions that are there. Whether there was one.
     pub fn take_all<R: Wait>(&mut self, rt: &R) -> Result<bool, AllocError>
-        ensures { self.new.client.board ≡ self.old.client.board }
+        ensures { Went self.old self.new }
     {
         let before = self.taken.len();
         for _ in rt.forever() {
@@ -77,13 +80,9 @@ impl Hand {
 
     /// Whether the request has its reply.
     pub fn sees_reply(&mut self, req: Req) -> bool
-        ensures { self.new.client.board ≡ self.old.client.board }
+        ensures went { Went self.old self.new }
+        ensures replied { IsTrue result → IsReplied (phase (seen_by self.new) req) }
     {
         matches!(self.client.look(req), Phase::Done(_) | Phase::Gone)
-    }
-
-    /// Whether it has taken the completions of all requests that it submitted.
-    pub fn is_done(&self) -> bool {
-        self.submitted == self.taken.len()
     }
 }

@@ -6,6 +6,7 @@ pub mod fault;
 mod gate;
 mod hand;
 mod lines;
+mod parks;
 mod rows;
 pub mod run;
 mod stage;

@@ -1,5 +1,8 @@
 //! The lines of a ring, carried out one after another.
-ghost use Rattle.std.specs.Prelude.{◌≡◌};
+ghost use Rattle.std.specs.Prelude.{◌≡◌, IfOk, OnOk, None};
+ghost use Rattle.script.specs.declared.act.Act.TheVariants.{Submit, Wait};
+ghost use Rattle.script.specs.Homes.{AreHomes};
+ghost use Rattle.script_run.specs.Hands.{AreEntries, Carries, CarriedOut, IsNewHand, IsCarried};
 
 use crate::hand::{Batch, Hand, Tried};
 use crate::stage::{Stage, home_of};
@@ -35,7 +38,8 @@ impl<T: Drop> From<AllocFailed<T>> for Halt {
 
 /// Carries the lines of a ring out, once the threads of all rings have begun.
 pub(crate) fn carry_out<R: Wait>(rt: &R, stage: &Stage<'_>, mut hand: Hand) -> Hand
-    ensures { result.client.board ≡ hand.client.board }
+    requires { AreHomes stage.now.script.now stage.now.homes.now }
+    ensures { CarriedOut stage.now.script.now hand result }
 {
     if let Err(halt) = carry_lines(rt, stage, &mut hand) {
         hand.halt = Some(halt);
@@ -45,7 +49,9 @@ pub(crate) fn carry_out<R: Wait>(rt: &R, stage: &Stage<'_>, mut hand: Hand) -> H
 
 /// Carries the ring's lines out, up to the first that stops.
 fn carry_lines<R: Wait>(rt: &R, stage: &Stage<'_>, hand: &mut Hand) -> Result<(), Halt>
-    ensures { hand.new.client.board ≡ hand.old.client.board }
+    requires { AreHomes stage.now.script.now stage.now.homes.now }
+    ensures same { (hand.new.client.board ≡ hand.old.client.board) × (hand.new.client.ring ≡ hand.old.client.ring) }
+    ensures carried { OnOk result (IsNewHand stage.now.script.now hand.old → IsCarried stage.now.script.now hand.new) }
 {
     if !stage.gate.pass() {
         return Err(Halt::Thread);
@@ -61,12 +67,14 @@ fn carry_lines<R: Wait>(rt: &R, stage: &Stage<'_>, hand: &mut Hand) -> Result<()
 
 /// Carries one line out.
 fn carry_line<R: Wait>(rt: &R, stage: &Stage<'_>, hand: &mut Hand, act: &Act) -> Result<(), Halt>
-    ensures { hand.new.client.board ≡ hand.old.client.board }
+    requires { AreHomes stage.now.script.now stage.now.homes.now }
+    ensures same { (hand.new.client.board ≡ hand.old.client.board) × (hand.new.client.ring ≡ hand.old.client.ring) }
+    ensures carried { OnOk result (Carries stage.now.script.now act.now hand.old hand.new) }
 {
     match act {
-        Act::Submit(places) => submit_line(rt, stage, hand, places.as_slice()),
+        Act::Submit(places) => submit_line(rt, stage, hand, places),
         Act::Wait(place) => wait(rt, stage, hand, *place),
-        Act::Armed(_) | Act::Tick(_) => Ok(()),
+        Act::Armed(_) | Act::Tick(_) => Err(Halt::Refused),
     }
 }
 
@@ -76,12 +84,13 @@ fn submit_line<R: Wait>(
     rt: &R,
     stage: &Stage<'_>,
     hand: &mut Hand,
-    places: &[u32],
+    places: &Vec<u32>,
 ) -> Result<(), Halt>
-    ensures { hand.new.client.board ≡ hand.old.client.board }
+    ensures same { (hand.new.client.board ≡ hand.old.client.board) × (hand.new.client.ring ≡ hand.old.client.ring) }
+    ensures carried { OnOk result (Carries stage.now.script.now (Submit places.now) hand.old hand.new) }
 {
     let Some(first) = places.first() else {
-        return Ok(());
+        return Err(Halt::Refused);
     };
     let mut batch = batch_of(stage, places)?;
     for _try in 0..stage.turns {
@@ -97,19 +106,25 @@ fn submit_line<R: Wait>(
 }
 
 /// The entries at these places, with their buffers.
-fn batch_of(stage: &Stage<'_>, places: &[u32]) -> Result<Batch, Halt> {
+fn batch_of(stage: &Stage<'_>, places: &[u32]) -> Result<Batch, Halt>
+    ensures { IfOk result (λ batch. AreEntries stage.now.script.now places.now batch.items) }
+{
     let mut batch = Vec::new(stage.alloc);
     for place in places {
-        if let Some(entry) = stage.script.entries.get(*place as usize) {
-            batch.push((entry.sqe, entry.buffer.clone()?))?;
-        }
+        let Some(entry) = stage.script.entries.get(*place as usize) else {
+            return Err(Halt::Refused);
+        };
+        let buffer = Vec::from_slice(stage.alloc, entry.buffer.as_slice())?;
+        batch.push((entry.sqe, buffer))?;
     }
     Ok(batch)
 }
 
 /// Waits for the reply to the entry at a place. At each try the completions that are there are taken.
 fn wait<R: Wait>(rt: &R, stage: &Stage<'_>, hand: &mut Hand, place: u32) -> Result<(), Halt>
-    ensures { hand.new.client.board ≡ hand.old.client.board }
+    requires { AreHomes stage.now.script.now stage.now.homes.now }
+    ensures same { (hand.new.client.board ≡ hand.old.client.board) × (hand.new.client.ring ≡ hand.old.client.ring) }
+    ensures carried { OnOk result (Carries stage.now.script.now (Wait place) hand.old hand.new) }
 {
     let Some(req) = home_of(stage.homes, place) else {
         return Err(Halt::Refused);

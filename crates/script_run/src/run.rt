@@ -1,23 +1,28 @@
 //! A script carried out.
-ghost use Rattle.std.specs.Prelude.{◌≡◌, [], length, IfOk};
-ghost use Rattle.runtime.specs.Clients.{AreClients};
-ghost use Rattle.script_run.specs.Hands.{AreHands};
+ghost use Rattle.std.specs.Prelude.{◌≡◌, [], None, All, length, map, IfOk};
+ghost use Rattle.script.specs.Homes.{AreHomes};
+ghost use Rattle.script.specs.Rows.{rows_of};
+ghost use Rattle.script.specs.Tables.{IsTableOf};
+ghost use Rattle.script_run.specs.Hands.{AreNew, AllCarriedOut, client_of, taken_by};
+ghost use Rattle.script_run.specs.ClockLines.{AreClockLines};
+ghost use Rattle.script_run.specs.Played.{AreStarting, IsPlayed, IsStartedFor};
 
-use crate::clock::{LineClock, Progress};
+use crate::clock::{ClockLine, LineClock, lines_of};
 use crate::fault::RunFault;
 use crate::gate::Gate;
 use crate::hand::Hand;
 use crate::lines::{Halt, carry_out};
+use crate::parks::{Counted, Parks};
 use crate::rows::table_of;
 use crate::stage::Stage;
-use crate::watch::go_on;
+use crate::watch::{Watch, go_on};
 use board::{Completion, Report, RingShape, Shape};
 use controls::Turnstile;
 use history::Req;
-use runtime::{Client, Runtime, Unjoined, join_all, start};
+use runtime::{Client, Runtime, Unjoined, join_with_clock, start};
 use script::{Script, Table, homes_of};
 use std::alloc::{AllocError, Global};
-use std::sync::Wait;
+use std::sync::{Arc, Wait};
 use std::thread::{Threads, map_vec};
 
 /// After how many idle turns in a row the poller sleeps.
@@ -25,8 +30,8 @@ const IDLE: u32 = 64;
 
 /// Carries a script out on a runtime with so many workers, and gives its table. Each ring has a thread of its own, and the clock's
 /// lines are carried out by the poller's, one try a turn. A `wait` or `armed` line, and a `submit` line whose cells aren't all free,
-/// is tried at most `turns` times. After the last line the run ends once every request has replied, or no reply has come for long;
-/// what has none by then is cut off with -125 (ECANCELED). Each thread goes through the turnstile with each request.
+/// is tried at most `turns` times. After the last line the run ends once no request can go on; what has no reply by then is cut off
+/// with -125 (ECANCELED). Each thread goes through the turnstile with each request.
 pub fn run_script<
     R: Threads + Wait + Copy + Send + Sync + 'static,
     G: Turnstile + Send + Sync + Drop + 'static,
@@ -38,15 +43,28 @@ pub fn run_script<
     turns: u32,
     turnstile: G,
 ) -> Result<Table, RunFault>
-    ensures lines { IfOk result (λ table. length table.lines.items ≡ length script.now.entries.items) }
+    ensures { IfOk result (λ table. IsTableOf script.now (rows_of table)) }
 {
     let homes = homes_of(alloc, script)?;
     let shape = shape_of(alloc, script, workers)?;
     let hands = Vec::with_capacity(alloc, script.rings.len())?;
-    let acts = script.clock.as_slice();
-    let (clock, progress) = LineClock::new(alloc, acts, homes.as_slice(), turns)?;
-    let (runtime, clients) = start(*rt, alloc, &shape, IDLE, turnstile, clock)?;
-    let hands = hands_of(alloc, &runtime, clients, hands)?;
+    let lines = lines_of(alloc, script, homes.as_slice())?;
+    let (clock, progress) = LineClock::new(
+        alloc,
+        lines_of(alloc, script, homes.as_slice())?,
+        turns,
+    )?;
+    let parks = Arc::new(alloc, Parks::new(alloc, script)?)?;
+    let counted = Counted {
+        parks: Arc::try_clone(&parks)?,
+        turnstile,
+    };
+    let watch = Watch {
+        progress,
+        parks,
+        turns: 0,
+    };
+    let (runtime, clients) = start(*rt, alloc, &shape, IDLE, counted, clock)?;
     let gate = Gate::new(script.rings.len() as u64);
     let stage = Stage {
         alloc,
@@ -55,18 +73,40 @@ pub fn run_script<
         turns,
         gate: &gate,
     };
-    let (taken, report) = play(rt, &stage, &progress, runtime, hands)?;
+    run_lines(rt, &stage, watch, runtime, clients, hands, lines.as_slice())
+}
+
+/// Carries all lines out on a runtime that was started for the script, and gives the table. There is room for its hands.
+fn run_lines<R: Threads + Wait + Sync>(
+    rt: &R,
+    stage: &Stage<'_>,
+    watch: Watch,
+    runtime: Runtime<LineClock>,
+    clients: Vec<Client>,
+    hands: Vec<Hand>,
+    lines: &[ClockLine],
+) -> Result<Table, RunFault>
+    requires homes { AreHomes stage.now.script.now stage.now.homes.now }
+    requires started { IsStartedFor stage.now.script.now runtime clients.items }
+    requires none { hands.items ≡ [] }
+    requires lines { AreClockLines stage.now.script.now stage.now.script.now.clock.items lines.now }
+    ensures { IfOk result (λ table. IsTableOf stage.now.script.now (rows_of table)) }
+{
+    let hands = hands_of(stage.alloc, clients, hands)?;
+    let (taken, report) = play(rt, stage, watch, runtime, hands, lines)?;
     table_of(
-        alloc,
-        script,
-        homes.as_slice(),
+        stage.alloc,
+        stage.script,
+        stage.homes,
         taken.as_slice(),
         report.lines(),
     )
 }
 
 /// The board that a script asks for.
-fn shape_of(alloc: Global, script: &Script, workers: u32) -> Result<Shape, AllocError> {
+fn shape_of(alloc: Global, script: &Script, workers: u32) -> Result<Shape, AllocError>
+    ensures { IfOk result (λ s. (length s.rings.items ≡ length script.now.rings.items) × (s.pipes.items ≡ script.now.pipes.items)) }
+{
     let mut rings = Vec::new(alloc);
     for (cells, posts) in &script.rings {
         rings.push(RingShape {
@@ -76,52 +116,64 @@ fn shape_of(alloc: Global, script: &Script, workers: u32) -> Result<Shape, Alloc
     }
     Ok(Shape {
         rings,
-        pipes: script.pipes.clone()?,
+        pipes: Vec::from_slice(alloc, script.pipes.as_slice())?,
         workers,
     })
 }
 
-/// The hands of the runtime's clients, in order.
+/// The hands of these clients, in order.
 fn hands_of(
     alloc: Global,
-    runtime: &Runtime,
     mut clients: Vec<Client>,
     mut hands: Vec<Hand>,
 ) -> Result<Vec<Hand>, AllocError>
-    requires clients { AreClients runtime.now clients.items }
-    requires none { hands.items ≡ [] }
-    ensures { IfOk result (λ v. AreHands runtime.now v.items) }
+    requires { hands.items ≡ [] }
+    ensures clients { IfOk result (λ v. map client_of v.items ≡ clients.items) }
+    ensures new { IfOk result (λ v. AreNew v.items) }
 {
-    let _ = runtime;
+    clients.reverse();
     while let Some(client) = clients.pop() {
         hands.push(Hand::new(alloc, client))?;
     }
-    hands.reverse();
     Ok(hands)
 }
 
-/// Carries all lines out, and ends the runtime: the completions that the clients took, and the report of all others.
+/// Carries all lines out, and ends the runtime: the completions that the clients took, and the report of all others. These are the
+/// lines of the script's clock.
 fn play<R: Threads + Wait + Sync>(
     rt: &R,
     stage: &Stage<'_>,
-    progress: &Progress,
-    runtime: Runtime,
+    mut watch: Watch,
+    runtime: Runtime<LineClock>,
     hands: Vec<Hand>,
+    lines: &[ClockLine],
 ) -> Result<(Vec<Completion>, Report), RunFault>
-    requires { AreHands runtime hands.items }
+    requires homes { AreHomes stage.now.script.now stage.now.homes.now }
+    requires hands { AreStarting stage.now.script.now runtime hands.items }
+    requires lines { AreClockLines stage.now.script.now stage.now.script.now.clock.items lines.now }
+    ensures { IfOk result (λ t. IsPlayed stage.now.script.now runtime t.0.items t.1) }
 {
-    let mut hands = carry_all(rt, stage, &runtime, hands)?;
+    let mut hands = carry_all(rt, stage, hands)?;
     if halt_of(hands.as_slice()).is_none() {
-        go_on(rt, progress, &mut hands)?;
+        go_on(rt, &mut watch, &mut hands)?;
     }
     let halt = halt_of(hands.as_slice());
-    let (clients, taken) = parts_of(stage.alloc, &runtime, hands)?;
-    let joined = join_all(rt, stage.alloc, runtime, clients);
-    if let Some(halt) = halt.or(stuck_of(progress)) {
+    let (clients, taken) = parts_of(stage.alloc, hands)?;
+    let joined = join_with_clock(rt, stage.alloc, runtime, clients);
+    if let Some(halt) = halt {
+        return Err(fault_of(stage, halt));
+    }
+    if let Some(halt) = stuck_of(&watch) {
         return Err(fault_of(stage, halt));
     }
     match joined {
-        Ok(report) => Ok((taken, report)),
+        Ok((report, clock)) => {
+            if clock.has_carried(lines) {
+                Ok((taken, report))
+            } else {
+                Err(RunFault::Shared)
+            }
+        }
         Err(Unjoined { error, .. }) => Err(RunFault::from(error)),
     }
 }
@@ -130,18 +182,18 @@ fn play<R: Threads + Wait + Sync>(
 fn carry_all<R: Threads + Wait + Sync>(
     rt: &R,
     stage: &Stage<'_>,
-    runtime: &Runtime,
     hands: Vec<Hand>,
 ) -> Result<Vec<Hand>, AllocError>
-    requires { AreHands runtime.now hands.items }
-    ensures { IfOk result (λ v. AreHands runtime.now v.items) }
+    requires { AreHomes stage.now.script.now stage.now.homes.now }
+    ensures { IfOk result (λ v. AllCarriedOut stage.now.script.now hands.items v.items) }
 {
-    let _ = runtime;
     map_vec(rt, hands, &|hand| carry_out(rt, stage, hand))
 }
 
 /// The halt of the first hand that has one.
-fn halt_of(hands: &[Hand]) -> Option<Halt> {
+fn halt_of(hands: &[Hand]) -> Option<Halt>
+    ensures { result ≡ None → All (λ h. h.halt ≡ None) hands.now }
+{
     for hand in hands {
         if hand.halt.is_some() {
             return hand.halt;
@@ -151,23 +203,22 @@ fn halt_of(hands: &[Hand]) -> Option<Halt> {
 }
 
 /// The halt of the clock, if it has one.
-fn stuck_of(progress: &Progress) -> Option<Halt> {
-    match progress.stuck_at() {
+fn stuck_of(watch: &Watch) -> Option<Halt> {
+    match watch.progress.stuck_at() {
         Some(place) => Some(Halt::Stuck(place)),
         None => None,
     }
 }
 
-/// What the hands of the runtime's clients come to: the clients, and the completions.
+/// What these hands come to: their clients, and all that they took.
 fn parts_of(
     alloc: Global,
-    runtime: &Runtime,
     mut hands: Vec<Hand>,
 ) -> Result<(Vec<Client>, Vec<Completion>), AllocError>
-    requires { AreHands runtime.now hands.items }
-    ensures { IfOk result (λ t. AreClients runtime.now t.0.items) }
+    ensures clients { IfOk result (λ t. t.0.items ≡ map client_of hands.items) }
+    ensures taken { IfOk result (λ t. t.1.items ≡ taken_by hands.items) }
 {
-    let _ = runtime;
+    hands.reverse();
     let mut clients = Vec::with_capacity(alloc, hands.len())?;
     let mut all = Vec::new(alloc);
     while let Some(hand) = hands.pop() {

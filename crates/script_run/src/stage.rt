@@ -1,4 +1,6 @@
 //! What the threads of all rings share.
+ghost use Rattle.std.specs.Prelude.{◌≡◌, Some, IfSome, slice_get};
+
 use crate::gate::Gate;
 use history::Req;
 use script::Script;
@@ -15,7 +17,9 @@ pub(crate) struct Stage<'a> {
 }
 
 /// The request of the entry at a place.
-pub(crate) fn home_of(homes: &[Option<Req>], place: u32) -> Option<Req> {
+pub(crate) fn home_of(homes: &[Option<Req>], place: u32) -> Option<Req>
+    ensures { IfSome result (λ r. slice_get homes.now place ≡ Some (Some r)) }
+{
     match homes.get(place as usize) {
         Some(home) => *home,
         None => None,

@@ -1,19 +1,81 @@
 //! How long a run goes on after its last line.
-ghost use Rattle.std.specs.Prelude.{◌≡◌, map, OnOk};
-ghost use Rattle.script_run.specs.Hands.{board_of};
+ghost use Rattle.std.specs.Prelude.{OnOk};
+ghost use Rattle.script_run.specs.Hands.{Went, AllWent};
 
 use crate::clock::Progress;
 use crate::hand::Hand;
+use crate::parks::Parks;
+use board::Phase;
+use history::Req;
 use std::alloc::AllocError;
-use std::sync::Wait;
+use std::sync::{Arc, Wait};
 use std::thread;
 
-/// How often in a row one looks in vain for another completion, after the last line, while a request has none.
-const LOOKS: u32 = 2_000;
+/// After how many parks, or turns of the poller, since the last completion a request is taken to wait for what doesn't come.
+const ROUNDS: u64 = 16;
+
+/// What a run is watched by: how far its clock has come, how often requests were parked since the last completion, and how many
+/// turns the poller had made by then.
+#[derive(Drop)]
+pub(crate) struct Watch {
+    pub progress: Arc<Progress>,
+    pub parks: Arc<Parks>,
+    pub turns: u64,
+}
+
+impl Watch {
+    /// From here on it counts again.
+    fn begin_again(&mut self) {
+        self.parks.clear();
+        self.turns = self.progress.turns();
+    }
+
+    /// Whether the poller has gone round often since the last completion.
+    fn has_turned(&self) -> bool {
+        self.turns.saturating_add(ROUNDS) <= self.progress.turns()
+    }
+
+    /// Whether a request where it stands has its completion, or has had its chances since the last one came.
+    fn is_settled(&self, req: Req, phase: Phase) -> bool {
+        match phase {
+            Phase::Unborn | Phase::Gone => true,
+            Phase::Done(_) => false,
+            Phase::Held | Phase::Armed(_) => self.has_turned(),
+            Phase::Ready | Phase::Running => ROUNDS <= self.parks.of(req),
+        }
+    }
+
+    /// Whether none of the requests of a client can go on.
+    fn is_still(&self, hand: &mut Hand) -> bool
+        ensures { Went hand.old hand.new }
+    {
+        let ring = hand.client.ring();
+        for k in 0..hand.submitted {
+            let req = Req { ring, k: k as u64 };
+            let phase = hand.client.look(req);
+            if !self.is_settled(req, phase) {
+                return false;
+            }
+        }
+        true
+    }
+
+    /// Whether no request can go on.
+    fn are_still(&self, hands: &mut Vec<Hand>) -> bool
+        ensures { AllWent hands.old.items hands.new.items }
+    {
+        let mut all = true;
+        for hand in hands.iter_mut() {
+            let is_still = self.is_still(hand);
+            all = all && is_still;
+        }
+        all
+    }
+}
 
 /// Takes the completions that are there. Whether there was one.
 fn take_all<R: Wait>(rt: &R, hands: &mut Vec<Hand>) -> Result<bool, AllocError>
-    ensures { OnOk result (map board_of hands.new.items ≡ map board_of hands.old.items) }
+    ensures { OnOk result (AllWent hands.old.items hands.new.items) }
 {
     let mut some = false;
     for hand in hands.iter_mut() {
@@ -24,34 +86,22 @@ fn take_all<R: Wait>(rt: &R, hands: &mut Vec<Hand>) -> Result<bool, AllocError>
     Ok(some)
 }
 
-/// Whether all completions were taken.
-fn are_done(hands: &[Hand]) -> bool {
-    for hand in hands {
-        if !hand.is_done() {
-            return false;
-        }
-    }
-    true
-}
-
-/// Takes completions until the clock has come to its end, and all were taken or none has come for long.
+/// Takes completions until the clock has come to its end, and no request can go on.
 pub(crate) fn go_on<R: Wait>(
     rt: &R,
-    progress: &Progress,
+    watch: &mut Watch,
     hands: &mut Vec<Hand>,
 ) -> Result<(), AllocError>
-    ensures { OnOk result (map board_of hands.new.items ≡ map board_of hands.old.items) }
+    ensures { OnOk result (AllWent hands.old.items hands.new.items) }
 {
-    let mut in_vain = 0u32;
+    watch.begin_again();
     for _ in rt.forever() {
-        let is_over = progress.is_over();
+        let is_over = watch.progress.is_over();
         if take_all(rt, hands)? || !is_over {
-            in_vain = 0;
-        }
-        if is_over && (in_vain > LOOKS || are_done(hands.as_slice())) {
+            watch.begin_again();
+        } else if watch.are_still(hands) {
             return Ok(());
         }
-        in_vain = in_vain.saturating_add(1);
         thread::yield_now();
     }
     unreachable!()

@@ -14,13 +14,14 @@ use Rattle.history.specs.Pipes.{untouched}
 use Rattle.history.proofs.Requests.{same_itself}
 use Rattle.steps.specs.declared.line.Line.{Line}
 use Rattle.steps.specs.declared.parcel.Thing.{Thing}
+use Rattle.steps.specs.declared.view.Heard.{Heard}
 use Rattle.steps.specs.declared.view.Layout.{Layout}
 use Rattle.steps.specs.declared.view.Role.{Role}
 use Rattle.steps.specs.declared.view.Role.TheVariants.{Poller, Submitter, Lending, Idle, Busy, Leaving, Spent}
 use Rattle.steps.specs.declared.view.View.{View}
 use Rattle.steps.specs.Journal.{events_of}
 use Rattle.steps.specs.Cells.{CellOk, PipeIs, total, claim_at, note_at, pipe_at, slot_at}
-use Rattle.steps.specs.Rule.{Owner, nobody, pollers, rings, workers, owner, stands_for, apart, NoneOf, Begins, AllBegin, SeatOk, parts_of, IsRunBy, IsHeldBy, IsLentBy, IsOneOf, Knows, Ruled, opening_view, without_one, without_next, next_poller, submitter_of, next_submitter, idle_one, messenger, hearing, spent_view, Ended}
+use Rattle.steps.specs.Rule.{Owner, nobody, pollers, rings, workers, owner, stands_for, apart, NoneOf, Begins, IsHeard, IsGone, Saw, SeatOk, parts_of, IsRunBy, IsHeldBy, IsLentBy, IsOneOf, Knows, Ruled, opening_view, without_one, without_next, next_poller, submitter_of, next_submitter, idle_one, messenger, hearing, spent_view, Ended}
 use Rattle.steps.proofs.Roles.{apart_sym, idle_apart, idle_none, spent_apart}
 use Rattle.steps.proofs.RuleKept.{parts_set, run_set, held_set, lent_set, known_set, IsKnown, at_now}
 
@@ -87,17 +88,21 @@ two_parts (x ∷ vs) (suc i) (suc l) v u p q n = let t = two_parts vs i l v u p 
 pub the_one : (vs : List View) (id : ℕ) (v : View) (i : ℕ) (u : View) → get_elem? vs id ≡ some v → get_elem? vs i ≡ some u → 0 < u.parts → v.parts ≡ 9223372036854775808 → parts_of vs ≡ 9223372036854775808 → v ≡ u
 the_one vs id v i u p q has whole all = dite (ℕ_discrete id i) (λ e. some-injective v u (sym p ∙ (ap (get_elem? vs) e ∙ q))) (λ n. let t = two_parts vs id i v u p q n in absurd (omega arith))
 
-one_of_later : (j : List Event) (xs ys : List (List Line)) → IsOneOf j ys → IsOneOf j (xs ++ ys)
+one_of_later : (j : List Event) (xs ys : List Heard) → IsOneOf j ys → IsOneOf j (xs ++ ys)
 one_of_later j [] ys h = h
 one_of_later j (x ∷ xs) ys h = inr (one_of_later j xs ys h)
 
-one_of_first : (j : List Event) (xs ys : List (List Line)) → IsOneOf j xs → IsOneOf j (xs ++ ys)
+one_of_first : (j : List Event) (xs ys : List Heard) → IsOneOf j xs → IsOneOf j (xs ++ ys)
 one_of_first j [] ys h = absurd h
-one_of_first j (x ∷ xs) ys h = ⊎_elim (λ (e : events_of x ≡ j). inl e) (λ (o : IsOneOf j xs). inr (one_of_first j xs ys o)) h
+one_of_first j (x ∷ xs) ys h = ⊎_elim (λ (e : events_of x.seen ≡ j). inl e) (λ (o : IsOneOf j xs). inr (one_of_first j xs ys o)) h
 
-begin_both : (j : List Line) (xs ys : List (List Line)) → AllBegin j xs → AllBegin j ys → AllBegin j (xs ++ ys)
-begin_both j [] ys a b = b
-begin_both j (x ∷ xs) ys a b = (a.0, begin_both j xs ys a.1 b)
+heard_where : (x : Heard) (xs ys : List Heard) → IsHeard x (xs ++ ys) → IsHeard x xs ⊎ IsHeard x ys
+heard_where x [] ys h = inr h
+heard_where x (y ∷ xs) ys h = ⊎_elim (λ (e : y ≡ x). inl (inl e)) (λ (t : IsHeard x (xs ++ ys)). ⊎_elim (λ a. inl (inr a)) (λ b. inr b) (heard_where x xs ys t)) h
+
+-- what is so of a seat that is taken in, and of all that both had heard, is so of all that is heard then
+heard_both : (P : Heard → Type 0) (v w : View) → P (record { role = w.role; seen = w.seen }) → ((x : Heard) → IsHeard x w.heard → P x) → ((x : Heard) → IsHeard x v.heard → P x) → (x : Heard) → IsHeard x (hearing v w).heard → P x
+heard_both P v w mine theirs ours x h = ⊎_elim (λ (e : record { role = w.role; seen = w.seen } ≡ x). subst P e mine) (λ (t : IsHeard x (w.heard ++ v.heard)). ⊎_elim (theirs x) (ours x) (heard_where x w.heard v.heard t)) h
 
 -- who knew all still does after a join
 known_joined : (vs : List View) (id other : ℕ) (v w : View) (j : List Event) → get_elem? vs id ≡ some v → get_elem? vs other ≡ some w → ¬ (other ≡ id) → IsKnown vs j → IsKnown (set (set vs id (hearing v w)) other spent_view) j
@@ -142,8 +147,9 @@ module _ (L : Layout) where
     notes = λ x i h small. (let m = most in get_or-replicate words (note_at x i) 0 0 (omega arith));
     clock = get_or-replicate words 0 0 0 (omega arith);
     pipes = λ p h. (let o = pipes p h in (get_or-replicate words (pipe_at p) 0 0 (omega arith), o.0, home_of slots p o.0 o.1, o.2));
-    seats = λ i v at. subst (SeatOk L []) (alone (opening_view L) v i at).1 record { layout = λ _. refl; saw = record { later = []; is = refl; none = tt }; heard = tt; busy = (λ q is. absurd (cc)); leaving = (λ q is. absurd (cc)); lending = (λ q is. absurd (cc)) };
+    seats = λ i v at. subst (SeatOk L []) (alone (opening_view L) v i at).1 record { layout = λ _. refl; saw = record { later = []; is = refl; none = tt }; heard = λ x h. absurd h; busy = (λ q is. absurd (cc)); leaving = (λ q is. absurd (cc)); lending = (λ q is. absurd (cc)) };
     roles = λ i l v w p q n. absurd (n ((alone (opening_view L) v i p).0 ∙ sym (alone (opening_view L) w l q).0));
+    gone = λ i l v w p q x h. absurd (subst (λ (z : View). IsHeard x z.heard) (sym (alone (opening_view L) v i p).1) h);
     run = λ q is. absurd (cc);
     held_by = λ p q is. absurd (cc);
     lent_by = λ q is. absurd (cc);
@@ -154,10 +160,10 @@ module _ (L : Layout) where
   -- a seat is cut in two, of which the left one keeps its work
   split_ok : (s : St) (r : Ruled L s) (id : ℕ) (v left right : View) → get_elem? s.views id ≡ some v → left.parts + right.parts ≡ v.parts → (0 < v.parts → 0 < left.parts) → (Knows v (events_of r.past) → Knows left (events_of r.past))
       → ((q : Req) → v.role ≡ Busy q → left.role ≡ Busy q) → ((q : Req) → v.role ≡ Lending q → left.role ≡ Lending q) → ((q : Req) → stands_for v.role (workers q) ≡ true → stands_for left.role (workers q) ≡ true)
-      → SeatOk L r.past left → SeatOk L r.past right → apart left.role right.role ≡ true
+      → SeatOk L r.past left → SeatOk L r.past right → apart left.role right.role ≡ true → left.heard ≡ v.heard → right.heard ≡ []
       → ((u : Role) → apart v.role u ≡ true → (apart left.role u ≡ true) × (apart right.role u ≡ true))
       → Ruled L record { words = s.words; homes = s.homes; views = set s.views id left ++ right ∷ [] }
-  split_ok s r id v left right there share has knows runner lender keeper a b two others =
+  split_ok s r id v left right there share has knows runner lender keeper a b two same' none others =
       let vs : List View = set s.views id left in
       let old : (i : ℕ) (u : View) → get_elem? vs i ≡ some u → ((i ≡ id) × (left ≡ u)) ⊎ ((i ≢ id) × (get_elem? s.views i ≡ some u)) = λ i u at. at_set s.views id i left u at in
       let right_of : (i : ℕ) (u : View) → get_elem? vs i ≡ some u → apart right.role u.role ≡ true = λ i u at. ⊎_elim
@@ -170,7 +176,10 @@ module _ (L : Layout) where
       (λ (w : (l ≢ id) × (get_elem? s.views l ≡ some y)). subst (λ (z : View). apart z.role y.role ≡ true) t.1 (left_of l y w.0 w.1)) (old l y q))
       (λ (t : (i ≢ id) × (get_elem? s.views i ≡ some x)). ⊎_elim
       (λ (w : (l ≡ id) × (left ≡ y)). subst (λ (z : View). apart x.role z.role ≡ true) w.1 (apart_sym left.role x.role (left_of i x t.0 t.1)))
-      (λ (w : (l ≢ id) × (get_elem? s.views l ≡ some y)). r.roles i l x y t.1 w.1 n) (old l y q)) (old i x p) in record {
+      (λ (w : (l ≢ id) × (get_elem? s.views l ≡ some y)). r.roles i l x y t.1 w.1 n) (old l y q)) (old i x p) in
+      let heard_by : (i : ℕ) (u : View) → get_elem? vs i ≡ some u → (x : Heard) → IsHeard x u.heard → (l : ℕ) (y : View) → get_elem? s.views l ≡ some y → IsGone x.role y.role = λ i u at x h l y q. ⊎_elim
+      (λ (t : (i ≡ id) × (left ≡ u)). r.gone id l v y there q x (subst (IsHeard x) (ap (λ (z : View). z.heard) (sym t.1) ∙ same') h))
+      (λ (t : (i ≢ id) × (get_elem? s.views i ≡ some u)). r.gone i l u y t.1 q x h) (old i u at) in record {
         past = r.past;
         legal = r.legal;
         live = r.live;
@@ -192,6 +201,13 @@ module _ (L : Layout) where
             (λ (t : (i ≡ length vs) × (right ≡ x)). ⊎_elim
             (λ (k : get_elem? vs l ≡ some y). subst (λ (z : View). apart z.role y.role ≡ true) t.1 (right_of l y k))
             (λ (w : (l ≡ length vs) × (right ≡ y)). absurd (n (t.0 ∙ sym w.0))) (at_end vs right y l q)) (at_end vs right x i p);
+        gone = λ i l u y p q x h. ⊎_elim
+            (λ (k : get_elem? vs i ≡ some u). let mine : IsGone x.role v.role = heard_by i u k x h id v there in let apart' = others x.role mine.0 in ⊎_elim
+            (λ (k' : get_elem? vs l ≡ some y). ⊎_elim
+            (λ (t : (l ≡ id) × (left ≡ y)). subst (λ (z : View). IsGone x.role z.role) t.1 (apart'.0, mine.1))
+            (λ (t : (l ≢ id) × (get_elem? s.views l ≡ some y)). heard_by i u k x h l y t.1) (old l y k'))
+            (λ (t : (l ≡ length vs) × (right ≡ y)). subst (λ (z : View). IsGone x.role z.role) t.1 (apart'.1, mine.1)) (at_end vs right y l q))
+            (λ (t : (i ≡ length vs) × (right ≡ u)). absurd (subst (IsHeard x) (ap (λ (z : View). z.heard) (sym t.1) ∙ none) h)) (at_end vs right u i p);
         run = λ q is. run_longer vs right q (run_set s.views id v left q there (runner q) (r.run q is));
         held_by = λ p q is. held_longer vs right q (held_set s.views id v left q there (keeper q) (r.held_by p q is));
         lent_by = λ q is. lent_longer vs right q (lent_set s.views id v left q there (lender q) (r.lent_by q is));
@@ -230,12 +246,12 @@ module _ (L : Layout) where
       rw (left, right) (split_ok s r id v (record v { role = Poller (suc n); parts = v.parts - 1 }) (record v { role = Submitter n; parts = 1; heard = []; steps = [] }) there (omega arith) (λ _. omega arith) (λ k. k)
       (λ q e. absurd (let y = sym is ∙ e in cc)) (λ q e. absurd (let y = sym is ∙ e in cc)) (λ q e. absurd (true≢false (sym e ∙ ap (λ (z : Role). stands_for z (workers q)) is)))
       record { layout = λ _. layout; saw = record { later = seat.saw.later; is = seat.saw.is; none = none_of (Poller n) (Poller (suc n)) (next_left n) seat.saw.later none }; heard = seat.heard; busy = (λ q e. absurd (cc)); leaving = (λ q e. absurd (cc)); lending = (λ q e. absurd (cc)) }
-      record { layout = λ _. layout; saw = record { later = seat.saw.later; is = seat.saw.is; none = none_of (Poller n) (Submitter n) (next_right n) seat.saw.later none }; heard = tt; busy = (λ q e. absurd (cc)); leaving = (λ q e. absurd (cc)); lending = (λ q e. absurd (cc)) }
-      (grind (arith, nat_tests)) (λ u h. next_apart n u (subst (λ (z : Role). apart z u ≡ true) is h)))
+      record { layout = λ _. layout; saw = record { later = seat.saw.later; is = seat.saw.is; none = none_of (Poller n) (Submitter n) (next_right n) seat.saw.later none }; heard = λ x h. absurd h; busy = (λ q e. absurd (cc)); leaving = (λ q e. absurd (cc)); lending = (λ q e. absurd (cc)) }
+      (grind (arith, nat_tests)) refl refl (λ u h. next_apart n u (subst (λ (z : Role). apart z u ≡ true) is h)))
 
   -- an idle seat leaves any other
   idle_ok : (j : List Line) (v : View) (parts : ℕ) → v.layout ≡ L → Begins j v.seen → SeatOk L j (record v { role = Idle; parts = parts; heard = []; steps = [] })
-  idle_ok j v parts layout b = record { layout = λ _. layout; saw = record { later = b.0; is = b.1; none = idle_none b.0 }; heard = tt; busy = (λ q e. absurd (cc)); leaving = (λ q e. absurd (cc)); lending = (λ q e. absurd (cc)) }
+  idle_ok j v parts layout b = record { layout = λ _. layout; saw = record { later = b.0; is = b.1; none = idle_none b.0 }; heard = λ x h. absurd h; busy = (λ q e. absurd (cc)); leaving = (λ q e. absurd (cc)); lending = (λ q e. absurd (cc)) }
 
   apart_idle : (u : Role) → apart u Idle ≡ true
   apart_idle u = apart_sym Idle u (idle_apart u)
@@ -244,15 +260,15 @@ module _ (L : Layout) where
   cuts_idle id v live more s r there = let seat = r.seats id v there in
       split_ok s r id v (without_one v) (idle_one v) there (omega arith) (λ _. omega arith) (λ k. k) (λ q e. e) (λ q e. e) (λ q e. e)
       record { layout = seat.layout; saw = seat.saw; heard = seat.heard; busy = (λ q e. (omega arith, (seat.busy q e).1)); leaving = (λ q e. (omega arith, (seat.leaving q e).1)); lending = (λ q e. omega arith) }
-      (idle_ok r.past v 1 (seat.layout live) (seat.saw.later, seat.saw.is)) (apart_idle v.role) (λ u h. (h, idle_apart u))
+      (idle_ok r.past v 1 (seat.layout live) (seat.saw.later, seat.saw.is)) (apart_idle v.role) refl refl (λ u h. (h, idle_apart u))
 
   -- a messenger leaves any other seat
   pub cuts_messenger : (id : ℕ) (v : View) → v.role ≢ Spent → Splits (Ruled L) id v v (messenger v)
   cuts_messenger id v live s r there = let seat = r.seats id v there in
-      split_ok s r id v v (messenger v) there (omega arith) (λ h. h) (λ k. k) (λ q e. e) (λ q e. e) (λ q e. e) seat (idle_ok r.past v 0 (seat.layout live) (seat.saw.later, seat.saw.is)) (apart_idle v.role) (λ u h. (h, idle_apart u))
+      split_ok s r id v v (messenger v) there (omega arith) (λ h. h) (λ k. k) (λ q e. e) (λ q e. e) (λ q e. e) seat (idle_ok r.past v 0 (seat.layout live) (seat.saw.later, seat.saw.is)) (apart_idle v.role) refl refl (λ u h. (h, idle_apart u))
 
   spent_ok : (j : List Line) → SeatOk L j spent_view
-  spent_ok j = record { layout = λ n. absurd (n refl); saw = record { later = j; is = sym (append-nil j); none = spent_none j }; heard = tt; busy = (λ q e. absurd (cc)); leaving = (λ q e. absurd (cc)); lending = (λ q e. absurd (cc)) }
+  spent_ok j = record { layout = λ n. absurd (n refl); saw = record { later = j; is = sym (append-nil j); none = spent_none j }; heard = λ x h. absurd h; busy = (λ q e. absurd (cc)); leaving = (λ q e. absurd (cc)); lending = (λ q e. absurd (cc)) }
 
   -- a seat takes in another, which has no work
   pub hears : (id other : ℕ) (v w : View) → v.role ≢ Spent → ((q : Req) → stands_for w.role (workers q) ≡ false) → ((q : Req) → w.role ≢ Lending q) → Joins (Ruled L) id v other w (hearing v w) spent_view
@@ -260,12 +276,17 @@ module _ (L : Layout) where
       let vs : List View = set s.views id (hearing v w) in
       let at_old : get_elem? s.views other ≡ some w = ⊎_elim (λ (t : (other ≡ id) × (hearing v w ≡ w)). absurd (ne t.0)) (λ (t : (other ≢ id) × (get_elem? s.views other ≡ some w)). t.1) (at_set s.views id other (hearing v w) w at) in
       let seat = r.seats id v there in let seat' = r.seats other w at_old in
-      let both : SeatOk L r.past (hearing v w) = record { layout = seat.layout; saw = seat.saw; heard = ((seat'.saw.later, seat'.saw.is), begin_both r.past w.heard v.heard seat'.heard seat.heard); busy = (λ q e. (let b = seat.busy q e in (omega arith, b.1))); leaving = (λ q e. (let b = seat.leaving q e in (omega arith, b.1))); lending = (λ q e. (let b = seat.lending q e in omega arith)) } in
+      let both : SeatOk L r.past (hearing v w) = record { layout = seat.layout; saw = seat.saw; heard = heard_both (λ (x : Heard). Saw x.role x.seen r.past) v w seat'.saw seat'.heard seat.heard; busy = (λ q e. (let b = seat.busy q e in (omega arith, b.1))); leaving = (λ q e. (let b = seat.leaving q e in (omega arith, b.1))); lending = (λ q e. (let b = seat.lending q e in omega arith)) } in
       let one : (i : ℕ) (u : View) → get_elem? vs i ≡ some u → SeatOk L r.past u = λ i u p. ⊎_elim (λ (t : (i ≡ id) × (hearing v w ≡ u)). subst (SeatOk L r.past) t.1 both) (λ (t : (i ≢ id) × (get_elem? s.views i ≡ some u)). r.seats i u t.1) (at_set s.views id i (hearing v w) u p) in
       let role_of : (i : ℕ) (u : View) → get_elem? vs i ≡ some u → (z : View) × (get_elem? s.views i ≡ some z) × (z.role ≡ u.role) = λ i u p. ⊎_elim
       (λ (t : (i ≡ id) × (hearing v w ≡ u)). (v, subst (λ (z : ℕ). get_elem? s.views z ≡ some v) (sym t.0) there, ap (λ (z : View). z.role) t.1))
       (λ (t : (i ≢ id) × (get_elem? s.views i ≡ some u)). (u, t.1, refl)) (at_set s.views id i (hearing v w) u p) in
       let pair : (i l : ℕ) (x y : View) → get_elem? vs i ≡ some x → get_elem? vs l ≡ some y → i ≢ l → apart x.role y.role ≡ true = λ i l x y p q n. (let a = role_of i x p in let b = role_of l y q in subst (λ (z : Role × Role). apart z.0 z.1 ≡ true) (λ k. (a.2 k, b.2 k)) (r.roles i l a.0 b.0 a.1 b.1 n)) in
+      -- who is gone now is w, or was gone before
+      let told : (l : ℕ) (y : View) → l ≢ other → get_elem? vs l ≡ some y → (i : ℕ) (u : View) → get_elem? vs i ≡ some u → (x : Heard) → IsHeard x u.heard → IsGone x.role y.role = λ l y n q i u p x h. (let b = role_of l y q in let was : (k : ℕ) (c : View) → get_elem? s.views k ≡ some c → IsHeard x c.heard → IsGone x.role y.role = λ k c at' h'. subst (IsGone x.role) b.2 (r.gone k l c b.0 at' b.1 x h') in
+      ⊎_elim
+      (λ (t : (i ≡ id) × (hearing v w ≡ u)). heard_both (λ (z : Heard). IsGone z.role y.role) v w (subst (IsGone w.role) b.2 (r.roles l other b.0 w b.1 at_old n, lazy)) (λ z h'. subst (IsGone z.role) b.2 (r.gone other l w b.0 at_old b.1 z h')) (λ z h'. subst (IsGone z.role) b.2 (r.gone id l v b.0 there b.1 z h')) x (subst (λ (z : View). IsHeard x z.heard) (sym t.1) h))
+      (λ (t : (i ≢ id) × (get_elem? s.views i ≡ some u)). was i u t.1 h) (at_set s.views id i (hearing v w) u p)) in
       record {
         past = r.past;
         legal = r.legal;
@@ -284,6 +305,11 @@ module _ (L : Layout) where
             (λ (t : (i ≢ other) × (get_elem? vs i ≡ some x)). ⊎_elim
             (λ (k : (l ≡ other) × (spent_view ≡ y)). subst (λ (z : View). apart x.role z.role ≡ true) k.1 (apart_sym Spent x.role (spent_apart x.role)))
             (λ (k : (l ≢ other) × (get_elem? vs l ≡ some y)). pair i l x y t.1 k.1 n) (at_set vs other l spent_view y q)) (at_set vs other i spent_view x p);
+        gone = λ i l u y p q x h. ⊎_elim
+            (λ (t : (i ≡ other) × (spent_view ≡ u)). absurd (subst (λ (z : View). IsHeard x z.heard) (sym t.1) h))
+            (λ (t : (i ≢ other) × (get_elem? vs i ≡ some u)). ⊎_elim
+            (λ (k : (l ≡ other) × (spent_view ≡ y)). subst (λ (z : View). IsGone x.role z.role) k.1 (spent_apart x.role, (told id (hearing v w) (λ e. ne (sym e)) (at_now s.views id v (hearing v w) there) i u t.1 x h).1))
+            (λ (k : (l ≢ other) × (get_elem? vs l ≡ some y)). told l y k.0 k.1 i u t.1 x h) (at_set vs other l spent_view y q)) (at_set vs other i spent_view u p);
         run = λ q is. run_set vs other w spent_view q at (λ b. absurd (true≢false (sym (subst (λ (z : Role). stands_for z (workers q) ≡ true) (sym b) (same_itself q)) ∙ lazy q))) (run_set s.views id v (hearing v w) q there (λ e. e) (r.run q is));
         held_by = λ p q is. held_set vs other w spent_view q at (λ b. absurd (true≢false (sym b ∙ lazy q))) (held_set s.views id v (hearing v w) q there (λ e. e) (r.held_by p q is));
         lent_by = λ q is. lent_set vs other w spent_view q at (λ b. absurd (bare q b)) (lent_set s.views id v (hearing v w) q there (λ e. e) (r.lent_by q is));
@@ -299,7 +325,7 @@ module _ (L : Layout) where
         legal = r.legal;
         live = r.live;
         orderly = r.orderly;
-        seen = (seat.saw.later, seat.saw.is);
+        seen = seat.saw;
         heard = seat.heard;
         known = λ whole. (let k = r.newest in subst (λ (z : View). Knows z (events_of r.past)) (sym (mine whole k.0 k.1 k.2 k.3)) k.4);
         still = λ whole lazy q is. (let b = r.run q is in let u = b.1 in lazy q (ap (λ (z : View). z.role) (mine whole b.0 u b.2 (((r.seats b.0 u b.2).busy q b.3).0)) ∙ b.3));

@@ -26,7 +26,7 @@ use Rattle.steps.proofs.CellNumbers.{other_cell, other_age, one_word, bits_fit}
 use Rattle.steps.proofs.JournalGrowth.{begins, phase_stays, counted_in, lasts_by, placed_lasts}
 use Rattle.steps.proofs.Frames.{ages_stay, keeps_stays, pipe_stays, done_keeps}
 use Rattle.steps.proofs.ClaimWords.{says_of, cause_fits}
-use Rattle.steps.proofs.RuleKept.{adds_claim, adds_else, owned, seat_sees, run_set, held_set, lent_set, at_now, left_now}
+use Rattle.steps.proofs.RuleKept.{gone_same, adds_claim, adds_else, owned, seat_sees, run_set, held_set, lent_set, at_now, left_now}
 use Rattle.steps.proofs.StepKinds.{now_is, tick, with_line, Does, There, busy_now, extends, same_turns}
 use Rattle.steps.proofs.LoadReleaseBegin.{quiet_line}
 
@@ -115,7 +115,7 @@ module _ (slots id : ℕ) (me : Seated) where
             keeps,
             tt,
             adds_claim L s r id v v.role x new s.homes l (tick slots id me (claim_at x) s (l ∷ r.past)) inside refl (quiet_line L r.past l (ends.plain.fair' L r.past) live (ends.clock' _) (λ p. (refl, ends.plain.flow' (events_of r.past) p)))
-                (same_turns slots id me s r at l ends.plain.begins' legal (has s r at) (ends.plain.lent' r.past) (λ c busy. (let run = (busy_now slots id me s r at c busy).1 in phase_stays l r.past c (ends.concerns' c ∙ same_false q c (λ same'. idle_runs _ said.0 (ap (phase (events_of r.past)) same' ∙ run))) ∙ run))) legal at (owned L s r id v l at own)
+                (same_turns slots id me s r at l own ends.plain.begins' legal (has s r at) (ends.plain.lent' r.past) (λ c busy. (let run = (busy_now slots id me s r at c busy).1 in phase_stays l r.past c (ends.concerns' c ∙ same_false q c (λ same'. idle_runs _ said.0 (ap (phase (events_of r.past)) same' ∙ run))) ∙ run))) legal at (owned L s r id v l at own)
                 (λ y h other k. ends.concerns' (request_at K y k) ∙ other_cell K x y g k inside h other) (λ w. refl) refl (λ y other. refl) record {
                   tag = Done;
                   cause = cause_bits cause (fails e res);
@@ -141,7 +141,7 @@ module _ (slots id : ℕ) (me : Seated) where
             keeps,
             tt,
             adds_else L s r id v w (set s.words i n) s.homes l (quiet.plain.fair' L r.past) legal live at
-                (seat_sees L (l ∷ r.past) t v v.role refl (λ q is. (let b = busy_now slots id me s r at q is in (b.0, stays q ∙ b.1))) (λ q is. (let b = left_now L s r id v at q is in (b.0, subst IsReplied (sym (stays q)) b.1))) (λ q is. has s r at)) refl
+                (seat_sees L (l ∷ r.past) t v v.role refl (λ q is. (let b = busy_now slots id me s r at q is in (b.0, stays q ∙ b.1))) (λ q is. (let b = left_now L s r id v at q is in (b.0, subst IsReplied (sym (stays q)) b.1))) (λ q is. has s r at)) refl (gone_same v.role l own) (λ y h. absurd h)
                 (owned L s r id v l at own) (λ y h k. quiet.concerns' (request_at K y k)) (length-set s.words i n) (λ y. words (claim_at y) (omega arith)) (λ y k h small. words (note_at y k) (omega arith) ∙ r.notes y k h small) clock refl (λ y. refl)
                 (λ p small. subst (λ (m : ℕ). PipeOk L.caps (l ∷ r.past) p m (get_elem? s.homes p)) (sym (words (pipe_at p) (omega arith))) (pipe_stays L.caps l r.past p _ _ refl (λ _. quiet.plain.flow' (events_of r.past) p) (r.pipes p small)))
                 (λ q is. run_set s.views id v w q at (λ z. z) (r.run q (sym (stays q) ∙ is)))

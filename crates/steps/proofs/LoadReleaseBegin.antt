@@ -84,7 +84,7 @@ module _ (slots id : ℕ) (me : Seated) where
         with_line slots id me (claim_at x) s r.past l v.role,
         keeps,
         tt,
-        adds_claim L s r id v v.role x new s.homes l (tick slots id me (claim_at x) s (l ∷ r.past)) inside refl (quiet_line L r.past l (here.0.2, may'.0, may'.1, here.0.3) r.live refl (λ p. (refl, refl))) (same_turns slots id me s r at l refl r.legal has (λ _. refl) (λ q is. absurd (lazy q is))) r.legal at (owned L s r id v l at mine)
+        adds_claim L s r id v v.role x new s.homes l (tick slots id me (claim_at x) s (l ∷ r.past)) inside refl (quiet_line L r.past l (here.0.2, may'.0, may'.1, here.0.3) r.live refl (λ p. (refl, refl))) (same_turns slots id me s r at l mine refl r.legal has (λ _. refl) (λ q is. absurd (lazy q is))) r.legal at (owned L s r id v l at mine)
             (λ y h other k. other_cell K x y g k inside h other) (λ w. refl) refl (λ y other. refl) record {
               tag = Ready;
               cause = 0;
@@ -118,6 +118,7 @@ module _ (slots id : ℕ) (me : Seated) where
         adds_claim L s r id v (Busy q) x new (set s.homes (slot_at x) maybe.none) l (tick slots id me (claim_at x) s (l ∷ r.past)) inside refl (quiet_line L r.past l tt r.live refl (λ p. (refl, refl))) record {
           keeps = (λ p c is own. absurd (true≢false (sym own ∙ ap (λ (z : Role). stands_for z (workers c)) idle)));
           has = has;
+          gone = (λ a g. (unowned a, busy_apart q a (λ c own. absurd (true≢false (sym own ∙ g.1 c)))));
           lends = (λ c is. inr (is, λ z. absurd (let y = sym idle ∙ z in cc)));
           busy = (λ c is. (let same' : q ≡ c = cc in subst (λ (z : Req). phase (events_of (l ∷ r.past)) z ≡ runs) same' running));
           leaving = (λ c is. absurd (cc));

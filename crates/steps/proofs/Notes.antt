@@ -39,7 +39,7 @@ use Rattle.steps.proofs.Roles.{as_lending}
 use Rattle.steps.proofs.JournalGrowth.{begins, ran, lent_stays, counted_in, placed_lasts}
 use Rattle.steps.proofs.Frames.{ages_stay, cell_stays}
 use Rattle.steps.proofs.ClaimWords.{says_of, done_word}
-use Rattle.steps.proofs.RuleKept.{Turns, adds, owned}
+use Rattle.steps.proofs.RuleKept.{LeavesGone, Turns, gone_own, adds, owned}
 use Rattle.steps.proofs.StepKinds.{tick, with_line, Does, There, shaped, seen_legal, lasts_now, lent_now, replied_now, data_now, noted_now, free_now, vacant_now, extends, same_turns}
 use Rattle.steps.proofs.LoadReleaseBegin.{quiet_line, dec_req}
 
@@ -66,9 +66,10 @@ module _ (slots id : ℕ) (me : Seated) where
       (λ ne. get_or-set_other s.words a b n 0 (λ e. ne (sym e)) ∙ (r.notes y i h fits ∙ sym (stored b ∙ ap (λ (t : Bool). cond t n (noted r.past b)) (ne_eqb a b ne))))
 
   -- a seat that changes from the role of a submitter to another, or back, without a worker's part
-  pub turns_by : (s : St) (r : Ruled L s) (l : Line) (role : Role) → begins l ≡ false → Legal S (events_of (l ∷ r.past)) → 0 < v.parts → ((c : Req) → stands_for v.role (workers c) ≡ false) → ((c : Req) → role ≢ Busy c) → ((c : Req) → role ≢ Leaving c)
+  pub turns_by : (s : St) (r : Ruled L s) (l : Line) (role : Role) → LeavesGone v.role l role → begins l ≡ false → Legal S (events_of (l ∷ r.past)) → 0 < v.parts → ((c : Req) → stands_for v.role (workers c) ≡ false) → ((c : Req) → role ≢ Busy c) → ((c : Req) → role ≢ Leaving c)
       → ((q : Req) → lent (l ∷ r.past) q ≡ true → (role ≡ Lending q) ⊎ ((lent r.past q ≡ true) × (v.role ≡ Lending q → role ≡ Lending q))) → Turns r.past l v role
-  turns_by s r l role calm legal has aside lazy' stays lends' = record {
+  turns_by s r l role gone calm legal has aside lazy' stays lends' = record {
+    gone = gone;
     keeps = λ p c is own. absurd (true≢false (sym own ∙ aside c));
     has = has;
     busy = λ c is. absurd (lazy' c is);
@@ -86,7 +87,7 @@ module _ (slots id : ℕ) (me : Seated) where
     submits_here = ap (λ (z : Role). stands_for z (rings (ring_of K x))) mine ∙ eq-eqb (ring_of K x) (ring_of K x) refl
 
     lend_turns : (s : St) (r : Ruled L s) (w n : ℕ) → Turns r.past (Lent q w n) v (Lending q)
-    lend_turns s r w n = turns_by s r (Lent q w n) (Lending q) refl r.legal has (λ c. ap (λ (z : Role). stands_for z (workers c)) mine) (λ c e. cc) (λ c e. cc)
+    lend_turns s r w n = turns_by s r (Lent q w n) (Lending q) (gone_own v.role (Lending q) (Lent q w n) submits_here (λ a g. sym (as_lending q a) ∙ subst (λ (z : Role). apart z a ≡ true) mine g)) refl r.legal has (λ c. ap (λ (z : Role). stands_for z (workers c)) mine) (λ c e. cc) (λ c e. cc)
         (λ c is. dec_req q c (λ same'. inl (ap Lending same')) (λ ne. inr (sym (lent_stays (Lent q w n) r.past c (same_false q c ne)) ∙ is, λ z. absurd (let y = sym mine ∙ z in cc))))
 
     lend_by : (n : ℕ) (s : St) (r : Ruled L s) → There slots id me s → Fair L r.past (Lent q (facts_at x) n) → (y : Option Thing) → get_elem? s.homes (slot_at x) ≡ some (some y)
@@ -189,7 +190,7 @@ module _ (slots id : ℕ) (me : Seated) where
           keeps,
           tt,
           adds L s u id v v.role x (set s.words (user_at x) n) s.homes l (tick slots id me (user_at x) s (l ∷ u.past)) refl (quiet_line L u.past l fair u.live refl (λ p. (refl, refl)))
-              (same_turns slots id me s u at l refl u.legal has (λ _. refl) (λ c is. absurd (let y = sym mine ∙ is in cc))) u.legal at (owned L s u id v l at lends_it)
+              (same_turns slots id me s u at l lends_it refl u.legal has (λ _. refl) (λ c is. absurd (let y = sym mine ∙ is in cc))) u.legal at (owned L s u id v l at lends_it)
               (λ y h other k. refl) (length-set s.words (user_at x) n) (λ y other. get_or-set_other s.words (user_at x) (claim_at y) n 0 (omega arith)) (λ y h. get_or-set_other s.words (user_at x) y n 0 (omega arith))
               (note_set s u x 1 n l inside (omega arith) (λ w. refl)) refl (λ y other. refl)
               (subst (λ (z : ℕ). CellOk K (l ∷ u.past) x z (get_elem? s.homes (slot_at x))) (sym (get_or-set_other s.words (user_at x) (claim_at x) n 0 (omega arith))) (cell_stays S l u.past u.legal K x _ _ (λ _. refl) (u.cells x inside))),

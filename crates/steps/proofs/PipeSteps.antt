@@ -24,21 +24,22 @@ use Rattle.steps.specs.declared.line.Line.{Line}
 use Rattle.steps.specs.declared.line.Line.TheVariants.{Did, Hold, Free}
 use Rattle.steps.specs.declared.parcel.Thing.{Thing}
 use Rattle.steps.specs.declared.parcel.Thing.TheVariants.{Full, Piped}
+use Rattle.steps.specs.declared.view.Heard.{Heard}
 use Rattle.steps.specs.declared.view.Layout.{Layout}
 use Rattle.steps.specs.declared.view.Role.{Role}
-use Rattle.steps.specs.declared.view.Role.TheVariants.{Busy, Leaving, Lending}
+use Rattle.steps.specs.declared.view.Role.TheVariants.{Idle, Busy, Leaving, Lending}
 use Rattle.steps.specs.declared.view.Step.{Step}
 use Rattle.steps.specs.declared.view.View.{View}
 use Rattle.steps.specs.Fairness.{Fair, Orderly}
 use Rattle.steps.specs.Journal.{events_of, lent, noted, holder}
 use Rattle.steps.specs.Cells.{setup_of, request_at, claim_at, note_at, pipe_at, slot_at, Home, PipeIs, PipeSays, PipeOk}
-use Rattle.steps.specs.Rule.{workers, stands_for, owns, apart, SeatOk, IsHeldBy, Knows, Ruled, seeing, Looks, Extends, IsStep, leaves}
+use Rattle.steps.specs.Rule.{workers, stands_for, owns, apart, IsHeard, SeatOk, IsHeldBy, Knows, Ruled, seeing, Looks, Extends, IsStep, leaves}
 use Rattle.steps.specs.Plays.{Seated, HasAlone, HasPipe, pipe_taken, pipe_returned, pipe_left}
 use Rattle.steps.proofs.Roles.{same_sym, idle_apart, idle_none}
 use Rattle.steps.proofs.JournalGrowth.{about, lasts, legal_before, submitted_in, submission_lasts, placed_lasts}
 use Rattle.steps.proofs.Frames.{pipe_stays, still_lacks}
 use Rattle.steps.proofs.PipesKept.{still_has}
-use Rattle.steps.proofs.RuleKept.{heard_more, at_now, run_set, held_set, lent_set, known_set, IsKnown, adds_else, owned, seat_sees, looks}
+use Rattle.steps.proofs.RuleKept.{LeavesGone, heard_more, heard_begin, gone_own, gone_same, at_now, run_set, held_set, lent_set, known_set, IsKnown, adds_else, owned, seat_sees, looks}
 use Rattle.steps.proofs.StepKinds.{tick, Does, There, shaped, busy_now, lacks_now, extends}
 
 -- what stands at a pipe's word and in its slot
@@ -59,7 +60,7 @@ a_pipe caps p (Some (Piped c)) w there is = (c, refl)
 module _ (L : Layout) (s : State (Option Thing) View) (r : Ruled L s) (id : ℕ) (v w : View) (at : get_elem? s.views id ≡ some v) (p : ℕ) (small : p < 64) (l : Line)
     (silent : (j : List Line) → events_of (l ∷ j) ≡ events_of j) (noteless : (j : List Line) (i : ℕ) → noted (l ∷ j) i ≡ noted j i) (unlent : (j : List Line) (c : Req) → lent (l ∷ j) c ≡ lent j c)
     (aside : (c : Req) → about l c ≡ false) (else : (n : ℕ) → n ≢ p → holder (l ∷ r.past) n ≡ holder r.past n) where
-  pipe_line : (n : ℕ) (h : maybe.Option (Option Thing)) → Fair L r.past l → SeatOk L (l ∷ r.past) w → w.parts ≡ v.parts
+  pipe_line : (n : ℕ) (h : maybe.Option (Option Thing)) → Fair L r.past l → SeatOk L (l ∷ r.past) w → w.parts ≡ v.parts → LeavesGone v.role l w.role → ((x : Heard) → IsHeard x w.heard → IsHeard x v.heard)
       → ((i : ℕ) (u : View) → ¬ (i ≡ id) → get_elem? s.views i ≡ some u → (owns u.role l ≡ false) × (apart w.role u.role ≡ true))
       → PipeOk L.caps (l ∷ r.past) p n (some h)
       → ((c : Req) → v.role ≡ Busy c → w.role ≡ Busy c) → ((c : Req) → v.role ≡ Lending c → w.role ≡ Lending c)
@@ -67,9 +68,9 @@ module _ (L : Layout) (s : State (Option Thing) View) (r : Ruled L s) (id : ℕ)
       → ((m : ℕ) (c : Req) → m ≢ p → holder r.past m ≡ Some c → stands_for v.role (workers c) ≡ true → stands_for w.role (workers c) ≡ true)
       → (0 < v.parts → Knows v (events_of r.past) → (0 < w.parts) × Knows w (events_of r.past))
       → Ruled L record { words = set s.words (pipe_at p) n; homes = set s.homes p h; views = set s.views id w }
-  pipe_line n h fair ok parts others pipe runner lender holds keeper knows =
+  pipe_line n h fair ok parts gone fewer others pipe runner lender holds keeper knows =
       let same : events_of (l ∷ r.past) ≡ events_of r.past = silent r.past in let room = r.room in
-      adds_else L s r id v w (set s.words (pipe_at p) n) (set s.homes p h) l fair (subst (Legal (setup_of L)) (sym same) r.legal) (ap was_shut same ∙ r.live) at ok parts others
+      adds_else L s r id v w (set s.words (pipe_at p) n) (set s.homes p h) l fair (subst (Legal (setup_of L)) (sym same) r.legal) (ap was_shut same ∙ r.live) at ok parts gone fewer others
       (λ y inside g. aside (request_at L.cells y g)) (length-set s.words (pipe_at p) n) (λ y. get_or-set_other s.words (pipe_at p) (claim_at y) n 0 (omega arith))
       (λ y i inside few. get_or-set_other s.words (pipe_at p) (note_at y i) n 0 (omega arith) ∙ (r.notes y i inside few ∙ sym (noteless r.past (note_at y i))))
       (get_or-set_other s.words (pipe_at p) 0 n 0 (omega arith) ∙ (r.clock ∙ sym (ap clock_of same)))
@@ -131,7 +132,7 @@ module _ (slots id : ℕ) (me : Seated) where
           w,
           takes p home.1,
           home.2,
-          pipe_line L s r id v w at p small l (λ j. refl) (λ j i. refl) (λ j c. refl) (λ c. refl) (held_else r.past q p) 1 maybe.none home.0 (goes_on s r at l refl t) refl (owned L s r id v l at mine)
+          pipe_line L s r id v w at p small l (λ j. refl) (λ j i. refl) (λ j c. refl) (λ c. refl) (held_else r.past q p) 1 maybe.none home.0 (goes_on s r at l refl t) refl (gone_same v.role l mine) (λ y k. absurd k) (owned L s r id v l at mine)
               (subst (PipeSays L.caps (l ∷ r.past) p 1 (some maybe.none)) (sym (held_here r.past q p)) refl) (λ c is'. is') (λ c is'. is')
               (λ c is'. (let one : q ≡ c = (let z = sym (held_here r.past q p) ∙ is' in cc) in (id, w, at_now s.views id v w at, subst (λ (z : Req). stands_for v.role (workers z) ≡ true) one mine))) (λ m c ne was own. own)
               (λ has k. (has, Rattle.std.proofs.Common.inl refl)),
@@ -146,7 +147,7 @@ module _ (slots id : ℕ) (me : Seated) where
       keeps,
       tt,
       looks L s r id v (pipe_at p) (get_or s.words (pipe_at p) 0) t at refl (busy_now slots id me s r at) (set-get_or s.words (pipe_at p) 0),
-      (let o = is_out L.caps r.past p _ _ (holder r.past p) (r.pipes p small) ne in (record { now = r.past; saw = seat.saw; heard = seat.heard; legal = r.legal; live = r.live; orderly = r.orderly; steps = t; is = refl }, refl, o.0, o.1)),
+      (let o = is_out L.caps r.past p _ _ (holder r.past p) (r.pipes p small) ne in (record { now = r.past; saw = seat.saw; heard = heard_begin r.past v.heard seat.heard; legal = r.legal; live = r.live; orderly = r.orderly; steps = t; is = refl }, refl, o.0, o.1)),
       refl,
     )
 
@@ -184,7 +185,7 @@ module _ (slots id : ℕ) (me : Seated) where
             gives,
             tt,
             subst (λ (cs : List (ℕ × Option Thing)). Ruled L (stepped s (pipe_at p) 0 id cs w gives)) (sym out)
-                (pipe_line L s r id v w at p small l (λ j. refl) (λ j i. refl) (λ j c. refl) (λ c. refl) (freed_else r.past q p) 0 (some (Some (Piped c))) now'.0 (goes_on s r at l refl t) refl (owned L s r id v l at mine)
+                (pipe_line L s r id v w at p small l (λ j. refl) (λ j i. refl) (λ j c. refl) (λ c. refl) (freed_else r.past q p) 0 (some (Some (Piped c))) now'.0 (goes_on s r at l refl t) refl (gone_same v.role l mine) (λ y k. absurd k) (owned L s r id v l at mine)
                 (subst (PipeSays L.caps (l ∷ r.past) p 0 (some (some (Some (Piped c))))) (sym none') (refl, Some (Piped c), refl, subst (PipeIs L.caps p (Some (Piped c))) (sym now'.1) good)) (λ c is'. is') (λ c is'. is')
                 (λ c is'. absurd (let z = sym none' ∙ is' in cc)) (λ m c ne was own. own) (λ has' k. (has', Rattle.std.proofs.Common.inl refl))),
             (λ n d here is has'. let one : p ≡ n = omega arith in let who : q ≡ d = (let z = sym busy ∙ is in cc) in
@@ -207,12 +208,12 @@ module _ (slots id : ℕ) (me : Seated) where
     leave_does : (s : St) (r : Ruled L s) → There slots id me s → Does slots id me L s (pipe_at p) 0 (pipe_left (step slots (pipe_at p) 0 0 none) me 0)
     leave_does s r at =
         let l : Line = Free q p in let n : ℕ = get_or s.words (pipe_at p) 0 in let w : View = leaves (pipe_at p) n v in let now' = has_now s r at q p stays there has.0 in let none' = freed_here r.past q p in let seat = r.seats id v at in
-        let ok : SeatOk L (l ∷ r.past) w = record { layout = λ _. refl; saw = record { later = l ∷ seat.saw.later; is = ap (λ (j : List Line). l ∷ j) seat.saw.is; none = idle_none (l ∷ seat.saw.later) }; heard = heard_more l r.past v.heard seat.heard; busy = (λ c is. absurd (cc)); leaving = (λ c is. absurd (cc)); lending = (λ c is. absurd (cc)) } in (
+        let ok : SeatOk L (l ∷ r.past) w = record { layout = λ _. refl; saw = record { later = l ∷ seat.saw.later; is = ap (λ (j : List Line). l ∷ j) seat.saw.is; none = idle_none (l ∷ seat.saw.later) }; heard = heard_more l r.past v.heard (λ y k. (r.gone id id v v at at y k).1 q) seat.heard; busy = (λ c is. absurd (cc)); leaving = (λ c is. absurd (cc)); lending = (λ c is. absurd (cc)) } in (
           w,
           gives,
           tt,
           subst (λ (cs : List (ℕ × Option Thing)). Ruled L (stepped s (pipe_at p) 0 id cs w gives)) (sym out)
-              (pipe_line L s r id v w at p small l (λ j. refl) (λ j i. refl) (λ j c. refl) (λ c. refl) (freed_else r.past q p) 0 (some (Some (Piped c))) now'.0 ok refl (λ i u other at'. ((owned L s r id v l at stays i u other at').0, idle_apart u.role))
+              (pipe_line L s r id v w at p small l (λ j. refl) (λ j i. refl) (λ j c. refl) (λ c. refl) (freed_else r.past q p) 0 (some (Some (Piped c))) now'.0 ok refl (gone_own v.role Idle l stays (λ a _. idle_apart a)) (λ y k. k) (λ i u other at'. ((owned L s r id v l at stays i u other at').0, idle_apart u.role))
               (subst (PipeSays L.caps (l ∷ r.past) p 0 (some (some (Some (Piped c))))) (sym none') (refl, Some (Piped c), refl, subst (PipeIs L.caps p (Some (Piped c))) (sym now'.1) good))
               (λ d is'. absurd (let y = sym leaving ∙ is' in cc)) (λ d is'. absurd (let y = sym leaving ∙ is' in cc))
               (λ d is'. absurd (let z = sym none' ∙ is' in cc)) (λ m d ne was own. absurd (lacks_now slots id me s r at q m stays (has.1 m ne) (was ∙ ap Some (sym (only d own))))) (λ has' k. (has', k))),

@@ -40,7 +40,7 @@ use Rattle.steps.proofs.Roles.{idle_apart, leaving_apart}
 use Rattle.steps.proofs.JournalGrowth.{begins, ran, counted_in, submission_lasts, placed_lasts}
 use Rattle.steps.proofs.Frames.{may_stays, ages_stay, done_keeps}
 use Rattle.steps.proofs.ClaimWords.{says_of, running_word, cause_fits}
-use Rattle.steps.proofs.RuleKept.{Calm, Turns, adds_claim, owned}
+use Rattle.steps.proofs.RuleKept.{Calm, Turns, gone_own, adds_claim, owned}
 use Rattle.steps.proofs.StepKinds.{now_is, tick, with_line, Does, There, seen_legal, lasts_now, busy_now, extends, ends_run, sures, Out, home_again}
 use Rattle.steps.proofs.LoadReleaseBegin.{quiet_line}
 
@@ -65,8 +65,9 @@ module _ (slots id : ℕ) (me : Seated) where
   parcel_now s r at q data' p c k = (k.0, lasts_now slots id me s r at (λ h. submission h q ≡ Some (record { entry = p.sqe; bytes = k.0; last = p.last })) q (submission_lasts S q _) c k.1, k.2)
 
   -- a worker that has its pipe leaves with the request that it ran
-  leaves_run : (s : St) (r : Ruled L s) → There slots id me s → (l : Line) (q : Req) → begins l ≡ false → Legal S (events_of (l ∷ r.past)) → v.role ≡ Busy q → IsReplied (phase (events_of (l ∷ r.past)) q) → ((c : Req) → lent (l ∷ r.past) c ≡ lent r.past c) → Turns r.past l v (Leaving q)
-  leaves_run s r at l q calm legal busy over quiet = record {
+  leaves_run : (s : St) (r : Ruled L s) → There slots id me s → (l : Line) (q : Req) → owns v.role l ≡ true → begins l ≡ false → Legal S (events_of (l ∷ r.past)) → v.role ≡ Busy q → IsReplied (phase (events_of (l ∷ r.past)) q) → ((c : Req) → lent (l ∷ r.past) c ≡ lent r.past c) → Turns r.past l v (Leaving q)
+  leaves_run s r at l q own calm legal busy over quiet = record {
+    gone = gone_own v.role (Leaving q) l own (λ a g. leaving_apart q a (subst (λ (z : Role). apart z a ≡ true) busy g));
     has = (busy_now slots id me s r at q busy).0;
     lends = λ c is. inr (sym (quiet c) ∙ is, λ z. absurd (let y = sym busy ∙ z in cc));
     keeps = λ p c is own. subst (λ (z : Role). stands_for z (workers c) ≡ true) busy own;
@@ -158,13 +159,13 @@ module _ (slots id : ℕ) (me : Seated) where
     pub reply_allows : (M : Layout) (e : Entry) (b old new : ℕ) (res : ℤ) → MayReply me x q e res data' → ((n : ℕ) → holder v.seen n ≢ Some q) → old ≡ word_of Running 0 g 0 → new ≡ word_of Done (cause_bits by_reply (fails e res)) g b → b < 4294967296 → reply_bits res b
         → Allows (Ruled M) slots id me (claim_at x) (λ n. either (eqb n old) new n) (sure Running (replied_with (λ r. Idle)) (step slots (claim_at x) old new none) me)
     reply_allows M e b old new res may bare is_old is_new fb bits = allows (λ r. Idle) e res may M b old new
-        (λ s r at legal. ends_run slots id me s r at (Did (Reply q res data')) q refl legal busy (λ u. (let z = sym (done (λ r. Idle) e res may (events_of r.past)) ∙ u in cc)) bare (λ _. refl)) (λ u _. idle_apart u) is_old is_new fb bits
+        (λ s r at legal. ends_run slots id me s r at (Did (Reply q res data')) q (own_line (Did (Reply q res data')) (same_itself q)) refl legal busy (λ u. (let z = sym (done (λ r. Idle) e res may (events_of r.past)) ∙ u in cc)) bare (λ _. refl)) (λ u _. idle_apart u) is_old is_new fb bits
 
     -- and one with its pipe leaves
     pub reply_holding_allows : (M : Layout) (e : Entry) (b old new : ℕ) (res : ℤ) → MayReply me x q e res data' → old ≡ word_of Running 0 g 0 → new ≡ word_of Done (cause_bits by_reply (fails e res)) g b → b < 4294967296 → reply_bits res b
         → Allows (Ruled M) slots id me (claim_at x) (λ n. either (eqb n old) new n) (sure Running (replied_with Leaving) (step slots (claim_at x) old new none) me)
     reply_holding_allows M e b old new res may is_old is_new fb bits = allows Leaving e res may M b old new
-        (λ s r at legal. leaves_run s r at (Did (Reply q res data')) q refl legal busy (subst IsReplied (sym (done Leaving e res may (events_of r.past))) tt) (λ _. refl)) (leaving_apart q) is_old is_new fb bits
+        (λ s r at legal. leaves_run s r at (Did (Reply q res data')) q (own_line (Did (Reply q res data')) (same_itself q)) refl legal busy (subst IsReplied (sym (done Leaving e res may (events_of r.past))) tt) (λ _. refl)) (leaving_apart q) is_old is_new fb bits
 
     -- PARK
     park_does : (old new : ℕ) → hit (events_of v.seen) q ≡ nothing → data' ≡ [] → ((n : ℕ) → holder v.seen n ≢ Some q) → new ≡ word_of Ready 0 g 0 → (s : St) (r : Ruled L s) → There slots id me s → (get_or s.words (claim_at x) 0 ≡ word_of Running 0 g 0) × Does slots id me L s (claim_at x) new (parked (step slots (claim_at x) old new none) me x q)
@@ -179,7 +180,7 @@ module _ (slots id : ℕ) (me : Seated) where
             gives,
             tt,
             home_again slots id me x new (Some (Full p)) s (with_line slots id me (claim_at x) s r.past l Idle) out (adds_claim L s r id v Idle x new (set s.homes (slot_at x) (some (Some (Full p)))) l (tick slots id me (claim_at x) s (l ∷ r.past)) inside refl (quiet_line L r.past l fair r.live refl (λ p. (refl, refl)))
-                (ends_run slots id me s r at l q refl legal busy (λ u. (let z = sym waiting ∙ u in cc)) bare (λ _. refl)) legal at
+                (ends_run slots id me s r at l q (own_line l (same_itself q)) refl legal busy (λ u. (let z = sym waiting ∙ u in cc)) bare (λ _. refl)) legal at
                 (λ i u other there. ((owned L s r id v l at (own_line l (same_itself q)) i u other there).0, idle_apart u.role))
                 (λ y h other k. other_cell K x y g k inside h other) (λ w. refl) (length-set s.homes (slot_at x) (some (Some (Full p)))) (λ y other. set_else s.homes (slot_at x) y (some (Some (Full p))) other) record {
                   tag = Ready;

@@ -14,6 +14,7 @@ use Rattle.history.specs.Pipes.{flow}
 use Rattle.history.specs.Legal.{Legal}
 use Rattle.steps.specs.declared.line.Line.{Line}
 use Rattle.steps.specs.declared.parcel.Thing.{Thing}
+use Rattle.steps.specs.declared.view.Heard.{Heard}
 use Rattle.steps.specs.declared.view.Layout.{Layout}
 use Rattle.steps.specs.declared.view.Role.{Role}
 use Rattle.steps.specs.declared.view.Role.TheVariants.{Busy, Leaving, Lending}
@@ -22,14 +23,28 @@ use Rattle.steps.specs.declared.view.View.{View}
 use Rattle.steps.specs.Fairness.{Fair}
 use Rattle.steps.specs.Journal.{events_of, lent, noted, holder}
 use Rattle.steps.specs.Cells.{setup_of, IsCell, CellOk, PipeOk, Home, claim_at, note_at, pipe_at, slot_at}
-use Rattle.steps.specs.Rule.{workers, stands_for, owns, apart, AllBegin, SeatOk, parts_of, IsRunBy, IsHeldBy, IsLentBy, Knows, Ruled, seeing}
+use Rattle.steps.specs.Rule.{workers, stands_for, owns, apart, IsHeard, AllBegin, AllSaw, IsGone, SeatOk, parts_of, IsRunBy, IsHeldBy, IsLentBy, Knows, Ruled, seeing}
 use Rattle.steps.proofs.Roles.{apart_sym, others_own}
 use Rattle.steps.proofs.JournalGrowth.{replied_later}
 use Rattle.steps.proofs.Frames.{Quiet, cell_stays, pipe_stays}
 
-pub heard_more : (l : Line) (j : List Line) (xs : List (List Line)) → AllBegin j xs → AllBegin (l ∷ j) xs
-heard_more l j [] a = tt
-heard_more l j (x ∷ xs) a = ((l ∷ a.0.0, ap (λ (z : List Line). l ∷ z) a.0.1), heard_more l j xs a.1)
+-- one line more, which nobody who told anything owns
+pub heard_more : (l : Line) (j : List Line) (xs : List Heard) → ((x : Heard) → IsHeard x xs → owns x.role l ≡ false) → AllSaw j xs → AllSaw (l ∷ j) xs
+heard_more l j xs n a x h = let s = a x h in record { later = l ∷ s.later; is = ap (λ (z : List Line). l ∷ z) s.is; none = (n x h, s.none) }
+
+pub heard_begin : (j : List Line) (xs : List Heard) → AllSaw j xs → AllBegin j xs
+heard_begin j xs a x h = let s = a x h in (s.later, s.is)
+
+-- from this role the seat goes on to that one by the line: who is gone stays gone, and it is no line of theirs
+abbrev pub LeavesGone : Role → Line → Role → Type 0
+LeavesGone a l b = (gone : Role) → IsGone gone a → (owns gone l ≡ false) × (apart b gone ≡ true)
+
+-- by its own line
+pub gone_own : (a b : Role) (l : Line) → owns a l ≡ true → ((x : Role) → apart a x ≡ true → apart b x ≡ true) → LeavesGone a l b
+gone_own a b l own spread x g = (others_own a x l g.0 own, spread x g.0)
+
+pub gone_same : (a : Role) (l : Line) → owns a l ≡ true → LeavesGone a l a
+gone_same a l own = gone_own a a l own (λ x g. g)
 
 pub at_now : (vs : List View) (id : ℕ) (v w : View) → get_elem? vs id ≡ some v → get_elem? (set vs id w) id ≡ some w
 at_now [] id v w e = absurd (some-ne-none v (sym e))
@@ -84,6 +99,7 @@ pub record Turns (past : List Line) (l : Line) (v : View) (role : Role) : Type 0
   pub busy : (q : Req) → role ≡ Busy q → phase (events_of (l ∷ past)) q ≡ runs
   pub leaving : (q : Req) → role ≡ Leaving q → IsReplied (phase (events_of (l ∷ past)) q)
   pub lends : (q : Req) → lent (l ∷ past) q ≡ true → (role ≡ Lending q) ⊎ ((lent past q ≡ true) × (v.role ≡ Lending q → role ≡ Lending q))
+  pub gone : LeavesGone v.role l role
   pub running : (q : Req) → phase (events_of (l ∷ past)) q ≡ runs → (role ≡ Busy q) ⊎ ((phase (events_of past) q ≡ runs) × (v.role ≡ Busy q → role ≡ Busy q))
 
 module _ (L : Layout) where
@@ -93,18 +109,18 @@ module _ (L : Layout) where
   abbrev pub St : Type 0
   St = State (Option Thing) View
 
-  pub seat_stays : (l : Line) (j : List Line) (v : View) → owns v.role l ≡ false → SeatOk L j v → SeatOk L (l ∷ j) v
-  seat_stays l j v n s = record {
+  pub seat_stays : (l : Line) (j : List Line) (v : View) → owns v.role l ≡ false → ((x : Heard) → IsHeard x v.heard → owns x.role l ≡ false) → SeatOk L j v → SeatOk L (l ∷ j) v
+  seat_stays l j v n heard s = record {
     layout = s.layout;
     saw = record { later = l ∷ s.saw.later; is = ap (λ (z : List Line). l ∷ z) s.saw.is; none = (n, s.saw.none) };
-    heard = heard_more l j v.heard s.heard;
+    heard = heard_more l j v.heard heard s.heard;
     busy = s.busy;
     leaving = s.leaving;
     lending = s.lending;
   }
 
   pub seat_sees : (j : List Line) (t : List Step) (v : View) (role : Role) → v.layout ≡ L → ((q : Req) → role ≡ Busy q → (0 < v.parts) × (phase (events_of j) q ≡ runs)) → ((q : Req) → role ≡ Leaving q → (0 < v.parts) × IsReplied (phase (events_of j) q)) → ((q : Req) → role ≡ Lending q → 0 < v.parts) → SeatOk L j (seeing v role j t)
-  seat_sees j t v role layout busy leaving lending = record { layout = λ _. layout; saw = record { later = []; is = refl; none = tt }; heard = tt; busy = busy; leaving = leaving; lending = lending }
+  seat_sees j t v role layout busy leaving lending = record { layout = λ _. layout; saw = record { later = []; is = refl; none = tt }; heard = λ x h. absurd h; busy = busy; leaving = leaving; lending = lending }
 
   -- what a seat that leaves its request is known to have
   pub left_now : (s : St) (r : Ruled L s) (i : ℕ) (u : View) → get_elem? s.views i ≡ some u → (q : Req) → u.role ≡ Leaving q → (0 < u.parts) × IsReplied (phase (events_of r.past) q)
@@ -121,6 +137,18 @@ module _ (L : Layout) where
       (λ (t : (¬ (i ≡ id)) × (get_elem? vs i ≡ some a)). ⊎_elim
       (λ (u : (l ≡ id) × (w ≡ b)). subst (λ (z : View). apart a.role z.role ≡ true) u.1 (apart_sym w.role a.role (new i a t.0 t.1)))
       (λ (u : (¬ (l ≡ id)) × (get_elem? vs l ≡ some b)). old i l a b t.1 u.1 n) (at_set vs id l w b q)) (at_set vs id i w a p)
+
+  -- who is gone stays gone where the one seat that changes heard no more, and stays apart from them
+  gone_set : (vs : List View) (id : ℕ) (v w : View) → get_elem? vs id ≡ some v
+      → ((i l : ℕ) (a b : View) → get_elem? vs i ≡ some a → get_elem? vs l ≡ some b → (x : Heard) → IsHeard x a.heard → IsGone x.role b.role)
+      → ((x : Heard) → IsHeard x w.heard → IsHeard x v.heard) → ((gone : Role) → IsGone gone v.role → apart w.role gone ≡ true)
+      → (i l : ℕ) (a b : View) → get_elem? (set vs id w) i ≡ some a → get_elem? (set vs id w) l ≡ some b → (x : Heard) → IsHeard x a.heard → IsGone x.role b.role
+  gone_set vs id v w there old fewer spread i l a b p q x h =
+      let from : (k : ℕ) (c : View) → get_elem? vs k ≡ some c → IsHeard x c.heard → IsGone x.role b.role = λ k c at h'. ⊎_elim
+      (λ (u : (l ≡ id) × (w ≡ b)). let g = old k id c v at there x h' in subst (λ (z : View). IsGone x.role z.role) u.1 (spread x.role g, g.1))
+      (λ (u : (¬ (l ≡ id)) × (get_elem? vs l ≡ some b)). old k l c b at u.1 x h') (at_set vs id l w b q) in ⊎_elim
+      (λ (t : (i ≡ id) × (w ≡ a)). from id v there (fewer x (subst (λ (z : View). IsHeard x z.heard) (sym t.1) h)))
+      (λ (t : (¬ (i ≡ id)) × (get_elem? vs i ≡ some a)). from i a t.1 h) (at_set vs id i w a p)
 
   seats_set : (vs : List View) (id : ℕ) (w : View) (j : List Line) → SeatOk L j w → ((l : ℕ) (u : View) → ¬ (l ≡ id) → get_elem? vs l ≡ some u → SeatOk L j u)
       → (l : ℕ) (u : View) → get_elem? (set vs id w) l ≡ some u → SeatOk L j u
@@ -150,8 +178,9 @@ module _ (L : Layout) where
     notes = notes;
     clock = low 0 (omega arith) ∙ (r.clock ∙ sym calm.clock);
     pipes = λ p h. subst (λ (z : ℕ × Home). PipeOk L.caps (l ∷ r.past) p z.0 z.1) (λ i. (sym (low (pipe_at p) (omega arith)) i, sym (slots p (omega arith)) i)) (pipe_stays L.caps l r.past p _ _ (calm.pipes p).0 (calm.pipes p).1 (r.pipes p h));
-    seats = seats_set s.views id (seeing v role (l ∷ r.past) t) (l ∷ r.past) (seat_sees (l ∷ r.past) t v role layout (λ q is. (turns.has, turns.busy q is)) (λ q is. (turns.has, turns.leaving q is)) (λ q is. turns.has)) (λ i u apart' at. seat_stays l r.past u (others i u apart' at).0 (r.seats i u at));
+    seats = seats_set s.views id (seeing v role (l ∷ r.past) t) (l ∷ r.past) (seat_sees (l ∷ r.past) t v role layout (λ q is. (turns.has, turns.busy q is)) (λ q is. (turns.has, turns.leaving q is)) (λ q is. turns.has)) (λ i u apart' at. seat_stays l r.past u (others i u apart' at).0 (λ y h. (turns.gone y.role (r.gone i id u v at there y h)).0) (r.seats i u at));
     roles = roles_set s.views id (seeing v role (l ∷ r.past) t) r.roles (λ i u apart' at. (others i u apart' at).1);
+    gone = gone_set s.views id v (seeing v role (l ∷ r.past) t) there r.gone (λ y h. absurd h) (λ a g. (turns.gone a g).1);
     run = λ q is. ⊎_elim (λ (mine : role ≡ Busy q). (id, seeing v role (l ∷ r.past) t, at_now s.views id v (seeing v role (l ∷ r.past) t) there, mine))
         (λ (k : (phase (events_of r.past) q ≡ runs) × (v.role ≡ Busy q → role ≡ Busy q)). run_set s.views id v (seeing v role (l ∷ r.past) t) q there k.1 (r.run q k.0)) (turns.running q is);
     held_by = λ p q is. (let old : holder r.past p ≡ Some q = sym (calm.pipes p).0 ∙ is in held_set s.views id v (seeing v role (l ∷ r.past) t) q there (turns.keeps p q old) (r.held_by p q old));
@@ -178,6 +207,7 @@ module _ (L : Layout) where
   -- one line more, about no cell: the words and slots of the cells stay, and the seat's view becomes w
   pub adds_else : (s : St) (r : Ruled L s) (id : ℕ) (v w : View) (words' : List ℕ) (homes' : List (maybe.Option (Option Thing))) (l : Line)
       → Fair L r.past l → Legal (setup_of L) (events_of (l ∷ r.past)) → was_shut (events_of (l ∷ r.past)) ≡ false → get_elem? s.views id ≡ some v → SeatOk L (l ∷ r.past) w → w.parts ≡ v.parts
+      → LeavesGone v.role l w.role → ((x : Heard) → IsHeard x w.heard → IsHeard x v.heard)
       → ((i : ℕ) (u : View) → ¬ (i ≡ id) → get_elem? s.views i ≡ some u → (owns u.role l ≡ false) × (apart w.role u.role ≡ true))
       → ((y : ℕ) → IsCell K y → Quiet K l y)
       → length words' ≡ length s.words → ((y : ℕ) → get_or words' (claim_at y) 0 ≡ get_or s.words (claim_at y) 0) → ((y i : ℕ) → IsCell K y → i < 7 → get_or words' (note_at y i) 0 ≡ noted (l ∷ r.past) (note_at y i))
@@ -189,7 +219,7 @@ module _ (L : Layout) where
       → ((q : Req) → lent (l ∷ r.past) q ≡ true → IsLentBy (set s.views id w) q)
       → IsKnown (set s.views id w) (events_of (l ∷ r.past))
       → Ruled L record { words = words'; homes = homes'; views = set s.views id w }
-  adds_else s r id v w words' homes' l fair legal live there ok parts others quiet wide words notes clock deep slots pipes run held lent newest = record {
+  adds_else s r id v w words' homes' l fair legal live there ok parts leaves' fewer others quiet wide words notes clock deep slots pipes run held lent newest = record {
     past = l ∷ r.past;
     legal = legal;
     live = live;
@@ -201,8 +231,9 @@ module _ (L : Layout) where
     notes = notes;
     clock = clock;
     pipes = pipes;
-    seats = seats_set s.views id w (l ∷ r.past) ok (λ i u apart' at. seat_stays l r.past u (others i u apart' at).0 (r.seats i u at));
+    seats = seats_set s.views id w (l ∷ r.past) ok (λ i u apart' at. seat_stays l r.past u (others i u apart' at).0 (λ y h. (leaves' y.role (r.gone i id u v at there y h)).0) (r.seats i u at));
     roles = roles_set s.views id w r.roles (λ i u apart' at. (others i u apart' at).1);
+    gone = gone_set s.views id v w there r.gone fewer (λ a g. (leaves' a g).1);
     run = run;
     held_by = held;
     lent_by = lent;
@@ -233,6 +264,7 @@ module _ (L : Layout) where
     pipes = λ p h. subst (λ z. PipeOk L.caps r.past p (get_or z (pipe_at p) 0) (get_elem? s.homes p)) (sym same) (r.pipes p h);
     seats = seats_set s.views id (seeing v v.role r.past t) r.past (seat_sees r.past t v v.role layout busy (left_now s r id v at) (r.seats id v at).lending) (λ l u _ there. r.seats l u there);
     roles = roles_set s.views id (seeing v v.role r.past t) r.roles (λ l u other there. r.roles id l v u at there (λ e. other (sym e)));
+    gone = gone_set s.views id v (seeing v v.role r.past t) at r.gone (λ y h. absurd h) (λ a g. g.0);
     run = λ q is. run_set s.views id v (seeing v v.role r.past t) q at (λ z. z) (r.run q is);
     held_by = λ p q is. held_set s.views id v (seeing v v.role r.past t) q at (λ z. z) (r.held_by p q is);
     lent_by = λ q is. lent_set s.views id v (seeing v v.role r.past t) q at (λ z. z) (r.lent_by q is);

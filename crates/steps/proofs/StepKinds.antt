@@ -29,15 +29,15 @@ use Rattle.steps.specs.declared.view.View.{View}
 use Rattle.steps.specs.Fairness.{Fair, Orderly, IsFree}
 use Rattle.steps.specs.Journal.{events_of, freed, lent, noted, holder}
 use Rattle.steps.specs.Cells.{setup_of, IsCell, ring_of, request_at, CellOk, Ages, claim_at, note_at, slot_at, word_of}
-use Rattle.steps.specs.Rule.{workers, rings, stands_for, NoneOf, Vacant, Ruled, seeing, IsStep, Extends}
+use Rattle.steps.specs.Rule.{workers, rings, stands_for, owns, NoneOf, Vacant, Ruled, seeing, IsStep, Extends}
 use Rattle.steps.specs.Plays.{Seated, At, is_idle, looked, noticed, tried, tried_idle, sure}
 use Rattle.steps.proofs.CellNumbers.{one_word}
-use Rattle.steps.proofs.Roles.{same_sym, worker_is}
+use Rattle.steps.proofs.Roles.{idle_apart, same_sym, worker_is}
 use Rattle.steps.proofs.JournalGrowth.{begins, ran, replied_by, legal_before, still_runs, still_reaped, still_replied, still_data, same_submits, same_lent, same_before, Lasting, lasts}
 use Rattle.steps.proofs.Frames.{still_lacks}
 use Rattle.steps.proofs.FreeCells.{free_later, same_noted}
 use Rattle.steps.proofs.ClaimWords.{certain, empty_word, says_of}
-use Rattle.steps.proofs.RuleKept.{Turns, looks, left_now}
+use Rattle.steps.proofs.RuleKept.{Turns, heard_begin, gone_own, gone_same, looks, left_now}
 
 abbrev pub in_hand : List (ℕ × Option Thing) → Option Thing
 in_hand [] = None
@@ -162,11 +162,12 @@ module _ (slots id : ℕ) (me : Seated) where
         let here = says_of K r.past x _ _ Empty 0 g 0 (r.cells x inside) word (omega arith) f (omega arith) in (word, new, here.0.4, here.1, here.0.3)
 
   pub extends : (s : St) (r : Ruled L s) → There s → (l : Line) (role : Role) → Legal S (events_of (l ∷ r.past)) → was_shut (events_of (l ∷ r.past)) ≡ false → Fair L r.past l → (t : List Step) → Extends v l role (seeing v role (l ∷ r.past) t)
-  extends s r at l role legal live fair t = let seat = r.seats id v at in record { mid = r.past; saw = seat.saw; heard = seat.heard; legal = legal; live = live; orderly = (fair, r.orderly); steps = t; is = refl }
+  extends s r at l role legal live fair t = let seat = r.seats id v at in record { mid = r.past; saw = seat.saw; heard = heard_begin r.past v.heard seat.heard; legal = legal; live = live; orderly = (fair, r.orderly); steps = t; is = refl }
 
   -- who keeps his role keeps what it owes
-  pub same_turns : (s : St) (r : Ruled L s) → There s → (l : Line) → begins l ≡ false → Legal S (events_of (l ∷ r.past)) → 0 < v.parts → ((q : Req) → lent (l ∷ r.past) q ≡ lent r.past q) → ((q : Req) → v.role ≡ Busy q → phase (events_of (l ∷ r.past)) q ≡ runs) → Turns r.past l v v.role
-  same_turns s r at l calm legal has quiet going = record {
+  pub same_turns : (s : St) (r : Ruled L s) → There s → (l : Line) → owns v.role l ≡ true → begins l ≡ false → Legal S (events_of (l ∷ r.past)) → 0 < v.parts → ((q : Req) → lent (l ∷ r.past) q ≡ lent r.past q) → ((q : Req) → v.role ≡ Busy q → phase (events_of (l ∷ r.past)) q ≡ runs) → Turns r.past l v v.role
+  same_turns s r at l own calm legal has quiet going = record {
+    gone = gone_same v.role l own;
     keeps = λ _ _ _ z. z;
     has = has;
     lends = λ q is. Rattle.std.proofs.Common.inr (sym (quiet q) ∙ is, λ z. z);
@@ -176,8 +177,9 @@ module _ (slots id : ℕ) (me : Seated) where
   }
 
   -- a worker that has no pipe ends with the request that it runs
-  pub ends_run : (s : St) (r : Ruled L s) → There s → (l : Line) (q : Req) → begins l ≡ false → Legal S (events_of (l ∷ r.past)) → v.role ≡ Busy q → phase (events_of (l ∷ r.past)) q ≢ runs → ((p : ℕ) → holder v.seen p ≢ Some q) → ((q : Req) → lent (l ∷ r.past) q ≡ lent r.past q) → Turns r.past l v Idle
-  ends_run s r at l q calm legal busy over bare quiet = record {
+  pub ends_run : (s : St) (r : Ruled L s) → There s → (l : Line) (q : Req) → owns v.role l ≡ true → begins l ≡ false → Legal S (events_of (l ∷ r.past)) → v.role ≡ Busy q → phase (events_of (l ∷ r.past)) q ≢ runs → ((p : ℕ) → holder v.seen p ≢ Some q) → ((q : Req) → lent (l ∷ r.past) q ≡ lent r.past q) → Turns r.past l v Idle
+  ends_run s r at l q own calm legal busy over bare quiet = record {
+    gone = gone_own v.role Idle l own (λ a _. idle_apart a);
     has = (busy_now s r at q busy).0;
     lends = λ c is. Rattle.std.proofs.Common.inr (sym (quiet c) ∙ is, λ z. absurd (let y = sym busy ∙ z in cc));
     keeps = λ p c is own. absurd (let same' : q ≡ c = same_true q c (same_sym q c ∙ subst (λ (z : Role). stands_for z (workers c) ≡ true) busy own) in
@@ -201,7 +203,7 @@ module _ (slots id : ℕ) (me : Seated) where
     tt,
     looks L s r id v (claim_at x) (get_or s.words (claim_at x) 0) (tick (claim_at x) s r.past) at refl (busy_now s r at) (set-get_or s.words (claim_at x) 0),
     (
-      (let seat = r.seats id v at in record { now = r.past; saw = seat.saw; heard = seat.heard; legal = r.legal; live = r.live; orderly = r.orderly; steps = tick (claim_at x) s r.past; is = refl }),
+      (let seat = r.seats id v at in record { now = r.past; saw = seat.saw; heard = heard_begin r.past v.heard seat.heard; legal = r.legal; live = r.live; orderly = r.orderly; steps = tick (claim_at x) s r.past; is = refl }),
       refl,
       (λ y e inside. let q : y ≡ x = omega arith in (get_elem? s.homes (slot_at y), subst (λ (z : ℕ). CellOk K r.past y (get_or s.words (claim_at z) 0) (get_elem? s.homes (slot_at y))) q (r.cells y inside))),
       refl,
@@ -217,7 +219,7 @@ module _ (slots id : ℕ) (me : Seated) where
     tt,
     looks L s r id v (note_at x i) (get_or s.words (note_at x i) 0) (tick (note_at x i) s r.past) at refl (busy_now s r at) (set-get_or s.words (note_at x i) 0),
     (
-      (let seat = r.seats id v at in record { now = r.past; saw = seat.saw; heard = seat.heard; legal = r.legal; live = r.live; orderly = r.orderly; steps = tick (note_at x i) s r.past; is = refl }),
+      (let seat = r.seats id v at in record { now = r.past; saw = seat.saw; heard = heard_begin r.past v.heard seat.heard; legal = r.legal; live = r.live; orderly = r.orderly; steps = tick (note_at x i) s r.past; is = refl }),
       refl,
       (λ y k e inside' small'. ap (λ z. get_or s.words z 0) e ∙ (r.notes y k inside' small')),
       refl,

@@ -40,7 +40,7 @@ use Rattle.steps.proofs.JournalGrowth.{about, begins, lent_stays, counted_in, pl
 use Rattle.steps.proofs.Frames.{ages_stay}
 use Rattle.steps.proofs.ClaimWords.{done_word, cause_fits}
 use Rattle.steps.proofs.Submissions.{before_own}
-use Rattle.steps.proofs.RuleKept.{Turns, adds_claim, owned}
+use Rattle.steps.proofs.RuleKept.{Turns, gone_own, adds_claim, owned}
 use Rattle.steps.proofs.StepKinds.{in_hand, same_parcel, now_is, tick, with_line, Does, There, seen_legal, lasts_now, submits_now, lent_now, before_now, replied_now, noted_now, free_now, vacant_now, extends, sures, Out, home_again}
 use Rattle.steps.proofs.LoadReleaseBegin.{quiet_line, dec_req}
 use Rattle.steps.proofs.Notes.{turns_by}
@@ -72,8 +72,8 @@ module _ (slots id : ℕ) (me : Seated) where
     lends_here : stands_for v.role (rings (ring_of K x)) ≡ true
     lends_here = ap (λ (z : Role). stands_for z (rings (ring_of K x))) mine ∙ eq-eqb (ring_of K x) (ring_of K x) refl
 
-    back_turns : (s : St) (r : Ruled L s) (l : Line) → begins l ≡ false → Legal S (events_of (l ∷ r.past)) → ((c : Req) → lent (l ∷ r.past) c ≡ cond (same q c) false (lent r.past c)) → Turns r.past l v back
-    back_turns s r l calm legal gives' = turns_by slots id me s r l back calm legal has (λ c. ap (λ (z : Role). stands_for z (workers c)) mine) (λ c e. cc) (λ c e. cc)
+    back_turns : (s : St) (r : Ruled L s) (l : Line) → owns (Lending q) l ≡ true → begins l ≡ false → Legal S (events_of (l ∷ r.past)) → ((c : Req) → lent (l ∷ r.past) c ≡ cond (same q c) false (lent r.past c)) → Turns r.past l v back
+    back_turns s r l own calm legal gives' = turns_by slots id me s r l back (gone_own v.role back l (subst (λ (z : Role). owns z l ≡ true) (sym mine) own) (λ a g. as_lending q a ∙ subst (λ (z : Role). apart z a ≡ true) mine g)) calm legal has (λ c. ap (λ (z : Role). stands_for z (workers c)) mine) (λ c e. cc) (λ c e. cc)
         (λ c is. dec_req q c (λ same'. absurd (true≢false (sym is ∙ (gives' c ∙ ap (λ (b : Bool). cond b false (lent r.past c)) (subst (λ (z : Req). same q z ≡ true) same' (same_itself q))))))
         (λ ne. inr (sym (gives' c ∙ ap (λ (b : Bool). cond b false (lent r.past c)) (same_false q c ne)) ∙ is, λ z. absurd (ne (let y = sym mine ∙ z in cc)))))
 
@@ -96,7 +96,7 @@ module _ (slots id : ℕ) (me : Seated) where
             gives,
             tt,
             home_again slots id me x new (Some (Full p)) s (with_line slots id me (claim_at x) s r.past l back) out (adds_claim L s r id v back x new (set s.homes (slot_at x) (some (Some (Full p)))) l (tick slots id me (claim_at x) s (l ∷ r.past)) inside refl (quiet_line L r.past l fair r.live refl (λ p. (refl, refl)))
-                (back_turns s r l refl legal (λ c. refl)) legal at (back_apart s r at l (eq-eqb (ring_of K x) (ring_of K x) refl))
+                (back_turns s r l (eq-eqb (ring_of K x) (ring_of K x) refl) refl legal (λ c. refl)) legal at (back_apart s r at l (eq-eqb (ring_of K x) (ring_of K x) refl))
                 (λ y h other k. other_cell K x y g k inside h other) (λ w. refl) (length-set s.homes (slot_at x) (some (Some (Full p)))) (λ y other. set_else s.homes (slot_at x) y (some (Some (Full p))) other) record {
                   tag = Held;
                   cause = 0;
@@ -135,7 +135,7 @@ module _ (slots id : ℕ) (me : Seated) where
             gives,
             tt,
             home_again slots id me x new None s (with_line slots id me (claim_at x) s r.past l back) out (adds_claim L s r id v back x new (set s.homes (slot_at x) (some None)) l (tick slots id me (claim_at x) s (l ∷ r.past)) inside refl (quiet_line L r.past l fair r.live refl (λ p. (refl, refl)))
-                (back_turns s r l refl legal (λ c. refl)) legal at (back_apart s r at l (eq-eqb (ring_of K x) (ring_of K x) refl))
+                (back_turns s r l (eq-eqb (ring_of K x) (ring_of K x) refl) refl legal (λ c. refl)) legal at (back_apart s r at l (eq-eqb (ring_of K x) (ring_of K x) refl))
                 (λ y h other k. other_cell K x y g k inside h other) (λ w. refl) (length-set s.homes (slot_at x) (some None)) (λ y other. set_else s.homes (slot_at x) y (some None) other) record {
                   tag = Empty;
                   cause = 0;

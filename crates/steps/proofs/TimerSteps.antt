@@ -93,7 +93,7 @@ module _ (slots id : ℕ) (me : Seated) where
             with_line slots id me (claim_at x) s r.past l v.role,
             keeps,
             tt,
-            adds_claim L s r id v v.role x new s.homes l (tick slots id me (claim_at x) s (l ∷ r.past)) inside refl (quiet_line L r.past l tt r.live refl (λ p. (refl, refl))) (same_turns slots id me s r at l refl legal has (λ _. refl) (λ c is. absurd (lazy c is))) legal at (owned L s r id v l at mine)
+            adds_claim L s r id v v.role x new s.homes l (tick slots id me (claim_at x) s (l ∷ r.past)) inside refl (quiet_line L r.past l tt r.live refl (λ p. (refl, refl))) (same_turns slots id me s r at l mine refl legal has (λ _. refl) (λ c is. absurd (lazy c is))) legal at (owned L s r id v l at mine)
                 (λ y h other k. other_cell K x y g k inside h other) (λ w. refl) refl (λ y other. refl) record {
                   tag = Armed;
                   cause = 0;

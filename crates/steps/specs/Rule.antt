@@ -16,6 +16,7 @@ use Rattle.history.specs.Legal.{Legal}
 use Rattle.steps.specs.declared.line.Line.{Line}
 use Rattle.steps.specs.declared.line.Line.TheVariants.{Did, Freed, Lent, Noted, Hold, Free}
 use Rattle.steps.specs.declared.parcel.Thing.{Thing}
+use Rattle.steps.specs.declared.view.Heard.{Heard}
 use Rattle.steps.specs.declared.view.Layout.{Layout}
 use Rattle.steps.specs.declared.view.Role.{Role}
 use Rattle.steps.specs.declared.view.Role.TheVariants.{Poller, Submitter, Lending, Idle, Busy, Leaving, Spent}
@@ -91,14 +92,26 @@ pub record Saw (role : Role) (seen j : List Line) : Type 0 where
 abbrev pub Begins : List Line → List Line → Type 0
 Begins j seen = (later : List Line) × (j ≡ later ++ seen)
 
-abbrev pub AllBegin : List Line → List (List Line) → Type 0
-AllBegin j [] = Unit {0}
-AllBegin j (x ∷ xs) = Begins j x × AllBegin j xs
+abbrev pub IsHeard : Heard → List Heard → Type 0
+IsHeard x [] = ⊥
+IsHeard x (y ∷ ys) = (y ≡ x) ⊎ IsHeard x ys
+
+-- j begins with all that was heard
+abbrev pub AllBegin : List Line → List Heard → Type 0
+AllBegin j xs = (x : Heard) → IsHeard x xs → Begins j x.seen
+
+-- and goes on without own lines of those whose it was
+abbrev pub AllSaw : List Line → List Heard → Type 0
+AllSaw j xs = (x : Heard) → IsHeard x xs → Saw x.role x.seen j
+
+-- the role `gone` of a seat that was taken in: it is no worker's, and a seat with the role `role` stays apart from it
+abbrev pub IsGone : Role → Role → Type 0
+IsGone gone role = (apart role gone ≡ true) × ((q : Req) → stands_for gone (workers q) ≡ false)
 
 pub record SeatOk (L : Layout) (j : List Line) (v : View) : Type 0 where
   pub layout : v.role ≢ Spent → v.layout ≡ L
   pub saw : Saw v.role v.seen j
-  pub heard : AllBegin j v.heard
+  pub heard : AllSaw j v.heard
   pub busy : (r : Req) → v.role ≡ Busy r → (0 < v.parts) × (phase (events_of v.seen) r ≡ runs)
   pub leaving : (r : Req) → v.role ≡ Leaving r → (0 < v.parts) × IsReplied (phase (events_of v.seen) r)
   pub lending : (r : Req) → v.role ≡ Lending r → 0 < v.parts
@@ -120,9 +133,9 @@ abbrev pub IsLentBy : List View → Req → Type 0
 IsLentBy vs q = (i : ℕ) × (v : View) × (get_elem? vs i ≡ some v) × (v.role ≡ Lending q)
 
 -- the seat has seen all of these events, or was told of them. A pipe that was given back after its reply is seen by nobody, so journals may go on further
-abbrev pub IsOneOf : List Event → List (List Line) → Type 0
+abbrev pub IsOneOf : List Event → List Heard → Type 0
 IsOneOf h [] = ⊥
-IsOneOf h (x ∷ xs) = (events_of x ≡ h) ⊎ IsOneOf h xs
+IsOneOf h (x ∷ xs) = (events_of x.seen ≡ h) ⊎ IsOneOf h xs
 
 abbrev pub Knows : View → List Event → Type 0
 Knows v h = (events_of v.seen ≡ h) ⊎ IsOneOf h v.heard
@@ -142,6 +155,7 @@ pub record Ruled (L : Layout) (s : State (Option Thing) View) : Type 0 where
   pub pipes : (p : ℕ) → p < 64 → PipeOk L.caps past p (slice_index s.words (pipe_at p)) (get_elem? s.homes p)
   pub seats : (i : ℕ) (v : View) → get_elem? s.views i ≡ some v → SeatOk L past v
   pub roles : (i l : ℕ) (v w : View) → get_elem? s.views i ≡ some v → get_elem? s.views l ≡ some w → ¬ (i ≡ l) → apart v.role w.role ≡ true
+  pub gone : (i l : ℕ) (v w : View) → get_elem? s.views i ≡ some v → get_elem? s.views l ≡ some w → (x : Heard) → IsHeard x v.heard → IsGone x.role w.role
   pub run : (q : Req) → phase (events_of past) q ≡ runs → IsRunBy s.views q
   pub held_by : (p : ℕ) (q : Req) → holder past p ≡ Some q → IsHeldBy s.views q
   pub lent_by : (q : Req) → lent past q ≡ true → IsLentBy s.views q
@@ -255,7 +269,7 @@ messenger v = record v { role = Idle; parts = 0; heard = []; steps = [] }
 
 -- a seat hears what the other has seen, and the other is spent
 abbrev pub hearing : View → View → View
-hearing v w = record v { parts = v.parts + w.parts; heard = w.seen ∷ (w.heard ++ v.heard) }
+hearing v w = record v { parts = v.parts + w.parts; heard = record { role = w.role; seen = w.seen } ∷ (w.heard ++ v.heard) }
 
 -- a worker that has replied gives its pipe back: it is idle, and has seen no more
 abbrev pub leaves : ℕ → ℕ → View → View
@@ -270,8 +284,8 @@ pub record Ended (L : Layout) (v : View) (words : List ℕ) (slots : List (Optio
   pub legal : Legal (setup_of L) (events_of all)
   pub live : was_shut (events_of all) ≡ false
   pub orderly : Orderly L all
-  pub seen : Begins all v.seen
-  pub heard : AllBegin all v.heard
+  pub seen : Saw v.role v.seen all
+  pub heard : AllSaw all v.heard
   pub known : v.parts ≡ 9223372036854775808 → Knows v (events_of all)
   pub still : v.parts ≡ 9223372036854775808 → ((r : Req) → v.role ≢ Busy r) → (q : Req) → ¬ (phase (events_of all) q ≡ runs)
   pub unlent : v.parts ≡ 9223372036854775808 → ((r : Req) → v.role ≢ Lending r) → (q : Req) → ¬ (lent all q ≡ true)

@@ -34,6 +34,12 @@ pub struct Step {
     pub seen: LinkedList<Line>,
 }
 
+/// What a seat had seen that was taken in, and whose it was.
+pub struct Heard {
+    pub role: Role,
+    pub seen: LinkedList<Line>,
+}
+
 /// What a seat knows.
 pub struct View {
     pub layout: Layout,
@@ -43,7 +49,7 @@ pub struct View {
     /// The journal as far as the seat has seen it, the newest line first.
     pub seen: LinkedList<Line>,
     /// What other seats had seen that told this one. Its next look takes them in.
-    pub heard: LinkedList<LinkedList<Line>>,
+    pub heard: LinkedList<Heard>,
     /// Its steps, the newest first.
     pub steps: LinkedList<Step>,
 }

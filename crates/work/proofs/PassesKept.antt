@@ -4,6 +4,7 @@ use Rattle.std.proofs.lemmas.List.{append_assoc}
 use Rattle.history.specs.History.{was_shut}
 use Rattle.history.specs.Legal.{Legal}
 use Rattle.steps.specs.declared.line.Line.{Line}
+use Rattle.steps.specs.declared.view.Heard.{Heard}
 use Rattle.steps.specs.declared.view.Layout.{Layout}
 use Rattle.steps.specs.declared.view.Role.{Role}
 use Rattle.steps.specs.declared.view.View.{View}
@@ -11,7 +12,6 @@ use Rattle.steps.specs.Fairness.{Orderly}
 use Rattle.steps.specs.Journal.{events_of}
 use Rattle.steps.specs.Cells.{setup_of}
 use Rattle.steps.specs.Rule.{AllBegin, NoneOf, Looks, Extends, IsStep, seeing}
-use Rattle.steps.proofs.RuleKept.{heard_more}
 use Rattle.work.specs.Board.{Facts, IsOf, share_of}
 use Rattle.work.specs.Passes.{Pass, Took}
 
@@ -49,9 +49,8 @@ none_both : (role : Role) (k l : List Line) → NoneOf role k → NoneOf role l 
 none_both role [] l a b = b
 none_both role (x ∷ k) l a b = (a.0, none_both role k l a.1 b)
 
-begins_later : (k j : List Line) (xs : List (List Line)) → AllBegin j xs → AllBegin (k ++ j) xs
-begins_later [] j xs a = a
-begins_later (l ∷ k) j xs a = heard_more l (k ++ j) xs (begins_later k j xs a)
+begins_later : (k j : List Line) (xs : List Heard) → AllBegin j xs → AllBegin (k ++ j) xs
+begins_later k j xs a x h = let b = a x h in (k ++ b.0, ap (λ (z : List Line). k ++ z) b.1 ∙ sym (append_assoc k b.0 x.seen))
 
 pub looks_both : (u v w : View) → Looks u v → Looks v w → Looks u w
 looks_both u v w a b =

@@ -1,4 +1,4 @@
-use Rattle.std.proofs.Common.{◌≡◌, ◌+◌, ◌≤◌, ◌<◌, [], ◌∷◌, sym, refl, ap, ◌∙◌, subst, arith}
+use Rattle.std.proofs.Common.{◌<◌, [], ◌∷◌, subst, arith}
 use Rattle.history.specs.declared.event.Event.TheVariants.{Fire, FireMiss}
 use Rattle.history.specs.History.{clock_of}
 use Rattle.history.specs.Chains.{previous}
@@ -6,7 +6,6 @@ use Rattle.steps.specs.Cells.{request_at}
 use Rattle.steps.specs.Journal.{events_of}
 use Rattle.work.specs.Passes.{pass_of}
 use Rattle.board.specs.declared.phase.Phase.TheVariants.{Armed}
-use Rattle.board.specs.declared.linked.Struck.{Struck}
 use Rattle.board.specs.declared.linked.Struck.TheVariants.{Took, Missed, Over}
 use Rattle.board.specs.Calls.{Stands}
 use Rattle.board.specs.TimerCalls.{DidStrike, IsDueLinked}

@@ -1,6 +1,6 @@
 -- The text so far, and that of the tables that are left, are the whole text.
 use Rattle.std.proofs.Common.{◌≡◌, ◌++◌, drop, map}
-use Rattle.explore.specs.Rows.{rows_of}
+use Rattle.script.specs.Rows.{rows_of}
 use Rattle.commands.specs.Printed.{tables_text}
 use Rattle.commands.proofs.answer.tables_text.Given as goal
 

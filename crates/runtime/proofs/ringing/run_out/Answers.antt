@@ -4,7 +4,7 @@ use Rattle.runtime.proofs.TurnLaws.{rang_answered, rang_looked, rang_then}
 use Rattle.runtime.proofs.ringing.run_out.Goals as goal
 
 pub returns-in-Expired : goal.returns-in-Expired
-returns-in-Expired c = record { rang = rang_answered _ _ _ _ _ _ (Expire c.args.req ∷ []) c.args.req refl c.in-Expired.ensures.goes c.expire.ensures.alone c.answer.ensures.same c.answer.ensures.room c.answer.ensures.answered }
+returns-in-Expired c = record { rang = rang_answered _ _ _ _ _ _ (Expire c.args.req ∷ []) c.args.req refl refl c.in-Expired.ensures.goes c.expire.ensures.alone c.answer.ensures.same c.answer.ensures.room c.answer.ensures.answered }
 
 pub returns-in-Early : goal.returns-in-Early
 returns-in-Early c = record { rang = rang_looked _ _ _ _ c.in-Early.ensures.goes c.expire.ensures.alone (refl, refl, refl) }

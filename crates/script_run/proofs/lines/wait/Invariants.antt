@@ -1,5 +1,5 @@
-use Rattle.std.proofs.Common.{◌≡◌}
+use Rattle.script_run.specs.Hands.{Went}
 use Rattle.script_run.proofs.lines.wait.Given as goal
 
 abbrev pub invariant-loop-try : goal.invariant-loop-try
-invariant-loop-try g l = l.hand.client.board ≡ l.fn.hand.client.board
+invariant-loop-try g l = Went l.fn.hand l.hand

@@ -1,4 +1,4 @@
-use Rattle.std.proofs.Common.{◌≡◌, ◌+◌, length, ⊎_elim, sym, ap, ◌∙◌, subst, arith, Some, IfSome, slice_get}
+use Rattle.std.proofs.Common.{◌≡◌, ⊎_elim, sym, ◌∙◌, subst, arith, Some, IfSome, slice_get}
 use Rattle.script_run.specs.RunRows.{IsRow}
 use Rattle.script_run.proofs.HandLists.{get_last}
 use Rattle.script_run.proofs.rows.table_of.Goals as goal

@@ -1,12 +1,11 @@
-use Rattle.std.proofs.Common.{length}
-use Rattle.runtime.specs.Clients.{AreClients}
-use Rattle.script_run.specs.Hands.{AreHands}
+use Rattle.std.proofs.Common.{◌≡◌, ◌++◌, length, map, reverse}
+use Rattle.script_run.specs.Hands.{client_of, taken_by}
 use Rattle.script_run.proofs.run.parts_of.Given as goal
 
 abbrev pub invariant-loop-hand : goal.invariant-loop-hand
 invariant-loop-hand l = record {
-  hands : AreHands l.runtime l.hands.items;
-  clients : AreClients l.runtime l.clients.items;
+  clients : l.clients.items ++ map client_of (reverse l.hands.items) ≡ map client_of l.fn.hands.items;
+  taken : l.all.items ++ taken_by (reverse l.hands.items) ≡ taken_by l.fn.hands.items;
 }
 
 abbrev pub decreases-loop-hand : goal.decreases-loop-hand

@@ -1,12 +1,13 @@
-use Rattle.std.proofs.Common.{[], ◌∷◌, refl, sym, ap, ◌∙◌, subst}
+use Rattle.std.proofs.Common.{◌≡◌, [], ◌∷◌, refl, sym, ap, ◌∙◌, subst}
 use Rattle.steps.specs.declared.view.Step.{Step}
 use Rattle.steps.specs.Cells.{claim_at}
+use Rattle.steps.specs.Rule.{Begins}
 use Rattle.work.specs.Board.{Facts, IsBoard}
 use Rattle.work.specs.Passes.{Pass, CanReach}
 use Rattle.work.proofs.PassesKept.{looked_of}
 use Rattle.board.proofs.GoesLaws.{goes_looked}
 use Rattle.board.specs.Calls.{HasLooked}
-use Rattle.board.proofs.PassFacts.{first_cell_reached, goes_told, has_looked}
+use Rattle.board.proofs.PassFacts.{first_cell_reached, goes_told, begins_told, has_looked}
 use Rattle.board.proofs.board.Board.meet.Goals as goal
 
 pub load-requires : goal.load-requires
@@ -38,3 +39,8 @@ returns-clause-looked g c = let e = c.load-2.ensures in let p = g.P.Pass.knows c
       subst (λ (z : Pass). HasLooked p z) (sym c.tell-messenger.ensures.same) (has_looked p (g.P.Pass.knows c.load.new.self) (claim_at 0) c.load.result c.load.ensures.step),
       (last, [], e.step ∙ ap (λ (z : Pass). last ∷ z.view.steps) c.hear.ensures.heard, refl),
     )
+
+pub returns-clause-told : goal.returns-clause-told
+returns-clause-told g c = let p = g.Q.Pass.knows c.args.other.now in let m = c.tell-messenger.result in let q = g.Q.Pass.knows c.load-2.new.self in
+    let seen : m.view.seen ≡ (g.P.Pass.knows c.tell-messenger.new.self).view.seen = ap (λ (z : Pass). z.view.seen) c.tell-messenger.ensures.told ∙ ap (λ (z : Pass). z.view.seen) (sym c.tell-messenger.ensures.same) in
+    subst (Begins q.view.seen) seen (begins_told p (g.Q.Pass.knows c.hear.new.self) q m.view c.hear.ensures.heard c.load-2.ensures.looks)

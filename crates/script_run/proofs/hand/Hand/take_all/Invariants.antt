@@ -1,5 +1,5 @@
-use Rattle.std.proofs.Common.{◌≡◌}
+use Rattle.script_run.specs.Hands.{Went}
 use Rattle.script_run.proofs.hand.Hand.take_all.Given as goal
 
 abbrev pub invariant-loop : goal.invariant-loop
-invariant-loop g l = l.self.client.board ≡ l.fn.self.client.board
+invariant-loop g l = Went l.fn.self l.self

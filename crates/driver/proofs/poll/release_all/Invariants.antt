@@ -1,5 +1,0 @@
-use Rattle.work.specs.Board.{IsOf}
-use Rattle.driver.proofs.poll.release_all.Given as goal
-
-abbrev pub invariant-loop-window : goal.invariant-loop-window
-invariant-loop-window l = IsOf l.stage.board.now l.poller

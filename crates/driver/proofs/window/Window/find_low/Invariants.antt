@@ -1,5 +1,0 @@
-use Rattle.work.specs.Board.{IsOf}
-use Rattle.driver.proofs.window.Window.find_low.Given as goal
-
-abbrev pub invariant-loop-k : goal.invariant-loop-k
-invariant-loop-k l = IsOf l.board l.poller

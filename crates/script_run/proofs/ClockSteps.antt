@@ -1,0 +1,235 @@
+-- The clock of a script, line by line.
+use Rattle.std.proofs.Common.{◌≡◌, ◌⊎◌, ℕ, zero, suc, ◌+◌, ◌<◌, ◌≤◌, ◌&&◌, ◌||◌, nat_le, Bool, true, false, List, [], ◌∷◌, ◌++◌, Option, Some, None, length, take, drop, get_or, sym, refl, ap, ◌∙◌, subst, ⊎_elim, arith, true≢false}
+use Rattle.std.specs.Prelude.{slice_get}
+use Rattle.std.specs.List.{list_all}
+use Rattle.std.proofs.lemmas.List.{take-append-drop}
+use Rattle.std.proofs.lemmas.Option.{slice_get_within, get_or_from_slice_get}
+use Rattle.std.proofs.lemmas.Bool.{and_parts, leb-true}
+use Rattle.history.specs.declared.req.Req.{Req}
+use Rattle.history.specs.declared.event.Event.{Event}
+use Rattle.history.specs.declared.event.Event.TheVariants as event
+use Rattle.history.specs.History.{phase, clock_of}
+use Rattle.history.specs.Legal.{Setup, Allowed, Legal}
+use Rattle.history.specs.Ticked.{ticked}
+use Rattle.steps.specs.declared.line.Line.{Line}
+use Rattle.steps.specs.Journal.{events_of}
+use Rattle.board.specs.declared.phase.Phase.{Phase as Standing}
+use Rattle.board.specs.declared.phase.Phase.TheVariants.{Unborn, Held, Ready, Running, Armed as Ringing, Done, Gone}
+use Rattle.board.specs.Calls.{Stands}
+use Rattle.controls.specs.Clocks.{Asked}
+use Rattle.history.proofs.Requests.{bool_cases}
+use Rattle.script.specs.declared.act.Act.{Act}
+use Rattle.script.specs.declared.act.Act.TheVariants as act
+use Rattle.script.specs.declared.script.Script.{Script}
+use Rattle.script.specs.Carried.{HasTimed, steps_in}
+use Rattle.script.specs.Rules.{is_clock_line, rises, keeps_limits, keeps_parts, keeps_acts, keeps_clock}
+use Rattle.script.specs.Tables.{is_done, is_replied, is_armed, holds_for}
+use Rattle.script.proofs.CarriedLines.{sets_next, clock_waited}
+use Rattle.script.proofs.Items.{rest_at, front_at}
+use Rattle.script_run.specs.declared.clock.ClockLine.{ClockLine}
+use Rattle.script_run.specs.declared.clock.ClockLine.TheVariants.{Wait, Armed, Tick}
+use Rattle.script_run.specs.ClockStays.{timed_stays}
+use Rattle.script_run.specs.ClockLines.{IsClockLine, AreClockLines, IsTimed, IsAlong, has_reply, is_ready, line_at, asked_at, asked_of}
+
+pub timed_more : (c : Script) (lines : List ClockLine) (next : ℕ) (s : Setup) (more h : List Event) → Legal s (more ++ h) → ticked more ≡ 0 → IsTimed c lines next h → IsTimed c lines next (more ++ h)
+timed_more c lines next s [] h l none k = k
+timed_more c lines next s (e ∷ more) h l none k = timed_stays c lines next s e (more ++ h) l (omega arith) (timed_more c lines next s more h l.1 (omega arith) k)
+
+none_some : {X : Type 0} → (x : X) → None ≡ Some x → ⊥
+none_some x e = cc
+
+-- the script's line at a place of the clock's
+act_at : (c : Script) (acts : List Act) (lines : List ClockLine) (n : ℕ) (l : ClockLine) → AreClockLines c acts lines → slice_get lines n ≡ Some l → (a : Act) × (slice_get acts n ≡ Some a) × IsClockLine c a l
+act_at c [] [] zero l k e = absurd (none_some l e)
+act_at c [] [] (suc n) l k e = absurd (none_some l e)
+act_at c [] (x ∷ lines) n l k e = absurd k
+act_at c (a ∷ acts) [] n l k e = absurd k
+act_at c (a ∷ acts) (x ∷ lines) zero l k e = let same : x ≡ l = cc in (a, refl, subst (IsClockLine c a) same k.0)
+act_at c (a ∷ acts) (x ∷ lines) (suc n) l k e = act_at c acts lines n l k.1 e
+
+pub same_count : (c : Script) (acts : List Act) (lines : List ClockLine) → AreClockLines c acts lines → length lines ≡ length acts
+same_count c [] [] k = refl
+same_count c [] (l ∷ lines) k = absurd k
+same_count c (a ∷ acts) [] k = absurd k
+same_count c (a ∷ acts) (l ∷ lines) k = ap suc (same_count c acts lines k.1)
+
+-- the lines around one of them
+record Around (acts : List Act) (n : ℕ) (a : Act) : Type 0 where
+  rest : drop n acts ≡ a ∷ drop (n + 1) acts
+  front : take (n + 1) acts ≡ take n acts ++ a ∷ []
+  whole : acts ≡ take n acts ++ a ∷ drop (n + 1) acts
+
+around : (acts : List Act) (n : ℕ) (a : Act) → slice_get acts n ≡ Some a → Around acts n a
+around acts n a e =
+    let lt : n < length acts = slice_get_within acts n a e in
+    let is : a ≡ get_or acts n a = sym (get_or_from_slice_get acts n a a e) in
+    let rest = rest_at acts n a lt is in
+    record { rest = rest; front = front_at acts n a lt is; whole = sym (take-append-drop n acts) ∙ ap (λ (z : List Act). take n acts ++ z) rest }
+
+-- a line that waits is passed once it is done
+passed : (c : Script) (lines : List ClockLine) (next : ℕ) (a : Act) (h : List Event) → slice_get c.clock.items next ≡ Some a → steps_in (a ∷ []) ≡ 0 → ((m : ℕ) (left : List Act) → rises m (a ∷ left) ≡ rises m left) → is_done c h a ≡ true → IsTimed c lines next h → IsTimed c lines (next + 1) h
+passed c lines next a h at none same w k =
+    let z = around c.clock.items next a at in
+    let old : HasTimed c (take next c.clock.items) (a ∷ drop (next + 1) c.clock.items) h = subst (λ (left : List Act). HasTimed c (take next c.clock.items) left h) z.rest k.timed in
+    record {
+      lines_are = k.lines_are;
+      timed = subst (λ (acts : List Act). HasTimed c acts (drop (next + 1) c.clock.items) h) (sym z.front) (clock_waited c (take next c.clock.items) (drop (next + 1) c.clock.items) a h none (λ m. same m (drop (next + 1) c.clock.items)) w old);
+    }
+
+replied_now : (h : List Event) (o : Option Req) (r : Req) → o ≡ Some r → is_replied (phase h r) ≡ true → holds_for is_replied h o ≡ true
+replied_now h o r e w = ap (holds_for is_replied h) e ∙ w
+
+pub waited : (c : Script) (lines : List ClockLine) (next : ℕ) (r : Req) (p : ℕ) (h : List Event) → slice_get lines next ≡ Some (Wait r p) → is_replied (phase h r) ≡ true → IsTimed c lines next h → IsTimed c lines (next + 1) h
+waited c lines next r p h at w k = let x = act_at c c.clock.items lines next (Wait r p) k.lines_are at in by x.0 x.1 x.2 where
+  by : (a : Act) → slice_get c.clock.items next ≡ Some a → IsClockLine c a (Wait r p) → IsTimed c lines (next + 1) h
+  by (act.Wait q) e i = passed c lines next (act.Wait q) h e refl (λ m left. refl) (ap (holds_for is_replied h) i ∙ w) k
+  by (act.Armed q) e i = absurd i
+  by (act.Tick n) e i = absurd i
+  by (act.Submit ps) e i = absurd i
+
+pub ready : (c : Script) (lines : List ClockLine) (next : ℕ) (r : Req) (p : ℕ) (h : List Event) → slice_get lines next ≡ Some (Armed r p) → holds_for (λ x. is_armed x || is_replied x) h (Some r) ≡ true → IsTimed c lines next h → IsTimed c lines (next + 1) h
+ready c lines next r p h at w k = let x = act_at c c.clock.items lines next (Armed r p) k.lines_are at in by x.0 x.1 x.2 where
+  by : (a : Act) → slice_get c.clock.items next ≡ Some a → IsClockLine c a (Armed r p) → IsTimed c lines (next + 1) h
+  by (act.Armed q) e i = passed c lines next (act.Armed q) h e refl (λ m left. refl) (ap (holds_for (λ x. is_armed x || is_replied x) h) i ∙ w) k
+  by (act.Wait q) e i = absurd i
+  by (act.Tick n) e i = absurd i
+  by (act.Submit ps) e i = absurd i
+
+-- the line sets the clock
+tick_at : (c : Script) (lines : List ClockLine) (next n : ℕ) (h : List Event) → slice_get lines next ≡ Some (Tick n) → IsTimed c lines next h → slice_get c.clock.items next ≡ Some (act.Tick n)
+tick_at c lines next n h at k = let x = act_at c c.clock.items lines next (Tick n) k.lines_are at in by x.0 x.1 x.2 where
+  by : (a : Act) → slice_get c.clock.items next ≡ Some a → IsClockLine c a (Tick n) → slice_get c.clock.items next ≡ Some (act.Tick n)
+  by (act.Tick m) e i = e ∙ ap (λ (z : ℕ). Some (act.Tick z)) i
+  by (act.Wait q) e i = absurd i
+  by (act.Armed q) e i = absurd i
+  by (act.Submit ps) e i = absurd i
+
+pub was_set : (c : Script) (lines : List ClockLine) (next n : ℕ) (s : Setup) (h : List Event) → slice_get lines next ≡ Some (Tick n) → Legal s (event.Tick n ∷ h) → IsTimed c lines next h → IsTimed c lines (next + 1) (event.Tick n ∷ h)
+was_set c lines next n s h at l k =
+    let z = around c.clock.items next (act.Tick n) (tick_at c lines next n h at k) in
+    let old : HasTimed c (take next c.clock.items) (act.Tick n ∷ drop (next + 1) c.clock.items) h = subst (λ (left : List Act). HasTimed c (take next c.clock.items) left h) z.rest k.timed in
+    record {
+      lines_are = k.lines_are;
+      timed = subst (λ (acts : List Act). HasTimed c acts (drop (next + 1) c.clock.items) (event.Tick n ∷ h)) (sym z.front) (sets_next c s (take next c.clock.items) (drop (next + 1) c.clock.items) n h z.whole l old);
+    }
+
+-- no line is before its time, or after the clock's end
+all_at : (test : Act → Bool) (acts : List Act) (n : ℕ) (a : Act) → list_all test acts ≡ true → slice_get acts n ≡ Some a → test a ≡ true
+all_at test [] zero a k e = absurd (none_some a e)
+all_at test [] (suc n) a k e = absurd (none_some a e)
+all_at test (x ∷ acts) zero a k e = let same : x ≡ a = cc in ap test (sym same) ∙ (and_parts (test x) (list_all test acts) k).0
+all_at test (x ∷ acts) (suc n) a k e = all_at test acts n a (and_parts (test x) (list_all test acts) k).1 e
+
+pub clock_rules : (c : Script) → (list_all (is_clock_line c.entries.items) c.clock.items ≡ true) × (rises 0 c.clock.items ≡ true)
+clock_rules c =
+    let all = and_parts (keeps_limits c.pipes.items c.rings.items c.entries.items && keeps_parts c.pipes.items c.rings.items c.entries.items) (keeps_acts c.rings.items c.entries.items c.acts.items && keeps_clock c.entries.items c.clock.items) c.kept in
+    let lines = and_parts (list_all (is_clock_line c.entries.items) c.clock.items) (rises 0 c.clock.items) (and_parts (keeps_acts c.rings.items c.entries.items c.acts.items) (keeps_clock c.entries.items c.clock.items) all.1).1 in
+    (lines.0, lines.1)
+
+pub on_time : (c : Script) (lines : List ClockLine) (next n : ℕ) (h : List Event) → slice_get lines next ≡ Some (Tick n) → IsTimed c lines next h → (n < clock_of h) ⊎ (2147483647 < n) → ⊥
+on_time c lines next n h at k late =
+    let a = tick_at c lines next n h at k in
+    let z = around c.clock.items next (act.Tick n) a in
+    let small : n ≤ 2147483647 = leb-true n 2147483647 (all_at (is_clock_line c.entries.items) c.clock.items next (act.Tick n) (clock_rules c).0 a) in
+    let rising = subst (λ (left : List Act). rises (clock_of h) left ≡ true) z.rest k.timed.on_time in
+    let up : clock_of h ≤ n = leb-true (clock_of h) n (and_parts (nat_le (clock_of h) n) (rises n (drop (next + 1) c.clock.items)) rising).0 in
+    ⊎_elim (λ (x : n < clock_of h). absurd (omega arith)) (λ (x : 2147483647 < n). absurd (omega arith)) late
+
+-- before its first line
+pub begins : (c : Script) (lines : List ClockLine) → AreClockLines c c.clock.items lines → IsTimed c lines 0 []
+begins c lines k = record { lines_are = k; timed = record { keeps = tt; count = refl; are_done = tt; on_time = (clock_rules c).1 } }
+
+-- after its last
+pub ends : (c : Script) (lines : List ClockLine) (next : ℕ) (h : List Event) → length lines ≤ next → IsTimed c lines next h → HasTimed c c.clock.items (drop next c.clock.items) h
+ends c lines next h le k =
+    let n = same_count c c.clock.items lines k.lines_are in
+    subst (λ (acts : List Act). HasTimed c acts (drop next c.clock.items) h) (past c.clock.items next (omega arith)) k.timed where
+      past : (xs : List Act) (n : ℕ) → length xs ≤ n → take n xs ≡ xs
+      past [] zero le = refl
+      past [] (suc n) le = refl
+      past (x ∷ xs) zero le = absurd (omega arith)
+      past (x ∷ xs) (suc n) le = ap (λ (z : List Act). x ∷ z) (past xs n (omega arith))
+
+-- ---- whatever script has these lines
+
+pub along_begins : (lines : List ClockLine) → IsAlong lines 0 []
+along_begins lines = λ c are. begins c lines are
+
+pub along_waited : (lines : List ClockLine) (next : ℕ) (r : Req) (p : ℕ) (h : List Event) → slice_get lines next ≡ Some (Wait r p) → is_replied (phase h r) ≡ true → IsAlong lines next h → IsAlong lines (next + 1) h
+along_waited lines next r p h at w k = λ c are. waited c lines next r p h at w (k c are)
+
+pub along_ready : (lines : List ClockLine) (next : ℕ) (r : Req) (p : ℕ) (h : List Event) → slice_get lines next ≡ Some (Armed r p) → holds_for (λ x. is_armed x || is_replied x) h (Some r) ≡ true → IsAlong lines next h → IsAlong lines (next + 1) h
+along_ready lines next r p h at w k = λ c are. ready c lines next r p h at w (k c are)
+
+-- the Tick that the line tells is the one that comes, and none is refused. A script has these lines only if its clock goes up
+pub along_set : (lines : List ClockLine) (next n : ℕ) (s : Setup) (more h : List Event) → slice_get lines next ≡ Some (Tick n) → Legal s (more ++ h) → ticked more ≡ 0 → IsAlong lines next h → Allowed s (more ++ h) (event.Tick n) → IsAlong lines (next + 1) (event.Tick n ∷ (more ++ h))
+along_set lines next n s more h at l none k a = λ c are. was_set c lines next n s (more ++ h) at (a, l) (timed_more c lines next s more h l none (k c are))
+
+pub along_refused : (lines : List ClockLine) (next n : ℕ) (s : Setup) (more h : List Event) → slice_get lines next ≡ Some (Tick n) → Legal s (more ++ h) → ticked more ≡ 0 → IsAlong lines next h → (n < clock_of (more ++ h)) ⊎ (2147483647 < n) → IsAlong lines (next + 1) (more ++ h)
+along_refused lines next n s more h at l none k late = λ c are. absurd (on_time c lines next n (more ++ h) at (timed_more c lines next s more h l none (k c are)) late)
+
+-- ---- what it was told of the request that it asked for
+
+pub told_reply : (j : List Line) (r : Req) (x : Standing) → Stands j r x → has_reply (Some x) ≡ true → is_replied (phase (events_of j) r) ≡ true
+told_reply j r Gone s w = ap is_replied s.2
+told_reply j r (Done n) s w = ap is_replied s.1
+told_reply j r Unborn s w = absurd (true≢false (sym w))
+told_reply j r Held s w = absurd (true≢false (sym w))
+told_reply j r Ready s w = absurd (true≢false (sym w))
+told_reply j r Running s w = absurd (true≢false (sym w))
+told_reply j r (Ringing d) s w = absurd (true≢false (sym w))
+
+pub told_ready : (j : List Line) (r : Req) (x : Standing) → Stands j r x → is_ready (Some x) ≡ true → holds_for (λ x. is_armed x || is_replied x) (events_of j) (Some r) ≡ true
+told_ready j r Gone s w = ap (λ x. is_armed x || is_replied x) s.2
+told_ready j r (Done n) s w = ap (λ x. is_armed x || is_replied x) s.1
+told_ready j r (Ringing d) s w = ap (λ x. is_armed x || is_replied x) s
+told_ready j r Unborn s w = absurd (true≢false (sym w))
+told_ready j r Held s w = absurd (true≢false (sym w))
+told_ready j r Ready s w = absurd (true≢false (sym w))
+told_ready j r Running s w = absurd (true≢false (sym w))
+
+-- ---- what the clock makes of it
+
+line_there : (b : Bool) (lines : List ClockLine) (n : ℕ) (l : ClockLine) → line_at b lines n ≡ Some l → slice_get lines n ≡ Some l
+line_there true lines n l e = absurd (none_some l e)
+line_there false lines n l e = e
+
+stays_at : (lines new : List ClockLine) (next next' : ℕ) (h : List Event) → new ≡ lines → next' ≡ next → IsAlong lines next h → IsAlong new next' h
+stays_at lines new next next' h same at k = subst (λ (z : List ClockLine × ℕ). IsAlong z.0 z.1 h) (λ i. (sym same i, sym at i)) k
+
+asked_is : (b : Bool) (lines : List ClockLine) (n : ℕ) (l : ClockLine) (phase' : Option Standing) (j : List Line) → line_at b lines n ≡ Some l → Asked j (asked_of (line_at b lines n)) phase' → Asked j (Some (asked_at l)) phase'
+asked_is b lines n l phase' j e a = subst (λ (o : Option ClockLine). Asked j (asked_of o) phase') e a
+
+waits_for : (lines : List ClockLine) (next : ℕ) (r : Req) (p : ℕ) (phase' : Option Standing) (j : List Line) → slice_get lines next ≡ Some (Wait r p) → has_reply phase' ≡ true → Asked j (Some r) phase' → IsAlong lines next (events_of j) → IsAlong lines (next + 1) (events_of j)
+waits_for lines next r p None j at w a k = absurd a
+waits_for lines next r p (Some x) j at w a k = along_waited lines next r p (events_of j) at (told_reply j r x a w) k
+
+arms_for : (lines : List ClockLine) (next : ℕ) (r : Req) (p : ℕ) (phase' : Option Standing) (j : List Line) → slice_get lines next ≡ Some (Armed r p) → is_ready phase' ≡ true → Asked j (Some r) phase' → IsAlong lines next (events_of j) → IsAlong lines (next + 1) (events_of j)
+arms_for lines next r p None j at w a k = absurd a
+arms_for lines next r p (Some x) j at w a k = along_ready lines next r p (events_of j) at (told_ready j r x a w) k
+
+pub told_waiting : (b : Bool) (lines new : List ClockLine) (next next' : ℕ) (r : Req) (p : ℕ) (done : Bool) (phase' : Option Standing) (j : List Line) → line_at b lines next ≡ Some (Wait r p) → new ≡ lines → (done ≡ true → next' ≡ next + 1) → (done ≡ false → next' ≡ next) → done ≡ has_reply phase'
+    → IsAlong lines next (events_of j) → Asked j (asked_of (line_at b lines next)) phase' → IsAlong new next' (events_of j)
+told_waiting b lines new next next' r p done phase' j at same gone still is k a = ⊎_elim
+    (λ (w : done ≡ true). stays_at lines new (next + 1) next' (events_of j) same (gone w) (waits_for lines next r p phase' j (line_there b lines next (Wait r p) at) (sym is ∙ w) (asked_is b lines next (Wait r p) phase' j at a) k))
+    (λ (w : done ≡ false). stays_at lines new next next' (events_of j) same (still w) k) (bool_cases done)
+
+pub told_arming : (b : Bool) (lines new : List ClockLine) (next next' : ℕ) (r : Req) (p : ℕ) (done : Bool) (phase' : Option Standing) (j : List Line) → line_at b lines next ≡ Some (Armed r p) → new ≡ lines → (done ≡ true → next' ≡ next + 1) → (done ≡ false → next' ≡ next) → done ≡ is_ready phase'
+    → IsAlong lines next (events_of j) → Asked j (asked_of (line_at b lines next)) phase' → IsAlong new next' (events_of j)
+told_arming b lines new next next' r p done phase' j at same gone still is k a = ⊎_elim
+    (λ (w : done ≡ true). stays_at lines new (next + 1) next' (events_of j) same (gone w) (arms_for lines next r p phase' j (line_there b lines next (Armed r p) at) (sym is ∙ w) (asked_is b lines next (Armed r p) phase' j at a) k))
+    (λ (w : done ≡ false). stays_at lines new next next' (events_of j) same (still w) k) (bool_cases done)
+
+pub told_setting : (b : Bool) (lines new : List ClockLine) (next next' n : ℕ) (j : List Line) → line_at b lines next ≡ Some (Tick n) → new ≡ lines → next' ≡ next + 1 → IsAlong lines next (events_of j)
+    → (s : Setup) (more : List Event) → Legal s (more ++ events_of j) → ticked more ≡ 0 → (Allowed s (more ++ events_of j) (event.Tick n) → IsAlong new next' (event.Tick n ∷ (more ++ events_of j))) × (((n < clock_of (more ++ events_of j)) ⊎ (2147483647 < n)) → IsAlong new next' (more ++ events_of j))
+told_setting b lines new next next' n j at same gone k s more l none =
+    let line = line_there b lines next (Tick n) at in (
+      λ a. stays_at lines new (next + 1) next' (event.Tick n ∷ (more ++ events_of j)) same gone (along_set lines next n s more (events_of j) line l none k a),
+      λ late. stays_at lines new (next + 1) next' (more ++ events_of j) same gone (along_refused lines next n s more (events_of j) line l none k late),
+    )
+
+pub lines_more : (c : Script) (acts : List Act) (a : Act) (lines : List ClockLine) (l : ClockLine) → AreClockLines c acts lines → IsClockLine c a l → AreClockLines c (acts ++ a ∷ []) (lines ++ l ∷ [])
+lines_more c [] a [] l k i = (i, tt)
+lines_more c [] a (m ∷ lines) l k i = absurd k
+lines_more c (b ∷ acts) a [] l k i = absurd k
+lines_more c (b ∷ acts) a (m ∷ lines) l k i = (k.0, lines_more c acts a lines l k.1 i)

@@ -1,0 +1,226 @@
+-- What a hand's calls make of it.
+use Rattle.std.proofs.Common.{◌≡◌, ◌⊎◌, ℕ, zero, suc, ◌+◌, ◌<◌, ◌≤◌, true, List, [], ◌∷◌, ◌++◌, Some, length, take, drop, get_or, nat_lt, set, sym, refl, ap, ◌∙◌, subst, inl, inr, arith}
+use Rattle.std.specs.Prelude.{slice_get}
+use Rattle.std.specs.Global.{Vec}
+use Rattle.std.proofs.Math.Seq.{take-length}
+use Rattle.std.proofs.lemmas.List.{take-append-drop}
+use Rattle.std.proofs.lemmas.Option.{slice_get_read}
+use Rattle.std.proofs.lemmas.Bool.Decides.{nat_tests}
+use mathlib.Core.Logic.{dite}
+use native.Mathlib.Decide.{ℕ_discrete}
+use Rattle.std.proofs.Common.{length-set, get_or-set_same, get_or-set_other}
+use Rattle.history.specs.declared.req.Req.{Req}
+use Rattle.history.specs.declared.event.Event.{Event}
+use Rattle.history.specs.declared.event.Event.TheVariants as event
+use Rattle.history.specs.History.{submits, phase, replied, reaped, IsReplied}
+use Rattle.history.specs.Legal.{Legal}
+use Rattle.steps.specs.declared.line.Line.{Line}
+use Rattle.steps.specs.declared.view.Role.{Role}
+use Rattle.steps.specs.declared.view.Role.TheVariants.{Submitter}
+use Rattle.steps.specs.Journal.{events_of}
+use Rattle.steps.specs.Cells.{setup_of}
+use Rattle.work.specs.Board.{Facts}
+use Rattle.work.specs.Passes.{Pass, seen_of, own_of}
+use Rattle.board.specs.declared.completion.Completion.{Completion}
+use Rattle.board.specs.declared.phase.Phase.{Phase as Standing}
+use Rattle.board.specs.declared.phase.Phase.TheVariants.{Unborn, Held, Ready, Running, Armed, Done, Gone}
+use Rattle.board.specs.Batches.{Entries, submits_of}
+use Rattle.board.specs.Calls.{Goes, Stands, next_of}
+use Rattle.board.specs.Headline.{IsCompletion}
+use Rattle.script.specs.declared.act.Act.{Act}
+use Rattle.script.specs.declared.act.Act.TheVariants as act
+use Rattle.script.specs.declared.script.Script.{Script}
+use Rattle.script.specs.Carried.{HasCarried}
+use Rattle.script.specs.Homes.{home}
+use Rattle.script.specs.Tables.{is_done, is_replied, holds_for}
+use Rattle.script.proofs.CarriedLines.{line_handed, line_done}
+use Rattle.script.proofs.Items.{rest_at, front_at}
+use Rattle.script_run.specs.declared.hand.Hand.{Hand}
+use Rattle.script_run.specs.Hands.{seen_by, AreTaken, AreEntries, Stayed, HandAt, Went, HandedIn, Carries, IsThrough, AllWent}
+use Rattle.script_run.proofs.ClientCalls.{taken_by_line, taken_more, carried_by, batch_handed}
+
+-- a pass that went on has seen a legal history
+went_legal : (b : Facts) (p q : Pass) (es : List Event) (g : Goes b p es q) → Legal (setup_of b.layout) (events_of (g.later ++ p.view.seen))
+went_legal b p q es g = subst (λ (j : List Line). Legal (setup_of b.layout) (events_of j)) g.seen_is g.kept.legal
+
+pub taken_on : (b : Facts) (p q : Pass) (es : List Event) (xs : List Completion) → Goes b p es q → AreTaken (seen_of p) xs → AreTaken (seen_of q) xs
+taken_on b p q es xs g k = subst (λ (j : List Line). AreTaken (events_of j) xs) (sym g.seen_is) (taken_by_line (setup_of b.layout) g.later p.view.seen xs (went_legal b p q es g) k)
+
+-- its own events hand nothing in
+pub at_on : (b : Facts) (old new : Hand) (es : List Event) → new.client.ring ≡ old.client.ring → Goes b old.client.submitter es new.client.submitter → submits es old.client.ring ≡ 0 → (c : Script) (acts : List Act) (n : ℕ) → HandAt c acts n old → HandAt c acts n new
+at_on b old new es ring g none c acts n k =
+    let p = old.client.submitter in let q = new.client.submitter in
+    let i : ℕ = old.client.ring in
+    let own : own_of (Submitter i) g.later ≡ es = subst (λ (z : Role). own_of z g.later ≡ es) k.role g.own in
+    let on : HasCarried c i acts n (seen_of q) = subst (λ (j : List Line). HasCarried c i acts n (events_of j)) (sym g.seen_is)
+    (carried_by c (setup_of b.layout) i acts n g.later p.view.seen (went_legal b p q es g) (ap (λ h. submits h i) own ∙ none) k.carried) in
+    record {
+      role = g.role_is ∙ (k.role ∙ ap Submitter (sym ring));
+      carried = subst (λ (z : ℕ). HasCarried c z acts n (seen_of q)) (sym ring) on;
+    }
+
+-- it looked, or was refused
+pub went_looked : (b : Facts) (old new : Hand) → new.client.board ≡ old.client.board → new.client.ring ≡ old.client.ring → new.taken.items ≡ old.taken.items → new.halt ≡ old.halt → Goes b old.client.submitter [] new.client.submitter → Went old new
+went_looked b old new board ring taken halt g = record {
+  stayed = record {
+    board = board;
+    ring = ring;
+    role = g.role_is;
+    taken = λ k. subst (AreTaken (seen_by new)) (sym taken) (taken_on b old.client.submitter new.client.submitter [] old.taken.items g k);
+  };
+  at = at_on b old new [] ring g refl;
+  halt = halt;
+}
+
+-- it took a completion
+pub went_took : (b : Facts) (old new : Hand) (x : Completion) → new.client.board ≡ old.client.board → new.client.ring ≡ old.client.ring → new.taken.items ≡ old.taken.items ++ x ∷ [] → new.halt ≡ old.halt
+    → Goes b old.client.submitter (event.Reap x.req ∷ []) new.client.submitter → IsCompletion (seen_by new) x.req x → Went old new
+went_took b old new x board ring taken halt g is = record {
+  stayed = record {
+    board = board;
+    ring = ring;
+    role = g.role_is;
+    taken = λ k. subst (AreTaken (seen_by new)) (sym taken) (taken_more (seen_by new) old.taken.items x (taken_on b old.client.submitter new.client.submitter (event.Reap x.req ∷ []) old.taken.items g k) is);
+  };
+  at = at_on b old new (event.Reap x.req ∷ []) ring g refl;
+  halt = halt;
+}
+
+-- it took one for which there was no place
+pub went_lost : (b : Facts) (old new : Hand) (x : Completion) → new.client.board ≡ old.client.board → new.client.ring ≡ old.client.ring → new.taken.items ≡ old.taken.items → new.halt ≡ old.halt
+    → Goes b old.client.submitter (event.Reap x.req ∷ []) new.client.submitter → Went old new
+went_lost b old new x board ring taken halt g = record {
+  stayed = record {
+    board = board;
+    ring = ring;
+    role = g.role_is;
+    taken = λ k. subst (AreTaken (seen_by new)) (sym taken) (taken_on b old.client.submitter new.client.submitter (event.Reap x.req ∷ []) old.taken.items g k);
+  };
+  at = at_on b old new (event.Reap x.req ∷ []) ring g refl;
+  halt = halt;
+}
+
+pub went_still : (old new : Hand) → new.client ≡ old.client → new.taken.items ≡ old.taken.items → new.halt ≡ old.halt → Went old new
+went_still old new client taken halt = record {
+  stayed = record {
+    board = ap (λ x. x.board) client;
+    ring = ap (λ x. x.ring) client;
+    role = ap (λ x. x.submitter.view.role) client;
+    taken = λ k. subst (λ x. AreTaken (seen_of x.submitter) new.taken.items) (sym client) (subst (AreTaken (seen_by old)) (sym taken) k);
+  };
+  at = λ c acts n k. record { role = ap (λ x. x.submitter.view.role) client ∙ (k.role ∙ ap (λ x. Submitter x.ring) (sym client)); carried = subst (λ x. HasCarried c x.ring acts n (seen_of x.submitter)) (sym client) k.carried };
+  halt = halt;
+}
+
+pub stayed_then : (x y z : Hand) → Stayed x y → Stayed y z → Stayed x z
+stayed_then x y z a b = record { board = b.board ∙ a.board; ring = b.ring ∙ a.ring; role = b.role ∙ a.role; taken = λ k. b.taken (a.taken k) }
+
+pub went_then : (x y z : Hand) → Went x y → Went y z → Went x z
+went_then x y z a b = record { stayed = stayed_then x y z a.stayed b.stayed; at = λ c acts n k. b.at c acts n (a.at c acts n k); halt = b.halt ∙ a.halt }
+
+-- ---- a line
+
+pub carries_batch : (c : Script) (places : Vec ℕ) (xs : Entries) (old mid new : Hand) → AreEntries c places.items xs → Went old mid → HandedIn xs mid new → Carries c (act.Submit places) old new
+carries_batch c places xs old mid new are w h = record {
+  stayed = stayed_then old mid new w.stayed h.stayed;
+  at = λ v acts left at lines k. (
+      let b : Facts = mid.client.board in let g = h.goes in let p = mid.client.submitter in let q = new.client.submitter in
+      let i : ℕ = mid.client.ring in
+      let m = w.at c acts 0 k in
+      let all = submits_of i (submits (seen_by mid) i) xs in
+      let own : own_of (Submitter i) g.later ≡ all = subst (λ (z : Role). own_of z g.later ≡ all) m.role g.own in
+      let on : HasCarried c i acts (length places.items) (seen_of q) = subst (λ (j : List Line). HasCarried c i acts (length places.items) (events_of j)) (sym g.seen_is)
+      (batch_handed c (setup_of b.layout) i (submits (seen_by mid) i) v acts left places xs p.view.seen (ap (slice_get c.acts.items) w.stayed.ring ∙ at) lines are g.later (went_legal b p q all g) own m.carried) in
+      record {
+        role = g.role_is ∙ (m.role ∙ ap Submitter (sym h.stayed.ring));
+        carried = subst (λ (z : ℕ). HasCarried c z (acts ++ act.Submit places ∷ []) 0 (seen_of q)) (sym h.stayed.ring) (line_handed c i acts places (seen_of q) on);
+      });
+}
+
+replied_test : (h : List Event) (r : Req) → IsReplied (phase h r) → is_replied (phase h r) ≡ true
+replied_test h r i = elim (phase h r) as (λ p. IsReplied p → is_replied p ≡ true) [ Rattle.history.specs.History.unborn ↦ λ z. absurd z | Rattle.history.specs.History.waits ↦ λ z. absurd z | Rattle.history.specs.History.runs ↦ λ z. absurd z | Rattle.history.specs.History.armed d ↦ λ z. absurd z | replied c res ↦ λ z. refl | reaped c res ↦ λ z. refl ] i
+
+pub carries_wait : (c : Script) (p : ℕ) (r : Req) (old new : Hand) → home c p ≡ Some r → Went old new → IsReplied (phase (seen_by new) r) → Carries c (act.Wait p) old new
+carries_wait c p r old new is w i = record {
+  stayed = w.stayed;
+  at = λ v acts left at lines k. (
+      let m = w.at c acts 0 k in
+      let done : is_done c (seen_by new) (act.Wait p) ≡ true = ap (holds_for is_replied (seen_by new)) is ∙ replied_test (seen_by new) r i in
+      record { role = m.role; carried = line_done c new.client.ring acts p (seen_by new) done m.carried });
+}
+
+-- ---- where a request stands that was found
+
+pub found_replied : (j : List Line) (r : Req) (x : Standing) → Stands j r x → (x ≡ Gone) ⊎ ((n : _) × (x ≡ Done n)) → IsReplied (phase (events_of j) r)
+found_replied j r Gone s e = subst IsReplied (sym s.2) tt
+found_replied j r (Done n) s e = subst IsReplied (sym s.1) tt
+found_replied j r Unborn s e = absurd (elim e [ inl x ↦ cc | inr x ↦ (let y = x.1 in cc) ])
+found_replied j r Held s e = absurd (elim e [ inl x ↦ cc | inr x ↦ (let y = x.1 in cc) ])
+found_replied j r Ready s e = absurd (elim e [ inl x ↦ cc | inr x ↦ (let y = x.1 in cc) ])
+found_replied j r Running s e = absurd (elim e [ inl x ↦ cc | inr x ↦ (let y = x.1 in cc) ])
+found_replied j r (Armed d) s e = absurd (elim e [ inl x ↦ cc | inr x ↦ (let y = x.1 in cc) ])
+
+-- ---- all hands
+
+-- an element is the same whatever stands past the end
+same_at : (xs : List Hand) (k : ℕ) (d e : Hand) → k < length xs → get_or xs k e ≡ get_or xs k d
+same_at [] k d e lt = absurd (omega arith)
+same_at (x ∷ xs) zero d e lt = refl
+same_at (x ∷ xs) (suc k) d e lt = same_at xs k d e (omega arith)
+
+went_same : (x y : Hand) → y ≡ x → Went x y
+went_same x y is = subst (Went x) (sym is) (went_still x x refl refl refl)
+
+pub all_still : (xs : List Hand) → AllWent xs xs
+all_still xs = (refl, λ k d e lt. went_same (get_or xs k d) (get_or xs k e) (same_at xs k d e lt))
+
+pub all_then : (xs ys zs : List Hand) → AllWent xs ys → AllWent ys zs → AllWent xs zs
+all_then xs ys zs a b = (b.0 ∙ a.0, λ k d e lt. (let l = a.0 in went_then (get_or xs k d) (get_or ys k d) (get_or zs k e) (a.1 k d d lt) (b.1 k d e (omega arith))))
+
+pub all_set : (xs ys : List Hand) (i : ℕ) (h : Hand) → i < length ys → ((d : Hand) → Went (get_or ys i d) h) → AllWent xs ys → AllWent xs (set ys i h)
+all_set xs ys i h lt w a = (
+  length-set ys i h ∙ a.0,
+  λ k d e in'. dite (ℕ_discrete k i)
+      (λ same. subst (λ (z : Hand). Went (get_or xs k d) z) (sym (ap (λ (z : ℕ). get_or (set ys i h) z e) same ∙ get_or-set_same ys i h e lt)) (went_then (get_or xs k d) (get_or ys k d) h (a.1 k d d in') (subst (λ (z : ℕ). Went (get_or ys z d) h) (sym same) (w d))))
+      (λ other. subst (λ (z : Hand). Went (get_or xs k d) z) (sym (get_or-set_other ys i k h e (λ z. other z))) (a.1 k d e in')),
+)
+
+-- one of them went on
+pub all_next : (xs ys : List Hand) (i : ℕ) (x h : Hand) → i < length ys → x ≡ get_or ys i x → Went x h → AllWent xs ys → AllWent xs (set ys i h)
+all_next xs ys i x h lt is w a = all_set xs ys i h lt (λ d. subst (λ (z : Hand). Went z h) (is ∙ same_at ys i d x lt) w) a
+
+-- ---- a batch that was handed in
+
+pub handed : (old new : Hand) (r : Req) (xs : Entries) → new.client.board ≡ old.client.board → new.client.ring ≡ old.client.ring → new.taken ≡ old.taken → r ≡ next_of old.client.submitter old.client.ring
+    → Goes old.client.board old.client.submitter (submits_of old.client.ring r.k xs) new.client.submitter → HandedIn xs old new
+handed old new r xs board ring taken first g =
+    let all = submits_of old.client.ring (submits (seen_by old) old.client.ring) xs in
+    let goes : Goes old.client.board old.client.submitter all new.client.submitter = subst (λ (z : Req). Goes old.client.board old.client.submitter (submits_of old.client.ring z.k xs) new.client.submitter) first g in
+    record {
+      stayed = record {
+        board = board;
+        ring = ring;
+        role = g.role_is;
+        taken = λ k. subst (λ (z : Vec Completion). AreTaken (seen_by new) z.items) (sym taken) (taken_on old.client.board old.client.submitter new.client.submitter all old.taken.items goes k);
+      };
+      goes = goes;
+    }
+
+-- ---- the lines of a ring, one after another
+
+-- an element of a list, read from one that is the same
+pub element_at : {X : Type 0} (xs read : List X) (v : X) (n i : ℕ) → read ≡ xs → n ≡ i → true ≡ nat_lt n (length read) → v ≡ get_or read n v → slice_get xs i ≡ Some v
+element_at {X} xs read v n i same at lt is = subst (λ (z : List X × ℕ). slice_get z.0 z.1 ≡ Some v) (λ j. (same j, at j)) (slice_get_read read (length read) n v refl (grind (arith, nat_tests)) is)
+
+pub line_carried : (c : Script) (v : Vec Act) (xs : List Act) (i : ℕ) (a : Act) (old new : Hand) → xs ≡ v.items → i < length xs → a ≡ get_or xs i a → slice_get c.acts.items old.client.ring ≡ Some v → Carries c a old new → HandAt c (take i xs) 0 old → HandAt c (take (i + 1) xs) 0 new
+line_carried c v xs i a old new same lt is at k h =
+    let rest = rest_at xs i a lt is in
+    let parts : v.items ≡ take i xs ++ a ∷ drop (i + 1) xs = sym same ∙ (sym (take-append-drop i xs) ∙ ap (λ (z : List Act). take i xs ++ z) rest) in
+    subst (λ (z : List Act). HandAt c z 0 new) (sym (front_at xs i a lt is)) (k.at v (take i xs) (drop (i + 1) xs) at parts h)
+
+-- all lines are carried out
+pub all_carried : (c : Script) (v : Vec Act) (xs : List Act) (i : ℕ) (h : Hand) → xs ≡ v.items → i ≤ length xs → length xs ≤ i → slice_get c.acts.items h.client.ring ≡ Some v → HandAt c (take i xs) 0 h → IsThrough c h
+all_carried c v xs i h here below above at k w same =
+    let one : v ≡ w = cc in
+    let whole : take i xs ≡ xs = ap (λ (n : ℕ). take n xs) (let z : i ≡ length xs = omega arith in z) ∙ take-length xs in
+    subst (λ (z : Vec Act). HandAt c z.items 0 h) one (subst (λ (z : List Act). HandAt c z 0 h) (whole ∙ here) k)

@@ -1,0 +1,209 @@
+-- The data of an answered request are as many as its reply says of a READ, and none of another entry.
+use Rattle.std.proofs.Common.{◌≡◌, ℕ, ◌==◌, ◌&&◌, not, nat_lt, nat_le, min, Bool, true, false, cond, ℤ, pos, negsuc, List, [], ◌∷◌, Option, Some, None, length, take, slice_index, bit_and, bit_or, sym, refl, ap, ◌∙◌, subst, ⊎_elim, true≢false}
+use Rattle.std.proofs.lemmas.List.{length-take}
+use Rattle.entry.specs.declared.op.Offset.{Offset}
+use Rattle.entry.specs.declared.op.Op.{Op}
+use Rattle.entry.specs.declared.op.Op.TheVariants.{Nop, PollAdd, Timeout, TimeoutRemove, AsyncCancel, LinkTimeout, Close, Read, Write, Invalid}
+use Rattle.entry.specs.Entry.{Entry}
+use Rattle.history.specs.declared.req.Req.{Req}
+use Rattle.history.specs.declared.event.Event.{Event}
+use Rattle.history.specs.declared.event.Event.TheVariants as event
+use Rattle.history.specs.History.{Phase, unborn, waits, runs, armed, replied, reaped, Submission, concerns, becomes, answers, data_in, data_of, phase, reply, reply_in, fired, submission, hands_in, same}
+use Rattle.history.specs.Chains.{is_link_timeout, hosts, placed_behind, placed_from, before_in}
+use Rattle.history.specs.Pipes.{Flow, flow, content, End, no_end, read_end, write_end, end_of}
+use Rattle.history.specs.Answers.{Answer, now, later, bad_end, answer_read, answer_write, answer_poll, free_in, read_events, write_events, is_pipe, read_from, write_to, close_of, poll_of, OpAnswers, Answers}
+use Rattle.history.specs.Legal.{Setup, Legal}
+use Rattle.history.proofs.Requests.{bool_cases, same_true}
+use Rattle.history.proofs.Growth.{MayChange, may_change, changed, unchanged}
+use Rattle.script_run.specs.RunRows.{data_count}
+
+-- ---- what answers come with
+
+parts : (a b : ℤ) (x y : List ℕ) → now a x ≡ now b y → (a ≡ b) × (x ≡ y)
+parts a b x y e = (cc, cc)
+
+never : (a : ℤ) (x : List ℕ) → later ≡ now a x → ⊥
+never a x e = cc
+
+abbrev count : ℤ → ℕ
+count (pos n) = n
+count (negsuc n) = 0
+
+-- the data are as many as the reply says
+abbrev AsMany : Answer → Type 0
+AsMany a = (res : ℤ) (data' : List ℕ) → a ≡ now res data' → length data' ≡ count res
+
+abbrev HasNone : Answer → Type 0
+HasNone a = (res : ℤ) (data' : List ℕ) → a ≡ now res data' → length data' ≡ 0
+
+either : (P : Answer → Type 0) (b : Bool) (x y : Answer) → P x → P y → P (cond b x y)
+either P true x y p q = p
+either P false x y p q = q
+
+many : (r : ℤ) (d : List ℕ) → length d ≡ count r → AsMany (now r d)
+many r d e res data' w = let z = parts r res d data' w in ap length (sym z.1) ∙ (e ∙ ap count z.0)
+
+none : (r : ℤ) → HasNone (now r [])
+none r res data' w = ap length (sym (parts r res [] data' w).1)
+
+nothing_yet : HasNone later
+nothing_yet res data' w = absurd (never res data' w)
+
+not_yet : AsMany later
+not_yet res data' w = absurd (never res data' w)
+
+reads : (w : Flow) (len : ℕ) → AsMany (answer_read w len)
+reads w len =
+    either AsMany w.read_shut bad_end _ (many (negsuc 8) [] refl)
+    (either AsMany (len == 0) (now (pos 0) []) _ (many (pos 0) [] refl)
+    (either AsMany (nat_lt 0 (length (content w))) (now (pos (min len (length (content w)))) (take len (content w))) _ (many (pos (min len (length (content w)))) (take len (content w)) (length-take len (content w)))
+    (either AsMany w.write_shut (now (pos 0) []) later (many (pos 0) [] refl) not_yet)))
+
+reads_from : (caps : List ℕ) (flow_at : ℕ → Flow) (e : End) (len : ℕ) → AsMany (read_from caps flow_at e len)
+reads_from caps flow_at (read_end p) len = either AsMany (is_pipe caps p) (answer_read (flow_at p) len) bad_end (reads (flow_at p) len) (many (negsuc 8) [] refl)
+reads_from caps flow_at (write_end p) len = many (negsuc 8) [] refl
+reads_from caps flow_at no_end len = many (negsuc 8) [] refl
+
+writes : (cap : ℕ) (w : Flow) (len : ℕ) → HasNone (answer_write cap w len)
+writes cap w len =
+    either HasNone w.write_shut bad_end _ (none (negsuc 8))
+    (either HasNone (len == 0) (now (pos 0) []) _ (none (pos 0))
+    (either HasNone w.read_shut (now (negsuc 31) []) _ (none (negsuc 31))
+    (either HasNone (nat_le len cap) _ _
+    (either HasNone (nat_le len (free_in cap w)) (now (pos len) []) later (none (pos len)) nothing_yet)
+    (either HasNone (nat_lt 0 (free_in cap w)) (now (pos (free_in cap w)) []) later (none (pos (free_in cap w))) nothing_yet))))
+
+writes_to : (caps : List ℕ) (flow_at : ℕ → Flow) (e : End) (len : ℕ) → HasNone (write_to caps flow_at e len)
+writes_to caps flow_at (write_end p) len = either HasNone (is_pipe caps p) (answer_write (slice_index caps p) (flow_at p) len) bad_end (writes (slice_index caps p) (flow_at p) len) (none (negsuc 8))
+writes_to caps flow_at (read_end p) len = none (negsuc 8)
+writes_to caps flow_at no_end len = none (negsuc 8)
+
+closes : (caps : List ℕ) (flow_at : ℕ → Flow) (e : End) → HasNone (close_of caps flow_at e)
+closes caps flow_at (read_end p) = either HasNone (is_pipe caps p && not (flow_at p).read_shut) (now (pos 0) []) bad_end (none (pos 0)) (none (negsuc 8))
+closes caps flow_at (write_end p) = either HasNone (is_pipe caps p && not (flow_at p).write_shut) (now (pos 0) []) bad_end (none (pos 0)) (none (negsuc 8))
+closes caps flow_at no_end = none (negsuc 8)
+
+polls_one : (events mask : ℕ) → HasNone (answer_poll events mask)
+polls_one events mask = let b : ℕ = bit_and events (bit_or mask 24) in either HasNone (b == 0) later (now (pos b) []) nothing_yet (none (pos b))
+
+polls : (caps : List ℕ) (flow_at : ℕ → Flow) (e : End) (mask : ℕ) → HasNone (poll_of caps flow_at e mask)
+polls caps flow_at (read_end p) mask = either HasNone (is_pipe caps p && not (flow_at p).read_shut) (answer_poll (read_events (flow_at p)) mask) bad_end (polls_one (read_events (flow_at p)) mask) (none (negsuc 8))
+polls caps flow_at (write_end p) mask = either HasNone (is_pipe caps p && not (flow_at p).write_shut) (answer_poll (write_events (slice_index caps p) (flow_at p)) mask) bad_end (polls_one (write_events (slice_index caps p) (flow_at p)) mask) (none (negsuc 8))
+polls caps flow_at no_end mask = none (negsuc 8)
+
+read_count : (fd : ℤ) (offset : Offset) (len : ℕ) (res : ℤ) → count res ≡ data_count (Read fd offset len) res
+read_count fd offset len (pos n) = refl
+read_count fd offset len (negsuc n) = refl
+
+answer_long : (caps : List ℕ) (h : List Event) (r : Req) (op : Op) (res : ℤ) (data' : List ℕ) → OpAnswers caps h r op res data' → length data' ≡ data_count op res
+answer_long caps h r Nop res data' a = none (pos 0) res data' a
+answer_long caps h r Invalid res data' a = none (negsuc 21) res data' a
+answer_long caps h r (Read fd offset len) res data' a = reads_from caps (flow h) (end_of fd) len res data' a ∙ read_count fd offset len res
+answer_long caps h r (Write fd offset len) res data' a = writes_to caps (flow h) (end_of fd) len res data' a
+answer_long caps h r (Close fd) res data' a = closes caps (flow h) (end_of fd) res data' a
+answer_long caps h r (PollAdd fd mask) res data' a = polls caps (flow h) (end_of fd) mask res data' a
+answer_long caps h r (AsyncCancel user_data) res data' a = ap length a.1
+answer_long caps h r (TimeoutRemove user_data) res data' a = ap length a.1
+answer_long caps h r (Timeout ticks etime_success) res data' a = absurd a
+answer_long caps h r (LinkTimeout ticks) res data' a = absurd a
+
+-- ---- the entry as it is placed, and as it was handed in
+
+linked_none : (op : Op) (res : ℤ) → is_link_timeout op ≡ true → 0 ≡ data_count op res
+linked_none (LinkTimeout ticks) res w = refl
+linked_none Nop res w = absurd (true≢false (sym w))
+linked_none Invalid res w = absurd (true≢false (sym w))
+linked_none (Read fd offset len) res w = absurd (true≢false (sym w))
+linked_none (Write fd offset len) res w = absurd (true≢false (sym w))
+linked_none (Close fd) res w = absurd (true≢false (sym w))
+linked_none (PollAdd fd mask) res w = absurd (true≢false (sym w))
+linked_none (AsyncCancel user_data) res w = absurd (true≢false (sym w))
+linked_none (TimeoutRemove user_data) res w = absurd (true≢false (sym w))
+linked_none (Timeout ticks etime_success) res w = absurd (true≢false (sym w))
+
+behind_count : (a b : Bool) (e : Entry) (res : ℤ) → (a ≡ true → 0 ≡ data_count e.op res) → data_count (cond (a && b) (record e { op = Invalid }) e).op res ≡ data_count e.op res
+behind_count true true e res z = z refl
+behind_count true false e res z = refl
+behind_count false b e res z = refl
+
+placed_count : (before o : Option Submission) (s : Submission) (e : Entry) (res : ℤ) → o ≡ Some s → placed_from before o ≡ Some e → data_count e.op res ≡ data_count s.entry.op res
+placed_count before None s e res is at = absurd (let z = is in cc)
+placed_count before (Some t) s e res is at =
+    let one : t ≡ s = cc in
+    let two : placed_behind before t.entry ≡ e = cc in
+    ap (λ (x : Entry). data_count x.op res) (sym two) ∙ (behind_count (is_link_timeout t.entry.op) (not (hosts before)) t.entry res (linked_none t.entry.op res) ∙ ap (λ (x : Submission). data_count x.entry.op res) one)
+
+-- ---- a request's data, event by event
+
+abbrev IsLong : List Event → Req → Type 0
+IsLong h r = (res : ℤ) (y : Submission) → reply h r ≡ Some res → submission h r ≡ Some y → length (data_of h r) ≡ data_count y.entry.op res
+
+none_some : {X : Type 0} → (x : X) → None ≡ Some x → ⊥
+none_some x e = cc
+
+cut_count : (op : Op) (n : ℕ) → data_count op (negsuc n) ≡ 0
+cut_count (Read fd offset len) n = refl
+cut_count op n = refl
+
+-- another's event, or one that answers nothing
+same_sub : (e : Event) (h : List Event) (r : Req) → concerns e r ≡ false → submission (e ∷ h) r ≡ submission h r
+same_sub (event.Submit q d bytes last) h r w = ap (λ (b : Bool). cond b (Some (record { entry = d; bytes = bytes; last = last })) (submission h r)) w
+same_sub _ h r w = refl
+
+same_data : (e : Event) (h : List Event) (r : Req) → concerns e r ≡ false → data_of (e ∷ h) r ≡ data_of h r
+same_data (event.Reply q res data') h r w = ap (λ (b : Bool). cond b data' (data_of h r)) w
+same_data (event.Take c t) h r w = ap (λ (b : Bool). cond b [] (data_of h r)) w
+same_data (event.Expire q) h r w = ap (λ (b : Bool). cond b [] (data_of h r)) w
+same_data (event.Fire l t) h r w = ap (λ (b : Bool). cond b [] (data_of h r)) w
+same_data (event.Settle q) h r w = ap (λ (b : Bool). cond b [] (data_of h r)) w
+same_data (event.Sever q) h r w = ap (λ (b : Bool). cond b [] (data_of h r)) w
+same_data (event.Cut q) h r w = ap (λ (b : Bool). cond b [] (data_of h r)) w
+same_data _ h r w = refl
+
+no_reply : (p q : Phase) (res : ℤ) → p ≡ q → reply_in q ≡ None → reply_in p ≡ Some res → ⊥
+no_reply p q res e n w = none_some res (sym n ∙ (ap reply_in (sym e) ∙ w))
+
+-- answered with an error number and no data
+failed : (h : List Event) (e : Event) (r : Req) (p : Phase) (n : ℕ) (res : ℤ) (op : Op) → phase (e ∷ h) r ≡ p → reply_in p ≡ Some (negsuc n) → reply (e ∷ h) r ≡ Some res → data_of (e ∷ h) r ≡ [] → length (data_of (e ∷ h) r) ≡ data_count op res
+failed h e r p n res op is says re d = let one : negsuc n ≡ res = some_same (negsuc n) res (sym says ∙ (ap reply_in (sym is) ∙ re)) in ap length d ∙ (sym (cut_count op n) ∙ ap (data_count op) one) where
+  some_same : {X : Type 0} → (a b : X) → Some a ≡ Some b → a ≡ b
+  some_same a b e = cc
+
+long_after : (s : Setup) (e : Event) (h : List Event) (r : Req) → Legal s (e ∷ h) → concerns e r ≡ true → IsLong h r → IsLong (e ∷ h) r
+long_after s (event.Submit q d bytes last) h r l w k res y re sub = absurd (no_reply (phase (event.Submit q d bytes last ∷ h) r) waits res (changed s (event.Submit q d bytes last) h r w) refl re)
+long_after s (event.Begin q) h r l w k res y re sub = absurd (no_reply (phase (event.Begin q ∷ h) r) runs res (changed s (event.Begin q) h r w) refl re)
+long_after s (event.Park q) h r l w k res y re sub = absurd (no_reply (phase (event.Park q ∷ h) r) waits res (changed s (event.Park q) h r w) refl re)
+long_after s (event.Arm q d) h r l w k res y re sub = absurd (no_reply (phase (event.Arm q d ∷ h) r) (armed d) res (changed s (event.Arm q d) h r w) refl re)
+long_after s (event.Reply q v data') h r l w k res y re sub =
+    let is : phase (event.Reply q v data' ∷ h) r ≡ replied Rattle.history.specs.History.by_reply v = changed s (event.Reply q v data') h r w in
+    let one : v ≡ res = some_same v res (ap reply_in (sym is) ∙ re) in
+    let a : Answers s.caps h r v data' = subst (λ (z : Req). Answers s.caps h z v data') (same_true q r w) l.0.1.1 in
+    ap length (ap (λ (b : Bool). cond b data' (data_of h r)) w) ∙ (answer_long s.caps h r a.0.op v data' a.2 ∙ (placed_count (before_in h r) (submission h r) y a.0 v sub a.1 ∙ ap (data_count y.entry.op) one)) where
+      some_same : {X : Type 0} → (a b : X) → Some a ≡ Some b → a ≡ b
+      some_same a b e = cc
+long_after s (event.Take c t) h r l w k res y re sub = failed h (event.Take c t) r (becomes h (event.Take c t) (phase h r)) 124 res y.entry.op (changed s (event.Take c t) h r w) refl re (ap (λ (b : Bool). cond b [] (data_of h r)) w)
+long_after s (event.Expire q) h r l w k res y re sub = failed h (event.Expire q) r (becomes h (event.Expire q) (phase h r)) 61 res y.entry.op (changed s (event.Expire q) h r w) refl re (ap (λ (b : Bool). cond b [] (data_of h r)) w)
+long_after s (event.Fire q t) h r l w k res y re sub = failed h (event.Fire q t) r (becomes h (event.Fire q t) (phase h r)) 124 res y.entry.op (changed s (event.Fire q t) h r w) refl re (ap (λ (b : Bool). cond b [] (data_of h r)) w)
+long_after s (event.Settle q) h r l w k res y re sub = ⊎_elim
+    (λ (f : fired h q ≡ true). failed h (event.Settle q) r (replied Rattle.history.specs.History.by_settle (negsuc 61)) 61 res y.entry.op (changed s (event.Settle q) h r w ∙ ap (λ (b : Bool). replied Rattle.history.specs.History.by_settle (cond b (negsuc 61) (negsuc 124))) f) refl re (ap (λ (b : Bool). cond b [] (data_of h r)) w))
+    (λ (f : fired h q ≡ false). failed h (event.Settle q) r (replied Rattle.history.specs.History.by_settle (negsuc 124)) 124 res y.entry.op (changed s (event.Settle q) h r w ∙ ap (λ (b : Bool). replied Rattle.history.specs.History.by_settle (cond b (negsuc 61) (negsuc 124))) f) refl re (ap (λ (b : Bool). cond b [] (data_of h r)) w))
+    (bool_cases (fired h q))
+long_after s (event.Sever q) h r l w k res y re sub = failed h (event.Sever q) r (becomes h (event.Sever q) (phase h r)) 124 res y.entry.op (changed s (event.Sever q) h r w) refl re (ap (λ (b : Bool). cond b [] (data_of h r)) w)
+long_after s (event.Cut q) h r l w k res y re sub = failed h (event.Cut q) r (becomes h (event.Cut q) (phase h r)) 124 res y.entry.op (changed s (event.Cut q) h r w) refl re (ap (λ (b : Bool). cond b [] (data_of h r)) w)
+long_after s (event.Reap q) h r l w k res y re sub = k res y (reaped_same (phase h r) (may_change s (event.Reap q) h r l.1 l.0.1 w) (ap reply_in (sym (changed s (event.Reap q) h r w)) ∙ re)) sub where
+  reaped_same : (p : Phase) → MayChange p (event.Reap q) → reply_in (becomes h (event.Reap q) p) ≡ Some res → reply_in p ≡ Some res
+  reaped_same (replied c v) m e = e
+  reaped_same (reaped c v) m e = e
+  reaped_same unborn m e = e
+  reaped_same waits m e = e
+  reaped_same runs m e = e
+  reaped_same (armed d) m e = e
+long_after s _ h r l w k res y re sub = absurd (true≢false (sym w))
+
+pub data_long : (s : Setup) (h : List Event) (r : Req) → Legal s h → IsLong h r
+data_long s [] r l = λ res y re sub. absurd (none_some res re)
+data_long s (e ∷ h) r l = ⊎_elim
+    (λ (w : concerns e r ≡ true). long_after s e h r l w (data_long s h r l.1))
+    (λ (w : concerns e r ≡ false) res y re sub.
+    ap length (same_data e h r w) ∙ data_long s h r l.1 res y (ap reply_in (sym (unchanged s e h r w)) ∙ re) (sym (same_sub e h r w) ∙ sub))
+    (bool_cases (concerns e r))

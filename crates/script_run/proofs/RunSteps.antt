@@ -1,0 +1,113 @@
+-- The hands of a run, from its start to the end of all lines.
+use Rattle.std.proofs.Common.{◌≡◌, ℕ, zero, suc, ◌+◌, ◌<◌, ◌≤◌, Bool, List, [], ◌∷◌, ◌++◌, All, None, length, map, drop, get_or, sym, refl, ap, ◌∙◌, subst, arith}
+use Rattle.std.specs.Prelude.{slice_get, IfOk, Result, Ok, Err}
+use Rattle.std.proofs.lemmas.List.{length-map}
+use Rattle.steps.specs.declared.line.Line.{Line}
+use Rattle.steps.specs.declared.view.Role.TheVariants.{Poller, Submitter}
+use Rattle.steps.specs.Cells.{setup_of as board_setup}
+use Rattle.steps.specs.Journal.{events_of}
+use Rattle.work.specs.Board.{Facts}
+use Rattle.work.specs.Passes.{Pass, seen_of}
+use Rattle.board.specs.Reports.{IsReport}
+use Rattle.board.specs.declared.completion.Completion.{Completion}
+use Rattle.board.specs.declared.shape.RingShape.{RingShape}
+use Rattle.board.specs.declared.shape.Shape.{Shape}
+use Rattle.board.specs.ShapeLimits.{counts}
+use Rattle.runtime.specs.Clients.{ClientFacts, submitter_of, AreClients, AreNewClients, IsNewClient, IsStarted}
+use Rattle.script.specs.declared.script.Script.{Script}
+use Rattle.script.specs.Carried.{HasCarried}
+use Rattle.script.specs.Tables.{setup_of}
+use Rattle.script_run.specs.declared.hand.Hand.{Hand}
+use Rattle.script_run.specs.Hands.{client_of, taken_by, AreTaken, AreNew, IsNewHand, IsCarried, AllWent, AllCarriedOut}
+use Rattle.script_run.specs.Played.{AreInOrder, AreStarting, IsPlayed}
+use Rattle.script_run.specs.declared.clock.ClockLine.{ClockLine}
+use Rattle.script_run.specs.ClockLines.{AreClockLines, IsAlong}
+use Rattle.script_run.proofs.ClockSteps.{ends}
+use Rattle.script_run.proofs.HandLists.{get_map}
+
+-- ---- the end of all lines
+
+pub in_order : (c : Script) (b : Facts) (xs ys zs : List Hand) → AreStarting c b xs → AllCarriedOut c xs ys → AllWent ys zs → AreInOrder b zs
+in_order c b xs ys zs s out went = record {
+  count = went.0 ∙ (out.0 ∙ s.order.count);
+  board = λ k d lt. (let l = out.0 in let m = went.0 in (went.1 k d d (omega arith)).stayed.board ∙ ((out.1 k d d (omega arith)).board ∙ s.order.board k d (omega arith)));
+  rings = λ k d lt. (let l = out.0 in let m = went.0 in (went.1 k d d (omega arith)).stayed.ring ∙ ((out.1 k d d (omega arith)).ring ∙ s.order.rings k d (omega arith)));
+}
+
+pub are_carried : (c : Script) (b : Facts) (xs ys zs : List Hand) → AreStarting c b xs → AllCarriedOut c xs ys → AllWent ys zs → All (λ h. h.halt ≡ None) zs → All (λ h. IsCarried c h) zs
+are_carried c b xs ys zs s out went none k d lt =
+    let l = out.0 in let m = went.0 in
+    let w = went.1 k d d (omega arith) in
+    let x = (out.1 k d d (omega arith)).carried (s.new k d (omega arith)).0 (sym w.halt ∙ none k d lt) in
+    record { through = λ v at. w.at c v.items 0 (x.through v (ap (slice_get c.acts.items) (sym w.stayed.ring) ∙ at)); taken = w.stayed.taken x.taken }
+
+pub of_board : (b : Facts) (hands : List Hand) → AreInOrder b hands → AreClients b (map client_of hands)
+of_board b [] o k d lt = absurd (omega arith)
+of_board b (h ∷ hands) o k d lt =
+    let long = length-map (h ∷ hands) client_of in
+    ap (λ (x : ClientFacts). x.board) (get_map client_of (h ∷ hands) k h d (omega arith)) ∙ o.board k h (omega arith)
+
+-- ---- the start
+
+new_at : (b : Facts) (n : ℕ) (cs : List ClientFacts) (k : ℕ) (d : ClientFacts) → AreNewClients b n cs → k < length cs → IsNewClient b (n + k) (get_or cs k d)
+new_at b n [] k d a lt = absurd (omega arith)
+new_at b n (x ∷ cs) zero d a lt = subst (λ (m : ℕ). IsNewClient b m x) (let z : n ≡ n + 0 = omega arith in z) a.0
+new_at b n (x ∷ cs) (suc k) d a lt = subst (λ (m : ℕ). IsNewClient b m (get_or cs k d)) (let z : suc n + k ≡ n + suc k = omega arith in z) (new_at b (suc n) cs k d a.1 (omega arith))
+
+counts_long : (rs : List RingShape) → length (counts rs) ≡ length rs
+counts_long [] = refl
+counts_long (r ∷ rs) = ap suc (counts_long rs)
+
+new_hand : (c : Script) (b : Facts) (n : ℕ) (h : Hand) → IsNewClient b n h.client → h.taken.items ≡ [] → IsNewHand c h
+new_hand c b n h new none =
+    let i : ℕ = h.client.ring in
+    let start : HasCarried c i [] 0 [] = record { keeps = tt; count = refl; are_done = tt } in
+    record {
+      at = record { role = new.3.1 ∙ ap Submitter (sym new.1); carried = subst (λ (j : List Line). HasCarried c i [] 0 (events_of j)) (sym new.3.2) start };
+      taken = subst (λ (xs : List Completion). AreTaken (events_of h.client.submitter.view.seen) xs) (sym none) tt;
+    }
+
+pub starts : (c : Script) (s : Shape) (b : Facts) (hands : List Hand) (clients : List ClientFacts) → IsStarted s b clients → map client_of hands ≡ clients → AreNew hands → AreStarting c b hands
+starts c s b hands clients is order new =
+    let long : length (map client_of hands) ≡ length hands = length-map hands client_of in
+    let count : length hands ≡ length clients = sym long ∙ ap length order in
+    let one : (k : ℕ) (d : Hand) → k < length hands → IsNewClient b k (get_or hands k d).client = λ k d lt. (
+    subst (λ (x : ClientFacts). IsNewClient b k x) (ap (λ (xs : List ClientFacts). get_or xs k (client_of d)) (sym order) ∙ get_map client_of hands k d (client_of d) lt) (subst (λ (m : ℕ). IsNewClient b m (get_or clients k (client_of d))) (let z : 0 + k ≡ k = omega arith in z) (new_at b 0 clients k (client_of d) is.each (omega arith)))) in
+    record {
+      order = record {
+        count = count ∙ (is.count ∙ (sym (counts_long s.rings.items) ∙ ap length (sym is.cells)));
+        board = λ k d lt. (one k d lt).0;
+        rings = λ k d lt. (one k d lt).1;
+      };
+      new = λ k d lt. (new_hand c b k (get_or hands k d) (one k d lt) (new k d lt).0, (new k d lt).1);
+    }
+
+pub same_setup : (c : Script) (s : Shape) (b : Facts) (clients : List ClientFacts) → IsStarted s b clients → length s.rings.items ≡ length c.rings.items → s.pipes.items ≡ c.pipes.items → board_setup b.layout ≡ setup_of c
+same_setup c s b clients is rings pipes =
+    let count : length b.layout.cells ≡ length c.rings.items = ap length is.cells ∙ (counts_long s.rings.items ∙ rings) in
+    let caps : b.layout.caps ≡ c.pipes.items = is.caps ∙ pipes in
+    λ j. record { rings = count j; caps = caps j }
+
+-- ---- all of it
+
+pub played : (c : Script) (b : Facts) (hands : List Hand) (clients : List ClientFacts) (taken : List Completion) (report : List (Completion × Bool)) (own lines : List ClockLine) (next : ℕ)
+    → AreInOrder b hands → All (λ h. IsCarried c h) hands → clients ≡ map client_of hands → taken ≡ taken_by hands → own ≡ lines → length lines ≤ next → AreClockLines c c.clock.items lines
+    → (poller : Pass) × (workers : List Pass) × IsReport b (poller ∷ (map submitter_of clients ++ workers)) report × IsAlong own next (seen_of poller) × (poller.view.role ≡ Poller (length b.layout.cells))
+    → IsPlayed c b taken report
+played c b hands clients taken report own lines next order carried is all same le are x = record {
+  hands = hands;
+  order = order;
+  carried = carried;
+  taken_is = all;
+  poller = x.0;
+  workers = x.1;
+  report = subst (λ (cs : List ClientFacts). IsReport b (x.0 ∷ (map submitter_of cs ++ x.1)) report) is x.2;
+  role = x.4;
+  left = drop next c.clock.items;
+  timed = ends c lines next (seen_of x.0) le (subst (λ (ls : List ClockLine). IsAlong ls next (seen_of x.0)) same x.3 c are);
+}
+
+-- what two clauses say of a result together
+pub if_ok : {X E : Type 0} (P Q R : X → Type 0) (r : Result X E) → ((x : X) → P x → Q x → R x) → IfOk r P → IfOk r Q → IfOk r R
+if_ok P Q R (Ok x) f p q = f x p q
+if_ok P Q R (Err e) f p q = tt

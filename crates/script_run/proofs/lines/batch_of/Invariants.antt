@@ -1,0 +1,6 @@
+use Rattle.std.proofs.Common.{take}
+use Rattle.script_run.specs.Hands.{AreEntries}
+use Rattle.script_run.proofs.lines.batch_of.Given as goal
+
+abbrev pub invariant-loop-place : goal.invariant-loop-place
+invariant-loop-place l = AreEntries l.stage.script.now (take l.place-index l.places) l.batch.items

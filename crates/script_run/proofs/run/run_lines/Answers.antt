@@ -1,0 +1,24 @@
+use Rattle.std.proofs.Common.{◌≡◌, List, Bool, length, sym, subst}
+use Rattle.board.specs.declared.completion.Completion.{Completion}
+use Rattle.script.specs.declared.table.Table.{Table}
+use Rattle.script.specs.Rows.{rows_of}
+use Rattle.script.specs.Tables.{IsTableOf}
+use Rattle.script_run.specs.Played.{IsPlayed}
+use Rattle.script_run.specs.RunRows.{AreRows}
+use Rattle.script_run.proofs.RunSteps.{starts, same_setup, if_ok}
+use Rattle.script_run.proofs.WholeTables.{is_table}
+use Rattle.script_run.proofs.run.run_lines.Goals as goal
+
+pub play-requires-clause-hands : goal.play-requires-clause-hands
+play-requires-clause-hands g c κs inside = let s = c.requires.started in starts c.args.stage.now.script.now s.shape c.args.runtime c.in_ok-hands.hands.items c.args.clients.items s.started c.in_ok-hands.ensures.clients c.in_ok-hands.ensures.new
+
+pub returns : goal.returns
+returns g c =
+    let script = c.args.stage.now.script.now in let b = c.args.runtime in let homes = c.args.stage.now.homes.now in let s = c.requires.started in
+    let taken : List Completion = c.as_slice.result.now in
+    let left : List (Completion × Bool) = c.lines.result.now in
+    let one : IsPlayed script b taken c.in_ok-taken.report = subst (λ (z : List Completion). IsPlayed script b z c.in_ok-taken.report) (sym c.as_slice.ensures.value) c.in_ok-taken.ensures in
+    let all : IsPlayed script b taken left = subst (λ (z : List (Completion × Bool)). IsPlayed script b taken z) (sym c.lines.ensures) one in
+    let same' = same_setup script s.shape b c.args.clients.items s.started s.rings s.pipes in
+    if_ok (λ (t : Table). length t.lines.items ≡ length script.entries.items) (λ (t : Table). AreRows script homes taken left t.lines.items) (λ (t : Table). IsTableOf script (rows_of t)) c.table_of.result
+    (λ t count each. is_table script b taken left all same' homes t.lines.items c.requires.homes count each) c.table_of.ensures.lines c.table_of.ensures.rows

@@ -1,0 +1,21 @@
+use Rattle.std.proofs.Common.{subst, sym}
+use Rattle.std.specs.Global.{Vec}
+use Rattle.script_run.specs.declared.hand.Hand.{Hand}
+use Rattle.script_run.specs.Hands.{AllWent}
+use Rattle.script_run.proofs.HandSteps.{all_still, all_then}
+use Rattle.script_run.proofs.watch.go_on.Goals as goal
+use Rattle.script_run.proofs.watch.go_on.Goals.{then-not-is_over, else-not-is_over+else-are_still}
+
+pub loop-init : goal.loop-init
+loop-init g c = all_still c.args.hands.now.items
+
+pub returns-then-are_still : goal.returns-then-are_still
+returns-then-are_still g c = all_then c.args.hands.now.items c.take_all.new.hands.items c.are_still.new.hands.items (all_then c.args.hands.now.items c.loop.hands.items c.take_all.new.hands.items c.loop.invariant c.in_ok-take_all.ensures) c.are_still.ensures
+
+pub loop-preserved : goal.loop-preserved
+loop-preserved g c =
+    let taken = all_then c.args.hands.now.items c.loop.hands.items c.take_all.new.hands.items c.loop.invariant c.in_ok-take_all.ensures in
+    elim c.if-not-is_over.branch [
+      | then-not-is_over w ↦ subst (λ (v : Vec Hand). AllWent c.args.hands.now.items v.items) (sym w.hands-is) taken
+      | else-not-is_over+else-are_still w ↦ subst (λ (v : Vec Hand). AllWent c.args.hands.now.items v.items) (sym w.hands-is) (all_then c.args.hands.now.items c.take_all.new.hands.items w.are_still.new.hands.items taken w.are_still.ensures)
+    ]

@@ -1,0 +1,15 @@
+-- What does not set the clock leaves a script's clock where it is: a law of clocks, of which this is the proof.
+use Rattle.std.specs.Prelude.{◌≡◌, ℕ, take, drop, List, ◌∷◌}
+use Rattle.history.specs.declared.event.Event.{Event}
+use Rattle.history.specs.Legal.{Setup, Legal}
+use Rattle.history.specs.Ticked.{counts_tick}
+use Rattle.script.specs.declared.script.Script.{Script}
+use Rattle.script.proofs.CarriedLines.{timed_on}
+use Rattle.script_run.specs.declared.clock.ClockLine.{ClockLine}
+use Rattle.script_run.specs.ClockLines.{IsTimed, IsAlong}
+
+pub timed_stays : (c : Script) (lines : List ClockLine) (next : ℕ) (s : Setup) (e : Event) (h : List Event) → Legal s (e ∷ h) → counts_tick e ≡ 0 → IsTimed c lines next h → IsTimed c lines next (e ∷ h)
+timed_stays c lines next s e h l none k = record { lines_are = k.lines_are; timed = timed_on c s (take next c.clock.items) (drop next c.clock.items) e h l none k.timed }
+
+pub along_stays : (lines : List ClockLine) (next : ℕ) (s : Setup) (e : Event) (h : List Event) → Legal s (e ∷ h) → counts_tick e ≡ 0 → IsAlong lines next h → IsAlong lines next (e ∷ h)
+along_stays lines next s e h l none k = λ c are. timed_stays c lines next s e h l none (k c are)
