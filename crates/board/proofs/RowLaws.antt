@@ -1,5 +1,7 @@
 -- What the poller knows of a ring's row, from one look and one call of the row to the next.
-use Rattle.std.proofs.Common.{◌≡◌, ℕ, zero, suc, ◌+◌, ◌-◌, ◌*◌, ◌/◌, ◌%◌, ◌<◌, ◌≤◌, suc-mul, mul-le-mul_right, Bool, true, false, cond, List, [], ◌∷◌, ◌++◌, drop, length, Option, ⊎_elim, inl, inr, sym, refl, ap, ◌∙◌, subst, arith, true≢false}
+use Rattle.std.proofs.Common.{◌≡◌, ℕ, zero, suc, ◌+◌, ◌-◌, ◌*◌, ◌/◌, ◌%◌, ◌<◌, ◌≤◌, suc-mul, mul-le-mul_right, Bool, true, false, cond, List, [], ◌∷◌, ◌++◌, drop, length, Option, Some, ⊎_elim, inl, inr, sym, refl, ap, ◌∙◌, subst, arith, true≢false}
+use Rattle.std.proofs.lemmas.Option.{none-some}
+use Rattle.std.specs.List.{slice_get}
 use Rattle.std.specs.Result.{IsOk, OnOk}
 use Rattle.std.specs.declared.result.Result.{Result}
 use Rattle.std.specs.declared.result.Result.TheVariants.{Ok, Err}
@@ -9,7 +11,7 @@ use Rattle.entry.specs.Entry.{Entry}
 use Rattle.gates.specs.declared.traits.Traits.{Traits}
 use Rattle.gates.specs.EntryRows.{Kept, Stands, added, waiting, waiting_in, slot_with, stand_in, with_reply, Waits}
 use Rattle.gates.specs.Shows.{nth, TrailsAt, Trails, IsOutcome, IsOfChain}
-use Rattle.gates.specs.Slots.{Slot, traits_of, is_pending, passes}
+use Rattle.gates.specs.Slots.{Slot, traits_of, is_pending, test_at, passes}
 use Rattle.gates.proofs.TrailLaws.{trails_later, trails_more, trails_replied, lost_replied, met_trails, stand_in_trails, of_chain_replied}
 use Rattle.history.specs.declared.req.Req.{Req}
 use Rattle.history.specs.declared.event.Event.{Event}
@@ -26,9 +28,10 @@ use Rattle.steps.specs.Cells.{setup_of, IsCell, ring_of, place_of, cells_in, req
 use Rattle.steps.proofs.CellNumbers.{first_cell, located, ring_in}
 use Rattle.steps.proofs.NotesKept.{earlier_gone}
 use Rattle.history.proofs.Growth.{born_once, counted}
-use Rattle.gates.proofs.Lists.{get_there}
+use Rattle.gates.proofs.Lists.{get_there, one_some}
+use Rattle.gates.proofs.Trailing.{trailed}
 use Rattle.steps.proofs.JournalGrowth.{submits_grow, submitted_in}
-use Rattle.history.proofs.Requests.{same_false}
+use Rattle.history.proofs.Requests.{bool_cases, same_false}
 use Rattle.steps.specs.Journal.{events_of}
 use Rattle.work.specs.Board.{Facts, IsBoard}
 use Rattle.work.proofs.GridRows.{counts_at, cell_says, located_is}
@@ -37,7 +40,7 @@ use Rattle.steps.specs.FactsTold.{TellsFacts, AreFacts}
 use Rattle.board.proofs.GoesLaws.{events_before}
 use Rattle.work.specs.Passes.{Pass, pass_of}
 use Rattle.board.specs.Calls.{Goes}
-use Rattle.board.proofs.PutBack.{trails_back, parked_later, outcome_put}
+use Rattle.board.proofs.PutBack.{waits_back, trails_back, parked_later, outcome_put}
 use Rattle.board.proofs.TimersKept.{link_was, link_still}
 
 abbrev TableSeat : Type 0
@@ -121,6 +124,19 @@ waiting_bound (x ∷ xs) = by_one (is_pending x) (waiting_bound xs) where
   by_one : (b : Bool) → waiting_in xs ≤ length xs → cond b 1 0 + waiting_in xs ≤ suc (length xs)
   by_one true z = omega arith
   by_one false z = omega arith
+
+pending_counts : (xs : List Slot) (k : ℕ) (x : Slot) → slice_get xs k ≡ Some x → is_pending x ≡ true → 0 < waiting_in xs
+pending_counts [] k x at p = absurd (none-some x at)
+pending_counts (y ∷ xs) zero x at p = let u : is_pending y ≡ true = ap is_pending (one_some y x at) ∙ p in subst (λ (b : Bool). 0 < cond b 1 0 + waiting_in xs) (sym u) (omega arith)
+pending_counts (y ∷ xs) (suc k) x at p = let z = pending_counts xs k x at p in omega arith
+
+-- who is watched is pending in the row
+pub watches_waits : (K : List ℕ) (j : List Line) (q : Req) (r : Kept) → Watches K j q r → 0 < waiting r
+watches_waits K j q r k = let xs = k.knows.slots in let st = k.knows.stands in let lt = k.cell.there in let n = st.count in let e = waiting_is xs r st in
+    let l : q.k < length xs = omega (arith, lt, n) in let t = get_there xs q.k l in
+    let pending : passes is_pending xs q.k ≡ true = ⊎_elim (λ (w : passes is_pending xs q.k ≡ true). w)
+    (λ (w : passes is_pending xs q.k ≡ false). absurd (subst IsReplied (waits_back q (events_of j)) ((trailed (Park q ∷ events_of j) q.ring xs k.parked).replied_is q.k l w))) (bool_cases (passes is_pending xs q.k)) in
+    let more = pending_counts xs q.k t.0 t.1 (sym (ap (test_at is_pending) t.1) ∙ pending) in omega (arith, e, more)
 
 pub few_wait : (K : List ℕ) (j : List Line) (i : ℕ) (r : Kept) → KnowsRow K j i r → waiting r ≤ added r
 few_wait K j i r k = let a = waiting_is k.slots r k.stands in let b = waiting_bound k.slots in let n = k.stands.count in omega arith

@@ -1,9 +1,10 @@
 -- The poller's seat looks, and the steps of its looks are paid for.
-use Rattle.std.proofs.Common.{◌≡◌, ℕ, ◌+◌, ◌<◌, ◌≤◌, List, [], ◌∷◌, ◌++◌, Option, length, sym, refl, ap, ◌∙◌, subst, arith, length-append}
+use Rattle.std.proofs.Common.{◌≡◌, ℕ, ◌+◌, ◌<◌, ◌≤◌, Bool, true, false, List, [], ◌∷◌, ◌++◌, Option, length, sym, refl, ap, ◌∙◌, subst, ⊎_elim, inl, inr, arith, length-append}
 use Rattle.std.proofs.lemmas.List.{append_assoc}
 use Rattle.atomic_table.specs.declared.shared.Seat.{Seat}
 use Rattle.history.specs.declared.req.Req.{Req}
 use Rattle.history.specs.History.{phase, submits, IsReplied}
+use Rattle.history.specs.Chains.{previous}
 use Rattle.history.specs.Legal.{Legal}
 use Rattle.steps.specs.declared.line.Line.{Line}
 use Rattle.steps.specs.declared.line.Line.TheVariants.{Did}
@@ -22,7 +23,8 @@ use Rattle.work.specs.Board.{Facts}
 use Rattle.work.specs.Passes.{pass_of}
 use Rattle.board.specs.Calls.{LastAt, Stepped, FoundHeld}
 use Rattle.board.specs.Seats.{IsPollerSeat}
-use Rattle.board.specs.PollerRows.{IsOurs, Watched, Paid, Decided, Decides, IsShutOut, Gated}
+use Rattle.board.specs.PollerRows.{IsOurs, Watched, Paid, TellsOutcome, FoundPending, Decided, Decides, IsBlocked, IsShutOut, Gated, Found}
+use Rattle.board.specs.declared.trail.Outcome.TheVariants.{Pending}
 use Rattle.board.specs.declared.trail.Gating.{Gating}
 use Rattle.board.specs.declared.trail.Gating.TheVariants.{Severed as NowSevered, Open as NowOpen, Linked as NowLinked, Shut as NowShut, Lost as NowLost}
 use Rattle.gates.specs.EntryRows.{Kept}
@@ -115,8 +117,24 @@ stepped_after K r s t u b n m x k = (k.0, k.1, k.2, last_after K r s t u b k.0 k
 pub found_after : (K : List ℕ) (r : Req) (s t u : TableSeat) (b : Facts) (n m : ℕ) → Paid s.me.0 t.me.0 n m → FoundHeld K r (pass_of t) (pass_of u) → FoundHeld K r (pass_of s) (pass_of u)
 found_after K r s t u b n m x k = (k.0, k.1, last_after K r s t u b k.0 k.1 _ n m x k.2)
 
+-- ---- what looks found on the way
+
+pub found_pending : (K : List ℕ) (r : Req) (s t : TableSeat) → TellsOutcome K r (pass_of s) (pass_of t) Pending → FoundPending K r (pass_of s) (pass_of t)
+found_pending K r s t x = let y = x.1 in record { cell = y.0; gen = y.1; found = y.2; seen = t.me.0.seen; later = []; others = y.3.others; cell_is = y.3.cell_is; steps = y.3.last; shown = y.4; pending = x.0 }
+
+pub pending_before : (K : List ℕ) (r : Req) (s t u : TableSeat) (n m : ℕ) → FoundPending K r (pass_of s) (pass_of t) → Paid t.me.0 u.me.0 n m → FoundPending K r (pass_of s) (pass_of u)
+pending_before K r s t u n m x p = record { cell = x.cell; gen = x.gen; found = x.found; seen = x.seen; later = p.0 ++ x.later; others = x.others; cell_is = x.cell_is; steps = p.1 ∙ (ap (λ (l : List Step). p.0 ++ l) x.steps ∙ sym (append_assoc p.0 x.later _)); shown = x.shown; pending = x.pending }
+
+pub pending_after : (K : List ℕ) (r : Req) (s t u : TableSeat) (n m : ℕ) → Paid s.me.0 t.me.0 n m → FoundPending K r (pass_of t) (pass_of u) → FoundPending K r (pass_of s) (pass_of u)
+pending_after K r s t u n m p x = record { cell = x.cell; gen = x.gen; found = x.found; seen = x.seen; later = x.later; others = x.others ++ p.0; cell_is = x.cell_is;
+  steps = x.steps ∙ ap (λ (l : List Step). x.later ++ (record { word = Rattle.steps.specs.Cells.claim_at x.cell; found = x.found; seen = x.seen } ∷ l)) (ap (λ (l : List Step). x.others ++ l) p.1 ∙ sym (append_assoc x.others p.0 s.me.0.steps));
+  shown = x.shown; pending = x.pending }
+
+pub blocked_after : (b : Facts) (r : Req) (s t u : TableSeat) (n m : ℕ) → Paid s.me.0 t.me.0 n m → IsBlocked b.layout.cells r (pass_of t) (pass_of u) → IsBlocked b.layout.cells r (pass_of s) (pass_of u)
+blocked_after b r s t u n m x d = let w = d.1.1 in (d.0, (d.1.0, (w.0, w.1, stepped_after b.layout.cells d.1.0 s t u b n m x w.2)))
+
 pub shut_after : (b : Facts) (r : Req) (s t u : TableSeat) (n m : ℕ) → Paid s.me.0 t.me.0 n m → IsShutOut b.layout.cells r (pass_of t) (pass_of u) → IsShutOut b.layout.cells r (pass_of s) (pass_of u)
-shut_after b r s t u n m x d = let w = d.1.1 in (d.0, (d.1.0, (w.0, w.1, stepped_after b.layout.cells d.1.0 s t u b n m x w.2)))
+shut_after b r s t u n m x d = (blocked_after b r s t u n m x d.0, λ c. ⊎_elim (λ f. inl (pending_after b.layout.cells (previous r) s t u n m x f)) (λ g. inr g) (d.1 c))
 
 decided_after : (b : Facts) (r : Req) (s t u : TableSeat) (n m : ℕ) (y : Released) → Paid s.me.0 t.me.0 n m → Decided b r (pass_of t) (pass_of u) y → Decided b r (pass_of s) (pass_of u) y
 decided_after b r s t u n m IsSevered x d = (d.0, found_after b.layout.cells r s t u b n m x d.1)
@@ -139,3 +157,16 @@ gated_after b r s t u n m l NowOpen x p g = (watched_then b s t u x g.0, g.1, g.
 gated_after b r s t u n m l NowLinked x p g = (watched_then b s t u x g.0, g.1, g.2, g.3, g.4)
 gated_after b r s t u n m l NowShut x p g = (watched_then b s t u x g.0, g.1, shut_after b r s t u n m p g.2)
 gated_after b r s t u n m l NowLost x p g = (decides_after b r s t u n m NotHeld x p g.0, g.1, g.2)
+
+-- what the last of several looks found, where the one directly before r was looked at before it, as `looked` says
+pub gated_found : (b : Facts) (r : Req) (s t u : TableSeat) (n m n' m' : ℕ) (l : Kept) (looked : Bool) (y : Gating) → Watched b s t → Paid s.me.0 t.me.0 n m → Paid t.me.0 u.me.0 n' m' → (looked ≡ true → FoundPending b.layout.cells (previous r) (pass_of s) (pass_of t)) → Found b r looked t u l y → Gated b r s u l y
+gated_found b r s t u n m n' m' l true NowShut x p p' f g = (watched_then b s t u x g.0, g.1, (blocked_after b r s t u n m p g.2, λ _. inl (pending_before b.layout.cells (previous r) s t u n' m' (f refl) p')))
+gated_found b r s t u n m n' m' l false NowShut x p p' f g = gated_after b r s t u n m l NowShut x p g
+gated_found b r s t u n m n' m' l true NowSevered x p p' f g = gated_after b r s t u n m l NowSevered x p g
+gated_found b r s t u n m n' m' l false NowSevered x p p' f g = gated_after b r s t u n m l NowSevered x p g
+gated_found b r s t u n m n' m' l true NowOpen x p p' f g = gated_after b r s t u n m l NowOpen x p g
+gated_found b r s t u n m n' m' l false NowOpen x p p' f g = gated_after b r s t u n m l NowOpen x p g
+gated_found b r s t u n m n' m' l true NowLinked x p p' f g = gated_after b r s t u n m l NowLinked x p g
+gated_found b r s t u n m n' m' l false NowLinked x p p' f g = gated_after b r s t u n m l NowLinked x p g
+gated_found b r s t u n m n' m' l true NowLost x p p' f g = gated_after b r s t u n m l NowLost x p g
+gated_found b r s t u n m n' m' l false NowLost x p p' f g = gated_after b r s t u n m l NowLost x p g

@@ -1,16 +1,16 @@
 -- What the poller knows of the requests of each ring, and what it finds out for a release.
-use Rattle.std.specs.Prelude.{◌≡◌, ℕ, ◌+◌, ◌-◌, ◌*◌, ◌<◌, ◌≤◌, Bool, true, false, ℤ, negsuc, List, [], ◌∷◌, ◌++◌, length, slice_get, Option, Some, None}
+use Rattle.std.specs.Prelude.{◌≡◌, ◌⊎◌, ℕ, ◌+◌, ◌-◌, ◌*◌, ◌<◌, ◌≤◌, Bool, true, false, ℤ, negsuc, List, [], ◌∷◌, ◌++◌, length, slice_get, Option, Some, None}
 use Rattle.atomic_table.specs.declared.shared.Seat.{Seat}
 use Rattle.claim.specs.Facts.{Facts as FactsParts}
 use Rattle.entry.specs.Entry.{Entry, fails}
 use Rattle.gates.specs.EntryRows.{Kept, Stands, HasCell, added, waiting}
-use Rattle.gates.specs.Shows.{Trails}
+use Rattle.gates.specs.Shows.{Trails, HasNotSevered}
 use Rattle.gates.specs.Slots.{Slot}
 use Rattle.history.specs.declared.req.Req.{Req}
 use Rattle.history.specs.declared.event.Event.{Event}
 use Rattle.history.specs.declared.event.Event.TheVariants.{Park, Sever}
 use Rattle.history.specs.History.{phase, waits, replied, by_sever, reply, same, IsReplied}
-use Rattle.history.specs.Chains.{IsPlaced, IsChainDone, IsBefore, IsLinkTimeout, Severed, Open, is_timer}
+use Rattle.history.specs.Chains.{IsPlaced, IsChainDone, IsBefore, IsChainBefore, IsLinkTimeout, Severed, Open, is_timer, previous}
 use Rattle.history.specs.Legal.{IsOf as IsOfKind}
 use Rattle.steps.specs.declared.line.Line.{Line}
 use Rattle.steps.specs.declared.parcel.Thing.{Thing}
@@ -18,7 +18,8 @@ use Rattle.steps.specs.declared.view.Step.{Step}
 use Rattle.steps.specs.declared.view.View.{View}
 use Rattle.steps.specs.FactsTold.{TellsFacts}
 use Rattle.steps.specs.Journal.{events_of, freed}
-use Rattle.steps.specs.Cells.{IsCell, cells_in, request_at}
+use Rattle.steps.specs.Cells.{IsCell, cells_in, request_at, claim_at}
+use Rattle.steps.specs.Rule.{Shown}
 use Rattle.work.specs.Board.{Facts, IsOf}
 use Rattle.work.specs.Passes.{Pass, pass_of, seen_of}
 use Rattle.board.specs.Calls.{Goes, Stepped, FoundHeld, IsUnheld, MayStart}
@@ -29,6 +30,8 @@ use Rattle.board.specs.declared.trail.Passing.{Passing}
 use Rattle.board.specs.declared.trail.Passing.TheVariants.{Waits, Passed, Lost}
 use Rattle.board.specs.declared.trail.Gating.{Gating}
 use Rattle.board.specs.declared.trail.Gating.TheVariants.{Severed as NowSevered, Open as NowOpen, Linked as NowLinked, Shut as NowShut, Lost as NowLost}
+use Rattle.board.specs.declared.trail.Round.{Round}
+use Rattle.board.specs.declared.trail.Round.TheVariants.{Decided as DecidedOn, Passed as PassedOne, Looked as LookedBack}
 use Rattle.board.specs.declared.poller.Released.{Released}
 use Rattle.board.specs.declared.poller.Released.TheVariants.{Severed as IsSevered, Freed as IsFreed, Shut as IsShut, Timer as IsTimer, NotHeld}
 
@@ -112,9 +115,30 @@ IsCanceled h r = (phase h r ≡ replied by_sever (negsuc 124)) × Severed h r
 abbrev pub WaitsFor : List ℕ → Pass → Pass → Req → Req → Type 0
 WaitsFor K p q r w = IsBefore w r × (¬ IsReplied (phase (seen_of q) w)) × Stepped K w p q
 
+-- a step of this call, at the request's claim word, found no reply of it, by all that the pass had seen after that step
+pub record FoundPending (K : List ℕ) (r : Req) (p q : Pass) : Type 0 where
+  pub cell : ℕ
+  pub gen : ℕ
+  pub found : ℕ
+  pub seen : List Line
+  pub later : List Step
+  pub others : List Step
+  pub cell_is : IsCell K cell × (request_at K cell gen ≡ r)
+  pub steps : q.view.steps ≡ later ++ (record { word = claim_at cell; found = found; seen = seen } ∷ (others ++ p.view.steps))
+  pub shown : Shown K seen cell found
+  pub pending : ¬ IsReplied (phase (events_of seen) r)
+
+-- the request directly before r in its chain, if there is one, had no reply when this call looked, or has one that doesn't sever
+abbrev pub IsUnended : List ℕ → Req → Pass → Pass → Type 0
+IsUnended K r p q = IsChainBefore (seen_of q) (previous r) r → FoundPending K (previous r) p q ⊎ HasNotSevered (seen_of q) (previous r)
+
 -- it is not open, and waits for another
+abbrev pub IsBlocked : List ℕ → Req → Pass → Pass → Type 0
+IsBlocked K r p q = (¬ Open (seen_of q) r) × ((w : Req) × WaitsFor K p q r w)
+
+-- and the one directly before it doesn't end its chain
 abbrev pub IsShutOut : List ℕ → Req → Pass → Pass → Type 0
-IsShutOut K r p q = (¬ Open (seen_of q) r) × ((w : Req) × WaitsFor K p q r w)
+IsShutOut K r p q = IsBlocked K r p q × IsUnended K r p q
 
 -- it is a timer that waits and may be armed
 abbrev pub MayArm : List Event → Req → Type 0
@@ -139,7 +163,7 @@ pub record Decides (b : Facts) (r : Req) (p q : Pass) (x : Released) : Type 0 wh
 abbrev pub Passes : Facts → Req → Req → Seat (Option Thing) View → Seat (Option Thing) View → Kept → Kept → Passing → Type 0
 Passes b r w s t k l Waits = Watched b s t × Watches b.layout.cells t.me.0.seen r k × (l ≡ k) × TellsOutcome b.layout.cells w (pass_of s) (pass_of t) Pending × Paid s.me.0 t.me.0 0 1
 Passes b r w s t k l Passed = Watched b s t × Watches b.layout.cells t.me.0.seen r l × (waiting l < waiting k) × Paid s.me.0 t.me.0 (3 * waiting l) (3 * waiting k)
-Passes b r w s t k l Lost = Decides b r (pass_of s) (pass_of t) NotHeld × IsPollerSeat t × KnowsRow b.layout.cells t.me.0.seen r.ring l × Paid s.me.0 t.me.0 0 (3 * waiting k)
+Passes b r w s t k l Lost = Decides b r (pass_of s) (pass_of t) NotHeld × IsPollerSeat t × KnowsRow b.layout.cells t.me.0.seen r.ring l × Paid s.me.0 t.me.0 0 3
 
 -- what is known of a request that was found Held, by whether it may start. The poller's seat looked, from s to t, and has the row l
 abbrev pub Gated : Facts → Req → Seat (Option Thing) View → Seat (Option Thing) View → Kept → Gating → Type 0
@@ -149,13 +173,43 @@ Gated b r s t l NowLinked = Watched b s t × Watches b.layout.cells t.me.0.seen 
 Gated b r s t l NowShut = Watched b s t × Watches b.layout.cells t.me.0.seen r l × IsShutOut b.layout.cells r (pass_of s) (pass_of t)
 Gated b r s t l NowLost = Decides b r (pass_of s) (pass_of t) NotHeld × IsPollerSeat t × KnowsRow b.layout.cells t.me.0.seen r.ring l
 
--- what the last look at another request costs
-abbrev pub looks_of : Gating → ℕ
-looks_of NowLinked = 1
-looks_of NowShut = 1
-looks_of _ = 0
+-- the same, but where it is shut and the request directly before it was looked at already nothing is known of that one
+abbrev pub Found : Facts → Req → Bool → Seat (Option Thing) View → Seat (Option Thing) View → Kept → Gating → Type 0
+Found b r true s t l NowShut = Watched b s t × Watches b.layout.cells t.me.0.seen r l × IsBlocked b.layout.cells r (pass_of s) (pass_of t)
+Found b r false s t l NowShut = Gated b r s t l NowShut
+Found b r looked s t l NowSevered = Gated b r s t l NowSevered
+Found b r looked s t l NowOpen = Gated b r s t l NowOpen
+Found b r looked s t l NowLinked = Gated b r s t l NowLinked
+Found b r looked s t l NowLost = Gated b r s t l NowLost
 
--- a step towards an answer for r took the seat from s to t and the row from k to l: it is there, or fewer requests are in the way
-abbrev pub Advances : Facts → Req → Seat (Option Thing) View → Seat (Option Thing) View → Kept → Kept → Option Gating → Type 0
-Advances b r s t k l (Some x) = Gated b r s t l x × Paid s.me.0 t.me.0 0 (3 * waiting k + looks_of x)
-Advances b r s t k l None = Watched b s t × Watches b.layout.cells t.me.0.seen r l × (waiting l < waiting k) × Paid s.me.0 t.me.0 (3 * waiting l) (3 * waiting k)
+-- what the last look at another request costs
+abbrev pub costs_of : Gating → ℕ
+costs_of NowLinked = 1
+costs_of NowShut = 1
+costs_of NowLost = 3
+costs_of _ = 0
+
+-- who is to be looked at next, where `first` is in the way and `link` stands directly before, and what it comes to without a reply
+abbrev pub IsNextLook : ℕ → Option ℕ → Bool → ℕ → Round → Type 0
+IsNextLook first link looked n x = ((x ≡ LookedBack) × (link ≡ Some n) × (looked ≡ false)) ⊎ ((x ≡ DecidedOn NowShut) × (n ≡ first) × ((p : ℕ) → link ≡ Some p → looked ≡ false → p ≡ first))
+
+-- a step towards an answer for r took the seat from s to t and the row from k to l: it is there; or fewer requests are in the way;
+-- or the one directly before it was found to have no reply
+abbrev pub Advances : Facts → Req → Bool → Seat (Option Thing) View → Seat (Option Thing) View → Kept → Kept → Round → Type 0
+Advances b r looked s t k l (DecidedOn x) = Found b r looked s t l x × Paid s.me.0 t.me.0 0 (costs_of x) × (0 < waiting k)
+Advances b r looked s t k l PassedOne = Watched b s t × Watches b.layout.cells t.me.0.seen r l × (waiting l < waiting k) × Paid s.me.0 t.me.0 (3 * waiting l) (3 * waiting k)
+Advances b r looked s t k l LookedBack = Watched b s t × Watches b.layout.cells t.me.0.seen r l × (l ≡ k) × (looked ≡ false) × FoundPending b.layout.cells (previous r) (pass_of s) (pass_of t) × Paid s.me.0 t.me.0 0 1
+
+-- the steps that are owed for a look at the one directly before it
+abbrev pub owed_back : Bool → ℕ
+owed_back true = 0
+owed_back false = 1
+
+abbrev pub looks_of : Gating → ℕ
+looks_of NowSevered = 0
+looks_of NowOpen = 0
+looks_of _ = 1
+
+-- the answer for r took the seat from s to t and the row from k to l
+abbrev pub Gates : Facts → Req → Seat (Option Thing) View → Seat (Option Thing) View → Kept → Kept → Gating → Type 0
+Gates b r s t k l x = Gated b r s t l x × Paid s.me.0 t.me.0 0 (3 * waiting k + looks_of x)

@@ -11,7 +11,7 @@ ghost use Rattle.history.specs.Legal.{IsOf as IsOfKind};
 ghost use Rattle.steps.specs.Journal.{events_of};
 ghost use Rattle.steps.specs.Cells.{claim_at};
 ghost use Rattle.work.specs.Passes.{pass_of};
-ghost use Rattle.board.specs.PollerRows.{KnowsRow, Watches, IsNumbered, IsAt, IsOurs, Watched, Paid, owed, ToldFacts, TellsOutcome, looks_for, Decides, Passes, Advances};
+ghost use Rattle.board.specs.PollerRows.{KnowsRow, Watches, IsNumbered, IsAt, IsOurs, Watched, Paid, owed, ToldFacts, TellsOutcome, looks_for, Decides, Passes, IsNextLook, Advances, Gates};
 ghost use Rattle.steps.specs.FactsTold.{AreFacts};
 ghost use Rattle.board.specs.Seats.{IsPollerSeat};
 ghost use Rattle.gates.specs.Shows.{nth};
@@ -60,6 +60,17 @@ pub(crate) enum Gating {
     Shut,
     /// It doesn't wait any more.
     Lost,
+}
+
+/// What a look towards whether a request may start came to.
+#[derive(Clone, Copy, PartialEq, Eq, Debug)]
+enum Round {
+    /// That is decided.
+    Decided(Gating),
+    /// One that was in the way has replied, and the row knows.
+    Passed,
+    /// Who stands directly before it in its chain has no reply.
+    Looked,
 }
 
 /// The row number of all Invalid entries among the facts.
@@ -336,31 +347,44 @@ fn sever(board: &Board, seat: &mut TableSeat, row: &Row, spot: Spot, req: Req) -
     }
 }
 
-/// Asks the row whether the request may start, or passes one that is in its way.
+/// Who is to be looked at, where `first` is in the way and `link` stands directly before the request in its chain: that one,
+/// unless it was looked at, or is the same. And what it comes to if it has no reply.
+fn next_look(first: u64, link: Option<u64>, looked: bool) -> (u64, Round)
+    ensures { IsNextLook first link looked result.0 result.1 }
+{
+    match link {
+        Some(before) if !looked && before != first => (before, Round::Looked),
+        _ => (first, Round::Decided(Gating::Shut)),
+    }
+}
+
+/// Asks the row whether the request may start, or looks at one that is in its way. The one directly before it in its chain
+/// comes first, once: a failure of that one ends the chain, whoever else is in the way.
 fn advance(
     board: &Board,
     seat: &mut TableSeat,
     row: &mut Row,
     spot: Spot,
     req: Req,
-) -> Option<Gating>
+    looked: bool,
+) -> Round
     requires ours { IsOurs board.now seat.old }
     requires at { IsAt board.now.layout.cells spot.cell spot.generation req }
     requires numbered { IsNumbered board.now.layout.cells req }
     requires born { req.k < submits (events_of seat.old.me.0.seen) req.ring }
     requires watches { Watches board.now.layout.cells seat.old.me.0.seen req row.old }
-    ensures { Advances board.now req seat.old seat.new row.old row.new result }
+    ensures { Advances board.now req looked seat.old seat.new row.old row.new result }
 {
     let (first, waits) = match row.ask(req.k) {
-        Asked::Severed => return Some(Gating::Severed),
-        Asked::Open => return Some(Gating::Open),
-        Asked::OpenWith(target) => (target, Gating::Linked),
-        Asked::Blocked(first) => (first, Gating::Shut),
+        Asked::Severed => return Round::Decided(Gating::Severed),
+        Asked::Open => return Round::Decided(Gating::Open),
+        Asked::OpenWith(target) => (target, Round::Decided(Gating::Linked)),
+        Asked::Blocked(first, link) => next_look(first, link, looked),
     };
     match pass(board, seat, row, spot, req, first) {
-        Passing::Waits => Some(waits),
-        Passing::Passed => None,
-        Passing::Lost => Some(Gating::Lost),
+        Passing::Waits => waits,
+        Passing::Passed => Round::Passed,
+        Passing::Lost => Round::Decided(Gating::Lost),
     }
 }
 
@@ -377,11 +401,14 @@ pub(crate) fn gate(
     requires numbered { IsNumbered board.now.layout.cells req }
     requires born { req.k < submits (events_of seat.old.me.0.seen) req.ring }
     requires watches { Watches board.now.layout.cells seat.old.me.0.seen req row.old }
-    ensures { Advances board.now req seat.old seat.new row.old row.new (Some result) }
+    ensures { Gates board.now req seat.old seat.new row.old row.new result }
 {
+    let mut looked = false;
     loop {
-        if let Some(gating) = advance(board, seat, row, spot, req) {
-            return gating;
+        match advance(board, seat, row, spot, req, looked) {
+            Round::Decided(gating) => return gating,
+            Round::Passed => {}
+            Round::Looked => looked = true,
         }
     }
 }

@@ -7,6 +7,7 @@ pub mod Carried
 pub mod GateAnswers
 pub mod Freeing
 pub mod Gates
+pub mod LinkBefore
 pub mod Links
 pub mod Lists
 pub mod Marks

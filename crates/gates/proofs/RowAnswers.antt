@@ -12,7 +12,7 @@ use Rattle.gates.specs.declared.cell.Cell.{Cell}
 use Rattle.gates.specs.declared.gate.Asked.TheVariants.{Open as open_now, OpenWith as open_with}
 use Rattle.gates.specs.Slots.{Slot, slot_of, is_pending, passes}
 use Rattle.gates.specs.EntryRows.{Kept, HasCell, IsSound, Stands, Waits, place_by, asked_by, IsBlockerAt}
-use Rattle.gates.specs.Shows.{nth, Trails, IsAsked, named_in}
+use Rattle.gates.specs.Shows.{nth, Trails, IsAsked, named_in, linked_in}
 use Rattle.gates.proofs.Lists.{get_there, one_some}
 use Rattle.gates.proofs.Marks.{P, S, Bars}
 use Rattle.gates.proofs.Agreement.{Agrees}
@@ -20,6 +20,7 @@ use Rattle.gates.proofs.Gates.{Quiet, severed_shown, blocks_shown, blocked_no, c
 use Rattle.gates.proofs.Standing.{place_parts, no_place, test_exact}
 use Rattle.gates.proofs.Trailing.{Live, trailed}
 use Rattle.gates.proofs.Blocking.{named_bars, unnamed}
+use Rattle.gates.proofs.LinkBefore.{link_named, link_law}
 use Rattle.gates.proofs.GateAnswers.{within, severed_is, unsevered, place_facts, target_is, target_gate, target_unsevered, target_joined, live_target, lost_clear}
 
 module _ (xs : List Slot) (r : Kept) (sound : IsSound r) (stands : Stands xs r) (k : ℕ) (cell : HasCell r k) (c : Cell) (at : slice_get r.cells (k - r.lost) ≡ Some c) where
@@ -66,6 +67,17 @@ module _ (xs : List Slot) (r : Kept) (sound : IsSound r) (stands : Stands xs r) 
       by_blocker (Some x) e u = let v : x ≡ b = one_some x b u in let z = barring b (e ∙ ap Some v) in let a : b < r.lost + g = z.0.0 in
           (omega (arith, g_before), record { cell = record { kept = z.1; there = omega (arith, g_within) }; pending = z.0.1 })
       by_blocker None e u = by_test (nat_lt g (k - r.lost) && passes is_pending (map slot_of r.cells) g) refl u
+
+    -- and so is who is named as the one directly before it
+    pub linked_law : (p : ℕ) → linked_in (asked_by r g (k - r.lost) q) ≡ Some p → (p + 1 ≡ k) × Waits xs r p
+    linked_law p = by_blocker q where
+      by_test : (t : Bool) → linked_in (cond t (open_with (r.lost + g)) open_now) ≡ Some p → (p + 1 ≡ k) × Waits xs r p
+      by_test true u = absurd (none-some p u)
+      by_test false u = absurd (none-some p u)
+
+      by_blocker : (o : Option ℕ) → linked_in (asked_by r g (k - r.lost) o) ≡ Some p → (p + 1 ≡ k) × Waits xs r p
+      by_blocker (Some x) u = link_named xs r sound stands k cell p u
+      by_blocker None u = by_test (nat_lt g (k - r.lost) && passes is_pending (map slot_of r.cells) g) u
 
     module _ (h : List Event) (i : ℕ) (trails : Trails h i xs) (unanswered : ¬ IsReplied (phase h (nth i k))) (free : c.behind.severed ≡ false) where
       live : Live h i k
@@ -115,8 +127,8 @@ module _ (xs : List Slot) (r : Kept) (sound : IsSound r) (stands : Stands xs r) 
           is_lt x = lt-ltb g (k - r.lost) (omega arith)
 
         by_blocker : (o : Option ℕ) → q ≡ o → IsAsked h (nth i k) (asked_by r g (k - r.lost) o)
-        by_blocker (Some b) e = λ w open'. (let z = barring b e in
-            blocked_no h (nth i (r.lost + g)) (nth i b) (blocks_shown h i xs (Live h i) agrees (r.lost + g) b (omega (arith, n, g_within)) z.0 w) (subst (λ y. IsClear h y) facts.1 open'))
+        by_blocker (Some b) e = ((λ w open'. (let z = barring b e in
+            blocked_no h (nth i (r.lost + g)) (nth i b) (blocks_shown h i xs (Live h i) agrees (r.lost + g) b (omega (arith, n, g_within)) z.0 w) (subst (λ y. IsClear h y) facts.1 open'))), link_law xs r sound stands k cell h i (Live h i) agrees k_within live mark)
         by_blocker None e = by_test (nat_lt g (k - r.lost) && passes is_pending (map slot_of r.cells) g) refl e
 
   module _ (h : List Event) (i : ℕ) (trails : Trails h i xs) (unanswered : ¬ IsReplied (phase h (nth i k))) where

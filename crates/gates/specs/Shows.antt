@@ -4,7 +4,7 @@ use Rattle.entry.specs.Entry.{Entry, drains, fails}
 use Rattle.history.specs.declared.req.Req.{Req}
 use Rattle.history.specs.declared.event.Event.{Event}
 use Rattle.history.specs.History.{Submission, submission, phase, reply, IsReplied}
-use Rattle.history.specs.Chains.{IsPlaced, IsBefore, IsChainBefore, IsChained, IsChainDone, IsTarget, Severed, Open, gate_of}
+use Rattle.history.specs.Chains.{IsPlaced, IsBefore, IsChainBefore, IsChained, IsChainDone, IsTarget, Severed, Open, gate_of, severs, previous}
 use Rattle.gates.specs.declared.gate.Gate.{Gate}
 use Rattle.gates.specs.declared.gate.Gate.TheVariants.{Open as open_gate, Shut as shut_gate, Severed as severed_gate}
 use Rattle.gates.specs.declared.gate.Asked.{Asked}
@@ -93,15 +93,28 @@ TrailsAt h q s = TrailedAt h q s ⊎ StandsIn h q s
 abbrev pub Trails : List Event → ℕ → List Slot → Type 0
 Trails h i xs = (k : ℕ) (s : Slot) → slice_get xs k ≡ Some s → TrailsAt h (nth i k) s
 
+-- it has replied, and not so that the rest of its chain is ended
+abbrev pub HasNotSevered : List Event → Req → Type 0
+HasNotSevered h q = IsReplied (phase h q) × ((e : Entry) (res : ℤ) → IsPlaced h q e → reply h q ≡ Some res → severs e res ≡ false)
+
+-- the request directly before r in its chain, if there is one, is named by this, or has not severed the chain
+abbrev pub IsLink : List Event → Req → Option ℕ → Type 0
+IsLink h r p = IsChainBefore h (previous r) r → (p ≡ Some (r.k - 1)) ⊎ HasNotSevered h (previous r)
+
 -- what a row that trails may answer of r. The history may know of replies that the row doesn't
 abbrev pub IsAsked : List Event → Req → Asked → Type 0
 IsAsked h r severed_now = Severed h r
 IsAsked h r open_now = (¬ Severed h r) × Open h r
 IsAsked h r (open_with t) = IsTarget h r (nth r.ring t) × Open h r × (¬ IsReplied (phase h (nth r.ring t)) → ¬ Severed h r)
-IsAsked h r (blocked_by b) = ¬ IsReplied (phase h (nth r.ring b)) → ¬ Open h r
+IsAsked h r (blocked_by b p) = (¬ IsReplied (phase h (nth r.ring b)) → ¬ Open h r) × IsLink h r p
 
 -- the request that an answer names
 abbrev pub named_in : Asked → Option ℕ
 named_in (open_with t) = Some t
-named_in (blocked_by b) = Some b
+named_in (blocked_by b p) = Some b
 named_in _ = None
+
+-- the request directly before it in its chain, as an answer names it
+abbrev pub linked_in : Asked → Option ℕ
+linked_in (blocked_by b p) = p
+linked_in _ = None

@@ -3,9 +3,9 @@ ghost use Rattle.std.specs.Prelude.{◌≡◌, ◌↔◌, ◌⊎◌, IsTrue, ℕ
 ghost use Rattle.history.specs.declared.event.Event.{Event};
 ghost use Rattle.gates.specs.declared.cell.Cell.{Cell};
 ghost use Rattle.gates.specs.Slots.{Slot, first, passes, is_pending};
-ghost use Rattle.gates.specs.EntryRows.{Kept, HasCell, Stands, added, new_slot, slot_with, stand_in, with_reply, Waits, waiting, way_in, asked_by, gate_in, clear_in, place_by, without_first, IsToldBy, free_by, IsMember, blocker_by, IsBlockerAt};
+ghost use Rattle.gates.specs.EntryRows.{Kept, HasCell, Stands, added, new_slot, slot_with, stand_in, with_reply, Waits, waiting, way_in, asked_by, gate_in, clear_in, place_by, without_first, IsToldBy, free_by, IsMember, blocker_by, IsBlockerAt, link_in};
 ghost use Rattle.history.specs.History.{IsReplied, phase};
-ghost use Rattle.gates.specs.Shows.{nth, Shows, Mirrors, Trails, IsGate, IsAsked, IsTargetOf, IsBlocker, IsFree, IsOfChain, named_in};
+ghost use Rattle.gates.specs.Shows.{nth, Shows, Mirrors, Trails, IsGate, IsAsked, IsTargetOf, IsBlocker, IsFree, IsOfChain, named_in, linked_in};
 
 use crate::cell::{Behind, Cell};
 use crate::cells::{cell_at, first_draining, first_held, first_pending, set_reply, spread};
@@ -253,6 +253,7 @@ impl Row {
     pub fn ask(&self, k: u64) -> Asked
         requires { HasCell self.now k }
         ensures named { (xs : List Slot) → Stands xs self.now → (b : ℕ) → named_in result ≡ Some b → (b < k) × Waits xs self.now b }
+        ensures linked { (xs : List Slot) → Stands xs self.now → (p : ℕ) → linked_in result ≡ Some p → (p + 1 ≡ k) × Waits xs self.now p }
         ensures trailed { (h : List Event) (i : ℕ) (xs : List Slot) → Stands xs self.now → Trails h i xs → (IsReplied (phase h (nth i k)) → ⊥) → IsAsked h (nth i k) result }
     {
         let j = (k - self.lost) as usize;
@@ -268,15 +269,31 @@ impl Row {
 
     /// The answer for the request at the place `j`, by the place `g`, which decides for it.
     fn ask_of_place(&self, g: usize, j: usize) -> Asked
-        requires { g < length self.now.cells }
+        requires { (g ≤ j) × (j < length self.now.cells) }
         ensures { (q : Option ℕ) × IsBlockerAt self.now g q × (result ≡ asked_by self.now g j q) }
     {
         match self.blocker_of_place(g) {
-            Some(b) => Asked::Blocked(b),
+            Some(b) => Asked::Blocked(b, self.link_before(j)),
             None if g < j && cell_at(&self.cells, g).is_pending() => {
                 Asked::OpenWith(self.lost + g as u64)
             }
             None => Asked::Open,
+        }
+    }
+
+    /// The request directly before the one at a place in its chain, where that is pending.
+    fn link_before(&self, j: usize) -> Option<u64>
+        requires { j < length self.now.cells }
+        ensures { result ≡ link_in self.now j }
+    {
+        if j == 0 {
+            return None;
+        }
+        let cell = cell_at(&self.cells, j - 1);
+        if cell.joins() && cell.is_pending() {
+            Some(self.lost + (j - 1) as u64)
+        } else {
+            None
         }
     }
 

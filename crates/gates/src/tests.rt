@@ -208,16 +208,16 @@ fn a_row_that_trails_names_who_is_to_be_looked_at(rt: HostRuntime) -> Result<(),
     put(&rt, &mut row, link_timeout(0), true);
     put(&rt, &mut row, nop(DRAIN), true);
     assert_eq!(rt; ask(&rt, &row, 0), Asked::Open);
-    assert_eq!(rt; ask(&rt, &row, 1), Asked::Blocked(0));
-    assert_eq!(rt; ask(&rt, &row, 2), Asked::Blocked(0));
-    assert_eq!(rt; ask(&rt, &row, 3), Asked::Blocked(0));
+    assert_eq!(rt; ask(&rt, &row, 1), Asked::Blocked(0, Some(0)));
+    assert_eq!(rt; ask(&rt, &row, 2), Asked::Blocked(0, Some(1)));
+    assert_eq!(rt; ask(&rt, &row, 3), Asked::Blocked(0, None));
     answer(&rt, &mut row, 0, false);
     assert_eq!(rt; ask(&rt, &row, 1), Asked::Open);
     assert_eq!(rt; ask(&rt, &row, 2), Asked::OpenWith(1));
-    assert_eq!(rt; ask(&rt, &row, 3), Asked::Blocked(1));
+    assert_eq!(rt; ask(&rt, &row, 3), Asked::Blocked(1, None));
     answer(&rt, &mut row, 1, true);
     assert_eq!(rt; ask(&rt, &row, 2), Asked::Severed);
-    assert_eq!(rt; ask(&rt, &row, 3), Asked::Blocked(2));
+    assert_eq!(rt; ask(&rt, &row, 3), Asked::Blocked(2, None));
     Ok(())
 }
 

@@ -94,4 +94,4 @@ pub returns-in-Lost-clause-arms : goal.returns-in-Lost-clause-arms
 returns-in-Lost-clause-arms c = let b = c.args.board.now in let q = c.args.req in let s = c.args.seat.now in let t = c.timer_in-found.new.seat in let u = c.is_held.new.seat in let r = c.requires in let e = c.timer_in-found.ensures in let f = c.is_held.ensures in let w = watched_then b s t u e.watched f.watched in let p = paid_add s.me.0 t.me.0 u.me.0 1 1 e.steps f.steps in let h = f.held c.if-not-is_held.false in let few = few_added b s b.layout.cells q.ring c.args.row.now r.ours r.knows in let lt = r.has in let born : q.k < submits (events_of s.me.0.seen) q.ring = omega arith in let v = c.gate.new.seat in let g = c.in-Lost.ensures in let k : ℕ = 3 * waiting c.args.row.now + 0 in arms_after b q s u v 0 2 NotHeld w p (arms_lost b q (pass_of u) (pass_of v) g.0.0)
 
 pub returns-in-Lost-clause-steps : goal.returns-in-Lost-clause-steps
-returns-in-Lost-clause-steps c = let b = c.args.board.now in let q = c.args.req in let s = c.args.seat.now in let t = c.timer_in-found.new.seat in let u = c.is_held.new.seat in let r = c.requires in let e = c.timer_in-found.ensures in let f = c.is_held.ensures in let w = watched_then b s t u e.watched f.watched in let p = paid_add s.me.0 t.me.0 u.me.0 1 1 e.steps f.steps in let h = f.held c.if-not-is_held.false in let few = few_added b s b.layout.cells q.ring c.args.row.now r.ours r.knows in let lt = r.has in let born : q.k < submits (events_of s.me.0.seen) q.ring = omega arith in let v = c.gate.new.seat in let g = c.in-Lost.ensures in let k : ℕ = 3 * waiting c.args.row.now + 0 in let m : ℕ = 3 * waiting c.args.row.now in paid_most s.me.0 v.me.0 (2 + k) (m + 4) (paid_add s.me.0 u.me.0 v.me.0 2 k p g.1) (omega arith)
+returns-in-Lost-clause-steps c = let b = c.args.board.now in let q = c.args.req in let s = c.args.seat.now in let t = c.timer_in-found.new.seat in let u = c.is_held.new.seat in let r = c.requires in let e = c.timer_in-found.ensures in let f = c.is_held.ensures in let w = watched_then b s t u e.watched f.watched in let p = paid_add s.me.0 t.me.0 u.me.0 1 1 e.steps f.steps in let h = f.held c.if-not-is_held.false in let few = few_added b s b.layout.cells q.ring c.args.row.now r.ours r.knows in let lt = r.has in let born : q.k < submits (events_of s.me.0.seen) q.ring = omega arith in let v = c.gate.new.seat in let g = c.in-Lost.ensures in let k : ℕ = 3 * waiting c.args.row.now + 1 in let m : ℕ = 3 * waiting c.args.row.now in paid_most s.me.0 v.me.0 (2 + k) (m + 4) (paid_add s.me.0 u.me.0 v.me.0 2 k p g.1) (omega arith)

@@ -41,5 +41,5 @@ returns-else-is_held c =
       decides_after b q s t u 0 2 NotHeld e.watched c.in-ChainDone.ensures.steps (i.lost c.if-is_held.false),
       i.watched.seat,
       knows_on b t u i.watched K q.ring row' known,
-      paid_on s.me.0 t.me.0 u.me.0 (3 * w) 1 0 (paid_with s.me.0 t.me.0 2 0 (3 * w) 1 c.in-ChainDone.ensures.steps 1 (omega arith) (omega arith)) i.steps,
+      paid_on s.me.0 t.me.0 u.me.0 3 1 0 (paid_with s.me.0 t.me.0 2 0 3 1 c.in-ChainDone.ensures.steps 1 (omega arith) (omega arith)) i.steps,
     )
