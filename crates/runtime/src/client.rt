@@ -1,5 +1,5 @@
 //! The client of one ring.
-ghost use Rattle.std.specs.Prelude.{◌≡◌, ◌+◌, ◌*◌, ◌<◌, ◌≤◌, ℕ, [], ◌∷◌, length, IfOk, IfErr, IfSome, MatchOption};
+ghost use Rattle.std.specs.Prelude.{◌≡◌, ◌⊎◌, ◌+◌, ◌*◌, ◌<◌, ◌≤◌, ℕ, [], ◌∷◌, ◌++◌, length, IfOk, IfErr, IfSome, MatchOption};
 ghost use Rattle.std.specs.Arc.{arc_value};
 ghost use Rattle.history.specs.declared.event.Event.TheVariants.{Reap};
 ghost use Rattle.history.specs.History.{phase, submits};
@@ -9,6 +9,7 @@ ghost use Rattle.steps.specs.Fairness.{IsFree, IsReaped};
 ghost use Rattle.work.specs.Board.{IsOf};
 ghost use Rattle.work.specs.Passes.{seen_of, Took};
 ghost use Rattle.bell.specs.BellPasses.{IsRingerOf};
+ghost use Rattle.compring.specs.Posts.{waiting};
 ghost use Rattle.board.specs.Batches.{submits_of};
 ghost use Rattle.board.specs.Calls.{Goes, Finds, next_of};
 ghost use Rattle.board.specs.Headline.{IsCompletion, HasOnce};
@@ -18,14 +19,48 @@ ghost use Rattle.runtime.specs.Clients.{without_tail};
 
 use crate::releasing::END;
 use crate::shared::Shared;
+use crate::shelf::Shelf;
 use bell::Ringer;
 use board::{Completion, Phase, SubmitError, Submitter};
+use compring::CompletionRing;
 use entry::Sqe;
 use history::Req;
 use std::marker::Model;
-use std::sync::{Arc, Wait};
+use std::sync::{Arc, Mutex, Wait};
 
-/// Submits to one ring and takes its completions. No call but `take` waits, and `take` only for the lock of its ring's completions.
+/// How many posts a client takes at once, at most.
+pub(crate) const MOST_TAKEN: usize = 64;
+
+/// Takes posts out of the completion ring, the oldest first, as long as there is one, and a place for it.
+fn gather(posts: &mut Shelf, ring: &mut CompletionRing)
+    ensures places { posts.new.places ≡ posts.old.places }
+    ensures gathered { posts.old.items ++ waiting ring.old ≡ posts.new.items ++ waiting ring.new }
+    ensures all { (waiting ring.new ≡ []) ⊎ (length posts.new.items ≡ posts.new.places) }
+{
+    while !posts.is_full() {
+        let Some((_number, req)) = ring.take() else {
+            return;
+        };
+        posts.put(req);
+    }
+}
+
+/// Takes the oldest post of a ring: of those that were taken, or else of the completion ring.
+fn next_post<R: Wait>(
+    rt: &R,
+    rings: &[Mutex<CompletionRing>],
+    ring: u16,
+    posts: &mut Shelf,
+) -> Option<Req> {
+    if posts.len() == 0 {
+        let ring = rings.get(usize::from(ring))?;
+        gather(posts, &mut *ring.lock(rt));
+    }
+    posts.take()
+}
+
+/// Submits to one ring and takes its completions. No call but `take` waits, and `take` only for the lock of its ring's completions,
+/// which it takes once for all posts that wait, up to 64.
 /// Contracts see its board, its submitter's pass, its ring and the tail that it published last.
 #[derive(Drop)]
 pub struct Client {
@@ -34,6 +69,8 @@ pub struct Client {
     ringer: Ringer,
     tail: u64,
     ring: u16,
+    /// The posts that were taken, and whose completions were not.
+    posts: Shelf,
 }
 
 impl Model for Client {
@@ -53,7 +90,12 @@ impl Model for Client {
 
 impl Client {
     /// The client of a ring that has submitted nothing yet, by the submitter and the ringer of that ring.
-    pub(crate) fn new(shared: Arc<Shared>, submitter: Submitter, ringer: Ringer) -> Client
+    pub(crate) fn new(
+        shared: Arc<Shared>,
+        submitter: Submitter,
+        ringer: Ringer,
+        posts: Shelf,
+    ) -> Client
         requires submitter { IsOf (arc_value shared).board submitter }
         requires ringer { IsRingerOf (arc_value shared).bell ringer × (ringer.tail ≡ 0) }
         requires ring { submitter.view.role ≡ SubmitterRole ringer.ring }
@@ -69,6 +111,7 @@ impl Client {
             ringer,
             tail: 0,
             ring,
+            posts,
         }
     }
 
@@ -125,18 +168,14 @@ impl Client {
         ensures completion { IfSome result (λ x. IsCompletion (seen_of self.new.submitter) x.req x × IsReaped (phase (seen_of self.new.submitter) x.req)) }
         ensures once { IfSome result (λ x. HasOnce (seen_of self.new.submitter) x.req) }
     {
-        let req = self.next_post(rt)?;
+        let ring = self.ring;
+        let Some(req) = next_post(rt, self.shared.posts.as_slice(), ring, &mut self.posts) else {
+            return None;
+        };
         match self.shared.board.reap(&mut self.submitter, req) {
             Ok(completion) => Some(completion),
             Err(_) => None,
         }
-    }
-
-    /// Takes the oldest post of its ring.
-    fn next_post<R: Wait>(&self, rt: &R) -> Option<Req> {
-        let posts = self.shared.posts.get(usize::from(self.ring))?;
-        let (_number, req) = posts.lock(rt).take()?;
-        Some(req)
     }
 
     /// Tells the poller how many requests were submitted, unless it was told a greater tail.

@@ -14,11 +14,12 @@ ghost use Rattle.runtime.specs.PollTurns.{IsNewDesk};
 ghost use Rattle.runtime.specs.StartParts.{AreRingers, IsParts};
 ghost use Rattle.runtime.specs.declared.error.StartError.TheVariants.{BadShape};
 
-use crate::client::Client;
+use crate::client::{Client, MOST_TAKEN};
 use crate::error::{Memory, StartError};
 use crate::poll::{PollDesk, places_of};
 use crate::serving::WorkDesk;
 use crate::shared::Shared;
+use crate::shelf::Shelf;
 use crate::started::{Ours, Runtime, WorkThread, tell_end};
 use crate::threads::{poll, work};
 use bell::{Bell, Ringer, Sleeper};
@@ -127,6 +128,11 @@ fn parts_of(alloc: Global, shape: &Shape) -> Result<Parts, StartError>
     })
 }
 
+/// Room for the posts that a client takes at once.
+fn shelf_of(alloc: Global) -> Result<Shelf, Memory> {
+    Ok(Shelf::new(alloc, MOST_TAKEN)?)
+}
+
 /// The clients of all rings, in order.
 fn clients_of(
     alloc: Global,
@@ -145,7 +151,8 @@ fn clients_of(
             unreachable!()
         };
         let theirs = Arc::try_clone(shared)?;
-        clients.push_reserved(Client::new(theirs, submitter, ringer));
+        let posts = shelf_of(alloc)?;
+        clients.push_reserved(Client::new(theirs, submitter, ringer, posts));
     }
     clients.reverse();
     Ok(clients)

@@ -19,7 +19,19 @@ use controls::{Clock, Turnstile};
 use outbox::Outbox;
 use std::sync::Wait;
 use std::sync::atomic::Ordering;
-use std::thread;
+use std::{hint, thread};
+
+/// How many idle turns in a row a thread makes at once, before it lets other threads have its processor.
+const SPINS: u32 = 64;
+
+/// Between an idle turn and the next, after so many idle turns in a row.
+fn pause(idle: u32) {
+    if idle < SPINS {
+        hint::spin_loop();
+    } else {
+        thread::yield_now();
+    }
+}
 
 /// How many turns in a row were idle, and after how many of them the poller dozes.
 #[derive(Clone, Copy)]
@@ -107,7 +119,7 @@ pub(crate) fn poll<R: Wait, G: Turnstile, C: Clock>(
         if idling.note(turn) && clock.ask().is_none() {
             rest(rt, &shared.bell, &mut desk);
         } else if turn == Turn::Idle {
-            thread::yield_now();
+            pause(idling.count);
         }
     }
     unreachable!()
@@ -159,17 +171,20 @@ pub(crate) fn work<R: Wait, G: Turnstile>(
     requires places { 2 ≤ outbox.places }
     ensures { IsOf shared.now.board result }
 {
+    let mut silent = 0u32;
     for _ in rt.forever() {
         let (next, is_silent) = work_round(rt, shared, &mut desk, worker, turnstile, &mut outbox);
         worker = next;
         if !is_silent {
+            silent = 0;
             continue;
         }
         post_all(rt, shared.posts.as_slice(), turnstile, &mut outbox);
         if shared.is_over.load(Ordering::SeqCst) {
             return worker;
         }
-        thread::yield_now();
+        silent = silent.saturating_add(1);
+        pause(silent);
     }
     unreachable!()
 }

@@ -128,12 +128,16 @@ impl Timers {
         Ok(())
     }
 
-    /// `drop_timer`, which looks at one slot.
+    /// `drop_timer`, which looks at one slot, and at none where there are no timers.
     pub fn drop_counted<L: Ledger>(&mut self, req: Req, looks: &mut Looks<L>) -> bool
         ensures there { IsTrue result ↔ IsSome (deadline_at self.old req) }
         ensures dropped { deadline_at self.new ≡ dropped (deadline_at self.old) req }
         ensures one_slot { looks.new ≤ looks.old + 1 }
+        ensures idle { length self.old ≡ 0 → looks.new ≡ looks.old }
     {
+        if self.deadlines.is_empty() {
+            return false;
+        }
         match forget(&mut self.deadlines, req) {
             None => false,
             Some(at) => {

@@ -1,5 +1,5 @@
 //! Where the requests of the rings lie among the cells of the table.
-ghost use Rattle.std.specs.Prelude.{◌≡◌, ◌<◌, ◌≤◌, length, IfOk, IfSome, IfNone};
+ghost use Rattle.std.specs.Prelude.{◌≡◌, ◌/◌, ◌%◌, ◌<◌, ◌≤◌, length, IfOk, IfSome, IfNone};
 ghost use Rattle.steps.specs.Cells.{IsCell, cells_in, place_of, request_at, total};
 
 use history::Req;
@@ -39,6 +39,19 @@ impl Model for Grid {
     ghost view = { λ g. cells_of g.rows.items };
 
     ghost invariant = { λ g. IsGrid g.rows.items × (g.count ≡ total (cells_of g.rows.items)) };
+}
+
+/// The quotient of a number by a ring's number of cells, and the rest: without a division where that is a power of two.
+pub fn divided(k: u64, cells: u64) -> (u64, u64)
+    requires { 0 < cells }
+    ensures { (result.0 ≡ k / cells) × (result.1 ≡ k % cells) }
+{
+    let shift = cells.trailing_zeros();
+    if shift < 64 && 1 << shift == cells {
+        (k >> shift, k & (cells - 1))
+    } else {
+        (k / cells, k % cells)
+    }
 }
 
 impl Grid {
@@ -89,10 +102,11 @@ impl Grid {
         ensures none { IfNone result (length self.now ≤ req.ring) }
     {
         let row = self.rows.get(usize::from(req.ring))?;
-        let number = (req.k % row.cells) as usize;
+        let (generation, rest) = divided(req.k, row.cells);
+        let number = rest as usize;
         Some(Spot {
             cell: row.first + number,
-            generation: req.k / row.cells,
+            generation,
             number,
         })
     }
