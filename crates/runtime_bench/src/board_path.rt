@@ -88,11 +88,13 @@ impl BoardPath {
         };
         self.board.release(&mut self.poller, req);
         self.work(req)?;
-        match self.board.reap(&mut self.submitter, req) {
-            Ok(completion) if completion.cqe.user_data == number && completion.cqe.res == 0 => {
-                Ok(())
-            }
-            _ => Err(Fault::Reply),
+        let Ok(completion) = self.board.reap(&mut self.submitter, req) else {
+            return Err(Fault::Reply);
+        };
+        if completion.cqe.user_data == number && completion.cqe.res == 0 {
+            Ok(())
+        } else {
+            Err(Fault::Reply)
         }
     }
 

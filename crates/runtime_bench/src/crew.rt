@@ -1,9 +1,10 @@
 //! The runtime of the mixed load.
 ghost use Rattle.std.specs.Prelude.{◌≡◌, None};
 
+use crate::deck::Deck;
 use crate::draft::{CAPACITY, PIPES};
 use crate::fault::Fault;
-use crate::mixer::{CELLS, Mixer};
+use crate::mixer::Mixer;
 use crate::pending::Pending;
 use board::{Completion, Phase, RingShape, Shape};
 use controls::{Clock, Open};
@@ -15,6 +16,9 @@ use std::sync::Wait;
 use std::thread::{Threads, join};
 use std::time::{Clock as Time, Duration};
 
+/// The cells of a ring.
+const CELLS: u32 = 256;
+
 /// How many workers there are.
 const WORKERS: u32 = 3;
 
@@ -22,12 +26,12 @@ const WORKERS: u32 = 3;
 const IDLE: u32 = 8;
 
 /// In how many turns of the poller the clock goes on by one tick.
-const TURNS: u32 = 16;
+const TURNS: u32 = 4;
 
 /// The seeds of the two clients.
 const SEEDS: (u64, u64) = (2_026, 1_117);
 
-/// A clock that goes on by one tick in 16 turns of the poller.
+/// A clock that goes on by one tick in 4 turns of the poller.
 #[derive(Clone, Copy)]
 pub(crate) struct Ticking {
     turns: u32,
@@ -126,8 +130,8 @@ impl Crew {
         let (Some(one), Some(zero)) = (clients.pop(), clients.pop()) else {
             return Err(Fault::Start);
         };
-        let zero = Mixer::new(alloc, zero, SEEDS.0)?;
-        let one = Mixer::new(alloc, one, SEEDS.1)?;
+        let zero = Mixer::new(zero, Deck::new(alloc, CELLS, SEEDS.0)?);
+        let one = Mixer::new(one, Deck::new(alloc, CELLS, SEEDS.1)?);
         Ok(Crew { runtime, zero, one })
     }
 

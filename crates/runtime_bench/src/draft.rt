@@ -28,7 +28,7 @@ const INVALID: u8 = 128;
 const EVENTS: u32 = 5;
 
 /// The ticks of a TIMEOUT that runs out soon, at most, and of one that doesn't.
-const SOON: u32 = 64;
+const SOON: u32 = 16;
 
 const LATE: u64 = 1_000_000_000;
 

@@ -1,7 +1,9 @@
 //! A runtime with one or two clients at work.
-ghost use Rattle.std.specs.Prelude.{◌≡◌, IfSome};
+ghost use Rattle.std.specs.Prelude.{◌≡◌, IfOk, IfSome};
 ghost use Rattle.work.specs.Board.{Facts};
+ghost use Rattle.runtime.specs.Clients.{AreClients};
 
+use crate::course::Course;
 use crate::fault::Fault;
 use crate::lane::Lane;
 use crate::load::{Load, pipes_of};
@@ -56,26 +58,29 @@ fn lane_of(alloc: Global, client: Client, setup: &Setup) -> Result<Lane, AllocEr
     ensures { IfOk result (λ l. l.client ≡ client) }
 {
     let load = Load::new(alloc, setup)?;
-    Ok(Lane::new(alloc, client, load, setup.depth))
+    Ok(Lane::new(client, Course::new(alloc, load, setup.depth)))
 }
 
-/// The two lanes, each a thread, or the first one alone.
-fn run_both<R: Threads + Wait + Sync>(
-    rt: &R,
-    zero: Lane,
-    one: Option<Lane>,
-    is_pair: bool,
-    units: u64,
-) -> (Lane, Option<Lane>)
+/// Both lanes at work, each in a thread.
+fn run_both<R: Threads + Wait + Sync>(rt: &R, zero: Lane, one: Lane, units: u64) -> (Lane, Lane)
     ensures zero { result.0.client.board ≡ zero.client.board }
-    ensures one { (b : Facts) → IfSome one (λ l. l.client.board ≡ b) → IfSome result.1 (λ l. l.client.board ≡ b) }
+    ensures one { result.1.client.board ≡ one.client.board }
 {
+    join(rt, move || zero.run(rt, units), move || one.run(rt, units))
+}
+
+/// The clients of both rings, or of the one that there is.
+fn clients_of(alloc: Global, zero: Client, one: Option<Client>) -> Result<Vec<Client>, AllocError>
+    ensures { IfOk result (λ v. (b : Facts) → zero.board ≡ b → IfSome one (λ c. c.board ≡ b) → AreClients b v.items) }
+{
+    let mut clients = Vec::new(alloc);
+    clients.push(zero)?;
     match one {
-        Some(one) if is_pair => {
-            let (zero, one) = join(rt, move || zero.run(rt, units), move || one.run(rt, units));
-            (zero, Some(one))
+        Some(one) => {
+            clients.push(one)?;
+            Ok(clients)
         }
-        one => (zero.run(rt, units), one),
+        None => Ok(clients),
     }
 }
 
@@ -117,7 +122,17 @@ impl Fleet {
             is_pair,
         } = self;
         let start = Instant::now(rt)?;
-        let (zero, one) = run_both(rt, zero, one, is_pair, units);
+        let (zero, one) = match one {
+            Some(one) => {
+                if is_pair {
+                    let (zero, one) = run_both(rt, zero, one, units);
+                    (zero, Some(one))
+                } else {
+                    (zero.run(rt, units), Some(one))
+                }
+            }
+            None => (zero.run(rt, units), None),
+        };
         let nanos = start.elapsed(rt)?.as_nanos();
         let fleet = Fleet {
             runtime,
@@ -136,15 +151,17 @@ impl Fleet {
             one,
             ..
         } = self;
-        let mut clients = Vec::new(alloc);
         let (client, mut done, mut fault) = zero.parts();
-        clients.push(client)?;
-        if let Some(one) = one {
-            let (client, others, other) = one.parts();
-            clients.push(client)?;
-            done = done.saturating_add(others);
-            fault = fault.or(other);
-        }
+        let other = match one {
+            Some(one) => {
+                let (other, others, other_fault) = one.parts();
+                done = done.saturating_add(others);
+                fault = fault.or(other_fault);
+                Some(other)
+            }
+            None => None,
+        };
+        let clients = clients_of(alloc, client, other)?;
         let report = match join_all(rt, alloc, runtime, clients) {
             Ok(report) => report,
             Err(unjoined) => return Err(Fault::from(unjoined.error)),

@@ -6,7 +6,9 @@
 
 mod board_path;
 mod cancels;
+mod course;
 mod crew;
+mod deck;
 mod draft;
 mod fault;
 mod figures;

@@ -69,7 +69,7 @@ fn setup_figure<R: Threads + Wait + Copy + Send + Sync + 'static + Clock>(
         rounds[round] = nanos;
     }
     fleet.end(rt, alloc)?;
-    Ok(Figure::of(rounds, units * setup.clients()))
+    Ok(Figure::of(rounds, units.saturating_mul(setup.clients())))
 }
 
 /// Measures everything and prints it.

@@ -24,7 +24,7 @@ impl Pairs {
         Ok(Pairs {
             alloc,
             buffers: Vec::with_capacity(alloc, 2 * depth as usize)?,
-            pipes: pipes.max(1),
+            pipes,
         })
     }
 
@@ -39,7 +39,7 @@ impl Pairs {
     /// Adds the WRITE and the READ of this pair.
     pub fn add(&mut self, batch: &mut Batch, number: u64) -> Result<(), AllocError> {
         let user_data = number.wrapping_mul(2);
-        let pipe = (number % u64::from(self.pipes.max(1))) as i32;
+        let pipe = (number % u64::from(self.pipes.clamp(1, 64))) as i32;
         let write = with_flags(write(pipe.wrapping_mul(2).wrapping_add(1), BYTES, 0), LINK);
         let read = read(pipe.wrapping_mul(2), BYTES, 0);
         let buffer = self.buffer()?;
