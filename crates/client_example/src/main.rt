@@ -2,7 +2,7 @@
 //! clients take the completions, and the runtime is ended.
 #![tactic(auto)]
 
-ghost use Rattle.std.specs.Prelude.{◌≡◌, None};
+ghost use Rattle.std.specs.Prelude.{◌≡◌, None, IfOk};
 
 use anyhow::{Result, bail};
 use board::{Completion, Phase, RingShape, Shape};
@@ -10,9 +10,10 @@ use controls::{Clock, Open};
 use entry::Sqe;
 use history::Req;
 use prep::{read, timeout, with_flags, with_user_data, write};
-use runtime::{Client, join_all, start};
+use runtime::{Client, Runtime, join_all, start};
 use std::alloc::{AllocError, Global};
 use std::sync::Wait;
+use std::thread::Threads;
 use std::{io, str, thread};
 
 /// IOSQE_IO_LINK.
@@ -49,6 +50,22 @@ fn shape_of(alloc: Global) -> Result<Shape, AllocError> {
     })
 }
 
+/// Starts a runtime, and gives it with the clients of ring 0 and ring 1.
+fn begin<R: Threads + Wait + Copy + Send + 'static>(
+    rt: R,
+    alloc: Global,
+) -> Result<(Runtime<Ticking>, Client, Client)>
+    ensures zero { IfOk result (λ t. t.1.board ≡ t.0) }
+    ensures one { IfOk result (λ t. t.2.board ≡ t.0) }
+{
+    let shape = shape_of(alloc)?;
+    let (runtime, mut clients) = start(rt, alloc, &shape, 64, Open, Ticking)?;
+    let (Some(one), Some(zero)) = (clients.pop(), clients.pop()) else {
+        bail!("a client is missing");
+    };
+    Ok((runtime, zero, one))
+}
+
 /// Submits the entries, each with its buffer, as one batch.
 fn submit(client: &mut Client, batch: Vec<(Sqe, Vec<u8>)>) -> Result<()>
     ensures { client.new.board ≡ client.old.board }
@@ -57,6 +74,27 @@ fn submit(client: &mut Client, batch: Vec<(Sqe, Vec<u8>)>) -> Result<()>
         Ok(_first) => Ok(()),
         Err((error, _batch)) => Err(error.into()),
     }
+}
+
+/// Submits a WRITE of `hello` into the pipe, and a READ of it that is linked to the WRITE.
+fn submit_hello(alloc: Global, client: &mut Client) -> Result<()>
+    ensures { client.new.board ≡ client.old.board }
+{
+    let hello = with_user_data(with_flags(write(1, 5, 0), LINK), 10);
+    let answer = with_user_data(read(0, 8, 0), 11);
+    let mut batch = Vec::new(alloc);
+    batch.push((hello, Vec::from_slice(alloc, b"hello")?))?;
+    batch.push((answer, Vec::from_elem(alloc, 0, 8)?))?;
+    submit(client, batch)
+}
+
+/// Submits a TIMEOUT of 3 ticks.
+fn submit_timeout(alloc: Global, client: &mut Client) -> Result<()>
+    ensures { client.new.board ≡ client.old.board }
+{
+    let mut batch = Vec::new(alloc);
+    batch.push((with_user_data(timeout(3, 0), 20), Vec::new(alloc)))?;
+    submit(client, batch)
 }
 
 /// Takes the next completion, once it is there.
@@ -72,6 +110,18 @@ fn next<R: Wait>(rt: &R, client: &mut Client) -> Completion
     unreachable!()
 }
 
+/// Takes two completions, and gives them in the order of submission.
+fn next_two<R: Wait>(rt: &R, client: &mut Client) -> (Completion, Completion)
+    ensures { client.new.board ≡ client.old.board }
+{
+    let (first, second) = (next(rt, client), next(rt, client));
+    if first.req.k < second.req.k {
+        (first, second)
+    } else {
+        (second, first)
+    }
+}
+
 /// Prints a completion, and the bytes that went through the pipe.
 fn show<R: Print>(rt: &R, completion: &Completion) -> io::Result<()> {
     let (user_data, res) = (completion.cqe.user_data, completion.cqe.res);
@@ -81,38 +131,39 @@ fn show<R: Print>(rt: &R, completion: &Completion) -> io::Result<()> {
     println!(rt; "{user_data}: {res} {text:?}")
 }
 
-fn main(rt: HostRuntime) -> Result<()> {
-    let alloc = rt.alloc();
-    let (runtime, mut clients) = start(rt, alloc, &shape_of(alloc)?, 64, Open, Ticking)?;
-    let (Some(mut one), Some(mut zero)) = (clients.pop(), clients.pop()) else {
-        bail!("a client is missing");
-    };
-
-    let hello = with_user_data(with_flags(write(1, 5, 0), LINK), 10);
-    let answer = with_user_data(read(0, 8, 0), 11);
-    let mut batch = Vec::new(alloc);
-    batch.push((hello, Vec::from_slice(alloc, b"hello")?))?;
-    batch.push((answer, Vec::from_elem(alloc, 0, 8)?))?;
-    submit(&mut zero, batch)?;
-
-    let mut batch = Vec::new(alloc);
-    batch.push((with_user_data(timeout(3, 0), 20), Vec::new(alloc)))?;
-    submit(&mut one, batch)?;
-
-    let (mut first, mut second) = (next(&rt, &mut zero), next(&rt, &mut zero));
-    if second.req.k < first.req.k {
-        (first, second) = (second, first);
-    }
-    show(&rt, &first)?;
-    show(&rt, &second)?;
-    show(&rt, &next(&rt, &mut one))?;
-
+/// Ends the runtime of these two clients. How many requests were left over.
+fn end<R: Threads + Wait>(
+    rt: &R,
+    alloc: Global,
+    runtime: Runtime<Ticking>,
+    zero: Client,
+    one: Client,
+) -> Result<usize>
+    requires zero { zero.board ≡ runtime }
+    requires one { one.board ≡ runtime }
+{
+    let mut clients = Vec::new(alloc);
     clients.push(zero)?;
     clients.push(one)?;
-    let Ok(report) = join_all(&rt, alloc, runtime, clients) else {
-        bail!("the runtime isn't ended");
-    };
-    let left = report.lines().len();
+    match join_all(rt, alloc, runtime, clients) {
+        Ok(report) => Ok(report.lines().len()),
+        Err(unjoined) => Err(unjoined.error.into()),
+    }
+}
+
+fn main(rt: HostRuntime) -> Result<()> {
+    let alloc = rt.alloc();
+    let (runtime, mut zero, mut one) = begin(rt, alloc)?;
+    submit_hello(alloc, &mut zero)?;
+    submit_timeout(alloc, &mut one)?;
+
+    let (write, read) = next_two(&rt, &mut zero);
+    let timeout = next(&rt, &mut one);
+    for completion in [write, read, timeout] {
+        show(&rt, &completion)?;
+    }
+
+    let left = end(&rt, alloc, runtime, zero, one)?;
     println!(rt; "left: {left}")?;
     Ok(())
 }

@@ -60,6 +60,54 @@ fn board_of(alloc: Global) -> Result<(Board, Poller, Vec<Submitter>, Vec<Worker>
     }
 }
 
+/// Submits the NOP of this number.
+fn submit_nop(
+    alloc: Global,
+    board: &Board,
+    submitter: &mut Submitter,
+    number: u64,
+) -> Result<Req, Fault>
+    requires { IsOf board.now submitter.old }
+    ensures { IsOf board.now submitter.new }
+{
+    let _ring = submitter.ring();
+    match board.submit(submitter, with_user_data(nop(), number), Vec::new(alloc)) {
+        Ok(req) => Ok(req),
+        Err(_) => Err(Fault::Refused),
+    }
+}
+
+/// The worker begins the request and runs it, if it is Ready.
+fn work(board: &Board, worker: Worker, req: Req) -> Worker
+    requires { IsOf board.now worker }
+    ensures { IsOf board.now result }
+{
+    match board.begin(worker, req) {
+        Ok(busy) => {
+            let (worker, _ran) = busy.run();
+            worker
+        }
+        Err(worker) => worker,
+    }
+}
+
+/// Takes the completion of the NOP of this number.
+fn reap_nop(board: &Board, submitter: &mut Submitter, req: Req, number: u64) -> Result<(), Fault>
+    requires { IsOf board.now submitter.old }
+    ensures { IsOf board.now submitter.new }
+{
+    match board.reap(submitter, req) {
+        Ok(completion) => {
+            if completion.cqe.user_data == number && completion.cqe.res == 0 {
+                Ok(())
+            } else {
+                Err(Fault::Reply)
+            }
+        }
+        Err(_) => Err(Fault::Reply),
+    }
+}
+
 impl BoardPath {
     /// A new board.
     pub fn new(alloc: Global) -> Result<BoardPath, Fault> {
@@ -79,41 +127,13 @@ impl BoardPath {
 
     /// Submits a NOP, releases it, begins and runs it, and reaps its completion.
     fn serve(&mut self, number: u64) -> Result<(), Fault> {
-        let sqe = with_user_data(nop(), number);
-        let Ok(req) = self
-            .board
-            .submit(&mut self.submitter, sqe, Vec::new(self.alloc))
-        else {
-            return Err(Fault::Refused);
-        };
-        self.board.release(&mut self.poller, req);
-        self.work(req)?;
-        let Ok(completion) = self.board.reap(&mut self.submitter, req) else {
-            return Err(Fault::Reply);
-        };
-        if completion.cqe.user_data == number && completion.cqe.res == 0 {
-            Ok(())
-        } else {
-            Err(Fault::Reply)
-        }
-    }
-
-    /// The worker begins the request and runs it.
-    fn work(&mut self, req: Req) -> Result<(), Fault> {
         let Some(worker) = self.worker.take() else {
             return Err(Fault::Start);
         };
-        match self.board.begin(worker, req) {
-            Ok(busy) => {
-                let (worker, _ran) = busy.run();
-                self.worker = Some(worker);
-                Ok(())
-            }
-            Err(worker) => {
-                self.worker = Some(worker);
-                Err(Fault::Reply)
-            }
-        }
+        let req = submit_nop(self.alloc, &self.board, &mut self.submitter, number)?;
+        self.board.release(&mut self.poller, req);
+        self.worker = Some(work(&self.board, worker, req));
+        reap_nop(&self.board, &mut self.submitter, req, number)
     }
 
     /// One round: so many NOPs. How many nanoseconds that took.
