@@ -24,9 +24,12 @@ pub(crate) enum Fault {
     /// A reply is not one that its request can have here.
     #[error("a reply is wrong")]
     Reply,
-    /// A request was told twice, or not at all.
-    #[error("a request was told twice, or not at all")]
+    /// A number that was handed over didn't come back.
+    #[error("a number didn't come back")]
     Count,
+    /// Why the mixed load was given up.
+    #[error("{0}")]
+    Mixed(mixed_load::Fault),
 }
 
 impl From<AllocError> for Fault {
@@ -56,5 +59,11 @@ impl From<StartError> for Fault {
 impl From<JoinError> for Fault {
     fn from(_error: JoinError) -> Fault {
         Fault::End
+    }
+}
+
+impl From<mixed_load::Fault> for Fault {
+    fn from(fault: mixed_load::Fault) -> Fault {
+        Fault::Mixed(fault)
     }
 }

@@ -7,9 +7,6 @@
 mod board_path;
 mod cancels;
 mod course;
-mod crew;
-mod deck;
-mod draft;
 mod fault;
 mod figures;
 mod fleet;
@@ -17,19 +14,14 @@ mod handover;
 mod lane;
 mod load;
 mod measure;
-mod memory;
-mod mixed;
-mod mixer;
 mod nops;
 mod pairs;
-mod pending;
 mod plan;
-mod random;
 mod setup;
 
 use fault::Fault;
 use measure::{measure, try_all};
-use mixed::mixed;
+use mixed_load::run_mixed;
 use std::alloc::AllocGlobal;
 use std::env;
 use std::process::ExitCode;
@@ -52,7 +44,7 @@ fn run<
             .next()
             .and_then(|word| word.as_str().parse::<u64>().ok())
         {
-            Some(seconds) => mixed(rt, seconds),
+            Some(seconds) => Ok(run_mixed(rt, seconds)?),
             None => Err(Fault::Words),
         },
         _ => Err(Fault::Words),

@@ -1,5 +1,4 @@
 //! Batches of requests of all kinds, drawn at random.
-use crate::load::Batch;
 use crate::pending::{Fate, Pending};
 use crate::random::Random;
 use entry::Sqe;
@@ -8,6 +7,9 @@ use prep::{
     with_user_data, write,
 };
 use std::alloc::{AllocError, Global};
+
+/// Entries with their buffers.
+pub(crate) type Batch = Vec<(Sqe, Vec<u8>)>;
 
 /// How many pipes there are. The ends of the last one may be closed.
 pub(crate) const PIPES: u32 = 8;

@@ -25,8 +25,10 @@ fn show<R: Files + AllocGlobal + Print>(rt: &R, part: u64, crew: &Crew) -> io::R
     }
 }
 
-/// Runs the mixed load for so many seconds. A fault where not each request was told once.
-pub(crate) fn mixed<
+/// Runs the mixed load for so many seconds, with two clients and three workers. After each tenth of the time it prints how many
+/// requests were submitted, how many completions were taken, and the resident memory; at the end how many were submitted, taken and
+/// reported. `Count` comes where a request was told twice or not at all.
+pub fn run_mixed<
     R: Threads + Wait + Copy + Send + Sync + 'static + Clock + Files + AllocGlobal + Print,
 >(rt: &R, seconds: u64) -> Result<(), Fault> {
     let alloc = rt.alloc();

@@ -4,11 +4,11 @@ ghost use Rattle.std.specs.Prelude.{◌≡◌};
 use crate::deck::Deck;
 use crate::draft::Draft;
 use crate::fault::Fault;
-use crate::lane::waited;
 use crate::pending::Pending;
 use board::SubmitError;
 use runtime::Client;
 use std::sync::Wait;
+use std::thread;
 use std::time::{Clock, Duration, Instant};
 
 /// How many steps are made between two looks at the clock.
@@ -84,12 +84,13 @@ impl Mixer {
     fn make_steps<R: Wait>(&mut self, rt: &R) -> Result<(), Fault>
         ensures { self.new.client.board ≡ self.old.client.board }
     {
-        let mut looks = 0;
         for _step in 0..STEPS {
             let next = self.client.next_request().k;
             let draft = self.deck.next_draft(next)?;
             self.submit(draft)?;
-            looks = if self.take_all(rt)? { 0 } else { waited(looks) };
+            if !self.take_all(rt)? {
+                thread::yield_now();
+            }
         }
         Ok(())
     }
