@@ -1,0 +1,169 @@
+//! A small program over clients. Ring 0 submits a WRITE into a pipe and a READ that is linked to it, and ring 1 a TIMEOUT. Their
+//! clients take the completions, and the runtime is ended.
+#![tactic(auto)]
+
+ghost use Rattle.std.specs.Prelude.{◌≡◌, None, IfOk};
+
+use anyhow::{Result, bail};
+use board::{Completion, Phase, RingShape, Shape};
+use controls::{Clock, Open};
+use entry::Sqe;
+use history::Req;
+use prep::{read, timeout, with_flags, with_user_data, write};
+use runtime::{Client, Runtime, join_all, start};
+use std::alloc::{AllocError, Global};
+use std::sync::Wait;
+use std::thread::Threads;
+use std::{io, str, thread};
+
+/// IOSQE_IO_LINK.
+const LINK: u8 = 4;
+
+/// A clock that goes on by one tick at each turn of the poller.
+#[derive(Clone, Copy)]
+struct Ticking;
+
+impl Clock for Ticking {
+    ghost asked = { λ _. None };
+
+    ghost stays = { λ _ _ _ _ _ _ _. tt };
+
+    fn ask(&self) -> Option<Req> {
+        None
+    }
+
+    fn tell(&mut self, now: u32, _phase: Option<Phase>) -> Option<u32> {
+        now.checked_add(1)
+    }
+}
+
+/// Two rings of 4 cells, a pipe of 16 bytes, and two workers.
+fn shape_of(alloc: Global) -> Result<Shape, AllocError> {
+    let ring = RingShape {
+        cells: 4,
+        posts: None,
+    };
+    Ok(Shape {
+        rings: Vec::from_elem(alloc, ring, 2)?,
+        pipes: Vec::from_elem(alloc, 16u32, 1)?,
+        workers: 2,
+    })
+}
+
+/// Starts a runtime, and gives it with the clients of ring 0 and ring 1.
+fn begin<R: Threads + Wait + Copy + Send + 'static>(
+    rt: R,
+    alloc: Global,
+) -> Result<(Runtime<Ticking>, Client, Client)>
+    ensures zero { IfOk result (λ t. t.1.board ≡ t.0) }
+    ensures one { IfOk result (λ t. t.2.board ≡ t.0) }
+{
+    let shape = shape_of(alloc)?;
+    let (runtime, mut clients) = start(rt, alloc, &shape, 64, Open, Ticking)?;
+    let (Some(one), Some(zero)) = (clients.pop(), clients.pop()) else {
+        bail!("a client is missing");
+    };
+    Ok((runtime, zero, one))
+}
+
+/// Submits the entries, each with its buffer, as one batch.
+fn submit(client: &mut Client, batch: Vec<(Sqe, Vec<u8>)>) -> Result<()>
+    ensures { client.new.board ≡ client.old.board }
+{
+    match client.submit_batch(batch) {
+        Ok(_first) => Ok(()),
+        Err((error, _batch)) => Err(error.into()),
+    }
+}
+
+/// Submits a WRITE of `hello` into the pipe, and a READ of it that is linked to the WRITE.
+fn submit_hello(alloc: Global, client: &mut Client) -> Result<()>
+    ensures { client.new.board ≡ client.old.board }
+{
+    let hello = with_user_data(with_flags(write(1, 5, 0), LINK), 10);
+    let answer = with_user_data(read(0, 8, 0), 11);
+    let mut batch = Vec::new(alloc);
+    batch.push((hello, Vec::from_slice(alloc, b"hello")?))?;
+    batch.push((answer, Vec::from_elem(alloc, 0, 8)?))?;
+    submit(client, batch)
+}
+
+/// Submits a TIMEOUT of 3 ticks.
+fn submit_timeout(alloc: Global, client: &mut Client) -> Result<()>
+    ensures { client.new.board ≡ client.old.board }
+{
+    let mut batch = Vec::new(alloc);
+    batch.push((with_user_data(timeout(3, 0), 20), Vec::new(alloc)))?;
+    submit(client, batch)
+}
+
+/// Takes the next completion, once it is there.
+fn next<R: Wait>(rt: &R, client: &mut Client) -> Completion
+    ensures { client.new.board ≡ client.old.board }
+{
+    for _ in rt.forever() {
+        if let Some(completion) = client.take(rt) {
+            return completion;
+        }
+        thread::yield_now();
+    }
+    unreachable!()
+}
+
+/// Takes two completions, and gives them in the order of submission.
+fn next_two<R: Wait>(rt: &R, client: &mut Client) -> (Completion, Completion)
+    ensures { client.new.board ≡ client.old.board }
+{
+    let (first, second) = (next(rt, client), next(rt, client));
+    if first.req.k < second.req.k {
+        (first, second)
+    } else {
+        (second, first)
+    }
+}
+
+/// Prints a completion, and the bytes that went through the pipe.
+fn show<R: Print>(rt: &R, completion: &Completion) -> io::Result<()> {
+    let (user_data, res) = (completion.cqe.user_data, completion.cqe.res);
+    let count = usize::try_from(res).unwrap_or(0);
+    let bytes = completion.buffer.get(..count).unwrap_or(&[]);
+    let text = str::from_utf8(bytes).unwrap_or("");
+    println!(rt; "{user_data}: {res} {text:?}")
+}
+
+/// Ends the runtime of these two clients. How many requests were left over.
+fn end<R: Threads + Wait>(
+    rt: &R,
+    alloc: Global,
+    runtime: Runtime<Ticking>,
+    zero: Client,
+    one: Client,
+) -> Result<usize>
+    requires zero { zero.board ≡ runtime }
+    requires one { one.board ≡ runtime }
+{
+    let mut clients = Vec::new(alloc);
+    clients.push(zero)?;
+    clients.push(one)?;
+    match join_all(rt, alloc, runtime, clients) {
+        Ok(report) => Ok(report.lines().len()),
+        Err(unjoined) => Err(unjoined.error.into()),
+    }
+}
+
+fn main(rt: HostRuntime) -> Result<()> {
+    let alloc = rt.alloc();
+    let (runtime, mut zero, mut one) = begin(rt, alloc)?;
+    submit_hello(alloc, &mut zero)?;
+    submit_timeout(alloc, &mut one)?;
+
+    let (write, read) = next_two(&rt, &mut zero);
+    let timeout = next(&rt, &mut one);
+    for completion in [write, read, timeout] {
+        show(&rt, &completion)?;
+    }
+
+    let left = end(&rt, alloc, runtime, zero, one)?;
+    println!(rt; "left: {left}")?;
+    Ok(())
+}

@@ -1,0 +1,62 @@
+//! Times the runtime, beside what one thread does on a board and what two threads do through a queue. Without arguments it carries a
+//! few units of each load out and prints how many were done, which is the same on every machine. With `--bench` it prints the time
+//! of each, the median of 15 short rounds. With `--mixed SECONDS` it runs two clients for so long that submit requests of all kinds
+//! at random, and ends with status 1 unless each request was told once.
+#![tactic(auto)]
+
+mod board_path;
+mod cancels;
+mod course;
+mod fault;
+mod figures;
+mod fleet;
+mod handover;
+mod lane;
+mod load;
+mod measure;
+mod nops;
+mod pairs;
+mod plan;
+mod setup;
+
+use fault::Fault;
+use measure::{measure, try_all};
+use mixed_load::run_mixed;
+use std::alloc::AllocGlobal;
+use std::env;
+use std::process::ExitCode;
+use std::rt::{Env, Files};
+use std::sync::Wait;
+use std::thread::Threads;
+use std::time::Clock;
+
+/// What the words of the command line ask for.
+fn run<
+    R: Threads + Wait + Copy + Send + Sync + 'static + Clock + AllocGlobal + Env + Files + Print,
+>(rt: &R) -> Result<(), Fault> {
+    let mut words = env::args(rt)?.skip(1);
+    let Some(word) = words.next() else {
+        return try_all(rt);
+    };
+    match word.as_str() {
+        "--bench" => measure(rt),
+        "--mixed" => match words
+            .next()
+            .and_then(|word| word.as_str().parse::<u64>().ok())
+        {
+            Some(seconds) => Ok(run_mixed(rt, seconds)?),
+            None => Err(Fault::Words),
+        },
+        _ => Err(Fault::Words),
+    }
+}
+
+fn main(rt: HostRuntime) -> ExitCode {
+    match run(&rt) {
+        Ok(()) => ExitCode::SUCCESS,
+        Err(fault) => {
+            let _ = eprintln!(&rt; "{fault}");
+            ExitCode::from(1)
+        }
+    }
+}
