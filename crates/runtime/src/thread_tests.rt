@@ -34,8 +34,15 @@ fn a_linked_write_and_read_go_through_the_pipe(rt: HostRuntime) -> Result<(), Fa
         entry(read(0, 5, 0), 0, 32, 5, 60),
     ];
     assert_eq!(rt; pair.submit(1, &batch)?, nth(1, 0));
-    assert_eq!(rt; pair.take(&rt, 1)?.as_str(), "1.0 31 3:7:8:9");
-    assert_eq!(rt; pair.take(&rt, 1)?.as_str(), "1.1 32 3:7:8:9:63:64");
+    let (one, other) = (pair.take(&rt, 1)?, pair.take(&rt, 1)?);
+    // the worker that ran the WRITE may post it after the other one has posted the READ
+    let (write, read) = if one.as_str().starts_with("1.0") {
+        (one, other)
+    } else {
+        (other, one)
+    };
+    assert_eq!(rt; write.as_str(), "1.0 31 3:7:8:9");
+    assert_eq!(rt; read.as_str(), "1.1 32 3:7:8:9:63:64");
     assert_eq!(rt; pair.end(&rt)?.as_str(), "");
     Ok(())
 }
