@@ -124,6 +124,11 @@ impl PollDesk {
         self.places
     }
 
+    /// Whether its last turn did something.
+    pub(crate) fn has_moved(&self) -> bool {
+        self.hands.moved
+    }
+
     /// Whether the poller was told to end: by the tail 2^64 - 1 of ring 0.
     pub fn is_over(&self) -> bool
         requires { 0 < length self.now.sleeper.tails }

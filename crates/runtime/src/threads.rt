@@ -21,12 +21,12 @@ use std::sync::Wait;
 use std::sync::atomic::Ordering;
 use std::{hint, thread};
 
-/// How many idle turns in a row a thread makes at once, before it lets other threads have its processor.
+/// How many turns in a row that did nothing a thread makes at once, before it lets other threads have its processor.
 const SPINS: u32 = 64;
 
-/// Between an idle turn and the next, after so many idle turns in a row.
-fn pause(idle: u32) {
-    if idle < SPINS {
+/// Between a turn that did nothing and the next, after so many such turns in a row.
+fn pause(still: u32) {
+    if still < SPINS {
         hint::spin_loop();
     } else {
         thread::yield_now();
@@ -110,6 +110,7 @@ pub(crate) fn poll<R: Wait, G: Turnstile, C: Clock>(
         most: idle.max(1),
         count: 0,
     };
+    let mut still = 0u32;
     for _ in rt.forever() {
         let turn = poll_round(rt, shared, &mut desk, &mut clock, turnstile, &mut outbox);
         if desk.is_over() {
@@ -118,8 +119,11 @@ pub(crate) fn poll<R: Wait, G: Turnstile, C: Clock>(
         }
         if idling.note(turn) && clock.ask().is_none() {
             rest(rt, &shared.bell, &mut desk);
-        } else if turn == Turn::Idle {
-            pause(idling.count);
+        } else if desk.has_moved() {
+            still = 0;
+        } else {
+            still = still.saturating_add(1);
+            pause(still);
         }
     }
     unreachable!()

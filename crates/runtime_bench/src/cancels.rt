@@ -20,13 +20,15 @@ pub(crate) enum Target {
     Timeout,
 }
 
-/// The buffers that came back, and the targets that a cancel found running, so that it has to be tried again.
+/// The buffers that came back, the targets for which a cancel has to be submitted again, and those for which that was so and which
+/// have no completion yet.
 #[derive(Drop)]
 pub(crate) struct Cancels {
     alloc: Global,
     target: Target,
     buffers: Vec<Vec<u8>>,
     missed: Vec<u64>,
+    held: Vec<u64>,
 }
 
 impl Cancels {
@@ -37,6 +39,7 @@ impl Cancels {
             target,
             buffers: Vec::with_capacity(alloc, depth as usize)?,
             missed: Vec::with_capacity(alloc, depth as usize)?,
+            held: Vec::with_capacity(alloc, depth as usize)?,
         })
     }
 
@@ -78,18 +81,34 @@ impl Cancels {
         Ok(true)
     }
 
+    /// Whether a target that a cancel found running has no completion yet. A cell is given again in turn, so a target that stays
+    /// while new ones come and go would keep the cancel from the ring that ends it.
+    pub fn is_held(&self) -> bool {
+        !self.held.is_empty()
+    }
+
     /// Notes a completion. Whether it is that of a target.
     pub fn note(&mut self, completion: Completion) -> Result<bool, AllocError> {
         let Completion { cqe, buffer, .. } = completion;
-        if cqe.user_data % 2 == 0 {
+        let user_data = cqe.user_data;
+        if user_data % 2 == 0 {
             self.buffers.push(buffer)?;
+            self.held.retain(|target| is_other(*target, user_data));
             return Ok(true);
         }
         if cqe.res == ALREADY {
-            self.missed.push(cqe.user_data.wrapping_sub(1))?;
+            let target = user_data.wrapping_sub(1);
+            self.missed.push(target)?;
+            if !self.held.contains(&target) {
+                self.held.push(target)?;
+            }
         }
         Ok(false)
     }
+}
+
+fn is_other(target: u64, user_data: u64) -> bool {
+    target != user_data
 }
 
 /// Whether a target, or what takes it back, may have this reply.

@@ -55,10 +55,13 @@ impl Course {
             return Ok(batch);
         }
         let in_flight = self.begun.saturating_sub(self.done);
-        let room = self
-            .depth
-            .saturating_sub(in_flight)
-            .min(end.saturating_sub(self.begun));
+        let room = if self.load.is_held() {
+            0
+        } else {
+            self.depth
+                .saturating_sub(in_flight)
+                .min(end.saturating_sub(self.begun))
+        };
         let mut batch = Vec::new(self.alloc);
         if room > 0 {
             batch.reserve(2 * room.min(1_024) as usize)?;

@@ -61,6 +61,37 @@ fn lane_of(alloc: Global, client: Client, setup: &Setup) -> Result<Lane, AllocEr
     Ok(Lane::new(client, Course::new(alloc, load, setup.depth)))
 }
 
+/// The last client of this runtime that is left.
+fn last_client(runtime: &Runtime<NoClock>, clients: &mut Vec<Client>) -> Option<Client>
+    requires { AreClients runtime.now clients.old.items }
+    ensures rest { AreClients runtime.now clients.new.items }
+    ensures client { IfSome result (λ c. c.board ≡ runtime.now) }
+{
+    let _ = runtime;
+    clients.pop()
+}
+
+/// The lanes of both clients of this runtime, or of the one that there is.
+fn lanes_of(
+    alloc: Global,
+    runtime: &Runtime<NoClock>,
+    mut clients: Vec<Client>,
+    setup: &Setup,
+) -> Result<(Lane, Option<Lane>), Fault>
+    requires { AreClients runtime.now clients.items }
+    ensures zero { IfOk result (λ t. t.0.client.board ≡ runtime.now) }
+    ensures one { IfOk result (λ t. IfSome t.1 (λ l. l.client.board ≡ runtime.now)) }
+{
+    let Some(last) = last_client(runtime, &mut clients) else {
+        return Err(Fault::Start);
+    };
+    let last = lane_of(alloc, last, setup)?;
+    match last_client(runtime, &mut clients) {
+        Some(client) => Ok((lane_of(alloc, client, setup)?, Some(last))),
+        None => Ok((last, None)),
+    }
+}
+
 /// Both lanes at work, each in a thread.
 fn run_both<R: Threads + Wait + Sync>(rt: &R, zero: Lane, one: Lane, units: u64) -> (Lane, Lane)
     ensures zero { result.0.client.board ≡ zero.client.board }
@@ -92,15 +123,8 @@ impl Fleet {
         setup: &Setup,
     ) -> Result<Fleet, Fault> {
         let shape = shape_of(alloc, setup)?;
-        let (runtime, mut clients) = start(rt, alloc, &shape, IDLE, Open, NoClock)?;
-        let Some(last) = clients.pop() else {
-            return Err(Fault::Start);
-        };
-        let last = lane_of(alloc, last, setup)?;
-        let (zero, one) = match clients.pop() {
-            Some(client) => (lane_of(alloc, client, setup)?, Some(last)),
-            None => (last, None),
-        };
+        let (runtime, clients) = start(rt, alloc, &shape, IDLE, Open, NoClock)?;
+        let (zero, one) = lanes_of(alloc, &runtime, clients, setup)?;
         Ok(Fleet {
             runtime,
             zero,

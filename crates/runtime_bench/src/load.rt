@@ -57,6 +57,14 @@ impl Load {
         }
     }
 
+    /// Whether no further unit is to be begun for now.
+    pub fn is_held(&self) -> bool {
+        match self {
+            Load::Cancels(cancels) => cancels.is_held(),
+            _ => false,
+        }
+    }
+
     /// Notes a completion. Whether its unit is done with it.
     pub fn note(&mut self, completion: Completion) -> Result<bool, Fault> {
         if !self.fits(&completion) {
