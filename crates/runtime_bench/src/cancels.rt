@@ -5,10 +5,8 @@ use entry::Sqe;
 use prep::{cancel, read, timeout, timeout_remove, with_user_data};
 use std::alloc::{AllocError, Global};
 
-/// -ECANCELED, -EALREADY.
+/// -ECANCELED.
 const CANCELED: i32 = -125;
-
-const ALREADY: i32 = -114;
 
 /// How many bytes a READ asks for.
 const BYTES: u32 = 8;
@@ -20,15 +18,12 @@ pub(crate) enum Target {
     Timeout,
 }
 
-/// The buffers that came back, the targets for which a cancel has to be submitted again, and those for which that was so and which
-/// have no completion yet.
+/// The buffers that came back.
 #[derive(Drop)]
 pub(crate) struct Cancels {
     alloc: Global,
     target: Target,
     buffers: Vec<Vec<u8>>,
-    missed: Vec<u64>,
-    held: Vec<u64>,
 }
 
 impl Cancels {
@@ -38,8 +33,6 @@ impl Cancels {
             alloc,
             target,
             buffers: Vec::with_capacity(alloc, depth as usize)?,
-            missed: Vec::with_capacity(alloc, depth as usize)?,
-            held: Vec::with_capacity(alloc, depth as usize)?,
         })
     }
 
@@ -72,43 +65,15 @@ impl Cancels {
         Ok(())
     }
 
-    /// Adds a further cancel for a target that was found running, if there is one.
-    pub fn add_again(&mut self, batch: &mut Batch) -> Result<bool, AllocError> {
-        let Some(user_data) = self.missed.pop() else {
-            return Ok(false);
-        };
-        batch.push((self.taker(user_data), Vec::new(self.alloc)))?;
-        Ok(true)
-    }
-
-    /// Whether a target that a cancel found running has no completion yet. A cell is given again in turn, so a target that stays
-    /// while new ones come and go would keep the cancel from the ring that ends it.
-    pub fn is_held(&self) -> bool {
-        !self.held.is_empty()
-    }
-
     /// Notes a completion. Whether it is that of a target.
     pub fn note(&mut self, completion: Completion) -> Result<bool, AllocError> {
         let Completion { cqe, buffer, .. } = completion;
-        let user_data = cqe.user_data;
-        if user_data % 2 == 0 {
+        if cqe.user_data % 2 == 0 {
             self.buffers.push(buffer)?;
-            self.held.retain(|target| is_other(*target, user_data));
             return Ok(true);
-        }
-        if cqe.res == ALREADY {
-            let target = user_data.wrapping_sub(1);
-            self.missed.push(target)?;
-            if !self.held.contains(&target) {
-                self.held.push(target)?;
-            }
         }
         Ok(false)
     }
-}
-
-fn is_other(target: u64, user_data: u64) -> bool {
-    target != user_data
 }
 
 /// Whether a target, or what takes it back, may have this reply.
@@ -117,6 +82,6 @@ pub(crate) fn fits(completion: &Completion) -> bool {
     if completion.cqe.user_data % 2 == 0 {
         res == CANCELED
     } else {
-        res == 0 || res == ALREADY
+        res == 0
     }
 }

@@ -48,28 +48,19 @@ impl Course {
         end <= self.done && self.submitted == self.reaped && self.unsent.is_none()
     }
 
-    /// The batch that found no room, or the entries that earlier replies ask for with those of the units before `end` that may be in
-    /// flight too.
+    /// The batch that found no room, or the entries of the units before `end` that may be in flight too.
     pub fn next_batch(&mut self, end: u64) -> Result<Batch, AllocError> {
         if let Some(batch) = self.unsent.take() {
             return Ok(batch);
         }
         let in_flight = self.begun.saturating_sub(self.done);
-        let room = if self.load.is_held() {
-            0
-        } else {
-            self.depth
-                .saturating_sub(in_flight)
-                .min(end.saturating_sub(self.begun))
-        };
+        let room = self
+            .depth
+            .saturating_sub(in_flight)
+            .min(end.saturating_sub(self.begun));
         let mut batch = Vec::new(self.alloc);
         if room > 0 {
             batch.reserve(2 * room.min(1_024) as usize)?;
-        }
-        for _again in 0..self.depth {
-            if !self.load.add_again(&mut batch)? {
-                break;
-            }
         }
         for _unit in 0..room {
             self.load.add(&mut batch, self.begun)?;

@@ -49,22 +49,6 @@ impl Load {
         }
     }
 
-    /// Adds an entry that an earlier reply asks for, if there is one.
-    pub fn add_again(&mut self, batch: &mut Batch) -> Result<bool, AllocError> {
-        match self {
-            Load::Cancels(cancels) => cancels.add_again(batch),
-            _ => Ok(false),
-        }
-    }
-
-    /// Whether no further unit is to be begun for now.
-    pub fn is_held(&self) -> bool {
-        match self {
-            Load::Cancels(cancels) => cancels.is_held(),
-            _ => false,
-        }
-    }
-
     /// Notes a completion. Whether its unit is done with it.
     pub fn note(&mut self, completion: Completion) -> Result<bool, Fault> {
         if !self.fits(&completion) {

@@ -22,7 +22,10 @@ pub(crate) fn setups(alloc: Global) -> Result<Vec<Setup>, AllocError> {
     for kind in [Kind::Pair, Kind::ReadCancel, Kind::TimeoutRemove] {
         for depth in PAIRED {
             setups.push(Setup::new(kind, depth, 1, false))?;
-            setups.push(Setup::new(kind, depth, 2, false))?;
+            // one of two workers tries a READ of an empty pipe again and again, so that a cancel mostly finds it running
+            if kind != Kind::ReadCancel {
+                setups.push(Setup::new(kind, depth, 2, false))?;
+            }
         }
     }
     add_doubled(&mut setups)?;
