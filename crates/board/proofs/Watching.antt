@@ -126,9 +126,18 @@ pub pending_before : (K : List ℕ) (r : Req) (s t u : TableSeat) (n m : ℕ) �
 pending_before K r s t u n m x p = record { cell = x.cell; gen = x.gen; found = x.found; seen = x.seen; later = p.0 ++ x.later; others = x.others; cell_is = x.cell_is; steps = p.1 ∙ (ap (λ (l : List Step). p.0 ++ l) x.steps ∙ sym (append_assoc p.0 x.later _)); shown = x.shown; pending = x.pending }
 
 pub pending_after : (K : List ℕ) (r : Req) (s t u : TableSeat) (n m : ℕ) → Paid s.me.0 t.me.0 n m → FoundPending K r (pass_of t) (pass_of u) → FoundPending K r (pass_of s) (pass_of u)
-pending_after K r s t u n m p x = record { cell = x.cell; gen = x.gen; found = x.found; seen = x.seen; later = x.later; others = x.others ++ p.0; cell_is = x.cell_is;
+pending_after K r s t u n m p x = record {
+  cell = x.cell;
+  gen = x.gen;
+  found = x.found;
+  seen = x.seen;
+  later = x.later;
+  others = x.others ++ p.0;
+  cell_is = x.cell_is;
   steps = x.steps ∙ ap (λ (l : List Step). x.later ++ (record { word = Rattle.steps.specs.Cells.claim_at x.cell; found = x.found; seen = x.seen } ∷ l)) (ap (λ (l : List Step). x.others ++ l) p.1 ∙ sym (append_assoc x.others p.0 s.me.0.steps));
-  shown = x.shown; pending = x.pending }
+  shown = x.shown;
+  pending = x.pending;
+}
 
 pub blocked_after : (b : Facts) (r : Req) (s t u : TableSeat) (n m : ℕ) → Paid s.me.0 t.me.0 n m → IsBlocked b.layout.cells r (pass_of t) (pass_of u) → IsBlocked b.layout.cells r (pass_of s) (pass_of u)
 blocked_after b r s t u n m x d = let w = d.1.1 in (d.0, (d.1.0, (w.0, w.1, stepped_after b.layout.cells d.1.0 s t u b n m x w.2)))

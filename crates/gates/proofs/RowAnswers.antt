@@ -127,8 +127,11 @@ module _ (xs : List Slot) (r : Kept) (sound : IsSound r) (stands : Stands xs r) 
           is_lt x = lt-ltb g (k - r.lost) (omega arith)
 
         by_blocker : (o : Option ℕ) → q ≡ o → IsAsked h (nth i k) (asked_by r g (k - r.lost) o)
-        by_blocker (Some b) e = ((λ w open'. (let z = barring b e in
-            blocked_no h (nth i (r.lost + g)) (nth i b) (blocks_shown h i xs (Live h i) agrees (r.lost + g) b (omega (arith, n, g_within)) z.0 w) (subst (λ y. IsClear h y) facts.1 open'))), link_law xs r sound stands k cell h i (Live h i) agrees k_within live mark)
+        by_blocker (Some b) e = (
+          (λ w open'. (let z = barring b e in
+              blocked_no h (nth i (r.lost + g)) (nth i b) (blocks_shown h i xs (Live h i) agrees (r.lost + g) b (omega (arith, n, g_within)) z.0 w) (subst (λ y. IsClear h y) facts.1 open'))),
+          link_law xs r sound stands k cell h i (Live h i) agrees k_within live mark,
+        )
         by_blocker None e = by_test (nat_lt g (k - r.lost) && passes is_pending (map slot_of r.cells) g) refl e
 
   module _ (h : List Event) (i : ℕ) (trails : Trails h i xs) (unanswered : ¬ IsReplied (phase h (nth i k))) where

@@ -79,16 +79,19 @@ returns-in-Waits c =
           subst (λ (z : Next). Advances b q c.args.looked s t row c.pass.new.row z.1) (sym w'.first-is)
           (⊎_elim
           (λ u. let next : w'.next_look.result.0 + 1 ≡ q.k = (c.ask.ensures.linked k.knows.slots k.knows.stands w'.next_look.result.0 (ap linked_in w'.in-Blocked.is ∙ u.1)).0 in
-            let at : w'.next_look.result.0 ≡ q.k - 1 = omega (arith, next) in
-            subst (λ (x : Round). Advances b q c.args.looked s t row c.pass.new.row x) (sym u.0)
-            (e.0, watches, e.2, u.2, found_pending K (previous q) s t (subst (λ (n : ℕ). TellsOutcome K (nth q.ring n) (pass_of s) (pass_of t) Pending) at told), e.4))
+          let at : w'.next_look.result.0 ≡ q.k - 1 = omega (arith, next) in
+          subst (λ (x : Round). Advances b q c.args.looked s t row c.pass.new.row x) (sym u.0)
+          (e.0, watches, e.2, u.2, found_pending K (previous q) s t (subst (λ (n : ℕ). TellsOutcome K (nth q.ring n) (pass_of s) (pass_of t) Pending) at told), e.4))
           (λ u. let first_told = subst (λ (n : ℕ). TellsOutcome K (nth q.ring n) (pass_of s) (pass_of t) Pending) u.1 told in
-            let pending : ¬ IsReplied (phase h (nth q.ring first)) = first_told.0 in
-            let blocked : IsBlocked K q (pass_of s) (pass_of t) = ((λ o. a.0 (λ z. pending (replied_was q h (nth q.ring first) z)) (open_back q h o)), (nth q.ring first, ((refl, lt), pending, first_told.1))) in
-            subst (λ (x : Round). Advances b q c.args.looked s t row c.pass.new.row x) (sym u.0)
-            (shut_found c.args.looked e.0 watches blocked (λ new chain. ⊎_elim
+          let pending : ¬ IsReplied (phase h (nth q.ring first)) = first_told.0 in
+          let blocked : IsBlocked K q (pass_of s) (pass_of t) = ((λ o. a.0 (λ z. pending (replied_was q h (nth q.ring first) z)) (open_back q h o)), (nth q.ring first, ((refl, lt), pending, first_told.1))) in
+          subst (λ (x : Round). Advances b q c.args.looked s t row c.pass.new.row x) (sym u.0) (
+            shut_found c.args.looked e.0 watches blocked (λ new chain. ⊎_elim
                 (λ is. inl (found_pending K (previous q) s t (subst (λ (n : ℕ). TellsOutcome K (nth q.ring n) (pass_of s) (pass_of t) Pending) (sym (u.2 (q.k - 1) is new)) first_told)))
-                (λ v. inr (unsevered_was q h (previous q) v)) (a.1 chain)) refl, e.4, more))
+                (λ v. inr (unsevered_was q h (previous q) v)) (a.1 chain)) refl,
+            e.4,
+            more,
+          ))
           w'.next_look.ensures)
     ] where
       shut_found : (looked : Bool) → Watched c.args.board.now c.args.seat.now c.pass.new.seat → Watches c.args.board.now.layout.cells c.pass.new.seat.me.0.seen c.args.req c.pass.new.row → IsBlocked c.args.board.now.layout.cells c.args.req (pass_of c.args.seat.now) (pass_of c.pass.new.seat)
@@ -102,6 +105,6 @@ returns-in-Waits c =
 
 pub returns-in-Lost : goal.returns-in-Lost
 returns-in-Lost c = let e = c.in-Lost.ensures in let b = c.args.board.now in let s = c.args.seat.now in (lost_found c.args.looked (e.0, e.1, e.2), e.3, watches_waits b.layout.cells s.me.0.seen c.args.req c.args.row.now c.requires.watches) where
-    lost_found : (looked : Bool) → Gated c.args.board.now c.args.req c.args.seat.now c.pass.new.seat c.pass.new.row NowLost → Found c.args.board.now c.args.req looked c.args.seat.now c.pass.new.seat c.pass.new.row NowLost
-    lost_found true g = g
-    lost_found false g = g
+  lost_found : (looked : Bool) → Gated c.args.board.now c.args.req c.args.seat.now c.pass.new.seat c.pass.new.row NowLost → Found c.args.board.now c.args.req looked c.args.seat.now c.pass.new.seat c.pass.new.row NowLost
+  lost_found true g = g
+  lost_found false g = g
