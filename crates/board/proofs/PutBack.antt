@@ -12,7 +12,7 @@ use Rattle.history.proofs.Requests.{bool_cases, same_itself, same_true, same_fal
 use Rattle.history.proofs.Growth.{counted, submission_stays, reply_stays, replied_of_reply}
 use Rattle.history.proofs.Opening.{placed_stays, chain_was, done_stays}
 use Rattle.gates.specs.Slots.{Slot}
-use Rattle.gates.specs.Shows.{nth, HasNotSevered, StandsIn, IsOutcome, TrailedAt, Trails}
+use Rattle.gates.specs.Shows.{nth, HasNotSevered, HaveGoneOn, StandsIn, IsOutcome, TrailedAt, Trails}
 
 module _ (r : Req) (h : List Event) where
   abbrev back : List Event
@@ -82,8 +82,11 @@ module _ (r : Req) (h : List Event) where
   pub is_severed_back : Severed h r → Severed back r
   is_severed_back v = severed_back r refl (omega arith) v
 
-  pub unsevered_was : (q : Req) → HasNotSevered back q → HasNotSevered h q
+  unsevered_was : (q : Req) → HasNotSevered back q → HasNotSevered h q
   unsevered_was q u = (replied_was q u.0, λ e res p is. u.1 e res p (reply_back q (other q u.0) ∙ is))
+
+  pub gone_on_was : (n : ℕ) → HaveGoneOn back r n → HaveGoneOn h r n
+  gone_on_was n g q le b = unsevered_was q (g q le b)
 
   -- who waits may be put back
   module _ (is : phase h r ≡ waits) where

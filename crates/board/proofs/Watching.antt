@@ -1,10 +1,10 @@
 -- The poller's seat looks, and the steps of its looks are paid for.
-use Rattle.std.proofs.Common.{◌≡◌, ℕ, ◌+◌, ◌<◌, ◌≤◌, Bool, true, false, List, [], ◌∷◌, ◌++◌, Option, length, sym, refl, ap, ◌∙◌, subst, ⊎_elim, inl, inr, arith, length-append}
+use Rattle.std.proofs.Common.{◌≡◌, ℕ, suc, ◌+◌, ◌<◌, ◌≤◌, Bool, true, false, List, [], ◌∷◌, ◌++◌, Option, length, sym, refl, ap, ◌∙◌, subst, ⊎_elim, inl, inr, arith, length-append}
 use Rattle.std.proofs.lemmas.List.{append_assoc}
 use Rattle.atomic_table.specs.declared.shared.Seat.{Seat}
 use Rattle.history.specs.declared.req.Req.{Req}
 use Rattle.history.specs.History.{phase, submits, IsReplied}
-use Rattle.history.specs.Chains.{previous}
+use Rattle.history.specs.Chains.{IsChainBefore}
 use Rattle.history.specs.Legal.{Legal}
 use Rattle.steps.specs.declared.line.Line.{Line}
 use Rattle.steps.specs.declared.line.Line.TheVariants.{Did}
@@ -23,17 +23,20 @@ use Rattle.work.specs.Board.{Facts}
 use Rattle.work.specs.Passes.{pass_of}
 use Rattle.board.specs.Calls.{LastAt, Stepped, FoundHeld}
 use Rattle.board.specs.Seats.{IsPollerSeat}
-use Rattle.board.specs.PollerRows.{IsOurs, Watched, Paid, TellsOutcome, FoundPending, Decided, Decides, IsBlocked, IsShutOut, Gated, Found}
+use Rattle.board.specs.PollerRows.{IsOurs, Watched, Paid, TellsOutcome, FoundPending, Decided, Decides, IsBlocked, IsUnended, IsShutOut, Gated, Found}
 use Rattle.board.specs.declared.trail.Outcome.TheVariants.{Pending}
 use Rattle.board.specs.declared.trail.Gating.{Gating}
 use Rattle.board.specs.declared.trail.Gating.TheVariants.{Severed as NowSevered, Open as NowOpen, Linked as NowLinked, Shut as NowShut, Lost as NowLost}
 use Rattle.gates.specs.EntryRows.{Kept}
+use Rattle.gates.specs.Shows.{HaveGoneOn}
+use Rattle.gates.proofs.TrailLaws.{gone_on_stays}
+use Rattle.history.proofs.Opening.{chain_stays}
 use Rattle.board.specs.declared.poller.Released.{Released}
 use Rattle.board.specs.declared.poller.Released.TheVariants.{Severed as IsSevered, Freed as IsFreed, Shut as IsShut, Timer as IsTimer, NotHeld}
 use Rattle.board.proofs.GoesLaws.{goes_looked, goes_still, goes_then}
 use Rattle.board.proofs.PassFacts.{freed_looked}
 
-abbrev TableSeat : Type 0
+abbrev pub TableSeat : Type 0
 TableSeat = Seat (Option Thing) View
 
 pub seat_looked : (s t : TableSeat) → IsPollerSeat s → t.me.1 ≡ s.me.1 → Looks s.me.0 t.me.0 → IsPollerSeat t
@@ -142,8 +145,22 @@ pending_after K r s t u n m p x = record {
 pub blocked_after : (b : Facts) (r : Req) (s t u : TableSeat) (n m : ℕ) → Paid s.me.0 t.me.0 n m → IsBlocked b.layout.cells r (pass_of t) (pass_of u) → IsBlocked b.layout.cells r (pass_of s) (pass_of u)
 blocked_after b r s t u n m x d = let w = d.1.1 in (d.0, (d.1.0, (w.0, w.1, stepped_after b.layout.cells d.1.0 s t u b n m x w.2)))
 
+-- nobody of the chain ended it: this is known by more steps before it
+pub unended_after : (K : List ℕ) (r : Req) (s t u : TableSeat) (n m : ℕ) → Paid s.me.0 t.me.0 n m → IsUnended K r (pass_of t) (pass_of u) → IsUnended K r (pass_of s) (pass_of u)
+unended_after K r s t u n m x = ⊎_elim (λ g. inl g) (λ w. inr (w.0, w.1, pending_after K w.0 s t u n m x w.2, w.3))
+
+-- and stays so
+pub gone_on : (b : Facts) (s t : TableSeat) (r : Req) (n : ℕ) → Watched b s t → r.k < submits (events_of s.me.0.seen) r.ring → HaveGoneOn (events_of s.me.0.seen) r n → HaveGoneOn (events_of t.me.0.seen) r n
+gone_on b s t r n x born g = lasts_on b s t x (λ h. HaveGoneOn h r n) r (λ e h l a c. gone_on_stays (setup_of b.layout) e h l a r n c) born g
+
+pub unended_before : (b : Facts) (r : Req) (s t u : TableSeat) (n m : ℕ) → r.k < submits (events_of t.me.0.seen) r.ring → IsUnended b.layout.cells r (pass_of s) (pass_of t) → Watched b t u → Paid t.me.0 u.me.0 n m → IsUnended b.layout.cells r (pass_of s) (pass_of u)
+unended_before b r s t u n m born x w p = ⊎_elim
+    (λ g. inl (gone_on b t u r 0 w born g))
+    (λ f. inr (f.0, lasts_on b t u w (λ h. IsChainBefore h f.0 r) r (λ e h l a c. chain_stays (setup_of b.layout) e h l a f.0 r c) born f.1, pending_before b.layout.cells f.0 s t u n m f.2 p, gone_on b t u r (suc f.0.k) w born f.3))
+    x
+
 pub shut_after : (b : Facts) (r : Req) (s t u : TableSeat) (n m : ℕ) → Paid s.me.0 t.me.0 n m → IsShutOut b.layout.cells r (pass_of t) (pass_of u) → IsShutOut b.layout.cells r (pass_of s) (pass_of u)
-shut_after b r s t u n m x d = (blocked_after b r s t u n m x d.0, λ c. ⊎_elim (λ f. inl (pending_after b.layout.cells (previous r) s t u n m x f)) (λ g. inr g) (d.1 c))
+shut_after b r s t u n m x d = (blocked_after b r s t u n m x d.0, unended_after b.layout.cells r s t u n m x d.1)
 
 decided_after : (b : Facts) (r : Req) (s t u : TableSeat) (n m : ℕ) (y : Released) → Paid s.me.0 t.me.0 n m → Decided b r (pass_of t) (pass_of u) y → Decided b r (pass_of s) (pass_of u) y
 decided_after b r s t u n m IsSevered x d = (d.0, found_after b.layout.cells r s t u b n m x d.1)
@@ -167,15 +184,15 @@ gated_after b r s t u n m l NowLinked x p g = (watched_then b s t u x g.0, g.1, 
 gated_after b r s t u n m l NowShut x p g = (watched_then b s t u x g.0, g.1, shut_after b r s t u n m p g.2)
 gated_after b r s t u n m l NowLost x p g = (decides_after b r s t u n m NotHeld x p g.0, g.1, g.2)
 
--- what the last of several looks found, where the one directly before r was looked at before it, as `looked` says
-pub gated_found : (b : Facts) (r : Req) (s t u : TableSeat) (n m n' m' : ℕ) (l : Kept) (looked : Bool) (y : Gating) → Watched b s t → Paid s.me.0 t.me.0 n m → Paid t.me.0 u.me.0 n' m' → (looked ≡ true → FoundPending b.layout.cells (previous r) (pass_of s) (pass_of t)) → Found b r looked t u l y → Gated b r s u l y
-gated_found b r s t u n m n' m' l true NowShut x p p' f g = (watched_then b s t u x g.0, g.1, (blocked_after b r s t u n m p g.2, λ _. inl (pending_before b.layout.cells (previous r) s t u n' m' (f refl) p')))
-gated_found b r s t u n m n' m' l false NowShut x p p' f g = gated_after b r s t u n m l NowShut x p g
-gated_found b r s t u n m n' m' l true NowSevered x p p' f g = gated_after b r s t u n m l NowSevered x p g
-gated_found b r s t u n m n' m' l false NowSevered x p p' f g = gated_after b r s t u n m l NowSevered x p g
-gated_found b r s t u n m n' m' l true NowOpen x p p' f g = gated_after b r s t u n m l NowOpen x p g
-gated_found b r s t u n m n' m' l false NowOpen x p p' f g = gated_after b r s t u n m l NowOpen x p g
-gated_found b r s t u n m n' m' l true NowLinked x p p' f g = gated_after b r s t u n m l NowLinked x p g
-gated_found b r s t u n m n' m' l false NowLinked x p p' f g = gated_after b r s t u n m l NowLinked x p g
-gated_found b r s t u n m n' m' l true NowLost x p p' f g = gated_after b r s t u n m l NowLost x p g
-gated_found b r s t u n m n' m' l false NowLost x p p' f g = gated_after b r s t u n m l NowLost x p g
+-- what the last of several looks found, where the nearest of the chain of r was looked at before it, as `looked` says
+pub gated_found : (b : Facts) (r : Req) (s t u : TableSeat) (n m n' m' : ℕ) (l : Kept) (looked : Bool) (y : Gating) → r.k < submits (events_of t.me.0.seen) r.ring → Watched b s t → Paid s.me.0 t.me.0 n m → Paid t.me.0 u.me.0 n' m' → (looked ≡ true → IsUnended b.layout.cells r (pass_of s) (pass_of t)) → Found b r looked t u l y → Gated b r s u l y
+gated_found b r s t u n m n' m' l true NowShut born x p p' f g = (watched_then b s t u x g.0, g.1, (blocked_after b r s t u n m p g.2, unended_before b r s t u n' m' born (f refl) g.0 p'))
+gated_found b r s t u n m n' m' l false NowShut born x p p' f g = gated_after b r s t u n m l NowShut x p g
+gated_found b r s t u n m n' m' l true NowSevered born x p p' f g = gated_after b r s t u n m l NowSevered x p g
+gated_found b r s t u n m n' m' l false NowSevered born x p p' f g = gated_after b r s t u n m l NowSevered x p g
+gated_found b r s t u n m n' m' l true NowOpen born x p p' f g = gated_after b r s t u n m l NowOpen x p g
+gated_found b r s t u n m n' m' l false NowOpen born x p p' f g = gated_after b r s t u n m l NowOpen x p g
+gated_found b r s t u n m n' m' l true NowLinked born x p p' f g = gated_after b r s t u n m l NowLinked x p g
+gated_found b r s t u n m n' m' l false NowLinked born x p p' f g = gated_after b r s t u n m l NowLinked x p g
+gated_found b r s t u n m n' m' l true NowLost born x p p' f g = gated_after b r s t u n m l NowLost x p g
+gated_found b r s t u n m n' m' l false NowLost born x p p' f g = gated_after b r s t u n m l NowLost x p g

@@ -1,16 +1,16 @@
 -- What the poller knows of the requests of each ring, and what it finds out for a release.
-use Rattle.std.specs.Prelude.{◌≡◌, ◌⊎◌, ℕ, ◌+◌, ◌-◌, ◌*◌, ◌<◌, ◌≤◌, Bool, true, false, ℤ, negsuc, List, [], ◌∷◌, ◌++◌, length, slice_get, Option, Some, None}
+use Rattle.std.specs.Prelude.{◌≡◌, ◌⊎◌, ℕ, suc, ◌+◌, ◌-◌, ◌*◌, ◌<◌, ◌≤◌, Bool, true, false, ℤ, negsuc, List, [], ◌∷◌, ◌++◌, length, slice_get, Option, Some, None}
 use Rattle.atomic_table.specs.declared.shared.Seat.{Seat}
 use Rattle.claim.specs.Facts.{Facts as FactsParts}
 use Rattle.entry.specs.Entry.{Entry, fails}
 use Rattle.gates.specs.EntryRows.{Kept, Stands, HasCell, added, waiting}
-use Rattle.gates.specs.Shows.{Trails, HasNotSevered}
+use Rattle.gates.specs.Shows.{Trails, HaveGoneOn}
 use Rattle.gates.specs.Slots.{Slot}
 use Rattle.history.specs.declared.req.Req.{Req}
 use Rattle.history.specs.declared.event.Event.{Event}
 use Rattle.history.specs.declared.event.Event.TheVariants.{Park, Sever}
 use Rattle.history.specs.History.{phase, waits, replied, by_sever, reply, same, IsReplied}
-use Rattle.history.specs.Chains.{IsPlaced, IsChainDone, IsBefore, IsChainBefore, IsLinkTimeout, Severed, Open, is_timer, previous}
+use Rattle.history.specs.Chains.{IsPlaced, IsChainDone, IsBefore, IsChainBefore, IsLinkTimeout, Severed, Open, is_timer}
 use Rattle.history.specs.Legal.{IsOf as IsOfKind}
 use Rattle.steps.specs.declared.line.Line.{Line}
 use Rattle.steps.specs.declared.parcel.Thing.{Thing}
@@ -128,15 +128,16 @@ pub record FoundPending (K : List ℕ) (r : Req) (p q : Pass) : Type 0 where
   pub shown : Shown K seen cell found
   pub pending : ¬ IsReplied (phase (events_of seen) r)
 
--- the request directly before r in its chain, if there is one, had no reply when this call looked, or has one that doesn't sever
+-- each earlier member of r's chain has replied and not ended it; or one had no reply when this call looked, and those after it have
+-- replied and not ended it
 abbrev pub IsUnended : List ℕ → Req → Pass → Pass → Type 0
-IsUnended K r p q = IsChainBefore (seen_of q) (previous r) r → FoundPending K (previous r) p q ⊎ HasNotSevered (seen_of q) (previous r)
+IsUnended K r p q = HaveGoneOn (seen_of q) r 0 ⊎ ((w : Req) × IsChainBefore (seen_of q) w r × FoundPending K w p q × HaveGoneOn (seen_of q) r (suc w.k))
 
 -- it is not open, and waits for another
 abbrev pub IsBlocked : List ℕ → Req → Pass → Pass → Type 0
 IsBlocked K r p q = (¬ Open (seen_of q) r) × ((w : Req) × WaitsFor K p q r w)
 
--- and the one directly before it doesn't end its chain
+-- and nobody before it in its chain ends that, as far as this call may tell
 abbrev pub IsShutOut : List ℕ → Req → Pass → Pass → Type 0
 IsShutOut K r p q = IsBlocked K r p q × IsUnended K r p q
 
@@ -173,7 +174,7 @@ Gated b r s t l NowLinked = Watched b s t × Watches b.layout.cells t.me.0.seen 
 Gated b r s t l NowShut = Watched b s t × Watches b.layout.cells t.me.0.seen r l × IsShutOut b.layout.cells r (pass_of s) (pass_of t)
 Gated b r s t l NowLost = Decides b r (pass_of s) (pass_of t) NotHeld × IsPollerSeat t × KnowsRow b.layout.cells t.me.0.seen r.ring l
 
--- the same, but where it is shut and the request directly before it was looked at already nothing is known of that one
+-- the same, but where it is shut and the nearest of its chain was looked at already nothing is known of that one
 abbrev pub Found : Facts → Req → Bool → Seat (Option Thing) View → Seat (Option Thing) View → Kept → Gating → Type 0
 Found b r true s t l NowShut = Watched b s t × Watches b.layout.cells t.me.0.seen r l × IsBlocked b.layout.cells r (pass_of s) (pass_of t)
 Found b r false s t l NowShut = Gated b r s t l NowShut
@@ -189,18 +190,18 @@ costs_of NowShut = 1
 costs_of NowLost = 3
 costs_of _ = 0
 
--- who is to be looked at next, where `first` is in the way and `link` stands directly before, and what it comes to without a reply
+-- who is to be looked at next, where `first` is in the way and `link` is the nearest of its chain, and what it comes to without a reply
 abbrev pub IsNextLook : ℕ → Option ℕ → Bool → ℕ → Round → Type 0
 IsNextLook first link looked n x = ((x ≡ LookedBack) × (link ≡ Some n) × (looked ≡ false)) ⊎ ((x ≡ DecidedOn NowShut) × (n ≡ first) × ((p : ℕ) → link ≡ Some p → looked ≡ false → p ≡ first))
 
 -- a step towards an answer for r took the seat from s to t and the row from k to l: it is there; or fewer requests are in the way;
--- or the one directly before it was found to have no reply
+-- or the nearest of its chain was found to have no reply
 abbrev pub Advances : Facts → Req → Bool → Seat (Option Thing) View → Seat (Option Thing) View → Kept → Kept → Round → Type 0
 Advances b r looked s t k l (DecidedOn x) = Found b r looked s t l x × Paid s.me.0 t.me.0 0 (costs_of x) × (0 < waiting k)
 Advances b r looked s t k l PassedOne = Watched b s t × Watches b.layout.cells t.me.0.seen r l × (waiting l < waiting k) × Paid s.me.0 t.me.0 (3 * waiting l) (3 * waiting k)
-Advances b r looked s t k l LookedBack = Watched b s t × Watches b.layout.cells t.me.0.seen r l × (l ≡ k) × (looked ≡ false) × FoundPending b.layout.cells (previous r) (pass_of s) (pass_of t) × Paid s.me.0 t.me.0 0 1
+Advances b r looked s t k l LookedBack = Watched b s t × Watches b.layout.cells t.me.0.seen r l × (l ≡ k) × (looked ≡ false) × IsUnended b.layout.cells r (pass_of s) (pass_of t) × Paid s.me.0 t.me.0 0 1
 
--- the steps that are owed for a look at the one directly before it
+-- the steps that are owed for a look at the nearest of its chain
 abbrev pub owed_back : Bool → ℕ
 owed_back true = 0
 owed_back false = 1

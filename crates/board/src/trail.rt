@@ -69,7 +69,7 @@ enum Round {
     Decided(Gating),
     /// One that was in the way has replied, and the row knows.
     Passed,
-    /// Who stands directly before it in its chain has no reply.
+    /// The nearest earlier member of its chain that was in question has no reply.
     Looked,
 }
 
@@ -347,19 +347,19 @@ fn sever(board: &Board, seat: &mut TableSeat, row: &Row, spot: Spot, req: Req) -
     }
 }
 
-/// Who is to be looked at, where `first` is in the way and `link` stands directly before the request in its chain: that one,
-/// unless it was looked at, or is the same. And what it comes to if it has no reply.
+/// Who is to be looked at, where `first` is in the way and `link` is the nearest earlier member of the request's chain that the
+/// row has no reply of: that one, unless one was looked at, or it is the same. And what it comes to if it has no reply.
 fn next_look(first: u64, link: Option<u64>, looked: bool) -> (u64, Round)
     ensures { IsNextLook first link looked result.0 result.1 }
 {
     match link {
-        Some(before) if !looked && before != first => (before, Round::Looked),
+        Some(member) if !looked && member != first => (member, Round::Looked),
         _ => (first, Round::Decided(Gating::Shut)),
     }
 }
 
-/// Asks the row whether the request may start, or looks at one that is in its way. The one directly before it in its chain
-/// comes first, once: a failure of that one ends the chain, whoever else is in the way.
+/// Asks the row whether the request may start, or looks at one that is in its way. The members of its chain come first, from
+/// the nearest back to the first that has no reply: a failure of one ends the chain, whoever else is in the way.
 fn advance(
     board: &Board,
     seat: &mut TableSeat,

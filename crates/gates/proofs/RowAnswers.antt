@@ -68,14 +68,14 @@ module _ (xs : List Slot) (r : Kept) (sound : IsSound r) (stands : Stands xs r) 
           (omega (arith, g_before), record { cell = record { kept = z.1; there = omega (arith, g_within) }; pending = z.0.1 })
       by_blocker None e u = by_test (nat_lt g (k - r.lost) && passes is_pending (map slot_of r.cells) g) refl u
 
-    -- and so is who is named as the one directly before it
-    pub linked_law : (p : ℕ) → linked_in (asked_by r g (k - r.lost) q) ≡ Some p → (p + 1 ≡ k) × Waits xs r p
+    -- and so does who is named of its chain
+    pub linked_law : (p : ℕ) → linked_in (asked_by r g (k - r.lost) q) ≡ Some p → (p < k) × Waits xs r p
     linked_law p = by_blocker q where
-      by_test : (t : Bool) → linked_in (cond t (open_with (r.lost + g)) open_now) ≡ Some p → (p + 1 ≡ k) × Waits xs r p
+      by_test : (t : Bool) → linked_in (cond t (open_with (r.lost + g)) open_now) ≡ Some p → (p < k) × Waits xs r p
       by_test true u = absurd (none-some p u)
       by_test false u = absurd (none-some p u)
 
-      by_blocker : (o : Option ℕ) → linked_in (asked_by r g (k - r.lost) o) ≡ Some p → (p + 1 ≡ k) × Waits xs r p
+      by_blocker : (o : Option ℕ) → linked_in (asked_by r g (k - r.lost) o) ≡ Some p → (p < k) × Waits xs r p
       by_blocker (Some x) u = link_named xs r sound stands k cell p u
       by_blocker None u = by_test (nat_lt g (k - r.lost) && passes is_pending (map slot_of r.cells) g) u
 

@@ -10,12 +10,12 @@ use Rattle.history.specs.History.{Submission, submission, submits, phase, IsRepl
 use Rattle.history.specs.Chains.{IsPlaced, IsChainDone}
 use Rattle.history.specs.Legal.{Setup, MayCome, Legal}
 use Rattle.history.proofs.Requests.{bool_cases}
-use Rattle.history.proofs.Growth.{submission_none, submission_stays, reply_stays}
-use Rattle.history.proofs.Opening.{placed_stays, done_stays}
+use Rattle.history.proofs.Growth.{submission_none, submission_stays, reply_stays, reply_of_replied, replied_stays}
+use Rattle.history.proofs.Opening.{placed_stays, chain_was, done_stays}
 use Rattle.gates.specs.declared.traits.Traits.{Traits}
 use Rattle.gates.specs.Slots.{Slot, traits_of, is_unanswered, is_pending, passes, test_at}
 use Rattle.gates.specs.EntryRows.{Kept, Stands, slot_with, stand_in, with_reply, answered}
-use Rattle.gates.specs.Shows.{nth, IsOfChain, StandsIn, IsOutcome, TrailedAt, TrailsAt, Trails}
+use Rattle.gates.specs.Shows.{nth, IsOfChain, StandsIn, IsOutcome, TrailedAt, TrailsAt, Trails, HasNotSevered, HaveGoneOn}
 use Rattle.gates.proofs.Lists.{get_before, get_last, get_set_same, get_set_other, one_some}
 use Rattle.gates.proofs.Links.{ne_of}
 use Rattle.gates.proofs.Trailing.{trailed}
@@ -86,6 +86,17 @@ module _ (s : Setup) (e : Event) (h : List Event) (l : Legal s h) (a : MayCome s
 
   pub trails_grows : (i : ℕ) (xs : List Slot) → Trails h i xs → Trails (e ∷ h) i xs
   trails_grows i xs trails k x is = ⊎_elim (λ t. inl (trailed_stays (nth i k) x t)) (λ t. inr (stands_in_stays (nth i k) x t)) (trails k x is)
+
+  -- who of a chain has gone on has done so for good
+  not_severed_stays : (q : Req) → q.k < submits h q.ring → HasNotSevered h q → HasNotSevered (e ∷ h) q
+  not_severed_stays q lt is = let x = reply_of_replied s (phase h q) is.0 in (
+    replied_stays s e h q l a is.0,
+    λ y res p r. is.1 y res (sym (placed_stays s e h l a q lt) ∙ p) (x.1 ∙ (sym (reply_stays s e h q x.0 l a x.1) ∙ r)),
+  )
+
+  pub gone_on_stays : (r : Req) (n : ℕ) → r.k < submits h r.ring → HaveGoneOn h r n → HaveGoneOn (e ∷ h) r n
+  gone_on_stays r n lt g q le b = let was = chain_was s e h l a q r lt b in let c : q.k < r.k = was.0.1 in let same : submits h q.ring ≡ submits h r.ring = ap (submits h) was.0.0 in
+      not_severed_stays q (omega (arith, c, same)) (g q le was)
 
 -- any number of events more
 pub trails_later : (s : Setup) (later h : List Event) → Legal s (later ++ h) → (i : ℕ) (xs : List Slot) → Trails h i xs → Trails (later ++ h) i xs

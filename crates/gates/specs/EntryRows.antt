@@ -8,7 +8,7 @@ use Rattle.gates.specs.declared.gate.Gate.{Gate}
 use Rattle.gates.specs.declared.gate.Asked.{Asked}
 use Rattle.gates.specs.declared.gate.Asked.TheVariants.{Open as open_now, OpenWith as open_with, Blocked as blocked_by}
 use Rattle.gates.specs.declared.gate.Gate.TheVariants.{Open as open_gate, Shut as shut_gate, Severed as severed_gate}
-use Rattle.gates.specs.Slots.{Slot, slot_of, traits_of, joins_of, is_pending, is_draining, is_target_timer, next_of, behind, passes}
+use Rattle.gates.specs.Slots.{Slot, slot_of, traits_of, is_pending, is_draining, is_target_timer, next_of, behind, passes, pending_before}
 
 -- how many cells there are, how many entries have lost theirs to later ones, the cells of the others in order, and the places
 -- among them of the first that has not replied, and of the first drain that has not
@@ -163,22 +163,18 @@ IsMember cs n g c m = (c.behind.held ≡ false → m ≡ g) × (c.behind.held �
 abbrev pub blocker_by : ℕ → Cell → ℕ → ℕ → ℕ → Option ℕ
 blocker_by g c m oldest drain = let b : ℕ = cond c.traits.drains oldest (min drain m) in cond (nat_lt b g) (Some b) None
 
-abbrev pub link_by : ℕ → Option Cell → Option ℕ
-link_by k None = None
-link_by k (Some c) = cond (joins_of (slot_of c) && is_pending (slot_of c)) (Some k) None
+abbrev pub numbered : ℕ → Option ℕ → Option ℕ
+numbered n None = None
+numbered n (Some b) = Some (n + b)
 
--- the request directly before the one at the place j in its chain, where that is pending
+-- the nearest earlier member of the chain of the request at the place j that is pending
 abbrev pub link_in : Kept → ℕ → Option ℕ
-link_in r j = cond (j == 0) None (link_by (r.lost + (j - 1)) (slice_get r.cells (j - 1)))
+link_in r j = numbered r.lost (pending_before (map slot_of r.cells) j)
 
 -- the answer for the place j by the place g, which decides for it, where q is the first request in the way of that
 abbrev pub asked_by : Kept → ℕ → ℕ → Option ℕ → Asked
 asked_by r g j (Some b) = blocked_by b (link_in r j)
 asked_by r g j None = cond (nat_lt g j && passes is_pending (map slot_of r.cells) g) (open_with (r.lost + g)) open_now
-
-abbrev pub numbered : ℕ → Option ℕ → Option ℕ
-numbered n None = None
-numbered n (Some b) = Some (n + b)
 
 -- what a row answers as the first request in the way of the place g
 abbrev pub IsBlockerAt : Kept → ℕ → Option ℕ → Type 0

@@ -1,10 +1,10 @@
 -- When a list of entries with their replies is what a history says of the first requests of a ring, and what a row then answers.
-use Rattle.std.specs.Prelude.{◌≡◌, ◌⊎◌, ℕ, ◌-◌, ◌<◌, ℤ, Bool, true, false, List, Option, Some, None, slice_get}
+use Rattle.std.specs.Prelude.{◌≡◌, ◌⊎◌, ℕ, suc, ◌-◌, ◌<◌, ◌≤◌, ℤ, Bool, true, false, List, Option, Some, None, slice_get}
 use Rattle.entry.specs.Entry.{Entry, drains, fails}
 use Rattle.history.specs.declared.req.Req.{Req}
 use Rattle.history.specs.declared.event.Event.{Event}
 use Rattle.history.specs.History.{Submission, submission, phase, reply, IsReplied}
-use Rattle.history.specs.Chains.{IsPlaced, IsBefore, IsChainBefore, IsChained, IsChainDone, IsTarget, Severed, Open, gate_of, severs, previous}
+use Rattle.history.specs.Chains.{IsPlaced, IsBefore, IsChainBefore, IsChained, IsChainDone, IsTarget, Severed, Open, gate_of, severs}
 use Rattle.gates.specs.declared.gate.Gate.{Gate}
 use Rattle.gates.specs.declared.gate.Gate.TheVariants.{Open as open_gate, Shut as shut_gate, Severed as severed_gate}
 use Rattle.gates.specs.declared.gate.Asked.{Asked}
@@ -97,9 +97,14 @@ Trails h i xs = (k : ℕ) (s : Slot) → slice_get xs k ≡ Some s → TrailsAt 
 abbrev pub HasNotSevered : List Event → Req → Type 0
 HasNotSevered h q = IsReplied (phase h q) × ((e : Entry) (res : ℤ) → IsPlaced h q e → reply h q ≡ Some res → severs e res ≡ false)
 
--- the request directly before r in its chain, if there is one, is named by this, or has not severed the chain
+-- each member of its chain before r, from the ring's n-th request on, has replied, and not so that the rest of the chain is ended
+abbrev pub HaveGoneOn : List Event → Req → ℕ → Type 0
+HaveGoneOn h r n = (q : Req) → n ≤ q.k → IsChainBefore h q r → HasNotSevered h q
+
+-- this earlier member of r's chain is the nearest one that may have no reply, or may have ended the chain; or there is none
 abbrev pub IsLink : List Event → Req → Option ℕ → Type 0
-IsLink h r p = IsChainBefore h (previous r) r → (p ≡ Some (r.k - 1)) ⊎ HasNotSevered h (previous r)
+IsLink h r None = HaveGoneOn h r 0
+IsLink h r (Some p) = IsChainBefore h (nth r.ring p) r × HaveGoneOn h r (suc p)
 
 -- what a row that trails may answer of r. The history may know of replies that the row doesn't
 abbrev pub IsAsked : List Event → Req → Asked → Type 0
@@ -114,7 +119,7 @@ named_in (open_with t) = Some t
 named_in (blocked_by b p) = Some b
 named_in _ = None
 
--- the request directly before it in its chain, as an answer names it
+-- the nearest earlier member of its chain that is pending in the row, as an answer names it
 abbrev pub linked_in : Asked → Option ℕ
 linked_in (blocked_by b p) = p
 linked_in _ = None

@@ -1,8 +1,8 @@
 //! The cells of a row, in the order of their requests.
-ghost use Rattle.std.specs.Prelude.{◌≡◌, ◌≢◌, ℕ, ◌+◌, ◌^◌, ◌<◌, ◌≤◌, length, map, slice_get, slice_set, Some, false, true};
+ghost use Rattle.std.specs.Prelude.{◌≡◌, ◌≢◌, ℕ, ◌+◌, ◌^◌, ◌<◌, ◌≤◌, length, map, slice_get, slice_set, IfSome, Some, false, true};
 ghost use Rattle.std.specs.VecDeque.{deque_capacity};
 ghost use Rattle.gates.specs.declared.cell.Cell.{Cell};
-ghost use Rattle.gates.specs.Slots.{slot_of, passes, is_pending, is_draining};
+ghost use Rattle.gates.specs.Slots.{slot_of, passes, is_pending, is_draining, pending_before};
 ghost use Rattle.gates.specs.EntryRows.{LinkedAt, Linked, IsFirst, held_at, IsTurn};
 
 use crate::cell::{Behind, Cell};
@@ -80,6 +80,24 @@ pub fn first_draining(cells: &VecDeque<Cell>, from: usize) -> usize
         j += 1;
     }
     j
+}
+
+/// The place of the nearest earlier member of its chain, of the request at `j`, that has not replied. It walks back over those
+/// that have, and only where one has not.
+pub fn last_pending(cells: &VecDeque<Cell>, j: usize) -> Option<usize>
+    requires inside { j < length cells.now.items }
+    requires linked { (n : ℕ) × Linked n cells.now.items }
+    ensures nearest { result ≡ pending_before (map slot_of cells.now.items) j }
+    ensures before { IfSome result (λ p. p < j) }
+{
+    let mut m = j;
+    while m > 0 && cell_at(cells, m).behind.held {
+        m -= 1;
+        if cell_at(cells, m).is_pending() {
+            return Some(m);
+        }
+    }
+    None
 }
 
 /// The place after which the members of a chain wait for an earlier one, where those at `low` don't and those at `high` do:

@@ -21,7 +21,8 @@ pub enum Asked {
     /// It is the LINK_TIMEOUT of this request, which is pending in the row, and their chain and the drains let both start. It
     /// is severed only if that one has replied.
     OpenWith(u64),
-    /// This request is pending in the row, and keeps it from starting unless it has replied. The other one, if any, is directly
-    /// before it in its chain and is pending in the row: a failure of that one ends the chain, whoever else is in the way.
+    /// This request is pending in the row, and keeps it from starting unless it has replied. The other one, if any, is the
+    /// nearest earlier member of its chain that is pending in the row: a failure of that one ends the chain, whoever else is
+    /// in the way.
     Blocked(u64, Option<u64>),
 }

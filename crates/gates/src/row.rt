@@ -8,7 +8,9 @@ ghost use Rattle.history.specs.History.{IsReplied, phase};
 ghost use Rattle.gates.specs.Shows.{nth, Shows, Mirrors, Trails, IsGate, IsAsked, IsTargetOf, IsBlocker, IsFree, IsOfChain, named_in, linked_in};
 
 use crate::cell::{Behind, Cell};
-use crate::cells::{cell_at, first_draining, first_held, first_pending, set_reply, spread};
+use crate::cells::{
+    cell_at, first_draining, first_held, first_pending, last_pending, set_reply, spread,
+};
 use crate::error::{Memory, RowFull};
 use crate::gate::{Asked, Gate};
 use crate::traits::Traits;
@@ -253,7 +255,7 @@ impl Row {
     pub fn ask(&self, k: u64) -> Asked
         requires { HasCell self.now k }
         ensures named { (xs : List Slot) → Stands xs self.now → (b : ℕ) → named_in result ≡ Some b → (b < k) × Waits xs self.now b }
-        ensures linked { (xs : List Slot) → Stands xs self.now → (p : ℕ) → linked_in result ≡ Some p → (p + 1 ≡ k) × Waits xs self.now p }
+        ensures linked { (xs : List Slot) → Stands xs self.now → (p : ℕ) → linked_in result ≡ Some p → (p < k) × Waits xs self.now p }
         ensures trailed { (h : List Event) (i : ℕ) (xs : List Slot) → Stands xs self.now → Trails h i xs → (IsReplied (phase h (nth i k)) → ⊥) → IsAsked h (nth i k) result }
     {
         let j = (k - self.lost) as usize;
@@ -281,19 +283,14 @@ impl Row {
         }
     }
 
-    /// The request directly before the one at a place in its chain, where that is pending.
+    /// The nearest earlier member of its chain, of the request at a place, that is pending.
     fn link_before(&self, j: usize) -> Option<u64>
         requires { j < length self.now.cells }
         ensures { result ≡ link_in self.now j }
     {
-        if j == 0 {
-            return None;
-        }
-        let cell = cell_at(&self.cells, j - 1);
-        if cell.joins() && cell.is_pending() {
-            Some(self.lost + (j - 1) as u64)
-        } else {
-            None
+        match last_pending(&self.cells, j) {
+            Some(p) => Some(self.lost + p as u64),
+            None => None,
         }
     }
 

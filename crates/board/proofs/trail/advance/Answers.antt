@@ -1,21 +1,21 @@
-use Rattle.std.proofs.Common.{◌≡◌, ◌<◌, ◌+◌, ◌-◌, ℕ, List, ◌∷◌, Bool, true, false, Option, Some, refl, sym, ap, ◌∙◌, subst, ⊎_elim, inl, inr, arith}
+use Rattle.std.proofs.Common.{◌≡◌, ◌<◌, ℕ, suc, List, ◌∷◌, Bool, true, false, Option, None, Some, refl, sym, ap, ◌∙◌, subst, ⊎_elim, inl, inr, arith}
 use Rattle.gates.specs.EntryRows.{Kept, Stands, Waits}
 use Rattle.gates.specs.Slots.{Slot}
-use Rattle.gates.specs.Shows.{nth, named_in, linked_in}
+use Rattle.gates.specs.Shows.{nth, named_in, linked_in, HaveGoneOn, IsLink}
 use Rattle.history.specs.declared.req.Req.{Req}
 use Rattle.history.specs.declared.event.Event.TheVariants.{Park}
 use Rattle.history.specs.History.{phase, IsReplied}
-use Rattle.history.specs.Chains.{previous}
+use Rattle.history.specs.Chains.{IsChainBefore}
 use Rattle.steps.specs.Journal.{events_of}
 use Rattle.work.specs.Passes.{pass_of}
 use Rattle.board.specs.declared.trail.Round.{Round}
 use Rattle.board.specs.declared.trail.Gating.TheVariants.{Severed as NowSevered, Open as NowOpen, Linked as NowLinked, Shut as NowShut, Lost as NowLost}
 use Rattle.board.specs.declared.trail.Outcome.TheVariants.{Pending}
-use Rattle.board.specs.PollerRows.{Gated, Found, Watched, Watches, TellsOutcome, IsBlocked, IsUnended, IsNextLook, Advances}
+use Rattle.board.specs.PollerRows.{Gated, Found, Watched, Watches, TellsOutcome, IsBlocked, FoundPending, IsUnended, IsNextLook, Advances}
 use Rattle.board.proofs.LastSteps.{alive_back}
-use Rattle.board.proofs.PutBack.{replied_was, unsevered_was, open_was, open_back, is_severed, is_severed_back}
+use Rattle.board.proofs.PutBack.{replied_was, gone_on_was, open_was, open_back, is_severed, is_severed_back}
 use Rattle.board.proofs.RowLaws.{watches_waits}
-use Rattle.board.proofs.Watching.{watched_none, paid_none, found_pending}
+use Rattle.board.proofs.Watching.{TableSeat, watched_none, paid_none, found_pending}
 use Rattle.board.proofs.trail.advance.Goals as goal
 use Rattle.board.proofs.trail.advance.Goals.{in-OpenWith, in-Blocked}
 
@@ -50,7 +50,7 @@ pass-requires-clause-earlier c = let k = c.requires.watches.knows in let r = c.a
   | in-OpenWith w ↦ subst (λ (z : Next). z.0 < q.k) (sym w.first-is) (c.ask.ensures.named k.slots k.stands w.in-OpenWith.target (ap named_in w.in-OpenWith.is)).0
   | in-Blocked w ↦ subst (λ (z : Next). z.0 < q.k) (sym w.first-is) (next_ahead r q w.in-Blocked.first w.in-Blocked.link c.args.looked w.next_look.result.0 w.next_look.result.1
       ((c.ask.ensures.named k.slots k.stands w.in-Blocked.first (ap named_in w.in-Blocked.is)).0, λ xs st. (c.ask.ensures.named xs st w.in-Blocked.first (ap named_in w.in-Blocked.is)).1)
-      (λ p e. (let z = (c.ask.ensures.linked k.slots k.stands p (ap linked_in w.in-Blocked.is ∙ e)).0 in omega (arith, z), λ xs st. (c.ask.ensures.linked xs st p (ap linked_in w.in-Blocked.is ∙ e)).1)) w.next_look.ensures).0
+      (λ p e. ((c.ask.ensures.linked k.slots k.stands p (ap linked_in w.in-Blocked.is ∙ e)).0, λ xs st. (c.ask.ensures.linked xs st p (ap linked_in w.in-Blocked.is ∙ e)).1)) w.next_look.ensures).0
 ]
 
 pub pass-requires-clause-waits : goal.pass-requires-clause-waits
@@ -58,8 +58,14 @@ pass-requires-clause-waits c = let k = c.requires.watches.knows in let r = c.arg
   | in-OpenWith w ↦ subst (λ (z : Next). (xs : List Slot) → Stands xs r → Waits xs r z.0) (sym w.first-is) (λ xs st. (c.ask.ensures.named xs st w.in-OpenWith.target (ap named_in w.in-OpenWith.is)).1)
   | in-Blocked w ↦ subst (λ (z : Next). (xs : List Slot) → Stands xs r → Waits xs r z.0) (sym w.first-is) (next_ahead r q w.in-Blocked.first w.in-Blocked.link c.args.looked w.next_look.result.0 w.next_look.result.1
       ((c.ask.ensures.named k.slots k.stands w.in-Blocked.first (ap named_in w.in-Blocked.is)).0, λ xs st. (c.ask.ensures.named xs st w.in-Blocked.first (ap named_in w.in-Blocked.is)).1)
-      (λ p e. (let z = (c.ask.ensures.linked k.slots k.stands p (ap linked_in w.in-Blocked.is ∙ e)).0 in omega (arith, z), λ xs st. (c.ask.ensures.linked xs st p (ap linked_in w.in-Blocked.is ∙ e)).1)) w.next_look.ensures).1
+      (λ p e. ((c.ask.ensures.linked k.slots k.stands p (ap linked_in w.in-Blocked.is ∙ e)).0, λ xs st. (c.ask.ensures.linked xs st p (ap linked_in w.in-Blocked.is ∙ e)).1)) w.next_look.ensures).1
 ]
+
+-- whoever is named of its chain is the one in the way, which has no reply
+unended_by : (K : List ℕ) (q : Req) (s t : TableSeat) (first : ℕ) (link : Option ℕ) → IsLink (Park q ∷ events_of t.me.0.seen) q link → ((p : ℕ) → link ≡ Some p → p ≡ first) → FoundPending K (nth q.ring first) (pass_of s) (pass_of t) → IsUnended K q (pass_of s) (pass_of t)
+unended_by K q s t first None a is f = inl (gone_on_was q (events_of t.me.0.seen) 0 a)
+unended_by K q s t first (Some p) a is f = let at : p ≡ first = is p refl in
+    inr (nth q.ring first, subst (λ n. IsChainBefore (events_of t.me.0.seen) (nth q.ring n) q) at a.0, f, gone_on_was q (events_of t.me.0.seen) (suc first) (subst (λ n. HaveGoneOn (Park q ∷ events_of t.me.0.seen) q (suc n)) at a.1))
 
 pub returns-in-Waits : goal.returns-in-Waits
 returns-in-Waits c =
@@ -78,17 +84,14 @@ returns-in-Waits c =
           let told = subst (λ (z : Next). TellsOutcome K (nth q.ring z.0) (pass_of s) (pass_of t) Pending) w'.first-is e.3 in
           subst (λ (z : Next). Advances b q c.args.looked s t row c.pass.new.row z.1) (sym w'.first-is)
           (⊎_elim
-          (λ u. let next : w'.next_look.result.0 + 1 ≡ q.k = (c.ask.ensures.linked k.knows.slots k.knows.stands w'.next_look.result.0 (ap linked_in w'.in-Blocked.is ∙ u.1)).0 in
-          let at : w'.next_look.result.0 ≡ q.k - 1 = omega (arith, next) in
+          (λ u. let chain : IsLink (Park q ∷ h) q (Some w'.next_look.result.0) = subst (IsLink (Park q ∷ h) q) u.1 a.1 in
           subst (λ (x : Round). Advances b q c.args.looked s t row c.pass.new.row x) (sym u.0)
-          (e.0, watches, e.2, u.2, found_pending K (previous q) s t (subst (λ (n : ℕ). TellsOutcome K (nth q.ring n) (pass_of s) (pass_of t) Pending) at told), e.4))
+          (e.0, watches, e.2, u.2, inr (nth q.ring w'.next_look.result.0, chain.0, found_pending K (nth q.ring w'.next_look.result.0) s t told, gone_on_was q h (suc w'.next_look.result.0) chain.1), e.4))
           (λ u. let first_told = subst (λ (n : ℕ). TellsOutcome K (nth q.ring n) (pass_of s) (pass_of t) Pending) u.1 told in
           let pending : ¬ IsReplied (phase h (nth q.ring first)) = first_told.0 in
           let blocked : IsBlocked K q (pass_of s) (pass_of t) = ((λ o. a.0 (λ z. pending (replied_was q h (nth q.ring first) z)) (open_back q h o)), (nth q.ring first, ((refl, lt), pending, first_told.1))) in
           subst (λ (x : Round). Advances b q c.args.looked s t row c.pass.new.row x) (sym u.0) (
-            shut_found c.args.looked e.0 watches blocked (λ new chain. ⊎_elim
-                (λ is. inl (found_pending K (previous q) s t (subst (λ (n : ℕ). TellsOutcome K (nth q.ring n) (pass_of s) (pass_of t) Pending) (sym (u.2 (q.k - 1) is new)) first_told)))
-                (λ v. inr (unsevered_was q h (previous q) v)) (a.1 chain)) refl,
+            shut_found c.args.looked e.0 watches blocked (λ new. unended_by K q s t first link a.1 (λ p is. u.2 p is new) (found_pending K (nth q.ring first) s t first_told)) refl,
             e.4,
             more,
           ))

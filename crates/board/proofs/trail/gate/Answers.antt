@@ -1,10 +1,9 @@
 use Rattle.std.proofs.Common.{◌≡◌, ◌≤◌, ◌*◌, ◌+◌, ℕ, ap, arith}
 use Rattle.gates.specs.EntryRows.{waiting}
-use Rattle.history.specs.Chains.{previous}
 use Rattle.board.specs.declared.trail.Gating.{Gating}
 use Rattle.board.specs.declared.trail.Gating.TheVariants.{Severed as NowSevered, Open as NowOpen, Linked as NowLinked, Shut as NowShut, Lost as NowLost}
 use Rattle.board.specs.PollerRows.{Paid, owed_back, looks_of, costs_of}
-use Rattle.board.proofs.Watching.{born_on, watched_then, gated_found, pending_before, pending_after, paid_on, paid_with}
+use Rattle.board.proofs.Watching.{born_on, watched_then, gated_found, unended_before, unended_after, paid_on, paid_with}
 use Rattle.board.proofs.trail.gate.Goals as goal
 
 pub advance-requires-clause-born : goal.advance-requires-clause-born
@@ -22,7 +21,7 @@ returns-in-Decided c =
     let b = c.args.board.now in let q = c.args.req in let i = c.loop-gating.invariant in let e = c.in-Decided.ensures in let s = c.args.seat.now in let m = c.loop-gating.seat in let t = c.advance.new.seat in let x = c.in-Decided.gating in
     let w : ℕ = waiting c.args.row.now in let p = i.paid in let few = p.2 in let bound = costs_bound x in let more = e.2 in
     let less : Paid s.me.0 m.me.0 (costs_of x) (3 * w + looks_of x) = (p.0, p.1, omega (arith, few, bound, more)) in
-    (gated_found b q s m t _ _ _ _ c.advance.new.row c.loop-gating.looked x i.watched i.paid e.1 i.looked e.0, paid_on s.me.0 m.me.0 t.me.0 (3 * w + looks_of x) (costs_of x) 0 less e.1)
+    (gated_found b q s m t _ _ _ _ c.advance.new.row c.loop-gating.looked x (born_on b s m q.ring q.k i.watched c.requires.born) i.watched i.paid e.1 i.looked e.0, paid_on s.me.0 m.me.0 t.me.0 (3 * w + looks_of x) (costs_of x) 0 less e.1)
 
 pub loop-gating-preserved-in-Passed : goal.loop-gating-preserved-in-Passed
 loop-gating-preserved-in-Passed c =
@@ -31,7 +30,7 @@ loop-gating-preserved-in-Passed c =
       watched = watched_then b s m t i.watched e.0;
       watches = e.1;
       paid = paid_on s.me.0 m.me.0 t.me.0 _ (3 * v + o) _ i.paid (paid_with m.me.0 t.me.0 (3 * v) (3 * u) (3 * v + o) (3 * u + o) e.3 o (omega arith) (omega arith));
-      looked = λ is. pending_before b.layout.cells (previous c.args.req) s m t _ _ (i.looked is) e.3;
+      looked = λ is. unended_before b c.args.req s m t _ _ (born_on b s m c.args.req.ring c.args.req.k i.watched c.requires.born) (i.looked is) e.0 e.3;
     }
 
 pub loop-gating-preserved : goal.loop-gating-preserved
@@ -41,5 +40,5 @@ loop-gating-preserved c =
       watched = watched_then b s m t i.watched e.0;
       watches = e.1;
       paid = paid_on s.me.0 m.me.0 t.me.0 _ (3 * v + o) _ i.paid (paid_with m.me.0 t.me.0 1 0 (3 * v + o) (3 * u + 0) e.5 (3 * v) (omega (arith, one)) (omega (arith, same)));
-      looked = λ _. pending_after b.layout.cells (previous c.args.req) s m t _ _ i.paid e.4;
+      looked = λ _. unended_after b.layout.cells c.args.req s m t _ _ i.paid e.4;
     }

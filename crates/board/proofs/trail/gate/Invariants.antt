@@ -1,17 +1,16 @@
 use Rattle.std.specs.Prelude.{◌≡◌, ◌+◌, ◌*◌, true}
 use Rattle.gates.specs.EntryRows.{waiting}
-use Rattle.history.specs.Chains.{previous}
 use Rattle.work.specs.Passes.{pass_of}
-use Rattle.board.specs.PollerRows.{Watches, Watched, Paid, FoundPending, owed_back}
+use Rattle.board.specs.PollerRows.{Watches, Watched, Paid, IsUnended, owed_back}
 use Rattle.board.proofs.trail.gate.Given as goal
 
--- the requests that were passed are paid for, and so is a look at the one directly before it, which is remembered
+-- the requests that were passed are paid for, and so is a look at one of its chain, of which it is remembered what it found
 abbrev pub invariant-loop-gating : goal.invariant-loop-gating
 invariant-loop-gating l = record {
   watched : Watched l.board l.fn.seat l.seat;
   watches : Watches l.board.layout.cells l.seat.me.0.seen l.req l.row;
   paid : Paid l.fn.seat.me.0 l.seat.me.0 (3 * waiting l.row + owed_back l.looked) (3 * waiting l.fn.row + 1);
-  looked : l.looked ≡ true → FoundPending l.board.layout.cells (previous l.req) (pass_of l.fn.seat) (pass_of l.seat);
+  looked : l.looked ≡ true → IsUnended l.board.layout.cells l.req (pass_of l.fn.seat) (pass_of l.seat);
 }
 
 abbrev pub decreases-loop-gating : goal.decreases-loop-gating
