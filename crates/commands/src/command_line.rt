@@ -24,8 +24,8 @@ fn run<'a>(alloc: Global) -> Result<Command<'a>, AllocError> {
         .about("Carries a script out by threads, and prints its table of completions.")
         .long_about(
             "Carries a script out by threads, and prints its table of completions: a line for each entry, with its label and \
-             its reply. Each ring has a thread of its own; one more has the poller and one of the workers, which answers all \
-             requests, whatever the number of workers.",
+             its reply. Each ring has a thread of its own, and so have the poller, which carries out the clock's lines, and \
+             each worker.",
         )
         .after_help(
             "Example:\n  printf 'ring 4\\non 0\\nnop a\\nsubmit\\nwait a\\n' | ringrun run -\nprints\n  a 0\n\nStatus 0: the table was printed. 1: one line 'fault: ..' says why not. 2: the script has a fault, printed as\n'line N: ..'. 3: a line ran out of turns, printed as 'stuck L' with the label that it waits for.",
@@ -70,7 +70,7 @@ fn workers<'a>(alloc: Global) -> Arg<'a> {
         .value_name("N")
         .value_parser(value_parser!(u32).range(1..=i64::from(WORKERS)))
         .default_value("2")
-        .help("How many workers the board has, 1 to 64; for now one of them answers all requests")
+        .help("How many workers the board has, 1 to 64, each a thread")
 }
 
 fn turns<'a>(alloc: Global) -> Arg<'a> {

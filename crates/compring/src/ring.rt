@@ -5,12 +5,10 @@ ghost use Rattle.compring.specs.Posts.{Posts, IsKept, StandsFor, waiting, new_po
 
 use crate::error::PostError;
 use history::Req;
+use limits::POSTS;
 use std::alloc::Global;
 use std::collections::VecDeque;
 use std::marker::Model;
-
-/// The largest size of a completion ring.
-pub const MAX_SIZE: u32 = 2048;
 
 /// Where a post went.
 #[derive(Clone, Copy, PartialEq, Eq, Debug)]
@@ -49,7 +47,7 @@ impl CompletionRing {
         ensures empty { IfOk result (λ c. c ≡ new_posts size) }
         ensures stands { IfOk result (λ c. StandsFor [] 0 c) }
     {
-        if size == 0 || size > MAX_SIZE {
+        if size == 0 || size > POSTS {
             return Err(PostError::BadSize);
         }
         let size = size as usize;

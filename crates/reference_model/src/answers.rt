@@ -1,4 +1,5 @@
-//! What is in the pipes, and the table of answers.
+//! What is in the pipes, and the table of answers. Its error numbers are -2 ENOENT, -9 EBADF, -22 EINVAL, -32 EPIPE and
+//! -114 EALREADY of errno(3).
 
 use crate::list::List;
 use entry::Op;

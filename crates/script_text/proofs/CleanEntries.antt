@@ -33,7 +33,7 @@ use Rattle.script_text.proofs.ReadingLines.{any_map, label_stated}
 
 -- ---- flags
 
-flag_bits : (a b c : Bool) → (bit_and (bit_if a 2 + (bit_if b 4 + bit_if c 8)) 14 == bit_if a 2 + (bit_if b 4 + bit_if c 8)) ≡ true
+flag_bits : (a b c : Bool) → (bit_and ((bit_if a 2 + bit_if b 4) + bit_if c 8) 14 == (bit_if a 2 + bit_if b 4) + bit_if c 8) ≡ true
 flag_bits true true true = refl
 flag_bits true true false = refl
 flag_bits true false true = refl

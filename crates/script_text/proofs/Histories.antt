@@ -7,16 +7,16 @@ use Rattle.history.specs.declared.event.Event.{Event}
 use Rattle.script.specs.declared.act.Act.{Act}
 use Rattle.script.specs.declared.script.Script.{Script}
 use Rattle.script.specs.Steps.{step_at}
-use Rattle.script_text.specs.HistoryText.{label_among, label_by, label_of, event_text, history_text, text_behind}
+use Rattle.script_text.specs.HistoryText.{label_among, label_by, label_of, event_text, history_text, text_after}
 use Rattle.script.proofs.Items.{rest_at, front_at}
 
 pub event_more : (c : Script) (events : List Event) (i : ℕ) (e : Event) (old new : List ℕ) → i < length events → e ≡ get_or events i e
-    → old ++ text_behind c (take i events) (drop i events) ≡ history_text c events
+    → old ++ text_after c (take i events) (drop i events) ≡ history_text c events
     → new ≡ old ++ event_text c (take i events) e
-    → new ++ text_behind c (take (i + 1) events) (drop (i + 1) events) ≡ history_text c events
+    → new ++ text_after c (take (i + 1) events) (drop (i + 1) events) ≡ history_text c events
 event_more c events i e old new lt is so_far told =
     let rest = rw (rest_at events i e lt is) at so_far in
-    rw (told, front_at events i e lt is) (append_assoc old (event_text c (take i events) e) (text_behind c (take i events ++ e ∷ []) (drop (i + 1) events)) ∙ rest)
+    rw (told, front_at events i e lt is) (append_assoc old (event_text c (take i events) e) (text_after c (take i events ++ e ∷ []) (drop (i + 1) events)) ∙ rest)
 
 -- a ring that isn't there hands nothing in
 pub label_of_none : (c : Script) (r : Req) → length c.acts.items ≤ r.ring → [] ≡ label_of c r

@@ -44,11 +44,11 @@ short_line word first = word ++ (codes " " ++ (first ++ codes "\n"))
 abbrev pub long_line : List ℕ → List ℕ → List ℕ → List ℕ
 long_line word first second = word ++ (codes " " ++ (first ++ (codes " " ++ (second ++ codes "\n"))))
 
--- what a LINK_TIMEOUT is answered once it is settled, behind these events: -62 where it ran out in time, else -125
+-- what a LINK_TIMEOUT is answered once it is settled, after these events: -62 (ETIME) where it ran out in time, else -125 (ECANCELED)
 abbrev pub settled : List Event → Req → ℤ
 settled before r = cond (list_any (λ e. fires e r) before) (negsuc 61) (negsuc 124)
 
--- the line of an event behind these
+-- the line of an event after these
 abbrev pub event_text : Script → List Event → Event → List ℕ
 event_text c before (Submit r e bytes last) = short_line (codes "submit") (label_of c r)
 event_text c before (Begin r) = short_line (codes "begin") (label_of c r)
@@ -67,11 +67,11 @@ event_text c before (Tick n) = short_line (codes "tick") (decimal n)
 event_text c before (Arm r d) = long_line (codes "arm") (label_of c r) (decimal d)
 event_text c before Shut = codes "shut\n"
 
--- the lines of events behind others, in order
-abbrev pub text_behind : Script → List Event → List Event → List ℕ
-text_behind c before [] = []
-text_behind c before (e ∷ es) = event_text c before e ++ text_behind c (before ++ e ∷ []) es
+-- the lines of events after others, in order
+abbrev pub text_after : Script → List Event → List Event → List ℕ
+text_after c before [] = []
+text_after c before (e ∷ es) = event_text c before e ++ text_after c (before ++ e ∷ []) es
 
 -- the whole text, the first event first
 abbrev pub history_text : Script → List Event → List ℕ
-history_text c events = text_behind c [] events
+history_text c events = text_after c [] events

@@ -31,7 +31,7 @@ takes_etime _ = false
 
 -- the options of an entry line
 abbrev pub is_option : Kind → List ℕ → Bool
-is_option kind word = ((is_same word (codes "link") || is_same word (codes "hard")) || is_same word (codes "drain")) || ((takes_etime kind && is_same word (codes "etime-ok")) || is_user_data word)
+is_option kind word = ((is_same word (codes "drain") || is_same word (codes "link")) || is_same word (codes "hard")) || ((takes_etime kind && is_same word (codes "etime-ok")) || is_user_data word)
 
 -- the option is among these, wherever it stands
 abbrev pub has_option : List ℕ → List (List ℕ) → Bool
@@ -46,7 +46,7 @@ has_user_data_twice options = nat_lt 1 (count_by is_user_data options)
 
 abbrev pub repeats : Kind → List (List ℕ) → Bool
 repeats kind options =
-    ((has_twice (codes "link") options || has_twice (codes "hard") options) || has_twice (codes "drain") options)
+    ((has_twice (codes "drain") options || has_twice (codes "link") options) || has_twice (codes "hard") options)
     || ((takes_etime kind && has_twice (codes "etime-ok") options) || has_user_data_twice options)
 
 -- the faults of options: one that isn't known, one that stands twice, and a number that is none
@@ -61,7 +61,7 @@ bit_if is_set bit = if is_set then bit else 0
 
 -- the flags that options ask for: IO_DRAIN, IO_LINK and IO_HARDLINK of io_uring_enter(2)
 abbrev pub flags_in : List (List ℕ) → ℕ
-flags_in options = bit_if (has_option (codes "drain") options) 2 + (bit_if (has_option (codes "link") options) 4 + bit_if (has_option (codes "hard") options) 8)
+flags_in options = (bit_if (has_option (codes "drain") options) 2 + bit_if (has_option (codes "link") options) 4) + bit_if (has_option (codes "hard") options) 8
 
 abbrev pub has_etime : Kind → List (List ℕ) → Bool
 has_etime kind options = takes_etime kind && has_option (codes "etime-ok") options

@@ -22,7 +22,7 @@ pub fn write_history(alloc: Global, script: &Script, events: &[Event]) -> Result
     Ok(out)
 }
 
-/// Writes the line of an event behind these.
+/// Writes the line of an event that comes after these.
 fn write_event(
     out: &mut String,
     script: &Script,
@@ -96,7 +96,8 @@ fn write_pair(
     writeln!(out, "{word} {first} {second}")
 }
 
-/// What a LINK_TIMEOUT is answered that is settled behind these events.
+/// What a LINK_TIMEOUT is answered that is settled after these events: -62 (ETIME) where it ran out in time, else -125
+/// (ECANCELED).
 fn settled(before: &[Event], timer: Req) -> i32
     ensures { result ≡ settled before.now timer }
 {

@@ -12,8 +12,33 @@ use crate::fault::Fault;
 use crate::faults::Faults;
 use crate::keyword::Kind;
 use crate::words::is_same;
-use entry::Sqe;
+use entry::{Sqe, by_flag};
 use text::number_of;
+
+/// The option that asks for a flag.
+macro_rules! option_of {
+    (IO_DRAIN) => { b"drain" };
+    (IO_LINK) => { b"link" };
+    (IO_HARDLINK) => { b"hard" };
+}
+
+macro_rules! is_flag {
+    (($word:expr) $first:ident = $bit:literal: $text:literal $class:tt; $($flag:ident = $value:literal: $shown:literal $kind:tt;)*) => {
+        is_same($word, option_of!($first)) $(|| is_same($word, option_of!($flag)))*
+    };
+}
+
+macro_rules! repeats_flag {
+    (($options:expr) $first:ident = $bit:literal: $text:literal $class:tt; $($flag:ident = $value:literal: $shown:literal $kind:tt;)*) => {
+        has_twice($options, option_of!($first)) $(|| has_twice($options, option_of!($flag)))*
+    };
+}
+
+macro_rules! flag_bits {
+    (($options:expr) $first:ident = $bit:literal: $text:literal $class:tt; $($flag:ident = $value:literal: $shown:literal $kind:tt;)*) => {
+        bit_if(has_option($options, option_of!($first)), $bit) $(+ bit_if(has_option($options, option_of!($flag)), $value))*
+    };
+}
 
 /// What the options of an entry line ask for.
 #[derive(Clone, Copy)]
@@ -81,7 +106,7 @@ fn takes_etime(kind: Kind) -> bool
 fn is_option(kind: Kind, word: &[u8]) -> bool
     ensures { result ≡ is_option kind word.now }
 {
-    let is_flag = (is_same(word, b"link") || is_same(word, b"hard")) || is_same(word, b"drain");
+    let is_flag = by_flag!(is_flag!(word));
     let is_etime = takes_etime(kind) && is_same(word, b"etime-ok");
     is_flag || (is_etime || is_user_data(word))
 }
@@ -124,8 +149,7 @@ fn has_user_data_twice(options: &[&[u8]]) -> bool
 fn repeats(kind: Kind, options: &[&[u8]]) -> bool
     ensures { result ≡ repeats kind (texts options.now) }
 {
-    let flag = (has_twice(options, b"link") || has_twice(options, b"hard"))
-        || has_twice(options, b"drain");
+    let flag = by_flag!(repeats_flag!(options));
     let etime = takes_etime(kind) && has_twice(options, b"etime-ok");
     flag || (etime || has_user_data_twice(options))
 }
@@ -140,10 +164,7 @@ fn bit_if(is_set: bool, bit: u8) -> u8
 fn flags_in(options: &[&[u8]]) -> u8
     ensures { result ≡ flags_in (texts options.now) }
 {
-    let drain = bit_if(has_option(options, b"drain"), 2);
-    let link = bit_if(has_option(options, b"link"), 4);
-    let hard = bit_if(has_option(options, b"hard"), 8);
-    drain + (link + hard)
+    by_flag!(flag_bits!(options))
 }
 
 /// The user_data that the first `ud=NUMBER` of these options gives.

@@ -4,7 +4,7 @@ ghost use Rattle.std.specs.Prelude.{◌≡◌, ◌+◌, ◌*◌, ◌<◌, ◌≤
 ghost use Rattle.steps.specs.Cells.{claim_at, note_at, pipe_at, slot_at};
 
 /// How many pipes a table has slots for.
-pub const PIPES: usize = 64;
+pub const PIPES: usize = limits::PIPES;
 
 /// The words and slots before those of the first cell.
 const FIRST_LINE: usize = 72;

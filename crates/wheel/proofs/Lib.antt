@@ -1,4 +1,4 @@
 pub mod Fronts
-pub mod RunSteps
+pub mod LongerRuns
 pub mod Slotting
 pub mod Sorting

@@ -9,6 +9,7 @@ ghost use Rattle.work.specs.Board.{Facts, IsOf};
 use crate::busy::Busy;
 use crate::grid::Grid;
 use crate::pass::{Messenger, Pass};
+use claim::GENERATIONS;
 use history::Req;
 use std::marker::Model;
 use steps::layout::slot;
@@ -68,9 +69,6 @@ impl Pass for Worker {
     }
 }
 
-/// The generations of a cell are below this.
-const GENERATIONS: u64 = 16_777_216;
-
 impl Worker {
     ghost use Rattle.work.specs.Passes.{IsOn, FoundNotReady, Took};
 
@@ -92,7 +90,7 @@ impl Worker {
         let Some(spot) = grid.locate(req) else {
             return Err(Worker { seat });
         };
-        if spot.generation >= GENERATIONS {
+        if spot.generation >= u64::from(GENERATIONS) {
             seat::look(words, &mut seat, spot.cell);
             return Err(Worker { seat });
         }

@@ -1,7 +1,7 @@
 use Rattle.std.proofs.Common.{◌≡◌, ◌+◌, ◌++◌, [], ◌∷◌, arith, sym, subst, take}
 use Rattle.std.proofs.lemmas.Grind.{common_steps}
 use Rattle.wheel.specs.CallRuns.{Runs}
-use Rattle.wheel.proofs.RunSteps.{runs_next}
+use Rattle.wheel.proofs.LongerRuns.{runs_next}
 use Rattle.wheel.proofs.calls.run.Goals as goal
 
 pub returns-then-is_err-clause-err : goal.returns-then-is_err-clause-err

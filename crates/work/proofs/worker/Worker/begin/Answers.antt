@@ -42,7 +42,7 @@ invariant_of-result-2 c =
     let one : x.1.0 ≡ c.parcel_of.result = same_parcel x.1.0 c.parcel_of.result (ap in_hand (sym x.1.1 ∙ c.exchange-thing.ensures.2) ∙ c.parcel_of.ensures.is) in
     let parcel : IsParcel c.begin.new.seat.me.0.seen c.args.req [] c.parcel_of.result = subst (λ (z : Req × Parcel). IsParcel c.begin.new.seat.me.0.seen z.0 [] z.1) (λ i. (at i, one i)) x.1.2 in
     let runs = runs_begun table s.me.0 c.begin.new.seat.me.0 spot.cell spot.generation c.args.req c.parcel_of.result c.args.pipes (subst (λ (q : Req). Extends s.me.0 (Did (Begin q)) (RoleBusy q) c.begin.new.seat.me.0) at x.0) at
-    (c.in-Some.ensures.some.2, inside, (let n : spot.cell < total s.me.0.layout.cells = inside in omega arith), (let n = c.if-spot-ge-GENERATIONS.false in omega arith))
+    (c.in-Some.ensures.some.2, inside, (let n : spot.cell < total s.me.0.layout.cells = inside in omega arith), (let n = c.if-spot-from.false in omega arith))
     (ap (λ (p : Pass). length p.view.layout.caps) c.self.view_is ∙ c.requires.on.pipes_are, c.requires.on.few) c.self.invariant.parts parcel in record {
       table_is = c.exchange-thing.ensures.0 ∙ (k.seat.0 ∙ (ap (λ (p : Pass). p.table) c.self.view_is ∙ c.requires.on.table_is));
       grid = grid_on table c.args.grid.now s.me.0 c.exchange-thing.new.seat.me.0 (ap (λ (z : Seated). z.0.layout) m ∙ layout_after s.me.0 c.begin.new.seat.me.0 _ _ x.0) record { cells_are = cells; wide = c.requires.on.wide };
