@@ -5,7 +5,7 @@ use mathlib.Core.Option.{some, some-injective, some-ne-none}
 use lib.ListN.{get_elem?}
 use Rattle.crossbeam_queue.specs.Fifo.{Pushes, Pops, Forks, Merges, Learns, Held}
 use Rattle.crossbeam_queue.proofs.Lists.{at_set, at_snoc}
-use Rattle.history.specs.declared.req.Req.{Req}
+use Rattle.ready.specs.declared.span.Span.{Span}
 use Rattle.ready.specs.declared.tally.Tally.{Tally}
 use Rattle.ready.specs.Rule.{Balanced, Accounts, all_shares, tally, share_of, weight_put, weight_taken, with_put, with_taken, without_share, new_tally, both_tallies, no_tally}
 
@@ -28,7 +28,7 @@ empty_set views i w mine others j u e = ⊎_elim (λ (x : (j ≡ i) × (w ≡ u)
 empty_snoc : (views : List Tally) (w : Tally) → Empty w → AllEmpty views → AllEmpty (views ++ w ∷ [])
 empty_snoc views w mine others j u e = ⊎_elim (λ (x : get_elem? views j ≡ some u). others j u x) (λ (x : w ≡ u). subst Empty x mine) (at_snoc views w u j e)
 
-pub puts : (n i : ℕ) (v : Tally) (r : Req) → 0 < v.share → Pushes Balanced n i v r (λ w. w ≡ with_put r v)
+pub puts : (n i : ℕ) (v : Tally) (r : Span) → 0 < v.share → Pushes Balanced n i v r (λ w. w ≡ with_put r v)
 puts n i v r some_share items views room b at = let w : Tally = with_put r v in (
   w,
   record {
@@ -118,8 +118,8 @@ alone f (x ∷ xs) (suc i) v e g all =
 pub accounts : (i : ℕ) (v : Tally) → v.share ≡ all_shares → Learns Balanced i v (Accounts v)
 accounts i v all items views b at h =
     let whole : sum_by share_of views ≡ v.share = b.whole ∙ sym all in
-    let s : sum_by (weight_put h) views ≡ sum_by h v.put = alone (weight_put h) views i v at (λ j u e none. ap (λ (z : List Req). sum_by h z) (b.spent j u e none).0) whole in
-    let t : sum_by (weight_taken h) views ≡ sum_by h v.taken = alone (weight_taken h) views i v at (λ j u e none. ap (λ (z : List Req). sum_by h z) (b.spent j u e none).1) whole in
+    let s : sum_by (weight_put h) views ≡ sum_by h v.put = alone (weight_put h) views i v at (λ j u e none. ap (λ (z : List Span). sum_by h z) (b.spent j u e none).0) whole in
+    let t : sum_by (weight_taken h) views ≡ sum_by h v.taken = alone (weight_taken h) views i v at (λ j u e none. ap (λ (z : List Span). sum_by h z) (b.spent j u e none).1) whole in
     let p = b.even h in
     omega arith
 
@@ -134,16 +134,16 @@ begins = record {
   spent = λ i v e. at_first i v e;
 }
 
-ones : (rs : List Req) → sum_by (λ (r : Req). 1) rs ≡ length rs
+ones : (rs : List Span) → sum_by (λ (r : Span). 1) rs ≡ length rs
 ones [] = refl
-ones (r ∷ rs) = omega (arith, sum_by-cons (λ (x : Req). 1) r rs, ones rs)
+ones (r ∷ rs) = omega (arith, sum_by-cons (λ (x : Span). 1) r rs, ones rs)
 
 -- as many were put as were taken and are left
-counted : (v : Tally) (items : List Req) → Accounts v items → length v.put ≡ length v.taken + length items
-counted v items a = let e = a (λ (r : Req). 1) in omega (arith, ones v.put, ones v.taken, ones items)
+counted : (v : Tally) (items : List Span) → Accounts v items → length v.put ≡ length v.taken + length items
+counted v items a = let e = a (λ (r : Span). 1) in omega (arith, ones v.put, ones v.taken, ones items)
 
 -- where n were left, the queue isn't empty before n more are taken
-pub too_soon : (n : ℕ) (v w : Tally) (left : List Req) → Held n (Accounts v) → w ≡ tally v.share v.put (v.taken ++ left) → Held 0 (Accounts w) → length left < n → ⊥
+pub too_soon : (n : ℕ) (v w : Tally) (left : List Span) → Held n (Accounts v) → w ≡ tally v.share v.put (v.taken ++ left) → Held 0 (Accounts w) → length left < n → ⊥
 too_soon n v w left held is none fewer =
     let a = counted v held.0 held.2 in
     let b = counted w none.0 none.2 in
@@ -154,12 +154,12 @@ too_soon n v w left held is none fewer =
     let d = none.1 in
     omega arith
 
-no_items : (items : List Req) → length items ≡ 0 → items ≡ []
+no_items : (items : List Span) → length items ≡ 0 → items ≡ []
 no_items [] e = refl
 no_items (r ∷ rs) e = absurd (omega arith)
 
 -- where n were left, and n more were taken, these are all
-pub settled : (n : ℕ) (v w : Tally) (left : List Req) → Held n (Accounts v) → w ≡ tally v.share v.put (v.taken ++ left) → (items : List Req) × Accounts w items → length left ≡ n → Accounts v left
+pub settled : (n : ℕ) (v w : Tally) (left : List Span) → Held n (Accounts v) → w ≡ tally v.share v.put (v.taken ++ left) → (items : List Span) × Accounts w items → length left ≡ n → Accounts v left
 settled n v w left held is rest as_many h =
     let a = counted v held.0 held.2 in
     let b = counted w rest.0 rest.1 in
@@ -168,7 +168,7 @@ settled n v w left held is rest as_many h =
     let l = length-append v.taken left in
     let c = held.1 in
     let none : length rest.0 ≡ 0 = omega arith in
-    let nothing : sum_by h rest.0 ≡ 0 = ap (λ (z : List Req). sum_by h z) (no_items rest.0 none) in
+    let nothing : sum_by h rest.0 ≡ 0 = ap (λ (z : List Span). sum_by h z) (no_items rest.0 none) in
     let q : sum_by h w.put ≡ sum_by h v.put = ap (λ (z : Tally). sum_by h z.put) is in
     let s : sum_by h w.taken ≡ sum_by h (v.taken ++ left) = ap (λ (z : Tally). sum_by h z.taken) is in
     let e = rest.1 h in

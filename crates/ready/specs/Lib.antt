@@ -1,2 +1,5 @@
+pub mod Spans
+pub mod SpanFields
 pub mod Rule
 pub mod Ready
+pub mod QueueParts

@@ -1,11 +1,13 @@
 -- What contracts see of a ready queue and its passes.
-use Rattle.std.specs.Prelude.{◌≡◌, ℕ, ◌-◌, ◌<◌, List, [], ◌++◌, ◌∷◌, replicate, flat_map, count_by, sum_by}
+use Rattle.std.specs.Prelude.{◌≡◌, ℕ, ◌+◌, ◌-◌, ◌*◌, ◌<◌, List, [], ◌++◌, ◌∷◌, Option, length, take, replicate, flat_map, count_by, sum_by}
 use Rattle.atomic_table.specs.Seated.{TableId}
 use Rattle.crossbeam_queue.specs.Passes.{Pass, view}
 use Rattle.history.specs.declared.req.Req.{Req}
 use Rattle.history.specs.History.{same}
+use Rattle.ready.specs.declared.span.Span.{Span}
 use Rattle.ready.specs.declared.tally.Tally.{Tally}
 use Rattle.ready.specs.Rule.{all_shares}
+use Rattle.ready.specs.Spans.{numbers_in, most}
 
 -- a queue: what it is known by, and its places
 pub record Facts : Type 0 where
@@ -23,9 +25,12 @@ pub record Moves : Type 0 where
 abbrev pub IsOf : Facts → Moves → Type 0
 IsOf q p = p.queue ≡ q.queue
 
--- a put more, and a take more
+-- requests put more, and a take more
+abbrev pub putting_all : List Req → Moves → Moves
+putting_all rs p = record p { put = p.put ++ rs }
+
 abbrev pub putting : Req → Moves → Moves
-putting r p = record p { put = p.put ++ r ∷ [] }
+putting r p = putting_all (r ∷ []) p
 
 abbrev pub taking : Req → Moves → Moves
 taking r p = record p { taken = p.taken ++ r ∷ [] }
@@ -36,6 +41,10 @@ all_put ps = flat_map (λ p. p.put) ps
 
 abbrev pub all_taken : List Moves → List Req
 all_taken ps = flat_map (λ p. p.taken) ps
+
+-- how many requests so many places and so many passes hold at most
+abbrev pub room_of : ℕ → ℕ → ℕ
+room_of places passes = most * (places + passes)
 
 -- how often the request stands in the list
 abbrev pub times : Req → List Req → ℕ
@@ -56,13 +65,22 @@ pub record IsNew (places passes : ℕ) (q : Facts) (ps : List Moves) : Type 0 wh
   pub all : AreAll ps
 
 abbrev pub Seat : Type 0
-Seat = Pass Req Tally
+Seat = Pass Span Tally
 
-abbrev pub moves_of : Seat → Moves
-moves_of s = record { queue = s.table_id; share = (view s).share; put = (view s).put; taken = (view s).taken }
+-- the requests of these spans, in order
+abbrev pub numbers_of : List Span → List Req
+numbers_of ss = flat_map (λ s. s) ss
 
--- the pass has these shares, and no place of the queue is out with it
-pub record IsSeat (s : Seat) (share : ℕ) : Type 0 where
+-- what is before the rest that ends the list
+abbrev pub before : List Req → List Req → List Req
+before all rest = take (length all - length rest) all
+
+abbrev pub moves_of : Seat → Option Span → Moves
+moves_of s rest = record { queue = s.table_id; share = (view s).share; put = numbers_of (view s).put; taken = before (numbers_of (view s).taken) (numbers_in rest) }
+
+-- the pass has these shares, no place of the queue is out with it, and the rest is the end of what it took out
+pub record IsSeat (s : Seat) (rest : Option Span) (share : ℕ) : Type 0 where
   pub share_is : (view s).share ≡ share
   pub some : 0 < share
   pub none_out : s.me.1 ≡ []
+  pub ends : numbers_of (view s).taken ≡ before (numbers_of (view s).taken) (numbers_in rest) ++ numbers_in rest

@@ -1,11 +1,11 @@
--- The rule of the queue, between any two steps: what was put is what was taken and what is left, however requests are weighed.
+-- The rule of the queue, between any two steps: what was put is what was taken and what is left, however spans are weighed.
 use Rattle.std.specs.Prelude.{◌≡◌, ℕ, ◌+◌, ◌-◌, List, [], ◌++◌, ◌∷◌, sum_by}
 use mathlib.Core.Option.{some}
 use lib.ListN.{get_elem?}
-use Rattle.history.specs.declared.req.Req.{Req}
+use Rattle.ready.specs.declared.span.Span.{Span}
 use Rattle.ready.specs.declared.tally.Tally.{Tally}
 
-abbrev pub tally : ℕ → List Req → List Req → Tally
+abbrev pub tally : ℕ → List Span → List Span → Tally
 tally share put taken = record { share = share; put = put; taken = taken }
 
 -- how many shares there are
@@ -16,27 +16,27 @@ abbrev pub share_of : Tally → ℕ
 share_of v = v.share
 
 -- the weights of what a pass put, and of what it took
-abbrev pub weight_put : (Req → ℕ) → Tally → ℕ
+abbrev pub weight_put : (Span → ℕ) → Tally → ℕ
 weight_put h v = sum_by h v.put
 
-abbrev pub weight_taken : (Req → ℕ) → Tally → ℕ
+abbrev pub weight_taken : (Span → ℕ) → Tally → ℕ
 weight_taken h v = sum_by h v.taken
 
--- of the requests in the queue and of all passes
-pub record Balanced (items : List Req) (views : List Tally) : Type 0 where
+-- of the spans in the queue and of all passes
+pub record Balanced (items : List Span) (views : List Tally) : Type 0 where
   pub whole : sum_by share_of views ≡ all_shares
-  pub even : (h : Req → ℕ) → sum_by (weight_put h) views ≡ sum_by (weight_taken h) views + sum_by h items
+  pub even : (h : Span → ℕ) → sum_by (weight_put h) views ≡ sum_by (weight_taken h) views + sum_by h items
   pub spent : (i : ℕ) (v : Tally) → get_elem? views i ≡ some v → v.share ≡ 0 → (v.put ≡ []) × (v.taken ≡ [])
 
 -- the pass knows of all puts and takes: they account for what is in the queue
-abbrev pub Accounts : Tally → List Req → Type 0
-Accounts v items = (h : Req → ℕ) → sum_by h v.put ≡ sum_by h v.taken + sum_by h items
+abbrev pub Accounts : Tally → List Span → Type 0
+Accounts v items = (h : Span → ℕ) → sum_by h v.put ≡ sum_by h v.taken + sum_by h items
 
-abbrev pub with_put : Req → Tally → Tally
-with_put r v = tally v.share (v.put ++ r ∷ []) v.taken
+abbrev pub with_put : Span → Tally → Tally
+with_put s v = tally v.share (v.put ++ s ∷ []) v.taken
 
-abbrev pub with_taken : Req → Tally → Tally
-with_taken r v = tally v.share v.put (v.taken ++ r ∷ [])
+abbrev pub with_taken : Span → Tally → Tally
+with_taken s v = tally v.share v.put (v.taken ++ s ∷ [])
 
 -- a new pass gets one share of this one's
 abbrev pub without_share : Tally → Tally

@@ -6,6 +6,7 @@ pub mod law;
 pub mod pass;
 mod plays;
 pub mod queue;
+pub mod span;
 pub mod tally;
 #[cfg(test)]
 mod tests;
@@ -14,4 +15,5 @@ pub use error::{GatherError, Memory, Ungathered};
 pub use law::Law;
 pub use pass::ReadyPass;
 pub use queue::ReadyQueue;
+pub use span::Span;
 pub use tally::Tally;

@@ -2,18 +2,20 @@
 ghost use Rattle.std.specs.Prelude.{◌↔◌, IsTrue};
 ghost use Rattle.ready.specs.Ready.{AreAll};
 
+use crate::span::Span;
 use crate::tally::Tally;
 use crossbeam_queue::Pass;
-use history::Req;
 use std::marker::Model;
 
 /// How many shares all passes of a queue have.
 pub(crate) const ALL_SHARES: u32 = u32::MAX;
 
-/// What one thread holds that puts requests and takes them. Contracts see its queue, its shares of it, and what it put and took.
+/// What one thread holds that puts requests and takes them. A span that it took out of the queue it gives one request at a time; the
+/// rest stays with the pass. Contracts see its queue, its shares of it, and which requests it put and took.
 #[derive(Drop)]
 pub struct ReadyPass {
-    pub(crate) seat: Pass<Req, Tally>,
+    pub(crate) seat: Pass<Span, Tally>,
+    pub(crate) rest: Option<Span>,
     pub(crate) share: u32,
 }
 
@@ -22,9 +24,9 @@ impl Model for ReadyPass {
 
     ghost Value = { Moves };
 
-    ghost view = { λ p. moves_of p.seat };
+    ghost view = { λ p. moves_of p.seat p.rest };
 
-    ghost invariant = { λ p. IsSeat p.seat p.share };
+    ghost invariant = { λ p. IsSeat p.seat p.rest p.share };
 }
 
 /// Whether these are all passes of a queue: together they have all shares.

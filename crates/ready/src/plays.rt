@@ -2,38 +2,38 @@
 ghost use Rattle.std.specs.Prelude.{◌≡◌, ⊤};
 ghost use Rattle.ready.specs.Rule.{with_put, with_taken, without_share, new_tally, both_tallies, no_tally, Accounts};
 
+use crate::span::Span;
 use crate::tally::Tally;
 use crossbeam_queue::protocol::{Join, Lesson, Outcome, Split};
-use history::Req;
 
 pub(crate) struct Put;
 
-impl Outcome<Req, Tally> for Put {
-    ghost then = { λ v r w. w ≡ with_put r v };
+impl Outcome<Span, Tally> for Put {
+    ghost then = { λ v s w. w ≡ with_put s v };
 }
 
-impl Lesson<Req, Tally> for Put {
+impl Lesson<Span, Tally> for Put {
     ghost fact = { λ v items. ⊤ };
 }
 
 pub(crate) struct Take;
 
-impl Outcome<Req, Tally> for Take {
-    ghost then = { λ v r w. w ≡ with_taken r v };
+impl Outcome<Span, Tally> for Take {
+    ghost then = { λ v s w. w ≡ with_taken s v };
 }
 
-impl Lesson<Req, Tally> for Take {
+impl Lesson<Span, Tally> for Take {
     ghost fact = { λ v items. ⊤ };
 }
 
 /// A take by the pass that has all shares.
 pub(crate) struct TakeLast;
 
-impl Outcome<Req, Tally> for TakeLast {
-    ghost then = { λ v r w. w ≡ with_taken r v };
+impl Outcome<Span, Tally> for TakeLast {
+    ghost then = { λ v s w. w ≡ with_taken s v };
 }
 
-impl Lesson<Req, Tally> for TakeLast {
+impl Lesson<Span, Tally> for TakeLast {
     ghost fact = { λ v items. Accounts v items };
 }
 

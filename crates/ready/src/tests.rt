@@ -2,7 +2,8 @@
 ghost use Rattle.std.specs.Prelude.{All, IfOk};
 ghost use Rattle.ready.specs.Ready.{IsOf};
 
-use crate::{GatherError, ReadyPass, ReadyQueue};
+use crate::span::MOST;
+use crate::{GatherError, ReadyPass, ReadyQueue, Span};
 use history::Req;
 use std::alloc::{AllocError, Global};
 use std::sync::Wait;
@@ -45,6 +46,56 @@ fn a_full_queue_gives_the_number_back(rt: HostRuntime) -> Result<(), Fail> {
     passes.push(pass)?;
     match refused.queue.gather(&rt, rt.alloc(), passes) {
         Ok(left) => assert_eq!(rt; left.as_slice(), [nth(2), nth(3), nth(4)].as_slice()),
+        Err(_) => assert!(rt; false),
+    }
+    Ok(())
+}
+
+/// A span of so many requests of ring 0, from number 7 on.
+fn span_of(count: u64) -> Span {
+    let mut span = Span::of(nth(7));
+    for n in 1..count {
+        span.extend(nth(n.saturating_add(7)), MOST);
+    }
+    span
+}
+
+/// Only the next request of the same ring joins a span, and only where there is room.
+#[test]
+fn a_span_takes_in_the_next_request_alone(rt: HostRuntime) -> Result<(), Fail> {
+    let mut span = span_of(2);
+    assert!(rt; !span.extend(nth(8), MOST));
+    assert!(rt; !span.extend(nth(10), MOST));
+    assert!(rt; !span.extend(nth(6), MOST));
+    assert!(rt; !span.extend(Req { ring: 1, k: 9 }, MOST));
+    assert!(rt; !span.extend(nth(9), 2));
+    assert!(rt; span.extend(nth(9), 3));
+    let mut most = span_of(u64::from(MOST) - 1);
+    assert!(rt; most.extend(nth(u64::from(MOST) + 6), MOST));
+    assert!(rt; !most.extend(nth(u64::from(MOST) + 7), MOST));
+    Ok(())
+}
+
+/// A span takes one place and comes out one by one. What its pass hasn't given yet is among what is left.
+#[test]
+fn a_span_takes_one_place(rt: HostRuntime) -> Result<(), Fail> {
+    let (queue, mut passes) = ReadyQueue::new(rt.alloc(), 2, 1)?;
+    let Some(mut pass) = passes.pop() else {
+        assert!(rt; false);
+        return Ok(());
+    };
+    assert!(rt; queue.put_span(&rt, &mut pass, span_of(3)).is_ok());
+    assert_eq!(rt; queue.put(&rt, &mut pass, nth(1)), Ok(()));
+    assert!(rt; queue.put_span(&rt, &mut pass, span_of(2)).is_err());
+    assert_eq!(rt; queue.next(&rt, &mut pass), Some(nth(7)));
+    assert!(rt; queue.put_span(&rt, &mut pass, span_of(2)).is_ok());
+    assert_eq!(rt; queue.next(&rt, &mut pass), Some(nth(8)));
+    passes.push(pass)?;
+    match queue.gather(&rt, rt.alloc(), passes) {
+        Ok(left) => assert_eq!(rt;
+            left.as_slice(),
+            [nth(9), nth(1), nth(7), nth(8)].as_slice()
+        ),
         Err(_) => assert!(rt; false),
     }
     Ok(())

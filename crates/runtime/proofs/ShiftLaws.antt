@@ -33,7 +33,7 @@ handed_moves : (p q : Moves) (ps : List Req) → q ≡ record p { put = p.put ++
 handed_moves p q ps e = e ∙ ap (λ (l : List Req). record p { put = p.put ++ ps; taken = l }) (sym (append-nil p.taken))
 
 -- the first of two numbers was tried, or the second
-pub shifts_first : (p q : Moves) (k l o : Option Req) → HandedOver p (kept_in k) q l → Shifts (record { ready = p; kept = kept_in k ++ kept_in o }) [] [] (record { ready = q; kept = kept_in l ++ kept_in o })
+pub shifts_first : (p q : Moves) (k l o : Option Req) → HandedOver p (kept_in k) q (kept_in l) → Shifts (record { ready = p; kept = kept_in k ++ kept_in o }) [] [] (record { ready = q; kept = kept_in l ++ kept_in o })
 shifts_first p q k l o x = record {
   puts = x.0;
   takes = [];
@@ -41,7 +41,7 @@ shifts_first p q k l o x = record {
   numbers = λ h. let e : sum_by h (kept_in k) ≡ sum_by h (x.0 ++ kept_in l) = ap (sum_by h) x.2 in omega (arith, e, sum_by-append h x.0 (kept_in l), sum_by-append h (kept_in k) (kept_in o), sum_by-append h (kept_in l) (kept_in o));
 }
 
-pub shifts_second : (p q : Moves) (k o l : Option Req) → HandedOver p (kept_in o) q l → Shifts (record { ready = p; kept = kept_in k ++ kept_in o }) [] [] (record { ready = q; kept = kept_in k ++ kept_in l })
+pub shifts_second : (p q : Moves) (k o l : Option Req) → HandedOver p (kept_in o) q (kept_in l) → Shifts (record { ready = p; kept = kept_in k ++ kept_in o }) [] [] (record { ready = q; kept = kept_in k ++ kept_in l })
 shifts_second p q k o l x = record {
   puts = x.0;
   takes = [];

@@ -1,5 +1,5 @@
 -- Parts of a turn, one after another.
-use Rattle.std.proofs.Common.{◌≡◌, ℕ, ◌+◌, Bool, true, false, cond, List, [], ◌∷◌, ◌++◌, length, length-append, sym, refl, ap, ◌∙◌, subst, ⊎_elim, arith, ◌≢◌, ◌⊎◌, inl, true≢false, Option, None}
+use Rattle.std.proofs.Common.{◌≡◌, ℕ, ◌+◌, Bool, true, false, cond, List, [], ◌∷◌, ◌++◌, length, length-append, sym, refl, ap, ◌∙◌, subst, ⊎_elim, arith, ◌≢◌, ◌⊎◌, inl, true≢false}
 use Rattle.std.proofs.lemmas.List.{append_assoc, append-nil}
 use Rattle.history.specs.declared.req.Req.{Req}
 use Rattle.history.specs.declared.event.Event.{Event}
@@ -21,7 +21,8 @@ use Rattle.outbox.specs.Outbox.{Waiting, with_answered}
 use Rattle.runtime.specs.declared.hands.Hands.{Hands}
 use Rattle.runtime.specs.declared.turn.Turn.{Turn}
 use Rattle.runtime.specs.declared.turn.Turn.TheVariants.{Moved, Idle}
-use Rattle.runtime.specs.Turns.{GoesOn, HandedOver, answered_by, answered_one, kept_in}
+use Rattle.runtime.specs.Turns.{GoesOn, HandedOver, answered_by, answered_one}
+use Rattle.runtime.specs.Backlogs.{Owed}
 use Rattle.runtime.proofs.ClockLaws.{none_then}
 use Rattle.runtime.specs.PollTurns.{AreAt, HasRoom, HasArmed, HasTicked, IsPollTurn, Did, Rang, is_among}
 use Rattle.bell.specs.BellPasses.{Sleeping}
@@ -99,7 +100,7 @@ did_then b q h m k o u w x y = record {
   freed_are = λ r. y.freed_are r ∙ (ap (λ (c : Bool). cond (is_among y.released r) true c) (x.freed_are r) ∙ among_both x.released y.released r (freed h.poller.view.seen r));
   puts = x.puts ++ y.puts;
   ready = puts_then h.ready m.ready k.ready x.puts y.puts x.ready y.ready;
-  handed = handed_then (kept_in h.kept) x.released x.puts (kept_in m.kept) y.released y.puts (kept_in k.kept) x.handed y.handed;
+  handed = handed_then h.kept.numbers x.released x.puts m.kept.numbers y.released y.puts k.kept.numbers x.handed y.handed;
 }
 
 no_puts : (m : Moves) → m ≡ record m { put = m.put ++ [] }
@@ -118,7 +119,7 @@ did_ring b q h k o w x = record {
   freed_are = x.alone;
   puts = [];
   ready = x.same.0 ∙ no_puts h.ready;
-  handed = append-nil (kept_in h.kept) ∙ ap kept_in (sym x.same.1);
+  handed = append-nil h.kept.numbers ∙ ap (λ (z : Owed). z.numbers) (sym x.same.1);
 }
 
 pub did_still : (b : Facts) (q : QueueFacts) (h : Hands) (o : Waiting) → IsOf b h.poller → Did b q h o h o
@@ -138,7 +139,7 @@ rang_armed b h k o x = record {
 }
 
 -- a part that only handed over what was kept
-pub did_retry : (b : Facts) (q : QueueFacts) (h k : Hands) (o : Waiting) → IsOf b h.poller → HandedOver h.ready (kept_in h.kept) k.ready k.kept → k.poller ≡ h.poller → k.room ≡ h.room → Did b q h o k o
+pub did_retry : (b : Facts) (q : QueueFacts) (h k : Hands) (o : Waiting) → IsOf b h.poller → HandedOver h.ready h.kept.numbers k.ready k.kept.numbers → k.poller ≡ h.poller → k.room ≡ h.room → Did b q h o k o
 did_retry b q h k o of x same room = record {
   events = [];
   goes = subst (λ (z : Pass). GoesOn b h.poller [] z) (sym same) (goes_nowhere b h.poller of);
@@ -150,7 +151,7 @@ did_retry b q h k o of x same room = record {
   freed_are = λ r. ap (λ (z : Pass). freed z.view.seen r) same;
   puts = x.0;
   ready = x.1;
-  handed = append-nil (kept_in h.kept) ∙ x.2;
+  handed = append-nil h.kept.numbers ∙ x.2;
 }
 
 -- the passes are still those of the board and the queue, and there is still room
@@ -233,8 +234,8 @@ freed_one r p q is alone i = ⊎_elim
 
 -- a request was moved to Ready, and handed over
 pub did_freed : (b : Facts) (q : QueueFacts) (h k : Hands) (p : Pass) (o : Waiting) (r : Req) → Goes b h.poller [] p → freed p.view.seen r ≡ true → ((i : Req) → same r i ≡ false → freed p.view.seen i ≡ freed h.poller.view.seen i)
-    → (k.poller ≡ p) × (k.room ≡ h.room) → HandedOver h.ready (r ∷ []) k.ready k.kept → h.kept ≡ None → Did b q h o k o
-did_freed b q h k p o r goes is alone same x none = record {
+    → (k.poller ≡ p) × (k.room ≡ h.room) → HandedOver h.ready (h.kept.numbers ++ r ∷ []) k.ready k.kept.numbers → Did b q h o k o
+did_freed b q h k p o r goes is alone same x = record {
   events = [];
   goes = subst (λ (z : Pass). GoesOn b h.poller [] z) (sym same.0) (goes_on b h.poller p [] goes);
   still = refl;
@@ -245,7 +246,7 @@ did_freed b q h k p o r goes is alone same x none = record {
   freed_are = λ i. ap (λ (z : Pass). freed z.view.seen i) same.0 ∙ freed_one r h.poller p is alone i;
   puts = x.0;
   ready = x.1;
-  handed = ap (λ (z : Option Req). kept_in z ++ r ∷ []) none ∙ x.2;
+  handed = x.2;
 }
 
 pub did_is : (b : Facts) (q : QueueFacts) (h k l : Hands) (o w x : Waiting) → l ≡ k → x ≡ w → Did b q h o k w → Did b q h o l x
@@ -253,7 +254,7 @@ did_is b q h k l o w x same out d = subst (λ (z : Hands). Did b q h o z x) (sym
 
 -- a whole turn: the clock was asked, and then the requests and timers were looked after
 pub turned : (b : Facts) (q : QueueFacts) (h m k : Hands) (s t : Sleeping) (n r u : ℕ) (o w : Waiting) → IsOfQueue q h.ready → HasTicked b h m → Did b q m o k w → o.answered ≡ [] → u ≡ r
-    → IsPollTurn b q (record { poller = h.poller; sleeper = s; ready = h.ready; kept = h.kept; places = n; rings = r }) (record { poller = k.poller; sleeper = t; ready = k.ready; kept = k.kept; places = n; rings = u }) w
+    → IsPollTurn b q (record { poller = h.poller; sleeper = s; ready = h.ready; kept = h.kept.numbers; places = n; rings = r }) (record { poller = k.poller; sleeper = t; ready = k.ready; kept = k.kept.numbers; places = n; rings = u }) w
 turned b q h m k s t n r u o w of x y none same = record {
   own = (y.goes.kept, ap (λ (z : Moves). z.queue) (y.ready ∙ ap (λ (z : Moves). record z { put = z.put ++ y.puts }) x.same.0) ∙ of);
   looked = x.looked;
@@ -265,7 +266,7 @@ turned b q h m k s t n r u o w of x y none same = record {
   freed_are = λ i. y.freed_are i ∙ ap (λ (c : Bool). cond (is_among y.released i) true c) (x.alone i);
   puts = y.puts;
   ready = y.ready ∙ ap (λ (z : Moves). record z { put = z.put ++ y.puts }) x.same.0;
-  handed = ap (λ (z : Option Req). kept_in z ++ y.released) (sym x.same.1) ∙ y.handed;
+  handed = ap (λ (z : Owed). z.numbers ++ y.released) (sym x.same.1) ∙ y.handed;
   shape = (refl, same);
 }
 

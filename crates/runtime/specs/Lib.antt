@@ -6,3 +6,4 @@ pub mod Clients
 pub mod Loops
 pub mod Crews
 pub mod StartParts
+pub mod Backlogs

@@ -1,5 +1,5 @@
 -- What a poll turn makes of its desk and of the outbox.
-use Rattle.std.specs.Prelude.{◌≡◌, ℕ, ◌+◌, ◌≤◌, Bool, true, false, cond, List, [], ◌++◌, ◌∷◌, length, sum_by, Option, None}
+use Rattle.std.specs.Prelude.{◌≡◌, ℕ, ◌+◌, ◌≤◌, Bool, true, false, cond, List, [], ◌++◌, ◌∷◌, length, sum_by}
 use Rattle.history.specs.declared.req.Req.{Req}
 use Rattle.history.specs.declared.event.Event.{Event}
 use Rattle.history.specs.History.{same}
@@ -13,14 +13,14 @@ use Rattle.ready.specs.Ready.{Facts as QueueFacts, Moves, IsOf as IsOfQueue}
 use Rattle.bell.specs.BellPasses.{Sleeping}
 use Rattle.outbox.specs.Outbox.{Waiting}
 use Rattle.runtime.specs.declared.hands.Hands.{Hands}
-use Rattle.runtime.specs.Turns.{GoesOn, answered_by, kept_in}
+use Rattle.runtime.specs.Turns.{GoesOn, answered_by}
 
--- the poller's desk: its passes, the number that found no place in the ready queue, and how many cells and rings its board has
+-- the poller's desk: its passes, the numbers that found no place in the ready queue, and how many cells and rings its board has
 pub record Desk : Type 0 where
   pub poller : Pass
   pub sleeper : Sleeping
   pub ready : Moves
-  pub kept : Option Req
+  pub kept : List Req
   pub places : ℕ
   pub rings : ℕ
 
@@ -41,7 +41,7 @@ AreAt b q h = IsOf b h.poller × IsOfQueue q h.ready
 abbrev pub HasRoom : Hands → Waiting → Type 0
 HasRoom h o = length o.answered + h.room ≤ o.places
 
--- a part of a poll turn: what the poller's events answered is in the outbox, each once and in order, and each request that it moved to Ready was put into the ready queue, or is kept. The clock was not set
+-- a part of a poll turn: what the poller's events answered is in the outbox, each once and in order, and each request that it moved to Ready was put into the ready queue, or is kept, in order. The clock was not set
 pub record Did (b : Facts) (q : QueueFacts) (old : Hands) (before : Waiting) (new : Hands) (after : Waiting) : Type 0 where
   pub events : List Event
   pub goes : GoesOn b old.poller events new.poller
@@ -53,7 +53,7 @@ pub record Did (b : Facts) (q : QueueFacts) (old : Hands) (before : Waiting) (ne
   pub freed_are : (r : Req) → freed new.poller.view.seen r ≡ cond (is_among released r) true (freed old.poller.view.seen r)
   pub puts : List Req
   pub ready : new.ready ≡ record old.ready { put = old.ready.put ++ puts }
-  pub handed : kept_in old.kept ++ released ≡ puts ++ kept_in new.kept
+  pub handed : old.kept.numbers ++ released ≡ puts ++ new.kept.numbers
 
 -- the poller armed a timer, or looked, and nothing else changed
 pub record HasArmed (b : Facts) (old new : Hands) : Type 0 where
@@ -84,7 +84,7 @@ pub record IsNewDesk (rings : ℕ) (poller : Pass) (sleeper : Sleeping) (ready :
   pub poller_is : d.poller ≡ poller
   pub sleeper_is : d.sleeper ≡ sleeper
   pub ready_is : d.ready ≡ ready
-  pub kept_is : d.kept ≡ None
+  pub kept_is : d.kept ≡ []
   pub rings_are : d.rings ≡ rings
 
 -- the poller looked, and set the clock on, or did not
@@ -97,7 +97,7 @@ pub record HasTicked (b : Facts) (old new : Hands) : Type 0 where
   pub alone : (r : Req) → freed new.poller.view.seen r ≡ freed looked.view.seen r
   pub same : (new.ready ≡ old.ready) × (new.kept ≡ old.kept) × (new.room ≡ old.room)
 
--- a turn of the poller's desk, which was lent an empty outbox. First it looked. From there on what the poller's events answered is in the outbox, each once and in order; just the requests that it moved to Ready were put into the ready queue, after the number that was kept before, and of these one may be kept
+-- a turn of the poller's desk, which was lent an empty outbox. First it looked. From there on what the poller's events answered is in the outbox, each once and in order; just the requests that it moved to Ready were put into the ready queue, after the numbers that were kept before, and the last of these may be kept
 pub record IsPollTurn (b : Facts) (q : QueueFacts) (old new : Desk) (after : Waiting) : Type 0 where
   pub own : IsOf b new.poller × IsOfQueue q new.ready
   pub looked : Pass
@@ -109,5 +109,5 @@ pub record IsPollTurn (b : Facts) (q : QueueFacts) (old new : Desk) (after : Wai
   pub freed_are : (r : Req) → freed new.poller.view.seen r ≡ cond (is_among released r) true (freed looked.view.seen r)
   pub puts : List Req
   pub ready : new.ready ≡ record old.ready { put = old.ready.put ++ puts }
-  pub handed : kept_in old.kept ++ released ≡ puts ++ kept_in new.kept
+  pub handed : old.kept ++ released ≡ puts ++ new.kept
   pub shape : (new.places ≡ old.places) × (new.rings ≡ old.rings)

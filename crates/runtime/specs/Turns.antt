@@ -37,6 +37,6 @@ abbrev pub kept_in : Option Req → List Req
 kept_in None = []
 kept_in (Some r) = r ∷ []
 
--- the ready pass put some of these requests, in order, and the one that is left is kept
-abbrev pub HandedOver : Moves → List Req → Moves → Option Req → Type 0
-HandedOver p rs q kept = (puts : List Req) × (q ≡ record p { put = p.put ++ puts }) × (rs ≡ puts ++ kept_in kept)
+-- the ready pass put some of these requests, in order, and the others are left
+abbrev pub HandedOver : Moves → List Req → Moves → List Req → Type 0
+HandedOver p rs q left = (puts : List Req) × (q ≡ record p { put = p.put ++ puts }) × (rs ≡ puts ++ left)

@@ -1,25 +1,37 @@
 //! The poller's passes in a turn.
-ghost use Rattle.std.specs.Prelude.{◌≡◌, ◌<◌, ◌+◌, ◌++◌, ◌∷◌, [], length, Some, None, true};
+ghost use Rattle.std.specs.Prelude.{◌≡◌, ◌<◌, ◌+◌, ◌++◌, ◌∷◌, [], true, false};
 ghost use Rattle.outbox.specs.Outbox.{with_answered};
 ghost use Rattle.ready.specs.Ready.{IsOf as IsOfQueue};
 ghost use Rattle.runtime.specs.PollTurns.{HasRoom};
 ghost use Rattle.runtime.specs.Turns.{HandedOver, kept_in};
 
+use crate::backlog::Backlog;
 use board::Poller;
 use history::Req;
 use outbox::Outbox;
+use ready::span::MOST;
 use ready::{ReadyPass, ReadyQueue};
 use std::sync::Wait;
 
-/// The poller, its pass of the ready queue, the number that found no place there, for how many answers the outbox still has
-/// room, and whether the turn did something.
+/// The poller, its pass of the ready queue, the numbers that are to go there, how many workers take them, for how many answers the
+/// outbox still has room, and whether the turn did something.
 #[derive(Drop)]
 pub(crate) struct Hands {
     pub poller: Poller,
     pub ready: ReadyPass,
-    pub kept: Option<Req>,
+    pub kept: Backlog,
+    pub workers: u32,
     pub room: usize,
     pub moved: bool,
+}
+
+/// How many of so many requests go to a worker together. Each worker gets its part, and two parts where there are enough.
+pub(crate) fn limit_of(requests: u64, workers: u32) -> u8 {
+    if workers < 2 {
+        return MOST;
+    }
+    let parts = u64::from(workers) * 2;
+    (requests / parts).clamp(1, u64::from(MOST)) as u8
 }
 
 /// Puts the number that is kept into the ready queue, if there is one. Where that is full it stays.
@@ -30,7 +42,7 @@ pub(crate) fn put_kept<R: Wait>(
     kept: &mut Option<Req>,
 )
     requires own { IsOfQueue queue.now ready.old }
-    ensures handed { HandedOver ready.old (kept_in kept.old) ready.new kept.new }
+    ensures handed { HandedOver ready.old (kept_in kept.old) ready.new (kept_in kept.new) }
 {
     if let Some(req) = kept.take() {
         if let Err(back) = queue.put(rt, ready, req) {
@@ -40,12 +52,12 @@ pub(crate) fn put_kept<R: Wait>(
 }
 
 impl Hands {
-    /// Whether it keeps no number, and may answer one request more.
+    /// Whether its numbers found their places, and it may answer one request more.
     pub fn is_free(&self) -> bool
-        ensures kept { result ≡ true → self.now.kept ≡ None }
+        ensures kept { result ≡ true → self.now.kept.is_full ≡ false }
         ensures room { result ≡ true → 0 < self.now.room }
     {
-        self.kept.is_none() && self.room > 0
+        !self.kept.is_full() && self.room > 0
     }
 
     /// Puts an answered request into the outbox.
@@ -61,27 +73,26 @@ impl Hands {
         self.moved = true;
     }
 
-    /// Puts a request into the ready queue, or keeps its number where that is full.
-    pub fn hand_over<R: Wait>(&mut self, rt: &R, queue: &ReadyQueue, req: Req)
+    /// Hands a request over to the ready queue: with the next ones, up to `limit` of them, or at the end of the turn at the latest.
+    pub fn hand_over<R: Wait>(&mut self, rt: &R, queue: &ReadyQueue, req: Req, limit: u8)
         requires own { IsOfQueue queue.now self.old.ready }
-        requires free { self.old.kept ≡ None }
-        ensures handed { HandedOver self.old.ready (req ∷ []) self.new.ready self.new.kept }
+        requires free { self.old.kept.is_full ≡ false }
+        ensures handed { HandedOver self.old.ready (self.old.kept.numbers ++ req ∷ []) self.new.ready self.new.kept.numbers }
         ensures same { (self.new.poller ≡ self.old.poller) × (self.new.room ≡ self.old.room) }
     {
         self.moved = true;
-        self.kept = Some(req);
-        put_kept(rt, queue, &mut self.ready, &mut self.kept);
+        self.kept.add(rt, queue, &mut self.ready, req, limit);
     }
 
-    /// Tries once more to put the number that is kept into the ready queue.
+    /// Puts the numbers that are kept into the ready queue, where it has places.
     pub fn retry<R: Wait>(&mut self, rt: &R, queue: &ReadyQueue)
         requires own { IsOfQueue queue.now self.old.ready }
-        ensures handed { HandedOver self.old.ready (kept_in self.old.kept) self.new.ready self.new.kept }
+        ensures handed { HandedOver self.old.ready self.old.kept.numbers self.new.ready self.new.kept.numbers }
         ensures same { (self.new.poller ≡ self.old.poller) × (self.new.room ≡ self.old.room) }
     {
-        if self.kept.is_some() {
+        if !self.kept.is_empty() {
             self.moved = true;
         }
-        put_kept(rt, queue, &mut self.ready, &mut self.kept);
+        self.kept.flush(rt, queue, &mut self.ready);
     }
 }

@@ -1,6 +1,7 @@
 //! The runtime: a poller, workers and clients over one board, with a doorbell, a ready queue and completion rings.
 #![tactic(auto)]
 
+mod backlog;
 pub mod client;
 pub mod error;
 mod hands;

@@ -1,5 +1,5 @@
 //! The poller's desk, and its turns.
-ghost use Rattle.std.specs.Prelude.{◌≡◌, ◌≤◌, ◌+◌, ◌<◌, ◌==◌, ◌^◌, [], ◌∷◌, None, false, length, slice_index, IfOk, IfErr};
+ghost use Rattle.std.specs.Prelude.{◌≡◌, ◌≤◌, ◌+◌, ◌<◌, ◌==◌, ◌^◌, [], ◌∷◌, false, length, slice_index, IfOk, IfErr};
 ghost use Rattle.bell.specs.BellPasses.{HasLoaded, HaveRisen, IsSleeperOf};
 ghost use Rattle.work.specs.Board.{IsOf};
 ghost use Rattle.work.specs.Passes.{seen_of};
@@ -8,6 +8,7 @@ ghost use Rattle.board.specs.Calls.{Goes};
 ghost use Rattle.controls.specs.Clocks.{Asked};
 ghost use Rattle.runtime.specs.PollTurns.{AreAt, Did, HasRoom, HasTicked, Rang, IsPollTurn, IsPollers, IsNewDesk, cells_in_all};
 
+use crate::backlog::Backlog;
 use crate::error::Memory;
 use crate::hands::Hands;
 use crate::lists::{Intake, Lists};
@@ -24,7 +25,7 @@ use std::alloc::{AllocError, Global};
 use std::marker::Model;
 use std::sync::Wait;
 
-/// What the poller's turns need: its passes, and what it looks after. Contracts see its passes, the number that it keeps, and
+/// What the poller's turns need: its passes, and what it looks after. Contracts see its passes, the numbers that it keeps, and
 /// how many cells its board has.
 #[derive(Drop)]
 pub struct PollDesk {
@@ -40,7 +41,7 @@ impl Model for PollDesk {
 
     ghost Value = { Desk };
 
-    ghost view = { λ d. record { poller = d.hands.poller; sleeper = d.sleeper; ready = d.hands.ready; kept = d.hands.kept; places = d.places; rings = length d.lists.rings.items } };
+    ghost view = { λ d. record { poller = d.hands.poller; sleeper = d.sleeper; ready = d.hands.ready; kept = d.hands.kept.numbers; places = d.places; rings = length d.lists.rings.items } };
 }
 
 /// The cells of each ring.
@@ -91,7 +92,8 @@ impl PollDesk {
         let hands = Hands {
             poller,
             ready,
-            kept: None,
+            kept: Backlog::new(),
+            workers: shape.workers,
             room: 0,
             moved: false,
         };
@@ -194,7 +196,7 @@ fn look_after<R: Wait>(
     requires rings { length lists.old.rings.items ≡ length sleeper.now.tails }
     ensures did { Did board.now queue.now hands.old outbox.old hands.new outbox.new }
     ensures rings { length lists.new.rings.items ≡ length lists.old.rings.items }
-    ensures kept { IfOk result (λ more. more ≡ false → hands.new.kept ≡ None) }
+    ensures kept { IfOk result (λ more. more ≡ false → hands.new.kept.numbers ≡ []) }
 {
     lists.set_again()?;
     hands.retry(rt, queue);
@@ -206,16 +208,16 @@ fn look_after<R: Wait>(
     Ok(has_work(board, hands, lists, outbox))
 }
 
-/// Whether the turn did something, or has something to look after: a number that it keeps, or a request that it has taken up and
+/// Whether the turn did something, or has something to look after: numbers that it keeps, or a request that it has taken up and
 /// that waits or is armed.
 fn has_work(board: &Board, hands: &mut Hands, lists: &mut Lists, outbox: &mut Outbox) -> bool
     requires own { IsOf board.now hands.old.poller }
     requires room { HasRoom hands.old outbox.old }
     ensures rang { Rang board.now hands.old outbox.old hands.new outbox.new }
     ensures rings { length lists.new.rings.items ≡ length lists.old.rings.items }
-    ensures kept { result ≡ false → hands.new.kept ≡ None }
+    ensures kept { result ≡ false → hands.new.kept.numbers ≡ [] }
 {
-    if hands.moved || hands.kept.is_some() {
+    if hands.moved || !hands.kept.is_empty() {
         return true;
     }
     if lists.waiting.len() > 0 || lists.linked.len() > 0 {
@@ -246,7 +248,7 @@ pub fn poll_turn<R: Wait, C: Clock>(
     ensures read { HasLoaded desk.old.sleeper desk.new.sleeper }
     ensures risen { HaveRisen desk.old.sleeper.tails desk.new.sleeper.tails }
     ensures places { outbox.new.places ≡ outbox.old.places }
-    ensures idle { IfOk result (λ turn. turn ≡ Turn.Idle → desk.new.kept ≡ None) }
+    ensures idle { IfOk result (λ turn. turn ≡ Turn.Idle → desk.new.kept ≡ []) }
     ensures follows { IsPollers desk.old.poller → C.follows clock.old (seen_of desk.old.poller) → C.follows clock.new (seen_of desk.new.poller) }
 {
     bell.collect(&mut desk.sleeper);

@@ -1,10 +1,10 @@
 //! The poller releases requests: those that wait for another, and those that are new.
-ghost use Rattle.std.specs.Prelude.{◌≡◌, ◌<◌, None, length};
+ghost use Rattle.std.specs.Prelude.{◌≡◌, ◌<◌, false, length};
 ghost use Rattle.runtime.specs.PollTurns.{AreAt, HasRoom, HasArmed, Did};
 ghost use Rattle.work.specs.Board.{IsOf};
 
 use crate::error::Memory;
-use crate::hands::Hands;
+use crate::hands::{Hands, limit_of};
 use crate::lists::Lists;
 use bell::Sleeper;
 use bell::bell::MAX_RINGS;
@@ -39,7 +39,7 @@ fn arm(board: &Board, hands: &mut Hands, lists: &mut Lists, req: Req) -> Result<
     }
 }
 
-/// Releases a request: it is moved to the workers, answered, armed, or waits on.
+/// Releases a request: it is moved to the workers, up to `limit` of them together, answered, armed, or waits on.
 fn release<R: Wait>(
     rt: &R,
     board: &Board,
@@ -48,9 +48,10 @@ fn release<R: Wait>(
     lists: &mut Lists,
     outbox: &mut Outbox,
     req: Req,
+    limit: u8,
 ) -> Result<(), Memory>
     requires own { AreAt board.now queue.now hands.old }
-    requires free { (hands.old.kept ≡ None) × (0 < hands.old.room) }
+    requires free { (hands.old.kept.is_full ≡ false) × (0 < hands.old.room) }
     requires room { HasRoom hands.old outbox.old }
     requires waiting { length lists.old.waiting.items < lists.old.waiting.places }
     ensures did { Did board.now queue.now hands.old outbox.old hands.new outbox.new }
@@ -58,7 +59,7 @@ fn release<R: Wait>(
 {
     match board.release(&mut hands.poller, req) {
         Released::Severed => hands.answer(outbox, req),
-        Released::Freed => hands.hand_over(rt, queue, req),
+        Released::Freed => hands.hand_over(rt, queue, req, limit),
         Released::Shut => lists.waiting.put(req),
         Released::Timer => return arm(board, hands, lists, req),
         Released::NotHeld => hands.moved = true,
@@ -66,7 +67,7 @@ fn release<R: Wait>(
     Ok(())
 }
 
-/// Goes over the requests that wait for another, in order, as long as no number is kept.
+/// Goes over the requests that wait for another, in order, as long as the numbers find their places.
 pub(crate) fn release_waiting<R: Wait>(
     rt: &R,
     board: &Board,
@@ -80,12 +81,13 @@ pub(crate) fn release_waiting<R: Wait>(
     ensures did { Did board.now queue.now hands.old outbox.old hands.new outbox.new }
     ensures rings { length lists.new.rings.items ≡ length lists.old.rings.items }
 {
+    let limit = limit_of(lists.waiting.len() as u64, hands.workers);
     for _n in 0..lists.waiting.len() {
         let Some(req) = lists.waiting.take() else {
             break;
         };
         if hands.is_free() {
-            release(rt, board, queue, hands, lists, outbox, req)?;
+            release(rt, board, queue, hands, lists, outbox, req, limit)?;
         } else {
             lists.waiting.put(req);
         }
@@ -93,7 +95,8 @@ pub(crate) fn release_waiting<R: Wait>(
     Ok(())
 }
 
-/// Takes up the ring's new requests, in order, up to the tail, as long as no number is kept and there is a place for one.
+/// Takes up the ring's new requests, in order, up to the tail, as long as the numbers find their places and there is a
+/// place for one.
 fn take_ring<R: Wait>(
     rt: &R,
     board: &Board,
@@ -112,13 +115,14 @@ fn take_ring<R: Wait>(
     let Some(intake) = lists.rings.get(usize::from(ring)) else {
         return Ok(());
     };
+    let limit = limit_of(tail.saturating_sub(intake.taken), hands.workers);
     for k in intake.taken..tail {
         if !hands.is_free() || lists.waiting.is_full() {
             break;
         }
         let req = lists.take_up(ring, k);
         hands.moved = true;
-        release(rt, board, queue, hands, lists, outbox, req)?;
+        release(rt, board, queue, hands, lists, outbox, req, limit)?;
     }
     Ok(())
 }

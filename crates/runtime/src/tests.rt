@@ -66,16 +66,33 @@ fn a_parked_read_is_served_after_the_write(rt: HostRuntime) -> Result<(), Fail> 
     Ok(())
 }
 
-/// The READ parks, and the cancel takes it. Its number stays in the queue, so that of the next READ finds no place there.
+/// The READ parks, and the cancel takes it. Its number stays in the queue, so that of the second WRITE finds no place there.
 #[test]
 fn a_number_that_finds_no_place_is_served_later(rt: HostRuntime) -> Result<(), Fail> {
     let first = [reads(4, 0, 31, 50), plain(cancel(31), 0, 32)];
-    let second = [writes(2, 0, 33, 1), reads(4, 0, 34, 60)];
-    let words = "f p w w r0 r1 s p l3 p2 w w w p p w r2 r3";
+    let second = [writes(2, 0, 33, 1)];
+    let words = "f p w w r0 r1 s p s p l3 p2 w w w p p w r2 r3";
     let told = play(&rt, rt.alloc(), &[2], 2, &first, &second, words, 0)?;
     assert_eq!(rt;
         told.as_str(),
-        "0.0 moved moved moved+0.0+0.1 -125:50:51:52:53 0 0.2 moved ready moved moved moved+0.2 idle moved idle moved+0.3 2:1:2 2:1:2:62:63 on"
+        "0.0 moved moved moved+0.0+0.1 -125:50:51:52:53 0 0.2 moved 0.3 moved ready moved moved moved+0.2 idle moved idle moved+0.3 2:1:2 2:1:2 on"
+    );
+    Ok(())
+}
+
+/// The numbers of three requests take one place of the queue together. The worker's next turns take them one by one, in order.
+#[test]
+fn requests_that_are_released_together_take_one_place(rt: HostRuntime) -> Result<(), Fail> {
+    let first = [
+        writes(3, 0, 31, 1),
+        reads(1, 0, 32, 50),
+        reads(2, 0, 33, 60),
+    ];
+    let words = "f p w w w w p r0 r1 r2";
+    let told = play(&rt, rt.alloc(), &[4], 1, &first, &first, words, 0)?;
+    assert_eq!(rt;
+        told.as_str(),
+        "0.0 moved moved+0.0 moved+0.1 moved+0.2 idle idle 3:1:2:3 1:1 2:2:3 on"
     );
     Ok(())
 }

@@ -1,4 +1,3 @@
-use Rattle.std.proofs.Common.{◌<◌, arith}
 use Rattle.ready.proofs.Balance.{merges}
 use Rattle.ready.proofs.queue.take_in.Goals as goal
 

@@ -16,14 +16,14 @@ pub returns-in_err-has_work-clause-turned : goal.returns-in_err-has_work-clause-
 returns-in_err-has_work-clause-turned g c =
     let own : IsOfQueue c.args.queue.now c.desk.inside.hands.ready = subst (λ (d : Desk). IsOfQueue c.args.queue.now d.ready) (sym c.desk.view_is) c.requires.ready in
     let rings = c.look_after.ensures.rings ∙ c.ask_clock.ensures.rings in
-    subst (λ (d : Desk). IsPollTurn c.args.board.now c.args.queue.now d (record { poller = c.look_after.new.hands.poller; sleeper = c.collect.new.sleeper; ready = c.look_after.new.hands.ready; kept = c.look_after.new.hands.kept; places = c.desk.inside.places; rings = length c.look_after.new.lists.rings.items }) c.look_after.new.outbox) c.desk.view_is
+    subst (λ (d : Desk). IsPollTurn c.args.board.now c.args.queue.now d (record { poller = c.look_after.new.hands.poller; sleeper = c.collect.new.sleeper; ready = c.look_after.new.hands.ready; kept = c.look_after.new.hands.kept.numbers; places = c.desk.inside.places; rings = length c.look_after.new.lists.rings.items }) c.look_after.new.outbox) c.desk.view_is
     (turned _ _ _ _ _ c.desk.inside.sleeper _ _ _ _ c.args.outbox.now _ own c.ask_clock.ensures.ticked c.look_after.ensures.did c.requires.outbox.0 rings)
 
 pub returns-clause-turned : goal.returns-clause-turned
 returns-clause-turned g c =
     let own : IsOfQueue c.args.queue.now c.desk.inside.hands.ready = subst (λ (d : Desk). IsOfQueue c.args.queue.now d.ready) (sym c.desk.view_is) c.requires.ready in
     let rings = c.look_after.ensures.rings ∙ c.ask_clock.ensures.rings in
-    subst (λ (d : Desk). IsPollTurn c.args.board.now c.args.queue.now d (record { poller = c.look_after.new.hands.poller; sleeper = c.collect.new.sleeper; ready = c.look_after.new.hands.ready; kept = c.look_after.new.hands.kept; places = c.desk.inside.places; rings = length c.look_after.new.lists.rings.items }) c.look_after.new.outbox) c.desk.view_is
+    subst (λ (d : Desk). IsPollTurn c.args.board.now c.args.queue.now d (record { poller = c.look_after.new.hands.poller; sleeper = c.collect.new.sleeper; ready = c.look_after.new.hands.ready; kept = c.look_after.new.hands.kept.numbers; places = c.desk.inside.places; rings = length c.look_after.new.lists.rings.items }) c.look_after.new.outbox) c.desk.view_is
     (turned _ _ _ _ _ c.desk.inside.sleeper _ _ _ _ c.args.outbox.now _ own c.ask_clock.ensures.ticked c.look_after.ensures.did c.requires.outbox.0 rings)
 
 pub returns-clause-idle : goal.returns-clause-idle
