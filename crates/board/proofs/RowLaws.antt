@@ -12,7 +12,7 @@ use Rattle.gates.specs.declared.traits.Traits.{Traits}
 use Rattle.gates.specs.EntryRows.{Kept, Stands, added, waiting, waiting_in, slot_with, stand_in, with_reply, Waits}
 use Rattle.gates.specs.Shows.{nth, TrailsAt, Trails, IsOutcome, IsOfChain}
 use Rattle.gates.specs.Slots.{Slot, traits_of, is_pending, test_at, passes}
-use Rattle.gates.proofs.TrailLaws.{trails_later, trails_more, trails_replied, lost_replied, met_trails, stand_in_trails, of_chain_replied}
+use Rattle.gates.proofs.TrailLaws.{trails_later, trails_more, trails_replied, lost_replied, met_trails, stand_in_trails, of_chain_done}
 use Rattle.history.specs.declared.req.Req.{Req}
 use Rattle.history.specs.declared.event.Event.{Event}
 use Rattle.history.specs.declared.event.Event.TheVariants.{Park}
@@ -158,15 +158,15 @@ on_ok (Err e) is p = absurd (true≢false (sym is))
 pub small_number : (b : Facts) (q : Req) → IsBoard b → IsNumbered b.layout.cells q → q.k < 17179869184
 small_number b q k n = let z = (counts_at b.layout.cells q.ring k.cells.0 n.there).1 in let f = n.few in let c : ℕ = cells_in b.layout.cells q.ring in let z' : c ≤ 1024 = z in let f' : q.k < 16777216 * c = f in omega arith
 
--- who keeps the next request of a ring from its cell in the row has replied, where that request was submitted
-pub way_replied : (b : Facts) (s : TableSeat) (i n p : ℕ) → IsOurs b s → 0 < cells_in b.layout.cells i → n < submits (events_of s.me.0.seen) i → cells_in b.layout.cells i ≤ n
-    → IsOfChain (events_of s.me.0.seen) (nth i p) (nth i (n - cells_in b.layout.cells i)) → IsReplied (phase (events_of s.me.0.seen) (nth i p))
-way_replied b s i n p o some born le chain =
+-- who keeps the next request of a ring from its cell in the row has replied, and its whole chain, where that request was submitted
+pub way_done : (b : Facts) (s : TableSeat) (i n p : ℕ) → IsOurs b s → 0 < cells_in b.layout.cells i → n < submits (events_of s.me.0.seen) i → cells_in b.layout.cells i ≤ n
+    → IsOfChain (events_of s.me.0.seen) (nth i p) (nth i (n - cells_in b.layout.cells i)) → IsChainDone (events_of s.me.0.seen) (nth i p)
+way_done b s i n p o some born le chain =
     let K : List ℕ = b.layout.cells in let c : ℕ = cells_in K i in let m : ℕ = n - c in let r : ℕ = m % c in let g : ℕ = m / c in let S : Setup = setup_of b.layout in let j : List Line = s.me.0.seen in
     let lt : r < c = omega arith in let e : m ≡ g * c + r = omega arith in let u : suc g * c ≡ g * c + c = suc-mul g c in let a : ℕ = suc g * c in let d : ℕ = g * c in let u' : a ≡ d + c = u in let e' : m ≡ d + r = e in let f : n ≡ a + r = omega arith in
     let x : ℕ = first_cell K i + r in let inside : IsCell K x = (cell_says K i r lt).0 in let first : request_at K x g ≡ nth i m = located_is K i m g r lt e in let next : request_at K x (suc g) ≡ nth i n = located_is K i n (suc g) r lt f in
     let alive : ¬ (phase (events_of j) (request_at K x (suc g)) ≡ unborn) = subst (λ (q : Req). ¬ (phase (events_of j) q ≡ unborn)) (sym next) (born_once S (events_of j) (nth i n) o.ours.legal born) in
-    of_chain_replied (events_of j) (nth i p) (nth i m) (subst (λ (q : Req). IsChainDone (events_of j) q) first (earlier_gone b.layout S x inside j o.ours.legal o.ours.orderly (suc g) g (omega arith) alive).1) chain
+    of_chain_done (events_of j) i p m (subst (λ (q : Req). IsChainDone (events_of j) q) first (earlier_gone b.layout S x inside j o.ours.legal o.ours.orderly (suc g) g (omega arith) alive).1) chain
 
 -- a request in the way of q, whose reply the row is told of. A real outcome leaves the row right of q; where the whole chain of
 -- the other has replied, q may have too

@@ -151,28 +151,6 @@ pub(crate) fn is_held(board: &Board, seat: &mut TableSeat, spot: Spot, req: Req)
     matches!(told(word, spot.generation), Phase::Held)
 }
 
-/// Tells the row of the reply of a request that has one.
-fn pass_replied(board: &Board, seat: &mut TableSeat, row: &mut Row, req: Req)
-    requires ours { IsOurs board.now seat.old }
-    requires numbered { IsNumbered board.now.layout.cells req }
-    requires born { req.k < submits (events_of seat.old.me.0.seen) req.ring }
-    requires knows { KnowsRow board.now.layout.cells seat.old.me.0.seen req.ring row.old }
-    requires waits { (xs : List Slot) → Stands xs row.old → Waits xs row.old req.k }
-    requires replied { IsReplied (phase (events_of seat.old.me.0.seen) req) }
-    ensures watched { Watched board.now seat.old seat.new }
-    ensures knows { KnowsRow board.now.layout.cells seat.new.me.0.seen req.ring row.new }
-    ensures count { added row.new ≡ added row.old }
-    ensures fewer { waiting row.new < waiting row.old }
-    ensures steps { Paid seat.old.me.0 seat.new.me.0 (3 * waiting row.new) (3 * waiting row.old) }
-{
-    let fails = match look_for_reply(board, seat, req) {
-        Outcome::Pending => unreachable!(),
-        Outcome::Replied(fails) => fails,
-        Outcome::ChainDone => false,
-    };
-    row.replied(req.k, fails);
-}
-
 /// Takes the next request of the ring in. Its cell in the row is free.
 fn add_next(board: &Board, seat: &mut TableSeat, row: &mut Row, next: Req)
     requires ours { IsOurs board.now seat.old }
@@ -198,7 +176,8 @@ fn add_next(board: &Board, seat: &mut TableSeat, row: &mut Row, next: Req)
     }
 }
 
-/// Takes the next request of the ring in, or passes one that is in its way.
+/// Takes the next request of the ring in, or passes one that is in its way: that one's whole chain has replied, since the next
+/// request was submitted to its cell.
 fn take_one(board: &Board, seat: &mut TableSeat, row: &mut Row, req: Req)
     requires ours { IsOurs board.now seat.old }
     requires numbered { IsNumbered board.now.layout.cells req }
@@ -212,15 +191,7 @@ fn take_one(board: &Board, seat: &mut TableSeat, row: &mut Row, req: Req)
 {
     let k = row.count();
     match row.in_the_way() {
-        Some(first) => pass_replied(
-            board,
-            seat,
-            row,
-            Req {
-                ring: req.ring,
-                k: first,
-            },
-        ),
+        Some(first) => row.replied(first, false),
         None => add_next(board, seat, row, Req { ring: req.ring, k }),
     }
 }

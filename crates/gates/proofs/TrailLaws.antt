@@ -1,5 +1,5 @@
 -- What keeps a list trailing its history: growth of the history, a slot more, and an outcome that was looked for.
-use Rattle.std.proofs.Common.{◌≡◌, ℕ, ◌+◌, ◌<◌, ◌≤◌, ◌==◌, ◌++◌, true, false, Bool, List, [], ◌∷◌, length, set, Some, None, Option, refl, sym, ap, ◌∙◌, subst, ⊎_elim, inl, inr, true≢false, eqb-true, arith, length-append}
+use Rattle.std.proofs.Common.{◌≡◌, ◌⊎◌, ℕ, ◌+◌, ◌<◌, ◌≤◌, ◌==◌, ◌++◌, true, false, Bool, List, [], ◌∷◌, length, set, Some, None, Option, refl, sym, ap, ◌∙◌, subst, ⊎_elim, inl, inr, true≢false, eqb-true, arith, length-append}
 use Rattle.std.specs.List.{slice_get}
 use Rattle.std.proofs.lemmas.Bool.{cases_lt}
 use Rattle.std.proofs.lemmas.Option.{slice_get_within, none-some}
@@ -7,7 +7,7 @@ use Rattle.entry.specs.Entry.{Entry}
 use Rattle.history.specs.declared.req.Req.{Req}
 use Rattle.history.specs.declared.event.Event.{Event}
 use Rattle.history.specs.History.{Submission, submission, submits, phase, IsReplied}
-use Rattle.history.specs.Chains.{IsPlaced, IsChainDone}
+use Rattle.history.specs.Chains.{joins, IsPlaced, IsChained, IsChainDone}
 use Rattle.history.specs.Legal.{Setup, MayCome, Legal}
 use Rattle.history.proofs.Requests.{bool_cases}
 use Rattle.history.proofs.Growth.{submission_none, submission_stays, reply_stays, reply_of_replied, replied_stays}
@@ -30,9 +30,39 @@ met_trails h q x e t last sub placed traits ends = inl (record { handed = (x, su
 pub stand_in_trails : (h : List Event) (q : Req) → IsChainDone h q → TrailsAt h q stand_in
 stand_in_trails h q d = inr (record { plain = record { drains = refl; links_soft = refl; links_hard = refl }; done = refl; replied = d.replied; chain = d.chain })
 
--- who is of a chain that has replied has replied
-pub of_chain_replied : (h : List Event) (p q : Req) → IsChainDone h q → IsOfChain h p q → IsReplied (phase h p)
-of_chain_replied h p q d = ⊎_elim (λ e. subst (λ z. IsReplied (phase h z)) (sym e) d.replied) (λ c. d.chain p c)
+module _ (h : List Event) (i : ℕ) where
+  -- from m on each request before n joins the next
+  abbrev Linked : ℕ → ℕ → Type 0
+  Linked m n = (j : ℕ) → m ≤ j → j < n → joins (submission h (nth i j)) ≡ true
+
+  -- the requests between two members of the chain of a are members of it
+  covered : (c a b j : ℕ) → IsChained h (nth i c) (nth i a) → IsChained h (nth i a) (nth i b) → ((c ≤ j) × (j < b)) ⊎ ((b ≤ j) × (j < c)) → joins (submission h (nth i j)) ≡ true
+  covered c a b j x y z = ⊎_elim
+      (λ u. ⊎_elim
+      (λ v. let p : c < a = u.0.1 in let q : a < b = v.0.1 in ⊎_elim (λ w. ⊎_elim (λ (t : j < a). u.1 j w.0 t) (λ (t : a ≤ j). v.1 j t w.1) (cases_lt j a)) (λ w. (let s = w.0 in let t = w.1 in absurd (omega arith))) z)
+      (λ v. let p : c < a = u.0.1 in let q : b < a = v.0.1 in ⊎_elim (λ w. u.1 j w.0 (let t = w.1 in omega arith)) (λ w. v.1 j w.0 (let t = w.1 in omega arith)) z) y)
+      (λ u. ⊎_elim
+      (λ v. let p : a < c = u.0.1 in let q : a < b = v.0.1 in ⊎_elim (λ w. v.1 j (let t = w.0 in omega arith) w.1) (λ w. u.1 j (let t = w.0 in omega arith) w.1) z)
+      (λ v. let p : a < c = u.0.1 in let q : b < a = v.0.1 in ⊎_elim (λ w. (let s = w.0 in let t = w.1 in absurd (omega arith))) (λ w. ⊎_elim (λ (t : j < a). v.1 j w.0 t) (λ (t : a ≤ j). u.1 j t w.1) (cases_lt j a)) z) y) x
+
+  -- so two members of the chain of a are of one chain
+  through : (c a b : ℕ) → IsChained h (nth i c) (nth i a) → IsChained h (nth i a) (nth i b) → (c ≡ b) ⊎ IsChained h (nth i c) (nth i b)
+  through c a b x y = ⊎_elim
+      (λ (lt : c < b). inr (inl ((refl, lt), λ j p q. covered c a b j x y (inl (p, q)))))
+      (λ (le : b ≤ c). ⊎_elim (λ (lt : b < c). inr (inr ((refl, lt), λ j p q. covered c a b j x y (inr (p, q))))) (λ (le' : c ≤ b). inl (omega arith)) (cases_lt b c))
+      (cases_lt c b)
+
+  -- who is of a chain that has replied has a chain that has
+  pub of_chain_done : (a b : ℕ) → IsChainDone h (nth i b) → IsOfChain h (nth i a) (nth i b) → IsChainDone h (nth i a)
+  of_chain_done a b d = ⊎_elim
+      (λ e. subst (λ z. IsChainDone h z) (sym e) d)
+      (λ c. record {
+        replied = d.chain (nth i a) c;
+        chain = λ x u. (let ring : x.ring ≡ i = ⊎_elim (λ w. w.0.0) (λ w. sym w.0.0) u in let at : nth i x.k ≡ x = ap (λ z. nth z x.k) (sym ring) in subst (λ z. IsReplied (phase h z)) at (⊎_elim
+            (λ (e : x.k ≡ b). subst (λ n. IsReplied (phase h (nth i n))) (sym e) d.replied)
+            (λ w. d.chain (nth i x.k) w)
+            (through x.k a b (subst (λ z. IsChained h z (nth i a)) (sym at) u) c)));
+      })
 
 -- a slot more
 pub trails_more : (h : List Event) (i : ℕ) (xs : List Slot) (s : Slot) → Trails h i xs → TrailsAt h (nth i (length xs)) s → Trails h i (xs ++ s ∷ [])
