@@ -1,11 +1,12 @@
 -- What a reply makes of the cells, and of the list that they stand for.
-use Rattle.std.proofs.Common.{◌≡◌, ◌≢◌, ℕ, zero, suc, ◌+◌, ◌<◌, ◌≤◌, ◌==◌, ◌++◌, true, false, cond, Bool, List, [], ◌∷◌, length, map, drop, set, Some, refl, sym, ap, ◌∙◌, subst, ⊎_elim, inl, inr, eqb-true, arith}
+use Rattle.std.proofs.Common.{◌≡◌, ◌≢◌, ℕ, zero, suc, ◌+◌, ◌<◌, ◌≤◌, ◌==◌, ◌++◌, ◌&&◌, ◌||◌, not, true, false, cond, Bool, List, [], ◌∷◌, length, map, drop, set, Some, refl, sym, ap, ◌∙◌, subst, ⊎_elim, inl, inr, eqb-true, arith}
 use Rattle.std.specs.List.{slice_get}
 use Rattle.std.proofs.lemmas.Option.{none-some}
 use Rattle.std.proofs.lemmas.List.{map-set, length-map, length-set, drop-set-add}
 use Rattle.history.proofs.Requests.{bool_cases}
+use Rattle.gates.specs.declared.cell.Behind.{Behind}
 use Rattle.gates.specs.declared.cell.Cell.{Cell}
-use Rattle.gates.specs.Slots.{Slot, slot_of, next_in, behind, test_at, passes, is_pending}
+use Rattle.gates.specs.Slots.{Slot, slot_of, joins_of, is_severing, next_of, next_in, behind, test_at, passes, is_pending}
 use Rattle.gates.specs.EntryRows.{LinkedAt, Linked, Stands, with_reply, answered, waiting_in}
 use Rattle.gates.proofs.Lists.{get_last, get_set_same, get_set_other, get_drop, get_there, one_some, slot_there}
 use Rattle.gates.proofs.Links.{ne_of}
@@ -37,6 +38,12 @@ behind_same_before xs ys zero same = refl
 behind_same_before xs ys (suc n) same =
     ap (λ z. next_in n z (behind xs n)) (same n (omega arith)) ∙ ap (next_in n (slice_get ys n)) (behind_same_before xs ys n (λ m lt. same m (omega arith)))
 
+-- what an entry that joins nobody makes of the next
+next_alone : (k : ℕ) (s : Slot) (b : Behind) → joins_of s ≡ false → next_of k s b ≡ record { severed = false; held = false; hosted = false; head = k + 1 }
+next_alone k s b e = ap (λ (j : Bool). Behind-by j) e where
+  Behind-by : Bool → Behind
+  Behind-by j = record { severed = j && (is_severing b.hosted s || b.severed); held = j && (is_pending s || b.held); hosted = j && not s.traits.link_timeout; head = cond j b.head (k + 1) }
+
 module _ (n : ℕ) (cs cs1 cs2 : List Cell) (j : ℕ) (fails : Bool) (lt : j < length cs)
     (written : (c : Cell) → slice_get cs j ≡ Some c → cs1 ≡ set cs j (cell_replied c fails)) (told : map slot_of cs2 ≡ map slot_of cs1) where
   here : (c : Cell) × (slice_get cs j ≡ Some c)
@@ -62,6 +69,16 @@ module _ (n : ℕ) (cs cs1 cs2 : List Cell) (j : ℕ) (fails : Bool) (lt : j < l
       sym (ap (λ (z : Cell). z.behind) vb) ∙ linked i a here.0 x' (ap (slice_get cs) e ∙ here.1))
       (λ (w : (suc i == j) ≡ false). linked i a b x' (sym (get_set_other cs j (suc i) v (ne_of (suc i) j w)) ∙ y'))
       (bool_cases (suc i == j))
+
+  -- one that joins nobody says of the next what it said
+  pub linked_alone : Linked n cs → (c : Cell) → slice_get cs1 j ≡ Some c → joins_of (slot_of c) ≡ false → LinkedAt n cs1 j
+  linked_alone linked c at alone a b x y =
+      let v : Cell = cell_replied here.0 fails in
+      let same : v ≡ a = one_some v a (sym (get_set_same cs j v lt) ∙ sym (ap (λ z. slice_get z j) now) ∙ x) in
+      let lone_a : joins_of (slot_of a) ≡ false = ap (λ (z : Cell). joins_of (slot_of z)) (one_some a c (sym x ∙ at)) ∙ alone in
+      let lone_here : joins_of (slot_of here.0) ≡ false = ap (λ (z : Cell). joins_of (slot_of z)) same ∙ lone_a in
+      let y' : slice_get cs (suc j) ≡ Some b = sym (get_set_other cs j (suc j) v (let ne : suc j ≢ j = omega arith in ne)) ∙ sym (ap (λ z. slice_get z (suc j)) now) ∙ y in
+      linked j here.0 b here.1 y' ∙ next_alone (n + j) (slot_of here.0) here.0.behind lone_here ∙ sym (next_alone (n + j) (slot_of a) a.behind lone_a)
 
   slots_written : map slot_of cs2 ≡ set (map slot_of cs) j (slot_replied (slot_of here.0) fails)
   slots_written = told ∙ ap (map slot_of) now ∙ map-set slot_of cs j (cell_replied here.0 fails)

@@ -2,7 +2,7 @@
 ghost use Rattle.std.specs.Prelude.{◌≡◌, ◌≢◌, ℕ, ◌+◌, ◌^◌, ◌<◌, ◌≤◌, length, map, slice_get, slice_set, IfSome, Some, false, true};
 ghost use Rattle.std.specs.VecDeque.{deque_capacity};
 ghost use Rattle.gates.specs.declared.cell.Cell.{Cell};
-ghost use Rattle.gates.specs.Slots.{slot_of, passes, is_pending, is_draining, pending_before};
+ghost use Rattle.gates.specs.Slots.{slot_of, joins_of, passes, is_pending, is_draining, pending_before};
 ghost use Rattle.gates.specs.EntryRows.{LinkedAt, Linked, IsFirst, held_at, IsTurn};
 
 use crate::cell::{Behind, Cell};
@@ -34,17 +34,29 @@ fn set_behind(cells: &mut VecDeque<Cell>, j: usize, behind: Behind)
     cells[j].behind = behind;
 }
 
+/// The request after the one at a place is in its chain.
+fn joins_next(cells: &VecDeque<Cell>, j: usize) -> bool
+    requires { j < length cells.now.items }
+    ensures { (c : Cell) → slice_get cells.now.items j ≡ Some c → result ≡ joins_of (slot_of c) }
+{
+    cell_at(cells, j).joins()
+}
+
 /// Hands on to the later members of the chain what has become of the request at a place, as far as it changes anything for them.
 /// A member is severed once, and set free by its chain once: so over all calls no cell is written more than twice.
 pub fn spread(cells: &mut VecDeque<Cell>, lost: u64, from: usize)
     requires inside { from < length cells.old.items }
     requires few { lost + length cells.old.items < 2 ^ 64 }
     requires linked { (j : ℕ) → j ≢ from → LinkedAt lost cells.old.items j }
+    requires alone { (c : Cell) → slice_get cells.old.items from ≡ Some c → joins_of (slot_of c) ≡ false → LinkedAt lost cells.old.items from }
     ensures linked { Linked lost cells.new.items }
     ensures slots { map slot_of cells.new.items ≡ map slot_of cells.old.items }
     ensures kept { (j : ℕ) → j ≤ from → slice_get cells.new.items j ≡ slice_get cells.old.items j }
     ensures capacity { deque_capacity cells.new ≡ deque_capacity cells.old }
 {
+    if !joins_next(cells, from) {
+        return;
+    }
     let mut j = from;
     while j + 1 < cells.len() {
         let behind = cell_at(cells, j).next(lost + j as u64);

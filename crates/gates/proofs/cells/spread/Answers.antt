@@ -1,11 +1,18 @@
-use Rattle.std.proofs.Common.{◌≡◌, ◌≢◌, ℕ, suc, ◌+◌, ◌<◌, length, map, set, Some, sym, ap, ◌∙◌, subst, arith}
+use Rattle.std.proofs.Common.{◌≡◌, ◌≢◌, ℕ, suc, ◌+◌, ◌<◌, ◌==◌, true, false, ⊎_elim, eqb-true, length, map, set, Some, sym, ap, ◌∙◌, subst, arith}
 use Rattle.std.specs.List.{slice_get}
 use Rattle.std.proofs.lemmas.List.{length-set}
+use Rattle.history.proofs.Requests.{bool_cases}
 use Rattle.gates.specs.Slots.{slot_of, next_of}
 use Rattle.gates.specs.EntryRows.{LinkedAt}
 use Rattle.gates.proofs.Lists.{get_there, get_set_other}
-use Rattle.gates.proofs.Links.{with_behind, linked_more, linked_all, slots_kept, linked_end, behind_same}
+use Rattle.gates.proofs.Links.{ne_of, with_behind, linked_more, linked_all, slots_kept, linked_end, behind_same}
 use Rattle.gates.proofs.cells.spread.Goals as goal
+
+pub returns-then-not-joins_next-clause-linked : goal.returns-then-not-joins_next-clause-linked
+returns-then-not-joins_next-clause-linked c =
+    let cs = c.args.cells.now.items in let c0 = get_there cs c.args.from c.requires.inside in
+    let alone = c.requires.alone c0.0 c0.1 (sym (c.joins_next.ensures c0.0 c0.1) ∙ c.if-not-joins_next.true) in
+    λ i. ⊎_elim (λ (w : (i == c.args.from) ≡ true). subst (LinkedAt c.args.lost cs) (sym (eqb-true i c.args.from w)) alone) (λ (w : (i == c.args.from) ≡ false). c.requires.linked i (ne_of i c.args.from w)) (bool_cases (i == c.args.from))
 
 pub returns-then-eq-clause-linked : goal.returns-then-eq-clause-linked
 returns-then-eq-clause-linked c =

@@ -2,7 +2,7 @@ use Rattle.std.proofs.Common.{◌≡◌, ◌<◌, ◌≤◌, ◌+◌, ◌-◌, �
 use Rattle.std.proofs.lemmas.List.{length-map}
 use Rattle.gates.specs.Slots.{slot_of, is_pending, is_draining}
 use Rattle.gates.specs.EntryRows.{HasCell, Stands, added, waiting, waiting_in}
-use Rattle.gates.proofs.CellReplies.{linked_but, length_written, length_told, before_written, fewer, stands_replied}
+use Rattle.gates.proofs.CellReplies.{linked_but, linked_alone, length_written, length_told, before_written, fewer, stands_replied}
 use Rattle.gates.proofs.row.Row.replied.Goals as goal
 
 -- the place of the request has a cell
@@ -29,6 +29,11 @@ pub spread-requires-clause-linked : goal.spread-requires-clause-linked
 spread-requires-clause-linked c =
     let cell = subst (λ r. HasCell r c.args.k) (sym c.self.view_is) c.requires in let lt = place _ _ _ cell.kept cell.there in
     linked_but c.self.inside.lost c.self.inside.cells.items c.set_reply.new.cells.items c.set_reply.new.cells.items _ c.args.fails lt c.set_reply.ensures.items refl c.self.invariant.0.linked
+
+pub spread-requires-clause-alone : goal.spread-requires-clause-alone
+spread-requires-clause-alone c = λ x at alone.
+    let cell = subst (λ r. HasCell r c.args.k) (sym c.self.view_is) c.requires in let lt = place _ _ _ cell.kept cell.there in
+    linked_alone c.self.inside.lost c.self.inside.cells.items c.set_reply.new.cells.items c.set_reply.new.cells.items _ c.args.fails lt c.set_reply.ensures.items refl c.self.invariant.0.linked x at alone
 
 pub first_pending-self-inside-requires-clause-within : goal.first_pending-self-inside-requires-clause-within
 first_pending-self-inside-requires-clause-within c =
