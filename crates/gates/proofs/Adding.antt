@@ -5,6 +5,7 @@ use Rattle.std.specs.Option.{option_map}
 use Rattle.std.proofs.lemmas.Bool.{cases_lt}
 use Rattle.std.proofs.lemmas.Option.{slice_get_within, slice_get-map}
 use Rattle.std.proofs.lemmas.List.{length-map, map-append, drop-drop, drop-append-le}
+use Rattle.history.proofs.Requests.{bool_cases}
 use Rattle.gates.specs.declared.cell.Behind.{Behind}
 use Rattle.gates.specs.declared.cell.Cell.{Cell}
 use Rattle.gates.specs.Slots.{Slot, slot_of, is_pending, is_draining, next_of, next_in, first, behind, test_at, passes}
@@ -69,6 +70,26 @@ oldest_pushed cs v n pend f =
           (λ (x : length cs ≤ n). let e : n ≡ length cs = omega arith in ap (test_at is_pending) (slot_there slot_of (cs ++ v ∷ []) n v (ap (slice_get (cs ++ v ∷ [])) e ∙ get_last cs v)) ∙ pend)
           (cases_lt n (length cs));
     }
+
+-- a drain more, or another entry
+pub drain_pushed : (cs : List Cell) (v : Cell) (n r : ℕ) → is_pending (slot_of v) ≡ true → IsFirst is_draining (map slot_of cs) n → ((n < length cs) ⊎ (v.traits.drains ≡ true) → r ≡ n) → (length cs ≤ n → v.traits.drains ≡ false → r ≡ n + 1) → IsFirst is_draining (map slot_of (cs ++ v ∷ [])) r
+drain_pushed cs v n r pend f kept moved =
+    let a = length_mapped cs in let b = length_mapped (cs ++ v ∷ []) in let d = length_pushed cs v in let w = f.within in
+    let last : passes is_draining (map slot_of (cs ++ v ∷ [])) (length cs) ≡ v.traits.drains = ap (test_at is_draining) (slot_there slot_of (cs ++ v ∷ []) (length cs) v (get_last cs v)) ∙ ap (λ t. t && v.traits.drains) pend in ⊎_elim
+    (λ (x : n < length cs). subst (IsFirst is_draining (map slot_of (cs ++ v ∷ []))) (sym (kept (inl x))) (record { within = omega arith; before = before_pushed is_draining cs v n f; here = λ _. passes_pushed is_draining cs v n x ∙ f.here (omega arith) }))
+    (λ (x : length cs ≤ n). let e : n ≡ length cs = omega arith in ⊎_elim
+    (λ (t : v.traits.drains ≡ true). subst (IsFirst is_draining (map slot_of (cs ++ v ∷ []))) (sym (kept (inr t))) (record {
+      within = omega arith;
+      before = before_pushed is_draining cs v n f;
+      here = λ _. ap (passes is_draining (map slot_of (cs ++ v ∷ []))) e ∙ last ∙ t;
+    }))
+    (λ (t : v.traits.drains ≡ false). subst (IsFirst is_draining (map slot_of (cs ++ v ∷ []))) (sym (moved x t)) (record {
+      within = omega arith;
+      before = λ j y. ⊎_elim (λ (z : j < n). before_pushed is_draining cs v n f j z) (λ (z : n ≤ j). let u : j ≡ length cs = omega arith in ap (passes is_draining (map slot_of (cs ++ v ∷ []))) u ∙ last ∙ t) (cases_lt j n);
+      here = λ y. absurd (omega arith);
+    }))
+    (bool_cases v.traits.drains))
+    (cases_lt n (length cs))
 
 pub linked_pushed : (n : ℕ) (cs : List Cell) (v : Cell) → IsToldBy n cs v.behind → Linked n cs → Linked n (cs ++ v ∷ [])
 linked_pushed n cs v told linked j c d x y =

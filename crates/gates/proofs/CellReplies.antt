@@ -128,6 +128,3 @@ module _ (n : ℕ) (cs cs1 cs2 : List Cell) (j : ℕ) (fails : Bool) (lt : j < l
       gone = λ m lt'. ap (test_at is_pending) (other m (let ne : m ≢ k = omega arith in ne)) ∙ stands.gone m lt';
       full = ⊎_elim (λ z. inl z) (λ z. inr (length_told ∙ z)) stands.full;
     }
-
-pub at_items : (p : Slot → Bool) (cs ds : List Cell) (n : ℕ) → cs ≡ ds → ((j : ℕ) → j < n → passes p (map slot_of ds) j ≡ false) → (j : ℕ) → j < n → passes p (map slot_of cs) j ≡ false
-at_items p cs ds n e f j lt = ap (λ z. passes p (map slot_of z) j) e ∙ f j lt

@@ -1,5 +1,5 @@
 //! The cells of a row, in the order of their requests.
-ghost use Rattle.std.specs.Prelude.{◌≡◌, ◌≢◌, ℕ, ◌+◌, ◌^◌, ◌<◌, ◌≤◌, length, map, slice_get, slice_set, IfSome, Some, false, true};
+ghost use Rattle.std.specs.Prelude.{◌≡◌, ◌≢◌, ◌⊎◌, ℕ, ◌+◌, ◌^◌, ◌<◌, ◌≤◌, length, map, slice_get, slice_set, IfSome, Some, false, true};
 ghost use Rattle.std.specs.VecDeque.{deque_capacity};
 ghost use Rattle.gates.specs.declared.cell.Cell.{Cell};
 ghost use Rattle.gates.specs.Slots.{slot_of, joins_of, passes, is_pending, is_draining, pending_before};
@@ -92,6 +92,20 @@ pub fn first_draining(cells: &VecDeque<Cell>, from: usize) -> usize
         j += 1;
     }
     j
+}
+
+/// The place of the first drain that has not replied, once another request was added; before that it is `drain`. `drains` says
+/// whether the new one drains.
+pub fn drain_after(cells: &VecDeque<Cell>, drain: usize, drains: bool) -> usize
+    requires { length cells.now.items + 1 < 2 ^ 64 }
+    ensures kept { (drain < length cells.now.items) ⊎ (drains ≡ true) → result ≡ drain }
+    ensures moved { drain ≡ length cells.now.items → drains ≡ false → result ≡ drain + 1 }
+{
+    if drain == cells.len() && !drains {
+        drain + 1
+    } else {
+        drain
+    }
 }
 
 /// The place of the nearest earlier member of its chain, of the request at `j`, that has not replied. It walks back over those

@@ -9,7 +9,8 @@ ghost use Rattle.gates.specs.Shows.{nth, Shows, Mirrors, Trails, IsGate, IsAsked
 
 use crate::cell::{Behind, Cell};
 use crate::cells::{
-    cell_at, first_draining, first_held, first_pending, last_pending, set_reply, spread,
+    cell_at, drain_after, first_draining, first_held, first_pending, last_pending, set_reply,
+    spread,
 };
 use crate::error::{Memory, RowFull};
 use crate::gate::{Asked, Gate};
@@ -184,13 +185,13 @@ impl Row {
         ensures lost { self.new.lost ≡ self.old.lost }
         ensures size { self.new.size ≡ self.old.size }
     {
+        self.drain = drain_after(&self.cells, self.drain, traits.drains);
         self.cells.push_back_reserved(Cell {
             traits,
             last,
             reply: None,
             behind,
         });
-        self.drain = first_draining(&self.cells, self.drain);
     }
 
     /// How many entries were added: the number of the next.
