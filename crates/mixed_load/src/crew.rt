@@ -1,11 +1,11 @@
-//! The runtime of the mixed load.
+//! The runtime of the load.
 ghost use Rattle.std.specs.Prelude.{◌≡◌, None};
 
-use crate::deck::Deck;
-use crate::draft::{CAPACITY, PIPES};
+use crate::deck::{Deck, Habit};
+use crate::ends::{CAPACITY, PIPES};
 use crate::fault::Fault;
 use crate::mixer::Mixer;
-use crate::pending::Pending;
+use crate::{closing, flow};
 use board::{Completion, Phase, RingShape, Shape};
 use controls::{Clock, Open};
 use history::Req;
@@ -16,20 +16,8 @@ use std::sync::Wait;
 use std::thread::{Threads, join};
 use std::time::{Clock as Time, Duration};
 
-/// The cells of a ring.
-const CELLS: u32 = 256;
-
-/// How many workers there are.
-const WORKERS: u32 = 3;
-
-/// After how many idle turns in a row the poller sleeps.
-const IDLE: u32 = 8;
-
 /// In how many turns of the poller the clock goes on by one tick.
 const TURNS: u32 = 4;
-
-/// The seeds of the two clients.
-const SEEDS: (u64, u64) = (2_026, 1_117);
 
 /// A clock that goes on by one tick in 4 turns of the poller.
 #[derive(Clone, Copy)]
@@ -56,6 +44,19 @@ impl Clock for Ticking {
     }
 }
 
+/// The sizes of a runtime, and the habits of its clients.
+#[derive(Clone, Copy)]
+pub(crate) struct Plan {
+    /// The cells of a ring, and the places of its completion ring, if that isn't twice as many.
+    pub cells: u32,
+    pub posts: Option<u32>,
+    pub workers: u32,
+    /// After how many idle turns in a row the poller sleeps.
+    pub idle: u32,
+    pub zero: Habit,
+    pub one: Habit,
+}
+
 /// A runtime of two rings and its two clients.
 #[derive(Drop)]
 pub(crate) struct Crew {
@@ -75,48 +76,62 @@ impl Model for Crew {
     ghost invariant = { λ c. (c.zero.client.board ≡ c.runtime) × (c.one.client.board ≡ c.runtime) };
 }
 
-/// What became of all requests: how many were submitted, taken and reported, and a fault, if one came.
-#[derive(Clone, Copy, PartialEq, Eq, Debug)]
-pub(crate) struct Totals {
-    pub submitted: u64,
-    pub reaped: u64,
-    pub reported: u64,
-    pub fault: Option<Fault>,
-}
-
-impl Totals {
-    /// Whether each request was told once.
-    pub fn are_right(&self) -> bool {
-        self.fault.is_none() && self.submitted == self.reaped.saturating_add(self.reported)
-    }
+/// What became of all requests: what each client goes by, and a fault, if one came, with the request at which it was noticed.
+#[derive(Drop)]
+pub(crate) struct Ended {
+    pub zero: Deck,
+    pub one: Deck,
+    pub fault: Option<(Req, Fault)>,
 }
 
 /// Two rings, and some small pipes.
-fn shape_of(alloc: Global) -> Result<Shape, AllocError> {
+fn shape_of(alloc: Global, plan: &Plan) -> Result<Shape, AllocError> {
     let ring = RingShape {
-        cells: CELLS,
-        posts: None,
+        cells: plan.cells,
+        posts: plan.posts,
     };
     Ok(Shape {
         rings: Vec::from_elem(alloc, ring, 2)?,
         pipes: Vec::from_elem(alloc, CAPACITY, PIPES as usize)?,
-        workers: WORKERS,
+        workers: plan.workers,
     })
 }
 
-/// Notes the lines of a report. Whether each is of a request that had no completion, and no other is left.
-fn are_told(lines: &[(Completion, bool)], zero: &mut Pending, one: &mut Pending) -> bool {
-    let mut all = true;
-    for (completion, _is_cut) in lines {
-        let req = completion.req;
-        let is_open = if req.ring == 0 {
-            zero.end(req.k)
-        } else {
-            one.end(req.k)
-        };
-        all = all && is_open;
+impl Ended {
+    /// Notes a fault, if there is none yet.
+    pub fn wrong(&mut self, ring: u16, k: u64, fault: Fault) {
+        if self.fault.is_none() {
+            self.fault = Some((Req { ring, k }, fault));
+        }
     }
-    all && zero.open() == 0 && one.open() == 0
+
+    /// Notes the lines of the report: each is of a request that had no completion, and no other is left.
+    fn report(&mut self, lines: &[(Completion, bool)]) {
+        for (completion, is_cut) in lines {
+            let req = completion.req;
+            let deck = if req.ring == 0 {
+                &mut self.zero
+            } else {
+                &mut self.one
+            };
+            if let Err(fault) = deck.report(completion, *is_cut) {
+                self.wrong(req.ring, req.k, fault);
+            }
+        }
+        if self.zero.pending.open() != 0 || self.one.pending.open() != 0 {
+            self.wrong(0, 0, Fault::Count);
+        }
+    }
+
+    /// Notes what is wrong with bytes and closed ends.
+    pub fn judge_pipes(&mut self) {
+        if !flow::agree(&self.zero.flow, &self.one.flow) {
+            self.wrong(0, 0, Fault::Bytes);
+        }
+        if !closing::is_right(&self.zero.pending, &self.one.pending) {
+            self.wrong(0, 0, Fault::Close);
+        }
+    }
 }
 
 impl Crew {
@@ -124,14 +139,16 @@ impl Crew {
     pub fn start<R: Threads + Wait + Copy + Send + 'static>(
         rt: R,
         alloc: Global,
+        plan: &Plan,
     ) -> Result<Crew, Fault> {
-        let shape = shape_of(alloc)?;
-        let (runtime, mut clients) = start(rt, alloc, &shape, IDLE, Open, Ticking { turns: 0 })?;
+        let shape = shape_of(alloc, plan)?;
+        let clock = Ticking { turns: 0 };
+        let (runtime, mut clients) = start(rt, alloc, &shape, plan.idle, Open, clock)?;
         let (Some(one), Some(zero)) = (clients.pop(), clients.pop()) else {
             return Err(Fault::Start);
         };
-        let zero = Mixer::new(zero, Deck::new(alloc, CELLS, SEEDS.0)?);
-        let one = Mixer::new(one, Deck::new(alloc, CELLS, SEEDS.1)?);
+        let zero = Mixer::new(zero, Deck::new(alloc, 0, plan.zero)?);
+        let one = Mixer::new(one, Deck::new(alloc, 1, plan.one)?);
         Ok(Crew { runtime, zero, one })
     }
 
@@ -142,18 +159,26 @@ impl Crew {
     }
 
     /// Both clients work for so long, each in a thread.
-    pub fn run<R: Threads + Wait + Sync + Time>(self, rt: &R, time: Duration) -> Crew {
+    pub fn run<R: Threads + Wait + Sync + Time>(
+        self,
+        rt: &R,
+        zero_time: Duration,
+        one_time: Duration,
+    ) -> Crew {
         let Crew { runtime, zero, one } = self;
-        let (zero, one) = join(rt, move || zero.run(rt, time), move || one.run(rt, time));
+        let (zero, one) = join(
+            rt,
+            move || zero.run(rt, zero_time),
+            move || one.run(rt, one_time),
+        );
         Crew { runtime, zero, one }
     }
 
     /// Ends the runtime.
-    pub fn end<R: Threads + Wait>(self, rt: &R, alloc: Global) -> Result<Totals, Fault> {
-        let (submitted, reaped) = self.counts();
+    pub fn end<R: Threads + Wait>(self, rt: &R, alloc: Global) -> Result<Ended, Fault> {
         let Crew { runtime, zero, one } = self;
-        let (client, mut pending, fault) = zero.parts();
-        let (other, mut others, other_fault) = one.parts();
+        let (client, zero, fault) = zero.parts();
+        let (other, one, other_fault) = one.parts();
         let mut clients = Vec::with_capacity(alloc, 2)?;
         clients.push(client)?;
         clients.push(other)?;
@@ -161,15 +186,18 @@ impl Crew {
             Ok(report) => report,
             Err(unjoined) => return Err(Fault::from(unjoined.error)),
         };
-        let mut fault = fault.or(other_fault);
-        if !are_told(report.lines(), &mut pending, &mut others) && fault.is_none() {
-            fault = Some(Fault::Count);
+        let mut ended = Ended {
+            zero,
+            one,
+            fault: None,
+        };
+        if let Some((k, fault)) = fault {
+            ended.wrong(0, k, fault);
         }
-        Ok(Totals {
-            submitted,
-            reaped,
-            reported: report.lines().len() as u64,
-            fault,
-        })
+        if let Some((k, fault)) = other_fault {
+            ended.wrong(1, k, fault);
+        }
+        ended.report(report.lines());
+        Ok(ended)
     }
 }

@@ -1,6 +1,10 @@
 //! Batches of requests of all kinds, drawn at random.
-use crate::pending::{Fate, Pending};
+use crate::asked::Asked;
+use crate::ends::{CAPACITY, PIPES, STREAMS, is_end};
+use crate::flow::Flow;
+use crate::pending::Pending;
 use crate::random::Random;
+use crate::record::{Fate, Record};
 use entry::Sqe;
 use prep::{
     cancel, close, link_timeout, nop, poll_add, read, timeout, timeout_remove, with_flags,
@@ -11,12 +15,6 @@ use std::alloc::{AllocError, Global};
 /// Entries with their buffers.
 pub(crate) type Batch = Vec<(Sqe, Vec<u8>)>;
 
-/// How many pipes there are. The ends of the last one may be closed.
-pub(crate) const PIPES: u32 = 8;
-
-/// How many bytes a pipe holds.
-pub(crate) const CAPACITY: u32 = 128;
-
 /// IOSQE_IO_DRAIN, IOSQE_IO_LINK, IOSQE_IO_HARDLINK, and a flag that makes an entry Invalid.
 const DRAIN: u8 = 2;
 
@@ -26,22 +24,36 @@ const HARDLINK: u8 = 8;
 
 const INVALID: u8 = 128;
 
-/// POLLIN, POLLOUT.
-const EVENTS: u32 = 5;
+/// The masks of polls: POLLIN, POLLOUT, both and neither.
+const MASKS: [u32; 4] = [1, 4, 5, 0];
 
-/// The ticks of a TIMEOUT that runs out soon, at most, and of one that doesn't.
+/// ETIME_SUCCESS, as a flag of a TIMEOUT.
+const SUCCESS: u32 = 32;
+
+/// The ticks of a TIMEOUT that runs out soon, at most, of one that doesn't, and of one that is Invalid.
 const SOON: u32 = 16;
 
 const LATE: u64 = 1_000_000_000;
 
-/// A batch as it is drawn: its entries, with the number of their request as user_data; what ends each; the number of the first, and
-/// whether an earlier member of the chain may wait.
+const TOO_LATE: u64 = 2_147_483_648;
+
+/// How many bytes a READ or a WRITE has at most, mostly, and now and then.
+const SHORT: u32 = 33;
+
+const LONG: u32 = 2 * CAPACITY;
+
+/// A batch as it is drawn: its entries, with the number of their request as user_data; what is known of each; the number of the next
+/// one and of the first member of its chain; whether the next one is linked to one before it, whether that was handed in as a
+/// LINK_TIMEOUT, and whether an earlier member of the chain may wait.
 #[derive(Drop)]
 pub(crate) struct Draft {
     alloc: Global,
     pub batch: Batch,
-    pub fates: Vec<Fate>,
+    pub records: Vec<Record>,
     next: u64,
+    first: u64,
+    is_linked: bool,
+    is_after_timer: bool,
     is_held: bool,
 }
 
@@ -51,135 +63,282 @@ impl Draft {
         Draft {
             alloc,
             batch: Vec::new(alloc),
-            fates: Vec::new(alloc),
+            records: Vec::new(alloc),
             next,
+            first: next,
+            is_linked: false,
+            is_after_timer: false,
             is_held: false,
         }
     }
 
-    /// Adds an entry with these flags. Behind one that may wait, the members of its chain may wait too.
-    fn add(&mut self, sqe: Sqe, flags: u8, buffer: Vec<u8>, fate: Fate) -> Result<(), AllocError> {
-        let fate = match fate {
-            Fate::Ends if self.is_held => Fate::Waits,
-            fate => fate,
-        };
-        let is_linked = flags & (LINK | HARDLINK) != 0;
-        self.is_held = is_linked && (self.is_held || fate != Fate::Ends);
+    /// The record of the next request, with these flags. A LINK_TIMEOUT without a target is Invalid. Behind one that may wait, the
+    /// members of its chain may wait too.
+    fn placed(&mut self, record: Record, flags: u8) -> Record {
+        let mut record = record;
+        let is_timer = record.asked == Asked::LinkTimeout;
+        if is_timer && (!self.is_linked || self.is_after_timer) {
+            record.asked = Asked::Invalid;
+            record.fate = Fate::Ends;
+        }
+        if !self.is_linked {
+            self.first = self.next;
+        }
+        if record.fate == Fate::Ends && self.is_held {
+            record.fate = Fate::Waits;
+        }
+        record.first = self.first;
+        record.is_soft = flags & (LINK | HARDLINK) == LINK;
+        record.is_drain = flags & DRAIN != 0 && record.asked != Asked::Invalid;
+        self.is_linked = flags & (LINK | HARDLINK) != 0;
+        self.is_after_timer = self.is_linked && is_timer;
+        self.is_held = self.is_linked && (self.is_held || record.fate != Fate::Ends);
+        record
+    }
+
+    /// Adds an entry with these flags and a buffer of so many bytes.
+    fn add(
+        &mut self,
+        flow: &mut Flow,
+        sqe: Sqe,
+        flags: u8,
+        record: Record,
+        length: u32,
+    ) -> Result<(), AllocError> {
+        let record = self.placed(record, flags);
+        let buffer = flow.buffer(self.alloc, self.next, &record, length)?;
         let sqe = with_user_data(with_flags(sqe, flags), self.next);
-        self.fates.push(fate)?;
+        self.records.push(record)?;
         self.batch.push((sqe, buffer))?;
+        flow.set_busy(record.asked, true);
         self.next = self.next.saturating_add(1);
         Ok(())
     }
 
     /// Adds an entry without a buffer.
-    fn add_plain(&mut self, sqe: Sqe, flags: u8, fate: Fate) -> Result<(), AllocError> {
-        self.add(sqe, flags, Vec::new(self.alloc), fate)
+    fn add_plain(
+        &mut self,
+        flow: &mut Flow,
+        sqe: Sqe,
+        flags: u8,
+        asked: Asked,
+        fate: Fate,
+    ) -> Result<(), AllocError> {
+        self.add(flow, sqe, flags, Record::new(asked, fate, 0), 0)
     }
 
-    /// Adds a READ or a WRITE of up to 32 bytes, now and then at an end that it can't use.
-    fn add_transfer(&mut self, random: &mut Random, flags: u8) -> Result<(), AllocError> {
-        let length = random.below(32) + 1;
+    /// Adds a READ or a WRITE, now and then at an end that it can't use, or of more bytes than a pipe holds.
+    fn add_transfer(
+        &mut self,
+        random: &mut Random,
+        flow: &mut Flow,
+        flags: u8,
+    ) -> Result<(), AllocError> {
+        let most = if random.is_one_in(32) { LONG } else { SHORT };
+        let len = random.below(most);
         let is_read = random.is_one_in(2);
-        let (pipe, is_odd) = (random.below(PIPES + 1), random.is_one_in(32));
-        let end = if is_read == is_odd { 1 } else { 0 };
-        let fd = (2 * pipe + end) as i32;
-        let sqe = if is_read {
-            read(fd, length, 0)
+        let (pipe, from) = pipe_for(random, flow, is_read);
+        let is_odd = random.is_one_in(32);
+        let fd = end_of(pipe, is_read == is_odd);
+        let (sqe, asked) = if is_read {
+            (read(fd, len, 0), Asked::Read { fd, len })
         } else {
-            write(fd, length, 0)
+            (write(fd, len, 0), Asked::Write { fd, len })
         };
-        let buffer = Vec::from_elem(self.alloc, length as u8, length as usize)?;
-        self.add(sqe, flags, buffer, Fate::Waits)
+        self.add(flow, sqe, flags, Record::new(asked, Fate::Waits, from), len)
     }
 
     /// Adds a READ or a WRITE with a LINK_TIMEOUT.
-    fn add_timed(&mut self, random: &mut Random, flags: u8) -> Result<(), AllocError> {
-        self.add_transfer(random, LINK)?;
+    fn add_timed(
+        &mut self,
+        random: &mut Random,
+        flow: &mut Flow,
+        flags: u8,
+    ) -> Result<(), AllocError> {
+        let link = if random.is_one_in(4) { HARDLINK } else { LINK };
+        self.add_transfer(random, flow, link)?;
+        self.add_link_timeout(random, flow, flags)
+    }
+
+    /// Adds a LINK_TIMEOUT, which is misplaced where no other entry is linked to it.
+    fn add_link_timeout(
+        &mut self,
+        random: &mut Random,
+        flow: &mut Flow,
+        flags: u8,
+    ) -> Result<(), AllocError> {
         let ticks = u64::from(random.below(SOON));
-        self.add_plain(link_timeout(ticks), flags, Fate::Follows)
+        self.add_plain(
+            flow,
+            link_timeout(ticks),
+            flags & !DRAIN,
+            Asked::LinkTimeout,
+            Fate::Follows,
+        )
     }
 
     /// Adds a POLL_ADD.
-    fn add_poll(&mut self, random: &mut Random, flags: u8) -> Result<(), AllocError> {
-        let fd = random.below(2 * PIPES) as i32;
-        self.add_plain(poll_add(fd, EVENTS), flags, Fate::Waits)
+    fn add_poll(
+        &mut self,
+        random: &mut Random,
+        flow: &mut Flow,
+        flags: u8,
+    ) -> Result<(), AllocError> {
+        let fd = random.below(2 * PIPES + 1) as i32;
+        let mask = MASKS[random.below(4) as usize];
+        let asked = Asked::Poll { fd, mask };
+        self.add_plain(flow, poll_add(fd, mask), flags, asked, Fate::Waits)
     }
 
     /// Adds a TIMEOUT that runs out soon, or now and then one that doesn't.
-    fn add_timeout(&mut self, random: &mut Random, flags: u8) -> Result<(), AllocError> {
-        let ticks = if random.is_one_in(4) {
+    fn add_timeout(
+        &mut self,
+        random: &mut Random,
+        flow: &mut Flow,
+        flags: u8,
+        is_late: bool,
+    ) -> Result<(), AllocError> {
+        let ticks = if is_late {
             LATE
         } else {
             u64::from(random.below(SOON))
         };
-        self.add_plain(timeout(ticks, 0), flags, Fate::Waits)
+        let is_success = random.is_one_in(2);
+        let word = if is_success { SUCCESS } else { 0 };
+        let asked = Asked::Timeout {
+            is_late,
+            is_success,
+        };
+        self.add_plain(flow, timeout(ticks, word), flags, asked, Fate::Waits)
     }
 
-    /// Adds a cancel or a TIMEOUT_REMOVE of a request that was submitted not long ago.
+    /// Adds a cancel or a TIMEOUT_REMOVE of a request that was submitted not long ago, or will be soon, or never.
     fn add_taker(
         &mut self,
         random: &mut Random,
+        flow: &mut Flow,
         pending: &Pending,
         flags: u8,
     ) -> Result<(), AllocError> {
-        let span = pending.span().clamp(1, 1_024) as u32;
+        let span = pending.span().clamp(1, 1_024) as u32 + 4;
         let target = pending
             .oldest()
             .saturating_add(u64::from(random.below(span)));
-        let sqe = if random.is_one_in(3) {
-            timeout_remove(target)
+        let (sqe, asked) = if random.is_one_in(3) {
+            (timeout_remove(target), Asked::Remove { target })
         } else {
-            cancel(target)
+            (cancel(target), Asked::Cancel { target })
         };
-        self.add_plain(sqe, flags, Fate::Ends)
+        self.add_plain(flow, sqe, flags, asked, Fate::Ends)
     }
 
-    /// Adds a NOP, an Invalid entry, or now and then a CLOSE of an end of the last pipe.
-    fn add_quick(&mut self, random: &mut Random, flags: u8) -> Result<(), AllocError> {
-        if random.is_one_in(4_096) {
-            let fd = (2 * (PIPES - 1) + random.below(2)) as i32;
-            return self.add_plain(close(fd), flags, Fate::Waits);
+    /// Adds an Invalid entry of one of four kinds, with a buffer now and then.
+    fn add_invalid(
+        &mut self,
+        random: &mut Random,
+        flow: &mut Flow,
+        flags: u8,
+    ) -> Result<(), AllocError> {
+        let (sqe, more) = match random.below(4) {
+            0 => (nop(), INVALID),
+            1 => (timeout(TOO_LATE, 0), 0),
+            2 => (link_timeout(1), DRAIN),
+            _ => (Sqe::of_bytes(&[255; 64]), 0),
+        };
+        let length = if random.is_one_in(4) { SHORT } else { 0 };
+        let record = Record::new(Asked::Invalid, Fate::Ends, 0);
+        self.add(flow, sqe, flags | more, record, length)
+    }
+
+    /// Adds a NOP, or now and then an Invalid entry, or a CLOSE of an end of the last pipe or of none.
+    fn add_quick(
+        &mut self,
+        random: &mut Random,
+        flow: &mut Flow,
+        flags: u8,
+    ) -> Result<(), AllocError> {
+        if random.is_one_in(1_024) {
+            let fd = (2 * (PIPES - 1) + random.below(3)) as i32;
+            let asked = Asked::Close { fd };
+            let fate = if is_end(fd) { Fate::Waits } else { Fate::Ends };
+            return self.add_plain(flow, close(fd), flags, asked, fate);
         }
-        let invalid = if random.is_one_in(32) { INVALID } else { 0 };
-        self.add_plain(nop(), flags | invalid, Fate::Ends)
+        if random.is_one_in(32) {
+            return self.add_invalid(random, flow, flags);
+        }
+        self.add_plain(flow, nop(), flags, Asked::Nop, Fate::Ends)
     }
 
-    /// Adds an entry of any kind, with any flags but a drain.
-    pub fn add_any(&mut self, random: &mut Random, pending: &Pending) -> Result<(), AllocError> {
-        let flags = link_of(random);
-        match random.below(16) {
-            0..5 => self.add_transfer(random, flags),
-            5..7 => self.add_timed(random, flags),
-            7 => self.add_poll(random, flags),
-            8..10 => self.add_timeout(random, flags),
-            10..12 => self.add_taker(random, pending, flags),
-            _ => self.add_quick(random, flags),
+    /// Adds an entry of any kind, with any flags; with a drain where there may be one.
+    pub fn add_any(
+        &mut self,
+        random: &mut Random,
+        flow: &mut Flow,
+        pending: &Pending,
+        may_drain: bool,
+    ) -> Result<(), AllocError> {
+        let drain = if may_drain && random.is_one_in(16) {
+            DRAIN
+        } else {
+            0
+        };
+        let flags = link_of(random) | drain;
+        match random.below(32) {
+            0..10 => self.add_transfer(random, flow, flags),
+            10..14 => self.add_timed(random, flow, flags & !DRAIN),
+            14..16 => self.add_poll(random, flow, flags),
+            16..20 => {
+                let is_late = random.is_one_in(4);
+                self.add_timeout(random, flow, flags, is_late)
+            }
+            20..24 => self.add_taker(random, flow, pending, flags),
+            24 => self.add_link_timeout(random, flow, flags),
+            _ => self.add_quick(random, flow, flags),
         }
     }
 
     /// Adds a NOP or a TIMEOUT that runs out soon, with any flags.
-    pub fn add_draining(&mut self, random: &mut Random) -> Result<(), AllocError> {
+    pub fn add_draining(&mut self, random: &mut Random, flow: &mut Flow) -> Result<(), AllocError> {
         let drain = if random.is_one_in(2) { DRAIN } else { 0 };
         let flags = link_of(random) | drain;
         if random.is_one_in(3) {
-            let ticks = u64::from(random.below(SOON));
-            return self.add_plain(timeout(ticks, 0), flags, Fate::Waits);
+            return self.add_timeout(random, flow, flags, false);
         }
-        self.add_quick(random, flags)
+        self.add_quick(random, flow, flags)
     }
 
     /// Adds a cancel of this request.
-    pub fn add_cancel(&mut self, target: u64) -> Result<(), AllocError> {
-        self.add_plain(cancel(target), 0, Fate::Ends)
+    pub fn add_cancel(&mut self, flow: &mut Flow, target: u64) -> Result<(), AllocError> {
+        let asked = Asked::Cancel { target };
+        self.add_plain(flow, cancel(target), 0, asked, Fate::Ends)
     }
 }
 
-/// A soft link, a hard link, or mostly none.
+/// A soft link, a hard link, both, or mostly none.
 fn link_of(random: &mut Random) -> u8 {
-    match random.below(8) {
-        0 | 1 => LINK,
-        2 => HARDLINK,
+    match random.below(16) {
+        0..4 => LINK,
+        4 | 5 => HARDLINK,
+        6 => LINK | HARDLINK,
         _ => 0,
+    }
+}
+
+/// An end of a pipe.
+fn end_of(pipe: u32, is_write_end: bool) -> i32 {
+    let end = if is_write_end { 1 } else { 0 };
+    i32::try_from(pipe.saturating_mul(2).saturating_add(end)).unwrap_or(-1)
+}
+
+/// A pipe for a READ or a WRITE, or now and then none; and where its bytes stand there, if it is a stream. A stream that isn't this
+/// client's, or where it is under way already, gives way to a pipe that all use.
+fn pipe_for(random: &mut Random, flow: &Flow, is_read: bool) -> (u32, u64) {
+    let pipe = random.below(PIPES + 1);
+    if STREAMS <= pipe {
+        return (pipe, 0);
+    }
+    match flow.start_of(pipe, is_read) {
+        Some(from) => (pipe, from),
+        None => (STREAMS + random.below(PIPES - STREAMS), 0),
     }
 }

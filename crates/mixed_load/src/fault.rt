@@ -1,10 +1,10 @@
-//! Why the mixed load was given up.
+//! Why a load was given up.
 use runtime::{JoinError, StartError};
 use std::alloc::{AllocError, AllocFailed};
 use std::io;
 use thiserror::Error;
 
-/// Why the mixed load was given up.
+/// Why a load was given up.
 #[derive(Clone, Copy, PartialEq, Eq, Debug, Error)]
 pub enum Fault {
     #[error("out of memory")]
@@ -22,6 +22,28 @@ pub enum Fault {
     /// A request was told twice, or not at all.
     #[error("a request was told twice, or not at all")]
     Count,
+    #[error("a reply that the entry can't have")]
+    Reply,
+    #[error("a buffer came back with other bytes")]
+    Buffer,
+    #[error("bytes that are not the next ones of their stream")]
+    Data,
+    #[error("bytes that were never written, or too many of them")]
+    Bytes,
+    #[error("a look that doesn't fit the request or its reply")]
+    Look,
+    #[error("a request that went on before what it waits for")]
+    Order,
+    #[error("a request that went on though it was severed")]
+    Chain,
+    #[error("a cancel that doesn't fit what became of its target")]
+    Cancel,
+    #[error("a LINK_TIMEOUT that doesn't fit what became of its target")]
+    Timer,
+    #[error("a request that nothing took has -125")]
+    Reason,
+    #[error("an end that was closed twice, or by no CLOSE")]
+    Close,
 }
 
 impl From<AllocError> for Fault {

@@ -1,15 +1,25 @@
-//! A mixed load on a runtime: two clients submit requests of all kinds at random, and each request has to be told once.
+//! Random loads on a runtime: two clients submit requests of all kinds, and each request has to be told once, with a reply that it may
+//! have.
 #![tactic(auto)]
 
+mod asked;
+mod closing;
+mod counts;
 mod crew;
 mod deck;
 mod draft;
+mod ends;
 pub mod fault;
+mod flow;
 mod memory;
 mod mixer;
 mod pending;
 mod random;
+mod record;
 pub mod run;
+pub mod soak;
+mod verdict;
 
 pub use fault::Fault;
 pub use run::run_mixed;
+pub use soak::run_soak;

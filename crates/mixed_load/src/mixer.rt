@@ -1,11 +1,11 @@
-//! A client of the mixed load.
+//! A client of the load.
 ghost use Rattle.std.specs.Prelude.{◌≡◌};
 
 use crate::deck::Deck;
 use crate::draft::Draft;
 use crate::fault::Fault;
-use crate::pending::Pending;
-use board::SubmitError;
+use board::{Completion, SubmitError};
+use history::Req;
 use runtime::Client;
 use std::sync::Wait;
 use std::thread;
@@ -14,14 +14,15 @@ use std::time::{Clock, Duration, Instant};
 /// How many steps are made between two looks at the clock.
 const STEPS: u32 = 64;
 
-/// A client that submits requests of all kinds at random, what it goes by, and the fault that stopped it, if one did. From time to
-/// time it settles: it submits nothing but cancels until all requests have their completions. Then it submits drains, which so wait
-/// for nothing that doesn't come.
+/// A client that submits requests of all kinds at random, what it goes by, and the fault that stopped it, if one did, with the
+/// number of the request at which it was noticed. From time to time it settles: it submits nothing but cancels until all requests
+/// have their completions. Then it submits drains, which so wait for nothing that doesn't come.
 #[derive(Drop)]
 pub(crate) struct Mixer {
     pub client: Client,
     deck: Deck,
-    fault: Option<Fault>,
+    fault: Option<(u64, Fault)>,
+    at: u64,
 }
 
 impl Mixer {
@@ -33,6 +34,7 @@ impl Mixer {
             client,
             deck,
             fault: None,
+            at: 0,
         }
     }
 
@@ -41,16 +43,17 @@ impl Mixer {
         self.deck.counts()
     }
 
-    /// Its client, its requests without a completion, and its fault.
-    pub fn parts(self) -> (Client, Pending, Option<Fault>)
+    /// Its client, what it goes by, and its fault.
+    pub fn parts(self) -> (Client, Deck, Option<(u64, Fault)>)
         ensures { result.0 ≡ self.client }
     {
         let Mixer {
             client,
             deck,
             fault,
+            ..
         } = self;
-        (client, deck.into_pending(), fault)
+        (client, deck, fault)
     }
 
     /// Works for so long, unless a fault comes or came.
@@ -61,7 +64,7 @@ impl Mixer {
             return self;
         }
         if let Err(fault) = self.work(rt, time) {
-            self.fault = Some(fault);
+            self.fault = Some((self.at, fault));
         }
         self
     }
@@ -99,13 +102,13 @@ impl Mixer {
     fn submit(&mut self, draft: Draft) -> Result<(), Fault>
         ensures { self.new.client.board ≡ self.old.client.board }
     {
-        let Draft { batch, fates, .. } = draft;
+        let Draft { batch, records, .. } = draft;
         if batch.is_empty() {
             return Ok(());
         }
         match self.client.submit_batch(batch) {
-            Ok(_first) => self.deck.sent(fates.as_slice()),
-            Err((SubmitError::Full, _batch)) => self.deck.refused(),
+            Ok(_first) => self.deck.sent(records.as_slice()),
+            Err((SubmitError::Full, _batch)) => self.deck.refused(records.as_slice()),
             Err(_) => return Err(Fault::Refused),
         }
         Ok(())
@@ -120,9 +123,26 @@ impl Mixer {
             let Some(completion) = self.client.take(rt) else {
                 return Ok(some);
             };
-            self.deck.note(&completion)?;
+            self.take(&completion)?;
             some = true;
         }
         unreachable!()
+    }
+
+    /// Takes in a completion, and looks at a request now and then.
+    fn take(&mut self, completion: &Completion) -> Result<(), Fault>
+        ensures { self.new.client.board ≡ self.old.client.board }
+    {
+        self.at = completion.req.k;
+        let Some(number) = self.deck.take(completion)? else {
+            return Ok(());
+        };
+        self.at = number;
+        let req = Req {
+            ring: completion.req.ring,
+            k: number,
+        };
+        let phase = self.client.look(req);
+        self.deck.looked(number, phase)
     }
 }

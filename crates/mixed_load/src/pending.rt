@@ -1,24 +1,13 @@
-//! The requests of a ring that have no completion yet.
+//! The requests of a ring.
+use crate::asked::Asked;
+use crate::record::{Fate, Record};
 use std::alloc::{AllocError, Global};
 
-/// What ends a request.
-#[derive(Clone, Copy, PartialEq, Eq, Debug)]
-pub(crate) enum Fate {
-    /// There is none: it has its completion.
-    Over,
-    /// It ends by itself.
-    Ends,
-    /// It may wait for what doesn't come, until it is canceled.
-    Waits,
-    /// It ends with the request before it.
-    Follows,
-}
-
-/// The requests of a ring that have no completion yet: the fate of each at its cell, the oldest that may be without one, how many
-/// requests were submitted, how many of them have no completion, and how many of these end by themselves.
+/// The requests of a ring: what is known of the newest of them, at least of those without a completion, the oldest that may be
+/// without one, how many requests were submitted, how many of them have no completion, and how many of these end by themselves.
 #[derive(Drop)]
 pub(crate) struct Pending {
-    fates: Vec<Fate>,
+    records: Vec<Record>,
     oldest: u64,
     submitted: u64,
     open: u64,
@@ -26,10 +15,10 @@ pub(crate) struct Pending {
 }
 
 impl Pending {
-    /// Those of a ring of so many cells to which nothing was submitted.
-    pub fn new(alloc: Global, cells: u32) -> Result<Pending, AllocError> {
+    /// Those of a ring to which nothing was submitted. So many records are kept, at least one for each cell.
+    pub fn new(alloc: Global, kept: u32) -> Result<Pending, AllocError> {
         Ok(Pending {
-            fates: Vec::from_elem(alloc, Fate::Over, cells as usize)?,
+            records: Vec::from_elem(alloc, Record::blank(), kept as usize)?,
             oldest: 0,
             submitted: 0,
             open: 0,
@@ -64,58 +53,87 @@ impl Pending {
 
     /// The place of a request.
     fn place(&self, number: u64) -> usize {
-        number.checked_rem(self.fates.len() as u64).unwrap_or(0) as usize
+        number.checked_rem(self.records.len() as u64).unwrap_or(0) as usize
     }
 
-    /// The fate of a request.
-    fn fate(&self, number: u64) -> Fate {
-        match self.fates.get(self.place(number)) {
-            Some(fate) => *fate,
-            None => Fate::Over,
+    /// What is known of a request, if its record is kept.
+    pub fn get(&self, number: u64) -> Option<&Record> {
+        let is_kept = self.submitted.saturating_sub(number) <= self.records.len() as u64;
+        if number < self.submitted && is_kept {
+            self.records.get(self.place(number))
+        } else {
+            None
         }
     }
 
-    /// Notes the fate of a request.
-    fn set(&mut self, number: u64, fate: Fate) {
+    /// The record of a request, if it is kept.
+    pub fn get_mut(&mut self, number: u64) -> Option<&mut Record> {
         let place = self.place(number);
-        if let Some(slot) = self.fates.get_mut(place) {
-            *slot = fate;
+        let is_kept = self.submitted.saturating_sub(number) <= self.records.len() as u64;
+        if number < self.submitted && is_kept {
+            self.records.get_mut(place)
+        } else {
+            None
         }
     }
 
-    /// Whether a request was submitted and has no completion.
-    fn is_open(&self, number: u64) -> bool {
-        self.oldest <= number && number < self.submitted && self.fate(number) != Fate::Over
+    /// What is known of a request that has no completion.
+    pub fn open_record(&self, number: u64) -> Option<&Record> {
+        let record = self.get(number)?;
+        if record.fate == Fate::Over {
+            None
+        } else {
+            Some(record)
+        }
+    }
+
+    /// Whether a request that is to cancel another one may find it: it is an earlier one, and of the right kind.
+    pub fn is_match(&self, number: u64, asked: Asked) -> bool {
+        let Some((target, of_timeouts)) = asked.target() else {
+            return false;
+        };
+        let Some(record) = self.get(target) else {
+            return false;
+        };
+        let is_timeout = matches!(record.asked, Asked::Timeout { .. });
+        target < number && !record.is_link_timeout() && (is_timeout || !of_timeouts)
     }
 
     /// Notes the next request.
-    pub fn add(&mut self, fate: Fate) {
-        self.set(self.submitted, fate);
+    pub fn add(&mut self, record: Record) {
+        let place = self.place(self.submitted);
+        if let Some(slot) = self.records.get_mut(place) {
+            *slot = record;
+        }
         self.submitted = self.submitted.saturating_add(1);
         self.open = self.open.saturating_add(1);
-        if fate == Fate::Ends {
+        if record.fate == Fate::Ends {
             self.ending = self.ending.saturating_add(1);
         }
     }
 
-    /// Notes the completion of a request. Whether it had none before.
-    pub fn end(&mut self, number: u64) -> bool {
-        if !self.is_open(number) {
-            return false;
-        }
-        if self.fate(number) == Fate::Ends {
+    /// Notes the completion of a request that had none.
+    pub fn end(&mut self, number: u64, res: i32, is_cut: bool) {
+        let told = if is_cut { u64::MAX } else { self.submitted };
+        let Some(record) = self.get_mut(number) else {
+            return;
+        };
+        let fate = record.fate;
+        record.fate = Fate::Over;
+        record.reply = Some(res);
+        record.is_cut = is_cut;
+        record.told = told;
+        if fate == Fate::Ends {
             self.ending = self.ending.saturating_sub(1);
         }
-        self.set(number, Fate::Over);
         self.open = self.open.saturating_sub(1);
         self.go_on();
-        true
     }
 
     /// Goes on to the oldest request without a completion.
     fn go_on(&mut self) {
         for number in self.oldest..self.submitted {
-            if self.fate(number) != Fate::Over {
+            if self.open_record(number).is_some() {
                 self.oldest = number;
                 return;
             }
@@ -126,8 +144,10 @@ impl Pending {
     /// The oldest request, from this one on, that may wait until it is canceled.
     pub fn next_waiting(&self, from: u64) -> Option<u64> {
         for number in from.max(self.oldest)..self.submitted {
-            if self.fate(number) == Fate::Waits {
-                return Some(number);
+            if let Some(record) = self.open_record(number) {
+                if record.fate == Fate::Waits {
+                    return Some(number);
+                }
             }
         }
         None

@@ -7,6 +7,13 @@ pub(crate) struct Random {
     state: u64,
 }
 
+/// A number that hangs on all bits of another one.
+pub(crate) fn mixed(number: u64) -> u64 {
+    let first = (number ^ (number >> 30)).wrapping_mul(0xbf58_476d_1ce4_e5b9);
+    let second = (first ^ (first >> 27)).wrapping_mul(0x94d0_49bb_1331_11eb);
+    second ^ (second >> 31)
+}
+
 impl Random {
     /// The source of this seed.
     pub fn new(seed: u64) -> Random {
@@ -14,11 +21,9 @@ impl Random {
     }
 
     /// The next number.
-    fn next(&mut self) -> u64 {
+    pub fn next(&mut self) -> u64 {
         self.state = self.state.wrapping_add(0x9e37_79b9_7f4a_7c15);
-        let first = (self.state ^ (self.state >> 30)).wrapping_mul(0xbf58_476d_1ce4_e5b9);
-        let second = (first ^ (first >> 27)).wrapping_mul(0x94d0_49bb_1331_11eb);
-        second ^ (second >> 31)
+        mixed(self.state)
     }
 
     /// A number below this one.

@@ -3,15 +3,12 @@ ghost use Rattle.std.specs.Prelude.{◌≡◌, All, IfSome, IfOk};
 ghost use Rattle.work.specs.Board.{IsOf};
 
 use crate::fault::Fault;
-use board::{Board, Poller, RingShape, Shape, Submitter, Worker};
+use board::{Board, Poller, RingShape, Shape, SubmitError, Submitter, Worker};
 use history::Req;
 use prep::{nop, with_user_data};
 use std::alloc::{AllocError, Global};
 use std::marker::Model;
 use std::time::{Clock, Instant};
-
-/// The cells of the ring.
-const CELLS: u32 = 64;
 
 /// A board of one ring and one worker, with all its passes.
 #[derive(Drop)]
@@ -34,12 +31,9 @@ impl Model for BoardPath {
     ghost invariant = { λ p. IsOf p.board p.poller × IsOf p.board p.submitter × IfSome p.worker (λ w. IsOf p.board w) };
 }
 
-/// One ring and one worker.
-fn shape_of(alloc: Global) -> Result<Shape, AllocError> {
-    let ring = RingShape {
-        cells: CELLS,
-        posts: None,
-    };
+/// One ring of so many cells, and one worker.
+fn shape_of(alloc: Global, cells: u32) -> Result<Shape, AllocError> {
+    let ring = RingShape { cells, posts: None };
     Ok(Shape {
         rings: Vec::from_elem(alloc, ring, 1)?,
         pipes: Vec::new(alloc),
@@ -48,12 +42,15 @@ fn shape_of(alloc: Global) -> Result<Shape, AllocError> {
 }
 
 /// A new board and its passes.
-fn board_of(alloc: Global) -> Result<(Board, Poller, Vec<Submitter>, Vec<Worker>), Fault>
+fn board_of(
+    alloc: Global,
+    cells: u32,
+) -> Result<(Board, Poller, Vec<Submitter>, Vec<Worker>), Fault>
     ensures poller { IfOk result (λ t. IsOf t.0 t.1) }
     ensures submitters { IfOk result (λ t. All (λ p. IsOf t.0 p) t.2.items) }
     ensures workers { IfOk result (λ t. All (λ p. IsOf t.0 p) t.3.items) }
 {
-    let shape = shape_of(alloc)?;
+    let shape = shape_of(alloc, cells)?;
     match Board::new(alloc, &shape) {
         Ok(made) => Ok(made),
         Err(_) => Err(Fault::Start),
@@ -109,9 +106,9 @@ fn reap_nop(board: &Board, submitter: &mut Submitter, req: Req, number: u64) -> 
 }
 
 impl BoardPath {
-    /// A new board.
-    pub fn new(alloc: Global) -> Result<BoardPath, Fault> {
-        let (board, poller, mut submitters, mut workers) = board_of(alloc)?;
+    /// A new board whose ring has so many cells.
+    pub fn new(alloc: Global, cells: u32) -> Result<BoardPath, Fault> {
+        let (board, poller, mut submitters, mut workers) = board_of(alloc, cells)?;
         let Some(submitter) = submitters.pop() else {
             return Err(Fault::Start);
         };
@@ -134,6 +131,17 @@ impl BoardPath {
         self.board.release(&mut self.poller, req);
         self.worker = Some(work(&self.board, worker, req));
         reap_nop(&self.board, &mut self.submitter, req, number)
+    }
+
+    /// Whether the next NOP is refused as `Spent`.
+    pub fn is_spent(&mut self) -> bool {
+        match self
+            .board
+            .submit(&mut self.submitter, nop(), Vec::new(self.alloc))
+        {
+            Ok(_req) => false,
+            Err((error, _buffer)) => error == SubmitError::Spent,
+        }
     }
 
     /// One round: so many NOPs. How many nanoseconds that took.

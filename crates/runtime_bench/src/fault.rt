@@ -7,7 +7,7 @@ use thiserror::Error;
 /// Why a measurement was given up.
 #[derive(Clone, Copy, PartialEq, Eq, Debug, Error)]
 pub(crate) enum Fault {
-    #[error("usage: runtime_bench [--bench | --mixed SECONDS]")]
+    #[error("usage: runtime_bench [--bench | --spent | --mixed SECONDS | --soak SECONDS SEED]")]
     Words,
     #[error("out of memory")]
     Memory,
@@ -27,7 +27,9 @@ pub(crate) enum Fault {
     /// A number that was handed over didn't come back.
     #[error("a number didn't come back")]
     Count,
-    /// Why the mixed load was given up.
+    #[error("a cell that served all its requests takes one more")]
+    Unspent,
+    /// Why a random load was given up.
     #[error("{0}")]
     Mixed(mixed_load::Fault),
 }

@@ -57,7 +57,7 @@ fn shape_of(alloc: Global, setup: &Setup) -> Result<Shape, AllocError> {
 fn lane_of(alloc: Global, client: Client, setup: &Setup) -> Result<Lane, AllocError>
     ensures { IfOk result (λ l. l.client ≡ client) }
 {
-    let load = Load::new(alloc, setup)?;
+    let load = Load::new(alloc, setup, client.ring())?;
     Ok(Lane::new(client, Course::new(alloc, load, setup.depth)))
 }
 

@@ -1,9 +1,10 @@
 //! What a client submits, unit by unit.
+use crate::bytes::Bytes;
 use crate::cancels::{Cancels, Target};
 use crate::fault::Fault;
 use crate::pairs::Pairs;
 use crate::setup::{Kind, Setup};
-use crate::{cancels, nops, pairs};
+use crate::{bytes, cancels, nops, pairs};
 use board::Completion;
 use entry::Sqe;
 use std::alloc::{AllocError, Global};
@@ -25,11 +26,12 @@ pub(crate) enum Load {
     Nops(Global),
     Pairs(Pairs),
     Cancels(Cancels),
+    Bytes(Bytes),
 }
 
 impl Load {
-    /// The load of a client of this setup.
-    pub fn new(alloc: Global, setup: &Setup) -> Result<Load, AllocError> {
+    /// The load of the client of this ring, in this setup.
+    pub fn new(alloc: Global, setup: &Setup, ring: u16) -> Result<Load, AllocError> {
         Ok(match setup.kind {
             Kind::Nop => Load::Nops(alloc),
             Kind::Pair => Load::Pairs(Pairs::new(alloc, setup.depth, pipes_of(setup))?),
@@ -37,6 +39,7 @@ impl Load {
             Kind::TimeoutRemove => {
                 Load::Cancels(Cancels::new(alloc, setup.depth, Target::Timeout)?)
             }
+            Kind::Byte => Load::Bytes(Bytes::new(alloc, ring)),
         })
     }
 
@@ -46,6 +49,7 @@ impl Load {
             Load::Nops(alloc) => nops::add(*alloc, batch, number),
             Load::Pairs(pairs) => pairs.add(batch, number),
             Load::Cancels(cancels) => cancels.add(batch, number),
+            Load::Bytes(bytes) => bytes.add(batch, number),
         }
     }
 
@@ -58,6 +62,7 @@ impl Load {
             Load::Nops(_) => Ok(true),
             Load::Pairs(pairs) => Ok(pairs.note(completion)?),
             Load::Cancels(cancels) => Ok(cancels.note(completion)?),
+            Load::Bytes(bytes) => bytes.note(&completion),
         }
     }
 
@@ -67,6 +72,7 @@ impl Load {
             Load::Nops(_) => nops::fits(completion),
             Load::Pairs(_) => pairs::fits(completion),
             Load::Cancels(_) => cancels::fits(completion),
+            Load::Bytes(_) => bytes::fits(completion),
         }
     }
 }

@@ -1,10 +1,13 @@
 //! Times the runtime, beside what one thread does on a board and what two threads do through a queue. Without arguments it carries a
 //! few units of each load out and prints how many were done, which is the same on every machine. With `--bench` it prints the time
-//! of each, the median of 15 short rounds. With `--mixed SECONDS` it runs two clients for so long that submit requests of all kinds
-//! at random, and ends with status 1 unless each request was told once.
+//! of each, the median of 15 short rounds. With `--spent` it serves as many NOPs as one cell can, and one more. With `--mixed SECONDS`
+//! it runs two clients for so long that submit requests of all kinds at random, and with `--soak SECONDS SEED` one runtime after
+//! another under such a load, each ended at a random moment; it ends with status 1 unless each request was told once, with a reply
+//! that it may have.
 #![tactic(auto)]
 
 mod board_path;
+mod bytes;
 mod cancels;
 mod course;
 mod fault;
@@ -18,10 +21,12 @@ mod nops;
 mod pairs;
 mod plan;
 mod setup;
+mod spent;
 
 use fault::Fault;
 use measure::{measure, try_all};
-use mixed_load::run_mixed;
+use mixed_load::{run_mixed, run_soak};
+use spent::run_spent;
 use std::alloc::AllocGlobal;
 use std::env;
 use std::process::ExitCode;
@@ -29,6 +34,11 @@ use std::rt::{Env, Files};
 use std::sync::Wait;
 use std::thread::Threads;
 use std::time::Clock;
+
+/// The number that a word is.
+fn number_of(word: Option<String>) -> Option<u64> {
+    word?.as_str().parse::<u64>().ok()
+}
 
 /// What the words of the command line ask for.
 fn run<
@@ -40,12 +50,14 @@ fn run<
     };
     match word.as_str() {
         "--bench" => measure(rt),
-        "--mixed" => match words
-            .next()
-            .and_then(|word| word.as_str().parse::<u64>().ok())
-        {
+        "--spent" => run_spent(rt),
+        "--mixed" => match number_of(words.next()) {
             Some(seconds) => Ok(run_mixed(rt, seconds)?),
             None => Err(Fault::Words),
+        },
+        "--soak" => match (number_of(words.next()), number_of(words.next())) {
+            (Some(seconds), Some(seed)) => Ok(run_soak(rt, seconds, seed)?),
+            _ => Err(Fault::Words),
         },
         _ => Err(Fault::Words),
     }

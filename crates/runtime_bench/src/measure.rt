@@ -5,11 +5,14 @@ use crate::figures::{Figure, Hundredths, ROUNDS};
 use crate::fleet::Fleet;
 use crate::handover;
 use crate::plan::setups;
-use crate::setup::Setup;
+use crate::setup::{Kind, Setup};
 use std::alloc::{AllocGlobal, Global};
 use std::sync::Wait;
 use std::thread::Threads;
 use std::time::Clock;
+
+/// The cells of the ring of a board without threads.
+const CELLS: u32 = 64;
 
 /// How many NOPs a round has on a board, and how many of a few.
 const NOPS: u64 = 20_000;
@@ -20,9 +23,15 @@ const HAND_OVERS: u64 = 4_000;
 /// How many NOPs and hand-overs there are where they are only tried.
 const FEW: u64 = 50;
 
+/// How many bytes go from ring to ring where that is only tried.
+const BYTES: u64 = 10_000;
+
 /// How many units a client carries out where its load is only tried: more than it has in flight.
 fn few_of(setup: &Setup) -> u64 {
-    32 + u64::from(setup.depth)
+    match setup.kind {
+        Kind::Byte => BYTES,
+        _ => 32 + u64::from(setup.depth),
+    }
 }
 
 /// How many units a client carries out in a round.
@@ -32,7 +41,7 @@ fn units_of(setup: &Setup) -> u64 {
 
 /// The time of a NOP on a board.
 fn board_figure<R: Clock>(rt: &R, alloc: Global) -> Result<Figure, Fault> {
-    let mut path = BoardPath::new(alloc)?;
+    let mut path = BoardPath::new(alloc, CELLS)?;
     let mut rounds = [0u64; ROUNDS];
     for round in 0..ROUNDS {
         rounds[round] = path.round(rt, NOPS)?;
@@ -108,7 +117,7 @@ pub(crate) fn try_all<
     R: Threads + Wait + Copy + Send + Sync + 'static + Clock + AllocGlobal + Print,
 >(rt: &R) -> Result<(), Fault> {
     let alloc = rt.alloc();
-    BoardPath::new(alloc)?.round(rt, FEW)?;
+    BoardPath::new(alloc, CELLS)?.round(rt, FEW)?;
     println!(rt; "a NOP on a board, one thread: {FEW} done")?;
     for depth in [1u64, 64] {
         handover::round(rt, alloc, depth, FEW)?;

@@ -29,6 +29,7 @@ pub(crate) fn setups(alloc: Global) -> Result<Vec<Setup>, AllocError> {
         }
     }
     add_doubled(&mut setups)?;
+    setups.push(Setup::new(Kind::Byte, 1, 4, true))?;
     Ok(setups)
 }
 

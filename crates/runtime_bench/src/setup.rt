@@ -14,6 +14,8 @@ pub(crate) enum Kind {
     ReadCancel,
     /// A TIMEOUT that doesn't run out, and a TIMEOUT_REMOVE.
     TimeoutRemove,
+    /// A WRITE of one byte by one client, or the READ of it by the other one, through the one pipe.
+    Byte,
 }
 
 impl fmt::Display for Kind {
@@ -23,6 +25,7 @@ impl fmt::Display for Kind {
             Kind::Pair => "linked write and read pairs",
             Kind::ReadCancel => "read and cancel",
             Kind::TimeoutRemove => "timeout and remove",
+            Kind::Byte => "bytes from ring to ring",
         })
     }
 }
