@@ -78,14 +78,39 @@ fn a_line_that_waits_in_vain_is_stuck(rt: HostRuntime) -> Result<(), Fail> {
     Ok(())
 }
 
+/// The table of a script whose cancel c is held until its target r has come to a point, where r is held until c is answered.
+fn held<R: Threads + Wait + Copy + Send + Sync + 'static>(
+    rt: &R,
+    alloc: Global,
+    text: &[u8],
+    r: Req,
+    at: Point,
+) -> Result<String, Fail> {
+    let c = Req {
+        ring: r.ring,
+        k: r.k.saturating_add(1),
+    };
+    let mut holds = Vec::new(alloc);
+    holds.push(Hold::new((Point::Begin, c), (at, r)))?;
+    holds.push(Hold::new((at, r), (Point::Post, c)))?;
+    ran(rt, alloc, text, 2, 10_000_000, Holds { holds })
+}
+
 #[test]
-fn a_cancel_comes_while_its_target_runs(rt: HostRuntime) -> Result<(), Fail> {
+fn a_cancel_comes_at_each_point_of_its_target(rt: HostRuntime) -> Result<(), Fail> {
     let text = b"pipe 16\nring 8\non 0\nread r 0 4\ncancel c r\nsubmit\nwait c\n";
-    let (r, c) = (Req { ring: 0, k: 0 }, Req { ring: 0, k: 1 });
-    let mut holds = Vec::new(rt.alloc());
-    holds.push(Hold::new((Point::Begin, c), (Point::Run, r)))?;
-    holds.push(Hold::new((Point::Run, r), (Point::Post, c)))?;
-    let table = ran(&rt, rt.alloc(), text, 2, 10_000_000, Holds { holds })?;
-    assert_eq!(rt; table.as_str(), "r -125\nc -114\n");
+    let wanted = [
+        (Point::Begin, "r -125\nc 0\n"),
+        (Point::Run, "r -125\nc -114\n"),
+        (Point::Park, "r -125\nc 0\n"),
+    ];
+    for (at, table) in wanted {
+        let told = held(&rt, rt.alloc(), text, Req { ring: 0, k: 0 }, at)?;
+        assert_eq!(rt; told.as_str(), table);
+    }
+    let text =
+        b"pipe 16\nring 8\non 0\nwrite w 1 z\nsubmit\nwait w\nread r 0 4\ncancel c r\nsubmit\nwait c\n";
+    let told = held(&rt, rt.alloc(), text, Req { ring: 0, k: 1 }, Point::Post)?;
+    assert_eq!(rt; told.as_str(), "w 1\nr 1 7a\nc -2\n");
     Ok(())
 }
