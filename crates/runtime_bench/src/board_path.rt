@@ -74,6 +74,18 @@ fn submit_nop(
     }
 }
 
+/// Submits a NOP. Whether it is refused as `Spent`.
+fn is_refused(alloc: Global, board: &Board, submitter: &mut Submitter) -> bool
+    requires { IsOf board.now submitter.old }
+    ensures { IsOf board.now submitter.new }
+{
+    let _ring = submitter.ring();
+    match board.submit(submitter, nop(), Vec::new(alloc)) {
+        Ok(_req) => false,
+        Err((error, _buffer)) => error == SubmitError::Spent,
+    }
+}
+
 /// The worker begins the request and runs it, if it is Ready.
 fn work(board: &Board, worker: Worker, req: Req) -> Worker
     requires { IsOf board.now worker }
@@ -135,13 +147,7 @@ impl BoardPath {
 
     /// Whether the next NOP is refused as `Spent`.
     pub fn is_spent(&mut self) -> bool {
-        match self
-            .board
-            .submit(&mut self.submitter, nop(), Vec::new(self.alloc))
-        {
-            Ok(_req) => false,
-            Err((error, _buffer)) => error == SubmitError::Spent,
-        }
+        is_refused(self.alloc, &self.board, &mut self.submitter)
     }
 
     /// One round: so many NOPs. How many nanoseconds that took.
