@@ -1,6 +1,5 @@
 -- What the parts of the queue's calls say.
-use Rattle.std.specs.Prelude.{◌≡◌, ℕ, ◌≤◌, List, [], ◌++◌, ◌∷◌, Option, Some, None, vec_capacity}
-use Rattle.ready.specs.declared.queue.Room.{Room}
+use Rattle.std.specs.Prelude.{◌≡◌, ℕ, ◌≤◌, List, [], ◌++◌, ◌∷◌, Option, Some, None}
 use Rattle.ready.specs.declared.span.Span.{Span}
 use Rattle.ready.specs.Ready.{room_of}
 
@@ -16,8 +15,14 @@ HasDrawn old None new (Some s) = new ≡ old ++ s ∷ []
 HasDrawn old (Some rest) new None = ⊥
 HasDrawn old (Some rest) new (Some s) = (new ≡ old) × (s ≡ rest)
 
+-- for how many spans that passes have left, spans in the queue, and requests there is room
+pub record Room : Type 0 where
+  pub rests : ℕ
+  pub spans : ℕ
+  pub left : ℕ
+
 -- room for the spans of so many places and passes, and for all their requests
 pub record IsRoom (places passes : ℕ) (r : Room) : Type 0 where
-  pub rests : (r.rests.items ≡ []) × (passes ≤ vec_capacity r.rests)
-  pub spans : (r.spans.items ≡ []) × (places ≤ vec_capacity r.spans)
-  pub left : (r.left.items ≡ []) × (room_of places passes ≤ vec_capacity r.left)
+  pub rests : passes ≤ r.rests
+  pub spans : places ≤ r.spans
+  pub left : room_of places passes ≤ r.left

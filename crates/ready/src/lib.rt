@@ -6,6 +6,7 @@ pub mod law;
 pub mod pass;
 mod plays;
 pub mod queue;
+pub mod room;
 pub mod span;
 pub mod tally;
 #[cfg(test)]
@@ -15,5 +16,6 @@ pub use error::{GatherError, Memory, Ungathered};
 pub use law::Law;
 pub use pass::ReadyPass;
 pub use queue::ReadyQueue;
+pub use room::GatherRoom;
 pub use span::Span;
 pub use tally::Tally;

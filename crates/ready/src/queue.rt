@@ -13,11 +13,12 @@ use crate::error::{GatherError, Memory, Ungathered};
 use crate::law::Law;
 use crate::pass::{ALL_SHARES, ReadyPass, are_all};
 use crate::plays::{CutPass, Put, Take, TakeLast};
-use crate::span::{MOST, Span};
+use crate::room::GatherRoom;
+use crate::span::Span;
 use crate::tally::Tally;
 use crossbeam_queue::{Pass, RuledArrayQueue};
 use history::Req;
-use std::alloc::{AllocError, Global};
+use std::alloc::Global;
 use std::marker::Model;
 use std::sync::Wait;
 
@@ -121,8 +122,8 @@ impl ReadyQueue {
         let error = if !are_all(passes.as_slice()) {
             GatherError::Missing
         } else {
-            match Room::new(alloc, self.line.capacity(), passes.len()) {
-                Ok(room) => return Ok(end(rt, &self.line, passes, room)),
+            match self.make_room(alloc, passes.len()) {
+                Ok(room) => return Ok(self.gather_in(rt, passes, room)),
                 Err(_) => GatherError::Memory,
             }
         };
@@ -131,6 +132,24 @@ impl ReadyQueue {
             queue: self,
             passes,
         })
+    }
+
+    /// The room that `gather_in` needs for so many passes.
+    pub fn make_room(&self, alloc: Global, passes: usize) -> Result<GatherRoom, Memory>
+        ensures { IfOk result (IsRoom self.now.places passes) }
+    {
+        GatherRoom::new(alloc, self.line.capacity(), passes)
+    }
+
+    /// As `gather`, by all passes and in room that was made before, so that nothing is left that could fail.
+    pub fn gather_in<R: Wait>(self, rt: &R, passes: Vec<ReadyPass>, room: GatherRoom) -> Vec<Req>
+        requires own { All (λ p. IsOf self p) passes.items }
+        requires complete { AreAll passes.items }
+        requires room { IsRoom self.places (length passes.items) room }
+        ensures law { (r : Req) → times r (all_put passes.items) ≡ times r (all_taken passes.items) + times r result.items }
+        ensures places { length result.items ≤ room_of self.places (length passes.items) }
+    {
+        end(rt, &self.line, passes, room)
     }
 }
 
@@ -149,41 +168,15 @@ fn draw<R: Wait>(rt: &R, line: &Line, seat: &mut Seat, rest: &mut Option<Span>) 
     line.pop_as::<Take, R>(rt, seat)
 }
 
-/// Room for the end of a queue: for the spans that its passes have left, for those in the queue, and for all requests.
-struct Room {
-    rests: Vec<Span>,
-    spans: Vec<Span>,
-    left: Vec<Req>,
-}
-
-impl Room {
-    /// Room for the spans of so many places and passes.
-    fn new(alloc: Global, places: usize, passes: usize) -> Result<Room, Memory>
-        ensures { IfOk result (IsRoom places passes) }
-    {
-        let Some(spans) = places.checked_add(passes) else {
-            return Err(Memory);
-        };
-        let Some(requests) = spans.checked_mul(usize::from(MOST)) else {
-            return Err(Memory);
-        };
-        Ok(Room {
-            rests: Vec::with_capacity(alloc, passes)?,
-            spans: Vec::with_capacity(alloc, places)?,
-            left: Vec::with_capacity(alloc, requests)?,
-        })
-    }
-}
-
 /// Takes in all passes with what they have left, and then what is left in the queue. There is room for it.
-fn end<R: Wait>(rt: &R, line: &Line, mut passes: Vec<ReadyPass>, room: Room) -> Vec<Req>
+fn end<R: Wait>(rt: &R, line: &Line, mut passes: Vec<ReadyPass>, room: GatherRoom) -> Vec<Req>
     requires own { All (λ p. p.queue ≡ line.now.table.shared.table_id) passes.items }
     requires complete { AreAll passes.items }
     requires room { IsRoom (ruled_capacity line.now) (length passes.items) room }
     ensures law { (r : Req) → times r (all_put passes.items) ≡ times r (all_taken passes.items) + times r result.items }
     ensures places { length result.items ≤ room_of (ruled_capacity line.now) (length passes.items) }
 {
-    let Room {
+    let GatherRoom {
         mut rests,
         mut spans,
         mut left,

@@ -1,18 +1,30 @@
 -- The threads of a runtime.
-use Rattle.std.specs.Prelude.{◌≡◌, ℕ, ◌+◌, ◌≤◌, List, [], All, length}
+use Rattle.std.specs.Prelude.{◌≡◌, ℕ, ◌+◌, ◌<◌, ◌≤◌, List, [], All, length, sum_by}
 use Rattle.history.specs.declared.event.Event.{Event}
 use Rattle.std.specs.Arc.{arc_value}
 use Rattle.work.specs.Board.{IsOf}
 use Rattle.work.specs.Passes.{Pass, seen_of}
+use Rattle.ready.specs.Ready.{Moves, IsOf as IsOfQueue}
+use Rattle.ready.specs.Rule.{all_shares}
+use Rattle.ready.specs.QueueParts.{Room, IsRoom}
 use Rattle.runtime.specs.declared.shared.Shared.{Shared}
 use Rattle.runtime.specs.declared.started.PollThread.{PollThread}
 use Rattle.runtime.specs.declared.started.PollThread.TheVariants.{Runs, Ended}
 use Rattle.runtime.specs.declared.started.WorkThread.{WorkThread}
 
--- the poller's pass, or the one that its thread brings back, is of this board, and the clock goes along with what it has seen
+-- the poller's passes, or those that its thread brings back, are of this board and queue, and the clock goes along with what it has seen
 abbrev pub IsPollThread : {C : Type 0} → (C → List Event → Type 0) → Shared → PollThread C → Type 0
 IsPollThread follows s (Runs thread) = arc_value thread.promise.0.value ≡ s
-IsPollThread follows s (Ended poller clock) = IsOf s.board poller × follows clock (seen_of poller)
+IsPollThread follows s (Ended poller ready clock) = IsOf s.board poller × IsOfQueue s.queue ready × follows clock (seen_of poller)
+
+-- the shares of the ready queue that the poller's pass has
+abbrev pub share_of : {C : Type 0} → PollThread C → ℕ
+share_of (Runs thread) = thread.promise.1.value.share
+share_of (Ended poller ready clock) = ready.share
+
+-- and those that the workers' passes have
+abbrev pub shares_of : List WorkThread → ℕ
+shares_of threads = sum_by (λ t. t.handle.promise.1.value.share) threads
 
 -- the passes that these threads bring back are of this board
 abbrev pub AreWorking : Shared → List WorkThread → Type 0
@@ -26,6 +38,23 @@ pub record HasThreads {C : Type 0} (follows : C → List Event → Type 0) (s : 
   pub ended_are : All (λ p. IsOf s.board p) ended
   pub count : length workers + length ended ≡ s.board.workers
   pub room : length workers + length ended ≤ capacity
+
+-- the passes of the ready queue, with the threads or back from them, have all its shares, and there is room for them and for the end of the queue
+pub record HasPasses {C : Type 0} (s : Shared) (poller : PollThread C) (workers : List WorkThread) (passes : List Moves) (capacity : ℕ) (room : Room) : Type 0 where
+  pub own : All (λ p. IsOfQueue s.queue p) passes
+  pub pairs : length workers + length passes ≡ s.board.workers
+  pub shares : share_of poller + (shares_of workers + sum_by (λ p. p.share) passes) ≡ all_shares
+  pub places : length workers + length passes < capacity
+  pub gather : IsRoom s.queue.places (s.board.workers + 1) room
+
+-- all passes of the ready queue are back: the poller's, and those of the workers
+pub record HasAllPasses (s : Shared) (ready : Moves) (passes : List Moves) (capacity : ℕ) (room : Room) : Type 0 where
+  pub poller_is : IsOfQueue s.queue ready
+  pub own : All (λ p. IsOfQueue s.queue p) passes
+  pub pairs : length passes ≡ s.board.workers
+  pub shares : ready.share + sum_by (λ p. p.share) passes ≡ all_shares
+  pub places : length passes < capacity
+  pub gather : IsRoom s.queue.places (s.board.workers + 1) room
 
 -- a runtime whose threads have ended: what they shared, and the passes that they brought back
 pub record Crew : Type 0 where

@@ -3,7 +3,7 @@ use Rattle.std.specs.Prelude.{◌≡◌, ℕ, suc, ◌+◌, ◌<◌, List, [], �
 use Rattle.bell.specs.BellPasses.{Facts as Bell, Ringing, IsRingerOf, IsSleeperOf}
 use Rattle.board.specs.declared.shape.Shape.{Shape}
 use Rattle.board.specs.New.{IsNew}
-use Rattle.ready.specs.Ready.{IsOf as IsOfQueue}
+use Rattle.ready.specs.Ready.{AreAll, IsOf as IsOfQueue}
 use Rattle.runtime.specs.declared.startup.Parts.{Parts}
 
 -- the ringer of this bell and of the ring n, which has told no tail
@@ -24,4 +24,5 @@ pub record IsParts (s : Shape) (p : Parts) : Type 0 where
   pub ringers : AreRingers p.shared.bell 0 p.ringers.items × (length p.ringers.items ≡ length s.rings.items)
   pub passes : All (λ q. IsOfQueue p.shared.queue q) p.passes.items
   pub count : length p.passes.items ≡ length p.workers.items + 1
+  pub shares : AreAll p.passes.items
   pub posts : length p.shared.posts.items ≡ length s.rings.items

@@ -12,7 +12,7 @@ ghost use Rattle.runtime.specs.declared.error.JoinError.TheVariants.{Missing};
 use crate::client::Client;
 use crate::error::JoinError;
 use crate::shared::Shared;
-use crate::started::{Runtime, Stopped, tell_end};
+use crate::started::{Ends, Runtime, Stopped, tell_end};
 use board::{Board, Report, ReportRoom, Submitter};
 use controls::Clock;
 use std::alloc::Global;
@@ -61,7 +61,7 @@ fn sole<R: Wait>(rt: &R, mut shared: Arc<Shared>) -> Shared
     unreachable!()
 }
 
-/// Ends the board of a runtime whose threads have ended, and whose clients are these. It gives back the clock.
+/// Ends the ready queue and the board of a runtime whose threads have ended, and whose clients are these. It gives back the clock.
 fn end<R: Wait, C: Clock>(
     rt: &R,
     stopped: Stopped<C>,
@@ -75,9 +75,17 @@ fn end<R: Wait, C: Clock>(
     requires report { total stopped.shared.board.layout.cells ≤ report }
     ensures { (poller : Pass) × (workers : List Pass) × IsReport stopped.shared.board (poller ∷ (map submitter_of clients.items ++ workers)) result.0 × C.follows result.1 (seen_of poller) × (poller.view.role ≡ PollerRole (length stopped.shared.board.layout.cells)) }
 {
-    let (shared, poller, workers, clock) = stopped.parts();
+    let (shared, ends) = stopped.parts();
+    let Ends {
+        poller,
+        workers,
+        passes,
+        room,
+        clock,
+    } = ends;
     let submitters = submitters_of(&shared.board, clients, submitters);
-    let Shared { board, .. } = sole(rt, shared);
+    let Shared { board, queue, .. } = sole(rt, shared);
+    queue.gather_in(rt, passes, room);
     (board.finish_in(poller, submitters, workers, report), clock)
 }
 

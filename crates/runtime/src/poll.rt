@@ -119,6 +119,13 @@ impl PollDesk {
         (poller, sleeper, ready)
     }
 
+    /// Its pass of the ready queue.
+    pub(crate) fn ready(&self) -> &ReadyPass
+        ensures { result.now ≡ self.now.ready }
+    {
+        &self.hands.ready
+    }
+
     /// How many cells its board has: so many places the outbox of a turn needs.
     pub fn places(&self) -> usize
         ensures { result ≡ self.now.places }

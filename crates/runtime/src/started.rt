@@ -1,17 +1,21 @@
 //! A runtime that was started: its threads, and their end.
-ghost use Rattle.std.specs.Prelude.{◌≡◌, ◌+◌, ◌≤◌, [], All, length, map, IfOk, vec_capacity};
+ghost use Rattle.std.specs.Prelude.{◌≡◌, ◌+◌, ◌<◌, ◌≤◌, [], All, length, map, sum_by, IfOk, vec_capacity};
 ghost use Rattle.std.specs.Arc.{arc_value};
 ghost use Rattle.steps.specs.Cells.{total};
 ghost use Rattle.work.specs.Board.{IsOf};
 ghost use Rattle.work.specs.Passes.{seen_of};
 ghost use Rattle.board.specs.Reports.{AreOf};
 ghost use Rattle.runtime.specs.Clients.{without_tail};
-ghost use Rattle.runtime.specs.Crews.{IsPollThread, AreWorking};
+ghost use Rattle.ready.specs.Ready.{AreAll, IsOf as IsOfQueue};
+ghost use Rattle.ready.specs.Rule.{all_shares};
+ghost use Rattle.ready.specs.QueueParts.{IsRoom};
+ghost use Rattle.runtime.specs.Crews.{IsPollThread, AreWorking, share_of, shares_of};
 
 use crate::client::Client;
 use crate::shared::Shared;
 use board::{Poller, ReportRoom, Worker};
 use controls::Clock;
+use ready::{GatherRoom, ReadyPass};
 use std::alloc::{AllocError, Global};
 use std::marker::Model;
 use std::snapshot::Snapshot;
@@ -19,37 +23,41 @@ use std::sync::Arc;
 use std::sync::atomic::Ordering;
 use std::thread::{Promise, PromisedHandle, Threads};
 
-/// The pass that a thread brings back is one of the board that it shares. The clock that the poller's thread brings back has gone
-/// along with what the poller has seen.
+/// The passes that a thread brings back are those of the board and of the ready queue that it shares, and the second has the shares of
+/// the queue that the thread was given. The clock that the poller's thread brings back has gone along with what the poller has seen.
 #[derive(Drop)]
-pub(crate) struct Ours(pub Snapshot<Arc<Shared>>);
+pub(crate) struct Ours(pub Snapshot<Arc<Shared>>, pub Snapshot<ReadyPass>);
 
-impl<C: Clock> Promise<(Poller, C)> for Ours {
+impl<C: Clock> Promise<(Poller, ReadyPass, C)> for Ours {
+    ghost use Rattle.std.specs.Prelude.{◌≡◌};
     ghost use Rattle.std.specs.Arc.{arc_value};
+    ghost use Rattle.ready.specs.Ready.{IsOf as IsOfQueue};
     ghost use Rattle.work.specs.Board.{IsOf};
     ghost use Rattle.work.specs.Passes.{seen_of};
 
-    ghost kept_by = { λ p r. IsOf (arc_value p.0.value).board r.0 × C.follows r.1 (seen_of r.0) };
+    ghost kept_by = { λ p r. IsOf (arc_value p.0.value).board r.0 × IsOfQueue (arc_value p.0.value).queue r.1 × (r.1.share ≡ p.1.value.share) × C.follows r.2 (seen_of r.0) };
 }
 
-impl Promise<Worker> for Ours {
+impl Promise<(Worker, ReadyPass)> for Ours {
+    ghost use Rattle.std.specs.Prelude.{◌≡◌};
     ghost use Rattle.std.specs.Arc.{arc_value};
+    ghost use Rattle.ready.specs.Ready.{IsOf as IsOfQueue};
     ghost use Rattle.work.specs.Board.{IsOf};
 
-    ghost kept_by = { λ p pass. IsOf (arc_value p.0.value).board pass };
+    ghost kept_by = { λ p r. IsOf (arc_value p.0.value).board r.0 × IsOfQueue (arc_value p.0.value).queue r.1 × (r.1.share ≡ p.1.value.share) };
 }
 
 /// The thread of a worker.
 #[derive(Drop)]
 pub(crate) struct WorkThread {
-    pub handle: PromisedHandle<Worker, Ours>,
+    pub handle: PromisedHandle<(Worker, ReadyPass), Ours>,
 }
 
-/// The poller's thread, or its pass and the clock once that was joined.
+/// The poller's thread, or its passes and the clock once that was joined.
 #[derive(Drop)]
 pub(crate) enum PollThread<C: Clock> {
-    Runs(PromisedHandle<(Poller, C), Ours>),
-    Ended(Poller, C),
+    Runs(PromisedHandle<(Poller, ReadyPass, C), Ours>),
+    Ended(Poller, ReadyPass, C),
 }
 
 /// A board's poller and workers, each in a thread of its own, and the clock that the poller asks. It is ended by `join_all`.
@@ -61,19 +69,21 @@ pub struct Runtime<C: Clock> {
     poller: PollThread<C>,
     workers: Vec<WorkThread>,
     ended: Vec<Worker>,
+    passes: Vec<ReadyPass>,
+    room: GatherRoom,
 }
 
 impl<C: Clock> Model for Runtime<C> {
     ghost use Rattle.std.specs.Prelude.{vec_capacity};
     ghost use Rattle.std.specs.Arc.{arc_value};
     ghost use Rattle.work.specs.Board.{Facts};
-    ghost use Rattle.runtime.specs.Crews.{HasThreads};
+    ghost use Rattle.runtime.specs.Crews.{HasPasses, HasThreads};
 
     ghost Value = { Facts };
 
     ghost view = { λ r. (arc_value r.shared).board };
 
-    ghost invariant = { λ r. HasThreads C.follows (arc_value r.shared) r.rings r.poller r.workers.items r.ended.items (vec_capacity r.ended) };
+    ghost invariant = { λ r. HasThreads C.follows (arc_value r.shared) r.rings r.poller r.workers.items r.ended.items (vec_capacity r.ended) × HasPasses (arc_value r.shared) r.poller r.workers.items r.passes.items (vec_capacity r.passes) r.room };
 }
 
 /// A runtime whose threads have ended. Contracts see its board and the passes that the threads brought back.
@@ -82,8 +92,11 @@ pub(crate) struct Stopped<C: Clock> {
     shared: Arc<Shared>,
     rings: usize,
     poller: Poller,
+    ready: ReadyPass,
     clock: C,
     workers: Vec<Worker>,
+    passes: Vec<ReadyPass>,
+    room: GatherRoom,
     threads: Vec<WorkThread>,
 }
 
@@ -91,46 +104,60 @@ impl<C: Clock> Model for Stopped<C> {
     ghost use Rattle.std.specs.Prelude.{vec_capacity};
     ghost use Rattle.std.specs.Arc.{arc_value};
     ghost use Rattle.work.specs.Passes.{seen_of};
-    ghost use Rattle.runtime.specs.Crews.{Crew, HasStopped};
+    ghost use Rattle.runtime.specs.Crews.{Crew, HasStopped, HasAllPasses};
 
     ghost Value = { Crew };
 
     ghost view = { λ s. record { shared = arc_value s.shared; poller = s.poller; workers = s.workers.items } };
 
-    ghost invariant = { λ s. HasStopped (arc_value s.shared) s.rings s.poller s.workers.items (vec_capacity s.workers) s.threads.items × C.follows s.clock (seen_of s.poller) };
+    ghost invariant = { λ s. HasStopped (arc_value s.shared) s.rings s.poller s.workers.items (vec_capacity s.workers) s.threads.items × C.follows s.clock (seen_of s.poller) × HasAllPasses (arc_value s.shared) s.ready s.passes.items (vec_capacity s.passes) s.room };
 }
 
 /// Waits for the poller's thread.
-fn join_poller<R: Threads, C: Clock>(rt: &R, shared: &Shared, poller: PollThread<C>) -> (Poller, C)
+fn join_poller<R: Threads, C: Clock>(
+    rt: &R,
+    shared: &Shared,
+    poller: PollThread<C>,
+) -> (Poller, ReadyPass, C)
     requires { IsPollThread C.follows shared.now poller }
-    ensures { IsOf shared.now.board result.0 × C.follows result.1 (seen_of result.0) }
+    ensures own { IsOf shared.now.board result.0 × C.follows result.2 (seen_of result.0) }
+    ensures ready { IsOfQueue shared.now.queue result.1 × (result.1.share ≡ share_of poller) }
 {
     let _ = shared;
     match poller {
         PollThread::Runs(handle) => handle.join(rt),
-        PollThread::Ended(poller, clock) => (poller, clock),
+        PollThread::Ended(poller, ready, clock) => (poller, ready, clock),
     }
 }
 
-/// Waits for the workers' threads, and gives their passes to those that have ended. There is room for them.
+/// Waits for the workers' threads, and gives their passes to those that came back before. There is room for them.
 fn join_workers<R: Threads>(
     rt: &R,
     shared: &Shared,
     workers: &mut Vec<WorkThread>,
     ended: &mut Vec<Worker>,
+    passes: &mut Vec<ReadyPass>,
 )
     requires threads { AreWorking shared.now workers.old.items }
     requires ended { All (λ p. IsOf shared.now.board p) ended.old.items }
+    requires passes { All (λ p. IsOfQueue shared.now.queue p) passes.old.items }
     requires room { length workers.old.items + length ended.old.items ≤ vec_capacity ended.old }
+    requires places { length workers.old.items + length passes.old.items < vec_capacity passes.old }
     ensures ended { All (λ p. IsOf shared.now.board p) ended.new.items }
+    ensures passes { All (λ p. IsOfQueue shared.now.queue p) passes.new.items }
+    ensures shares { sum_by (λ p. p.share) passes.new.items ≡ shares_of workers.old.items + sum_by (λ p. p.share) passes.old.items }
     ensures count { length ended.new.items ≡ length workers.old.items + length ended.old.items }
+    ensures pairs { length passes.new.items ≡ length workers.old.items + length passes.old.items }
     ensures none { workers.new.items ≡ [] }
     ensures room { length ended.new.items ≤ vec_capacity ended.new }
+    ensures places { length passes.new.items < vec_capacity passes.new }
 {
     let _ = shared;
     while let Some(thread) = workers.pop() {
         let WorkThread { handle } = thread;
-        ended.push_reserved(handle.join(rt));
+        let (worker, ready) = handle.join(rt);
+        ended.push_reserved(worker);
+        passes.push_reserved(ready);
     }
 }
 
@@ -139,14 +166,19 @@ impl<C: Clock> Runtime<C> {
     pub(crate) fn new(
         shared: Arc<Shared>,
         rings: usize,
-        poller: PromisedHandle<(Poller, C), Ours>,
+        poller: PromisedHandle<(Poller, ReadyPass, C), Ours>,
         workers: Vec<WorkThread>,
         ended: Vec<Worker>,
+        passes: Vec<ReadyPass>,
+        room: GatherRoom,
     ) -> Runtime<C>
         requires rings { rings ≡ length (arc_value shared).board.layout.cells }
         requires poller { arc_value poller.promise.0.value ≡ arc_value shared }
         requires workers { AreWorking (arc_value shared) workers.items × (length workers.items ≡ (arc_value shared).board.workers) }
         requires room { (length ended.items ≡ 0) × (length workers.items ≤ vec_capacity ended) }
+        requires places { (length passes.items ≡ 0) × (length workers.items < vec_capacity passes) }
+        requires shares { poller.promise.1.value.share + shares_of workers.items ≡ all_shares }
+        requires gather { IsRoom (arc_value shared).queue.places ((arc_value shared).board.workers + 1) room }
         ensures { result ≡ (arc_value shared).board }
     {
         Runtime {
@@ -155,6 +187,8 @@ impl<C: Clock> Runtime<C> {
             poller: PollThread::Runs(poller),
             workers,
             ended,
+            passes,
+            room,
         }
     }
 
@@ -182,16 +216,21 @@ impl<C: Clock> Runtime<C> {
             poller,
             mut workers,
             mut ended,
+            mut passes,
+            room,
         } = self;
         shared.is_over.store(true, Ordering::SeqCst);
-        let (poller, clock) = join_poller(rt, &shared, poller);
-        join_workers(rt, &shared, &mut workers, &mut ended);
+        let (poller, ready, clock) = join_poller(rt, &shared, poller);
+        join_workers(rt, &shared, &mut workers, &mut ended, &mut passes);
         Stopped {
             shared,
             rings,
             poller,
+            ready,
             clock,
             workers: ended,
+            passes,
+            room,
             threads: workers,
         }
     }
@@ -211,35 +250,64 @@ impl<C: Clock> Stopped<C> {
             shared,
             rings,
             poller,
+            ready,
             clock,
             workers,
+            passes,
+            room,
             threads,
         } = self;
         Runtime {
             shared,
             rings,
-            poller: PollThread::Ended(poller, clock),
+            poller: PollThread::Ended(poller, ready, clock),
             workers: threads,
             ended: workers,
+            passes,
+            room,
         }
     }
 
-    /// What was shared, the passes of the poller and of all workers, and the clock.
-    pub(crate) fn parts(self) -> (Arc<Shared>, Poller, Vec<Worker>, C)
+    /// What was shared, and all that came back.
+    pub(crate) fn parts(self) -> (Arc<Shared>, Ends<C>)
         ensures shared { arc_value result.0 ≡ self.shared }
-        ensures poller { IsOf self.shared.board result.1 }
-        ensures workers { AreOf self.shared.board result.2.items × (length result.2.items ≡ self.shared.board.workers) }
-        ensures follows { C.follows result.3 (seen_of result.1) }
+        ensures poller { IsOf self.shared.board result.1.poller }
+        ensures workers { AreOf self.shared.board result.1.workers.items × (length result.1.workers.items ≡ self.shared.board.workers) }
+        ensures passes { All (λ p. IsOfQueue self.shared.queue p) result.1.passes.items × AreAll result.1.passes.items }
+        ensures room { IsRoom self.shared.queue.places (length result.1.passes.items) result.1.room }
+        ensures follows { C.follows result.1.clock (seen_of result.1.poller) }
     {
         let Stopped {
             shared,
             poller,
+            ready,
             clock,
             workers,
+            mut passes,
+            room,
             ..
         } = self;
-        (shared, poller, workers, clock)
+        passes.push_reserved(ready);
+        let ends = Ends {
+            poller,
+            workers,
+            passes,
+            room,
+            clock,
+        };
+        (shared, ends)
     }
+}
+
+/// What the threads brought back: the passes of the poller and of all workers, those of the ready queue with the room for its end, and
+/// the clock.
+#[derive(Drop)]
+pub(crate) struct Ends<C: Clock> {
+    pub poller: Poller,
+    pub workers: Vec<Worker>,
+    pub passes: Vec<ReadyPass>,
+    pub room: GatherRoom,
+    pub clock: C,
 }
 
 /// Tells the poller to end, by the client of ring 0.

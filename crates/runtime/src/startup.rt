@@ -1,14 +1,14 @@
 //! The start of a runtime.
-ghost use Rattle.std.specs.Prelude.{◌≡◌, ◌≢◌, ◌<◌, ◌≤◌, [], All, false, length, vec_capacity, Err, IfOk, IfErr};
+ghost use Rattle.std.specs.Prelude.{◌≡◌, ◌≢◌, ◌<◌, ◌≤◌, [], All, false, length, sum_by, vec_capacity, Err, IfOk, IfErr};
 ghost use Rattle.std.specs.Arc.{arc_value};
 ghost use Rattle.work.specs.Board.{IsOf};
 ghost use Rattle.work.specs.Passes.{seen_of};
-ghost use Rattle.ready.specs.Ready.{IsOf as IsOfQueue};
+ghost use Rattle.ready.specs.Ready.{AreAll, IsOf as IsOfQueue};
 ghost use Rattle.bell.specs.BellPasses.{IsSleeperOf};
 ghost use Rattle.board.specs.New.{AreSubmitters};
 ghost use Rattle.board.specs.ShapeLimits.{is_shape};
 ghost use Rattle.runtime.specs.Clients.{AreClients, AreNewClients, IsStarted};
-ghost use Rattle.runtime.specs.Crews.{AreWorking};
+ghost use Rattle.runtime.specs.Crews.{AreWorking, shares_of};
 ghost use Rattle.runtime.specs.Loops.{IsPolling, IsServing};
 ghost use Rattle.runtime.specs.PollTurns.{IsNewDesk};
 ghost use Rattle.runtime.specs.StartParts.{AreRingers, IsParts};
@@ -82,6 +82,7 @@ fn queue_of(alloc: Global, places: u32, passes: u32) -> Result<(ReadyQueue, Vec<
     requires { (0 < places) × (0 < passes) }
     ensures passes { IfOk result (λ t. All (λ p. IsOfQueue t.0 p) t.1.items) }
     ensures count { IfOk result (λ t. length t.1.items ≡ passes) }
+    ensures shares { IfOk result (λ t. AreAll t.1.items) }
 {
     match ReadyQueue::new(alloc, places, passes) {
         Ok((queue, passes)) => Ok((queue, passes)),
@@ -192,25 +193,25 @@ fn start_poller<
     turnstile: Arc<G>,
     idle: u32,
     outbox: Outbox,
-) -> Result<PromisedHandle<(Poller, C), Ours>, StartError>
+) -> Result<PromisedHandle<(Poller, ReadyPass, C), Ours>, StartError>
     requires desk { IsPolling (arc_value shared.now) desk }
     requires clock { C.follows clock (seen_of desk.poller) }
     requires outbox { (outbox.answered ≡ []) × (desk.places ≤ outbox.places) }
-    ensures thread { IfOk result (λ h. arc_value h.promise.0.value ≡ arc_value shared.now) }
+    ensures thread { IfOk result (λ h. (arc_value h.promise.0.value ≡ arc_value shared.now) × (h.promise.1.value.share ≡ desk.ready.share)) }
     ensures refused { IfErr result (λ e. e ≢ BadShape) }
 {
     let Ok(theirs) = Arc::try_clone(shared) else {
         return Err(StartError::Memory);
     };
-    let promise = Ours(Snapshot::of(shared));
+    let promise = Ours(Snapshot::of(shared), Snapshot::of(desk.ready()));
     match thread::spawn_with(
         &rt,
         promise,
-        move || -> (Poller, C)
+        move || -> (Poller, ReadyPass, C)
             requires desk { IsPolling (arc_value theirs) desk }
             requires clock { C.follows clock (seen_of desk.poller) }
             requires outbox { (outbox.answered ≡ []) × (desk.places ≤ outbox.places) }
-            ensures { IsOf (arc_value theirs).board result.0 × C.follows result.1 (seen_of result.0) }
+            ensures { IsOf (arc_value theirs).board result.0 × IsOfQueue (arc_value theirs).queue result.1 × (result.1.share ≡ desk.ready.share) × C.follows result.2 (seen_of result.0) }
         { poll(&rt, &theirs, desk, clock, &*turnstile, idle, outbox) },
     ) {
         Ok(handle) => Ok(handle),
@@ -232,21 +233,21 @@ fn start_worker<
 ) -> Result<WorkThread, StartError>
     requires worker { IsOf (arc_value shared.now).board worker }
     requires ready { IsOfQueue (arc_value shared.now).queue ready }
-    ensures thread { IfOk result (λ t. arc_value t.handle.promise.0.value ≡ arc_value shared.now) }
+    ensures thread { IfOk result (λ t. (arc_value t.handle.promise.0.value ≡ arc_value shared.now) × (t.handle.promise.1.value.share ≡ ready.share)) }
     ensures refused { IfErr result (λ e. e ≢ BadShape) }
 {
     let (Ok(theirs), Ok(outbox)) = (Arc::try_clone(shared), Outbox::new(alloc, WORK_PLACES)) else {
         return Err(StartError::Memory);
     };
+    let promise = Ours(Snapshot::of(shared), Snapshot::of(&ready));
     let desk = WorkDesk::new(ready);
-    let promise = Ours(Snapshot::of(shared));
     match thread::spawn_with(
         &rt,
         promise,
-        move || -> Worker
+        move || -> (Worker, ReadyPass)
             requires desk { IsServing (arc_value theirs) desk worker }
             requires places { 2 ≤ outbox.places }
-            ensures { IsOf (arc_value theirs).board result }
+            ensures { IsOf (arc_value theirs).board result.0 × IsOfQueue (arc_value theirs).queue result.1 × (result.1.share ≡ desk.ready.share) }
         { work(&rt, &theirs, desk, worker, &*turnstile, outbox) },
     ) {
         Ok(handle) => Ok(WorkThread { handle }),
@@ -273,6 +274,7 @@ fn start_workers<
     requires room { (threads.old.items ≡ []) × (length workers.items ≤ vec_capacity threads.old) }
     ensures threads { AreWorking (arc_value shared.now) threads.new.items }
     ensures count { IfOk result (λ _. length threads.new.items ≡ length workers.items) }
+    ensures shares { IfOk result (λ _. shares_of threads.new.items ≡ sum_by (λ p. p.share) passes.items) }
     ensures refused { IfErr result (λ e. e ≢ BadShape) }
 {
     while let Some(worker) = workers.pop() {
@@ -295,7 +297,7 @@ fn abandon<R: Threads, C: Clock + Drop>(
     rt: &R,
     shared: &Shared,
     clients: &mut Vec<Client>,
-    poller: PromisedHandle<(Poller, C), Ours>,
+    poller: PromisedHandle<(Poller, ReadyPass, C), Ours>,
     threads: Vec<WorkThread>,
 ) {
     shared.is_over.store(true, Ordering::SeqCst);
@@ -340,12 +342,16 @@ fn start_threads<
     let Some(ready) = passes.pop() else {
         unreachable!()
     };
-    let (Ok(shared), Ok(turnstile), Ok((desk, outbox)), Ok(mut threads), Ok(ended)) = (
+    let Ok(room) = shared.queue.make_room(alloc, workers.len() + 1) else {
+        return Err(StartError::Memory);
+    };
+    let (Ok(shared), Ok(turnstile), Ok((desk, outbox)), Ok(mut threads), Ok(ended), Ok(back)) = (
         Arc::new(alloc, shared),
         Arc::new(alloc, turnstile),
         desk_of(alloc, shape, poller, sleeper, ready),
         Vec::with_capacity(alloc, workers.len()),
         Vec::with_capacity(alloc, workers.len()),
+        Vec::with_capacity(alloc, workers.len() + 1),
     ) else {
         return Err(StartError::Memory);
     };
@@ -368,7 +374,10 @@ fn start_threads<
         &turnstile,
         &mut threads,
     ) {
-        Ok(()) => Ok((Runtime::new(shared, rings, poller, threads, ended), clients)),
+        Ok(()) => {
+            let runtime = Runtime::new(shared, rings, poller, threads, ended, back, room);
+            Ok((runtime, clients))
+        }
         Err(error) => {
             abandon(&rt, &shared, &mut clients, poller, threads);
             Err(error)

@@ -17,6 +17,7 @@ use crate::turn::Turn;
 use board::{Poller, Worker};
 use controls::{Clock, Turnstile};
 use outbox::Outbox;
+use ready::ReadyPass;
 use std::sync::Wait;
 use std::sync::atomic::Ordering;
 use std::{hint, thread};
@@ -72,6 +73,7 @@ fn poll_round<R: Wait, G: Turnstile, C: Clock>(
     ensures read { HasLoaded desk.old.sleeper desk.new.sleeper }
     ensures follows { C.follows clock.old (seen_of desk.old.poller) → C.follows clock.new (seen_of desk.new.poller) }
     ensures outbox { (outbox.new.answered ≡ []) × (desk.new.places ≤ outbox.new.places) }
+    ensures share { desk.new.ready.share ≡ desk.old.ready.share }
 {
     let turn = poll_turn(
         rt,
@@ -90,7 +92,7 @@ fn poll_round<R: Wait, G: Turnstile, C: Clock>(
 }
 
 /// The thread of the poller. It ends once it is told to. After `idle` idle turns in a row it sleeps until it is rung, unless its clock
-/// asks for something. It gives back the clock, which has gone along with what the poller has seen.
+/// asks for something. It gives back its passes, and the clock, which has gone along with what the poller has seen.
 pub(crate) fn poll<R: Wait, G: Turnstile, C: Clock>(
     rt: &R,
     shared: &Shared,
@@ -99,12 +101,13 @@ pub(crate) fn poll<R: Wait, G: Turnstile, C: Clock>(
     turnstile: &G,
     idle: u32,
     mut outbox: Outbox,
-) -> (Poller, C)
+) -> (Poller, ReadyPass, C)
     requires desk { IsPolling shared.now desk }
     requires clock { C.follows clock (seen_of desk.poller) }
     requires outbox { (outbox.answered ≡ []) × (desk.places ≤ outbox.places) }
     ensures own { IsOf shared.now.board result.0 }
-    ensures follows { C.follows result.1 (seen_of result.0) }
+    ensures ready { IsOfQueue shared.now.queue result.1 × (result.1.share ≡ desk.ready.share) }
+    ensures follows { C.follows result.2 (seen_of result.0) }
 {
     let mut idling = Idling {
         most: idle.max(1),
@@ -114,8 +117,8 @@ pub(crate) fn poll<R: Wait, G: Turnstile, C: Clock>(
     for _ in rt.forever() {
         let turn = poll_round(rt, shared, &mut desk, &mut clock, turnstile, &mut outbox);
         if desk.is_over() {
-            let (poller, _sleeper, _ready) = desk.parts();
-            return (poller, clock);
+            let (poller, _sleeper, ready) = desk.parts();
+            return (poller, ready, clock);
         }
         if idling.note(turn) && clock.ask().is_none() {
             rest(rt, &shared.bell, &mut desk);
@@ -143,6 +146,7 @@ fn work_round<R: Wait, G: Turnstile>(
     ensures desk { IsServing shared.now desk.new result.0 }
     ensures turned { (o : Waiting) × ((o ≡ outbox.old) ⊎ (o ≡ record outbox.old { answered = [] })) × IsWorkTurn shared.now.board desk.old desk.new worker result.0 o outbox.new × (result.1 ≡ (length outbox.new.answered == length o.answered)) }
     ensures places { outbox.new.places ≡ outbox.old.places }
+    ensures share { desk.new.ready.share ≡ desk.old.ready.share }
 {
     if outbox.room() < 2 {
         post_all(rt, shared.posts.as_slice(), turnstile, outbox);
@@ -162,7 +166,7 @@ fn work_round<R: Wait, G: Turnstile>(
 }
 
 /// The thread of a worker. What it answered is posted at the first turn that answers nothing, or once the outbox is full. It ends
-/// after such a turn, once the workers are told to.
+/// after such a turn, once the workers are told to, and gives back its passes.
 pub(crate) fn work<R: Wait, G: Turnstile>(
     rt: &R,
     shared: &Shared,
@@ -170,10 +174,11 @@ pub(crate) fn work<R: Wait, G: Turnstile>(
     mut worker: Worker,
     turnstile: &G,
     mut outbox: Outbox,
-) -> Worker
+) -> (Worker, ReadyPass)
     requires desk { IsServing shared.now desk worker }
     requires places { 2 ≤ outbox.places }
-    ensures { IsOf shared.now.board result }
+    ensures own { IsOf shared.now.board result.0 }
+    ensures ready { IsOfQueue shared.now.queue result.1 × (result.1.share ≡ desk.ready.share) }
 {
     let mut silent = 0u32;
     for _ in rt.forever() {
@@ -185,7 +190,7 @@ pub(crate) fn work<R: Wait, G: Turnstile>(
         }
         post_all(rt, shared.posts.as_slice(), turnstile, &mut outbox);
         if shared.is_over.load(Ordering::SeqCst) {
-            return worker;
+            return (worker, desk.parts());
         }
         silent = silent.saturating_add(1);
         pause(silent);

@@ -30,8 +30,8 @@ returns-clause-law g c = λ r.
     let law = c.drain.ensures.law (λ s. sum_by h s) in
     let a = ap (λ (z : List Req). sum_by h z) c.unfold.ensures.added in
     let b = ap (λ (z : List Req). sum_by h z) c.unfold-2.ensures.added in
-    let none = ap (λ (z : List Req). sum_by h z) c.requires.room.left.0 in
-    let no_rests = ap (λ (z : List Span). sum_by h (numbers_of (z ++ listed rest))) c.requires.room.rests.0 in
+    let none = ap (λ (z : List Req). sum_by h z) c.room.invariant.2 in
+    let no_rests = ap (λ (z : List Span). sum_by h (numbers_of (z ++ listed rest))) c.room.invariant.0 in
     omega (
       arith,
       last_put h c.pop.new.self.items c.in-Some.first,
@@ -40,6 +40,6 @@ returns-clause-law g c = λ r.
       weighed h (view keeper).put,
       weighed h (view keeper).taken,
       weighed h c.drain.new.left.items,
-      sum_by-append h c.args.room.left.items (numbers_of c.take_in.new.rests.items),
+      sum_by-append h c.room.inside.left.items (numbers_of c.take_in.new.rests.items),
       sum_by-append h c.unfold.new.left.items (numbers_of c.drain.new.left.items),
     )

@@ -1,8 +1,8 @@
-use Rattle.std.proofs.Common.{◌≡◌, ◌+◌, ◌≤◌, All, length, vec_capacity}
+use Rattle.std.proofs.Common.{◌≡◌, ◌+◌, ◌≤◌, All, length, sum_by, vec_capacity}
 use Rattle.std.specs.Arc.{arc_value}
 use Rattle.ready.specs.Ready.{IsOf as IsOfQueue}
 use Rattle.work.specs.Board.{IsOf}
-use Rattle.runtime.specs.Crews.{AreWorking}
+use Rattle.runtime.specs.Crews.{AreWorking, shares_of}
 use Rattle.runtime.proofs.startup.start_workers.Given as goal
 
 abbrev pub invariant-loop-worker : goal.invariant-loop-worker
@@ -11,6 +11,7 @@ invariant-loop-worker g l = record {
   passes : All (λ p. IsOfQueue (arc_value l.shared).queue p) l.passes.items;
   pairs : length l.passes.items ≡ length l.workers.items;
   threads : AreWorking (arc_value l.shared) l.threads.items;
+  shares : shares_of l.threads.items + sum_by (λ p. p.share) l.passes.items ≡ sum_by (λ p. p.share) l.fn.passes.items;
   count : length l.threads.items + length l.workers.items ≡ length l.fn.workers.items;
   room : length l.fn.workers.items ≤ vec_capacity l.threads;
 }

@@ -1,4 +1,4 @@
-use Rattle.std.proofs.Common.{◌≤◌, sym, subst}
+use Rattle.std.proofs.Common.{◌≤◌, sym, ap, ◌∙◌, subst}
 use Rattle.work.specs.Passes.{seen_of}
 use Rattle.runtime.specs.PollTurns.{Desk}
 use Rattle.runtime.specs.Loops.{IsPolling}
@@ -18,5 +18,6 @@ loop-preserved-then-is_none g c =
         ready = before.ready;
       });
       follows = subst (λ (d : Desk). g.C.Clock.follows c.poll_round-turn.new.clock (seen_of d.poller)) (sym same) (c.poll_round-turn.ensures.follows c.loop.invariant.follows);
+      share = ap (λ (d : Desk). d.ready.share) same ∙ (c.poll_round-turn.ensures.share ∙ c.loop.invariant.share);
       outbox = (c.poll_round-turn.ensures.outbox.0, subst (λ (d : Desk). d.places ≤ c.poll_round-turn.new.outbox.places) (sym same) c.poll_round-turn.ensures.outbox.1);
     }

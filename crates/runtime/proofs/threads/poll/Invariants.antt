@@ -7,5 +7,6 @@ abbrev pub invariant-loop : goal.invariant-loop
 invariant-loop g l = record {
   desk : IsPolling l.shared l.desk;
   follows : g.C.Clock.follows l.clock (seen_of l.desk.poller);
+  share : l.desk.ready.share ≡ l.fn.desk.ready.share;
   outbox : (l.outbox.answered ≡ []) × (l.desk.places ≤ l.outbox.places);
 }
