@@ -36,6 +36,7 @@ impl Model for FactsWord {
 const PAYLOAD: u64 = 0x2_0000_0000;
 
 /// The word's 64 bits.
+#[inline(always)]
 pub fn pack_facts(word: FactsWord) -> u64
     ensures packed { result ≡ packed_facts word }
     ensures fits { IsTrue (fits_facts word) }
@@ -56,6 +57,7 @@ pub fn with_outcome(word: u64, failed: bool) -> u64
 }
 
 /// What the 64 bits say.
+#[inline(always)]
 pub fn unpack_facts(word: u64) -> FactsWord
     ensures packed { packed_facts result ≡ word }
     ensures fits { IsTrue (fits_facts result) }

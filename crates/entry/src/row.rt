@@ -136,6 +136,7 @@ impl Offset {
 
 impl Op {
     /// The operation's row of the table of opcodes, with its values in the free places.
+    #[inline(always)]
     pub fn row(self) -> Row
         ensures { result ≡ table_row self }
     {
@@ -143,6 +144,7 @@ impl Op {
     }
 
     /// Whether the values are those that the row allows.
+    #[inline(always)]
     pub fn fits(self) -> bool
         ensures { result ≡ fits_op self }
     {
@@ -150,6 +152,7 @@ impl Op {
     }
 
     /// The bits that the flags byte of such an entry may have.
+    #[inline(always)]
     pub fn allowed_flags(self) -> u8
         ensures { result ≡ allowed_flags self }
     {
@@ -157,6 +160,7 @@ impl Op {
     }
 
     /// Whether an entry of this operation may have this row and these flags.
+    #[inline(always)]
     pub fn is_written_as(self, row: &Row, flags: u8) -> bool
         ensures { IsTrue result ↔ (IsTrue (fits_op self) × (bit_and flags (allowed_flags self) ≡ flags) × (table_row self ≡ row.now)) }
     {
@@ -167,6 +171,7 @@ impl Op {
 impl Row {
     /// The operation of this opcode with the values that stand in its free places: the only one whose row this may be.
     /// Invalid where no row of the table has this opcode.
+    #[inline(always)]
     pub fn candidate(&self) -> Op
         ensures only { (op : Op) → IsTrue (fits_op op) → table_row op ≡ self.now → result ≡ op }
         ensures opcode { IsTrue (is_valid result) → (table_row result).opcode ≡ self.now.opcode }

@@ -94,6 +94,7 @@ impl Sqe {
 
     /// The entry that a row with these flags and this user_data stands for: Invalid where the values are not those that
     /// the table allows.
+    #[inline(always)]
     pub fn of_row(row: Row, flags: u8, user_data: u64) -> Sqe
         ensures says { Says (layout row flags user_data) result }
         ensures fits { IsTrue (fits result) }
@@ -111,6 +112,18 @@ impl Sqe {
             }
         } else {
             Sqe::invalid(flags, user_data)
+        }
+    }
+
+    /// The same entry with this user_data.
+    pub fn with_user_data(self, user_data: u64) -> Sqe
+        ensures { result ≡ record { user_data = user_data; flags = self.flags; op = self.op } }
+    {
+        let Sqe { flags, op, .. } = self;
+        Sqe {
+            user_data,
+            flags,
+            op,
         }
     }
 

@@ -32,6 +32,7 @@ macro_rules! given {
 }
 
 /// The entry that a row stands for, without flags and user_data.
+#[inline(always)]
 fn entry_of(row: Row) -> Sqe
     ensures { IsOfRow row result }
 {
@@ -118,5 +119,5 @@ pub fn with_flags(sqe: Sqe, flags: u8) -> Sqe
 pub fn with_user_data(sqe: Sqe, user_data: u64) -> Sqe
     ensures { result ≡ record { user_data = user_data; flags = sqe.flags; op = sqe.op } }
 {
-    Sqe::of_row(sqe.row(), sqe.flags().bits(), user_data)
+    sqe.with_user_data(user_data)
 }

@@ -42,12 +42,13 @@ impl Model for Grid {
 }
 
 /// The quotient of a number by a ring's number of cells, and the rest: without a division where that is a power of two.
+#[inline(always)]
 pub fn divided(k: u64, cells: u64) -> (u64, u64)
     requires { 0 < cells }
     ensures { (result.0 ≡ k / cells) × (result.1 ≡ k % cells) }
 {
     let shift = cells.trailing_zeros();
-    if shift < 64 && 1 << shift == cells {
+    if 1 << shift == cells {
         (k >> shift, k & (cells - 1))
     } else {
         (k / cells, k % cells)
