@@ -1,5 +1,6 @@
 pub mod ShapeBounds
 pub mod NewPasses
+pub mod PassLists
 pub mod TakenCells
 pub mod ShutAndCuts
 pub mod GoesLaws

@@ -5,16 +5,13 @@ use lib.ListN.{get_elem?}
 use Rattle.std.proofs.lemmas.List.{append_assoc, map-append, reverse-append}
 use Rattle.std.proofs.lemmas.List.{length-map}
 use Rattle.std.proofs.lemmas.Option.{none-some}
-use Rattle.work.specs.Board.{Facts, IsOf}
-use Rattle.work.specs.Passes.{Pass}
+use Rattle.work.specs.Board.{Facts}
 use Rattle.steps.specs.declared.view.Role.{Role}
 use Rattle.steps.specs.declared.view.Role.TheVariants.{Submitter}
 use Rattle.board.specs.declared.shape.RingShape.{RingShape}
-use Rattle.board.specs.New.{AreSubmitters, IsFresh}
-use Rattle.board.specs.Reports.{AreOf}
 use Rattle.board.specs.ShapeLimits.{counts}
 use Rattle.board.proofs.TakenCells.{some_get}
-use Rattle.bell.specs.BellPasses.{Facts as Bell, IsNew, Ringing, Sleeping, new_ringing}
+use Rattle.bell.specs.BellPasses.{Facts as Bell, IsNew, IsRingerOf, Ringing, Sleeping, new_ringing}
 use Rattle.runtime.specs.StartParts.{AreRingers, IsNewRinger}
 use Rattle.runtime.specs.Clients.{ClientFacts, AreClients, AreNewClients, IsNewClient, submitter_of, without_tail}
 
@@ -22,18 +19,6 @@ use Rattle.runtime.specs.Clients.{ClientFacts, AreClients, AreNewClients, IsNewC
 pub none_first : {X : Type 0} (xs : List X) → slice_get xs 0 ≡ None → xs ≡ []
 none_first [] none = refl
 none_first (x ∷ xs) none = absurd (none-some x (sym none))
-
--- passes of a board, each by itself
-pub are_of : (b : Facts) (ps : List Pass) → All (λ p. IsOf b p) ps → AreOf b ps
-are_of b [] all = tt
-are_of b (p ∷ ps) all = (all 0 p (omega arith), are_of b ps (λ k d lt. all (suc k) d (omega (arith, lt))))
-
--- the last of the submitters
-pub last_submitter : (b : Facts) (n : ℕ) (ps : List Pass) (p : Pass) → AreSubmitters b n (ps ++ p ∷ []) → AreSubmitters b n ps × IsFresh b (Submitter (n + length ps)) p
-last_submitter b n [] p s = (tt, subst (λ (k : ℕ). IsFresh b (Submitter k) p) (omega arith) s.0)
-last_submitter b n (q ∷ ps) p s =
-    let rest = last_submitter b (suc n) ps p s.1 in
-    ((s.0, rest.0), subst (λ (k : ℕ). IsFresh b (Submitter k) p) (omega arith) rest.1)
 
 -- the ringers of a new bell, from the ring n on
 ringers_from : (b : Bell) (n : ℕ) (rs : List Ringing) → ((k : ℕ) → k < length rs → get_elem? rs k ≡ some (new_ringing b.table (n + k))) → n + length rs ≡ b.rings → AreRingers b n rs
@@ -48,6 +33,13 @@ new_ringers rings b rs s new =
     let each : (k : ℕ) → k < length rs → get_elem? rs k ≡ some (new_ringing b.table (0 + k)) = λ k lt.
     subst (λ (m : ℕ). get_elem? rs k ≡ some (new_ringing b.table m)) (omega arith) (new.each k (subst (λ (m : ℕ). k < m) new.count lt)) in
     ringers_from b 0 rs each (let count = new.count in let same = new.rings_are in omega (arith, count, same))
+
+-- they are the bell's own, and have stored nothing
+pub ringers_of : (rings : ℕ) (b : Bell) (rs : List Ringing) (s : Sleeping) → IsNew rings b rs s → All (λ r. IsRingerOf b r × (r.tail ≡ 0)) rs
+ringers_of rings b rs s new k d lt =
+    let below : k < rings = subst (λ (n : ℕ). k < n) new.count lt in
+    let found : get_or rs k d ≡ new_ringing b.table k = some_get rs k (new_ringing b.table k) d (new.each k below) in
+    subst (λ (r : Ringing). IsRingerOf b r × (r.tail ≡ 0)) (sym found) ((refl, subst (λ (n : ℕ). k < n) (sym new.rings_are) below), refl)
 
 -- the last of the ringers
 pub last_ringer : (b : Bell) (n : ℕ) (rs : List Ringing) (r : Ringing) → AreRingers b n (rs ++ r ∷ []) → AreRingers b n rs × IsNewRinger b (n + length rs) r

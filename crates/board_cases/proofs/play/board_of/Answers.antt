@@ -1,4 +1,4 @@
-use Rattle.board_cases.proofs.PassLists.{submitters_of, workers_of}
+use Rattle.board.proofs.PassLists.{submitters_of, workers_of}
 use Rattle.board_cases.proofs.play.board_of.Goals as goal
 
 pub returns : goal.returns

@@ -1,4 +1,4 @@
-use Rattle.board_cases.proofs.PassLists.{are_of}
+use Rattle.board.proofs.PassLists.{are_of}
 use Rattle.board_cases.proofs.play.end.Goals as goal
 
 pub finish-requires-clause-submitters : goal.finish-requires-clause-submitters

@@ -1,5 +1,5 @@
 use Rattle.work.specs.Board.{IsOf}
-use Rattle.board_cases.proofs.PassLists.{pushed}
+use Rattle.board.proofs.PassLists.{pushed}
 use Rattle.board_cases.proofs.play.put_back.Goals as goal
 
 pub returns-in-Some : goal.returns-in-Some

@@ -1,4 +1,4 @@
-use Rattle.runtime.proofs.NewParts.{ringers_of}
+use Rattle.runtime.proofs.RuntimeParts.{ringers_of}
 use Rattle.runtime.proofs.stage.bell_of.Goals as goal
 
 pub returns-clause-ringers : goal.returns-clause-ringers

@@ -1,4 +1,4 @@
-use Rattle.runtime.proofs.NewParts.{submitters_of, workers_of}
+use Rattle.board.proofs.PassLists.{submitters_of, workers_of}
 use Rattle.runtime.proofs.stage.board_of.Goals as goal
 
 pub returns-clause-submitters : goal.returns-clause-submitters

@@ -8,7 +8,8 @@ use Rattle.board.specs.New.{AreSubmitters, IsFresh}
 use Rattle.runtime.specs.StartParts.{AreRingers}
 use Rattle.runtime.specs.Clients.{AreNewClients, IsNewClient}
 use Rattle.runtime.specs.declared.shared.Shared.{Shared}
-use Rattle.runtime.proofs.RuntimeParts.{last_ringer, last_submitter, more_clients, same_ring}
+use Rattle.board.proofs.PassLists.{last_submitter}
+use Rattle.runtime.proofs.RuntimeParts.{last_ringer, more_clients, same_ring}
 use Rattle.runtime.proofs.startup.clients_of.Goals as goal
 
 pub new-requires-clause-submitter : goal.new-requires-clause-submitter

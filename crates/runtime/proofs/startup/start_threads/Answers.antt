@@ -10,7 +10,7 @@ use Rattle.runtime.specs.Clients.{AreClients}
 use Rattle.runtime.specs.Loops.{IsPolling}
 use Rattle.runtime.specs.PollTurns.{IsPollers}
 use Rattle.runtime.specs.declared.shared.Shared.{Shared}
-use Rattle.runtime.proofs.NewParts.{workers_of}
+use Rattle.board.proofs.PassLists.{workers_of}
 use Rattle.runtime.proofs.RuntimeParts.{new_clients}
 use Rattle.runtime.proofs.startup.start_threads.Goals as goal
 

@@ -1,4 +1,4 @@
-use Rattle.runtime_bench.proofs.PassLists.{submitters_of, workers_of}
+use Rattle.board.proofs.PassLists.{submitters_of, workers_of}
 use Rattle.runtime_bench.proofs.board_path.board_of.Goals as goal
 
 pub returns-in-Ok-clause-submitters : goal.returns-in-Ok-clause-submitters

@@ -5,7 +5,7 @@ use Rattle.ready.specs.Ready.{Moves, IsOf as IsOfQueue}
 use Rattle.std.specs.Arc.{arc_value}
 use Rattle.board.specs.Reports.{AreOf}
 use Rattle.runtime.specs.Crews.{Crew}
-use Rattle.runtime.proofs.RuntimeParts.{are_of}
+use Rattle.board.proofs.PassLists.{are_of}
 use Rattle.runtime.proofs.started.Stopped.parts.Goals as goal
 
 pub returns-clause-workers : goal.returns-clause-workers

@@ -1,9 +1,11 @@
--- Lists of a board's passes.
-use Rattle.std.proofs.Common.{ℕ, zero, suc, Bool, true, false, List, [], ◌∷◌, ◌++◌, All, if◌then◌else◌, arith}
+-- Lists of a board's passes: those of a new board, and those that are handed in at its end.
+use Rattle.std.proofs.Common.{ℕ, zero, suc, ◌+◌, Bool, true, false, List, [], ◌∷◌, ◌++◌, All, length, if◌then◌else◌, subst, arith}
 use Rattle.std.proofs.lemmas.List.Elements.{All-push}
+use Rattle.steps.specs.declared.view.Role.{Role}
+use Rattle.steps.specs.declared.view.Role.TheVariants.{Submitter}
 use Rattle.work.specs.Board.{Facts, IsOf}
 use Rattle.work.specs.Passes.{Pass}
-use Rattle.board.specs.New.{AreSubmitters, AreWorkers}
+use Rattle.board.specs.New.{AreSubmitters, AreWorkers, IsFresh}
 use Rattle.board.specs.Reports.{AreOf}
 
 -- new passes are the board's own
@@ -16,6 +18,13 @@ pub workers_of : (b : Facts) (ps : List Pass) → AreWorkers b ps → All (λ p.
 workers_of b [] s k d lt = absurd (omega (arith, lt))
 workers_of b (p ∷ ps) s zero d lt = s.0.0
 workers_of b (p ∷ ps) s (suc k) d lt = workers_of b ps s.1 k d (omega (arith, lt))
+
+-- the last of the submitters
+pub last_submitter : (b : Facts) (n : ℕ) (ps : List Pass) (p : Pass) → AreSubmitters b n (ps ++ p ∷ []) → AreSubmitters b n ps × IsFresh b (Submitter (n + length ps)) p
+last_submitter b n [] p s = (tt, subst (λ (k : ℕ). IsFresh b (Submitter k) p) (omega arith) s.0)
+last_submitter b n (q ∷ ps) p s =
+    let rest = last_submitter b (suc n) ps p s.1 in
+    ((s.0, rest.0), subst (λ (k : ℕ). IsFresh b (Submitter k) p) (omega arith) rest.1)
 
 -- all of them, as the board asks for it
 pub are_of : (b : Facts) (ps : List Pass) → All (λ p. IsOf b p) ps → AreOf b ps
