@@ -256,7 +256,9 @@ pass_more old s t b a c end p before same lane kept x linked = let y = p.looks i
 }
 
 -- no request is of a later generation than the last that a cell can have
-pub last_generation : (next count n : ℕ) → 0 < n → next ≤ 16777215 * n → count ≤ n → 0 < count → 16777215 ≤ (next + (count - 1)) / n → (next + (count - 1)) / n ≡ 16777215
-last_generation next count n least few fits some le = let k : ℕ = next + (count - 1) in let e : 16777216 * n ≡ 16777215 * n + n = suc-mul 16777215 n in
-    let lt : k < 16777216 * n = (let m : ℕ = 16777215 * n in let o : ℕ = 16777216 * n in let e' : o ≡ m + n = e in let f : next ≤ m = few in let r : k < o = omega arith in r) in
-    let z : k / n < 16777216 = (div-lt_iff_lt-mul {k = n} {x = k} {y = 16777216} least).1 lt in omega arith
+pub last_generation : (next count n : ℕ) → 0 < n → next ≤ 16777215 * n → count ≤ n → 16777215 * n < next + count → (next + (count - 1)) / n ≡ 16777215
+last_generation next count n least few fits over = let k : ℕ = next + (count - 1) in let e : 16777216 * n ≡ 16777215 * n + n = suc-mul 16777215 n in
+    let lt : k < 16777216 * n = (let m : ℕ = 16777215 * n in let o : ℕ = 16777216 * n in let e' : o ≡ m + n = e in let f : next ≤ m = few in let g : m < next + count = over in let r : k < o = omega arith in r) in
+    let ge : 16777215 * n ≤ k = (let m : ℕ = 16777215 * n in let g : m < next + count = over in let r : m ≤ k = omega arith in r) in
+    let z : k / n < 16777216 = (div-lt_iff_lt-mul {k = n} {x = k} {y = 16777216} least).1 lt in
+    ⊎_elim (λ (early : k / n < 16777215). absurd (let before : k < 16777215 * n = (div-lt_iff_lt-mul {k = n} {x = k} {y = 16777215} least).0 early in omega arith)) (λ (late : 16777215 ≤ k / n). omega arith) (cases_lt (k / n) 16777215)

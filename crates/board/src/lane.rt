@@ -22,7 +22,6 @@ use entry::Sqe;
 use history::Req;
 use steps::facts::is_link_timeout;
 use steps::{TableSeat, Words, seat};
-use work::grid::divided;
 use work::{Grid, Spot};
 
 /// The last generation of a cell's word. No request has it.
@@ -217,7 +216,7 @@ pub(crate) fn room(
     if !pass_chains(words, seat, lane, grid, end) {
         return Err(SubmitError::Full);
     }
-    if count > 0 && divided(lane.next + (count - 1), cells).0 >= LAST_GENERATION {
+    if lane.next + count > cells * LAST_GENERATION {
         return Err(SubmitError::Spent);
     }
     Ok(())

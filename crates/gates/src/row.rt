@@ -102,6 +102,7 @@ impl Row {
     }
 
     /// The same for an entry of which these traits are known.
+    #[inline(always)]
     pub fn add_traits(&mut self, traits: Traits, last: bool) -> Result<u64, RowFull>
         requires { added self.old < 2 ^ 64 - 1 }
         ensures number { IfOk result (λ k. k ≡ added self.old) }

@@ -27,16 +27,17 @@ returns-then-not-pass_chains-clause-refused c = let t : TableSeat = c.pass_chain
     let size : c.cells_in-cells.result ≡ n = c.cells_in-cells.ensures ∙ ap (cells_in c.args.grid.now) c.from.ensures in
     inr ((a.done + n - next, (let lt = o.0 in let e = c.saturating_sub-end.ensures in omega arith), λ free. o.1 (free (nth c.args.lane.now.ring a.done) refl at).1), o.2)
 
-pub returns-then-divided-ge-LAST_GENERATION-clause-refused : goal.returns-then-divided-ge-LAST_GENERATION-clause-refused
-returns-then-divided-ge-LAST_GENERATION-clause-refused c = let t : TableSeat = c.pass_chains.new.seat in let a : Lane = c.pass_chains.new.lane in let h = c.if-not-pass_chains.ensures in
+pub returns-then-lane-count-clause-refused : goal.returns-then-lane-count-clause-refused
+returns-then-lane-count-clause-refused c = let t : TableSeat = c.pass_chains.new.seat in let a : Lane = c.pass_chains.new.lane in let h = c.if-not-pass_chains.ensures in
     let cells : c.args.grid.now ≡ t.me.0.layout.cells = c.requires.over.cells_are ∙ ap (λ (L : Layout). L.cells) (sym (watched_layout h.looks.0 c.args.seat.now.me.0 t.me.0 h.looks.2).0) in
-    let n : ℕ = cells_in c.args.grid.now c.args.lane.now.ring in let next = c.args.lane.now.next in let size : c.cells_in-cells.result ≡ n = c.cells_in-cells.ensures ∙ ap (cells_in c.args.grid.now) c.from.ensures in
+    let n : ℕ = cells_in c.args.grid.now c.args.lane.now.ring in let next = c.args.lane.now.next in let count = c.args.count in let size : c.cells_in-cells.result ≡ n = c.cells_in-cells.ensures ∙ ap (cells_in c.args.grid.now) c.from.ensures in
     let same : a.next ≡ next = ap (λ (b : Lane). b.next) h.kept in let end = h.passed refl in
     let few : next ≤ 16777215 * n = subst (λ (K : List ℕ). next ≤ 16777215 * cells_in K c.args.lane.now.ring) (sym c.requires.over.cells_are) c.requires.lane.0.few in
-    let fits : c.args.count ≤ n = (let f = c.if-count-cells.false in omega arith) in let some = c.if-count-gt0.true in let least : 0 < n = omega arith in
-    let high : 16777215 ≤ (next + (c.args.count - 1)) / n = subst (λ (z : ℕ × ℕ). 16777215 ≤ (z.0 + (c.args.count - 1)) / z.1) (λ i. (same i, size i)) (subst (λ (z : ℕ). 16777215 ≤ z) c.divided.ensures.0 c.if-divided-ge-LAST_GENERATION.true) in (
+    let fits : count ≤ n = (let f = c.if-count-cells.false in omega arith) in
+    let over : 16777215 * n < next + count = subst (λ (z : ℕ × ℕ). 16777215 * z.1 < z.0 + count) (λ i. (same i, size i)) (let f = c.if-lane-count.true in omega arith) in
+    let some : 0 < count = omega arith in let least : 0 < n = omega arith in (
       c.in_default.ensures.none t a h.kept h.lane cells (let e = c.saturating_sub-end.ensures in omega arith),
-      (c.args.count - 1, omega arith, last_generation next c.args.count n least few fits some high),
+      (count - 1, omega arith, last_generation next count n least few fits over),
     )
 
 pub returns-clause-free : goal.returns-clause-free
