@@ -28,6 +28,23 @@ pub struct Unjoined<C: Clock> {
     pub clients: Vec<Client>,
 }
 
+impl<C: Clock + Drop> Unjoined<C> {
+    /// Ends the threads after all, without a report, and tells why there is none: all threads are told to end, and it waits for them.
+    /// It needs no memory. The poller is told by the client of ring 0, and where that one is missing this waits on.
+    pub fn abandon<R: Threads>(self, rt: &R) -> JoinError
+        ensures { result ≡ self.error }
+    {
+        let Unjoined {
+            error,
+            runtime,
+            mut clients,
+        } = self;
+        tell_end(&mut clients);
+        drop(runtime.stop(rt));
+        error
+    }
+}
+
 /// The passes of the clients of this board, in order. There is room for them.
 fn submitters_of(
     board: &Board,

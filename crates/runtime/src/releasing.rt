@@ -67,7 +67,8 @@ fn release<R: Wait>(
     Ok(())
 }
 
-/// Goes over the requests that wait for another, in order, as long as the numbers find their places.
+/// Goes over the requests that wait for another, in order, as long as the numbers find their places. After `Memory` those that it
+/// didn't come to wait on, in their order.
 pub(crate) fn release_waiting<R: Wait>(
     rt: &R,
     board: &Board,
@@ -82,17 +83,18 @@ pub(crate) fn release_waiting<R: Wait>(
     ensures rings { length lists.new.rings.items ≡ length lists.old.rings.items }
 {
     let limit = limit_of(lists.waiting.len() as u64, hands.workers);
+    let mut outcome = Ok(());
     for _n in 0..lists.waiting.len() {
         let Some(req) = lists.waiting.take() else {
             break;
         };
-        if hands.is_free() {
-            release(rt, board, queue, hands, lists, outbox, req, limit)?;
+        if outcome.is_ok() && hands.is_free() {
+            outcome = release(rt, board, queue, hands, lists, outbox, req, limit);
         } else {
             lists.waiting.put(req);
         }
     }
-    Ok(())
+    outcome
 }
 
 /// Takes up the ring's new requests, in order, up to the tail, as long as the numbers find their places and there is a

@@ -34,11 +34,11 @@ in_order c b xs ys zs s out went = record {
   rings = λ k d lt. (let l = out.0 in let m = went.0 in (went.1 k d d (omega arith)).stayed.ring ∙ ((out.1 k d d (omega arith)).ring ∙ s.order.rings k d (omega arith)));
 }
 
-pub are_carried : (c : Script) (b : Facts) (xs ys zs : List Hand) → AreStarting c b xs → AllCarriedOut c xs ys → AllWent ys zs → All (λ h. h.halt ≡ None) zs → All (λ h. IsCarried c h) zs
+pub are_carried : (c : Script) (b : Facts) (xs ys zs : List Hand) → AreStarting c b xs → AllCarriedOut c xs ys → AllWent ys zs → All (λ h. h.halt ≡ None) ys → All (λ h. IsCarried c h) zs
 are_carried c b xs ys zs s out went none k d lt =
     let l = out.0 in let m = went.0 in
     let w = went.1 k d d (omega arith) in
-    let x = (out.1 k d d (omega arith)).carried (s.new k d (omega arith)).0 (sym w.halt ∙ none k d lt) in
+    let x = (out.1 k d d (omega arith)).carried (s.new k d (omega arith)).0 (none k d (omega arith)) in
     record { through = λ v at. w.at c v.items 0 (x.through v (ap (slice_get c.acts.items) (sym w.stayed.ring) ∙ at)); taken = w.stayed.taken x.taken }
 
 pub of_board : (b : Facts) (hands : List Hand) → AreInOrder b hands → AreClients b (map client_of hands)

@@ -1,15 +1,14 @@
-//! Whether the threads of all rings have begun.
-use std::sync::atomic::{AtomicU64, Ordering};
+//! Whether the threads of all rings have begun, and whether all are to stop.
+use std::sync::Wait;
+use std::sync::atomic::{AtomicBool, AtomicU64, Ordering};
 use std::thread;
 
-/// How often a thread looks whether all have begun before it takes it that one was refused.
-const LOOKS: u32 = 10_000_000;
-
-/// How many rings a run has, and the threads of how many have begun.
+/// How many rings a run has, the threads of how many have begun, and whether all are to stop.
 #[derive(Drop)]
 pub(crate) struct Gate {
     rings: u64,
     begun: AtomicU64,
+    is_stopped: AtomicBool,
 }
 
 impl Gate {
@@ -18,18 +17,35 @@ impl Gate {
         Gate {
             rings,
             begun: AtomicU64::new(0),
+            is_stopped: AtomicBool::new(false),
         }
     }
 
-    /// A thread has begun, and waits until all have. False where they hadn't after many looks.
-    pub fn pass(&self) -> bool {
+    /// Tells the threads of all rings to stop. Those that haven't passed the gate never do.
+    pub fn stop(&self) {
+        self.is_stopped.store(true, Ordering::SeqCst);
+    }
+
+    /// Whether all are to stop.
+    pub fn is_stopped(&self) -> bool {
+        self.is_stopped.load(Ordering::SeqCst)
+    }
+
+    /// A thread has begun, and waits until all have. False where they are told to stop before that.
+    pub fn pass<R: Wait>(&self, rt: &R) -> bool {
+        if self.is_stopped() {
+            return false;
+        }
         self.begun.fetch_add(1, Ordering::SeqCst);
-        for _look in 0..LOOKS {
+        for _ in rt.forever() {
             if self.begun.load(Ordering::SeqCst) == self.rings {
                 return true;
             }
+            if self.is_stopped() {
+                return false;
+            }
             thread::yield_now();
         }
-        false
+        unreachable!()
     }
 }

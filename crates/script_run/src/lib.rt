@@ -12,6 +12,7 @@ pub mod run;
 mod stage;
 #[cfg(test)]
 mod tests;
+mod threads;
 mod watch;
 
 pub use fault::RunFault;

@@ -22,6 +22,8 @@ pub(crate) enum Halt {
     Memory,
     /// The threads didn't all begin.
     Thread,
+    /// Another ring stopped for one of the reasons above.
+    Stopped,
 }
 
 impl From<AllocError> for Halt {
@@ -36,12 +38,26 @@ impl<T: Drop> From<AllocFailed<T>> for Halt {
     }
 }
 
-/// Carries the lines of a ring out, once the threads of all rings have begun.
+impl Halt {
+    /// Whether the other rings are to stop too.
+    fn stops_all(self) -> bool {
+        match self {
+            Halt::Stuck(_) | Halt::Stopped => false,
+            Halt::Refused | Halt::Memory | Halt::Thread => true,
+        }
+    }
+}
+
+/// Carries the lines of a ring out, once the threads of all rings have begun. Where it is stopped for want of memory, or refused, it
+/// tells the others to stop.
 pub(crate) fn carry_out<R: Wait>(rt: &R, stage: &Stage<'_>, mut hand: Hand) -> Hand
     requires { AreHomes stage.now.script.now stage.now.homes.now }
     ensures { CarriedOut stage.now.script.now hand result }
 {
     if let Err(halt) = carry_lines(rt, stage, &mut hand) {
+        if halt.stops_all() {
+            stage.gate.stop();
+        }
         hand.halt = Some(halt);
     }
     hand
@@ -53,7 +69,7 @@ fn carry_lines<R: Wait>(rt: &R, stage: &Stage<'_>, hand: &mut Hand) -> Result<()
     ensures same { (hand.new.client.board ≡ hand.old.client.board) × (hand.new.client.ring ≡ hand.old.client.ring) }
     ensures carried { OnOk result (IsNewHand stage.now.script.now hand.old → IsCarried stage.now.script.now hand.new) }
 {
-    if !stage.gate.pass() {
+    if !stage.gate.pass(rt) {
         return Err(Halt::Thread);
     }
     let Some(lines) = stage.script.acts.get(usize::from(hand.client.ring())) else {
@@ -79,7 +95,7 @@ fn carry_line<R: Wait>(rt: &R, stage: &Stage<'_>, hand: &mut Hand, act: &Act) ->
 }
 
 /// Submits the entries at these places as one batch. Where a cell isn't free it is tried again, and before each further try the
-/// completions that are there are taken.
+/// completions that are there are taken. No try is made once all rings are to stop.
 fn submit_line<R: Wait>(
     rt: &R,
     stage: &Stage<'_>,
@@ -94,6 +110,9 @@ fn submit_line<R: Wait>(
     };
     let mut batch = batch_of(stage, places)?;
     for _try in 0..stage.turns {
+        if stage.gate.is_stopped() {
+            return Err(Halt::Stopped);
+        }
         batch = match hand.try_submit(batch) {
             Tried::Submitted => return Ok(()),
             Tried::Refused => return Err(Halt::Refused),
@@ -120,7 +139,8 @@ fn batch_of(stage: &Stage<'_>, places: &[u32]) -> Result<Batch, Halt>
     Ok(batch)
 }
 
-/// Waits for the reply to the entry at a place. At each try the completions that are there are taken.
+/// Waits for the reply to the entry at a place. At each try the completions that are there are taken. No try is made once all rings
+/// are to stop.
 fn wait<R: Wait>(rt: &R, stage: &Stage<'_>, hand: &mut Hand, place: u32) -> Result<(), Halt>
     requires { AreHomes stage.now.script.now stage.now.homes.now }
     ensures same { (hand.new.client.board ≡ hand.old.client.board) × (hand.new.client.ring ≡ hand.old.client.ring) }
@@ -130,6 +150,9 @@ fn wait<R: Wait>(rt: &R, stage: &Stage<'_>, hand: &mut Hand, place: u32) -> Resu
         return Err(Halt::Refused);
     };
     for _try in 0..stage.turns {
+        if stage.gate.is_stopped() {
+            return Err(Halt::Stopped);
+        }
         hand.take_all(rt)?;
         if hand.sees_reply(req) {
             return Ok(());

@@ -1,29 +1,34 @@
 //! A script carried out.
-ghost use Rattle.std.specs.Prelude.{◌≡◌, [], None, All, length, map, IfOk};
+ghost use Rattle.std.specs.Prelude.{◌≡◌, ◌≤◌, [], ◌∷◌, ◌++◌, List, None, All, length, map, vec_capacity, IfOk, IfSome};
+ghost use Rattle.steps.specs.declared.view.Role.TheVariants.{Poller};
+ghost use Rattle.work.specs.Passes.{Pass, seen_of};
+ghost use Rattle.board.specs.Reports.{IsReport};
+ghost use Rattle.runtime.specs.Clients.{AreClients, submitter_of};
 ghost use Rattle.script.specs.Homes.{AreHomes};
 ghost use Rattle.script.specs.Rows.{rows_of};
 ghost use Rattle.script.specs.Tables.{IsTableOf};
-ghost use Rattle.script_run.specs.Hands.{AreNew, AllCarriedOut, client_of, taken_by};
-ghost use Rattle.script_run.specs.ClockLines.{AreClockLines};
+ghost use Rattle.script_run.specs.Hands.{AreNew, AllWent, client_of, taken_by};
+ghost use Rattle.script_run.specs.ClockLines.{AreClockLines, IsAlong};
 ghost use Rattle.script_run.specs.Played.{AreStarting, IsPlayed, IsStartedFor};
 
 use crate::clock::{ClockLine, LineClock, lines_of};
 use crate::fault::RunFault;
 use crate::gate::Gate;
 use crate::hand::Hand;
-use crate::lines::{Halt, carry_out};
+use crate::lines::Halt;
 use crate::parks::{Counted, Parks};
 use crate::rows::table_of;
 use crate::stage::Stage;
+use crate::threads::carry_all;
 use crate::watch::{Watch, go_on};
 use board::{Completion, Report, RingShape, Shape};
 use controls::Turnstile;
 use history::Req;
-use runtime::{Client, Runtime, Unjoined, join_with_clock, start};
+use runtime::{Client, Runtime, join_with_clock, start};
 use script::{Script, Table, homes_of};
 use std::alloc::{AllocError, Global};
 use std::sync::{Arc, Wait};
-use std::thread::{Threads, map_vec};
+use std::thread::Threads;
 
 /// After how many idle turns in a row the poller sleeps.
 const IDLE: u32 = 64;
@@ -47,7 +52,10 @@ pub fn run_script<
 {
     let homes = homes_of(alloc, script)?;
     let shape = shape_of(alloc, script, workers)?;
-    let hands = Vec::with_capacity(alloc, script.rings.len())?;
+    let room = Room {
+        hands: Vec::with_capacity(alloc, script.rings.len())?,
+        clients: Vec::with_capacity(alloc, script.rings.len())?,
+    };
     let lines = lines_of(alloc, script, homes.as_slice())?;
     let (clock, progress) = LineClock::new(
         alloc,
@@ -73,27 +81,40 @@ pub fn run_script<
         turns,
         gate: &gate,
     };
-    run_lines(rt, &stage, watch, runtime, clients, hands, lines.as_slice())
+    run_lines(rt, &stage, watch, runtime, clients, room, lines.as_slice())
 }
 
-/// Carries all lines out on a runtime that was started for the script, and gives the table. There is room for its hands.
+/// Empty lists with room for the hands of all rings, and for their clients, so that once the threads have started no list of them
+/// needs memory.
+#[derive(Drop)]
+struct Room {
+    hands: Vec<Hand>,
+    clients: Vec<Client>,
+}
+
+/// Carries all lines out on a runtime that was started for the script, and gives the table. There is room for its hands and clients.
 fn run_lines<R: Threads + Wait + Sync>(
     rt: &R,
     stage: &Stage<'_>,
     watch: Watch,
     runtime: Runtime<LineClock>,
     clients: Vec<Client>,
-    hands: Vec<Hand>,
+    room: Room,
     lines: &[ClockLine],
 ) -> Result<Table, RunFault>
     requires homes { AreHomes stage.now.script.now stage.now.homes.now }
     requires started { IsStartedFor stage.now.script.now runtime clients.items }
-    requires none { hands.items ≡ [] }
+    requires hands { (room.hands.items ≡ []) × (length clients.items ≤ vec_capacity room.hands) }
+    requires clients { (room.clients.items ≡ []) × (length clients.items ≤ vec_capacity room.clients) }
     requires lines { AreClockLines stage.now.script.now stage.now.script.now.clock.items lines.now }
     ensures { IfOk result (λ table. IsTableOf stage.now.script.now (rows_of table)) }
 {
-    let hands = hands_of(stage.alloc, clients, hands)?;
-    let (taken, report) = play(rt, stage, watch, runtime, hands, lines)?;
+    let Room {
+        hands,
+        clients: back,
+    } = room;
+    let hands = hands_of(stage.alloc, clients, hands);
+    let (taken, report) = play(rt, stage, watch, runtime, hands, back, lines)?;
     table_of(
         stage.alloc,
         stage.script,
@@ -121,85 +142,108 @@ fn shape_of(alloc: Global, script: &Script, workers: u32) -> Result<Shape, Alloc
     })
 }
 
-/// The hands of these clients, in order.
-fn hands_of(
-    alloc: Global,
-    mut clients: Vec<Client>,
-    mut hands: Vec<Hand>,
-) -> Result<Vec<Hand>, AllocError>
-    requires { hands.items ≡ [] }
-    ensures clients { IfOk result (λ v. map client_of v.items ≡ clients.items) }
-    ensures new { IfOk result (λ v. AreNew v.items) }
+/// The hands of these clients, in order. There is room for them.
+fn hands_of(alloc: Global, mut clients: Vec<Client>, mut hands: Vec<Hand>) -> Vec<Hand>
+    requires none { hands.items ≡ [] }
+    requires room { length clients.items ≤ vec_capacity hands }
+    ensures clients { map client_of result.items ≡ clients.items }
+    ensures new { AreNew result.items }
+    ensures room { length result.items ≤ vec_capacity result }
 {
     clients.reverse();
     while let Some(client) = clients.pop() {
-        hands.push(Hand::new(alloc, client))?;
+        hands.push_reserved(Hand::new(alloc, client));
     }
-    Ok(hands)
+    hands
 }
 
 /// Carries all lines out, and ends the runtime: the completions that the clients took, and the report of all others. These are the
-/// lines of the script's clock.
+/// lines of the script's clock, and there is room for the clients. Whatever comes, all threads have ended.
 fn play<R: Threads + Wait + Sync>(
     rt: &R,
     stage: &Stage<'_>,
     mut watch: Watch,
     runtime: Runtime<LineClock>,
     hands: Vec<Hand>,
+    clients: Vec<Client>,
     lines: &[ClockLine],
 ) -> Result<(Vec<Completion>, Report), RunFault>
     requires homes { AreHomes stage.now.script.now stage.now.homes.now }
     requires hands { AreStarting stage.now.script.now runtime hands.items }
+    requires room { length hands.items ≤ vec_capacity hands }
+    requires clients { (clients.items ≡ []) × (length hands.items ≤ vec_capacity clients) }
     requires lines { AreClockLines stage.now.script.now stage.now.script.now.clock.items lines.now }
     ensures { IfOk result (λ t. IsPlayed stage.now.script.now runtime t.0.items t.1) }
 {
-    let mut hands = carry_all(rt, stage, hands)?;
-    if halt_of(hands.as_slice()).is_none() {
-        go_on(rt, &mut watch, &mut hands)?;
-    }
-    let halt = halt_of(hands.as_slice());
-    let (clients, taken) = parts_of(stage.alloc, hands)?;
-    let joined = join_with_clock(rt, stage.alloc, runtime, clients);
+    let mut hands = carry_all(rt, stage, hands);
+    let halt = finish_lines(rt, &mut watch, &mut hands);
+    let (clients, taken) = parts_of(stage.alloc, hands, clients);
+    let joined = end(rt, stage.alloc, runtime, clients);
     if let Some(halt) = halt {
         return Err(fault_of(stage, halt));
     }
-    if let Some(halt) = stuck_of(&watch) {
-        return Err(fault_of(stage, halt));
-    }
-    match joined {
-        Ok((report, clock)) => {
-            if clock.has_carried(lines) {
-                Ok((taken, report))
-            } else {
-                Err(RunFault::Shared)
-            }
-        }
-        Err(Unjoined { error, .. }) => Err(RunFault::from(error)),
+    let (report, clock) = joined?;
+    let Some(taken) = taken else {
+        return Err(RunFault::Memory);
+    };
+    if clock.has_carried(lines) {
+        Ok((taken, report))
+    } else {
+        Err(RunFault::Shared)
     }
 }
 
-/// Carries the lines of all clients out, each in a thread of its own.
-fn carry_all<R: Threads + Wait + Sync>(
-    rt: &R,
-    stage: &Stage<'_>,
-    hands: Vec<Hand>,
-) -> Result<Vec<Hand>, AllocError>
-    requires { AreHomes stage.now.script.now stage.now.homes.now }
-    ensures { IfOk result (λ v. AllCarriedOut stage.now.script.now hands.items v.items) }
+/// Waits until no request can go on, unless a ring stopped. Why the run gives no table, if it gives none.
+fn finish_lines<R: Wait>(rt: &R, watch: &mut Watch, hands: &mut Vec<Hand>) -> Option<Halt>
+    ensures went { AllWent hands.old.items hands.new.items }
+    ensures through { result ≡ None → All (λ h. h.halt ≡ None) hands.old.items }
 {
-    map_vec(rt, hands, &|hand| carry_out(rt, stage, hand))
+    let halt = halt_of(hands.as_slice());
+    if halt.is_some() {
+        return halt;
+    }
+    if go_on(rt, watch, hands).is_err() {
+        return Some(Halt::Memory);
+    }
+    stuck_of(watch)
 }
 
-/// The halt of the first hand that has one.
+/// Ends the runtime, and gives its report and the clock. Where that isn't had all threads have ended too.
+fn end<R: Threads + Wait>(
+    rt: &R,
+    alloc: Global,
+    runtime: Runtime<LineClock>,
+    clients: Vec<Client>,
+) -> Result<(Report, LineClock), RunFault>
+    requires { AreClients runtime clients.items }
+    ensures { IfOk result (λ t. (poller : Pass) × (workers : List Pass) × IsReport runtime (poller ∷ (map submitter_of clients.items ++ workers)) t.0 × IsAlong t.1.lines.items t.1.next (seen_of poller) × (poller.view.role ≡ Poller (length runtime.layout.cells))) }
+{
+    match join_with_clock(rt, alloc, runtime, clients) {
+        Ok(ended) => Ok(ended),
+        Err(unjoined) => Err(RunFault::from(unjoined.abandon(rt))),
+    }
+}
+
+/// Of two rings' halts, or none, the one that is told: the first one that is a reason of its own.
+fn told_of(first: Option<Halt>, second: Option<Halt>) -> Option<Halt>
+    ensures { result ≡ None → (first ≡ None) × (second ≡ None) }
+{
+    match first {
+        None => second,
+        Some(Halt::Stopped) => second.or(first),
+        Some(_) => first,
+    }
+}
+
+/// The halt that is told of these hands, if one has any.
 fn halt_of(hands: &[Hand]) -> Option<Halt>
     ensures { result ≡ None → All (λ h. h.halt ≡ None) hands.now }
 {
+    let mut halt = None;
     for hand in hands {
-        if hand.halt.is_some() {
-            return hand.halt;
-        }
+        halt = told_of(halt, hand.halt);
     }
-    None
+    halt
 }
 
 /// The halt of the clock, if it has one.
@@ -210,27 +254,32 @@ fn stuck_of(watch: &Watch) -> Option<Halt> {
     }
 }
 
-/// What these hands come to: their clients, and all that they took.
+/// What these hands come to: their clients, for which there is room, and all that they took, unless there is no memory for it.
 fn parts_of(
     alloc: Global,
     mut hands: Vec<Hand>,
-) -> Result<(Vec<Client>, Vec<Completion>), AllocError>
-    ensures clients { IfOk result (λ t. t.0.items ≡ map client_of hands.items) }
-    ensures taken { IfOk result (λ t. t.1.items ≡ taken_by hands.items) }
+    mut clients: Vec<Client>,
+) -> (Vec<Client>, Option<Vec<Completion>>)
+    requires none { clients.items ≡ [] }
+    requires room { length hands.items ≤ vec_capacity clients }
+    ensures clients { result.0.items ≡ map client_of hands.items }
+    ensures taken { IfSome result.1 (λ v. v.items ≡ taken_by hands.items) }
 {
     hands.reverse();
-    let mut clients = Vec::with_capacity(alloc, hands.len())?;
     let mut all = Vec::new(alloc);
+    let mut is_short = false;
     while let Some(hand) = hands.pop() {
         let Hand {
             client,
             mut taken,
             ..
         } = hand;
-        clients.push(client)?;
-        all.append(&mut taken)?;
+        clients.push_reserved(client);
+        if all.append(&mut taken).is_err() {
+            is_short = true;
+        }
     }
-    Ok((clients, all))
+    (clients, if is_short { None } else { Some(all) })
 }
 
 /// The fault of a run that stopped.
@@ -241,7 +290,7 @@ fn fault_of(stage: &Stage<'_>, halt: Halt) -> RunFault {
             Err(_) => RunFault::Memory,
         },
         Halt::Refused => RunFault::Shared,
-        Halt::Memory => RunFault::Memory,
+        Halt::Memory | Halt::Stopped => RunFault::Memory,
         Halt::Thread => RunFault::Thread,
     }
 }

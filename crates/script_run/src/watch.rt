@@ -1,5 +1,4 @@
 //! How long a run goes on after its last line.
-ghost use Rattle.std.specs.Prelude.{OnOk};
 ghost use Rattle.script_run.specs.Hands.{Went, AllWent};
 
 use crate::clock::Progress;
@@ -75,15 +74,17 @@ impl Watch {
 
 /// Takes the completions that are there. Whether there was one.
 fn take_all<R: Wait>(rt: &R, hands: &mut Vec<Hand>) -> Result<bool, AllocError>
-    ensures { OnOk result (AllWent hands.old.items hands.new.items) }
+    ensures { AllWent hands.old.items hands.new.items }
 {
     let mut some = false;
+    let mut is_short = false;
     for hand in hands.iter_mut() {
-        if hand.take_all(rt)? {
-            some = true;
+        match hand.take_all(rt) {
+            Ok(has_taken) => some = some || has_taken,
+            Err(_) => is_short = true,
         }
     }
-    Ok(some)
+    if is_short { Err(AllocError) } else { Ok(some) }
 }
 
 /// Takes completions until the clock has come to its end, and no request can go on.
@@ -92,7 +93,7 @@ pub(crate) fn go_on<R: Wait>(
     watch: &mut Watch,
     hands: &mut Vec<Hand>,
 ) -> Result<(), AllocError>
-    ensures { OnOk result (AllWent hands.old.items hands.new.items) }
+    ensures { AllWent hands.old.items hands.new.items }
 {
     watch.begin_again();
     for _ in rt.forever() {

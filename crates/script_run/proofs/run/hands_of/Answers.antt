@@ -1,4 +1,4 @@
-use Rattle.std.proofs.Common.{◌≡◌, ◌++◌, [], List, None, map, reverse, sym, ap, ◌∙◌, subst}
+use Rattle.std.proofs.Common.{◌≡◌, ◌++◌, [], ◌∷◌, List, None, length, length-append, map, reverse, sym, ap, ◌∙◌, subst, arith}
 use Rattle.std.proofs.lemmas.List.Elements.{All-push}
 use Rattle.script_run.specs.declared.hand.Hand.{Hand}
 use Rattle.script_run.specs.Hands.{AreNew, client_of}
@@ -7,8 +7,11 @@ use Rattle.script_run.proofs.run.hands_of.Goals as goal
 
 pub loop-client-preserved : goal.loop-client-preserved
 loop-client-preserved c =
-    let left = c.pop.new.self.items in let all = c.in_ok-push.ensures.items in
+    let left = c.pop.new.self.items in let all = c.push_reserved.ensures.items in let inv = c.loop-client.invariant in
+    let one = ap length c.in-Some.ensures.items ∙ length-append left (c.in-Some.client ∷ []) in
+    let more = ap length all ∙ length-append c.loop-client.hands.items (c.new.result ∷ []) in
     record {
-      order = ap (λ (z : List Hand). map client_of z ++ reverse left) all ∙ (next_hand c.loop-client.hands.items c.new.result left c.loop-client.clients.items c.in-Some.client c.new.ensures.client c.in-Some.ensures.items ∙ c.loop-client.invariant.order);
-      new = subst AreNew (sym all) (All-push (λ (h : Hand). (h.taken.items ≡ []) × (h.halt ≡ None)) c.loop-client.hands.items c.new.result c.loop-client.invariant.new c.new.ensures.none);
+      order = ap (λ (z : List Hand). map client_of z ++ reverse left) all ∙ (next_hand c.loop-client.hands.items c.new.result left c.loop-client.clients.items c.in-Some.client c.new.ensures.client c.in-Some.ensures.items ∙ inv.order);
+      new = subst AreNew (sym all) (All-push (λ (h : Hand). (h.taken.items ≡ []) × (h.halt ≡ None)) c.loop-client.hands.items c.new.result inv.new c.new.ensures.none);
+      room = rw c.push_reserved.ensures.capacity (omega (arith, one, more, inv.room));
     }

@@ -1,4 +1,4 @@
-use Rattle.std.proofs.Common.{◌≡◌, ◌++◌, length, map, reverse}
+use Rattle.std.proofs.Common.{◌≡◌, ◌+◌, ◌≤◌, ◌++◌, length, map, reverse, vec_capacity}
 use Rattle.script_run.specs.Hands.{AreNew, client_of}
 use Rattle.script_run.proofs.run.hands_of.Given as goal
 
@@ -6,6 +6,7 @@ abbrev pub invariant-loop-client : goal.invariant-loop-client
 invariant-loop-client l = record {
   order : map client_of l.hands.items ++ reverse l.clients.items ≡ l.fn.clients.items;
   new : AreNew l.hands.items;
+  room : length l.hands.items + length l.clients.items ≤ vec_capacity l.hands;
 }
 
 abbrev pub decreases-loop-client : goal.decreases-loop-client

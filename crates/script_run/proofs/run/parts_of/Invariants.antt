@@ -1,11 +1,12 @@
-use Rattle.std.proofs.Common.{◌≡◌, ◌++◌, length, map, reverse}
+use Rattle.std.proofs.Common.{◌≡◌, ◌+◌, ◌≤◌, ◌++◌, length, map, reverse, false, vec_capacity}
 use Rattle.script_run.specs.Hands.{client_of, taken_by}
 use Rattle.script_run.proofs.run.parts_of.Given as goal
 
 abbrev pub invariant-loop-hand : goal.invariant-loop-hand
 invariant-loop-hand l = record {
   clients : l.clients.items ++ map client_of (reverse l.hands.items) ≡ map client_of l.fn.hands.items;
-  taken : l.all.items ++ taken_by (reverse l.hands.items) ≡ taken_by l.fn.hands.items;
+  taken : l.is_short ≡ false → l.all.items ++ taken_by (reverse l.hands.items) ≡ taken_by l.fn.hands.items;
+  room : length l.clients.items + length l.hands.items ≤ vec_capacity l.clients;
 }
 
 abbrev pub decreases-loop-hand : goal.decreases-loop-hand

@@ -10,7 +10,7 @@ use Rattle.script_run.proofs.WholeTables.{is_table}
 use Rattle.script_run.proofs.run.run_lines.Goals as goal
 
 pub play-requires-clause-hands : goal.play-requires-clause-hands
-play-requires-clause-hands g c κs inside = let s = c.requires.started in starts c.args.stage.now.script.now s.shape c.args.runtime c.in_ok-hands.hands.items c.args.clients.items s.started c.in_ok-hands.ensures.clients c.in_ok-hands.ensures.new
+play-requires-clause-hands g c κs inside = let s = c.requires.started in starts c.args.stage.now.script.now s.shape c.args.runtime c.hands_of-hands.result.items c.args.clients.items s.started c.hands_of-hands.ensures.clients c.hands_of-hands.ensures.new
 
 pub returns : goal.returns
 returns g c =

@@ -1,0 +1,150 @@
+//! The threads of the rings.
+ghost use Rattle.std.specs.Prelude.{◌≡◌, ◌≤◌, length, vec_capacity, IfOk, IfErr};
+ghost use Rattle.script.specs.Homes.{AreHomes};
+ghost use Rattle.script_run.specs.Hands.{AllCarriedOut, CarriedOut};
+
+use crate::gate::Gate;
+use crate::hand::Hand;
+use crate::lines::carry_out;
+use crate::stage::Stage;
+use history::Req;
+use script::Script;
+use std::alloc::Global;
+use std::snapshot::Snapshot;
+use std::sync::Wait;
+use std::thread;
+use std::thread::{Promise, PromisedHandle, Scope, Threads};
+
+/// The hand that a ring's thread gives back came of this one, by the lines of this script.
+#[derive(Drop)]
+struct Carried(Snapshot<Script>, Snapshot<Hand>);
+
+impl Promise<Hand> for Carried {
+    ghost use Rattle.script_run.specs.Hands.{CarriedOut};
+
+    ghost kept_by = { λ p r. CarriedOut p.0.value p.1.value r };
+}
+
+/// `carry_out`, of the stage's parts: what a thread is given names no struct of references.
+fn carry_by<R: Wait>(
+    rt: &R,
+    alloc: Global,
+    script: &Script,
+    homes: &[Option<Req>],
+    turns: u32,
+    gate: &Gate,
+    hand: Hand,
+) -> Hand
+    requires { AreHomes script.now homes.now }
+    ensures { CarriedOut script.now hand result }
+{
+    let stage = Stage {
+        alloc,
+        script,
+        homes,
+        turns,
+        gate,
+    };
+    carry_out(rt, &stage, hand)
+}
+
+/// Carries the lines of a client out in a thread of its own. Where that is refused all rings are told to stop, and the hand comes back,
+/// stopped.
+fn start<'s, E, R: Threads + Wait + Sync>(
+    scope: &'s Scope<'s, E>,
+    rt: &'s R,
+    stage: &Stage<'s>,
+    hand: Hand,
+) -> Result<PromisedHandle<Hand, Carried>, Hand>
+    requires { AreHomes stage.now.script.now stage.now.homes.now }
+    ensures thread { IfOk result (λ t. (t.promise.0.value ≡ stage.now.script.now) × (t.promise.1.value ≡ hand)) }
+    ensures refused { IfErr result (λ h. CarriedOut stage.now.script.now hand h) }
+{
+    let Stage {
+        alloc,
+        script,
+        homes,
+        turns,
+        gate,
+    } = *stage;
+    let promise = Carried(Snapshot::of(script), Snapshot::of(&hand));
+    match scope.spawn_with(
+        promise,
+        move || -> Hand
+            requires { AreHomes script.now homes.now }
+            ensures { CarriedOut script.entry.now hand result }
+        { carry_by(rt, alloc, script, homes, turns, gate, hand) },
+    ) {
+        Ok(thread) => Ok(thread),
+        Err(refused) => {
+            gate.stop();
+            Err((refused.value)())
+        }
+    }
+}
+
+/// Carries the lines of these clients out, each in a thread of its own, the last first, and waits for all of them.
+fn carry_from<'s, E, R: Threads + Wait + Sync>(
+    scope: &'s Scope<'s, E>,
+    rt: &'s R,
+    stage: &Stage<'s>,
+    mut hands: Vec<Hand>,
+) -> Vec<Hand>
+    requires homes { AreHomes stage.now.script.now stage.now.homes.now }
+    requires room { length hands.items ≤ vec_capacity hands }
+    ensures carried { AllCarriedOut stage.now.script.now hands.items result.items }
+    ensures room { vec_capacity result ≡ vec_capacity hands }
+{
+    let Some(hand) = hands.pop() else {
+        return hands;
+    };
+    match start(scope, rt, stage, hand) {
+        Ok(thread) => {
+            let mut hands = carry_from(scope, rt, stage, hands);
+            hands.push_reserved(thread.join(rt));
+            hands
+        }
+        Err(hand) => {
+            let mut hands = carry_from(scope, rt, stage, hands);
+            hands.push_reserved(hand);
+            hands
+        }
+    }
+}
+
+/// Carries the lines of all clients out, each in a thread of its own. Where a thread is refused none carries any out.
+pub(crate) fn carry_all<R: Threads + Wait + Sync>(
+    rt: &R,
+    stage: &Stage<'_>,
+    hands: Vec<Hand>,
+) -> Vec<Hand>
+    requires homes { AreHomes stage.now.script.now stage.now.homes.now }
+    requires room { length hands.items ≤ vec_capacity hands }
+    ensures { AllCarriedOut stage.now.script.now hands.items result.items }
+{
+    let Stage {
+        alloc,
+        script,
+        homes,
+        turns,
+        gate,
+    } = *stage;
+    thread::scope(
+        thread::scope_env(),
+        rt,
+        move |scope| -> Vec<Hand>
+            requires homes { AreHomes script.now homes.now }
+            requires room { length hands.items ≤ vec_capacity hands }
+            ensures { AllCarriedOut script.entry.now hands.items result.items }
+        {
+            let stage = Stage {
+                alloc,
+                script,
+                homes,
+                turns,
+                gate,
+            };
+            carry_from(scope, rt, &stage, hands)
+        },
+    )
+}
