@@ -36,7 +36,7 @@ use std::thread;
 use std::thread::{PromisedHandle, Threads};
 
 /// How many answered requests a worker keeps before it posts them.
-const WORK_PLACES: u32 = 64;
+const WORK_PLACES: u32 = 17;
 
 /// What the threads of a new runtime share, and all passes that go with it.
 #[derive(Drop)]

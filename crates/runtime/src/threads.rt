@@ -23,7 +23,7 @@ use std::sync::atomic::Ordering;
 use std::{hint, thread};
 
 /// How many turns in a row that did nothing a thread makes at once, before it lets other threads have its processor.
-const SPINS: u32 = 64;
+const SPINS: u32 = 256;
 
 /// Between a turn that did nothing and the next, after so many such turns in a row.
 fn pause(still: u32) {

@@ -10,7 +10,7 @@ use std::sync::Wait;
 use std::thread;
 
 /// How often one looks for a completion in a row before other threads may run in between.
-const LOOKS: u32 = 16;
+const LOOKS: u32 = 256;
 
 /// A client, how far it is with its load, and the fault that stopped it, if one did.
 #[derive(Drop)]
