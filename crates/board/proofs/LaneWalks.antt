@@ -21,7 +21,7 @@ use Rattle.steps.specs.declared.view.Layout.{Layout}
 use Rattle.steps.specs.declared.view.Step.{Step}
 use Rattle.steps.specs.declared.view.View.{View}
 use Rattle.steps.specs.Journal.{events_of, noted}
-use Rattle.steps.specs.Cells.{setup_of, IsCell, ring_of, place_of, cells_in, total, request_at, facts_at, claim_at}
+use Rattle.steps.specs.Cells.{setup_of, IsCell, ring_of, place_of, cells_in, total, request_at, facts_at, claim_at, words_of}
 use Rattle.steps.specs.Fairness.{IsReaped}
 use Rattle.steps.specs.declared.view.Role.TheVariants.{Submitter}
 use Rattle.steps.specs.Rule.{IsSameSeat}
@@ -161,7 +161,7 @@ pub over_on : (table : TableId) (K : List ℕ) (s t : TableSeat) → IsOver tabl
 over_on table K s t o same layout = record { table_is = same.0 ∙ o.table_is; cells_are = o.cells_are ∙ ap (λ (L : Layout). L.cells) (sym layout); wide = o.wide }
 
 pub over_own : (table : TableId) (K : List ℕ) (s : TableSeat) → IsOver table K s → IsOver table s.me.0.layout.cells s
-over_own table K s o = record { table_is = o.table_is; cells_are = refl; wide = subst (λ (z : List ℕ). table.words ≡ 8 * total z + 72) o.cells_are o.wide }
+over_own table K s o = record { table_is = o.table_is; cells_are = refl; wide = subst (λ (z : List ℕ). table.words ≡ words_of (total z)) o.cells_are o.wide }
 
 pub spot_on : (K M : List ℕ) (ring k : ℕ) (o : Spot) → K ≡ M → IsCell K o.cell × (request_at K o.cell o.generation ≡ nth ring k) × (o.cell < 16384) → o.number ≡ place_of K o.cell → IsSpot M ring k o
 spot_on K M ring k o same a b = subst (λ (z : List ℕ). IsSpot z ring k o) same record { inside = a.0; small = a.2; number_is = b; at = a.1 }

@@ -17,7 +17,7 @@ use Rattle.steps.specs.declared.view.Layout.{Layout}
 use Rattle.steps.specs.declared.view.Role.TheVariants.{Poller}
 use Rattle.steps.specs.declared.view.View.{View}
 use Rattle.steps.specs.Journal.{events_of, lent}
-use Rattle.steps.specs.Cells.{IsCell, request_at, total, setup_of, slot_at, Home, Says, Keeps, CellOk}
+use Rattle.steps.specs.Cells.{IsCell, request_at, total, setup_of, slot_at, Home, Says, Keeps, CellOk, slots_of}
 use Rattle.steps.specs.Rule.{AllSaw, Saw, Ended}
 use Rattle.work.specs.Board.{Facts, IsOf, share_of}
 use Rattle.work.specs.Grid.{AreCells}
@@ -75,7 +75,7 @@ module _ (L : Layout) (v : View) (words : List ℕ) (slots : List (Option Thing)
   free q = not_true (lent e.all q) (e.unlent whole (λ r. poller_lends n v r role) q)
 
   -- the table has a slot for each cell
-  pub slots_deep : 0 < total L.cells → total L.cells + 64 ≤ length slots
+  pub slots_deep : 0 < total L.cells → slots_of (total L.cells) ≤ length slots
   slots_deep some' =
       let x : ℕ = total L.cells - 1 in let inside : IsCell L.cells x = omega arith in let c = e.cells x inside in let ok = c.1 in
       let h = at_home e.all (request_at L.cells x ok.gen) c.0 ok.cause ok.payload ok.tag ok.says (still _) (free _) in let lt = some_inside slots (slot_at x) h.0 (c.2 h.0 h.1) in omega arith
@@ -138,7 +138,7 @@ module _ (b : Facts) (p : Pass) (ss ws : List Pass) (v : View) (words : List ℕ
   role : v.role ≡ Poller z.rings
   role = ap (λ (w : View). w.role) z.view_is ∙ z.role
 
-  pub closed_deep : total b.layout.cells + 64 ≤ length slots
+  pub closed_deep : slots_of (total b.layout.cells) ≤ length slots
   closed_deep = slots_deep b.layout v words slots z.ended whole z.rings role (some_cell b.layout.cells z.board.cells z.board.rings.0)
 
   pub closed_begins : (claims : List ℕ) (things : List (Option Thing)) (n space : ℕ) (lines : List (Completion × Bool)) → n ≡ total b.layout.cells → lines ≡ [] → AreTaken words slots n claims things → total b.layout.cells ≤ space

@@ -8,7 +8,7 @@ use native.Mathlib.Decide.{ℕ_discrete}
 use lib.ListN.{get_elem?}
 use Rattle.atomic_table.proofs.Lists.{at_last, at_longer}
 use Rattle.steps.specs.declared.parcel.Thing.{Thing}
-use Rattle.steps.specs.Cells.{claim_at}
+use Rattle.steps.specs.Cells.{claim_at, slot_at}
 use Rattle.board.specs.Remains.{IsEmptied, AreTaken}
 
 pub emptied_none : (xs : List Bool) (a : ℕ) → IsEmptied xs xs a a
@@ -30,7 +30,7 @@ pub taken_none : (words : List ℕ) (slots : List (Option Thing)) → AreTaken w
 taken_none words slots = record { claims_long = refl; things_long = refl; claims_are = λ x l. absurd (omega arith); things_are = λ x t l e. absurd (omega arith) }
 
 pub taken_more : (words : List ℕ) (slots : List (Option Thing)) (n w : ℕ) (t : Option Thing) (claims : List ℕ) (things : List (Option Thing)) → AreTaken words slots n claims things
-    → get_elem? words (8 * n + 72) ≡ some w → get_elem? slots (n + 64) ≡ some t → AreTaken words slots (n + 1) (claims ++ w ∷ []) (things ++ t ∷ [])
+    → get_elem? words (claim_at n) ≡ some w → get_elem? slots (slot_at n) ≡ some t → AreTaken words slots (n + 1) (claims ++ w ∷ []) (things ++ t ∷ [])
 taken_more words slots n w t claims things a here there = record {
   claims_long = (let l = a.claims_long in omega (arith, length-append claims (w ∷ [])));
   things_long = (let l = a.things_long in omega (arith, length-append things (t ∷ [])));
@@ -38,7 +38,7 @@ taken_more words slots n w t claims things a here there = record {
       (λ e. subst (λ (z : ℕ). get_or (claims ++ w ∷ []) z 0 ≡ get_or words (claim_at z) 0) (sym e) (get_or-append_right claims (w ∷ []) n n 0 a.claims_long (omega arith) ∙ (ap (λ (z : ℕ). get_or (w ∷ []) z 0) (let z : n - n ≡ 0 = omega arith in z) ∙ sym (word_of_some words (claim_at n) w here))))
       (λ ne. (let lt : x < length claims = (let c = a.claims_long in omega arith) in get_or-append claims (w ∷ []) 0 x lt ∙ a.claims_are x (omega arith)));
   things_are = λ x u l e. dite (ℕ_discrete x n)
-      (λ s. (at_last things t x (a.things_long ∙ sym s)) ∙ (sym there ∙ (ap (λ (z : ℕ). get_elem? slots (z + 64)) (sym s) ∙ e)))
+      (λ s. (at_last things t x (a.things_long ∙ sym s)) ∙ (sym there ∙ (ap (λ (z : ℕ). get_elem? slots (slot_at z)) (sym s) ∙ e)))
       (λ ne. at_longer things (t ∷ []) x u (a.things_are x u (omega arith) e));
 }
 

@@ -11,7 +11,7 @@ use Rattle.steps.specs.declared.parcel.Thing.{Thing}
 use Rattle.steps.specs.declared.view.View.{View}
 use Rattle.steps.specs.Fairness.{Orderly, IsFree, IsReaped}
 use Rattle.steps.specs.Journal.{events_of}
-use Rattle.steps.specs.Cells.{IsCell, cells_in, place_of, request_at, total}
+use Rattle.steps.specs.Cells.{IsCell, cells_in, place_of, request_at, total, words_of}
 use Rattle.steps.specs.Rule.{Looks, IsStep}
 use Rattle.work.specs.declared.grid.Spot.{Spot}
 use Rattle.board.specs.declared.lane.Lane.{Lane}
@@ -69,7 +69,7 @@ pub record IsSpot (K : List ℕ) (ring k : ℕ) (s : Spot) : Type 0 where
 pub record IsOver (table : TableId) (K : List ℕ) (s : Seat (Option Thing) View) : Type 0 where
   pub table_is : s.table_id ≡ table
   pub cells_are : K ≡ s.me.0.layout.cells
-  pub wide : table.words ≡ 8 * total K + 72
+  pub wide : table.words ≡ words_of (total K)
 
 -- the cells of the ring's next requests, so many of them, are free
 abbrev pub AreFree : List ℕ → View → ℕ → ℕ → ℕ → Type 0

@@ -17,7 +17,7 @@ ghost use Rattle.steps.specs.Cells.{cells_in};
 
 use crate::error::SubmitError;
 use crate::phase::{Phase, told};
-use claim::unpack_facts;
+use claim::{GENERATIONS, unpack_facts};
 use entry::Sqe;
 use history::Req;
 use steps::facts::is_link_timeout;
@@ -26,7 +26,7 @@ use work::grid::divided;
 use work::{Grid, Spot};
 
 /// The last generation of a cell's word. No request has it.
-const LAST_GENERATION: u64 = 16_777_215;
+const LAST_GENERATION: u64 = GENERATIONS as u64 - 1;
 
 /// What the submitter of a ring keeps of it.
 #[derive(Drop)]

@@ -21,12 +21,10 @@ use crate::error::ClockEnd;
 use crate::{linked, trail};
 use gates::Row;
 use history::Req;
+use limits::TICK;
 use std::marker::Model;
 use steps::{TableSeat, Words, seat, table, timers};
 use work::{Messenger, Pass, Spot};
-
-/// The clock goes up to this tick.
-const LAST_TICK: u32 = 2_147_483_647;
 
 /// The poller's pass: it moves what may begin to the workers, and ends what is severed. Of each ring it keeps a row of what it
 /// has seen, and of each cell what timer it armed last for a request of it. It alone sets the clock, so it knows the time.
@@ -217,7 +215,7 @@ impl Poller {
         ensures ticked { IfOk result (λ u. Goes board.now self.old (Tick to ∷ []) self.new × Took self.old.view self.new.view 1 × ((q : Request) → freed self.new.view.seen q ≡ freed self.old.view.seen q)) }
         ensures refused { IfErr result (λ e. (self.new ≡ self.old) × IsPast (seen_of self.old) to) }
     {
-        if to < self.clock || LAST_TICK < to {
+        if to < self.clock || TICK < to {
             return Err(ClockEnd);
         }
         timers::tick(&board.table.shared, &mut self.seat, to);

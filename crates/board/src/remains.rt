@@ -1,6 +1,7 @@
 //! What is left of a table that was ended: the claim word and the slot of each cell.
 ghost use Rattle.std.specs.Prelude.{◌≡◌, ℕ, ◌+◌, ◌*◌, ◌<◌, ◌≤◌, true, false, [], slice_index_or, vec_capacity, IfOk};
 ghost use Rattle.std.specs.Mem.Slots.{slots_items, slots_filled, slots_len, IsFull};
+ghost use Rattle.steps.specs.Cells.{slots_of, words_of};
 ghost use Rattle.board.specs.Remains.{AreTaken, IsEmptied};
 
 use atomic_table::Closed;
@@ -42,15 +43,15 @@ fn drop_slots(closed: &mut Closed<Option<Thing>, Global>, from: usize, to: usize
 
 /// Takes the claim word and the slot of each cell.
 fn take_cells(closed: &mut Closed<Option<Thing>, Global>, remains: &mut Remains, cells: usize)
-    requires words { IsFull closed.old.words × (8 * cells + 72 ≤ slots_len closed.old.words) }
-    requires slots { cells + 64 ≤ slots_len closed.old.slots }
-    requires full { (k : ℕ) → 64 ≤ k → k < cells + 64 → slice_index_or (slots_filled closed.old.slots) k false ≡ true }
+    requires words { IsFull closed.old.words × (words_of cells ≤ slots_len closed.old.words) }
+    requires slots { slots_of cells ≤ slots_len closed.old.slots }
+    requires full { (k : ℕ) → slots_of 0 ≤ k → k < slots_of cells → slice_index_or (slots_filled closed.old.slots) k false ≡ true }
     requires few { cells ≤ 16384 }
     requires claims { (remains.old.claims.items ≡ []) × (cells ≤ vec_capacity remains.old.claims) }
     requires room { (remains.old.slots.items ≡ []) × (cells ≤ vec_capacity remains.old.slots) }
     ensures words { closed.new.words ≡ closed.old.words }
     ensures same { (slots_items closed.new.slots ≡ slots_items closed.old.slots) × (slots_len closed.new.slots ≡ slots_len closed.old.slots) }
-    ensures emptied { IsEmptied (slots_filled closed.old.slots) (slots_filled closed.new.slots) 64 (cells + 64) }
+    ensures emptied { IsEmptied (slots_filled closed.old.slots) (slots_filled closed.new.slots) (slots_of 0) (slots_of cells) }
     ensures taken { AreTaken (slots_items closed.old.words) (slots_items closed.old.slots) cells remains.new.claims.items remains.new.slots.items }
 {
     for x in 0..cells {
@@ -72,7 +73,7 @@ pub(crate) fn remains_of(
     cells: usize,
 ) -> Remains
     requires full { IsFull closed.words × IsFull closed.slots }
-    requires counts { (8 * cells + 72 ≤ slots_len closed.words) × (cells + 64 ≤ slots_len closed.slots) }
+    requires counts { (words_of cells ≤ slots_len closed.words) × (slots_of cells ≤ slots_len closed.slots) }
     requires few { cells ≤ 16384 }
     requires claims { (remains.claims.items ≡ []) × (cells ≤ vec_capacity remains.claims) }
     requires room { (remains.slots.items ≡ []) × (cells ≤ vec_capacity remains.slots) }

@@ -8,7 +8,7 @@ ghost use Rattle.history.specs.Legal.{Fits as FitsEntry};
 ghost use Rattle.steps.specs.declared.line.Line.TheVariants.{Did, Lent, Noted};
 ghost use Rattle.steps.specs.declared.view.Role.TheVariants.{Submitter as SubmitterRole, Lending};
 ghost use Rattle.steps.specs.Fairness.{IsFree};
-ghost use Rattle.steps.specs.Cells.{claim_at, ring_of, place_of, request_at, cells_in, total, facts_at, user_at, word_of, cause_bits, IsParcel};
+ghost use Rattle.steps.specs.Cells.{claim_at, ring_of, place_of, request_at, cells_in, total, facts_at, user_at, word_of, cause_bits, IsParcel, words_of};
 ghost use Rattle.steps.specs.Rule.{Looks, Shown, IsStep, IsTwoSteps, IsThreeSteps, ExtendsTwice, ExtendsThrice, IsDone};
 ghost use Rattle.work.specs.Passes.{pass_of, seen_of, CanReach};
 ghost use Rattle.board.specs.Calls.{next_of};
@@ -103,7 +103,7 @@ impl Submitter {
 
     /// Whether there is room for its next requests, so many of them.
     pub(crate) fn room(&mut self, words: &Words, grid: &Grid, count: u64) -> Result<(), SubmitError>
-        requires over { (self.old.table ≡ words.now.table_id) × (grid.now ≡ self.old.view.layout.cells) × (words.now.table_id.words ≡ 8 * total grid.now + 72) }
+        requires over { (self.old.table ≡ words.now.table_id) × (grid.now ≡ self.old.view.layout.cells) × (words.now.table_id.words ≡ words_of (total grid.now)) }
         ensures table { self.new.table ≡ self.old.table }
         ensures there { (ring : ℕ) → self.old.view.role ≡ SubmitterRole ring → ring < length self.old.view.layout.cells }
         ensures looks { (n : ℕ) × ((ring : ℕ) → self.old.view.role ≡ SubmitterRole ring → n ≤ cells_in grid.now ring + 1) × Watched n self.old.view self.new.view × IfOk result (λ _. (ring : ℕ) → self.old.view.role ≡ SubmitterRole ring → LinkedAreReaped (seen_of self.old) ring → n ≡ 0) }

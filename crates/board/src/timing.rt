@@ -89,7 +89,8 @@ impl Board {
         }
     }
 
-    /// Answers a LINK_TIMEOUT whose target replied before it ran out, with -125 (io_uring_prep_link_timeout(3)).
+    /// Answers a LINK_TIMEOUT whose target replied before it ran out, with -125 (ECANCELED)
+    /// (io_uring_prep_link_timeout(3)).
     pub fn settle(&self, poller: &mut Poller, req: Req) -> Settling
         requires { IsOf self.now poller.old }
         ensures goes { Goes self.now poller.old (settled_by result req) poller.new }

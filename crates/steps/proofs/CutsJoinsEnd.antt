@@ -20,7 +20,7 @@ use Rattle.steps.specs.declared.view.Role.{Role}
 use Rattle.steps.specs.declared.view.Role.TheVariants.{Poller, Submitter, Lending, Idle, Busy, Leaving, Spent}
 use Rattle.steps.specs.declared.view.View.{View}
 use Rattle.steps.specs.Journal.{events_of}
-use Rattle.steps.specs.Cells.{CellOk, PipeIs, total, claim_at, note_at, pipe_at, slot_at}
+use Rattle.steps.specs.Cells.{CellOk, PipeIs, total, claim_at, note_at, pipe_at, slot_at, slots_of, words_of}
 use Rattle.steps.specs.Rule.{Owner, nobody, pollers, rings, workers, owner, stands_for, apart, NoneOf, Begins, IsHeard, IsGone, Saw, SeatOk, parts_of, IsRunBy, IsHeldBy, IsLentBy, IsOneOf, Knows, Ruled, opening_view, without_one, without_next, next_poller, submitter_of, next_submitter, idle_one, messenger, hearing, spent_view, Ended}
 use Rattle.steps.proofs.Roles.{apart_sym, idle_apart, idle_none, spent_apart}
 use Rattle.steps.proofs.RuleKept.{parts_set, run_set, held_set, lent_set, known_set, IsKnown, at_now}
@@ -123,8 +123,8 @@ module _ (L : Layout) where
   St = State (Option Thing) View
 
   -- START: the slots of the cells are empty, and those of the pipes have new pipes
-  pub starts : (rows words : ℕ) (slots : List (Option Thing)) → rows ≡ total L.cells → words ≡ 8 * rows + 72 → length slots ≡ rows + 64
-      → ((x : ℕ) → x < rows → get_elem? slots (x + 64) ≡ some None) → ((p : ℕ) → p < 64 → (o : Option Thing) × (get_elem? slots p ≡ some o) × PipeIs L.caps p o untouched)
+  pub starts : (rows words : ℕ) (slots : List (Option Thing)) → rows ≡ total L.cells → words ≡ words_of rows → length slots ≡ slots_of rows
+      → ((x : ℕ) → x < rows → get_elem? slots (slot_at x) ≡ some None) → ((p : ℕ) → p < 64 → (o : Option Thing) × (get_elem? slots p ≡ some o) × PipeIs L.caps p o untouched)
       → Ruled L (opening (replicate words 0) slots (opening_view L))
   starts rows words slots most wide deep empty pipes = record {
     past = [];
@@ -133,7 +133,7 @@ module _ (L : Layout) where
     orderly = tt;
     wide = λ x h. (let m = most in subst (λ (n : ℕ). claim_at x + 7 < n) (sym (length-replicate words 0)) (omega arith));
     deep = λ x h. (let m = most in subst (λ (n : ℕ). slot_at x < n) (sym (homes_length slots)) (omega arith));
-    room = (let z : ℕ = 0 in (subst (λ (n : ℕ). 72 ≤ n) (sym (length-replicate words z)) (omega arith), subst (λ (n : ℕ). 64 ≤ n) (sym (homes_length slots)) (omega arith)));
+    room = (let z : ℕ = 0 in (subst (λ (n : ℕ). words_of 0 ≤ n) (sym (length-replicate words z)) (omega arith), subst (λ (n : ℕ). slots_of 0 ≤ n) (sym (homes_length slots)) (omega arith)));
     cells = λ x h. record {
       tag = Empty;
       cause = 0;

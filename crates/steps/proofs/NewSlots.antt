@@ -10,7 +10,7 @@ use Rattle.pipe.specs.Pipe.{Conduit}
 use Rattle.pipe.specs.PipeAnswers.{new_conduit}
 use Rattle.steps.specs.declared.parcel.Thing.{Thing}
 use Rattle.steps.specs.declared.parcel.Thing.TheVariants.{Piped}
-use Rattle.steps.specs.Cells.{PipeIs, AreNewSlots}
+use Rattle.steps.specs.Cells.{PipeIs, AreNewSlots, slot_at, slots_of}
 
 at_last : {A : Type 0} (l : List A) (a : A) → get_elem? (l ++ a ∷ []) (length l) ≡ some a
 at_last [] a = refl
@@ -23,9 +23,9 @@ pub record PipesUpTo (caps : List ℕ) (n : ℕ) (slots : List (Option Thing)) :
 
 -- all pipes are there, and then n empty slots
 pub record CellsUpTo (caps : List ℕ) (n : ℕ) (slots : List (Option Thing)) : Type 0 where
-  pub long : length slots ≡ 64 + n
+  pub long : length slots ≡ slots_of n
   pub pipes : (p : ℕ) → p < 64 → (o : Option Thing) × (get_elem? slots p ≡ some o) × PipeIs caps p o untouched
-  pub empty : (x : ℕ) → x < n → get_elem? slots (x + 64) ≡ some None
+  pub empty : (x : ℕ) → x < n → get_elem? slots (slot_at x) ≡ some None
 
 pub pipe_pushed : (caps : List ℕ) (n : ℕ) (slots after : List (Option Thing)) (o : Option Thing) → after ≡ slots ++ o ∷ [] → PipesUpTo caps n slots → PipeIs caps n o untouched → PipesUpTo caps (n + 1) after
 pipe_pushed caps n slots after o is u new = rw is record {
@@ -43,8 +43,8 @@ cell_pushed caps n slots after is u = rw is record {
   long = (let l = u.long in omega (arith, length-append slots (None ∷ [])));
   pipes = λ p lt. (let k = u.pipes p lt in (k.0, at_longer slots (None ∷ []) p k.0 k.1, k.2));
   empty = λ x lt. dite (ℕ_discrete x n)
-      (λ e. (let l = u.long in subst (λ z. get_elem? (slots ++ None ∷ []) z ≡ some None) (let same : length slots ≡ x + 64 = omega arith in same) (at_last slots None)))
-      (λ ne. at_longer slots (None ∷ []) (x + 64) None (u.empty x (omega arith)));
+      (λ e. (let l = u.long in subst (λ z. get_elem? (slots ++ None ∷ []) z ≡ some None) (let same : length slots ≡ slot_at x = omega arith in same) (at_last slots None)))
+      (λ ne. at_longer slots (None ∷ []) (slot_at x) None (u.empty x (omega arith)));
 }
 
 pub cells_done : (caps : List ℕ) (n : ℕ) (slots : List (Option Thing)) → CellsUpTo caps n slots → AreNewSlots caps n slots

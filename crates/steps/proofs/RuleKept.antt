@@ -22,7 +22,7 @@ use Rattle.steps.specs.declared.view.Step.{Step}
 use Rattle.steps.specs.declared.view.View.{View}
 use Rattle.steps.specs.Fairness.{Fair}
 use Rattle.steps.specs.Journal.{events_of, lent, noted, holder}
-use Rattle.steps.specs.Cells.{setup_of, IsCell, CellOk, PipeOk, Home, claim_at, note_at, pipe_at, slot_at}
+use Rattle.steps.specs.Cells.{setup_of, IsCell, CellOk, PipeOk, Home, claim_at, note_at, pipe_at, slot_at, slots_of, words_of}
 use Rattle.steps.specs.Rule.{workers, stands_for, owns, apart, IsHeard, AllBegin, AllSaw, IsGone, SeatOk, parts_of, IsRunBy, IsHeldBy, IsLentBy, Knows, Ruled, seeing}
 use Rattle.steps.proofs.Roles.{apart_sym, others_own}
 use Rattle.steps.proofs.JournalGrowth.{replied_later}
@@ -159,7 +159,7 @@ module _ (L : Layout) where
       → v.layout ≡ L → Calm L r.past l → Turns r.past l v role → Legal (setup_of L) (events_of (l ∷ r.past)) → get_elem? s.views id ≡ some v
       → ((i : ℕ) (u : View) → ¬ (i ≡ id) → get_elem? s.views i ≡ some u → (owns u.role l ≡ false) × (apart role u.role ≡ true))
       → ((y : ℕ) → IsCell K y → ¬ (y ≡ x) → Quiet K l y)
-      → length words' ≡ length s.words → ((y : ℕ) → ¬ (y ≡ x) → get_or words' (claim_at y) 0 ≡ get_or s.words (claim_at y) 0) → ((y : ℕ) → y < 72 → get_or words' y 0 ≡ get_or s.words y 0)
+      → length words' ≡ length s.words → ((y : ℕ) → ¬ (y ≡ x) → get_or words' (claim_at y) 0 ≡ get_or s.words (claim_at y) 0) → ((y : ℕ) → y < words_of 0 → get_or words' y 0 ≡ get_or s.words y 0)
       → ((y i : ℕ) → IsCell K y → i < 7 → get_or words' (note_at y i) 0 ≡ noted (l ∷ r.past) (note_at y i))
       → length homes' ≡ length s.homes → ((y : ℕ) → ¬ (y ≡ slot_at x) → get_elem? homes' y ≡ get_elem? s.homes y)
       → CellOk K (l ∷ r.past) x (get_or words' (claim_at x) 0) (get_elem? homes' (slot_at x))
@@ -257,7 +257,7 @@ module _ (L : Layout) where
     orderly = r.orderly;
     wide = λ y h. subst (λ (m : ℕ). claim_at y + 7 < m) (sym (length-set s.words i n)) (r.wide y h);
     deep = r.deep;
-    room = subst (λ z. (72 ≤ length z) × (64 ≤ length s.homes)) (sym same) r.room;
+    room = subst (λ z. (words_of 0 ≤ length z) × (slots_of 0 ≤ length s.homes)) (sym same) r.room;
     cells = λ y h. subst (λ (m : ℕ). CellOk K r.past y m (get_elem? s.homes (slot_at y))) (sym (ap (λ z. get_or z (claim_at y) 0) same)) (r.cells y h);
     notes = λ y k h small. ap (λ z. get_or z (note_at y k) 0) same ∙ r.notes y k h small;
     clock = ap (λ z. get_or z 0 0) same ∙ r.clock;

@@ -45,6 +45,13 @@ pipe_at p = p + 1
 abbrev pub slot_at : ℕ → ℕ
 slot_at x = x + 64
 
+-- how many words and slots a table of so many cells has: it ends where the line and the slot of one more cell would be
+abbrev pub words_of : ℕ → ℕ
+words_of n = claim_at n
+
+abbrev pub slots_of : ℕ → ℕ
+slots_of n = slot_at n
+
 -- the number of cells of the ring i, 0 where there is none
 abbrev pub cells_in : List ℕ → ℕ → ℕ
 cells_in K i = slice_index K i
@@ -157,6 +164,6 @@ IsCapacity n = (0 < n) × (n < 65537)
 
 -- the slots of a new table
 pub record AreNewSlots (caps : List ℕ) (rows : ℕ) (slots : List (Option Thing)) : Type 0 where
-  pub long : length slots ≡ rows + 64
-  pub empty : (x : ℕ) → x < rows → get_elem? slots (x + 64) ≡ some None
+  pub long : length slots ≡ slots_of rows
+  pub empty : (x : ℕ) → x < rows → get_elem? slots (slot_at x) ≡ some None
   pub pipes : (p : ℕ) → p < 64 → (o : Option Thing) × (get_elem? slots p ≡ some o) × PipeIs caps p o untouched

@@ -25,7 +25,7 @@ use Rattle.steps.specs.declared.view.View.{View}
 use Rattle.steps.specs.Fairness.{Orderly, IsFree}
 use Rattle.steps.specs.Notes.{outcome_of}
 use Rattle.steps.specs.Journal.{events_of, lent, noted, holder}
-use Rattle.steps.specs.Cells.{setup_of, IsCell, ring_of, request_at, note_at, facts_at, claim_at, pipe_at, slot_at, CellOk, PipeOk, Home, word_of, reply_bits, cause_bits}
+use Rattle.steps.specs.Cells.{setup_of, IsCell, ring_of, request_at, note_at, facts_at, claim_at, pipe_at, slot_at, CellOk, PipeOk, Home, word_of, reply_bits, cause_bits, slots_of, words_of}
 
 -- whose a line is: a seat of no other kind makes it
 pub data Owner : Type 0 where
@@ -148,7 +148,7 @@ pub record Ruled (L : Layout) (s : State (Option Thing) View) : Type 0 where
   pub orderly : Orderly L past
   pub wide : (x : ℕ) → IsCell L.cells x → claim_at x + 7 < length s.words
   pub deep : (x : ℕ) → IsCell L.cells x → slot_at x < length s.homes
-  pub room : (72 ≤ length s.words) × (64 ≤ length s.homes)
+  pub room : (words_of 0 ≤ length s.words) × (slots_of 0 ≤ length s.homes)
   pub cells : (x : ℕ) → IsCell L.cells x → CellOk L.cells past x (slice_index s.words (claim_at x)) (get_elem? s.homes (slot_at x))
   pub notes : (x i : ℕ) → IsCell L.cells x → i < 7 → slice_index s.words (note_at x i) ≡ noted past (note_at x i)
   pub clock : slice_index s.words 0 ≡ clock_of (events_of past)

@@ -1,7 +1,7 @@
 //! Where the words and the slots of the table lie: word 0 is the clock, the words 1 to 64 are the pipes', and from word 72 on each cell
 //! has a line of eight, its claim word and seven note words. The slots 0 to 63 are the pipes', and then comes one a cell.
-ghost use Rattle.std.specs.Prelude.{◌≡◌, ◌+◌, ◌*◌, ◌<◌, ◌≤◌};
-ghost use Rattle.steps.specs.Cells.{claim_at, note_at, pipe_at, slot_at};
+ghost use Rattle.std.specs.Prelude.{◌≡◌, ◌<◌, ◌≤◌};
+ghost use Rattle.steps.specs.Cells.{claim_at, note_at, pipe_at, slot_at, slots_of, words_of};
 
 /// How many pipes a table has slots for.
 pub const PIPES: usize = limits::PIPES;
@@ -18,7 +18,7 @@ pub const CLOCK_WORD: usize = 0;
 /// How many words a table of so many cells has.
 pub fn words_of(cells: usize) -> usize
     requires { cells ≤ 16384 }
-    ensures { result ≡ 8 * cells + 72 }
+    ensures { result ≡ words_of cells }
 {
     LINE * cells + FIRST_LINE
 }
@@ -26,7 +26,7 @@ pub fn words_of(cells: usize) -> usize
 /// How many slots a table of so many cells has.
 pub fn slots_of(cells: usize) -> usize
     requires { cells ≤ 16384 }
-    ensures { result ≡ cells + 64 }
+    ensures { result ≡ slots_of cells }
 {
     cells + PIPES
 }

@@ -4,7 +4,7 @@ ghost use Rattle.std.specs.Mem.Slots.{slots_items, slots_len, IsFull};
 ghost use Rattle.history.specs.declared.req.Req.{Req};
 ghost use Rattle.steps.specs.declared.view.Role.TheVariants.{Poller, Lending, Spent};
 ghost use Rattle.pipe.specs.PipeAnswers.{new_conduit};
-ghost use Rattle.steps.specs.Cells.{total, IsCapacity, AreNewSlots};
+ghost use Rattle.steps.specs.Cells.{total, IsCapacity, AreNewSlots, words_of};
 ghost use Rattle.steps.specs.Rule.{stands_for, workers, IsSameSeat, Ended, opening_view, without_next, without_one, next_submitter, idle_one, hearing, messenger};
 
 use crate::law::{About, Law};
@@ -70,7 +70,7 @@ pub fn set_up(
     requires rows { (rows ≤ 16384) × (rows ≡ total cells.now.items) }
     requires pipes { length caps.now.items ≤ 64 }
     requires caps { (p : ℕ) → p < length caps.now.items → IsCapacity (slice_index caps.now.items p) }
-    ensures { IfOk result (λ t. (t.1.table_id ≡ t.0.shared.table_id) × (t.1.me ≡ (opening_view (record { cells = cells.now.items; caps = caps.now.items }), [])) × (t.0.shared.key.cells.value.items ≡ cells.now.items) × (t.0.shared.key.caps.value.items ≡ caps.now.items) × (t.0.shared.table_id.words ≡ 8 * rows + 72)) }
+    ensures { IfOk result (λ t. (t.1.table_id ≡ t.0.shared.table_id) × (t.1.me ≡ (opening_view (record { cells = cells.now.items; caps = caps.now.items }), [])) × (t.0.shared.key.cells.value.items ≡ cells.now.items) × (t.0.shared.key.caps.value.items ≡ caps.now.items) × (t.0.shared.table_id.words ≡ words_of rows)) }
 {
     let words = Vec::from_elem(alloc, 0u64, words_of(rows))?;
     let slots = new_slots(alloc, caps.as_slice(), rows)?;

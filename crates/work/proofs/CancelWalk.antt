@@ -118,8 +118,8 @@ elsewhere x y (s ∷ l) ne at = off (s.word == claim_at x) (other at.0) (elsewhe
   other : ((s.word ≡ claim_at y) ⊎ ((s.word ≡ facts_at y) ⊎ (s.word ≡ user_at y))) → (s.word == claim_at x) ≡ false
   other a = ⊎_elim
       (λ (w : (s.word == claim_at x) ≡ true). let e : s.word ≡ claim_at x = eqb-true s.word (claim_at x) w in absurd (⊎_elim
-      (λ (i : s.word ≡ claim_at y). ne (let z : 8 * x + 72 ≡ 8 * y + 72 = sym e ∙ i in omega arith))
-      (λ o. ⊎_elim (λ (i : s.word ≡ facts_at y). (let z : 8 * x + 72 ≡ 8 * y + (73 + 0) = sym e ∙ i in omega arith)) (λ (i : s.word ≡ user_at y). (let z : 8 * x + 72 ≡ 8 * y + (73 + 1) = sym e ∙ i in omega arith)) o) a))
+      (λ (i : s.word ≡ claim_at y). ne (let z : claim_at x ≡ claim_at y = sym e ∙ i in omega arith))
+      (λ o. ⊎_elim (λ (i : s.word ≡ facts_at y). (let z : claim_at x ≡ facts_at y = sym e ∙ i in omega arith)) (λ (i : s.word ≡ user_at y). (let z : claim_at x ≡ user_at y = sym e ∙ i in omega arith)) o) a))
       (λ (w : (s.word == claim_at x) ≡ false). w) (bool_cases (s.word == claim_at x))
 
 -- two requests that differ by less than the ring's cells have different cells

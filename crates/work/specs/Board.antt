@@ -7,7 +7,7 @@ use Rattle.steps.specs.declared.view.Layout.{Layout}
 use Rattle.steps.specs.declared.view.Role.{Role}
 use Rattle.steps.specs.declared.view.Role.TheVariants.{Poller}
 use Rattle.steps.specs.Fairness.{Orderly}
-use Rattle.steps.specs.Cells.{setup_of, total}
+use Rattle.steps.specs.Cells.{setup_of, total, words_of}
 use Rattle.work.specs.Grid.{AreCells}
 use Rattle.work.specs.Passes.{Pass, seen_of}
 
@@ -18,7 +18,7 @@ pub record Facts : Type 0 where
   pub workers : ℕ
 
 pub record IsBoard (b : Facts) : Type 0 where
-  pub wide : b.table.words ≡ 8 * total b.layout.cells + 72
+  pub wide : b.table.words ≡ words_of (total b.layout.cells)
   pub cells : AreCells b.layout.cells
   pub rings : (0 < length b.layout.cells) × (length b.layout.cells ≤ 16)
   pub pipes : length b.layout.caps ≤ 64

@@ -19,7 +19,7 @@ use Rattle.steps.specs.declared.view.Step.{Step}
 use Rattle.steps.specs.declared.view.View.{View}
 use Rattle.steps.specs.Fairness.{Orderly}
 use Rattle.steps.specs.Journal.{event_of, events_of, holder}
-use Rattle.steps.specs.Cells.{setup_of, IsCell, request_at, total, claim_at, slot_at, word_of, IsParcel}
+use Rattle.steps.specs.Cells.{setup_of, IsCell, request_at, total, claim_at, slot_at, word_of, IsParcel, words_of}
 use Rattle.steps.specs.Plays.{HasAlone}
 use Rattle.steps.specs.Rule.{owns, IsStep}
 use Rattle.history.specs.Legal.{Legal, IsOf}
@@ -43,7 +43,7 @@ pub record IsOn (table : TableId) (K : List ℕ) (pipes : ℕ) (p : Pass) : Type
   pub cells_are : p.view.layout.cells ≡ K
   pub pipes_are : length p.view.layout.caps ≡ pipes
   pub few : pipes ≤ 64
-  pub wide : table.words ≡ 8 * total K + 72
+  pub wide : table.words ≡ words_of (total K)
 
 -- an idle worker's seat: it has no request, and no slot
 pub record IsIdleSeat (s : Seat (Option Thing) View) : Type 0 where
@@ -81,7 +81,7 @@ pub record RunsIt (table : TableId) (v : View) (x g : ℕ) (r : Req) (p : Parcel
 -- its table has the cells of the rings that have so many each
 pub record IsGridOf (table : TableId) (K : List ℕ) (v : View) : Type 0 where
   pub cells_are : v.layout.cells ≡ K
-  pub wide : table.words ≡ 8 * total K + 72
+  pub wide : table.words ≡ words_of (total K)
 
 -- its seat, with the parcel in hand, and no pipe; if it runs a cancel, that has neither taken a request nor found one running
 pub record IsBusySeat (table : TableId) (K : List ℕ) (s : Seat (Option Thing) View) (x g : ℕ) (r : Req) (p : Parcel) (pipes : ℕ) : Type 0 where

@@ -1,5 +1,6 @@
 use Rattle.std.specs.Prelude.{◌≡◌, ◌+◌, ◌≤◌, vec_capacity}
 use Rattle.std.specs.Mem.Slots.{slots_items, slots_filled, slots_len}
+use Rattle.steps.specs.Cells.{slots_of}
 use Rattle.board.specs.Remains.{IsEmptied, AreTaken}
 use Rattle.board.proofs.remains.take_cells.Given as goal
 
@@ -9,7 +10,7 @@ invariant-loop-x l = record {
   words : l.closed.words ≡ l.fn.closed.words;
   items : slots_items l.closed.slots ≡ slots_items l.fn.closed.slots;
   count : slots_len l.closed.slots ≡ slots_len l.fn.closed.slots;
-  emptied : IsEmptied (slots_filled l.fn.closed.slots) (slots_filled l.closed.slots) 64 (l.x + 64);
+  emptied : IsEmptied (slots_filled l.fn.closed.slots) (slots_filled l.closed.slots) (slots_of 0) (slots_of l.x);
   taken : AreTaken (slots_items l.fn.closed.words) (slots_items l.fn.closed.slots) l.x l.remains.claims.items l.remains.slots.items;
   claims : l.cells ≤ vec_capacity l.remains.claims;
   room : l.cells ≤ vec_capacity l.remains.slots;

@@ -5,12 +5,12 @@ use mathlib.Core.Option.{some}
 use lib.ListN.{get_elem?}
 use Rattle.history.specs.Pipes.{untouched}
 use Rattle.steps.specs.declared.parcel.Thing.{Thing}
-use Rattle.steps.specs.Cells.{total, PipeIs}
+use Rattle.steps.specs.Cells.{total, PipeIs, words_of}
 use Rattle.steps.proofs.CutsJoinsEnd.{starts}
 use Rattle.steps.proofs.table.set_up.Goals as goal
 
 pub new-requires : goal.new-requires
-new-requires c = let n = c.args.rows in let e : c.as_slice-2.result.now ≡ replicate (8 * n + 72) 0 = first_of (search rules, grind (arith, common_steps)) in let s = c.in_ok-slots.ensures in
+new-requires c = let n = c.args.rows in let e : c.as_slice-2.result.now ≡ replicate (words_of n) 0 = first_of (search rules, grind (arith, common_steps)) in let s = c.in_ok-slots.ensures in
     let L : Layout = record { cells = c.of.result.value.items; caps = c.of-2.result.value.items } in
-    rw e (starts L n (8 * n + 72) c.in_ok-slots.slots.items (c.requires.rows.1 ∙ ap total (sym (ap (λ v. v.items) c.of.ensures))) refl s.long s.empty
+    rw e (starts L n (words_of n) c.in_ok-slots.slots.items (c.requires.rows.1 ∙ ap total (sym (ap (λ v. v.items) c.of.ensures))) refl s.long s.empty
     (subst (λ (k : List ℕ). (p : ℕ) → p < 64 → (x : Option Thing) × (get_elem? c.in_ok-slots.slots.items p ≡ some x) × PipeIs k p x untouched) (c.as_slice.ensures.value ∙ sym (ap (λ v. v.items) c.of-2.ensures)) s.pipes))

@@ -4,7 +4,7 @@ use Rattle.steps.specs.declared.parcel.Thing.{Thing}
 use Rattle.steps.specs.declared.view.View.{View}
 use Rattle.steps.specs.declared.view.Layout.{Layout}
 use Rattle.steps.specs.declared.view.Role.TheVariants.{Poller}
-use Rattle.steps.specs.Cells.{total}
+use Rattle.steps.specs.Cells.{total, words_of}
 use Rattle.work.specs.Grid.{AreCells, AreCellCounts}
 use Rattle.work.specs.Board.{Facts}
 use Rattle.work.specs.Passes.{Pass, pass_of}
@@ -41,7 +41,7 @@ invariant_of-board c = let s = shape_says c.args.shape.now (sym c.if-not-is_shap
     let first : c.in_ok-table.seat.me.0.layout.cells ≡ counts c.args.shape.now.rings.items = ap (λ (m : Me (Option Thing) View). m.0.layout.cells) e.1 ∙ items in
     let grid : c.in_ok-grid.grid ≡ counts c.args.shape.now.rings.items = c.in_ok-grid.ensures ∙ (c.as_slice-2.ensures.value ∙ items) in let r = s.rings in let l = s.long in let g = ap (λ (K : List ℕ). length K) grid in (
       record {
-        wide = e.4 ∙ ap (λ (z : ℕ). 8 * z + 72) c.total.ensures;
+        wide = e.4 ∙ ap (λ (z : ℕ). words_of z) c.total.ensures;
         cells = subst AreCells (sym grid) s.cells;
         rings = (omega arith, omega arith);
         pipes = subst (λ (caps : List ℕ). length caps ≤ 64) (sym e.3) s.pipes;

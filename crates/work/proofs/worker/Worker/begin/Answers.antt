@@ -8,7 +8,7 @@ use Rattle.steps.specs.declared.parcel.Parcel.{Parcel}
 use Rattle.steps.specs.declared.parcel.Thing.{Thing}
 use Rattle.steps.specs.declared.parcel.Thing.TheVariants.{Full}
 use Rattle.steps.specs.declared.view.Role.TheVariants.{Busy as RoleBusy}
-use Rattle.steps.specs.Cells.{IsCell, IsParcel, request_at, slot_at, total}
+use Rattle.steps.specs.Cells.{IsCell, IsParcel, request_at, slot_at, total, words_of}
 use Rattle.steps.specs.Journal.{events_of, holder}
 use Rattle.steps.proofs.ViewsKept.{layout_after}
 use Rattle.steps.specs.Plays.{Seated}
@@ -38,7 +38,7 @@ invariant_of-result-2 c =
     let cells : s.me.0.layout.cells ≡ c.args.grid.now = ap (λ (p : Pass). p.view.layout.cells) c.self.view_is ∙ c.requires.on.cells_are in
     let at : request_at s.me.0.layout.cells spot.cell spot.generation ≡ c.args.req = ap (λ (K : List ℕ). request_at K spot.cell spot.generation) cells ∙ c.in-Some.ensures.some.1 in
     let inside : IsCell s.me.0.layout.cells spot.cell = subst (λ (K : List ℕ). IsCell K spot.cell) (sym cells) c.in-Some.ensures.some.0 in
-    let wide : table.words ≡ 8 * total s.me.0.layout.cells + 72 = c.requires.on.wide ∙ ap (λ (K : List ℕ). 8 * total K + 72) (sym cells) in
+    let wide : table.words ≡ words_of (total s.me.0.layout.cells) = c.requires.on.wide ∙ ap (λ (K : List ℕ). words_of (total K)) (sym cells) in
     let one : x.1.0 ≡ c.parcel_of.result = same_parcel x.1.0 c.parcel_of.result (ap in_hand (sym x.1.1 ∙ c.exchange-thing.ensures.2) ∙ c.parcel_of.ensures.is) in
     let parcel : IsParcel c.begin.new.seat.me.0.seen c.args.req [] c.parcel_of.result = subst (λ (z : Req × Parcel). IsParcel c.begin.new.seat.me.0.seen z.0 [] z.1) (λ i. (at i, one i)) x.1.2 in
     let runs = runs_begun table s.me.0 c.begin.new.seat.me.0 spot.cell spot.generation c.args.req c.parcel_of.result c.args.pipes (subst (λ (q : Req). Extends s.me.0 (Did (Begin q)) (RoleBusy q) c.begin.new.seat.me.0) at x.0) at
