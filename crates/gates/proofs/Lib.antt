@@ -3,7 +3,7 @@ pub mod Agreement
 pub mod RowAnswers
 pub mod Blocking
 pub mod Bridge
-pub mod Carried
+pub mod HandedMarks
 pub mod GateAnswers
 pub mod Freeing
 pub mod Gates

@@ -3,7 +3,7 @@ use Rattle.std.proofs.Common.{◌≡◌, ◌⊎◌, ℕ, suc, ◌<◌, ◌≤◌
 use Rattle.std.specs.List.{slice_get}
 use Rattle.gates.specs.Slots.{Slot, is_pending, behind, passes}
 use Rattle.gates.proofs.Lists.{get_there}
-use Rattle.gates.proofs.Carried.{carried_by, carried_from}
+use Rattle.gates.proofs.HandedMarks.{carried_by, carried_from}
 use Rattle.gates.proofs.Bridge.{joins_at, severing_at, next_severed, next_held}
 
 module _ (xs : List Slot) where
