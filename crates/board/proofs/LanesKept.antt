@@ -25,16 +25,17 @@ use Rattle.steps.specs.Cells.{setup_of, IsCell, ring_of, place_of, cells_in, req
 use Rattle.steps.specs.Rule.{rings, stands_for, Looks, Extends, Fits, IsStep, Vacant}
 use Rattle.steps.proofs.JournalGrowth.{legal_before, lasts, done_lasts, same_before}
 use Rattle.work.specs.declared.grid.Spot.{Spot}
+use Rattle.steps.proofs.ViewsKept.{submitter_can}
 use Rattle.board.specs.declared.lane.Lane.{Lane}
 use Rattle.board.specs.declared.phase.Phase.{Phase as Standing}
 use Rattle.board.specs.declared.phase.Phase.TheVariants.{Unborn, Held, Ready, Running, Armed, Done, Gone}
 use Rattle.board.specs.Calls.{Stands}
 use Rattle.board.specs.Seats.{KnowsCell}
 use Rattle.board.specs.Lanes.{nth, KnowsChains, IsLane, IsSpot, IsOver, Watched}
-use Rattle.board.proofs.SubmitterSeats.{submits_it, seat_looked, cell_here}
-use Rattle.board.proofs.OwnCells.{same_default, reaped_as}
+use Rattle.board.proofs.SubmitterSeats.{seat_looked, cell_here}
+use Rattle.board.proofs.OwnCells.{same_default}
 use Rattle.steps.proofs.NotesKept.{earlier_reaped, reaped_born}
-use Rattle.steps.proofs.FreeCells.{before_it}
+use Rattle.steps.proofs.FreeCells.{before_it, reaped_as}
 use mathlib.Core.Logic.{dite}
 use native.Mathlib.Decide.{ℕ_discrete}
 
@@ -123,7 +124,7 @@ module _ (v w : View) (ring next done : ℕ) (hosted : Bool) (mine : stands_for 
 
 -- a lane whose seat looked
 pub lane_looked : (s t : Seat (Option Thing) View) (a : Lane) → IsLane s a → Looks s.me.0 t.me.0 → t.me.1 ≡ s.me.1 → IsLane t a
-lane_looked s t a l x bare = (seat_looked s t a.ring a.next a.ages.items a.facts.items l.0 x bare, chains_looked s.me.0 t.me.0 a.ring a.next a.done a.hosted (submits_it s.me.0 a.ring l.0.role) l.1 x)
+lane_looked s t a l x bare = (seat_looked s t a.ring a.next a.ages.items a.facts.items l.0 x bare, chains_looked s.me.0 t.me.0 a.ring a.next a.done a.hosted (submitter_can s.me.0 a.ring l.0.role) l.1 x)
 
 -- ---- who has replied
 
