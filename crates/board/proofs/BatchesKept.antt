@@ -1,5 +1,5 @@
 -- What is tested of a batch, and what its submission comes to, entry by entry.
-use Rattle.std.proofs.Common.{◌≡◌, ℕ, zero, suc, ◌+◌, ◌*◌, ◌/◌, ◌==◌, ◌<◌, ◌≤◌, Bool, true, false, cond, List, [], ◌∷◌, ◌++◌, Some, length, drop, reverse, get_or, sym, refl, ap, ◌∙◌, subst, arith, eq-eqb, ne_eqb, append-nil}
+use Rattle.std.proofs.Common.{◌≡◌, ℕ, zero, suc, ◌+◌, ◌*◌, ◌/◌, ◌==◌, ◌<◌, ◌≤◌, Bool, cond, List, [], ◌∷◌, ◌++◌, Some, length, drop, reverse, get_or, sym, refl, ap, ◌∙◌, subst, arith, eq-eqb, ne_eqb, append-nil}
 use Rattle.std.proofs.Math.Seq.{drop-cons}
 use Rattle.std.proofs.lemmas.List.{append_assoc, reverse-append}
 use Rattle.std.specs.Global.{Vec}
@@ -11,13 +11,12 @@ use Rattle.history.specs.History.{submits}
 use Rattle.history.specs.Chains.{before_in}
 use Rattle.steps.specs.declared.line.Line.{Line}
 use Rattle.steps.specs.declared.line.Line.TheVariants.{Did, Lent, Noted}
-use Rattle.steps.specs.declared.view.Role.{Role}
 use Rattle.steps.specs.declared.view.Role.TheVariants.{Submitter, Lending}
 use Rattle.steps.specs.declared.view.View.{View}
 use Rattle.steps.specs.Fairness.{IsFree}
-use Rattle.steps.specs.Journal.{event_of, events_of}
+use Rattle.steps.specs.Journal.{events_of}
 use Rattle.steps.specs.Cells.{cells_in, facts_at, user_at}
-use Rattle.steps.specs.Rule.{owns, ExtendsThrice}
+use Rattle.steps.specs.Rule.{ExtendsThrice}
 use Rattle.steps.proofs.JournalGrowth.{same_submits}
 use Rattle.steps.proofs.ViewsKept.{submits_after, submitter_can}
 use Rattle.work.specs.Board.{Facts}

@@ -1,22 +1,21 @@
 -- What the parts of a facts word are, by the word, and what they say of the chain of its request.
 use Rattle.std.proofs.Common.{◌≡◌, ◌⊎◌, ⊎_elim, inl, inr, ℕ, ◌+◌, ◌*◌, ◌%◌, ◌<◌, ◌≤◌, ◌==◌, ◌&&◌, ◌||◌, not, cond, Bool, true, false, nat_lt, IsTrue, List, Option, Some, refl, sym, ap, ◌∙◌, subst, arith, true≢false, ltb-true, ne_eqb}
 use Rattle.claim.specs.Facts.{Facts, bit, packed_facts, fits_facts}
-use Rattle.entry.specs.declared.op.Op.{Op}
-use Rattle.entry.specs.declared.op.Op.TheVariants.{Nop, PollAdd, Timeout, TimeoutRemove, AsyncCancel, LinkTimeout, Close, Read, Write, Invalid}
-use Rattle.entry.specs.Entry.{Entry, links, links_soft, links_hard, drains, fails}
+use Rattle.entry.specs.declared.op.Op.TheVariants.{Invalid}
+use Rattle.entry.specs.Entry.{Entry, links, links_soft, links_hard, fails}
 use Rattle.history.specs.declared.req.Req.{Req}
 use Rattle.history.specs.declared.event.Event.{Event}
 use Rattle.history.specs.History.{Phase, Submission, phase, reply_in, replied, reaped, submission, submits, IsReplied}
 use Rattle.history.specs.Chains.{joins, before_in, hosts, placed_from, placed_behind, is_link_timeout, IsPlaced, IsChainDone}
 use Rattle.history.specs.Legal.{Legal}
-use Rattle.history.proofs.Requests.{bool_cases, and_left, and_right}
+use Rattle.history.proofs.Requests.{bool_cases}
 use Rattle.history.proofs.Growth.{submission_some}
 use Rattle.steps.specs.declared.line.Line.{Line}
 use Rattle.steps.specs.declared.view.Layout.{Layout}
 use Rattle.steps.specs.Cells.{setup_of, IsCell, request_at, facts_at}
 use Rattle.steps.specs.Fairness.{Orderly, IsReaped}
 use Rattle.steps.specs.Journal.{events_of, lent, noted}
-use Rattle.steps.specs.Notes.{row_number, etime_in, ticks_in, facts_of, outcome_of}
+use Rattle.steps.specs.Notes.{facts_of, outcome_of}
 use Rattle.steps.proofs.NotesKept.{notes_are}
 use Rattle.steps.proofs.FactsKept.{facts_tell, packed_generation}
 use Rattle.steps.proofs.FactsRead.{row_small, same_facts, low_facts, parts_small, parts_of}

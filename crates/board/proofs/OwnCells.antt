@@ -1,12 +1,12 @@
 -- What a submitter knows of the cells of its ring, from one step to the next.
-use Rattle.std.proofs.Common.{◌≡◌, ℕ, zero, suc, ◌+◌, ◌<◌, Bool, true, false, ℤ, List, [], ◌∷◌, ◌++◌, replicate, length, get_or, set, sym, refl, ap, ◌∙◌, subst, arith, get_or-set_same, get_or-set_other}
+use Rattle.std.proofs.Common.{◌≡◌, ℕ, zero, suc, ◌+◌, ◌<◌, Bool, true, false, List, [], ◌∷◌, ◌++◌, replicate, length, get_or, set, sym, refl, ap, ◌∙◌, subst, arith, get_or-set_same, get_or-set_other}
 use lib.ListN.{get_or-replicate}
 use mathlib.Core.Logic.{dite}
 use native.Mathlib.Decide.{ℕ_discrete}
 use Rattle.history.specs.declared.req.Req.{Req}
 use Rattle.history.specs.declared.event.Event.{Event}
 use Rattle.history.specs.declared.event.Event.TheVariants.{Reap}
-use Rattle.history.specs.History.{Cause, Phase, reaped, after_reap, phase, submits}
+use Rattle.history.specs.History.{reaped, after_reap, phase, submits}
 use Rattle.history.specs.Legal.{Setup, Legal}
 use Rattle.history.proofs.Growth.{counted}
 use Rattle.history.proofs.Requests.{same_itself}

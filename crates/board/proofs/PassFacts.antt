@@ -1,10 +1,7 @@
 -- What a pass of a board knows, and what a step of its seat tells it.
-use Rattle.std.proofs.Common.{◌≡◌, ℕ, ◌+◌, ◌<◌, ◌≤◌, inl, inr, true, false, true≢false, cond, List, [], ◌∷◌, ◌++◌, length, sym, refl, ap, ◌∙◌, subst, arith, ne_eqb}
+use Rattle.std.proofs.Common.{◌≡◌, ℕ, ◌+◌, ◌<◌, ◌≤◌, inl, inr, true, false, true≢false, cond, List, [], ◌∷◌, ◌++◌, length, sym, refl, ap, ◌∙◌, subst, arith}
 use Rattle.history.specs.declared.req.Req.{Req}
-use Rattle.history.specs.declared.event.Event.{Event}
-use Rattle.history.specs.declared.event.Event.TheVariants.{Submit}
 use Rattle.history.specs.History.{unborn, same, phase}
-use Rattle.history.specs.Legal.{Setup, Legal, MayCome}
 use Rattle.history.proofs.Growth.{unborn_yet}
 use Rattle.history.proofs.Requests.{same_itself}
 use Rattle.history.proofs.Words.{no_ring}

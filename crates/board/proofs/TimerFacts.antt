@@ -1,18 +1,18 @@
 -- What the facts of a request that has no reply tell of it, if it is a timer.
 use Rattle.std.proofs.Common.{◌≡◌, ◌≢◌, ℕ, ◌+◌, ◌*◌, ◌%◌, ◌<◌, ◌≤◌, ◌&&◌, not, nat_lt, ltb-true, Bool, true, false, negsuc, List, Option, Some, IsTrue, sym, refl, ap, ◌∙◌, subst, ⊎_elim, arith, true≢false}
-use Rattle.claim.specs.Facts.{Facts, bit, packed_facts, fits_facts}
+use Rattle.claim.specs.Facts.{Facts, packed_facts, fits_facts}
 use Rattle.entry.specs.declared.op.Op.{Op}
 use Rattle.entry.specs.declared.op.Op.TheVariants.{Nop, PollAdd, Timeout, TimeoutRemove, AsyncCancel, LinkTimeout, Close, Read, Write, Invalid}
-use Rattle.entry.specs.Entry.{Entry, drains, links_soft, links_hard, fails_op}
+use Rattle.entry.specs.Entry.{Entry, fails_op}
 use Rattle.history.specs.declared.req.Req.{Req}
-use Rattle.history.specs.History.{Cause, replied, unborn, Phase, reaped, submits, phase, IsReplied}
+use Rattle.history.specs.History.{Cause, replied, unborn, submits, phase, IsReplied}
 use Rattle.history.specs.Chains.{IsPlaced, is_timer, is_timeout, is_link_timeout, placed_behind, placed_from, before_in}
 use Rattle.history.specs.Legal.{Legal, ticks_of}
-use Rattle.history.proofs.Requests.{bool_cases, and_left, and_right}
+use Rattle.history.proofs.Requests.{bool_cases}
 use Rattle.history.proofs.Growth.{submission_some, born_once}
 use Rattle.steps.specs.declared.line.Line.{Line}
 use Rattle.steps.specs.declared.view.Layout.{Layout}
-use Rattle.steps.specs.Fairness.{IsReaped, Orderly, NotesTell}
+use Rattle.steps.specs.Fairness.{Orderly, NotesTell}
 use Rattle.steps.specs.Journal.{events_of, lent, noted}
 use Rattle.steps.specs.Cells.{request_at, facts_at, setup_of}
 use Rattle.steps.specs.Notes.{row_number, ticks_in, etime_in, facts_of}
