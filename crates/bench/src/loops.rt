@@ -12,6 +12,9 @@ use entry::{Op, Sqe};
 use prep::{read, with_flags, with_user_data};
 use std::fmt;
 
+/// ECANCELED, as a reply.
+const CANCELED: i32 = -125;
+
 /// What is timed.
 #[derive(Clone, Copy, PartialEq, Eq, Debug)]
 pub enum Loop {
@@ -91,7 +94,7 @@ fn any_word(i: u32) -> ClaimWord
         3 => ClaimWord::running(i),
         4 => ClaimWord::armed(i, 100 + i),
         5 => ClaimWord::done(i, Cause::Reply, false, i as i32),
-        _ => ClaimWord::done(i, Cause::Take, true, -125),
+        _ => ClaimWord::done(i, Cause::Take, true, CANCELED),
     }
 }
 

@@ -1,5 +1,5 @@
 -- What is tested of a batch, and what its submission comes to, entry by entry.
-use Rattle.std.proofs.Common.{◌≡◌, ℕ, zero, suc, ◌+◌, ◌*◌, ◌/◌, ◌==◌, ◌<◌, ◌≤◌, Bool, true, false, cond, List, [], ◌∷◌, ◌++◌, Some, length, drop, reverse, get_or, sym, refl, ap, ◌∙◌, subst, arith, eq-eqb, ne_eqb, append-nil}
+use Rattle.std.proofs.Common.{◌≡◌, ℕ, zero, suc, ◌+◌, ◌*◌, ◌/◌, ◌==◌, ◌<◌, ◌≤◌, Bool, cond, List, [], ◌∷◌, ◌++◌, Some, length, drop, reverse, get_or, sym, refl, ap, ◌∙◌, subst, arith, eq-eqb, ne_eqb, append-nil}
 use Rattle.std.proofs.Math.Seq.{drop-cons}
 use Rattle.std.proofs.lemmas.List.{append_assoc, reverse-append}
 use Rattle.std.specs.Global.{Vec}
@@ -11,15 +11,14 @@ use Rattle.history.specs.History.{submits}
 use Rattle.history.specs.Chains.{before_in}
 use Rattle.steps.specs.declared.line.Line.{Line}
 use Rattle.steps.specs.declared.line.Line.TheVariants.{Did, Lent, Noted}
-use Rattle.steps.specs.declared.view.Role.{Role}
 use Rattle.steps.specs.declared.view.Role.TheVariants.{Submitter, Lending}
 use Rattle.steps.specs.declared.view.View.{View}
 use Rattle.steps.specs.Fairness.{IsFree}
-use Rattle.steps.specs.Journal.{event_of, events_of}
+use Rattle.steps.specs.Journal.{events_of}
 use Rattle.steps.specs.Cells.{cells_in, facts_at, user_at}
-use Rattle.steps.specs.Rule.{owns, ExtendsThrice}
+use Rattle.steps.specs.Rule.{ExtendsThrice}
 use Rattle.steps.proofs.JournalGrowth.{same_submits}
-use Rattle.steps.proofs.ViewsKept.{submits_after}
+use Rattle.steps.proofs.ViewsKept.{submits_after, submitter_can}
 use Rattle.work.specs.Board.{Facts}
 use Rattle.work.specs.Passes.{Pass, seen_of, own_of, Took}
 use Rattle.work.proofs.RunsKept.{took_both}
@@ -29,9 +28,9 @@ use Rattle.board.specs.Lanes.{nth, RefusesRoom}
 use Rattle.board.specs.Refusals.{RefusesBatch}
 use Rattle.board.specs.declared.error.SubmitError.{SubmitError}
 use Rattle.board.specs.declared.error.SubmitError.TheVariants.{Full, Spent}
-use Rattle.board.proofs.GoesLaws.{goes_still, events_before, event_before}
+use Rattle.board.proofs.GoesLaws.{goes_still, events_before, own_both}
 use Rattle.board.proofs.LanesKept.{just_before}
-use Rattle.board.proofs.SubmitterSeats.{submits_it, lends_it}
+use Rattle.board.proofs.SubmitterSeats.{lends_it}
 use Rattle.board.proofs.SubmitterLooks.{free_then}
 
 -- what is left of a batch from its i-th entry on
@@ -46,20 +45,13 @@ none_left (x ∷ xs) (suc i) le = none_left xs i (omega arith)
 
 -- ---- a pass that goes on by several events of its own
 
-own_concat : (role : Role) (k l : List Line) → own_of role (k ++ l) ≡ own_of role k ++ own_of role l
-own_concat role [] l = refl
-own_concat role (x ∷ k) l = by_owner (owns role x) (own_concat role k l) where
-  by_owner : (b : Bool) → own_of role (k ++ l) ≡ own_of role k ++ own_of role l → cond b (event_of x (own_of role (k ++ l))) (own_of role (k ++ l)) ≡ cond b (event_of x (own_of role k)) (own_of role k) ++ own_of role l
-  by_owner true e = ap (event_of x) e ∙ event_before x (own_of role k) (own_of role l)
-  by_owner false e = e
-
 pub goes_more : (b : Facts) (p m q : Pass) (e : Event) (es : List Event) → Goes b p es m → Goes b m (e ∷ []) q → Goes b p (e ∷ es) q
 goes_more b p m q e es x y = record {
   kept = y.kept;
   role_is = y.role_is ∙ x.role_is;
   later = y.later ++ x.later;
   seen_is = y.seen_is ∙ (ap (λ (j : List Line). y.later ++ j) x.seen_is ∙ sym (append_assoc y.later x.later p.view.seen));
-  own = own_concat p.view.role y.later x.later ∙ ((λ i. own_of (sym x.role_is i) y.later ++ x.own i) ∙ ap (λ (h : List Event). h ++ es) y.own);
+  own = own_both p.view.role y.later x.later ∙ ((λ i. own_of (sym x.role_is i) y.later ++ x.own i) ∙ ap (λ (h : List Event). h ++ es) y.own);
   last = subst (EndsWith (e ∷ es)) (sym (events_before y.later x.later)) (y.last.0 ++ events_of x.later, ap (λ (z : List Event). z ++ events_of x.later) y.last.1);
 }
 
@@ -110,7 +102,7 @@ pub thrice_next : (v t : View) (ring next fact user c : ℕ) (r : Req) (e : Entr
     → (submits (events_of t.seen) ring ≡ next + 1) × (before_in (events_of t.seen) (nth ring (next + 1)) ≡ Some (record { entry = e; bytes = bytes; last = last }))
 thrice_next v t ring next fact user c r e bytes last role is now x =
     let at : r.ring ≡ ring = ap (λ (z : Req). z.ring) is in let u : View = x.0 in let w : View = x.2.0 in let l : Line = Did (Submit r e bytes last) in let y = x.2.2 in
-    let one = submits_it v ring role in let two = lends_it u r ring (ap (λ (z : View). z.role) x.1.is) at in let three = lends_it w r ring (ap (λ (z : View). z.role) x.2.1.is) at in
+    let one = submitter_can v ring role in let two = lends_it u r ring (ap (λ (z : View). z.role) x.1.is) at in let three = lends_it w r ring (ap (λ (z : View). z.role) x.2.1.is) at in
     let counted : submits (events_of w.seen) ring ≡ next = submits_after u w _ _ (λ j. refl) x.2.1 ring two ∙ (submits_after v u _ _ (λ j. refl) x.1 ring one ∙ now) in
     let seen : t.seen ≡ l ∷ (y.saw.later ++ w.seen) = ap (λ (z : View). z.seen) y.is ∙ ap (λ (j : List Line). l ∷ j) y.saw.is in
     let before : submits (events_of (y.saw.later ++ w.seen)) ring ≡ next = same_submits w.role ring three y.saw.later w.seen y.saw.none ∙ counted in (

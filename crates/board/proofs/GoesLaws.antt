@@ -56,7 +56,7 @@ goes_then b p m q es x y = record {
 }
 
 -- the own events of two parts
-own_both : (role : Role) (k l : List Line) → own_of role (k ++ l) ≡ own_of role k ++ own_of role l
+pub own_both : (role : Role) (k l : List Line) → own_of role (k ++ l) ≡ own_of role k ++ own_of role l
 own_both role [] l = refl
 own_both role (x ∷ k) l = ⊎_elim
     (λ (w : owns role x ≡ true). ap (λ (c : Bool). cond c (event_of x (own_of role (k ++ l))) (own_of role (k ++ l))) w ∙ (ap (event_of x) (own_both role k l) ∙ (event_before x (own_of role k) (own_of role l) ∙ ap (λ (h : List Event). h ++ own_of role l) (sym (ap (λ (c : Bool). cond c (event_of x (own_of role k)) (own_of role k)) w)))))

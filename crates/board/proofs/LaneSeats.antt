@@ -22,11 +22,12 @@ use Rattle.std.specs.Prelude.{IfOk, IfErr}
 use Rattle.std.specs.declared.result.Result.{Result}
 use Rattle.std.specs.declared.result.Result.TheVariants.{Ok, Err}
 use Rattle.work.specs.Passes.{Pass, pass_of, seen_of}
+use Rattle.steps.proofs.ViewsKept.{submitter_can}
 use Rattle.board.specs.declared.lane.Lane.{Lane}
 use Rattle.board.specs.Lanes.{nth, KnowsChains, IsLane}
 use Rattle.board.proofs.LanesKept.{chains_extended, chains_submitted}
 use Rattle.board.proofs.LaneWalks.{TableSeat, reseat}
-use Rattle.board.proofs.SubmitterSeats.{submits_it, lends_it}
+use Rattle.board.proofs.SubmitterSeats.{lends_it}
 
 -- a seat that heard another
 pub lane_hears : (s t : TableSeat) (a : Lane) → IsLane s a → (parts : ℕ) (heard : List Heard) → t.me ≡ ((let v : View = record s.me.0 { parts = parts; heard = heard } in v), s.me.1) → IsLane t a
@@ -59,7 +60,7 @@ pub chains_after : (v t : View) (ring next done : ℕ) (hosted : Bool) (r : Req)
     → hosted' ≡ hosts (Some (record { entry = e; bytes = bytes; last = last })) → (done' ≡ done) ⊎ ((done < done') × (done' + cells_in v.layout.cells ring ≡ next + 1)) → next + 1 ≤ done' + cells_in v.layout.cells ring → KnowsChains t ring (next + 1) done' hosted'
 chains_after v t ring next done hosted r e bytes last done' hosted' role is k c fact user x free host more near =
     let at : r.ring ≡ ring = ap (λ (z : Req). z.ring) is in let u : View = x.0 in let w : View = x.2.0 in
-    let one = chains_extended v u ring next done hosted (submits_it v ring role) k _ (Lending r) (λ j. refl) x.1 in
+    let one = chains_extended v u ring next done hosted (submitter_can v ring role) k _ (Lending r) (λ j. refl) x.1 in
     let two = chains_extended u w ring next done hosted (lends_it u r ring (ap (λ (z : View). z.role) x.1.is) at) one _ (Lending r) (λ j. refl) x.2.1 in
     let layout : w.layout ≡ v.layout = ap (λ (z : View). z.layout) x.2.1.is ∙ ap (λ (z : View). z.layout) x.1.is in
     let free' : IsFree w.layout.cells (events_of w.seen) (nth ring next) = subst (λ (q : Req). IsFree w.layout.cells (events_of w.seen) q) is (free_on u w _ _ r x.2.1 (free_on v u _ _ r x.1 free)) in
@@ -69,7 +70,7 @@ chains_after v t ring next done hosted r e bytes last done' hosted' role is k c 
 -- and after a Reap
 pub chains_reaped : (v t : View) (ring next done : ℕ) (hosted : Bool) (r : Req) → v.role ≡ Submitter ring → r.ring ≡ ring → KnowsChains v ring next done hosted → (c fact : ℕ) → ExtendsTwice v (Lent r (facts_at c) fact) (Lending r) (Did (Reap r)) (Submitter r.ring) t → KnowsChains t ring next done hosted
 chains_reaped v t ring next done hosted r role at k c fact x = let u : View = x.0 in
-    chains_extended u t ring next done hosted (lends_it u r ring (ap (λ (z : View). z.role) x.1.is) at) (chains_extended v u ring next done hosted (submits_it v ring role) k _ (Lending r) (λ j. refl) x.1) _ (Submitter r.ring) (λ j. refl) x.2
+    chains_extended u t ring next done hosted (lends_it u r ring (ap (λ (z : View). z.role) x.1.is) at) (chains_extended v u ring next done hosted (submitter_can v ring role) k _ (Lending r) (λ j. refl) x.1) _ (Submitter r.ring) (λ j. refl) x.2
 
 -- of an answer more is so
 pub ok_more : {T E : Type 0} (r : Result T E) (P Q : T → Type 0) → ((x : T) → P x → Q x) → IfOk r P → IfOk r Q

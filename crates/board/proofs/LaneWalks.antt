@@ -21,6 +21,7 @@ use Rattle.steps.specs.declared.view.Layout.{Layout}
 use Rattle.steps.specs.declared.view.Step.{Step}
 use Rattle.steps.specs.declared.view.View.{View}
 use Rattle.steps.specs.Journal.{events_of, noted}
+use Rattle.steps.proofs.FreeCells.{reaped_as}
 use Rattle.steps.specs.Cells.{setup_of, IsCell, ring_of, place_of, cells_in, total, request_at, facts_at, claim_at, words_of}
 use Rattle.steps.specs.Fairness.{IsReaped}
 use Rattle.steps.specs.declared.view.Role.TheVariants.{Submitter}
@@ -28,13 +29,13 @@ use Rattle.steps.specs.Rule.{IsSameSeat}
 use Rattle.steps.proofs.JournalGrowth.{legal_before, lasts, replied_lasts, reaped_lasts, submission_lasts, same_submits, same_before}
 use Rattle.work.specs.declared.grid.Spot.{Spot}
 use Rattle.work.specs.Passes.{Pass, Took}
+use Rattle.steps.proofs.ViewsKept.{submitter_can}
 use Rattle.board.specs.declared.lane.Lane.{Lane}
 use Rattle.board.specs.Calls.{Stepped}
 use Rattle.board.specs.Lanes.{nth, IsLane, IsSpot, IsOver, Watched, SameLane, WereReaped, continues}
 use Rattle.board.proofs.FactsWords.{Tells, chain_told}
 use Rattle.board.proofs.LanesKept.{lane_looked, lane_cell}
-use Rattle.board.proofs.OwnCells.{same_default, reaped_as}
-use Rattle.board.proofs.SubmitterSeats.{submits_it}
+use Rattle.board.proofs.OwnCells.{same_default}
 use Rattle.board.proofs.SubmitterLooks.{gen_small}
 
 abbrev pub TableSeat : Type 0
@@ -64,12 +65,12 @@ watched_took (suc n) v w k = let b = watched_took n v k.0 k.1 in let s : Step = 
 pub watched_submits : (n : ℕ) (v w : View) (ring : ℕ) → v.role ≡ Submitter ring → Watched n v w → submits (events_of w.seen) ring ≡ submits (events_of v.seen) ring
 watched_submits zero v w ring role k = ap (λ (z : View). submits (events_of z.seen) ring) k
 watched_submits (suc n) v w ring role k = let m : View = k.0 in let x = k.2 in let r = (watched_layout n v m k.1).1 ∙ role in
-    ap (λ (j : List Line). submits (events_of j) ring) (ap (λ (z : View). z.seen) x.is ∙ x.saw.is) ∙ (same_submits m.role ring (submits_it m ring r) x.saw.later m.seen x.saw.none ∙ watched_submits n v m ring role k.1)
+    ap (λ (j : List Line). submits (events_of j) ring) (ap (λ (z : View). z.seen) x.is ∙ x.saw.is) ∙ (same_submits m.role ring (submitter_can m ring r) x.saw.later m.seen x.saw.none ∙ watched_submits n v m ring role k.1)
 
 pub watched_before : (n : ℕ) (v w : View) (ring k : ℕ) → v.role ≡ Submitter ring → Watched n v w → before_in (events_of w.seen) (nth ring k) ≡ before_in (events_of v.seen) (nth ring k)
 watched_before zero v w ring k role l = ap (λ (z : View). before_in (events_of z.seen) (nth ring k)) l
 watched_before (suc n) v w ring k role l = let m : View = l.0 in let x = l.2 in let r = (watched_layout n v m l.1).1 ∙ role in
-    ap (λ (j : List Line). before_in (events_of j) (nth ring k)) (ap (λ (z : View). z.seen) x.is ∙ x.saw.is) ∙ (same_before m.role ring (submits_it m ring r) (nth ring k) refl x.saw.later m.seen x.saw.none ∙ watched_before n v m ring k role l.1)
+    ap (λ (j : List Line). before_in (events_of j) (nth ring k)) (ap (λ (z : View). z.seen) x.is ∙ x.saw.is) ∙ (same_before m.role ring (submitter_can m ring r) (nth ring k) refl x.saw.later m.seen x.saw.none ∙ watched_before n v m ring k role l.1)
 
 -- the lane says nothing of the seat but what it has seen and has in hand
 pub reseat : (s t : TableSeat) (a : Lane) → IsLane (record s { me = t.me }) a → IsLane t a

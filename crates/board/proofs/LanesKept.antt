@@ -25,16 +25,17 @@ use Rattle.steps.specs.Cells.{setup_of, IsCell, ring_of, place_of, cells_in, req
 use Rattle.steps.specs.Rule.{rings, stands_for, Looks, Extends, Fits, IsStep, Vacant}
 use Rattle.steps.proofs.JournalGrowth.{legal_before, lasts, done_lasts, same_before}
 use Rattle.work.specs.declared.grid.Spot.{Spot}
+use Rattle.steps.proofs.ViewsKept.{submitter_can}
 use Rattle.board.specs.declared.lane.Lane.{Lane}
 use Rattle.board.specs.declared.phase.Phase.{Phase as Standing}
 use Rattle.board.specs.declared.phase.Phase.TheVariants.{Unborn, Held, Ready, Running, Armed, Done, Gone}
 use Rattle.board.specs.Calls.{Stands}
 use Rattle.board.specs.Seats.{KnowsCell}
 use Rattle.board.specs.Lanes.{nth, KnowsChains, IsLane, IsSpot, IsOver, Watched}
-use Rattle.board.proofs.SubmitterSeats.{submits_it, seat_looked, cell_here}
-use Rattle.board.proofs.OwnCells.{same_default, reaped_as}
+use Rattle.board.proofs.SubmitterSeats.{seat_looked, cell_here}
+use Rattle.board.proofs.OwnCells.{same_default}
 use Rattle.steps.proofs.NotesKept.{earlier_reaped, reaped_born}
-use Rattle.steps.proofs.FreeCells.{before_it}
+use Rattle.steps.proofs.FreeCells.{before_it, reaped_as}
 use mathlib.Core.Logic.{dite}
 use native.Mathlib.Decide.{ℕ_discrete}
 
@@ -123,16 +124,12 @@ module _ (v w : View) (ring next done : ℕ) (hosted : Bool) (mine : stands_for 
 
 -- a lane whose seat looked
 pub lane_looked : (s t : Seat (Option Thing) View) (a : Lane) → IsLane s a → Looks s.me.0 t.me.0 → t.me.1 ≡ s.me.1 → IsLane t a
-lane_looked s t a l x bare = (seat_looked s t a.ring a.next a.ages.items a.facts.items l.0 x bare, chains_looked s.me.0 t.me.0 a.ring a.next a.done a.hosted (submits_it s.me.0 a.ring l.0.role) l.1 x)
+lane_looked s t a l x bare = (seat_looked s t a.ring a.next a.ages.items a.facts.items l.0 x bare, chains_looked s.me.0 t.me.0 a.ring a.next a.done a.hosted (submitter_can s.me.0 a.ring l.0.role) l.1 x)
 
 -- ---- who has replied
 
 pub spot_fits : (table : TableId) (s : Seat (Option Thing) View) (ring k : ℕ) (o : Spot) → IsOver table s.me.0.layout.cells s → IsSpot s.me.0.layout.cells ring k o → Fits table s o.cell
 spot_fits table s ring k o over spot = (over.table_is, spot.small, spot.inside, (let w = over.wide in let i = spot.inside in omega arith))
-
-pub replied_reaped : (p : Phase) → IsReaped p → IsReplied p
-replied_reaped (Rattle.history.specs.History.reaped c res) r = tt
-replied_reaped p r = absurd r
 
 -- what a submitter knows of the cell of one of its ring's requests
 pub lane_cell : (s : Seat (Option Thing) View) (a : Lane) (k : ℕ) (o : Spot) → IsLane s a → IsSpot s.me.0.layout.cells a.ring k o → (o.number < length a.ages.items) × (o.number < length a.facts.items) × KnowsCell s.me.0.layout.cells s.me.0.seen o.cell (get_or a.ages.items o.number 0) (get_or a.facts.items o.number 0)
@@ -145,7 +142,7 @@ watched_one v w word found x step = (v, refl, x, (word, found, step))
 -- a request whose cell's reaping went past it has replied
 pub reaped_replied : (s : Seat (Option Thing) View) (a : Lane) (k read : ℕ) (o : Spot) → IsLane s a → IsSpot s.me.0.layout.cells a.ring k o → read ≡ get_or a.ages.items o.number read → o.generation < read → IsReplied (phase (events_of s.me.0.seen) (nth a.ring k))
 reaped_replied s a k read o l spot at lt = let c = lane_cell s a k o l spot in let age : read ≡ get_or a.ages.items o.number 0 = at ∙ same_default a.ages.items o.number read 0 c.0 in
-    subst (λ (r : Req). IsReplied (phase (events_of s.me.0.seen) r)) spot.at (replied_reaped _ (c.2.gone o.generation (subst (λ (z : ℕ). o.generation < z) age lt)))
+    subst (λ (r : Req). IsReplied (phase (events_of s.me.0.seen) r)) spot.at (Rattle.steps.proofs.FactsRead.reaped_replied _ (c.2.gone o.generation (subst (λ (z : ℕ). o.generation < z) age lt)))
 
 pub not_pending : (j : List Line) (r : Req) (s : Standing) → (s ≡ Gone) ⊎ ((res : ℤ) × (s ≡ Done res)) → Stands j r s → IsReplied (phase (events_of j) r)
 not_pending j r Gone w k = subst IsReplied (sym k.2) tt

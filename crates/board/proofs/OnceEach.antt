@@ -7,6 +7,7 @@ use Rattle.history.specs.History.{Cause, Phase, unborn, waits, runs, armed, repl
 use Rattle.history.specs.Legal.{Setup, Legal}
 use Rattle.history.proofs.Requests.{bool_cases}
 use Rattle.history.proofs.Growth.{MayChange, may_change, changed, unchanged}
+use Rattle.steps.proofs.JournalGrowth.{answers_concerns}
 use Rattle.board.specs.Headline.{submits_it, reaps_it, times, HasOnce}
 
 -- how often a request that stands so was submitted, answered and reaped
@@ -61,19 +62,9 @@ other_reaps : (e : Event) (q : Req) → concerns e q ≡ false → reaps_it e q 
 other_reaps (Reap r) q n = n
 other_reaps e q n = refl
 
-other_answers : (e : Event) (q : Req) → concerns e q ≡ false → answers e q ≡ false
-other_answers (Reply r res data') q n = n
-other_answers (Take c t) q n = n
-other_answers (Expire r) q n = n
-other_answers (Fire l t) q n = n
-other_answers (Settle l) q n = n
-other_answers (Sever r) q n = n
-other_answers (Cut r) q n = n
-other_answers e q n = refl
-
 counts_same : (h : List Event) (q : Req) (p : Phase) (e : Event) → concerns e q ≡ false → Counts h q p → Counts (e ∷ h) q p
 counts_same h q p e n i =
-    let a = i.0 in let b = i.1 in let c = i.2 in let x = none (submits_it e q) (other_submits e q n) in let y = none (answers e q) (other_answers e q n) in let z = none (reaps_it e q) (other_reaps e q n) in
+    let a = i.0 in let b = i.1 in let c = i.2 in let x = none (submits_it e q) (other_submits e q n) in let y = none (answers e q) (answers_concerns e q n) in let z = none (reaps_it e q) (other_reaps e q n) in
     (omega arith, omega arith, omega arith)
 
 counts : (s : Setup) (h : List Event) (q : Req) → Legal s h → Counts h q (phase h q)

@@ -1,12 +1,12 @@
 -- What a submitter knows of the cells of its ring, from one step to the next.
-use Rattle.std.proofs.Common.{◌≡◌, ℕ, zero, suc, ◌+◌, ◌<◌, Bool, true, false, ℤ, List, [], ◌∷◌, ◌++◌, replicate, length, get_or, set, sym, refl, ap, ◌∙◌, subst, arith, get_or-set_same, get_or-set_other}
+use Rattle.std.proofs.Common.{◌≡◌, ℕ, zero, suc, ◌+◌, ◌<◌, Bool, true, false, List, [], ◌∷◌, ◌++◌, replicate, length, get_or, set, sym, refl, ap, ◌∙◌, subst, arith, get_or-set_same, get_or-set_other}
 use lib.ListN.{get_or-replicate}
 use mathlib.Core.Logic.{dite}
 use native.Mathlib.Decide.{ℕ_discrete}
 use Rattle.history.specs.declared.req.Req.{Req}
 use Rattle.history.specs.declared.event.Event.{Event}
 use Rattle.history.specs.declared.event.Event.TheVariants.{Reap}
-use Rattle.history.specs.History.{Cause, Phase, reaped, after_reap, phase, submits}
+use Rattle.history.specs.History.{reaped, after_reap, phase, submits}
 use Rattle.history.specs.Legal.{Setup, Legal}
 use Rattle.history.proofs.Growth.{counted}
 use Rattle.history.proofs.Requests.{same_itself}
@@ -20,13 +20,9 @@ use Rattle.steps.specs.Journal.{events_of, noted, stores, lends, lent, event_of}
 use Rattle.steps.specs.Cells.{setup_of, IsCell, ring_of, place_of, cells_in, request_at, facts_at}
 use Rattle.steps.specs.Rule.{rings, stands_for, NoneOf, Looks, Extends}
 use Rattle.steps.proofs.CellNumbers.{located, first_cell, other_age}
-use Rattle.steps.proofs.FreeCells.{same_noted}
+use Rattle.steps.proofs.FreeCells.{reaped_as, same_noted}
 use Rattle.steps.proofs.JournalGrowth.{legal_tail, legal_before, lasts, reaped_lasts, reaps, was_reaped, reaped_before, same_submits, same_lent}
 use Rattle.board.specs.Seats.{KnowsCell, KnowsCells}
-
-pub reaped_as : (p : Phase) → IsReaped p → (c : Cause) × (res : ℤ) × (p ≡ reaped c res)
-reaped_as (reaped c res) r = (c, res, refl)
-reaped_as p r = absurd r
 
 pub same_default : (l : List ℕ) (i a b : ℕ) → i < length l → get_or l i a ≡ get_or l i b
 same_default [] i a b lt = absurd (omega arith)

@@ -1,12 +1,10 @@
 -- What a pass of a board knows, and what a step of its seat tells it.
-use Rattle.std.proofs.Common.{◌≡◌, ℕ, ◌+◌, ◌<◌, ◌≤◌, inl, inr, true, false, true≢false, cond, List, [], ◌∷◌, ◌++◌, length, sym, refl, ap, ◌∙◌, subst, arith, ne_eqb}
+use Rattle.std.proofs.Common.{◌≡◌, ℕ, ◌+◌, ◌<◌, ◌≤◌, inl, inr, true, false, true≢false, cond, List, [], ◌∷◌, ◌++◌, length, sym, refl, ap, ◌∙◌, subst, arith}
 use Rattle.history.specs.declared.req.Req.{Req}
-use Rattle.history.specs.declared.event.Event.{Event}
-use Rattle.history.specs.declared.event.Event.TheVariants.{Submit}
-use Rattle.history.specs.History.{unborn, same, phase, adds_to, submits}
-use Rattle.history.specs.Legal.{Setup, Legal, MayCome}
+use Rattle.history.specs.History.{unborn, same, phase}
 use Rattle.history.proofs.Growth.{unborn_yet}
 use Rattle.history.proofs.Requests.{same_itself}
+use Rattle.history.proofs.Words.{no_ring}
 use Rattle.steps.specs.declared.line.Line.{Line}
 use Rattle.steps.specs.declared.view.Layout.{Layout}
 use Rattle.steps.specs.declared.line.Line.TheVariants.{Did, Freed, Lent, Noted, Hold, Free}
@@ -27,16 +25,8 @@ use Rattle.board.specs.Calls.{IsWord, LastAt, Stepped, HasLooked, Goes, MayStart
 use Rattle.board.proofs.GoesLaws.{goes_looked}
 
 -- no request of a ring that isn't there was submitted
-adds_nothing : (s : Setup) (e : Event) (h : List Event) (i : ℕ) → MayCome s h e → s.rings ≤ i → adds_to e i ≡ 0
-adds_nothing s (Submit r e bytes last) h i a le = let lt = a.0 in ap (λ b. cond b 1 0) (ne_eqb r.ring i (λ is. absurd (omega arith)))
-adds_nothing s e h i a le = refl
-
-pub no_submits : (s : Setup) (h : List Event) (i : ℕ) → Legal s h → s.rings ≤ i → submits h i ≡ 0
-no_submits s [] i l le = refl
-no_submits s (e ∷ h) i l le = let a = adds_nothing s e h i l.0.1 le in let n = no_submits s h i l.1 le in omega arith
-
 pub unborn_ring : (b : Facts) (p : Pass) (r : Req) → IsOf b p → length b.layout.cells ≤ r.ring → phase (seen_of p) r ≡ unborn
-unborn_ring b p r o le = let n = no_submits (setup_of b.layout) (seen_of p) r.ring o.legal le in unborn_yet (setup_of b.layout) (seen_of p) r o.legal (omega arith)
+unborn_ring b p r o le = let n = no_ring (setup_of b.layout) (seen_of p) r.ring o.legal le in unborn_yet (setup_of b.layout) (seen_of p) r o.legal (omega arith)
 
 -- the word that a load found
 pub found_word : (b : Facts) (p q : Pass) (x w : ℕ) → IsOf b p → q.table ≡ p.table → Looks p.view q.view → Shown p.view.layout.cells q.view.seen x w → IsWord w

@@ -1,7 +1,6 @@
 -- Lists of a board's passes: those of a new board, and those that are handed in at its end.
 use Rattle.std.proofs.Common.{ℕ, zero, suc, ◌+◌, Bool, true, false, List, [], ◌∷◌, ◌++◌, All, length, if◌then◌else◌, subst, arith}
 use Rattle.std.proofs.lemmas.List.Elements.{All-push}
-use Rattle.steps.specs.declared.view.Role.{Role}
 use Rattle.steps.specs.declared.view.Role.TheVariants.{Submitter}
 use Rattle.work.specs.Board.{Facts, IsOf}
 use Rattle.work.specs.Passes.{Pass}

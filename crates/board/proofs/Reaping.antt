@@ -19,11 +19,12 @@ use Rattle.steps.proofs.JournalGrowth.{legal_tail, live_tail, still_replied, sti
 use Rattle.steps.proofs.ClaimWords.{done_word}
 use Rattle.work.specs.Board.{Facts, IsOf}
 use Rattle.work.specs.Passes.{Pass, seen_of}
+use Rattle.steps.proofs.ViewsKept.{submitter_can}
 use Rattle.board.specs.declared.phase.Phase.{Phase as Standing}
 use Rattle.board.specs.declared.phase.Phase.TheVariants.{Unborn, Held, Ready, Running, Armed, Done, Gone}
 use Rattle.board.specs.Calls.{Stands}
 use Rattle.board.proofs.Standings.{signed_is}
-use Rattle.board.proofs.SubmitterSeats.{submits_it, lends_it}
+use Rattle.board.proofs.SubmitterSeats.{lends_it}
 
 -- what the claim word of an answered request tells its submitter
 pub is_done : (K : List ℕ) (j : List Line) (x w g : ℕ) (c : Cause) (res : ℤ) → Shown K j x w → phase (events_of j) (request_at K x g) ≡ replied c res → IsDone j (request_at K x g) g w
@@ -54,7 +55,7 @@ stays v w l role r c res x mine is =
 -- the submitter's note and its Reap
 module _ (v w : View) (r : Req) (word value : ℕ) (c : Cause) (res : ℤ) (role : v.role ≡ Submitter r.ring) (x : ExtendsTwice v (Lent r word value) (Lending r) (Did (Reap r)) (Submitter r.ring) w) (is : phase (events_of v.seen) r ≡ replied c res) where
   first : (phase (events_of x.1.mid) r ≡ replied c res) × (data_of (events_of x.1.mid) r ≡ data_of (events_of v.seen) r)
-  first = stays v x.0 (Lent r word value) (Lending r) r c res x.1 (submits_it v r.ring role) is
+  first = stays v x.0 (Lent r word value) (Lending r) r c res x.1 (submitter_can v r.ring role) is
 
   between : x.0.seen ≡ Lent r word value ∷ x.1.mid
   between = ap (λ (z : View). z.seen) x.1.is

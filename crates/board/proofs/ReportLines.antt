@@ -1,5 +1,5 @@
 -- The lines of a report, one after the other.
-use Rattle.std.proofs.Common.{◌≡◌, ◌⊎◌, inl, inr, ⊎_elim, ℕ, zero, suc, ◌+◌, ◌-◌, ◌*◌, ◌/◌, ◌%◌, ◌<◌, ◌≤◌, Bool, true, false, ℤ, Option, Some, None, List, [], ◌∷◌, ◌++◌, length, set, nat_lt, ltb-true, ltb-false, sym, refl, ap, ◌∙◌, subst, arith, length-append}
+use Rattle.std.proofs.Common.{◌≡◌, ◌⊎◌, inl, inr, ⊎_elim, ℕ, zero, suc, ◌+◌, ◌-◌, ◌*◌, ◌/◌, ◌%◌, ◌<◌, ◌≤◌, Bool, ℤ, Option, Some, None, List, [], ◌∷◌, ◌++◌, length, set, sym, refl, ap, ◌∙◌, subst, arith, length-append}
 use Rattle.std.proofs.Math.Nat.{mul-le-mul_left}
 use mathlib.Core.Logic.{dite}
 use mathlib.Core.Option.{some, some-injective}
@@ -10,7 +10,6 @@ use Rattle.history.specs.declared.req.Req.{Req}
 use Rattle.history.specs.declared.event.Event.{Event}
 use Rattle.history.specs.History.{Cause, Phase, unborn, waits, runs, armed, replied, reaped, phase, submits}
 use Rattle.history.specs.Legal.{Setup}
-use Rattle.history.proofs.Requests.{bool_cases}
 use Rattle.history.proofs.Growth.{counted, born_once}
 use Rattle.steps.specs.declared.line.Line.{Line}
 use Rattle.steps.specs.declared.parcel.Parcel.{Parcel}
@@ -19,6 +18,8 @@ use Rattle.steps.specs.declared.parcel.Thing.TheVariants.{Full}
 use Rattle.steps.specs.Journal.{events_of}
 use Rattle.steps.specs.Cells.{IsCell, request_at, ring_of, place_of, cells_in, Ages, IsParcel}
 use Rattle.steps.proofs.CellNumbers.{first_cell}
+use Rattle.steps.proofs.StepKinds.{same_parcel}
+use Rattle.board.proofs.Standings.{nat_order}
 use Rattle.work.proofs.GridRows.{cell_says, located_is, counts_at}
 use Rattle.board.specs.declared.completion.Completion.{Completion}
 use Rattle.board.specs.declared.phase.Phase.{Phase as Standing}
@@ -29,9 +30,6 @@ use Rattle.board.specs.Reports.{IsBefore, AreLater, Ordered, IsListed}
 
 abbrev Lines : Type 0
 Lines = List (Completion × Bool)
-
-compared : (a b : ℕ) → (a < b) ⊎ ((a ≡ b) ⊎ (b < a))
-compared a b = dite (ℕ_discrete a b) (λ e. inr (inl e)) (λ (n : ¬ (a ≡ b)). ⊎_elim (λ (w : nat_lt a b ≡ true). inl (ltb-true a b w)) (λ (w : nat_lt a b ≡ false). let l = ltb-false a b w in inr (inr (omega arith))) (bool_cases (nat_lt a b)))
 
 pub not_itself : (r : Req) → IsBefore r r → ⊥
 not_itself r (inl lt) = omega arith
@@ -92,14 +90,11 @@ here_next r = inr (refl, omega arith)
 
 one_more : (r z : Req) → IsBefore z (next_to r) → IsBefore z r ⊎ (z ≡ r)
 one_more r z (inl lt) = inl (inl lt)
-one_more r z (inr e) = elim (compared z.k r.k) [
+one_more r z (inr e) = elim (nat_order z.k r.k) [
   | inl lt ↦ inl (inr (e.0, lt))
   | inr (inl same') ↦ inr (λ i. record { ring = e.0 i; k = same' i })
   | inr (inr lt) ↦ absurd (let m = e.1 in omega arith)
 ]
-
-one_parcel : (p q : Parcel) → Some (Full p) ≡ Some (Full q) → p ≡ q
-one_parcel p q e = cc
 
 full_taken : (slots : List (Option Thing)) (x : ℕ) (t : Thing) → get_elem? slots x ≡ some (Some t) → full_slots (set slots x None) + 1 ≡ full_slots slots
 full_taken [] x t e = absurd (cc)
@@ -113,7 +108,7 @@ one_full slots x t e = let f = full_taken slots x t e in omega arith
 
 -- only the generation that the word tells is left
 pub left_age : (K : List ℕ) (j : List Line) (x g : ℕ) (a : ℕ) → Ages K j x a → IsLeft (phase (events_of j) (request_at K x g)) → a ≡ g
-left_age K j x g a ages left = elim (compared a g) [
+left_age K j x g a ages left = elim (nat_order a g) [
   | inl lt ↦ absurd (subst IsLeft (ages.after g lt) left)
   | inr (inl e) ↦ e
   | inr (inr lt) ↦ absurd (let b = ages.before g lt in subst IsLeft b.2 left)
@@ -192,7 +187,7 @@ module _ (s : Setup) (K : List ℕ) (j : List Line) (claims : List ℕ) (slots :
   pub is_line : (p : Parcel) → get_elem? slots x ≡ some (Some (Full p)) → (st : Standing) → Stands j (request_at K x g) st → IsPresent st → (line : Completion × Bool) → line.0.req ≡ r → line.0.cqe.user_data ≡ p.sqe.user_data → line.0.buffer ≡ p.buffer → IsReplyOf st line.0.cqe.res line.1 → IsLine (events_of j) line
   is_line p full st stands present line of user buffer reply =
       let k = has_slot in let h : List Event = events_of j in let q : Req = request_at K x g in
-      let same' : k.0 ≡ p = one_parcel k.0 p (some-injective _ _ (sym k.1 ∙ full)) in
+      let same' : k.0 ≡ p = same_parcel k.0 p (some-injective _ _ (sym k.1 ∙ full)) in
       let e : q ≡ line.0.req = at ∙ sym of in let was = subst (λ (z : Parcel). IsParcel j q (data_left h q (phase h q)) z) same' k.2 in
       subst (λ z. IsLineOf h z line) e (record {
         entry = p.sqe;
@@ -272,7 +267,7 @@ module _ (s : Setup) (K : List ℕ) (j : List Line) (claims : List ℕ) (rests :
     right = so.right;
     earlier = earlier_by (record { ring = i; k = k }) (record { ring = i + 1; k = 0 }) (λ z b. inl (⊎_elim (λ (lt : z.ring < i). let l : z.ring < i + 1 = omega arith in l) (λ (e : (z.ring ≡ i) × (z.k < k)). let f = e.0 in let l : z.ring < i + 1 = omega arith in l) b)) lines so.earlier;
     listed = λ q b left. ⊎_elim
-        (λ (lt : q.ring < i + 1). elim (compared q.ring i) [
+        (λ (lt : q.ring < i + 1). elim (nat_order q.ring i) [
           | inl l ↦ so.listed q (inl l) left
           | inr (inl e) ↦ (let f = few_left q e left in so.listed q (inr (e, omega arith)) left)
           | inr (inr l) ↦ absurd (omega arith)

@@ -20,7 +20,7 @@ use Rattle.steps.specs.Cells.{request_at, Home, Says, CellOk, word_of, reply_bit
 use Rattle.steps.proofs.CellNumbers.{one_word, bits_are, bits_fit, one_result}
 use Rattle.board.specs.Calls.{IsWord, IsUnheld}
 
-nat_order : (a b : ℕ) → (a < b) ⊎ ((a ≡ b) ⊎ (b < a))
+pub nat_order : (a b : ℕ) → (a < b) ⊎ ((a ≡ b) ⊎ (b < a))
 nat_order a b = ⊎_elim (λ (w : nat_lt a b ≡ true). inl (ltb-true a b w))
     (λ (w : nat_lt a b ≡ false). ⊎_elim (λ (u : nat_lt b a ≡ true). inr (inr (ltb-true b a u))) (λ (u : nat_lt b a ≡ false). inr (inl (let v = ltb-false a b w in let z = ltb-false b a u in omega arith))) (bool_cases (nat_lt b a))) (bool_cases (nat_lt a b))
 

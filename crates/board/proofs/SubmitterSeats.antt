@@ -21,21 +21,20 @@ use Rattle.steps.specs.Cells.{setup_of, IsCell, request_at, ring_of, place_of, c
 use Rattle.steps.specs.Rule.{rings, stands_for, Vacant, IsDone, Shown, Looks, ExtendsTwice, ExtendsThrice}
 use Rattle.steps.proofs.CellNumbers.{located}
 use Rattle.steps.proofs.ClaimWords.{done_word}
+use Rattle.steps.proofs.FreeCells.{reaped_as}
+use Rattle.steps.proofs.ViewsKept.{submitter_can}
 use Rattle.board.specs.Seats.{KnowsCell, KnowsCells, IsSubmitterSeat, IsNextCell}
 use Rattle.work.specs.Passes.{Pass, pass_of}
-use Rattle.board.proofs.OwnCells.{KnowsRing, reaped_as, knows_put, knows_line, knows_reaped, ring_looked, ring_extended}
+use Rattle.board.proofs.OwnCells.{KnowsRing, knows_put, knows_line, knows_reaped, ring_looked, ring_extended}
 
 abbrev TableSeat : Type 0
 TableSeat = Seat (Option Thing) View
-
-pub submits_it : (v : View) (i : ℕ) → v.role ≡ Submitter i → stands_for v.role (rings i) ≡ true
-submits_it v i is = ap (λ (z : Role). stands_for z (rings i)) is ∙ eq-eqb i i refl
 
 pub lends_it : (v : View) (r : Req) (i : ℕ) → v.role ≡ Lending r → r.ring ≡ i → stands_for v.role (rings i) ≡ true
 lends_it v r i is ring = ap (λ (z : Role). stands_for z (rings i)) is ∙ eq-eqb r.ring i ring
 
 ring_of_seat : (s : TableSeat) (ring next : ℕ) (ages facts : List ℕ) → IsSubmitterSeat s ring next ages facts → KnowsRing s.me.0 ring next ages facts (λ q. false)
-ring_of_seat s ring next ages facts k = record { mine = submits_it s.me.0 ring k.role; legal = k.legal; next_is = k.next_is; lent_is = k.unlent; knows = k.knows }
+ring_of_seat s ring next ages facts k = record { mine = submitter_can s.me.0 ring k.role; legal = k.legal; next_is = k.next_is; lent_is = k.unlent; knows = k.knows }
 
 seat_of_ring : (s t : TableSeat) (ring next next' : ℕ) (ages facts ages' facts' : List ℕ) (out : Req → Bool) → IsSubmitterSeat s ring next ages facts → t.me.0.role ≡ Submitter ring → t.me.1 ≡ s.me.1 → t.me.0.layout ≡ s.me.0.layout
     → next' ≤ 16777215 * cells_in s.me.0.layout.cells ring → length ages' ≡ length ages → length facts' ≡ length facts → KnowsRing t.me.0 ring next' ages' facts' out → ((q : Req) → out q ≡ false) → IsSubmitterSeat t ring next' ages' facts'

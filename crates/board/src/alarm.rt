@@ -16,10 +16,11 @@ ghost use Rattle.board.specs.Seats.{IsPollerSeat};
 use crate::board::Board;
 use crate::phase::{Phase, told};
 use crate::poller::{Arming, Expiry};
-use crate::trail::{Gating, LINK_TIMEOUT, TIMEOUT, gate, is_held, take_in};
+use crate::trail::{Gating, gate, is_held, take_in};
 use claim::unpack_facts;
 use gates::Row;
 use history::Req;
+use steps::facts::{LINK_TIMEOUT, TIMEOUT};
 use steps::{TableSeat, seat, timers};
 use work::Spot;
 

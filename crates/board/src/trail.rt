@@ -22,6 +22,7 @@ use crate::poller::Released;
 use claim::{FactsWord, unpack_facts};
 use gates::{Asked, Row, Traits};
 use history::Req;
+use steps::facts::{INVALID, LINK_TIMEOUT, TIMEOUT};
 use steps::{TableSeat, seat};
 use work::Spot;
 
@@ -72,15 +73,6 @@ enum Round {
     /// The nearest earlier member of its chain that was in question has no reply.
     Looked,
 }
-
-/// The row number of all Invalid entries among the facts.
-const INVALID: u8 = 9;
-
-/// That of TIMEOUT.
-pub(crate) const TIMEOUT: u8 = 2;
-
-/// That of LINK_TIMEOUT.
-pub(crate) const LINK_TIMEOUT: u8 = 5;
 
 /// What a row looks at in an entry, by its facts.
 fn traits_in(facts: FactsWord) -> Traits

@@ -19,7 +19,7 @@ pub enum Fault {
     /// A batch was refused that should fit.
     #[error("a batch was refused")]
     Refused,
-    /// A request was told twice, or not at all.
+    /// A request was taken or reported twice, or not at all.
     #[error("a request was told twice, or not at all")]
     Count,
     #[error("a reply that the entry can't have")]

@@ -1,5 +1,5 @@
-//! Random loads on a runtime: two clients submit requests of all kinds, and each request has to be told once, with a reply that it may
-//! have.
+//! Random loads on a runtime: two clients submit requests of all kinds, and each request has to be taken or reported once, with a
+//! reply that it may have.
 #![tactic(auto)]
 
 mod asked;

@@ -51,8 +51,8 @@ fn show<R: Files + AllocGlobal + Print>(rt: &R, part: u64, crew: &Crew) -> io::R
 
 /// Runs the mixed load for so many seconds, with two clients and three workers. After each tenth of the time it prints how many
 /// requests were submitted, how many completions were taken, and the resident memory; at the end how many were submitted, taken and
-/// reported. `Count` comes where a request was told twice or not at all, and the other faults where a reply, a buffer or a look
-/// can't be right.
+/// reported. `Count` comes where a request was taken or reported twice or not at all, and the other faults where a reply, a buffer
+/// or a look can't be right.
 pub fn run_mixed<
     R: Threads + Wait + Copy + Send + Sync + 'static + Clock + Files + AllocGlobal + Print,
 >(rt: &R, seconds: u64) -> Result<(), Fault> {

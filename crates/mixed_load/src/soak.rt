@@ -199,8 +199,8 @@ fn rounds<R: Threads + Wait + Copy + Send + Sync + 'static + Clock + AllocGlobal
 
 /// Runs rounds for so many seconds, drawn from this seed. In each a runtime of a shape of its own is started, two clients submit
 /// requests of all kinds at random and take completions, and the runtime is ended at a random moment. A fault comes where a reply, a
-/// buffer or a look can't be right, by what the clients know of their requests, or where a request was told twice or not at all. At
-/// the end it prints what was counted.
+/// buffer or a look can't be right, by what the clients know of their requests, or where a request was taken or reported twice or
+/// not at all. At the end it prints what was counted.
 pub fn run_soak<R: Threads + Wait + Copy + Send + Sync + 'static + Clock + AllocGlobal + Print>(
     rt: &R,
     seconds: u64,

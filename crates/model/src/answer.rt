@@ -5,6 +5,7 @@ ghost use Rattle.history.specs.Answers.{read_from, write_to, close_of, poll_of};
 ghost use Rattle.model.specs.Reaches.{reached, IsWithin};
 ghost use Rattle.model.specs.Tells.{tells, caps_of, flow_in, op_answer};
 
+use crate::errno::INVALID;
 use crate::pipe::{Pipe, tells_bad_end, tells_number};
 use entry::{Op, by_opcode};
 
@@ -38,7 +39,7 @@ pub fn reach(fd: i32, pipes: usize) -> Reached
 
 macro_rules! answers_work {
     ((plain nothing) ($pipes:ident, $res:ident, $bytes:ident)) => { tells_number(0, $res, $bytes) };
-    ((plain invalid) ($pipes:ident, $res:ident, $bytes:ident)) => { $res == -22 && $bytes.is_empty() };
+    ((plain invalid) ($pipes:ident, $res:ident, $bytes:ident)) => { $res == INVALID && $bytes.is_empty() };
     ((pipe read $fd:ident $len:ident) ($pipes:ident, $res:ident, $bytes:ident)) => { answers_read($pipes, $fd, $len, $res, $bytes) };
     ((pipe write $fd:ident $len:ident) ($pipes:ident, $res:ident, $bytes:ident)) => { answers_write($pipes, $fd, $len, $res, $bytes) };
     ((pipe close $fd:ident) ($pipes:ident, $res:ident, $bytes:ident)) => { answers_close($pipes, $fd, $res, $bytes) };

@@ -7,6 +7,7 @@ ghost use Rattle.model.specs.Tells.{flow_of, caps_of, flow_in, op_answer};
 ghost use Rattle.model.specs.Asked.{told_by, IsTold};
 
 use crate::answer::{Reached, reach};
+use crate::errno::{BAD_END, BROKEN_PIPE, INVALID};
 use crate::pipe::Pipe;
 use entry::{Op, by_opcode};
 use history::Bytes;
@@ -14,9 +15,6 @@ use std::alloc::{AllocError, Global};
 
 /// A reply with its data, if there is one now.
 pub type Told = Option<(i32, Bytes)>;
-
-/// EBADF: no end of a pipe, or a closed one.
-const BAD_END: i32 = -9;
 
 /// A number, with no data.
 pub fn number(alloc: Global, n: u32) -> Told
@@ -69,7 +67,7 @@ impl Pipe {
             return number(alloc, 0);
         }
         if self.read_shut {
-            return failure(alloc, -32);
+            return failure(alloc, BROKEN_PIPE);
         }
         let free = self.free();
         if len <= self.cap {
@@ -142,7 +140,7 @@ fn events_now(alloc: Global, events: u32, mask: u32) -> Told
 
 macro_rules! work_now {
     ((plain nothing) ($alloc:ident, $pipes:ident)) => { Ok(number($alloc, 0)) };
-    ((plain invalid) ($alloc:ident, $pipes:ident)) => { Ok(failure($alloc, -22)) };
+    ((plain invalid) ($alloc:ident, $pipes:ident)) => { Ok(failure($alloc, INVALID)) };
     ((pipe read $fd:ident $len:ident) ($alloc:ident, $pipes:ident)) => { read_at($alloc, $pipes, $fd, $len) };
     ((pipe write $fd:ident $len:ident) ($alloc:ident, $pipes:ident)) => { Ok(write_at($alloc, $pipes, $fd, $len)) };
     ((pipe close $fd:ident) ($alloc:ident, $pipes:ident)) => { Ok(close_at($alloc, $pipes, $fd)) };

@@ -3,7 +3,7 @@ ghost use Rattle.std.specs.Prelude.{◌≡◌, cond};
 ghost use Rattle.model.specs.declared.request.Found.TheVariants.{Took, Missed};
 ghost use Rattle.model.specs.Moves.{put_stage, put_found, comes_upon, may_take, may_miss, cancelled};
 
-use crate::moves::CANCELLED;
+use crate::errno::CANCELLED;
 use crate::request::{Found, Stage};
 use crate::ring::Ring;
 

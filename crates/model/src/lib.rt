@@ -7,6 +7,7 @@ mod asked;
 mod cancel;
 mod chain;
 mod copy;
+mod errno;
 pub mod error;
 mod kind;
 mod moves;

@@ -4,12 +4,10 @@ ghost use Rattle.model.specs.declared.request.Stage.TheVariants.{Waits, Runs, Ar
 ghost use Rattle.model.specs.Seen.{stage_at};
 ghost use Rattle.model.specs.Moves.{put_stage, put_reaped, may_begin, may_park, may_sever, may_reap, may_cut, open_in, cancelled};
 
+use crate::errno::CANCELLED;
 use crate::kind::{is_link_timeout, ticks_of};
 use crate::request::Stage;
 use crate::ring::Ring;
-
-/// ECANCELED: the reply to a request that something else has ended.
-pub const CANCELLED: i32 = -125;
 
 impl Ring {
     /// Where the request stands, if it was submitted.

@@ -11,6 +11,7 @@ ghost use Rattle.model.specs.Moves.{is_running};
 ghost use Rattle.model.specs.Replies.{is_cancel, cancel_tells, found_in, op_replies, may_reply, put_reply, bytes_in, taken_from, put_into, shut_at, moved};
 
 use crate::answer::{Reached, answers, reach};
+use crate::errno::{ALREADY, NOT_FOUND};
 use crate::kind::is_cancel;
 use crate::pipe::{Pipe, tells_number};
 use crate::request::{Found, Stage};
@@ -86,8 +87,8 @@ fn cancel_tells(ring: &Ring, k: u64, op: Op, res: i32, taken: &[u8]) -> bool
 {
     match ring.found(k) {
         Found::Took => tells_number(0, res, taken),
-        Found::Missed => res == -114 && taken.is_empty(),
-        Found::Nothing => !ring.any_wanted(op, k) && res == -2 && taken.is_empty(),
+        Found::Missed => res == ALREADY && taken.is_empty(),
+        Found::Nothing => !ring.any_wanted(op, k) && res == NOT_FOUND && taken.is_empty(),
     }
 }
 

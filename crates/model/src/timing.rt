@@ -4,13 +4,10 @@ ghost use Rattle.model.specs.declared.request.Stage.TheVariants.{Armed};
 ghost use Rattle.model.specs.Moves.{put_stage, put_fired, put_settled, may_arm, may_expire, runs_out, may_fire, may_fire_miss, may_settle, cancelled, timed_out, is_due, fired_of, is_answered};
 ghost use Rattle.model.specs.Seen.{stage_at};
 
+use crate::errno::{CANCELLED, TIMED_OUT};
 use crate::kind::{is_link_timeout, is_timeout, ticks_of};
-use crate::moves::CANCELLED;
 use crate::request::Stage;
 use crate::ring::Ring;
-
-/// ETIME: the reply to a timer that ran out.
-const TIMED_OUT: i32 = -62;
 
 impl Ring {
     #[tactic(auto, using(crate::proofs::RequestWrites::stage_within))]

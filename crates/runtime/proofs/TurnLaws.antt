@@ -15,7 +15,7 @@ use Rattle.work.specs.Passes.{Pass, own_of}
 use Rattle.board.specs.Calls.{Goes}
 use Rattle.board.specs.declared.poller.Released.{Released}
 use Rattle.board.specs.declared.poller.Released.TheVariants.{Severed, Freed, Shut, Timer, NotHeld}
-use Rattle.board.proofs.GoesLaws.{event_before}
+use Rattle.board.proofs.GoesLaws.{own_both}
 use Rattle.ready.specs.Ready.{Facts as QueueFacts, Moves, IsOf as IsOfQueue}
 use Rattle.outbox.specs.Outbox.{Waiting, with_answered}
 use Rattle.runtime.specs.declared.hands.Hands.{Hands}
@@ -26,14 +26,6 @@ use Rattle.runtime.specs.Backlogs.{Owed}
 use Rattle.runtime.proofs.ClockLaws.{none_then}
 use Rattle.runtime.specs.PollTurns.{AreAt, HasRoom, HasArmed, HasTicked, IsPollTurn, Did, Rang, is_among}
 use Rattle.bell.specs.BellPasses.{Sleeping}
-
--- the own events of two parts
-own_both : (role : Role) (k l : List Line) → own_of role (k ++ l) ≡ own_of role k ++ own_of role l
-own_both role [] l = refl
-own_both role (x ∷ k) l = ⊎_elim
-    (λ (w : owns role x ≡ true). ap (λ (c : Bool). cond c (event_of x (own_of role (k ++ l))) (own_of role (k ++ l))) w ∙ (ap (event_of x) (own_both role k l) ∙ (event_before x (own_of role k) (own_of role l) ∙ ap (λ (h : List Event). h ++ own_of role l) (sym (ap (λ (c : Bool). cond c (event_of x (own_of role k)) (own_of role k)) w)))))
-    (λ (w : owns role x ≡ false). ap (λ (c : Bool). cond c (event_of x (own_of role (k ++ l))) (own_of role (k ++ l))) w ∙ (own_both role k l ∙ ap (λ (h : List Event). h ++ own_of role l) (sym (ap (λ (c : Bool). cond c (event_of x (own_of role k)) (own_of role k)) w))))
-    (bool_cases (owns role x))
 
 pub goes_on : (b : Facts) (p q : Pass) (es : List Event) → Goes b p es q → GoesOn b p es q
 goes_on b p q es x = record { kept = x.kept; role_is = x.role_is; later = x.later; seen_is = x.seen_is; own = x.own }

@@ -6,7 +6,7 @@ use std::alloc::{AllocError, AllocFailed};
 use std::fmt;
 use thiserror::Error;
 
-/// What is wrong with a line. Of several faults of one line the first in this list is told.
+/// What is wrong with a line. Of several faults of one line the first in this list is reported.
 #[derive(Clone, Copy, PartialEq, Eq, PartialOrd, Ord, Debug, Error)]
 pub enum Fault {
     /// A byte that is neither a line feed nor from 0x20 to 0x7e.
@@ -38,7 +38,7 @@ pub enum Fault {
 }
 
 impl Fault {
-    /// The words that tell it.
+    /// The words that it is reported with.
     fn words(self) -> &'static str {
         match self {
             Fault::NotAscii => "not ascii",

@@ -11,6 +11,12 @@ use script::{Named, Script, Step, step_at};
 use std::alloc::{AllocError, Global};
 use std::fmt::Write;
 
+/// ETIME: a timer ran out.
+const TIMED_OUT: i32 = -62;
+
+/// ECANCELED: something else has ended the request.
+const CANCELED: i32 = -125;
+
 /// A history of a script as text: one event a line, the first one first, its requests by their labels.
 pub fn write_history(alloc: Global, script: &Script, events: &[Event]) -> Result<String, AllocError>
     ensures { IfOk result (λ text. string_bytes text ≡ history_text script.now events.now) }
@@ -101,7 +107,11 @@ fn write_pair(
 fn settled(before: &[Event], timer: Req) -> i32
     ensures { result ≡ settled before.now timer }
 {
-    if has_fired(before, timer) { -62 } else { -125 }
+    if has_fired(before, timer) {
+        TIMED_OUT
+    } else {
+        CANCELED
+    }
 }
 
 /// The timer ran out in time, by one of these events.

@@ -18,14 +18,14 @@ use crate::words::lines_of;
 use script::Script;
 use std::alloc::{AllocError, Global};
 
-/// The script that a text writes. Of all faults of all lines the one on the least line is told, and of one line's faults
+/// The script that a text writes. Of all faults the one on the least line is reported, and of one line's faults
 /// the first in the list of `Fault`.
 pub fn read_script(alloc: Global, bytes: &[u8]) -> Result<Script, ScriptFault>
     // What is accepted is the script that the text says, line by line, and no line of it has a fault.
     ensures says { IfOk result (SaysScript bytes.now) }
     // A text without a fault is accepted, want of memory apart.
     ensures accepted { HasNoFault bytes.now → IfErr result (λ fault. fault ≡ ScriptFault.Memory) }
-    // What is told is the first fault in the list of the least line that has one, or that memory ran out.
+    // What is reported is the first fault in the list of the least line that has one, or that memory ran out.
     ensures told { IfErr result (IsToldOfText bytes.now) }
     // What is accepted has no other bytes than line feeds and those from 0x20 to 0x7e.
     ensures plain { OnOk result (All IsPlain (text_lines bytes.now)) }
@@ -76,7 +76,7 @@ fn parts_of<'a>(
     Ok(parts)
 }
 
-/// Takes the line of a number in, or tells its first fault.
+/// Takes the line of a number in, or reports its first fault.
 fn take_line<'a>(
     alloc: Global,
     parts: &mut Parts,
@@ -88,7 +88,7 @@ fn take_line<'a>(
     // A line that is taken has no fault.
     ensures none { OnOk result (faults_here parts.old outline.now number (sentence line.now) ≡ []) }
     ensures takes { OnOk result (Takes (all_stated outline.now.labels.lines.items) (first_of (sentence line.now)) (sentence line.now) parts.old parts.new) }
-    // The fault that is told is the first of the line's.
+    // The fault that is reported is the first of the line's.
     ensures first { IfErr result (IsToldHere number (faults_here parts.old outline.now number (sentence line.now))) }
 {
     if let Some(fault) = first_fault(&*parts, outline, number, line) {

@@ -19,7 +19,8 @@ use Rattle.steps.specs.Journal.{events_of, lent, noted}
 use Rattle.steps.specs.Cells.{IsCell, ring_of, place_of, cells_in, request_at, facts_at}
 use Rattle.steps.specs.Notes.{facts_of, outcome_of}
 use Rattle.steps.proofs.JournalGrowth.{was_reaped}
-use Rattle.steps.proofs.NotesKept.{reaped_is, reaped_born, done_on, earlier_gone, earlier_reaped, IsStored, IsFresh, IsClosing, stored_by, placed_before, notes_are}
+use Rattle.steps.proofs.FreeCells.{reaped_as}
+use Rattle.steps.proofs.NotesKept.{reaped_born, done_on, earlier_gone, earlier_reaped, IsStored, IsFresh, IsClosing, stored_by, placed_before, notes_are}
 
 -- the generation stands in the low 24 bits, with an outcome too
 pub packed_generation : (w : Facts) → (n : ℕ) × (packed_facts w ≡ w.generation + 16777216 * n)
@@ -113,7 +114,7 @@ module _ (L : Layout) (s : Setup) (x : ℕ) (inside : IsCell L.cells x) (g : ℕ
       (λ (w : same q r ≡ true). at_reap q j y d w h o.1 o.0 is (placed_before L s x inside g (Reap q) (events_of j) y d h is p))
       (λ (w : same q r ≡ false). (let still = unchanged s (Reap q) (events_of j) r w in let gone' = subst IsReaped still gone in
       carry l j y d refl still (done_on L s l j r h gone') (facts_are j h.1 o.1 y d is (placed_before L s x inside g (Reap q) (events_of j) y d h is p) gone'))) (bool_cases (same q r))
-  facts_are (Did e ∷ j) h o y d is p gone = let l : Line = Did e in let z = reaped_is (phase (e ∷ events_of j) r) gone in
+  facts_are (Did e ∷ j) h o y d is p gone = let l : Line = Did e in let z = reaped_as (phase (e ∷ events_of j) r) gone in
       let was = was_reaped s l j r z.0 z.1 h refl z.2 in let gone' : IsReaped (phase (events_of j) r) = subst IsReaped (sym was) tt in ⊎_elim
       (λ (w : concerns e r ≡ true). absurd (subst (λ (k : Phase). MayChange k e) was (may_change s e (events_of j) r h.1 h.0.1 w)))
       (λ (w : concerns e r ≡ false). carry l j y d refl (unchanged s e (events_of j) r w) (done_on L s l j r h gone') (facts_are j h.1 o.1 y d is (placed_before L s x inside g e (events_of j) y d h is p) gone')) (bool_cases (concerns e r))

@@ -53,13 +53,24 @@ nested w = w.generation + 16777216 * (w.row + 16 * (bit w.drains + 2 * (bit w.li
 is_nested : (w : Facts) → packed_facts w ≡ nested w
 is_nested w = omega arith
 
-pub same_facts : (v w : Facts) → v.generation < 16777216 → w.generation < 16777216 → v.row < 16 → w.row < 16 → packed_facts v ≡ packed_facts w → (v.row ≡ w.row) × (v.drains ≡ w.drains) × (v.links_soft ≡ w.links_soft) × (v.links_hard ≡ w.links_hard) × (v.last ≡ w.last) × (v.payload ≡ w.payload)
+-- all parts are the same
+pub record AreSame (v w : Facts) : Type 0 where
+  pub generation : v.generation ≡ w.generation
+  pub row : v.row ≡ w.row
+  pub drains : v.drains ≡ w.drains
+  pub soft : v.links_soft ≡ w.links_soft
+  pub hard : v.links_hard ≡ w.links_hard
+  pub last : v.last ≡ w.last
+  pub etime : v.etime_success ≡ w.etime_success
+  pub payload : v.payload ≡ w.payload
+
+pub same_facts : (v w : Facts) → v.generation < 16777216 → w.generation < 16777216 → v.row < 16 → w.row < 16 → packed_facts v ≡ packed_facts w → AreSame v w
 same_facts v w g g' r r' e =
     let a = digit 16777216 _ _ _ _ g g' (sym (is_nested v) ∙ (e ∙ is_nested w)) in let b = digit 16 _ _ _ _ r r' a.1 in
     let d = digit 2 _ _ _ _ (bit_small v.drains) (bit_small w.drains) b.1 in let s = digit 2 _ _ _ _ (bit_small v.links_soft) (bit_small w.links_soft) d.1 in
     let h = digit 2 _ _ _ _ (bit_small v.links_hard) (bit_small w.links_hard) s.1 in let l = digit 2 _ _ _ _ (bit_small v.last) (bit_small w.last) h.1 in
     let t = digit 2 _ _ _ _ (bit_small v.etime_success) (bit_small w.etime_success) l.1 in
-    (b.0, one_bit _ _ d.0, one_bit _ _ s.0, one_bit _ _ h.0, one_bit _ _ l.0, t.1)
+    record { generation = a.0; row = b.0; drains = one_bit _ _ d.0; soft = one_bit _ _ s.0; hard = one_bit _ _ h.0; last = one_bit _ _ l.0; etime = one_bit _ _ t.0; payload = t.1 }
 
 -- the facts with an outcome in the place of the payload
 put_outcome : (w : Facts) (f : Bool) → w.generation < 16777216 → w.row < 16 → outcome_of (packed_facts w) f ≡ packed_facts (record w { payload = bit f })
@@ -67,19 +78,25 @@ put_outcome w f g r =
     let a = bit_small w.drains in let b = bit_small w.links_soft in let c = bit_small w.links_hard in let d = bit_small w.last in let e = bit_small w.etime_success in
     let i : ℕ = bit w.drains in let j : ℕ = bit w.links_soft in let k : ℕ = bit w.links_hard in let l : ℕ = bit w.last in let m : ℕ = bit w.etime_success in let n : ℕ = bit f in omega arith
 
-parts_small : (w : Facts) → IsTrue (fits_facts w) → (w.generation < 16777216) × (w.row < 16)
-parts_small w f = (ltb-true w.generation 16777216 (and_left _ _ f), ltb-true w.row 16 (and_left _ _ (and_right _ _ f)))
+-- the facts without the payload
+pub low_facts : (w : Facts) → w.generation < 16777216 → w.row < 16 → packed_facts w % 8589934592 ≡ packed_facts (record w { payload = 0 })
+low_facts w g r =
+    let a = bit_small w.drains in let b = bit_small w.links_soft in let c = bit_small w.links_hard in let d = bit_small w.last in let e = bit_small w.etime_success in
+    let i : ℕ = bit w.drains in let j : ℕ = bit w.links_soft in let k : ℕ = bit w.links_hard in let l : ℕ = bit w.last in let m : ℕ = bit w.etime_success in omega arith
 
-abbrev parts_of : ℕ → Entry → Bool → Facts
+pub parts_small : (w : Facts) → IsTrue (fits_facts w) → (w.generation < 16777216) × (w.row < 16) × (w.payload < 2147483648)
+parts_small w f = (ltb-true w.generation 16777216 (and_left _ _ f), ltb-true w.row 16 (and_left _ _ (and_right _ _ f)), ltb-true w.payload 2147483648 (and_right _ _ (and_right _ _ f)))
+
+abbrev pub parts_of : ℕ → Entry → Bool → Facts
 parts_of g e last = record { generation = g; row = row_number e.op; drains = drains e; links_soft = links_soft e; links_hard = links_hard e; last = last; etime_success = etime_in e.op; payload = ticks_in e.op }
 
 are_facts : (w : Facts) (g : ℕ) (e : Entry) (last : Bool) → IsTrue (fits_facts w) → g < 16777216 → packed_facts w ≡ facts_of g e last → AreFacts w e last
-are_facts w g e last f small is = let p = parts_small w f in let z = same_facts w (parts_of g e last) p.0 small p.1 (row_small e.op) is in record { row = z.0; drains_is = z.1; soft = z.2; hard = z.3; last_is = z.4 }
+are_facts w g e last f small is = let p = parts_small w f in let z = same_facts w (parts_of g e last) p.0 small p.1 (row_small e.op) is in record { row = z.row; drains_is = z.drains; soft = z.soft; hard = z.hard; last_is = z.last }
 
 are_outcome : (w : Facts) (g : ℕ) (e : Entry) (last failed : Bool) → IsTrue (fits_facts w) → g < 16777216 → packed_facts w ≡ outcome_of (facts_of g e last) failed → AreFacts w e last × (w.payload ≡ bit failed)
 are_outcome w g e last failed f small is =
     let p = parts_small w f in let z = same_facts w (record (parts_of g e last) { payload = bit failed }) p.0 small p.1 (row_small e.op) (is ∙ put_outcome (parts_of g e last) failed small (row_small e.op)) in
-    (record { row = z.0; drains_is = z.1; soft = z.2; hard = z.3; last_is = z.4 }, z.5)
+    (record { row = z.row; drains_is = z.drains; soft = z.soft; hard = z.hard; last_is = z.last }, z.payload)
 
 pub reaped_or : (p : Phase) → IsReaped p ⊎ (¬ IsReaped p)
 reaped_or (reaped c res) = inl tt
@@ -89,7 +106,7 @@ reaped_or waits = inr (λ z. z)
 reaped_or runs = inr (λ z. z)
 reaped_or (armed d) = inr (λ z. z)
 
-reaped_replied : (p : Phase) → IsReaped p → IsReplied p
+pub reaped_replied : (p : Phase) → IsReaped p → IsReplied p
 reaped_replied (reaped c res) r = tt
 reaped_replied p r = absurd r
 

@@ -22,7 +22,7 @@ before_it K x (suc n) q inside ring k =
     let c : ℕ = cells_in K (ring_of K x) in let u : suc n * c ≡ n * c + c = suc-mul n c in let a : ℕ = suc n * c in let b : ℕ = n * c in let u' : a ≡ b + c = u in
     let k' : q.k + c ≡ a + place_of K x = k in let e : q.k ≡ b + place_of K x = omega arith in (n, refl, λ i. record { ring = ring i; k = e i })
 
-reaped_as : (p : Phase) → IsReaped p → (c : Cause) × (res : ℤ) × (p ≡ reaped c res)
+pub reaped_as : (p : Phase) → IsReaped p → (c : Cause) × (res : ℤ) × (p ≡ reaped c res)
 reaped_as (reaped c res) r = (c, res, refl)
 reaped_as p r = absurd r
 

@@ -27,7 +27,7 @@ about (Hold r p) q = false
 about (Free r p) q = false
 
 -- an event that answers a request changes where it stands
-answers_concerns : (e : Event) (q : Req) → concerns e q ≡ false → answers e q ≡ false
+pub answers_concerns : (e : Event) (q : Req) → concerns e q ≡ false → answers e q ≡ false
 answers_concerns (Reply r res data') q n = n
 answers_concerns (Take c t) q n = n
 answers_concerns (Expire r) q n = n

@@ -20,6 +20,7 @@ use Rattle.steps.specs.Journal.{events_of, lent, noted}
 use Rattle.steps.specs.Cells.{IsCell, ring_of, place_of, cells_in, request_at, facts_at, user_at}
 use Rattle.steps.specs.Notes.{facts_of, outcome_of}
 use Rattle.steps.proofs.CellNumbers.{one_cell, other_cell}
+use Rattle.steps.proofs.FreeCells.{reaped_as}
 use Rattle.steps.proofs.JournalGrowth.{legal_tail, reaped_lasts, done_lasts, lasts_by, counted_in}
 
 -- ---- the requests of a cell come one after the other
@@ -35,22 +36,18 @@ either_born (reaped c res) = inr (λ e. cc)
 pub reaped_born : (p : Phase) → IsReaped p → p ≢ unborn
 reaped_born p r e = subst IsReaped e r
 
-pub reaped_is : (p : Phase) → IsReaped p → (c : Cause) × (res : ℤ) × (p ≡ reaped c res)
-reaped_is (reaped c res) r = (c, res, refl)
-reaped_is p r = absurd r
-
 module _ (L : Layout) (s : Setup) where
   abbrev K : List ℕ
   K = L.cells
 
   -- what was reaped stays so, whatever line comes
   pub reaped_on : (l : Line) (j : List Line) (q : Req) → Legal s (events_of (l ∷ j)) → IsReaped (phase (events_of j) q) → IsReaped (phase (events_of (l ∷ j)) q)
-  reaped_on l j q h r = let is = reaped_is (phase (events_of j) q) r in
+  reaped_on l j q h r = let is = reaped_as (phase (events_of j) q) r in
       subst IsReaped (sym (lasts_by s (λ h. phase h q ≡ reaped is.0 is.1) q (reaped_lasts s q is.0 is.1) l j h (counted_in s j q (reaped is.0 is.1) (legal_tail s l j h) is.2 (λ e. cc)) is.2)) tt
 
   -- and so does a chain that has replied
   pub done_on : (l : Line) (j : List Line) (q : Req) → Legal s (events_of (l ∷ j)) → IsReaped (phase (events_of j) q) → IsChainDone (events_of j) q → IsChainDone (events_of (l ∷ j)) q
-  done_on l j q h r d = let is = reaped_is (phase (events_of j) q) r in
+  done_on l j q h r d = let is = reaped_as (phase (events_of j) q) r in
       lasts_by s (λ h. IsChainDone h q) q (done_lasts s q) l j h (counted_in s j q (reaped is.0 is.1) (legal_tail s l j h) is.2 (λ e. cc)) d
 
   gone_on : (l : Line) (j : List Line) (q : Req) → Legal s (events_of (l ∷ j)) → IsReaped (phase (events_of j) q) × IsChainDone (events_of j) q → IsReaped (phase (events_of (l ∷ j)) q) × IsChainDone (events_of (l ∷ j)) q

@@ -7,14 +7,20 @@ ghost use Rattle.steps.specs.Notes.{etime_in, facts_of, row_number, ticks_in};
 use claim::{FactsWord, pack_facts};
 use entry::{Op, Sqe, by_opcode};
 
-/// The row number of all Invalid entries.
-const INVALID: u8 = 9;
+/// The number of TIMEOUT among the facts.
+pub const TIMEOUT: u8 = 2;
+
+/// That of LINK_TIMEOUT.
+pub const LINK_TIMEOUT: u8 = 5;
+
+/// That of all Invalid entries.
+pub const INVALID: u8 = 9;
 
 macro_rules! row_number {
     (($op:expr) $($text:literal $name:ident { $($field:ident),* } = $code:tt: $fd:tt $off:tt $addr:tt $len:tt $word:tt $flags:tt $fails:tt;)*) => {
         match $op {
             $(Op::$name { .. } => number_of!($code),)*
-            Op::Invalid => 9,
+            Op::Invalid => INVALID,
         }
     };
 }
@@ -22,10 +28,10 @@ macro_rules! row_number {
 macro_rules! number_of {
     (0) => { 0 };
     (6) => { 1 };
-    (11) => { 2 };
+    (11) => { TIMEOUT };
     (12) => { 3 };
     (14) => { 4 };
-    (15) => { 5 };
+    (15) => { LINK_TIMEOUT };
     (19) => { 6 };
     (22) => { 7 };
     (23) => { 8 };

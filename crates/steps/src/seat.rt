@@ -47,7 +47,7 @@ pub fn look_at_note(words: &Words, seat: &mut TableSeat, cell: usize, number: us
     words.load::<plays::LookAtNote>(seat, note_word(cell, number))
 }
 
-/// Moves a Held request to Ready, or tells what else was found.
+/// Moves a Held request to Ready, or reports what else was found.
 pub fn release(words: &Words, seat: &mut TableSeat, cell: usize, generation: u32) -> bool
     requires fits { Fits words.now.table_id seat.old cell }
     requires poller { ((n : ℕ) × (seat.old.me.0.role ≡ Poller n)) × (0 < seat.old.me.0.parts) }
@@ -66,7 +66,7 @@ pub fn release(words: &Words, seat: &mut TableSeat, cell: usize, generation: u32
 }
 
 /// Ends a Held request of which an earlier member of its chain has failed: it is answered with -125 (ECANCELED). `fails` says
-/// whether that is a failure of its entry. Or tells what else was found.
+/// whether that is a failure of its entry. Else it reports what was found.
 pub fn sever(words: &Words, seat: &mut TableSeat, cell: usize, generation: u32, fails: bool) -> bool
     requires fits { Fits words.now.table_id seat.old cell }
     requires poller { ((n : ℕ) × (seat.old.me.0.role ≡ Poller n)) × (0 < seat.old.me.0.parts) }
@@ -85,7 +85,7 @@ pub fn sever(words: &Words, seat: &mut TableSeat, cell: usize, generation: u32, 
     words.compare_exchange::<plays::Sever>(seat, claim_word(cell), held, severed) == held
 }
 
-/// Begins a request that is Ready, or tells that it isn't.
+/// Begins a request that is Ready, or reports that it isn't.
 pub fn begin(words: &Words, seat: &mut TableSeat, cell: usize, generation: u32) -> bool
     requires fits { Fits words.now.table_id seat.old cell }
     requires idle { (seat.old.me.0.role ≡ Idle) × (0 < seat.old.me.0.parts) }

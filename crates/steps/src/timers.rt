@@ -30,7 +30,7 @@ pub fn tick(words: &Words, seat: &mut TableSeat, now: u32)
     words.store::<plays::Tick>(seat, CLOCK_WORD, u64::from(now));
 }
 
-/// Arms a Held timer, which runs out at `deadline`, in ticks. Or tells what else was found.
+/// Arms a Held timer, which runs out at `deadline`, in ticks. Else it reports what was found.
 pub fn arm(words: &Words, seat: &mut TableSeat, cell: usize, generation: u32, deadline: u32) -> bool
     requires fits { Fits words.now.table_id seat.old cell }
     requires poller { ((n : ℕ) × (seat.old.me.0.role ≡ Poller n)) × (0 < seat.old.me.0.parts) }
@@ -50,7 +50,7 @@ pub fn arm(words: &Words, seat: &mut TableSeat, cell: usize, generation: u32, de
 }
 
 /// Answers a TIMEOUT that was armed with this deadline, which has come, with -62 (ETIME). `fails` says whether that is a
-/// failure of its entry. Or tells what else was found.
+/// failure of its entry. Else it reports what was found.
 pub fn expire(
     words: &Words,
     seat: &mut TableSeat,
@@ -77,7 +77,7 @@ pub fn expire(
 }
 
 /// Answers a LINK_TIMEOUT that was armed with this deadline: with -62 (ETIME) where it ran out before its target replied, which
-/// `in_time` says, else with -125 (ECANCELED). Or tells what else was found.
+/// `in_time` says, else with -125 (ECANCELED). Else it reports what was found.
 pub fn settle(
     words: &Words,
     seat: &mut TableSeat,

@@ -1,5 +1,5 @@
 -- What contracts see of a board, and when a pass is one of its own.
-use Rattle.std.specs.Prelude.{◌≡◌, ℕ, ◌+◌, ◌-◌, ◌*◌, ◌<◌, ◌≤◌, false, [], length}
+use Rattle.std.specs.Prelude.{◌≡◌, ℕ, ◌+◌, ◌-◌, ◌<◌, ◌≤◌, false, [], length}
 use Rattle.atomic_table.specs.Seated.{TableId}
 use Rattle.history.specs.History.{was_shut}
 use Rattle.history.specs.Legal.{Legal}

@@ -20,6 +20,7 @@ use claim::unpack_facts;
 use entry::{Op, by_opcode};
 use history::Req;
 use steps::claims::{Standing, looked_for, stands_at};
+use steps::facts::{LINK_TIMEOUT, TIMEOUT};
 use steps::{TableSeat, Words, cancels, seat};
 
 /// What a cancel asks for: the user_data of its target, and whether that has to be a TIMEOUT.
@@ -72,12 +73,6 @@ pub(crate) fn wanted_of(op: Op) -> Option<Wanted>
 {
     by_opcode!(op => wanted!())
 }
-
-/// The row number of TIMEOUT among the facts.
-const TIMEOUT: u8 = 2;
-
-/// That of LINK_TIMEOUT.
-const LINK_TIMEOUT: u8 = 5;
 
 /// Whether a cancel may be meant for an entry with this row number.
 fn is_kind(row: u8, timeout: bool) -> bool

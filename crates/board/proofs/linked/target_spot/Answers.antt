@@ -3,13 +3,13 @@ use Rattle.history.specs.Chains.{previous}
 use Rattle.steps.specs.Cells.{request_at, setup_of}
 use Rattle.steps.proofs.CellNumbers.{age_small}
 use Rattle.work.specs.Board.{Facts}
-use Rattle.board.proofs.PassFacts.{no_submits}
+use Rattle.history.proofs.Words.{no_ring}
 use Rattle.board.proofs.Settlings.{link_later}
 use Rattle.board.proofs.linked.target_spot.Goals as goal
 
 pub unreachable-requires : goal.unreachable-requires
 unreachable-requires c = let l = c.requires.linked in let le : length c.args.board.now.layout.cells ≤ c.args.req.ring = subst (λ (b : Facts). length b.layout.cells ≤ c.args.req.ring) c.board.view_is c.in_default.ensures.none in
-    let n = no_submits (setup_of c.args.board.now.layout) l.0 c.args.req.ring l.1 le in let born = l.2 in omega arith
+    let n = no_ring (setup_of c.args.board.now.layout) l.0 c.args.req.ring l.1 le in let born = l.2 in omega arith
 
 pub returns-clause-small : goal.returns-clause-small
 returns-clause-small c = let l = c.requires.linked in let r = c.requires.at in let o = c.in-Some.ensures.some in let later = link_later l.0 c.args.req l.3 in let K = c.args.board.now.layout.cells in

@@ -1,4 +1,4 @@
-use Rattle.std.proofs.Common.{ℕ, false, set, ◌≡◌, ◌<◌, ◌+◌, ◌*◌, List, Option, length, ◌∙◌, subst, arith}
+use Rattle.std.proofs.Common.{ℕ, false, set, ◌≡◌, ◌<◌, ◌+◌, List, Option, length, ◌∙◌, subst, arith}
 use mathlib.Core.Option.{some}
 use lib.ListN.{get_elem?}
 use Rattle.std.specs.Mem.Slots.{slots_items, slots_filled, slots_counts}

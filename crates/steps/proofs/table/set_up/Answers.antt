@@ -1,4 +1,4 @@
-use Rattle.std.proofs.Common.{rules, Option, ◌<◌, ◌≡◌, ℕ, ◌+◌, ◌*◌, sym, refl, ap, ◌∙◌, subst, arith, replicate, List}
+use Rattle.std.proofs.Common.{rules, Option, ◌<◌, ◌≡◌, ℕ, sym, refl, ap, ◌∙◌, subst, arith, replicate, List}
 use Rattle.std.proofs.lemmas.Grind.{common_steps}
 use Rattle.steps.specs.declared.view.Layout.{Layout}
 use mathlib.Core.Option.{some}
