@@ -3,13 +3,14 @@
 
 use clap::error::ErrorKind;
 use commands::{invocation_of, serve};
+use std::alloc::AllocError;
 use std::io;
 use std::process::ExitCode;
 use std::sync::Wait;
 use std::thread::Threads;
 use std::time::Clock;
 
-/// Reads the command line and carries it out. The answer is the program's status.
+/// Reads the command line and carries it out. The answer is the program's status. Want of memory for the command line is an error.
 fn run<T: Threads + Wait + Copy + Send + Sync + 'static + Clock>(
     threads: &T,
     rt: &HostRuntime,
@@ -26,6 +27,9 @@ fn run<T: Threads + Wait + Copy + Send + Sync + 'static + Clock>(
             Ok(serve(threads, rt, &invocation, &mut out, &mut err))
         }
         Err(error) => {
+            if error.kind() == ErrorKind::OutOfMemory {
+                return Err(io::Error::from(AllocError));
+            }
             error.print(rt)?;
             if error.kind() == ErrorKind::DisplayVersion {
                 println!(rt)?;
@@ -38,6 +42,11 @@ fn run<T: Threads + Wait + Copy + Send + Sync + 'static + Clock>(
 fn main(rt: HostRuntime) -> ExitCode {
     match run(&rt, &rt) {
         Ok(status) => ExitCode::from(status),
-        Err(_) => ExitCode::from(1),
+        Err(error) => {
+            if error.kind() == io::ErrorKind::OutOfMemory {
+                let _ = eprintln!(rt; "fault: memory");
+            }
+            ExitCode::from(1)
+        }
     }
 }
