@@ -1,4 +1,4 @@
-use Rattle.memory_cases.proofs.PassLists.{are_of}
+use Rattle.board.proofs.PassLists.{are_of}
 use Rattle.memory_cases.proofs.boards.finish.Goals as goal
 
 pub finish-first-requires-clause-submitters : goal.finish-first-requires-clause-submitters

@@ -1,4 +1,4 @@
-use Rattle.memory_cases.proofs.PassLists.{submitters_of, workers_of}
+use Rattle.board.proofs.PassLists.{submitters_of, workers_of}
 use Rattle.memory_cases.proofs.boards.new_board.Goals as goal
 
 pub returns-clause-submitters : goal.returns-clause-submitters
