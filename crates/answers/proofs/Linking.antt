@@ -1,5 +1,5 @@
--- The answers of a pipe in hand are those of the definitions: READ, WRITE, CLOSE and POLL_ADD, case by case.
-use Rattle.std.proofs.Common.{◌≡◌, ℕ, not, take, Bool, true, false, cond, pos, negsuc, List, [], refl, sym, ap, arith}
+-- The answers of pipes in hand are those of the definitions: READ, WRITE, POLL_ADD and SPLICE, case by case.
+use Rattle.std.proofs.Common.{◌≡◌, ℕ, ◌==◌, not, take, Bool, true, false, cond, pos, negsuc, List, [], refl, sym, ap, arith}
 use Rattle.std.proofs.lemmas.List.{take_min, take_all}
 use Rattle.pipe.specs.declared.ends.End.TheVariants.{Read, Write}
 use Rattle.pipe.specs.declared.ready.Ready.{Ready}
@@ -18,7 +18,7 @@ said (Now n) xs = now (pos n) (take n xs)
 said Wait xs = later
 said (Fail errno) xs = now (below errno) []
 
-none : (n : ℕ) → ◌≡◌ {A = List ℕ} (take n []) []
+pub none : (n : ℕ) → ◌≡◌ {A = List ℕ} (take n []) []
 none n = take_all n [] (omega arith)
 
 -- a choice of answers is made before what is said of them
@@ -47,6 +47,13 @@ poll_cases true b n = refl
 poll_cases false true n = refl
 poll_cases false false n = ap (now (pos n)) (sym (none n))
 
+splice_cases : (k b m z : Bool) (n : ℕ) → cond k (now (pos 0) []) (cond b (now (negsuc 31) []) (cond m (now (pos n) []) (cond z (now (pos 0) []) later))) ≡ said (cond k (Now 0) (cond b (Fail (pos 32)) (cond m (Now n) (cond z (Now 0) Wait)))) []
+splice_cases true b m z n = refl
+splice_cases false true m z n = refl
+splice_cases false false true z n = ap (now (pos n)) (sym (none n))
+splice_cases false false false true n = refl
+splice_cases false false false false n = refl
+
 module _ (cap : ℕ) (c : Conduit) (w : Flow) (s : IsPipe cap c w) where
   pub read_said : (len : ℕ) → told.answer_read w len ≡ said (piped.answer_read c len) c.content
   read_said len = rw (← s.content_is, ← s.read_is, ← s.write_is) (read_cases c.read_shut _ _ c.write_shut _ c.content _ (sym (take_min len c.content)))
@@ -59,3 +66,6 @@ module _ (cap : ℕ) (c : Conduit) (w : Flow) (s : IsPipe cap c w) where
 
   pub poll_write_said : (mask : ℕ) → cond (not w.write_shut) (told.answer_poll (told.write_events cap w) mask) (now (negsuc 8) []) ≡ said (piped.answer_poll c Write mask) []
   poll_write_said mask = rw (← s.content_is, ← s.read_is, ← s.write_is, ← s.cap_is) (poll_cases c.write_shut _ _)
+
+pub splice_said : (cap room : ℕ) (c d : Conduit) (v w : Flow) → IsPipe cap c v → IsPipe room d w → (len : ℕ) → told.answer_splice room v w len ≡ said (piped.answer_splice c d len) []
+splice_said cap room c d v w s t len = rw (← s.content_is, ← s.write_is, ← t.content_is, ← t.read_is, ← t.cap_is) (splice_cases (len == 0) d.read_shut _ _ _)

@@ -1,16 +1,17 @@
 -- What READ, WRITE, CLOSE and POLL_ADD do to the pipe in hand is what their replies do to the pipe of the history.
-use Rattle.answers.specs.NamedEnds.{pipe_with, IsSide}
+use Rattle.answers.specs.NamedEnds.{IsSide}
 use Rattle.pipe.specs.declared.ends.End.TheVariants.{Read as ReadSide, Write as WriteSide}
-use Rattle.std.proofs.Common.{Some, ◌≡◌, to_z, of_z, w32, ◌-ℤ◌, ℕ, ◌<◌, ◌≤◌, ◌==◌, ◌&&◌, nat_lt, min, take, drop, length, slice_index, Bool, true, false, cond, ℤ, pos, negsuc, List, [], ◌++◌, refl, sym, ap, ◌∙◌, subst, arith, ◌⊎◌, inl, inr, eq-eqb, append-nil, nat_le, bit_and, bit_or, not}
+use Rattle.std.proofs.Common.{Some, ◌≡◌, to_z, of_z, w32, ◌-ℤ◌, ℕ, ◌<◌, ◌≤◌, ◌==◌, ◌&&◌, nat_lt, min, take, drop, length, slice_index, Bool, true, false, cond, ℤ, pos, negsuc, List, [], ◌++◌, refl, sym, ap, ◌∙◌, subst, arith, ◌⊎◌, inl, inr, eq-eqb, eqb-true, append-nil, nat_le, bit_and, bit_or, not}
 use Rattle.std.proofs.lemmas.Bool.{lt-ltb}
-use Rattle.std.proofs.lemmas.List.{length-take-le, take_all}
+use Rattle.std.proofs.lemmas.List.{length-take-le}
 use Rattle.entry.specs.declared.op.Op.{Op}
 use Rattle.entry.specs.declared.op.Offset.{Offset}
-use Rattle.entry.specs.declared.op.Op.TheVariants.{Close as OpClose, Read as OpRead, Write as OpWrite, PollAdd as OpPoll}
+use Rattle.entry.specs.declared.op.Op.TheVariants.{Close as OpClose, Read as OpRead, Write as OpWrite, PollAdd as OpPoll, Splice as OpSplice}
 use Rattle.history.specs.declared.event.Event.{Event}
 use Rattle.history.specs.declared.req.Req.{Req}
 use Rattle.history.specs.Answers.{Answer, now, is_pipe, read_from, write_to, close_of, poll_of, OpAnswers}
-use Rattle.history.specs.Pipes.{Flow, flow, flows, End, no_end, read_end, write_end, end_of}
+use Rattle.history.specs.Pipes.{Flow, contents, flow, offered, flows, End, no_end, read_end, write_end, end_of}
+use Rattle.history.specs.Users.{is_at}
 use Rattle.history.specs.State.{Held, held_in}
 use Rattle.history.proofs.Contents.{reads_held, writes_held, closes_held, flows_held, flows_hold}
 use Rattle.pipe.specs.declared.ends.End.{End as Side}
@@ -18,44 +19,44 @@ use Rattle.pipe.specs.declared.ready.Ready.{Ready}
 use Rattle.pipe.specs.declared.ready.Ready.TheVariants.{Now, Wait, Fail}
 use Rattle.pipe.specs.Pipe.{Conduit}
 use Rattle.pipe.specs.PipeAnswers.{moved, OnIdle, after_read, answer_read, answer_write, answer_close, answer_poll, free_in, is_shut, events_at, after_write, after_close}
-use Rattle.answers.specs.Answered.{IsPipe, Does}
+use Rattle.answers.specs.Answered.{IsPipe, IsSound, Does}
 use Rattle.answers.specs.PipeReplies.{below, reply_of}
-use Rattle.answers.proofs.Linking.{said, read_said, write_said, poll_read_said, poll_write_said}
+use Rattle.answers.proofs.Linking.{said, none, read_said, write_said, poll_read_said, poll_write_said}
 
 abbrev pub held_of : Conduit → Held
 held_of c = record { bytes = c.content; read_shut = c.read_shut; write_shut = c.write_shut }
 
-same : (p : ℕ) → (p == p) ≡ true
+pub same : (p : ℕ) → (p == p) ≡ true
 same p = eq-eqb p p refl
 
 -- what a reply makes of the pipe in hand it makes of the history's
-pub stays : (cap : ℕ) (op : Op) (bytes : List ℕ) (res : ℤ) (p : ℕ) (c new : Conduit) (w : Flow) → IsPipe cap c w → w.out ≤ length w.into → new.cap ≡ c.cap → held_of new ≡ flows_held op bytes res p (held_of c) → IsPipe cap new (flows op bytes res p w)
+pub stays : (cap : ℕ) (op : Op) (bytes : List ℕ) (res : ℤ) (p : ℕ) (c new : Conduit) (w : Flow) → IsPipe cap c w → IsSound w → new.cap ≡ c.cap → held_of new ≡ flows_held op bytes res p (held_of c) → IsPipe cap new (flows op bytes res p w)
 stays cap op bytes res p c new w s ok k e =
     let was : held_of c ≡ held_in w = cc in
     let all : held_of new ≡ held_in (flows op bytes res p w) = e ∙ ap (flows_held op bytes res p) was ∙ sym (flows_hold op bytes res p w ok) in
     record { cap_is = k ∙ s.cap_is; content_is = ap (λ (v : Held). v.bytes) all; read_is = ap (λ (v : Held). v.read_shut) all; write_is = ap (λ (v : Held). v.write_shut) all }
 
--- a pipe's only errors, EBADF and EPIPE
+-- a pipe's only errors: EBADF, EPIPE, and EINVAL where both ends of a SPLICE are its own
 abbrev pub IsError : ℤ → Type 0
-IsError e = (e ≡ pos 9) ⊎ (e ≡ pos 32)
+IsError e = (e ≡ pos 9) ⊎ ((e ≡ pos 32) ⊎ (e ≡ pos 22))
 
-abbrev Errs : {X : Type 0} → Ready X → Type 0
+abbrev pub Errs : {X : Type 0} → Ready X → Type 0
 Errs (Now x) = Unit {0}
 Errs Wait = Unit {0}
 Errs (Fail errno) = IsError errno
 
-errs_if : {X : Type 0} (b : Bool) (x y : Ready X) → Errs x → Errs y → Errs (cond b x y)
+pub errs_if : {X : Type 0} (b : Bool) (x y : Ready X) → Errs x → Errs y → Errs (cond b x y)
 errs_if true x y p q = p
 errs_if false x y p q = q
 
-bad : IsError (pos 9)
+pub bad : IsError (pos 9)
 bad = inl refl
 
 read_errs : (c : Conduit) (len : ℕ) → Errs (answer_read c len)
 read_errs c len = errs_if c.read_shut _ _ bad (errs_if (len == 0) _ _ tt (errs_if (nat_lt 0 (length c.content)) _ _ tt (errs_if c.write_shut _ _ tt tt)))
 
 write_errs : (c : Conduit) (len : ℕ) → Errs (answer_write c len)
-write_errs c len = errs_if c.write_shut _ _ bad (errs_if (len == 0) _ _ tt (errs_if c.read_shut _ _ (inr refl) (errs_if (nat_le len c.cap) _ _ (errs_if (nat_le len (free_in c)) _ _ tt tt) (errs_if (nat_lt 0 (free_in c)) _ _ tt tt))))
+write_errs c len = errs_if c.write_shut _ _ bad (errs_if (len == 0) _ _ tt (errs_if c.read_shut _ _ (inr (inl refl)) (errs_if (nat_le len c.cap) _ _ (errs_if (nat_le len (free_in c)) _ _ tt tt) (errs_if (nat_lt 0 (free_in c)) _ _ tt tt))))
 
 close_errs : (c : Conduit) (side : Side) → Errs (answer_close c side)
 close_errs c side = errs_if (is_shut side c) _ _ bad tt
@@ -79,15 +80,17 @@ closes_nothing no_end n p v = refl
 closes_nothing (read_end y) n p v = elim (y == p) as (λ b. cond (b && false) (record v { read_shut = true }) v ≡ v) [ true ↦ refl | false ↦ refl ]
 closes_nothing (write_end y) n p v = elim (y == p) as (λ b. cond (b && false) (record v { write_shut = true }) v ≡ v) [ true ↦ refl | false ↦ refl ]
 
-nothing_moves : (op : Op) (bytes : List ℕ) (n p : ℕ) (v : Held) → flows_held op bytes (negsuc n) p v ≡ v
+pub nothing_moves : (op : Op) (bytes : List ℕ) (n p : ℕ) (v : Held) → flows_held op bytes (negsuc n) p v ≡ v
 nothing_moves (OpRead fd offset len) bytes n p v = reads_nothing (end_of fd) n p v
 nothing_moves (OpWrite fd offset len) bytes n p v = writes_nothing (end_of fd) bytes n p v
 nothing_moves (OpClose fd) bytes n p v = closes_nothing (end_of fd) n p v
+nothing_moves (OpSplice fd_in fd_out len) bytes n p v = reads_nothing (end_of fd_in) n p (writes_held (end_of fd_out) bytes (negsuc n) p v) ∙ writes_nothing (end_of fd_out) bytes n p v
 nothing_moves _ bytes n p v = refl
 
-errs_nothing : (op : Op) (bytes : List ℕ) (e : ℤ) (p : ℕ) (v : Held) → IsError e → flows_held op bytes (below e) p v ≡ v
+pub errs_nothing : (op : Op) (bytes : List ℕ) (e : ℤ) (p : ℕ) (v : Held) → IsError e → flows_held op bytes (below e) p v ≡ v
 errs_nothing op bytes e p v (inl q) = rw q (nothing_moves op bytes 8 p v)
-errs_nothing op bytes e p v (inr q) = rw q (nothing_moves op bytes 31 p v)
+errs_nothing op bytes e p v (inr (inl q)) = rw q (nothing_moves op bytes 31 p v)
+errs_nothing op bytes e p v (inr (inr q)) = rw q (nothing_moves op bytes 21 p v)
 
 moved_few : (b k m z : Bool) (xs : List ℕ) (len : ℕ) → moved (cond b (Fail (pos 9)) (cond k (Now 0) (cond m (Now (min len (length xs))) (cond z (Now 0) Wait)))) ≤ length xs
 moved_few true k m z xs len = omega arith
@@ -101,11 +104,8 @@ few : (c : Conduit) (len : ℕ) → moved (answer_read c len) ≤ length c.conte
 few c len = moved_few c.read_shut (len == 0) (nat_lt 0 (length c.content)) c.write_shut c.content len
 
 -- the definitions give no answer where the pipe waits
-silent : (x : Answer) (xs : List ℕ) (res : ℤ) (data' : List ℕ) → x ≡ said Wait xs → ¬ (x ≡ now res data')
+pub silent : (x : Answer) (xs : List ℕ) (res : ℤ) (data' : List ℕ) → x ≡ said Wait xs → ¬ (x ≡ now res data')
 silent x xs res data' e f = cc
-
-none : (n : ℕ) → ◌≡◌ {A = List ℕ} (take n []) []
-none n = take_all n [] (omega arith)
 
 -- a close answers 0
 abbrev pub zeroed : Ready (Unit {0}) → Ready ℕ
@@ -127,19 +127,23 @@ zeroed_errs (Now x) e = tt
 zeroed_errs Wait e = tt
 zeroed_errs (Fail errno) e = e
 
-module _ (caps : List ℕ) (h : List Event) (r : Req) (p : ℕ) (fd : ℤ) (c : Conduit) (bytes : List ℕ) (there : p < length caps) (s : IsPipe (slice_index caps p) c (flow h p)) (ok : (flow h p).out ≤ length (flow h p).into) where
+module _ (caps : List ℕ) (h : List Event) (r : Req) (p : ℕ) (fd : ℤ) (c : Conduit) (bytes : List ℕ) (there : p < length caps) (s : IsPipe (slice_index caps p) c (flow h p)) (ok : IsSound (flow h p)) where
   is_there : is_pipe caps p ≡ true
   is_there = lt-ltb p (length caps) there
 
+  -- the bytes that a reply puts into a pipe
+  abbrev offers : Op → List ℕ
+  offers op = offered op (contents h) bytes
+
   -- x is the answer of the definitions, and a that of the pipe
   module _ (op : Op) (x : Answer) (tells : (res : ℤ) (data' : List ℕ) → x ≡ now res data' → OpAnswers caps h r op res data') (told : (res : ℤ) (data' : List ℕ) → OpAnswers caps h r op res data' → x ≡ now res data') (xs : List ℕ) (new : Conduit) (after : List ℕ) where
-    does : (a : Ready ℕ) → x ≡ said a xs → Errs a → new.cap ≡ c.cap → ((n : ℕ) → a ≡ Now n → held_of new ≡ flows_held op bytes (pos n) p (held_of c)) → after ≡ take (moved a) xs ++ drop (length (take (moved a) xs)) bytes → OnIdle a ((new ≡ c) × (after ≡ bytes)) → Does caps h r p op (reply_of a) c new bytes after
-    does (Now n) link errs k m b o = record { data' = take n xs; answers = tells (pos n) (take n xs) link; pipe = stays (slice_index caps p) op bytes (pos n) p c new (flow h p) s ok k (m n refl); buffer = b }
+    does : (a : Ready ℕ) → x ≡ said a xs → Errs a → new.cap ≡ c.cap → ((n : ℕ) → a ≡ Now n → held_of new ≡ flows_held op (offers op) (pos n) p (held_of c)) → after ≡ take (moved a) xs ++ drop (length (take (moved a) xs)) bytes → OnIdle a ((new ≡ c) × (after ≡ bytes)) → Does caps h r op p (reply_of a) c new bytes after
+    does (Now n) link errs k m b o = record { data' = take n xs; answers = tells (pos n) (take n xs) link; pipe = stays (slice_index caps p) op (offers op) (pos n) p c new (flow h p) s ok k (m n refl); buffer = b }
     does Wait link errs k m b o = record { none = λ res d w. silent x xs res d link (told res d w); pipe = o.0; buffer = o.1 }
-    does (Fail errno) link errs k m b o = record { data' = []; answers = tells (below errno) [] link; pipe = stays (slice_index caps p) op bytes (below errno) p c new (flow h p) s ok k (ap held_of o.0 ∙ sym (errs_nothing op bytes errno p (held_of c) errs)); buffer = o.1 }
+    does (Fail errno) link errs k m b o = record { data' = []; answers = tells (below errno) [] link; pipe = stays (slice_index caps p) op (offers op) (below errno) p c new (flow h p) s ok k (ap held_of o.0 ∙ sym (errs_nothing op (offers op) errno p (held_of c) errs)); buffer = o.1 }
 
   module _ (offset : Offset) (len : ℕ) (new : Conduit) (after : List ℕ) (a : Ready ℕ) where
-    pub read_does : end_of fd ≡ read_end p → len ≡ length bytes → a ≡ answer_read c (length bytes) → new ≡ after_read (moved a) c → after ≡ take (moved a) c.content ++ drop (moved a) bytes → OnIdle a ((new ≡ c) × (after ≡ bytes)) → Does caps h r p (OpRead fd offset len) (reply_of a) c new bytes after
+    pub read_does : end_of fd ≡ read_end p → len ≡ length bytes → a ≡ answer_read c (length bytes) → new ≡ after_read (moved a) c → after ≡ take (moved a) c.content ++ drop (moved a) bytes → OnIdle a ((new ≡ c) × (after ≡ bytes)) → Does caps h r (OpRead fd offset len) p (reply_of a) c new bytes after
     read_does end l e k b o =
         let le : moved a ≤ length c.content = subst (λ (z : Ready ℕ). moved z ≤ length c.content) (sym e) (few c (length bytes)) in
         does (OpRead fd offset len) (read_from caps (flow h) (end_of fd) len) (λ res d z. z) (λ res d z. z) c.content new after a
@@ -157,11 +161,11 @@ module _ (caps : List ℕ) (h : List Event) (r : Req) (p : ℕ) (fd : ℤ) (c : 
     idle Wait o = (o, refl)
     idle (Fail errno) o = (o, refl)
 
-    bare : (a : Ready ℕ) → x ≡ said a [] → Errs a → new.cap ≡ c.cap → ((n : ℕ) → a ≡ Now n → held_of new ≡ flows_held op bytes (pos n) p (held_of c)) → OnIdle a (new ≡ c) → Does caps h r p op (reply_of a) c new bytes bytes
+    pub bare : (a : Ready ℕ) → x ≡ said a [] → Errs a → new.cap ≡ c.cap → ((n : ℕ) → a ≡ Now n → held_of new ≡ flows_held op (offers op) (pos n) p (held_of c)) → OnIdle a (new ≡ c) → Does caps h r op p (reply_of a) c new bytes bytes
     bare a link errs k m o = does op x tells told [] new bytes a link errs k m (rw (none (moved a)) refl) (idle a o)
 
   module _ (new : Conduit) (a : Ready ℕ) where
-    pub write_does : (offset : Offset) (len : ℕ) → end_of fd ≡ write_end p → len ≡ length bytes → a ≡ answer_write c (length bytes) → new ≡ after_write (moved a) bytes c → OnIdle a (new ≡ c) → Does caps h r p (OpWrite fd offset len) (reply_of a) c new bytes bytes
+    pub write_does : (offset : Offset) (len : ℕ) → end_of fd ≡ write_end p → len ≡ length bytes → a ≡ answer_write c (length bytes) → new ≡ after_write (moved a) bytes c → OnIdle a (new ≡ c) → Does caps h r (OpWrite fd offset len) p (reply_of a) c new bytes bytes
     write_does offset len end l e k o =
         bare (OpWrite fd offset len) (write_to caps (flow h) (end_of fd) len) (λ res d z. z) (λ res d z. z) new a
         (rw (end, is_there) (rw l (write_said (slice_index caps p) c (flow h p) s (length bytes)) ∙ ap (λ (z : Ready ℕ). said z []) (sym e)))
@@ -171,17 +175,17 @@ module _ (caps : List ℕ) (h : List Event) (r : Req) (p : ℕ) (fd : ℤ) (c : 
         o
 
   module _ (new : Conduit) (a : Ready (Unit {0})) where
-    shuts : (x : Answer) → ((res : ℤ) (data' : List ℕ) → x ≡ now res data' → OpAnswers caps h r (OpClose fd) res data') → ((res : ℤ) (data' : List ℕ) → OpAnswers caps h r (OpClose fd) res data' → x ≡ now res data') → x ≡ said (zeroed a) [] → Errs a → new.cap ≡ c.cap → held_of new ≡ flows_held (OpClose fd) bytes (pos 0) p (held_of c) → OnIdle (zeroed a) (new ≡ c) → Does caps h r p (OpClose fd) (reply_of (zeroed a)) c new bytes bytes
+    shuts : (x : Answer) → ((res : ℤ) (data' : List ℕ) → x ≡ now res data' → OpAnswers caps h r (OpClose fd) res data') → ((res : ℤ) (data' : List ℕ) → OpAnswers caps h r (OpClose fd) res data' → x ≡ now res data') → x ≡ said (zeroed a) [] → Errs a → new.cap ≡ c.cap → held_of new ≡ flows_held (OpClose fd) (offers (OpClose fd)) (pos 0) p (held_of c) → OnIdle (zeroed a) (new ≡ c) → Does caps h r (OpClose fd) p (reply_of (zeroed a)) c new bytes bytes
     shuts x tells told link errs k m o = bare (OpClose fd) x tells told new (zeroed a) link (zeroed_errs a errs) k (λ n is. subst (λ (z : ℕ). held_of new ≡ closes_held (end_of fd) (pos z) p (held_of c)) (zero_now a n is) m) o
 
-    pub close_read_does : end_of fd ≡ read_end p → a ≡ answer_close c ReadSide → new ≡ after_close ReadSide c → OnIdle (zeroed a) (new ≡ c) → Does caps h r p (OpClose fd) (reply_of (zeroed a)) c new bytes bytes
+    pub close_read_does : end_of fd ≡ read_end p → a ≡ answer_close c ReadSide → new ≡ after_close ReadSide c → OnIdle (zeroed a) (new ≡ c) → Does caps h r (OpClose fd) p (reply_of (zeroed a)) c new bytes bytes
     close_read_does end e m o = shuts (close_of caps (flow h) (end_of fd)) (λ res d z. z) (λ res d z. z) (rw (end, is_there) (rw (← s.read_is) (close_said c.read_shut) ∙ ap (λ (z : Ready (Unit {0})). said (zeroed z) []) (sym e))) (subst (λ (z : Ready (Unit {0})). Errs z) (sym e) (close_errs c ReadSide)) (ap (λ (z : Conduit). z.cap) m) (rw (end, same p) (rw m refl)) o
 
-    pub close_write_does : end_of fd ≡ write_end p → a ≡ answer_close c WriteSide → new ≡ after_close WriteSide c → OnIdle (zeroed a) (new ≡ c) → Does caps h r p (OpClose fd) (reply_of (zeroed a)) c new bytes bytes
+    pub close_write_does : end_of fd ≡ write_end p → a ≡ answer_close c WriteSide → new ≡ after_close WriteSide c → OnIdle (zeroed a) (new ≡ c) → Does caps h r (OpClose fd) p (reply_of (zeroed a)) c new bytes bytes
     close_write_does end e m o = shuts (close_of caps (flow h) (end_of fd)) (λ res d z. z) (λ res d z. z) (rw (end, is_there) (rw (← s.write_is) (close_said c.write_shut) ∙ ap (λ (z : Ready (Unit {0})). said (zeroed z) []) (sym e))) (subst (λ (z : Ready (Unit {0})). Errs z) (sym e) (close_errs c WriteSide)) (ap (λ (z : Conduit). z.cap) m) (rw (end, same p) (rw m refl)) o
 
   module _ (a : Ready ℕ) (mask : ℕ) where
-    polls : (side : Side) → poll_of caps (flow h) (end_of fd) mask ≡ said (answer_poll c side mask) [] → a ≡ answer_poll c side mask → Does caps h r p (OpPoll fd mask) (reply_of a) c c bytes bytes
+    polls : (side : Side) → poll_of caps (flow h) (end_of fd) mask ≡ said (answer_poll c side mask) [] → a ≡ answer_poll c side mask → Does caps h r (OpPoll fd mask) p (reply_of a) c c bytes bytes
     polls side link e = bare (OpPoll fd mask) (poll_of caps (flow h) (end_of fd) mask) (λ res d z. z) (λ res d z. z) c a (link ∙ ap (λ (z : Ready ℕ). said z []) (sym e)) (subst (λ (z : Ready ℕ). Errs z) (sym e) (poll_errs c side mask)) refl (λ n is. refl) (still a)
       where
         still : (a : Ready ℕ) → OnIdle a (c ≡ c)
@@ -189,27 +193,27 @@ module _ (caps : List ℕ) (h : List Event) (r : Req) (p : ℕ) (fd : ℤ) (c : 
         still Wait = refl
         still (Fail errno) = refl
 
-    pub poll_read_does : end_of fd ≡ read_end p → a ≡ answer_poll c ReadSide mask → Does caps h r p (OpPoll fd mask) (reply_of a) c c bytes bytes
+    pub poll_read_does : end_of fd ≡ read_end p → a ≡ answer_poll c ReadSide mask → Does caps h r (OpPoll fd mask) p (reply_of a) c c bytes bytes
     poll_read_does end e = polls ReadSide (rw (end, is_there) (poll_read_said (slice_index caps p) c (flow h p) s mask)) e
 
-    pub poll_write_does : end_of fd ≡ write_end p → a ≡ answer_poll c WriteSide mask → Does caps h r p (OpPoll fd mask) (reply_of a) c c bytes bytes
+    pub poll_write_does : end_of fd ≡ write_end p → a ≡ answer_poll c WriteSide mask → Does caps h r (OpPoll fd mask) p (reply_of a) c c bytes bytes
     poll_write_does end e = polls WriteSide (rw (end, is_there) (poll_write_said (slice_index caps p) c (flow h p) s mask)) e
 
   -- a READ of a write end, and a WRITE of a read end
-  pub read_refused : (offset : Offset) (len : ℕ) → end_of fd ≡ write_end p → Does caps h r p (OpRead fd offset len) (Some (negsuc 8)) c c bytes bytes
+  pub read_refused : (offset : Offset) (len : ℕ) → end_of fd ≡ write_end p → Does caps h r (OpRead fd offset len) p (Some (negsuc 8)) c c bytes bytes
   read_refused offset len end = bare (OpRead fd offset len) (read_from caps (flow h) (end_of fd) len) (λ res d z. z) (λ res d z. z) c (Fail (pos 9)) (rw end refl) bad refl (λ n is. absurd cc) refl
 
-  pub write_refused : (offset : Offset) (len : ℕ) → end_of fd ≡ read_end p → Does caps h r p (OpWrite fd offset len) (Some (negsuc 8)) c c bytes bytes
+  pub write_refused : (offset : Offset) (len : ℕ) → end_of fd ≡ read_end p → Does caps h r (OpWrite fd offset len) p (Some (negsuc 8)) c c bytes bytes
   write_refused offset len end = bare (OpWrite fd offset len) (write_to caps (flow h) (end_of fd) len) (λ res d z. z) (λ res d z. z) c (Fail (pos 9)) (rw end refl) bad refl (λ n is. absurd cc) refl
 
 -- which end of the pipe it is
-pub side_read : (x : End) (p : ℕ) → IsSide ReadSide x → pipe_with x ≡ Some p → x ≡ read_end p
-side_read (read_end q) p i e = let q-is : q ≡ p = cc in ap read_end q-is
+pub side_read : (x : End) (p : ℕ) → IsSide ReadSide x → is_at x p ≡ true → x ≡ read_end p
+side_read (read_end q) p i e = ap read_end (eqb-true q p e)
 side_read (write_end q) p i e = absurd i
 side_read no_end p i e = absurd i
 
-pub side_write : (x : End) (p : ℕ) → IsSide WriteSide x → pipe_with x ≡ Some p → x ≡ write_end p
-side_write (write_end q) p i e = let q-is : q ≡ p = cc in ap write_end q-is
+pub side_write : (x : End) (p : ℕ) → IsSide WriteSide x → is_at x p ≡ true → x ≡ write_end p
+side_write (write_end q) p i e = ap write_end (eqb-true q p e)
 side_write (read_end q) p i e = absurd i
 side_write no_end p i e = absurd i
 
@@ -219,4 +223,5 @@ write_error c len errno e = subst (λ (z : Ready ℕ). Errs z) (sym e) (write_er
 -- an error comes back from the machine as its reply
 pub signed_error : (errno : ℤ) → IsError errno → to_z w32 (of_z w32 (pos 0 -ℤ to_z w32 (of_z w32 errno))) ≡ below errno
 signed_error errno (inl e) = rw e refl
-signed_error errno (inr e) = rw e refl
+signed_error errno (inr (inl e)) = rw e refl
+signed_error errno (inr (inr e)) = rw e refl

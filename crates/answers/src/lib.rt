@@ -1,9 +1,13 @@
-//! What an operation answers that asks for no other request: with its pipe in hand, or without a pipe. The answers of a
-//! pipe in hand are those of the definitions over the history; that is shown here, in one place.
+//! What an operation answers that asks for no other request: with its pipe in hand, with both of its pipes, or without a
+//! pipe. The answers of pipes in hand are those of the definitions over the history; that is shown here, in one place.
 #![tactic(auto)]
 
+pub mod named;
 pub mod piped;
 pub mod plain;
+pub mod splice;
 
+pub use named::{NamedPipes, pipes_of};
 pub use piped::answer_with;
-pub use plain::{answer_without, pipe_of};
+pub use plain::answer_without;
+pub use splice::answer_both;

@@ -46,7 +46,7 @@ same_list xs i y lt e j = dite (ℕ_discrete j i)
 
 -- ---- two requests of one cell
 
-reaped_armed : (p : Phase) (d : ℕ) → p ≡ armed d → IsReaped p → ⊥
+pub reaped_armed : (p : Phase) (d : ℕ) → p ≡ armed d → IsReaped p → ⊥
 reaped_armed p d is r = subst IsReaped is r
 
 one_armed : (b : Facts) (q : Pass) (x g h d e : ℕ) → IsOf b q → IsCell b.layout.cells x → phase (seen_of q) (request_at b.layout.cells x g) ≡ armed d → phase (seen_of q) (request_at b.layout.cells x h) ≡ armed e → ¬ (g < h)

@@ -1,5 +1,5 @@
 -- What is tested of a batch, and what its submission comes to, entry by entry.
-use Rattle.std.proofs.Common.{◌≡◌, ℕ, zero, suc, ◌+◌, ◌*◌, ◌/◌, ◌==◌, ◌<◌, ◌≤◌, Bool, cond, List, [], ◌∷◌, ◌++◌, Some, length, drop, reverse, get_or, sym, refl, ap, ◌∙◌, subst, arith, eq-eqb, ne_eqb, append-nil}
+use Rattle.std.proofs.Common.{◌≡◌, ℕ, zero, suc, ◌+◌, ◌/◌, ◌==◌, ◌<◌, ◌≤◌, Bool, cond, true, false, List, [], ◌∷◌, ◌++◌, Some, None, length, drop, reverse, get_or, sym, refl, ap, ◌∙◌, subst, arith, eq-eqb, ne_eqb, append-nil}
 use Rattle.std.proofs.Math.Seq.{drop-cons}
 use Rattle.std.proofs.lemmas.List.{append_assoc, reverse-append}
 use Rattle.std.specs.Global.{Vec}
@@ -8,21 +8,23 @@ use Rattle.history.specs.declared.req.Req.{Req}
 use Rattle.history.specs.declared.event.Event.{Event}
 use Rattle.history.specs.declared.event.Event.TheVariants.{Submit}
 use Rattle.history.specs.History.{submits}
-use Rattle.history.specs.Chains.{before_in}
+use Rattle.history.specs.Chains.{before_in, is_timeout}
+use Rattle.history.specs.Legal.{count_of}
 use Rattle.steps.specs.declared.line.Line.{Line}
-use Rattle.steps.specs.declared.line.Line.TheVariants.{Did, Lent, Noted}
+use Rattle.steps.specs.declared.line.Line.TheVariants.{Did}
 use Rattle.steps.specs.declared.view.Role.TheVariants.{Submitter, Lending}
 use Rattle.steps.specs.declared.view.View.{View}
 use Rattle.steps.specs.Fairness.{IsFree}
 use Rattle.steps.specs.Journal.{events_of}
-use Rattle.steps.specs.Cells.{cells_in, facts_at, user_at}
-use Rattle.steps.specs.Rule.{ExtendsThrice}
+use Rattle.steps.specs.Cells.{cells_in, claim_at, facts_at}
+use Rattle.steps.specs.Rule.{AreSteps, ExtendsAfter, ExtendsNoted}
+use Rattle.steps.specs.Notes.{count_notes, notes_of, words_in}
 use Rattle.steps.proofs.JournalGrowth.{same_submits}
 use Rattle.steps.proofs.ViewsKept.{submits_after, submitter_can}
 use Rattle.work.specs.Board.{Facts}
 use Rattle.work.specs.Passes.{Pass, seen_of, own_of, Took}
 use Rattle.work.proofs.RunsKept.{took_both}
-use Rattle.board.specs.Batches.{Entries, AreFit, IsReady, is_empty, submits_of}
+use Rattle.board.specs.Batches.{Entries, AreFit, IsReady, is_empty, steps_for, steps_in, submits_of}
 use Rattle.board.specs.Calls.{EndsWith, Goes}
 use Rattle.board.specs.Lanes.{nth, RefusesRoom}
 use Rattle.board.specs.Refusals.{RefusesBatch}
@@ -64,7 +66,7 @@ pub record Going (b : Facts) (p q : Pass) (ring k : ℕ) (all rest : Entries) : 
   pub goes : Goes b p done q
   pub events : submits_of ring k all ≡ submits_of ring at rest ++ done
   pub ready : IsReady b q ring at rest
-  pub took : (n : ℕ) × Took p.view q.view n × (n + 3 * length rest ≡ 3 * length all)
+  pub took : (n : ℕ) × Took p.view q.view n × (n + steps_in rest ≡ steps_in all)
 
 pub going_start : (b : Facts) (p : Pass) (ring k : ℕ) (all : Entries) → IsReady b p ring k all → Going b p p ring k all all
 going_start b p ring k all r = record {
@@ -76,7 +78,7 @@ going_start b p ring k all r = record {
   took = (0, ([], refl, refl), omega arith);
 }
 
-pub going_more : (b : Facts) (p q w : Pass) (ring k : ℕ) (all rest : Entries) (x : Entry × Vec ℕ) (r : Req) (last : Bool) (g : Going b p q ring k all (x ∷ rest)) → last ≡ is_empty rest → r ≡ nth ring g.at → Goes b q (Submit r x.0 x.1.items last ∷ []) w → Took q.view w.view 3
+pub going_more : (b : Facts) (p q w : Pass) (ring k : ℕ) (all rest : Entries) (x : Entry × Vec ℕ) (r : Req) (last : Bool) (g : Going b p q ring k all (x ∷ rest)) → last ≡ is_empty rest → r ≡ nth ring g.at → Goes b q (Submit r x.0 x.1.items last ∷ []) w → Took q.view w.view (steps_for x.0)
     → submits (seen_of w) ring ≡ g.at + 1 → Going b p w ring k all rest
 going_more b p q w ring k all rest x r last g ends is goes took next = let e : Event = Submit (nth ring g.at) x.0 x.1.items (is_empty rest) in let y = g.ready in
     let go : Goes b q (e ∷ []) w = subst (λ (z : Req × Bool). Goes b q (Submit z.0 x.0 x.1.items z.1 ∷ []) w) (λ i. (is i, ends i)) goes in
@@ -93,22 +95,42 @@ going_more b p q w ring k all rest x r last g ends is goes took next = let e : E
         fresh = λ i lt. subst (λ (z : ℕ). z / cells_in b.layout.cells ring < 16777215) (let e' : g.at + suc i ≡ suc g.at + i = omega arith in e') (y.fresh (suc i) (let n : ℕ = length rest in omega arith));
         fit = y.fit.1;
       };
-      took = (let t = g.took in (3 + t.0, took_both p.view q.view w.view t.0 3 t.1 took, (let c = t.2 in let n : ℕ = length rest in omega arith)));
+      took = (let t = g.took in let m : ℕ = steps_for x.0 in (m + t.0, took_both p.view q.view w.view t.0 m t.1 took, (let c : t.0 + (m + steps_in rest) ≡ steps_in all = t.2 in let n : ℕ = steps_in rest in omega arith)));
     }
 
--- what the Submit of the next request leaves of what its submitter knows
-pub thrice_next : (v t : View) (ring next fact user c : ℕ) (r : Req) (e : Entry) (bytes : List ℕ) (last : Bool) → v.role ≡ Submitter ring → r ≡ nth ring next → submits (events_of v.seen) ring ≡ next
-    → ExtendsThrice v (Lent r (facts_at c) fact) (Lending r) (Noted r (user_at c) user) (Lending r) (Did (Submit r e bytes last)) (Submitter r.ring) t
+-- what the Submit of the next request, after these notes, leaves of what its submitter knows
+after_next : (notes : List (ℕ × ℕ)) (v t : View) (ring next : ℕ) (r : Req) (e : Entry) (bytes : List ℕ) (last : Bool) → v.role ≡ Lending r → r ≡ nth ring next → submits (events_of v.seen) ring ≡ next
+    → ExtendsAfter v r notes (Did (Submit r e bytes last)) (Submitter r.ring) t
     → (submits (events_of t.seen) ring ≡ next + 1) × (before_in (events_of t.seen) (nth ring (next + 1)) ≡ Some (record { entry = e; bytes = bytes; last = last }))
-thrice_next v t ring next fact user c r e bytes last role is now x =
-    let at : r.ring ≡ ring = ap (λ (z : Req). z.ring) is in let u : View = x.0 in let w : View = x.2.0 in let l : Line = Did (Submit r e bytes last) in let y = x.2.2 in
-    let one = submitter_can v ring role in let two = lends_it u r ring (ap (λ (z : View). z.role) x.1.is) at in let three = lends_it w r ring (ap (λ (z : View). z.role) x.2.1.is) at in
-    let counted : submits (events_of w.seen) ring ≡ next = submits_after u w _ _ (λ j. refl) x.2.1 ring two ∙ (submits_after v u _ _ (λ j. refl) x.1 ring one ∙ now) in
-    let seen : t.seen ≡ l ∷ (y.saw.later ++ w.seen) = ap (λ (z : View). z.seen) y.is ∙ ap (λ (j : List Line). l ∷ j) y.saw.is in
-    let before : submits (events_of (y.saw.later ++ w.seen)) ring ≡ next = same_submits w.role ring three y.saw.later w.seen y.saw.none ∙ counted in (
-      ap (λ (j : List Line). submits (events_of j) ring) seen ∙ (ap (λ (z : Bool). cond z 1 0 + submits (events_of (y.saw.later ++ w.seen)) ring) (eq-eqb r.ring ring at) ∙ (let n : ℕ = submits (events_of (y.saw.later ++ w.seen)) ring in let z : n ≡ next = before in let o : 1 + n ≡ next + 1 = omega arith in o)),
-      ap (λ (j : List Line). before_in (events_of j) (nth ring (next + 1))) seen ∙ (ap (λ (z : Req). before_in (Submit z e bytes last ∷ events_of (y.saw.later ++ w.seen)) (nth ring (next + 1))) is ∙ just_before ring next e bytes last (events_of (y.saw.later ++ w.seen))),
+after_next [] v t ring next r e bytes last role is now x =
+    let at : r.ring ≡ ring = ap (λ (z : Req). z.ring) is in let l : Line = Did (Submit r e bytes last) in
+    let seen : t.seen ≡ l ∷ (x.saw.later ++ v.seen) = ap (λ (z : View). z.seen) x.is ∙ ap (λ (j : List Line). l ∷ j) x.saw.is in
+    let before : submits (events_of (x.saw.later ++ v.seen)) ring ≡ next = same_submits v.role ring (lends_it v r ring role at) x.saw.later v.seen x.saw.none ∙ now in (
+      ap (λ (j : List Line). submits (events_of j) ring) seen ∙ (ap (λ (z : Bool). cond z 1 0 + submits (events_of (x.saw.later ++ v.seen)) ring) (eq-eqb r.ring ring at) ∙ (let n : ℕ = submits (events_of (x.saw.later ++ v.seen)) ring in let z : n ≡ next = before in let o : 1 + n ≡ next + 1 = omega arith in o)),
+      ap (λ (j : List Line). before_in (events_of j) (nth ring (next + 1))) seen ∙ (ap (λ (z : Req). before_in (Submit z e bytes last ∷ events_of (x.saw.later ++ v.seen)) (nth ring (next + 1))) is ∙ just_before ring next e bytes last (events_of (x.saw.later ++ v.seen))),
     )
+after_next (n ∷ notes) v t ring next r e bytes last role is now x =
+    let at : r.ring ≡ ring = ap (λ (z : Req). z.ring) is in let u : View = x.0 in
+    after_next notes u t ring next r e bytes last (ap (λ (z : View). z.role) x.1.is) is (submits_after v u _ _ (λ j. refl) x.1 ring (lends_it v r ring role at) ∙ now) x.2
+
+pub noted_next : (v t : View) (ring next : ℕ) (facts : ℕ × ℕ) (notes : List (ℕ × ℕ)) (r : Req) (e : Entry) (bytes : List ℕ) (last : Bool) → v.role ≡ Submitter ring → r ≡ nth ring next → submits (events_of v.seen) ring ≡ next
+    → ExtendsNoted v r facts notes (Did (Submit r e bytes last)) (Submitter r.ring) t
+    → (submits (events_of t.seen) ring ≡ next + 1) × (before_in (events_of t.seen) (nth ring (next + 1)) ≡ Some (record { entry = e; bytes = bytes; last = last }))
+noted_next v t ring next facts notes r e bytes last role is now x = let u : View = x.0 in
+    after_next notes u t ring next r e bytes last (ap (λ (z : View). z.role) x.1.is) is (submits_after v u _ _ (λ j. refl) x.1 ring (submitter_can v ring role) ∙ now) x.2
+
+-- the steps of a submission
+took_each : (words : List ℕ) (last : ℕ) (v w : View) → AreSteps words last v w → Took v w (suc (length words))
+took_each [] last v w x = (record { word = last; found = x.0; seen = w.seen } ∷ [], refl, x.1)
+took_each (word ∷ words) last v w x = subst (λ (n : ℕ). Took v w n) (let n : ℕ = length words in let e : suc n + 1 ≡ suc (suc n) = omega arith in e)
+    (took_both v x.0 w 1 (suc (length words)) (record { word = word; found = x.1.0; seen = x.0.seen } ∷ [], refl, x.1.1) (took_each words last x.0 w x.2))
+
+counted_notes : (c m : ℕ) (b : Bool) → suc (suc (suc (length (words_in (count_notes c (cond b (Some m) None)))))) ≡ cond b 4 3
+counted_notes c m true = refl
+counted_notes c m false = refl
+
+pub took_noted : (c : ℕ) (e : Entry) (v w : View) → AreSteps (facts_at c ∷ words_in (notes_of c e)) (claim_at c) v w → Took v w (steps_for e)
+took_noted c e v w x = subst (λ (n : ℕ). Took v w n) (counted_notes c (count_of e.op) (is_timeout e.op)) (took_each (facts_at c ∷ words_in (notes_of c e)) (claim_at c) v w x)
 
 -- the entry that is taken off the end of a list turned round
 pub popped : (xs ys : Entries) (x : Entry × Vec ℕ) → xs ≡ ys ++ x ∷ [] → reverse xs ≡ x ∷ reverse ys
@@ -133,8 +155,8 @@ pub reverse_none : (xs : Entries) → length xs ≡ 0 → reverse xs ≡ []
 reverse_none [] e = refl
 reverse_none (x ∷ xs) e = absurd (let n : ℕ = length xs in omega arith)
 
-pub going_end : (b : Facts) (p q : Pass) (ring k : ℕ) (all rest : Entries) → rest ≡ [] → Going b p q ring k all rest → Goes b p (submits_of ring k all) q × Took p.view q.view (3 * length all)
-going_end b p q ring k all rest none g = let e : submits_of ring k all ≡ g.done = g.events ∙ ap (λ (z : Entries). submits_of ring g.at z ++ g.done) none in let t = g.took in let n : 3 * length all ≡ t.0 = (let z : length rest ≡ 0 = ap (λ (z : Entries). length z) none in let c = t.2 in omega arith) in
+pub going_end : (b : Facts) (p q : Pass) (ring k : ℕ) (all rest : Entries) → rest ≡ [] → Going b p q ring k all rest → Goes b p (submits_of ring k all) q × Took p.view q.view (steps_in all)
+going_end b p q ring k all rest none g = let e : submits_of ring k all ≡ g.done = g.events ∙ ap (λ (z : Entries). submits_of ring g.at z ++ g.done) none in let t = g.took in let n : steps_in all ≡ t.0 = (let z : steps_in rest ≡ 0 = ap steps_in none in let c = t.2 in omega arith) in
     (subst (λ (es : List Event). Goes b p es q) (sym e) g.goes, subst (λ (m : ℕ). Took p.view q.view m) (sym n) t.1)
 
 pub turned_back : (xs : Entries) → reverse (reverse xs) ≡ xs

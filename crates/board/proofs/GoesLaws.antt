@@ -5,12 +5,12 @@ use Rattle.history.specs.declared.req.Req.{Req}
 use Rattle.history.specs.declared.event.Event.{Event}
 use Rattle.history.proofs.Requests.{bool_cases}
 use Rattle.steps.specs.declared.line.Line.{Line}
-use Rattle.steps.specs.declared.line.Line.TheVariants.{Did, Freed}
+use Rattle.steps.specs.declared.line.Line.TheVariants.{Did, Freed, Lent, Noted}
 use Rattle.steps.specs.declared.view.Role.{Role}
 use Rattle.steps.specs.declared.view.Role.TheVariants.{Submitter, Lending}
 use Rattle.steps.specs.declared.view.View.{View}
 use Rattle.steps.specs.Journal.{event_of, events_of}
-use Rattle.steps.specs.Rule.{Owner, nobody, pollers, rings, workers, owner, stands_for, owns, NoneOf, Looks, Extends, ExtendsTwice, ExtendsThrice}
+use Rattle.steps.specs.Rule.{Owner, nobody, pollers, rings, workers, holders, owner, stands_for, owns, NoneOf, Looks, Extends, ExtendsAfter, ExtendsNoted, ExtendsTwice}
 use Rattle.work.specs.Board.{Facts, IsOf, share_of}
 use Rattle.work.specs.Passes.{Pass, own_of}
 use Rattle.work.proofs.OwnEvents.{own_none, own_append, own_before, silent_own}
@@ -90,6 +90,7 @@ same_owner i r is nobody = refl
 same_owner i r is pollers = refl
 same_owner i r is (rings l) = ap (λ (z : ℕ). z == l) (sym is)
 same_owner i r is (workers q) = refl
+same_owner i r is (holders q p) = refl
 
 lent_none : (i : ℕ) (r : Req) → r.ring ≡ i → (l : List Line) → NoneOf (Lending r) l → NoneOf (Submitter i) l
 lent_none i r is [] n = tt
@@ -140,7 +141,11 @@ pub goes_twice : (b : Facts) (p q : Pass) (r : Req) (k : Line) (e : Event) → (
     → ExtendsTwice p.view k (Lending r) (Did e) (Submitter r.ring) q.view → Goes b p (e ∷ []) q
 goes_twice b p q r k e silent o t role mine x = let m : Pass = record { table = p.table; view = x.0 } in notes_end b p m q r e role mine t (notes_first b p m r k silent o refl role x.1) x.2
 
-pub goes_thrice : (b : Facts) (p q : Pass) (r : Req) (k l : Line) (e : Event) → ((h : List Event) → event_of k h ≡ h) → ((h : List Event) → event_of l h ≡ h) → IsOf b p → q.table ≡ p.table → p.view.role ≡ Submitter r.ring → owner (Did e) ≡ rings r.ring
-    → ExtendsThrice p.view k (Lending r) l (Lending r) (Did e) (Submitter r.ring) q.view → Goes b p (e ∷ []) q
-goes_thrice b p q r k l e quiet silent o t role mine x = let m : Pass = record { table = p.table; view = x.0 } in let n : Pass = record { table = p.table; view = x.2.0 } in
-    notes_end b p n q r e role mine t (notes_more b p m n r l silent refl (notes_first b p m r k quiet o refl role x.1) x.2.1) x.2.2
+-- a submitter that has noted for its request stores these notes as well, and then goes on by one event of its own
+notes_then : (b : Facts) (p m q : Pass) (r : Req) (notes : List (ℕ × ℕ)) (e : Event) → p.view.role ≡ Submitter r.ring → owner (Did e) ≡ rings r.ring → q.table ≡ m.table → Noting b p m r → ExtendsAfter m.view r notes (Did e) (Submitter r.ring) q.view → Goes b p (e ∷ []) q
+notes_then b p m q r [] e role mine t k x = notes_end b p m q r e role mine t k x
+notes_then b p m q r (n ∷ notes) e role mine t k x = let w : Pass = record { table = m.table; view = x.0 } in notes_then b p w q r notes e role mine t (notes_more b p m w r (Noted r n.0 n.1) (λ h. refl) refl k x.1) x.2
+
+pub goes_noted : (b : Facts) (p q : Pass) (r : Req) (facts : ℕ × ℕ) (notes : List (ℕ × ℕ)) (e : Event) → IsOf b p → q.table ≡ p.table → p.view.role ≡ Submitter r.ring → owner (Did e) ≡ rings r.ring
+    → ExtendsNoted p.view r facts notes (Did e) (Submitter r.ring) q.view → Goes b p (e ∷ []) q
+goes_noted b p q r facts notes e o t role mine x = let m : Pass = record { table = p.table; view = x.0 } in notes_then b p m q r notes e role mine t (notes_first b p m r (Lent r facts.0 facts.1) (λ h. refl) o refl role x.1) x.2

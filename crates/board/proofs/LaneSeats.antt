@@ -1,5 +1,5 @@
 -- A submitter's seat and lane from one call to the next.
-use Rattle.std.proofs.Common.{◌≡◌, ◌⊎◌, ℕ, zero, suc, ◌+◌, ◌*◌, ◌<◌, ◌≤◌, Bool, true, List, ◌∷◌, ◌++◌, Option, Some, length, get_or, set, sym, refl, ap, ◌∙◌, subst, arith, eq-eqb}
+use Rattle.std.proofs.Common.{◌≡◌, ◌⊎◌, ℕ, zero, suc, ◌+◌, ◌*◌, ◌<◌, ◌≤◌, Bool, true, List, [], ◌∷◌, ◌++◌, Option, Some, length, get_or, set, sym, refl, ap, ◌∙◌, subst, arith, eq-eqb}
 use Rattle.entry.specs.Entry.{Entry}
 use Rattle.history.specs.declared.req.Req.{Req}
 use Rattle.history.specs.declared.event.Event.TheVariants.{Submit, Reap}
@@ -7,7 +7,7 @@ use Rattle.history.specs.History.{submits}
 use Rattle.history.specs.Chains.{hosts}
 use Rattle.history.specs.Legal.{Legal}
 use Rattle.steps.specs.declared.line.Line.{Line}
-use Rattle.steps.specs.declared.line.Line.TheVariants.{Did, Lent, Noted}
+use Rattle.steps.specs.declared.line.Line.TheVariants.{Did, Lent}
 use Rattle.steps.specs.declared.view.Heard.{Heard}
 use Rattle.steps.specs.declared.view.Layout.{Layout}
 use Rattle.steps.specs.declared.view.Role.{Role}
@@ -15,8 +15,8 @@ use Rattle.steps.specs.declared.view.Role.TheVariants.{Submitter, Lending}
 use Rattle.steps.specs.declared.view.View.{View}
 use Rattle.steps.specs.Fairness.{IsFree}
 use Rattle.steps.specs.Journal.{events_of}
-use Rattle.steps.specs.Cells.{setup_of, cells_in, facts_at, user_at}
-use Rattle.steps.specs.Rule.{Extends, ExtendsTwice, ExtendsThrice}
+use Rattle.steps.specs.Cells.{setup_of, cells_in, facts_at}
+use Rattle.steps.specs.Rule.{Extends, ExtendsAfter, ExtendsNoted, ExtendsTwice}
 use Rattle.steps.proofs.FreeCells.{free_later}
 use Rattle.std.specs.Prelude.{IfOk, IfErr}
 use Rattle.std.specs.declared.result.Result.{Result}
@@ -54,18 +54,24 @@ free_on : (v w : View) (l : Line) (role : Role) (q : Req) → Extends v l role w
 free_on v w l role q x free = let g = grown v w l role x in
     subst (λ (z : Layout × List Line). IsFree z.0.cells (events_of z.1) q) (λ i. (sym g.3 i, sym g.1 i)) (free_later (setup_of v.layout) v.layout.cells g.0 v.seen q (subst (λ (j : List Line). Legal (setup_of v.layout) (events_of j)) g.1 g.2) free)
 
--- the chains after a Submit of the next request
-pub chains_after : (v t : View) (ring next done : ℕ) (hosted : Bool) (r : Req) (e : Entry) (bytes : List ℕ) (last : Bool) (done' : ℕ) (hosted' : Bool) → v.role ≡ Submitter ring → r ≡ nth ring next → KnowsChains v ring next done hosted → (c fact user : ℕ)
-    → ExtendsThrice v (Lent r (facts_at c) fact) (Lending r) (Noted r (user_at c) user) (Lending r) (Did (Submit r e bytes last)) (Submitter r.ring) t → IsFree v.layout.cells (events_of v.seen) r
+-- the chains after these notes and a Submit of the next request
+chains_then : (notes : List (ℕ × ℕ)) (v t : View) (ring next done : ℕ) (hosted : Bool) (r : Req) (e : Entry) (bytes : List ℕ) (last : Bool) (done' : ℕ) (hosted' : Bool) → v.role ≡ Lending r → r ≡ nth ring next → KnowsChains v ring next done hosted
+    → ExtendsAfter v r notes (Did (Submit r e bytes last)) (Submitter r.ring) t → IsFree v.layout.cells (events_of v.seen) r
+    → hosted' ≡ hosts (Some (record { entry = e; bytes = bytes; last = last })) → ((done' ≡ done) ⊎ ((done < done') × (done' + cells_in v.layout.cells ring ≡ next + 1))) × (next + 1 ≤ done' + cells_in v.layout.cells ring) → KnowsChains t ring (next + 1) done' hosted'
+chains_then [] v t ring next done hosted r e bytes last done' hosted' role is k x free host moved =
+    let at : r.ring ≡ ring = ap (λ (z : Req). z.ring) is in
+    chains_submitted v t ring next done hosted (lends_it v r ring role at) k e bytes last (Submitter r.ring) done' hosted' (subst (λ (q : Req). Extends v (Did (Submit q e bytes last)) (Submitter r.ring) t) is x) (subst (λ (q : Req). IsFree v.layout.cells (events_of v.seen) q) is free) host moved.0 moved.1
+chains_then (n ∷ notes) v t ring next done hosted r e bytes last done' hosted' role is k x free host moved =
+    let at : r.ring ≡ ring = ap (λ (z : Req). z.ring) is in let u : View = x.0 in
+    chains_then notes u t ring next done hosted r e bytes last done' hosted' (ap (λ (z : View). z.role) x.1.is) is (chains_extended v u ring next done hosted (lends_it v r ring role at) k _ (Lending r) (λ j. refl) x.1) x.2 (free_on v u _ _ r x.1 free) host
+    (subst (λ (M : Layout). ((done' ≡ done) ⊎ ((done < done') × (done' + cells_in M.cells ring ≡ next + 1))) × (next + 1 ≤ done' + cells_in M.cells ring)) (sym (ap (λ (z : View). z.layout) x.1.is)) moved)
+
+pub chains_after : (v t : View) (ring next done : ℕ) (hosted : Bool) (r : Req) (e : Entry) (bytes : List ℕ) (last : Bool) (done' : ℕ) (hosted' : Bool) → v.role ≡ Submitter ring → r ≡ nth ring next → KnowsChains v ring next done hosted → (facts : ℕ × ℕ) (notes : List (ℕ × ℕ))
+    → ExtendsNoted v r facts notes (Did (Submit r e bytes last)) (Submitter r.ring) t → IsFree v.layout.cells (events_of v.seen) r
     → hosted' ≡ hosts (Some (record { entry = e; bytes = bytes; last = last })) → (done' ≡ done) ⊎ ((done < done') × (done' + cells_in v.layout.cells ring ≡ next + 1)) → next + 1 ≤ done' + cells_in v.layout.cells ring → KnowsChains t ring (next + 1) done' hosted'
-chains_after v t ring next done hosted r e bytes last done' hosted' role is k c fact user x free host more near =
-    let at : r.ring ≡ ring = ap (λ (z : Req). z.ring) is in let u : View = x.0 in let w : View = x.2.0 in
-    let one = chains_extended v u ring next done hosted (submitter_can v ring role) k _ (Lending r) (λ j. refl) x.1 in
-    let two = chains_extended u w ring next done hosted (lends_it u r ring (ap (λ (z : View). z.role) x.1.is) at) one _ (Lending r) (λ j. refl) x.2.1 in
-    let layout : w.layout ≡ v.layout = ap (λ (z : View). z.layout) x.2.1.is ∙ ap (λ (z : View). z.layout) x.1.is in
-    let free' : IsFree w.layout.cells (events_of w.seen) (nth ring next) = subst (λ (q : Req). IsFree w.layout.cells (events_of w.seen) q) is (free_on u w _ _ r x.2.1 (free_on v u _ _ r x.1 free)) in
-    let moved = subst (λ (M : Layout). ((done' ≡ done) ⊎ ((done < done') × (done' + cells_in M.cells ring ≡ next + 1))) × (next + 1 ≤ done' + cells_in M.cells ring)) (sym layout) (more, near) in
-    chains_submitted w t ring next done hosted (lends_it w r ring (ap (λ (z : View). z.role) x.2.1.is) at) two e bytes last (Submitter r.ring) done' hosted' (subst (λ (q : Req). Extends w (Did (Submit q e bytes last)) (Submitter r.ring) t) is x.2.2) free' host moved.0 moved.1
+chains_after v t ring next done hosted r e bytes last done' hosted' role is k facts notes x free host more near = let u : View = x.0 in
+    chains_then notes u t ring next done hosted r e bytes last done' hosted' (ap (λ (z : View). z.role) x.1.is) is (chains_extended v u ring next done hosted (submitter_can v ring role) k _ (Lending r) (λ j. refl) x.1) x.2 (free_on v u _ _ r x.1 free) host
+    (subst (λ (M : Layout). ((done' ≡ done) ⊎ ((done < done') × (done' + cells_in M.cells ring ≡ next + 1))) × (next + 1 ≤ done' + cells_in M.cells ring)) (sym (ap (λ (z : View). z.layout) x.1.is)) (more, near))
 
 -- and after a Reap
 pub chains_reaped : (v t : View) (ring next done : ℕ) (hosted : Bool) (r : Req) → v.role ≡ Submitter ring → r.ring ≡ ring → KnowsChains v ring next done hosted → (c fact : ℕ) → ExtendsTwice v (Lent r (facts_at c) fact) (Lending r) (Did (Reap r)) (Submitter r.ring) t → KnowsChains t ring next done hosted

@@ -4,7 +4,7 @@ use Rattle.std.specs.Option.{is_some}
 use Rattle.atomic_table.specs.declared.shared.Seat.{Seat}
 use Rattle.claim.specs.declared.tag.Tag.TheVariants.{Held as HeldTag}
 use Rattle.entry.specs.declared.op.Op.{Op}
-use Rattle.entry.specs.declared.op.Op.TheVariants.{Nop, PollAdd, Timeout, TimeoutRemove, AsyncCancel, LinkTimeout, Close, Read, Write, Invalid}
+use Rattle.entry.specs.declared.op.Op.TheVariants.{Nop, PollAdd, Timeout, TimeoutRemove, AsyncCancel, LinkTimeout, Close, Read, Write, Splice, Invalid}
 use Rattle.entry.specs.Entry.{Entry, fails, fails_op}
 use Rattle.gates.specs.Shows.{nth, IsTargetOf}
 use Rattle.history.specs.declared.req.Req.{Req}
@@ -45,10 +45,11 @@ TableSeat = Seat (Option Thing) View
 -- -125 is a failure of all entries but a LINK_TIMEOUT
 canceled : (op : Op) → fails_op op (negsuc 124) ≡ not (is_link_timeout op)
 canceled (LinkTimeout ticks) = refl
-canceled (Timeout ticks true) = refl
-canceled (Timeout ticks false) = refl
+canceled (Timeout ticks true count) = refl
+canceled (Timeout ticks false count) = refl
 canceled (Read fd offset len) = refl
 canceled (Write fd offset len) = refl
+canceled (Splice fd_in fd_out len) = refl
 canceled Nop = refl
 canceled (PollAdd fd mask) = refl
 canceled (TimeoutRemove user_data) = refl
@@ -130,7 +131,7 @@ pub timeout_timer : (h : List Event) (q : Req) → IsOfKind h q is_timeout true 
 timeout_timer h q k = (k.0, k.1, ap (λ b. b || is_link_timeout k.0.op) k.2)
 
 only_timeout : (o : Op) → is_timeout o ≡ true → is_link_timeout o ≡ false
-only_timeout (Timeout ticks etime_success) e = refl
+only_timeout (Timeout ticks etime_success count) e = refl
 only_timeout o e = absurd (true≢false (sym e))
 
 -- a TIMEOUT that is open isn't severed

@@ -32,5 +32,6 @@ pub mod LastSteps
 pub mod RowsKept
 pub mod AlarmsSet
 pub mod Expiries
+pub mod Countings
 pub mod Settlings
 pub mod Strikes

@@ -2,7 +2,7 @@
 use Rattle.std.proofs.Common.{◌≡◌, ℕ, Bool, true, false, cond, ℤ, List, [], ◌∷◌, sym, refl, ap, subst, ⊎_elim, arith}
 use Rattle.history.specs.declared.req.Req.{Req}
 use Rattle.history.specs.declared.event.Event.{Event}
-use Rattle.history.specs.declared.event.Event.TheVariants.{Submit, Begin, Park, Reply, Take, Arm, Expire, Fire, Settle, Sever, Reap, Cut}
+use Rattle.history.specs.declared.event.Event.TheVariants.{Submit, Begin, Park, Reply, Take, Arm, Expire, Count, Fire, Settle, Sever, Reap, Cut}
 use Rattle.history.specs.History.{Cause, Phase, unborn, waits, runs, armed, replied, reaped, concerns, becomes, phase, answers}
 use Rattle.history.specs.Legal.{Setup, Legal}
 use Rattle.history.proofs.Requests.{bool_cases}
@@ -47,6 +47,7 @@ counts_more h q runs (Reply r res data') m w i = let a = i.0 in let b = i.1 in l
 counts_more h q runs (Cut r) m w i = let a = i.0 in let b = i.1 in let c' = i.2 in let o = one _ w in (omega arith, omega arith, omega arith)
 counts_more h q (armed d) (Take c t) m w i = let a = i.0 in let b = i.1 in let c' = i.2 in let o = one _ w in (omega arith, omega arith, omega arith)
 counts_more h q (armed d) (Expire r) m w i = let a = i.0 in let b = i.1 in let c' = i.2 in let o = one _ w in (omega arith, omega arith, omega arith)
+counts_more h q (armed d) (Count r) m w i = let a = i.0 in let b = i.1 in let c' = i.2 in let o = one _ w in (omega arith, omega arith, omega arith)
 counts_more h q (armed d) (Fire l t) m w i = let a = i.0 in let b = i.1 in let c' = i.2 in let o = one _ w in (omega arith, omega arith, omega arith)
 counts_more h q (armed d) (Settle l) m w i = let a = i.0 in let b = i.1 in let c' = i.2 in let o = one _ w in (omega arith, omega arith, omega arith)
 counts_more h q (armed d) (Cut r) m w i = let a = i.0 in let b = i.1 in let c' = i.2 in let o = one _ w in (omega arith, omega arith, omega arith)

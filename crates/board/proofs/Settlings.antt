@@ -124,7 +124,7 @@ module _ (b : Facts) (s t : TableSeat) (r : Req) (x g d : ℕ) (alarm : Alarm) (
   pub found_born : r.k < submits (events_of t.me.0.seen) r.ring
   found_born = counted_in (setup_of b.layout) t.me.0.seen r (armed d) w.goes.kept.legal found_phase (λ u. cc)
 
-  found_kept : IsKept (events_of t.me.0.seen) r (Some alarm) × (fired (events_of t.me.0.seen) r ≡ false)
+  pub found_kept : IsKept (events_of t.me.0.seen) r (Some alarm) × (fired (events_of t.me.0.seen) r ≡ false)
   found_kept = alarm_goes b (pass_of s) (pass_of t) [] w.goes (mine b s t r x g o a) none tt r (Some alarm) refl knows d found_phase
 
   pub found_unfired : fired (events_of t.me.0.seen) r ≡ false
@@ -135,7 +135,7 @@ module _ (b : Facts) (s t : TableSeat) (r : Req) (x g d : ℕ) (alarm : Alarm) (
 
   alone_of : (z : Alarm) → IsKept (events_of t.me.0.seen) r (Some z) → (z ≡ Linked → ⊥) → IsOfKind (events_of t.me.0.seen) r is_timeout true
   alone_of Linked k n = absurd (n refl)
-  alone_of (Alone f) k n = (k.0, k.1, k.2.0)
+  alone_of (Alone f m) k n = (k.0, k.1, k.2.0)
 
   pub found_alone : (alarm ≡ Linked → ⊥) → IsOfKind (events_of t.me.0.seen) r is_timeout true
   found_alone n = alone_of alarm found_kept.0 n

@@ -9,8 +9,8 @@ use Rattle.claim.specs.Claim.{Claim, allows, fits, packed, is_cause}
 use Rattle.entry.specs.Entry.{fails}
 use Rattle.history.specs.declared.req.Req.{Req}
 use Rattle.history.specs.declared.event.Event.{Event}
-use Rattle.history.specs.declared.event.Event.TheVariants.{Submit, Begin, Park, Reply, Take, Arm, Expire, Fire, Settle, Sever, Reap, Cut}
-use Rattle.history.specs.History.{Cause, by_reply, by_take, by_expire, by_fire, by_settle, by_sever, by_cut, Phase, unborn, replied, concerns, becomes, phase, was_shut, IsReplied}
+use Rattle.history.specs.declared.event.Event.TheVariants.{Submit, Begin, Park, Reply, Take, Arm, Expire, Count, Fire, Settle, Sever, Reap, Cut}
+use Rattle.history.specs.History.{Cause, by_reply, by_take, by_expire, by_count, by_fire, by_settle, by_sever, by_cut, Phase, unborn, replied, concerns, becomes, phase, was_shut, IsReplied}
 use Rattle.history.specs.Legal.{Setup, Legal}
 use Rattle.history.proofs.Requests.{bool_cases, and_left, and_right}
 use Rattle.history.proofs.Growth.{MayChange, may_change, changed, unchanged}
@@ -49,6 +49,7 @@ cut_by h (Reply r x data') p res m is = absurd (cc)
 cut_by h (Take c t) p res m is = absurd (cc)
 cut_by h (Arm r d) p res m is = absurd (cc)
 cut_by h (Expire r) p res m is = absurd (cc)
+cut_by h (Count r) p res m is = absurd (cc)
 cut_by h (Fire l t) p res m is = absurd (cc)
 cut_by h (Settle l) p res m is = absurd (cc)
 cut_by h (Sever r) p res m is = absurd (cc)
@@ -73,6 +74,8 @@ names_event by_take true n = refl
 names_event by_take false n = refl
 names_event by_expire true n = refl
 names_event by_expire false n = refl
+names_event by_count true n = refl
+names_event by_count false n = refl
 names_event by_fire true n = refl
 names_event by_fire false n = refl
 names_event by_settle true n = refl

@@ -1,6 +1,6 @@
 -- A submitter's seat from one call to the next.
 use Rattle.std.specs.Prelude.{◌==◌}
-use Rattle.std.proofs.Common.{◌≡◌, ℕ, suc, ◌+◌, ◌*◌, ◌<◌, ◌≤◌, Bool, true, false, cond, ℤ, Option, List, ◌∷◌, length, get_or, set, sym, refl, ap, ◌∙◌, subst, ⊎_elim, arith, eq-eqb, ne_eqb, mul-le-mul_right, suc-mul, length-set}
+use Rattle.std.proofs.Common.{◌≡◌, ℕ, suc, ◌+◌, ◌*◌, ◌<◌, ◌≤◌, Bool, true, false, cond, ℤ, Option, Some, None, List, [], ◌∷◌, length, get_or, set, sym, refl, ap, ◌∙◌, subst, ⊎_elim, arith, eq-eqb, ne_eqb, mul-le-mul_right, suc-mul, length-set}
 use lib.Seq.{set-get_or}
 use Rattle.atomic_table.specs.declared.shared.Seat.{Seat}
 use Rattle.entry.specs.Entry.{Entry}
@@ -17,8 +17,9 @@ use Rattle.steps.specs.declared.view.Role.{Role}
 use Rattle.steps.specs.declared.view.Role.TheVariants.{Submitter, Lending}
 use Rattle.steps.specs.declared.view.View.{View}
 use Rattle.steps.specs.Journal.{events_of}
-use Rattle.steps.specs.Cells.{setup_of, IsCell, request_at, ring_of, place_of, cells_in, facts_at, user_at}
-use Rattle.steps.specs.Rule.{rings, stands_for, Vacant, IsDone, Shown, Looks, ExtendsTwice, ExtendsThrice}
+use Rattle.steps.specs.Cells.{setup_of, IsCell, request_at, ring_of, place_of, cells_in, facts_at}
+use Rattle.steps.specs.Notes.{count_in, count_notes, notes_of}
+use Rattle.steps.specs.Rule.{rings, stands_for, Vacant, IsDone, Shown, Looks, ExtendsAfter, ExtendsNoted, ExtendsTwice}
 use Rattle.steps.proofs.CellNumbers.{located}
 use Rattle.steps.proofs.ClaimWords.{done_word}
 use Rattle.steps.proofs.FreeCells.{reaped_as}
@@ -56,12 +57,24 @@ pub seat_looked : (s t : TableSeat) (ring next : ℕ) (ages facts : List ℕ) �
 seat_looked s t ring next ages facts k x bare = seat_of_ring s t ring next next ages facts ages facts (λ q. false) k (ap (λ (z : View). z.role) x.is ∙ k.role) bare (ap (λ (z : View). z.layout) x.is) k.few refl refl
     (ring_looked s.me.0 t.me.0 ring next ages facts (λ q. false) x (ring_of_seat s ring next ages facts k)) (λ q. refl)
 
--- what is stored for the cell c leaves the facts of the others, and the user_data leaves all
+-- what is stored for the cell c leaves the facts of the others, and the other notes leave all
 facts_else : (w c x n m : ℕ) → w ≡ facts_at c → ¬ (x ≡ c) → cond (w == facts_at x) n m ≡ m
 facts_else w c x n m is ne = ap (λ (b : Bool). cond b n m) (ne_eqb w (facts_at x) (λ e. ne (omega arith)))
 
-user_else : (c x n m : ℕ) → cond (user_at c == facts_at x) n m ≡ m
-user_else c x n m = ap (λ (b : Bool). cond b n m) (ne_eqb (user_at c) (facts_at x) (λ e. omega arith))
+-- none of these notes is at the word of a cell's facts
+abbrev AreOthers : List (ℕ × ℕ) → Type 0
+AreOthers [] = Unit {0}
+AreOthers (n ∷ notes) = ((x : ℕ) → ¬ (n.0 ≡ facts_at x)) × AreOthers notes
+
+other_else : (w x n m : ℕ) → ((y : ℕ) → ¬ (w ≡ facts_at y)) → cond (w == facts_at x) n m ≡ m
+other_else w x n m o = ap (λ (b : Bool). cond b n m) (ne_eqb w (facts_at x) (o x))
+
+count_other : (c : ℕ) (o : Option ℕ) → AreOthers (count_notes c o)
+count_other c None = tt
+count_other c (Some n) = (λ x e. omega arith, tt)
+
+pub notes_other : (c : ℕ) (e : Entry) → AreOthers (notes_of c e)
+notes_other c e = (λ x is. omega arith, count_other c (count_in e.op))
 
 -- the slot is given back
 given_back : (r q : Req) (b : Bool) → cond (same r q) false (cond (same r q) true b) ≡ cond (same r q) false b
@@ -93,29 +106,30 @@ module _ (s t : TableSeat) (ring next : ℕ) (ages facts : List ℕ) (k : IsSubm
         (knows_line s.me.0.layout (Lent r (facts_at c) fact) j c _ _ _ legal (λ n. refl) (ap (λ (b : Bool). cond b fact (get_or facts place 0)) (eq-eqb (facts_at c) (facts_at c) refl)) (all c inside at))))
         (ring_of_seat s ring next ages facts k)
 
-  -- after a Submit
-  module _ (e : Entry) (bytes : List ℕ) (last : Bool) (user : ℕ) (x : ExtendsThrice s.me.0 (Lent r (facts_at c) fact) (Lending r) (Noted r (user_at c) user) (Lending r) (Did (Submit r e bytes last)) (Submitter r.ring) t.me.0) where
-    layout_one : x.0.layout ≡ s.me.0.layout
-    layout_one = ap (λ (z : View). z.layout) x.1.is
+  -- after these notes and a Submit
+  module _ (e : Entry) (bytes : List ℕ) (last : Bool) where
+    abbrev F : List ℕ
+    F = set facts place fact
 
-    layout_two : x.2.0.layout ≡ s.me.0.layout
-    layout_two = ap (λ (z : View). z.layout) x.2.1.is ∙ layout_one
+    abbrev out : Req → Bool
+    out q = cond (same r q) true false
 
-    layout_now : t.me.0.layout ≡ s.me.0.layout
-    layout_now = ap (λ (z : View). z.layout) x.2.2.is ∙ layout_two
+    ring_after : (notes : List (ℕ × ℕ)) → AreOthers notes → (v : View) → KnowsRing v ring next ages F out → ExtendsAfter v r notes (Did (Submit r e bytes last)) (Submitter r.ring) t.me.0
+        → KnowsRing t.me.0 ring (next + 1) ages F (λ q. cond (same r q) false (out q)) × (t.me.0.layout ≡ v.layout) × (t.me.0.role ≡ Submitter r.ring)
+    ring_after [] o v n x = (
+      ring_extended v t.me.0 (Did (Submit r e bytes last)) (Submitter r.ring) ring next (next + 1) 1 ages F ages F out (omega arith) x (eq-eqb r.ring ring at)
+          (λ h. ap (λ (b : Bool). let n : ℕ = cond b 1 0 in n + submits h ring) (eq-eqb r.ring ring at))
+          (λ j legal all y h ring'. knows_line v.layout (Did (Submit r e bytes last)) j y _ _ _ legal (λ n. refl) refl (all y h ring')) n,
+      ap (λ (z : View). z.layout) x.is,
+      ap (λ (z : View). z.role) x.is,
+    )
+    ring_after (m ∷ notes) o v n x = let z = ring_after notes o.1 x.0 (ring_extended v x.0 (Noted r m.0 m.1) (Lending r) ring next next 0 ages F ages F out (omega arith) x.1 (eq-eqb r.ring ring at) (λ h. omega arith)
+        (λ j legal all y h ring'. knows_line v.layout (Noted r m.0 m.1) j y _ _ _ legal (λ n. refl) (other_else m.0 y m.1 _ o.0) (all y h ring')) n) x.2 in (z.0, z.1 ∙ ap (λ (w : View). w.layout) x.1.is, z.2)
 
-    two : KnowsRing x.2.0 ring next ages (set facts place fact) (λ q. cond (same r q) true false)
-    two = ring_extended x.0 x.2.0 (Noted r (user_at c) user) (Lending r) ring next next 0 ages (set facts place fact) ages (set facts place fact) (λ q. cond (same r q) true false) (omega arith) x.2.1 (eq-eqb r.ring ring at) (λ h. omega arith)
-        (λ j legal all y h ring'. knows_line x.0.layout (Noted r (user_at c) user) j y _ _ _ legal (λ n. refl) (user_else c y user _) (all y h ring')) (ring_noted x.0 x.1)
-
-    three : KnowsRing t.me.0 ring (next + 1) ages (set facts place fact) (λ q. cond (same r q) false (cond (same r q) true false))
-    three = ring_extended x.2.0 t.me.0 (Did (Submit r e bytes last)) (Submitter r.ring) ring next (next + 1) 1 ages (set facts place fact) ages (set facts place fact) (λ q. cond (same r q) true false) (omega arith) x.2.2 (eq-eqb r.ring ring at)
-        (λ h. ap (λ (b : Bool). let n : ℕ = cond b 1 0 in n + submits h ring) (eq-eqb r.ring ring at))
-        (λ j legal all y h ring'. knows_line x.2.0.layout (Did (Submit r e bytes last)) j y _ _ _ legal (λ n. refl) refl (all y h ring')) two
-
-    pub seat_submitted : next + 1 ≤ 16777215 * cells_in K ring → IsSubmitterSeat t ring (next + 1) ages (set facts place fact)
-    seat_submitted few = seat_of_ring s t ring next (next + 1) ages facts ages (set facts place fact) (λ q. cond (same r q) false (cond (same r q) true false)) k (ap (λ (z : View). z.role) x.2.2.is ∙ ap Submitter at) bare layout_now few refl (length-set facts place fact)
-        three (λ q. given_back r q false ∙ none_left r q)
+    pub seat_submitted : (notes : List (ℕ × ℕ)) → AreOthers notes → ExtendsNoted s.me.0 r (facts_at c, fact) notes (Did (Submit r e bytes last)) (Submitter r.ring) t.me.0 → next + 1 ≤ 16777215 * cells_in K ring → IsSubmitterSeat t ring (next + 1) ages F
+    seat_submitted notes o x few = let z = ring_after notes o x.0 (ring_noted x.0 x.1) x.2 in
+        seat_of_ring s t ring next (next + 1) ages facts ages F (λ q. cond (same r q) false (out q)) k (z.2 ∙ ap Submitter at) bare (z.1 ∙ ap (λ (w : View). w.layout) x.1.is) few refl (length-set facts place fact)
+        z.0 (λ q. given_back r q false ∙ none_left r q)
 
   -- after a Reap
   module _ (x : ExtendsTwice s.me.0 (Lent r (facts_at c) fact) (Lending r) (Did (Reap r)) (Submitter r.ring) t.me.0) (age : get_or ages place 0 ≡ g) where

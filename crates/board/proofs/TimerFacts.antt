@@ -2,7 +2,7 @@
 use Rattle.std.proofs.Common.{◌≡◌, ◌≢◌, ℕ, ◌+◌, ◌*◌, ◌%◌, ◌<◌, ◌≤◌, ◌&&◌, not, nat_lt, ltb-true, Bool, true, false, negsuc, List, Option, Some, IsTrue, sym, refl, ap, ◌∙◌, subst, ⊎_elim, arith, true≢false}
 use Rattle.claim.specs.Facts.{Facts, packed_facts, fits_facts}
 use Rattle.entry.specs.declared.op.Op.{Op}
-use Rattle.entry.specs.declared.op.Op.TheVariants.{Nop, PollAdd, Timeout, TimeoutRemove, AsyncCancel, LinkTimeout, Close, Read, Write, Invalid}
+use Rattle.entry.specs.declared.op.Op.TheVariants.{Nop, PollAdd, Timeout, TimeoutRemove, AsyncCancel, LinkTimeout, Close, Read, Write, Splice, Invalid}
 use Rattle.entry.specs.Entry.{Entry, fails_op}
 use Rattle.history.specs.declared.req.Req.{Req}
 use Rattle.history.specs.History.{Cause, replied, unborn, submits, phase, IsReplied}
@@ -23,8 +23,8 @@ use Rattle.steps.proofs.NotesKept.{lent_out}
 
 -- the rows of TIMEOUT and LINK_TIMEOUT
 pub timeout_row : (o : Op) → row_number o ≡ 2 → (is_timeout o ≡ true) × (ticks_of o ≡ Some (ticks_in o)) × (not (etime_in o) ≡ fails_op o (negsuc 61))
-timeout_row (Timeout ticks true) e = (refl, refl, refl)
-timeout_row (Timeout ticks false) e = (refl, refl, refl)
+timeout_row (Timeout ticks true count) e = (refl, refl, refl)
+timeout_row (Timeout ticks false count) e = (refl, refl, refl)
 timeout_row Nop e = absurd (omega arith)
 timeout_row (PollAdd fd mask) e = absurd (omega arith)
 timeout_row (TimeoutRemove user_data) e = absurd (omega arith)
@@ -33,11 +33,12 @@ timeout_row (LinkTimeout ticks) e = absurd (omega arith)
 timeout_row (Close fd) e = absurd (omega arith)
 timeout_row (Read fd offset len) e = absurd (omega arith)
 timeout_row (Write fd offset len) e = absurd (omega arith)
+timeout_row (Splice fd_in fd_out len) e = absurd (omega arith)
 timeout_row Invalid e = absurd (omega arith)
 
 pub link_row : (o : Op) → row_number o ≡ 5 → (is_link_timeout o ≡ true) × (ticks_of o ≡ Some (ticks_in o))
 link_row (LinkTimeout ticks) e = (refl, refl)
-link_row (Timeout ticks etime_success) e = absurd (omega arith)
+link_row (Timeout ticks etime_success count) e = absurd (omega arith)
 link_row Nop e = absurd (omega arith)
 link_row (PollAdd fd mask) e = absurd (omega arith)
 link_row (TimeoutRemove user_data) e = absurd (omega arith)
@@ -45,10 +46,11 @@ link_row (AsyncCancel user_data) e = absurd (omega arith)
 link_row (Close fd) e = absurd (omega arith)
 link_row (Read fd offset len) e = absurd (omega arith)
 link_row (Write fd offset len) e = absurd (omega arith)
+link_row (Splice fd_in fd_out len) e = absurd (omega arith)
 link_row Invalid e = absurd (omega arith)
 
 pub other_row : (o : Op) → row_number o ≢ 2 → row_number o ≢ 5 → is_timer o ≡ false
-other_row (Timeout ticks etime_success) n m = absurd (n refl)
+other_row (Timeout ticks etime_success count) n m = absurd (n refl)
 other_row (LinkTimeout ticks) n m = absurd (m refl)
 other_row Nop n m = refl
 other_row (PollAdd fd mask) n m = refl
@@ -57,6 +59,7 @@ other_row (AsyncCancel user_data) n m = refl
 other_row (Close fd) n m = refl
 other_row (Read fd offset len) n m = refl
 other_row (Write fd offset len) n m = refl
+other_row (Splice fd_in fd_out len) n m = refl
 other_row Invalid n m = refl
 
 -- ---- the word

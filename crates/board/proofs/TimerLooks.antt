@@ -1,15 +1,17 @@
 -- What the poller's looks at a timer, and its step that arms one, tell it.
-use Rattle.std.proofs.Common.{◌≡◌, ◌≢◌, ℕ, ◌+◌, ◌*◌, ◌<◌, ◌≤◌, not, ◌||◌, true, false, cond, List, [], ◌∷◌, ◌++◌, Option, Some, None, IsTrue, refl, sym, ap, ◌∙◌, subst, arith}
+use Rattle.std.proofs.Common.{◌≡◌, ◌≢◌, ℕ, ◌+◌, ◌*◌, ◌<◌, ◌≤◌, not, ◌||◌, true, false, cond, List, [], ◌∷◌, ◌++◌, Option, Some, None, IsTrue, refl, sym, ap, ◌∙◌, subst, arith, true≢false}
 use Rattle.atomic_table.specs.declared.shared.Seat.{Seat}
 use Rattle.claim.specs.Facts.{Facts as FactsParts, packed_facts, fits_facts}
 use Rattle.claim.specs.declared.tag.Tag.TheVariants.{Held as HeldTag}
+use Rattle.entry.specs.declared.op.Op.{Op}
+use Rattle.entry.specs.declared.op.Op.TheVariants.{LinkTimeout}
 use Rattle.entry.specs.Entry.{Entry}
 use Rattle.history.specs.declared.req.Req.{Req}
 use Rattle.history.specs.declared.event.Event.{Event}
 use Rattle.history.specs.declared.event.Event.TheVariants.{Arm}
 use Rattle.history.specs.History.{phase, waits, armed, fired, clock_of, submits, IsReplied}
-use Rattle.history.specs.Chains.{IsPlaced, Severed, is_timer, is_link_timeout}
-use Rattle.history.specs.Legal.{Setup, Legal, ticks_of, IsOf as IsOfKind}
+use Rattle.history.specs.Chains.{IsLinkTimeout, IsPlaced, Severed, is_timer, is_timeout, is_link_timeout}
+use Rattle.history.specs.Legal.{Setup, Legal, ticks_of, count_of, IsOf as IsOfKind}
 use Rattle.history.proofs.Requests.{same_itself}
 use Rattle.steps.specs.declared.line.Line.{Line}
 use Rattle.steps.specs.declared.line.Line.TheVariants.{Did}
@@ -17,10 +19,12 @@ use Rattle.steps.specs.declared.parcel.Thing.{Thing}
 use Rattle.steps.specs.declared.view.Layout.{Layout}
 use Rattle.steps.specs.declared.view.Role.{Role}
 use Rattle.steps.specs.declared.view.View.{View}
-use Rattle.steps.specs.Cells.{setup_of, request_at, facts_at, claim_at, word_of}
+use Rattle.steps.specs.Cells.{setup_of, request_at, facts_at, count_at, claim_at, word_of}
 use Rattle.steps.specs.Fairness.{Orderly, NotesTell}
 use Rattle.steps.specs.Journal.{events_of, noted}
 use Rattle.steps.specs.Rule.{pollers, stands_for, Looks, Extends, IsSameSeat, IsStep}
+use Rattle.steps.proofs.CountsRead.{count_told}
+use Rattle.steps.proofs.FactsRead.{reaped_replied}
 use Rattle.steps.proofs.JournalGrowth.{lasts, placed_lasts, kind_lasts}
 use Rattle.work.specs.Board.{Facts}
 use Rattle.work.specs.Passes.{Pass, pass_of}
@@ -31,13 +35,13 @@ use Rattle.board.specs.declared.poller.Arming.{Arming}
 use Rattle.board.specs.declared.poller.Arming.TheVariants.{Armed, NotHeld, NotTimer, Shut}
 use Rattle.board.specs.declared.poller.Released.TheVariants.{NotHeld as Unreleased}
 use Rattle.board.specs.PollerRows.{IsAt, IsOurs, Watched, Paid, Decides}
-use Rattle.board.specs.PollerTimers.{IsAlarm, IsKept, IsTimerAs}
+use Rattle.board.specs.PollerTimers.{IsAlarm, IsKept, IsTimerAs, looks_at, looks_for_count}
 use Rattle.board.specs.TimerCalls.{Arms, ArmTells, IsBarred}
 use Rattle.board.proofs.GoesLaws.{goes_then}
 use Rattle.board.proofs.TimersHeld.{goes_one, freed_one}
 use Rattle.board.proofs.TimersKept.{unfired_yet, timer_is as link_is}
 use Rattle.board.proofs.TimerFacts.{TellsAll, alive_facts}
-use Rattle.board.proofs.Watching.{watched_look, born_on, lasts_on, stepped_after, found_after, shut_after}
+use Rattle.board.proofs.Watching.{watched_look, born_on, lasts_on, stepped_after, found_after, shut_after, paid_most}
 
 abbrev TableSeat : Type 0
 TableSeat = Seat (Option Thing) View
@@ -125,7 +129,7 @@ pub as_timer : (h : List Event) (r : Req) (k : Timer) → IsTimerAs h r (Some k)
 as_timer h r k is = (is.0, is.1, by_alarm is.0 k.alarm is.4) where
   by_alarm : (e : Entry) (a : Alarm) → IsAlarm e a → is_timer e.op ≡ true
   by_alarm e Linked i = link_is e.op i
-  by_alarm e (Alone f) i = ap (λ b. b || is_link_timeout e.op) i.0
+  by_alarm e (Alone f n) i = ap (λ b. b || is_link_timeout e.op) i.0
 
 -- answers that change nothing
 pub arms_shut : (b : Facts) (r : Req) (s t : TableSeat) → Watched b s t → IsBarred b.layout.cells r (pass_of s) (pass_of t) → IsOfKind (events_of t.me.0.seen) r is_timer true → Arms b r (pass_of s) (pass_of t) Shut
@@ -133,3 +137,33 @@ arms_shut b r s t w i k = record { goes = w.goes; tells = (i, k); others = w.fre
 
 pub arms_other : (b : Facts) (r : Req) (s t : TableSeat) → Watched b s t → phase (events_of t.me.0.seen) r ≡ waits → IsOfKind (events_of t.me.0.seen) r is_timer false → Arms b r (pass_of s) (pass_of t) NotTimer
 arms_other b r s t w i k = record { goes = w.goes; tells = (i, k); others = w.freed_is }
+
+-- ---- the count of a TIMEOUT
+
+-- what its note tells, where it has no reply yet
+pub count_read : (b : Facts) (s t : TableSeat) (r : Req) (x g : ℕ) → IsOurs b s → IsAt b.layout.cells x g r → Looks s.me.0 t.me.0 → NotesTell s.me.0.layout.cells t.me.0.seen x → (IsReplied (phase (events_of t.me.0.seen) r) → ⊥) → (e : Entry) → IsPlaced (events_of t.me.0.seen) r e → is_timeout e.op ≡ true → noted t.me.0.seen (count_at x) ≡ count_of e.op
+count_read b s t r x g o a looks tells alive e placed timed =
+    let L : Layout = s.me.0.layout in let at : request_at L.cells x g ≡ r = ap (λ (M : Layout). request_at M.cells x g) o.ours.layout_is ∙ a.at in
+    count_told L [] t.me.0.seen x g (subst (λ (j : List Line). Legal (setup_of L) (events_of j)) (sym (ap (λ (z : View). z.seen) looks.is)) looks.legal) tells e (subst (λ (q : Req). IsPlaced (events_of t.me.0.seen) q e) (sym at) placed) timed
+    (λ gone. alive (subst (λ (q : Req). IsReplied (phase (events_of t.me.0.seen) q)) at (reaped_replied (phase (events_of t.me.0.seen) (request_at L.cells x g)) gone)))
+
+-- the looks that tell which timer it is
+pub timer_paid : (v w : View) (k : Option Timer) → Paid v w 0 (looks_at k) → Paid v w 0 2
+timer_paid v w None p = paid_most v w 1 2 p (omega arith)
+timer_paid v w (Some k) p = by_alarm k.alarm p where
+  by_alarm : (a : Alarm) → Paid v w 0 (1 + looks_for_count a) → Paid v w 0 2
+  by_alarm Linked p = paid_most v w 1 2 p (omega arith)
+  by_alarm (Alone f n) p = p
+
+not_both : (o : Op) → is_timeout o ≡ true → is_link_timeout o ≡ true → ⊥
+not_both (LinkTimeout ticks) a b = true≢false (sym a)
+not_both o a b = true≢false (sym b)
+
+pub linked_looks : (h : List Event) (r : Req) (k : Timer) → IsTimerAs h r (Some k) → IsLinkTimeout h r → looks_at (Some k) ≡ 1
+linked_looks h r k is link = by_alarm k.alarm is.4 where
+  same_entry : is.0 ≡ link.0
+  same_entry = let z = sym is.1 ∙ link.1 in cc
+
+  by_alarm : (a : Alarm) → IsAlarm is.0 a → 1 + looks_for_count a ≡ 1
+  by_alarm Linked i = refl
+  by_alarm (Alone f n) i = absurd (not_both is.0.op i.0 (ap (λ (e : Entry). is_link_timeout e.op) same_entry ∙ link.2))

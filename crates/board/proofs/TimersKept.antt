@@ -5,7 +5,7 @@ use Rattle.entry.specs.declared.op.Op.TheVariants.{LinkTimeout}
 use Rattle.entry.specs.Entry.{Entry}
 use Rattle.history.specs.declared.req.Req.{Req}
 use Rattle.history.specs.declared.event.Event.{Event}
-use Rattle.history.specs.declared.event.Event.TheVariants.{Begin, Take, Miss, Tick, Arm, Expire, Fire, FireMiss, Settle, Sever, Reap, Shut, Cut}
+use Rattle.history.specs.declared.event.Event.TheVariants.{Begin, Take, Miss, Tick, Arm, Expire, Count, Fire, FireMiss, Settle, Sever, Reap, Shut, Cut}
 use Rattle.history.specs.History.{Phase, unborn, waits, armed, replied, reaped, same, concerns, becomes, phase, fired, submits, clock_of, was_shut, IsIdle}
 use Rattle.history.specs.Chains.{IsPlaced, IsLinkTimeout, is_timer, is_link_timeout, before_in, placed_behind, placed_from}
 use Rattle.history.specs.Legal.{Setup, MayCome, shut_for, Legal, IsDue}
@@ -56,6 +56,7 @@ module _ (role : Role) (mine : stands_for role pollers ≡ true) (S : Setup) (q 
       let same' : x.2 ≡ link.0 = (let z = sym is ∙ link.1 in cc) in true≢false (sym x.5 ∙ never_asked x.1.op x.2 (ap (λ (z : Entry). is_link_timeout z.op) same' ∙ link.2))
   link_ends p i (Arm r d) h may link m w o n = true≢false (sym mine ∙ n)
   link_ends p i (Expire r) h may link m w o n = true≢false (sym mine ∙ n)
+  link_ends p i (Count r) h may link m w o n = true≢false (sym mine ∙ n)
   link_ends p i (Fire l t) h may link m w o n = true≢false (sym mine ∙ n)
   link_ends p i (Settle l) h may link m w o n = true≢false (sym mine ∙ n)
   link_ends p i (Sever r) h may link m w o n = true≢false (sym mine ∙ n)
@@ -204,6 +205,7 @@ IsArmedOrOver p = ⊥
 goes_over : (h : List Event) (e : Event) (p : Phase) → MayChange p e → IsArmedOrOver p → IsArmedOrOver (becomes h e p)
 goes_over h (Take c t) (armed d) m i = tt
 goes_over h (Expire r) (armed d) m i = tt
+goes_over h (Count r) (armed d) m i = tt
 goes_over h (Fire l t) (armed d) m i = tt
 goes_over h (Settle l) (armed d) m i = tt
 goes_over h (Cut r) (armed d) m i = tt

@@ -1,10 +1,11 @@
 -- What a batch is, entry by entry, and what it asks for.
-use Rattle.std.specs.Prelude.{◌≡◌, ℕ, suc, ◌+◌, ◌/◌, ◌<◌, Bool, true, false, List, [], ◌∷◌, ◌++◌, length}
+use Rattle.std.specs.Prelude.{◌≡◌, ℕ, suc, ◌+◌, ◌/◌, ◌<◌, Bool, true, false, cond, List, [], ◌∷◌, ◌++◌, length}
 use Rattle.std.specs.Global.{Vec}
 use Rattle.entry.specs.Entry.{Entry}
 use Rattle.history.specs.declared.event.Event.{Event}
 use Rattle.history.specs.declared.event.Event.TheVariants.{Submit}
 use Rattle.history.specs.History.{submits}
+use Rattle.history.specs.Chains.{is_timeout}
 use Rattle.history.specs.Legal.{Fits}
 use Rattle.steps.specs.declared.view.Role.TheVariants.{Submitter}
 use Rattle.steps.specs.Cells.{cells_in}
@@ -24,6 +25,15 @@ is_empty _ = false
 abbrev pub AreFit : Entries → Type 0
 AreFit [] = Unit {0}
 AreFit (x ∷ xs) = Fits x.0 x.1.items × AreFit xs
+
+-- the steps of a submission: a store of the facts, one of the user_data, of a TIMEOUT one of its count, and the exchange of the claim word
+abbrev pub steps_for : Entry → ℕ
+steps_for e = cond (is_timeout e.op) 4 3
+
+-- and those of several
+abbrev pub steps_in : Entries → ℕ
+steps_in [] = 0
+steps_in (x ∷ xs) = steps_for x.0 + steps_in xs
 
 -- the submissions of these entries as the requests of the ring from k on, the newest first. The last one ends the batch
 abbrev pub submits_of : ℕ → ℕ → Entries → List Event

@@ -1,11 +1,11 @@
 -- What the poller keeps of the clock and of armed timers.
-use Rattle.std.specs.Prelude.{◌≡◌, ℕ, ◌≤◌, ◌<◌, ◌⊎◌, true, false, negsuc, List, length, slice_get, Option, Some, None}
+use Rattle.std.specs.Prelude.{◌≡◌, ℕ, ◌+◌, ◌≤◌, ◌<◌, ◌⊎◌, true, false, negsuc, List, length, slice_get, Option, Some, None}
 use Rattle.entry.specs.Entry.{Entry, fails}
 use Rattle.history.specs.declared.req.Req.{Req}
 use Rattle.history.specs.declared.event.Event.{Event}
 use Rattle.history.specs.History.{phase, armed, fired, clock_of}
 use Rattle.history.specs.Chains.{IsPlaced, is_timer, is_timeout, is_link_timeout}
-use Rattle.history.specs.Legal.{ticks_of, IsOf as IsOfKind}
+use Rattle.history.specs.Legal.{ticks_of, count_of, IsOf as IsOfKind}
 use Rattle.steps.specs.Cells.{IsCell, request_at, total}
 use Rattle.board.specs.declared.alarm.Alarm.{Alarm}
 use Rattle.board.specs.declared.alarm.Timer.{Timer}
@@ -14,7 +14,7 @@ use Rattle.board.specs.declared.alarm.Alarm.TheVariants.{Linked, Alone}
 -- what is kept of a timer that is placed as e
 abbrev pub IsAlarm : Entry → Alarm → Type 0
 IsAlarm e Linked = is_link_timeout e.op ≡ true
-IsAlarm e (Alone f) = (is_timeout e.op ≡ true) × (f ≡ fails e (negsuc 61))
+IsAlarm e (Alone f n) = (is_timeout e.op ≡ true) × (f ≡ fails e (negsuc 61)) × (n ≡ count_of e.op)
 
 abbrev pub IsKept : List Event → Req → Option Alarm → Type 0
 IsKept h q None = ⊥
@@ -39,3 +39,13 @@ IsPast h to = (to < clock_of h) ⊎ (2147483647 < to)
 abbrev pub IsTimerAs : List Event → Req → Option Timer → Type 0
 IsTimerAs h q None = IsOfKind h q is_timer false
 IsTimerAs h q (Some t) = (e : Entry) × IsPlaced h q e × (ticks_of e.op ≡ Some t.ticks) × (t.ticks ≤ 2147483647) × IsAlarm e t.alarm
+
+-- a TIMEOUT's count is looked up too
+abbrev pub looks_for_count : Alarm → ℕ
+looks_for_count Linked = 0
+looks_for_count (Alone f n) = 1
+
+-- how many looks tell which timer the request is
+abbrev pub looks_at : Option Timer → ℕ
+looks_at None = 1
+looks_at (Some t) = 1 + looks_for_count t.alarm

@@ -1,12 +1,12 @@
 -- What the poller's calls on timers make of its pass, and what their answers say.
-use Rattle.std.specs.Prelude.{◌≡◌, ◌≢◌, ◌⊎◌, ℕ, ◌+◌, ◌<◌, ◌≤◌, negsuc, true, false, List, [], ◌∷◌, Some}
+use Rattle.std.specs.Prelude.{◌≡◌, ◌≢◌, ◌⊎◌, ℕ, ◌+◌, ◌<◌, ◌≤◌, pos, negsuc, Bool, true, false, List, [], ◌∷◌, Option, Some, None}
 use Rattle.entry.specs.Entry.{Entry}
 use Rattle.history.specs.declared.req.Req.{Req}
 use Rattle.history.specs.declared.event.Event.{Event}
-use Rattle.history.specs.declared.event.Event.TheVariants.{Arm, Expire, Fire, FireMiss, Settle}
-use Rattle.history.specs.History.{phase, waits, armed, replied, by_expire, by_settle, fired, clock_of, submits, IsReplied}
+use Rattle.history.specs.declared.event.Event.TheVariants.{Arm, Expire, Count, Fire, FireMiss, Settle}
+use Rattle.history.specs.History.{phase, unborn, waits, armed, replied, by_expire, by_count, by_settle, fired, clock_of, submits, later_replies, is_replied, IsReplied}
 use Rattle.history.specs.Chains.{IsLinkTimeout, IsPlaced, IsTarget, Severed, is_timeout, is_timer, previous}
-use Rattle.history.specs.Legal.{ticks_of, IsOf as IsOfKind}
+use Rattle.history.specs.Legal.{ticks_of, count_of, IsOf as IsOfKind}
 use Rattle.steps.specs.declared.line.Line.{Line}
 use Rattle.steps.specs.Journal.{events_of, freed}
 use Rattle.steps.specs.Rule.{Begins}
@@ -18,6 +18,8 @@ use Rattle.board.specs.PollerTimers.{IsKept}
 use Rattle.board.specs.declared.alarm.Alarm.{Alarm}
 use Rattle.board.specs.declared.poller.Expiry.{Expiry}
 use Rattle.board.specs.declared.poller.Expiry.TheVariants.{Expired, Early, NotArmed}
+use Rattle.board.specs.declared.poller.Counting.{Counting}
+use Rattle.board.specs.declared.poller.Counting.TheVariants.{Counted, Fewer, NotCounted, NotArmed as NoneToCount}
 use Rattle.board.specs.declared.linked.Struck.{Struck}
 use Rattle.board.specs.declared.linked.Struck.TheVariants.{Took as StruckTook, Missed as StruckMissed, Over}
 use Rattle.board.specs.declared.poller.Firing.{Firing}
@@ -95,6 +97,50 @@ pub record Expires (b : Facts) (r : Req) (p q : Pass) (x : Expiry) : Type 0 wher
   pub goes : Goes b p (expired_by x r) q
   pub tells : ExpiryTells b r p q x
   pub others : (i : Req) → freed q.view.seen i ≡ freed p.view.seen i
+
+-- ---- a count
+
+abbrev pub counted_by : Counting → Req → List Event
+counted_by Counted r = Count r ∷ []
+counted_by _ r = []
+
+-- it counted enough completions, and was answered with 0 (io_uring_prep_timeout(3))
+abbrev pub HasCounted : List Event → Req → Type 0
+HasCounted h r = phase h r ≡ replied by_count (pos 0)
+
+-- an armed TIMEOUT that counts completions, and so many later requests of its ring have not been answered
+pub record HasFewer (h : List Event) (r : Req) : Type 0 where
+  pub is_armed : (d : ℕ) × (phase h r ≡ armed d)
+  pub entry : Entry
+  pub as_placed : IsPlaced h r entry
+  pub counts : 0 < count_of entry.op
+  pub fewer : later_replies h r < count_of entry.op
+
+-- it is armed, and counts no completions
+abbrev pub IsUncounted : List Event → Req → Type 0
+IsUncounted h r = ((d : ℕ) × (phase h r ≡ armed d)) × ((e : Entry) × IsPlaced h r e × (count_of e.op ≡ 0))
+
+-- it isn't armed
+abbrev pub IsUnarmed : List Event → Req → Type 0
+IsUnarmed h r = (d : ℕ) → phase h r ≢ armed d
+
+-- what a count says of the request, by its answer
+abbrev pub CountingTells : Facts → Req → Pass → Pass → Counting → Type 0
+CountingTells b r p q Counted = HasCounted (seen_of q) r
+CountingTells b r p q Fewer = HasFewer (seen_of p) r
+CountingTells b r p q NotCounted = IsUncounted (seen_of q) r × Stepped b.layout.cells r p q
+CountingTells b r p q NoneToCount = IsUnarmed (seen_of q) r × Stepped b.layout.cells r p q
+
+-- what became of the pass that was to answer r if it has counted enough
+pub record Counts (b : Facts) (r : Req) (p q : Pass) (x : Counting) : Type 0 where
+  pub goes : Goes b p (counted_by x r) q
+  pub tells : CountingTells b r p q x
+  pub others : (i : Req) → freed q.view.seen i ≡ freed p.view.seen i
+
+-- what a look at a request tells of its reply: it was not submitted yet, or has one or not
+abbrev pub TellsReply : List Event → Req → Option Bool → Type 0
+TellsReply h q None = phase h q ≡ unborn
+TellsReply h q (Some b) = (q.k < submits h q.ring) × (is_replied (phase h q) ≡ b)
 
 -- ---- a settling
 

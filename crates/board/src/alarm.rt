@@ -1,15 +1,15 @@
 //! What the poller finds out of timers, what it keeps of those that it armed, and how it arms one.
-ghost use Rattle.std.specs.Prelude.{◌≡◌, ◌+◌, ◌*◌, ◌<◌, ◌≤◌, true, false, Some};
+ghost use Rattle.std.specs.Prelude.{◌≡◌, ◌+◌, ◌*◌, ◌<◌, ◌≤◌, true, false, negsuc, Some};
+ghost use Rattle.entry.specs.Entry.{Entry, fails as fails_with};
 ghost use Rattle.gates.specs.EntryRows.{added, waiting};
 ghost use Rattle.history.specs.declared.req.Req.{Req as Request};
-ghost use Rattle.history.specs.Chains.{Open, Severed};
+ghost use Rattle.history.specs.Chains.{IsPlaced, Open, Severed, is_timeout};
 ghost use Rattle.history.specs.History.{IsReplied, armed, clock_of, phase, submits};
 ghost use Rattle.steps.specs.Journal.{events_of};
 ghost use Rattle.work.specs.Passes.{pass_of};
 ghost use Rattle.board.specs.declared.poller.Released.TheVariants.{NotHeld};
 ghost use Rattle.board.specs.PollerRows.{Decides, IsAt, IsOurs, KnowsRow, Paid, Watched, owed};
-ghost use Rattle.board.specs.declared.alarm.Alarm.TheVariants.{Alone};
-ghost use Rattle.board.specs.PollerTimers.{IsKept, IsTimerAs, KnowsAlarm};
+ghost use Rattle.board.specs.PollerTimers.{IsTimerAs, KnowsAlarm, looks_at};
 ghost use Rattle.board.specs.TimerCalls.{Arms, Expires, Keeps};
 ghost use Rattle.board.specs.Seats.{IsPollerSeat};
 
@@ -29,8 +29,9 @@ use work::Spot;
 pub(crate) enum Alarm {
     /// It is a LINK_TIMEOUT.
     Linked,
-    /// It is a TIMEOUT. The flag says whether running out is a failure of it: not with IORING_TIMEOUT_ETIME_SUCCESS.
-    Alone(bool),
+    /// It is a TIMEOUT. The flag says whether running out is a failure of it: not with IORING_TIMEOUT_ETIME_SUCCESS. The number is
+    /// how many completions it counts, 0 for none.
+    Alone(bool, u64),
 }
 
 /// A timer's ticks, and what is kept of it.
@@ -40,23 +41,24 @@ pub(crate) struct Timer {
     pub alarm: Alarm,
 }
 
-/// Which timer the request is, if any, by the facts in its cell. They are right where it has no reply.
+/// Which timer the request is, if any, by the facts and the count in its cell. They are right where it has no reply.
 fn timer_in(board: &Board, seat: &mut TableSeat, spot: Spot, req: Req) -> Option<Timer>
     requires ours { IsOurs board.now seat.old }
     requires at { IsAt board.now.layout.cells spot.cell spot.generation req }
     requires born { req.k < submits (events_of seat.old.me.0.seen) req.ring }
     ensures watched { Watched board.now seat.old seat.new }
     ensures told { spot.generation < 16777216 → (IsReplied (phase (events_of seat.new.me.0.seen) req) → ⊥) → IsTimerAs (events_of seat.new.me.0.seen) req result }
-    ensures steps { Paid seat.old.me.0 seat.new.me.0 0 1 }
+    ensures steps { Paid seat.old.me.0 seat.new.me.0 0 (looks_at result) }
 {
     let facts = unpack_facts(seat::look_at_note(&board.table.shared, seat, spot.cell, 0));
     if u64::from(facts.generation) != spot.generation {
         return None;
     }
     if facts.row == TIMEOUT {
+        let count = seat::look_at_note(&board.table.shared, seat, spot.cell, 2);
         return Some(Timer {
             ticks: facts.payload,
-            alarm: Alarm::Alone(!facts.etime_success),
+            alarm: Alarm::Alone(!facts.etime_success, count),
         });
     }
     if facts.row == LINK_TIMEOUT {
@@ -199,7 +201,7 @@ fn run_out(
     requires armed { phase (events_of seat.old.me.0.seen) req ≡ armed deadline }
     requires born { req.k < submits (events_of seat.old.me.0.seen) req.ring }
     requires due { deadline ≤ clock_of (events_of seat.old.me.0.seen) }
-    requires timeout { IsKept (events_of seat.old.me.0.seen) req (Some (Alone fails)) }
+    requires timeout { (e : Entry) × IsPlaced (events_of seat.old.me.0.seen) req e × (is_timeout e.op ≡ true) × (fails ≡ fails_with e (negsuc 61)) }
     ensures seat { IsPollerSeat seat.new }
     ensures expires { Expires board.now req (pass_of seat.old) (pass_of seat.new) result }
     ensures steps { Paid seat.old.me.0 seat.new.me.0 0 1 }
@@ -235,7 +237,7 @@ pub(crate) fn expire(
     let Phase::Armed(deadline) = told(word, spot.generation) else {
         return Expiry::NotArmed;
     };
-    let Alarm::Alone(fails) = alarm else {
+    let Alarm::Alone(fails, _) = alarm else {
         return Expiry::NotArmed;
     };
     if clock < deadline {

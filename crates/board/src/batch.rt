@@ -12,6 +12,7 @@ macro_rules! fits_work {
     ((pipe write $fd:ident $len:ident) ($length:ident)) => { $length == $len as usize };
     ((pipe close $fd:ident) ($length:ident)) => { $length == 0 };
     ((pipe poll $fd:ident $mask:ident) ($length:ident)) => { $length == 0 };
+    ((pipe splice $fd_in:ident $fd_out:ident $len:ident) ($length:ident)) => { $length == 0 };
     ((timer $kind:ident $ticks:ident) ($length:ident)) => { $length == 0 };
     ((cancel $kind:ident $target:ident) ($length:ident)) => { $length == 0 };
 }

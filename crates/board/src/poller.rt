@@ -4,21 +4,21 @@ ghost use Rattle.history.specs.declared.event.Event.TheVariants.{Tick};
 ghost use Rattle.history.specs.declared.req.Req.{Req as Request};
 ghost use Rattle.history.specs.History.{submits};
 ghost use Rattle.steps.specs.Journal.{freed};
-ghost use Rattle.steps.specs.Cells.{claim_at, total};
+ghost use Rattle.steps.specs.Cells.{cells_in, claim_at, total};
 ghost use Rattle.steps.specs.declared.view.Role.TheVariants.{Poller as PollerRole};
 ghost use Rattle.steps.specs.Rule.{Looks, Shown, IsStep};
 ghost use Rattle.work.specs.Board.{IsOf};
 ghost use Rattle.work.specs.Passes.{pass_of, seen_of, CanReach, Took};
 ghost use Rattle.board.specs.Calls.{Goes};
 ghost use Rattle.board.specs.PollerTimers.{IsPast};
-ghost use Rattle.board.specs.TimerCalls.{Arms, Expires, Fires, Settles};
+ghost use Rattle.board.specs.TimerCalls.{Arms, Counts, Expires, Fires, Settles};
 ghost use Rattle.board.specs.PollerRows.{Decides, IsAt, KnowsRows, Paid};
 ghost use Rattle.board.specs.Seats.{IsPollerSeat};
 
 use crate::alarm::{self, Alarm};
 use crate::board::Board;
 use crate::error::ClockEnd;
-use crate::{linked, trail};
+use crate::{counting, linked, trail};
 use gates::Row;
 use history::Req;
 use limits::TICK;
@@ -87,6 +87,20 @@ pub enum Expiry {
     /// It is armed, and its deadline is after the clock's time. Nothing has changed.
     Early,
     /// It isn't armed, or is a LINK_TIMEOUT. Nothing has changed.
+    NotArmed,
+}
+
+/// What became of a TIMEOUT that was to be answered if it has counted enough completions. They are tested in the order `NotArmed`,
+/// `NotCounted`, `Fewer`.
+#[derive(Clone, Copy, PartialEq, Eq, Debug)]
+pub enum Counting {
+    /// As many later requests of its ring have replied as it counts: it was answered with 0 now.
+    Counted,
+    /// Fewer had replied before this call. Nothing has changed.
+    Fewer,
+    /// It is armed, and counts no completions: its count is 0, or it is a LINK_TIMEOUT. Nothing has changed.
+    NotCounted,
+    /// It isn't armed. Nothing has changed.
     NotArmed,
 }
 
@@ -185,6 +199,17 @@ impl Poller {
     {
         let alarm = self.alarms[spot.cell];
         alarm::expire(board, &mut self.seat, self.clock, alarm, spot, req)
+    }
+
+    /// Answers the timer in this cell, if it has counted enough completions.
+    pub(crate) fn count(&mut self, board: &Board, spot: Spot, req: Req) -> Counting
+        requires ours { IsOf board.now self.old }
+        requires at { IsAt board.now.layout.cells spot.cell spot.generation req }
+        ensures counts { Counts board.now req self.old self.new result }
+        ensures steps { Paid self.old.view self.new.view 0 (cells_in board.now.layout.cells req.ring + 1) }
+    {
+        let alarm = self.alarms[spot.cell];
+        counting::count(board, &mut self.seat, alarm, spot, req)
     }
 
     /// Fires the timer in this cell.

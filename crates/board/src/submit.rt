@@ -1,5 +1,5 @@
 //! The submission of an entry, and of a batch.
-ghost use Rattle.std.specs.Prelude.{◌≡◌, ℕ, ◌+◌, ◌/◌, ◌<◌, ◌*◌, ◌≤◌, true, [], ◌∷◌, Some, length, reverse, IfOk, IfErr};
+ghost use Rattle.std.specs.Prelude.{◌≡◌, ℕ, ◌+◌, ◌/◌, ◌<◌, ◌≤◌, true, [], ◌∷◌, Some, length, reverse, IfOk, IfErr};
 ghost use Rattle.history.specs.declared.event.Event.TheVariants.{Submit};
 ghost use Rattle.history.specs.History.{submits};
 ghost use Rattle.history.specs.Chains.{before_in};
@@ -10,7 +10,7 @@ ghost use Rattle.steps.specs.Fairness.{IsFree};
 ghost use Rattle.work.specs.Board.{IsOf};
 ghost use Rattle.work.specs.Passes.{seen_of, Took};
 ghost use Rattle.board.specs.Calls.{Goes, next_of};
-ghost use Rattle.board.specs.Batches.{IsReady, submits_of};
+ghost use Rattle.board.specs.Batches.{IsReady, steps_for, steps_in, submits_of};
 ghost use Rattle.board.specs.Lanes.{nth, LinkedAreReaped};
 ghost use Rattle.board.specs.Refusals.{RefusesBatch, RefusesEntry};
 
@@ -33,7 +33,7 @@ impl Board {
         requires { IsOf self.now submitter.old }
         ensures submitted { (ring : ℕ) → submitter.old.view.role ≡ SubmitterRole ring → IfOk result (λ r. (r ≡ next_of submitter.old ring) × Goes self.now submitter.old (Submit r sqe buffer.items true ∷ []) submitter.new) }
         ensures free { IfOk result (λ r. IsFree self.now.layout.cells (seen_of submitter.new) r) }
-        ensures steps { IfOk result (λ r. (n : ℕ) × (n ≤ cells_in self.now.layout.cells r.ring + 1) × (LinkedAreReaped (seen_of submitter.old) r.ring → n ≡ 0) × Took submitter.old.view submitter.new.view (n + 3)) }
+        ensures steps { IfOk result (λ r. (n : ℕ) × (n ≤ cells_in self.now.layout.cells r.ring + 1) × (LinkedAreReaped (seen_of submitter.old) r.ring → n ≡ 0) × Took submitter.old.view submitter.new.view (n + steps_for sqe)) }
         ensures refused { IfErr result (λ e. Goes self.now submitter.old [] submitter.new × (e.1 ≡ buffer)) }
         ensures reason { (ring : ℕ) → submitter.old.view.role ≡ SubmitterRole ring → IfErr result (λ e. RefusesEntry self.now sqe buffer.items (next_of submitter.old ring) submitter.old submitter.new e.0) }
     {
@@ -64,7 +64,7 @@ impl Board {
         requires { IsOf self.now submitter.old }
         ensures submitted { (ring : ℕ) → submitter.old.view.role ≡ SubmitterRole ring → IfOk result (λ r. (r ≡ next_of submitter.old ring) × Goes self.now submitter.old (submits_of ring r.k batch.items) submitter.new) }
         ensures free { IfOk result (λ r. (i : ℕ) → i < length batch.items → IsFree self.now.layout.cells (seen_of submitter.new) (nth r.ring (r.k + i))) }
-        ensures steps { IfOk result (λ r. (n : ℕ) × (n ≤ cells_in self.now.layout.cells r.ring + 1) × (LinkedAreReaped (seen_of submitter.old) r.ring → n ≡ 0) × Took submitter.old.view submitter.new.view (n + 3 * length batch.items)) }
+        ensures steps { IfOk result (λ r. (n : ℕ) × (n ≤ cells_in self.now.layout.cells r.ring + 1) × (LinkedAreReaped (seen_of submitter.old) r.ring → n ≡ 0) × Took submitter.old.view submitter.new.view (n + steps_in batch.items)) }
         ensures refused { IfErr result (λ e. Goes self.now submitter.old [] submitter.new × (e.1 ≡ batch)) }
         ensures reason { (ring : ℕ) → submitter.old.view.role ≡ SubmitterRole ring → IfErr result (λ e. RefusesBatch self.now batch.items ring (next_of submitter.old ring).k submitter.old submitter.new e.0) }
     {
@@ -86,7 +86,7 @@ impl Board {
     fn submit_all(&self, submitter: &mut Submitter, mut left: Vec<(Sqe, Vec<u8>)>)
         requires ready { (ring : ℕ) × IsReady self.now submitter.old ring (submits (seen_of submitter.old) ring) (reverse left.items) }
         ensures submitted { (ring : ℕ) → submitter.old.view.role ≡ SubmitterRole ring → Goes self.now submitter.old (submits_of ring (submits (seen_of submitter.old) ring) (reverse left.items)) submitter.new }
-        ensures steps { Took submitter.old.view submitter.new.view (3 * length left.items) }
+        ensures steps { Took submitter.old.view submitter.new.view (steps_in (reverse left.items)) }
     {
         while let Some((sqe, buffer)) = left.pop() {
             let last = left.is_empty();
@@ -103,7 +103,7 @@ impl Board {
         ensures role { submitter.old.view.role ≡ SubmitterRole result.ring }
         ensures next { (ring : ℕ) → submitter.old.view.role ≡ SubmitterRole ring → (submits (seen_of submitter.new) ring ≡ submits (seen_of submitter.old) ring + 1) × (before_in (seen_of submitter.new) (nth ring (submits (seen_of submitter.old) ring + 1)) ≡ Some (record { entry = parcel.sqe; bytes = parcel.buffer.items; last = parcel.last })) }
         ensures submitted { (ring : ℕ) → submitter.old.view.role ≡ SubmitterRole ring → (result ≡ next_of submitter.old ring) × Goes self.now submitter.old (Submit result parcel.sqe parcel.buffer.items parcel.last ∷ []) submitter.new }
-        ensures steps { Took submitter.old.view submitter.new.view 3 }
+        ensures steps { Took submitter.old.view submitter.new.view (steps_for parcel.sqe) }
     {
         let req = submitter.next_request();
         let Some(spot) = self.grid.locate(req) else {

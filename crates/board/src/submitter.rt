@@ -1,15 +1,16 @@
 //! A submitter's pass.
-ghost use Rattle.std.specs.Prelude.{◌≡◌, ℕ, ◌+◌, ◌*◌, ◌/◌, ◌<◌, ◌≤◌, Bool, List, [], length, IfOk, IfErr};
+ghost use Rattle.std.specs.Prelude.{◌≡◌, ℕ, ◌+◌, ◌*◌, ◌/◌, ◌<◌, ◌≤◌, Bool, List, [], ◌∷◌, length, IfOk, IfErr};
 ghost use Rattle.claim.specs.declared.tag.Tag.TheVariants.{Done};
 ghost use Rattle.history.specs.declared.req.Req.{Req};
 ghost use Rattle.history.specs.declared.event.Event.TheVariants.{Submit, Reap};
 ghost use Rattle.history.specs.History.{Cause, data_of, submits};
 ghost use Rattle.history.specs.Legal.{Fits as FitsEntry};
-ghost use Rattle.steps.specs.declared.line.Line.TheVariants.{Did, Lent, Noted};
+ghost use Rattle.steps.specs.declared.line.Line.TheVariants.{Did, Lent};
 ghost use Rattle.steps.specs.declared.view.Role.TheVariants.{Submitter as SubmitterRole, Lending};
 ghost use Rattle.steps.specs.Fairness.{IsFree};
-ghost use Rattle.steps.specs.Cells.{claim_at, ring_of, place_of, request_at, cells_in, total, facts_at, user_at, word_of, cause_bits, IsParcel, words_of};
-ghost use Rattle.steps.specs.Rule.{Looks, Shown, IsStep, IsTwoSteps, IsThreeSteps, ExtendsTwice, ExtendsThrice, IsDone};
+ghost use Rattle.steps.specs.Cells.{claim_at, ring_of, place_of, request_at, cells_in, total, facts_at, word_of, cause_bits, IsParcel, words_of};
+ghost use Rattle.steps.specs.Notes.{notes_of, words_in};
+ghost use Rattle.steps.specs.Rule.{Looks, Shown, IsStep, IsTwoSteps, AreSteps, ExtendsTwice, ExtendsNoted, IsDone};
 ghost use Rattle.work.specs.Passes.{pass_of, seen_of, CanReach};
 ghost use Rattle.board.specs.Calls.{next_of};
 ghost use Rattle.board.specs.Lanes.{AreFree, LinkedAreReaped, RefusesRoom, Watched};
@@ -123,8 +124,8 @@ impl Submitter {
         requires free { IsFree self.old.view.layout.cells (seen_of self.old) (request_at self.old.view.layout.cells spot.cell spot.generation) }
         requires buffer { FitsEntry parcel.sqe parcel.buffer.items }
         ensures table { self.new.table ≡ self.old.table }
-        ensures submits { let r : Req = request_at self.old.view.layout.cells spot.cell spot.generation in (facts : ℕ) × ExtendsThrice self.old.view (Lent r (facts_at spot.cell) facts) (Lending r) (Noted r (user_at spot.cell) parcel.sqe.user_data) (Lending r) (Did (Submit r parcel.sqe parcel.buffer.items parcel.last)) (SubmitterRole r.ring) self.new.view }
-        ensures steps { IsThreeSteps (facts_at spot.cell) (user_at spot.cell) (claim_at spot.cell) self.old.view self.new.view }
+        ensures submits { let r : Req = request_at self.old.view.layout.cells spot.cell spot.generation in (facts : ℕ) × ExtendsNoted self.old.view r (facts_at spot.cell, facts) (notes_of spot.cell parcel.sqe) (Did (Submit r parcel.sqe parcel.buffer.items parcel.last)) (SubmitterRole r.ring) self.new.view }
+        ensures steps { AreSteps (facts_at spot.cell ∷ words_in (notes_of spot.cell parcel.sqe)) (claim_at spot.cell) self.old.view self.new.view }
     {
         let hosted = lane::hosts(&parcel.sqe, parcel.last);
         let facts = submitter::submit(

@@ -5,21 +5,23 @@ ghost use Rattle.history.specs.declared.req.Req.{Req as Request};
 ghost use Rattle.history.specs.Chains.{IsLinkTimeout, IsTarget, is_timer, previous};
 ghost use Rattle.history.specs.History.{submits};
 ghost use Rattle.history.specs.Legal.{IsOf as IsOfKind};
+ghost use Rattle.steps.specs.Cells.{cells_in};
 ghost use Rattle.steps.specs.Journal.{freed};
 ghost use Rattle.work.specs.Board.{IsOf};
 ghost use Rattle.work.specs.Passes.{seen_of, Took};
 ghost use Rattle.board.specs.declared.poller.Arming.TheVariants.{Armed, NotHeld, NotTimer, Shut};
+ghost use Rattle.board.specs.declared.poller.Counting.TheVariants.{Counted, Fewer, NotArmed as NoneToCount, NotCounted};
 ghost use Rattle.board.specs.declared.poller.Expiry.TheVariants.{Early, Expired, NotArmed};
 ghost use Rattle.board.specs.declared.poller.Firing.TheVariants.{Early as TooEarly, Missed, NotArmed as NoneToFire, TargetDone, Took as TookTarget};
 ghost use Rattle.board.specs.declared.poller.Settling.TheVariants.{NotArmed as NothingArmed, Settled, TargetOpen};
 ghost use Rattle.board.specs.Calls.{FoundHeld, Goes, IsUnheld, Stepped};
 ghost use Rattle.board.specs.PollerRows.{Paid};
 ghost use Rattle.board.specs.PollerTimers.{IsPast};
-ghost use Rattle.board.specs.TimerCalls.{HasExpired, HasFired, HasSettled, IsArmedFor, IsBarred, IsEarly, IsNoneToExpire, IsNoneToSettle, IsNoTimer, IsTargetDone, IsTargetOpen, WasClear, armed_by, expired_by, fired_by, settled_by};
+ghost use Rattle.board.specs.TimerCalls.{HasCounted, HasExpired, HasFewer, HasFired, HasSettled, IsArmedFor, IsBarred, IsEarly, IsNoneToExpire, IsNoneToSettle, IsNoTimer, IsTargetDone, IsTargetOpen, IsUnarmed, IsUncounted, WasClear, armed_by, counted_by, expired_by, fired_by, settled_by};
 
 use crate::board::Board;
 use crate::error::ClockEnd;
-use crate::poller::{Arming, Expiry, Firing, Poller, Settling};
+use crate::poller::{Arming, Counting, Expiry, Firing, Poller, Settling};
 use history::Req;
 
 impl Board {
@@ -67,6 +69,25 @@ impl Board {
         match self.grid.locate(req) {
             Some(spot) => poller.expire(self, spot, req),
             None => Expiry::NotArmed,
+        }
+    }
+
+    /// Answers a TIMEOUT that counts completions with 0, where it is armed and as many later requests of its ring have replied
+    /// (io_uring_prep_timeout(3)). It looks at the later requests in order, up to the first that wasn't submitted: an armed timer
+    /// keeps its cell, so they are fewer than the cells of the ring.
+    pub fn count(&self, poller: &mut Poller, req: Req) -> Counting
+        requires { IsOf self.now poller.old }
+        ensures goes { Goes self.now poller.old (counted_by result req) poller.new }
+        ensures counted { result ≡ Counted → HasCounted (seen_of poller.new) req }
+        ensures fewer { result ≡ Fewer → HasFewer (seen_of poller.old) req }
+        ensures not_counted { result ≡ NotCounted → IsUncounted (seen_of poller.new) req × Stepped self.now.layout.cells req poller.old poller.new }
+        ensures not_armed { result ≡ NoneToCount → IsUnarmed (seen_of poller.new) req × ((length self.now.layout.cells ≤ req.ring) ⊎ Stepped self.now.layout.cells req poller.old poller.new) }
+        ensures steps { Paid poller.old.view poller.new.view 0 (cells_in self.now.layout.cells req.ring + 1) }
+        ensures alone { (q : Request) → freed poller.new.view.seen q ≡ freed poller.old.view.seen q }
+    {
+        match self.grid.locate(req) {
+            Some(spot) => poller.count(self, spot, req),
+            None => Counting::NotArmed,
         }
     }
 

@@ -1,8 +1,8 @@
 //! What the calls of a case answered.
 use crate::call::Batch;
 use board::{
-    Arming, ClockEnd, Completion, Expiry, Firing, Parked, Phase, ReapError, Released, Settling,
-    SubmitError,
+    Arming, ClockEnd, Completion, Counting, Expiry, Firing, Parked, Phase, ReapError, Released,
+    Settling, SubmitError,
 };
 use entry::Cqe;
 use history::Req;
@@ -18,6 +18,7 @@ pub(crate) enum Answer {
     NotTicked(ClockEnd),
     Armed(Arming),
     Expired(Expiry),
+    Counted(Counting),
     Fired(Firing),
     Settled(Settling),
     Submitted(Req),
@@ -85,6 +86,7 @@ impl fmt::Display for Answer {
             Answer::NotTicked(error) => error.fmt(f),
             Answer::Armed(arming) => fmt::Debug::fmt(arming, f),
             Answer::Expired(expiry) => fmt::Debug::fmt(expiry, f),
+            Answer::Counted(counting) => fmt::Debug::fmt(counting, f),
             Answer::Fired(firing) => fmt::Debug::fmt(firing, f),
             Answer::Settled(settling) => fmt::Debug::fmt(settling, f),
             Answer::Submitted(req) => Named(*req).fmt(f),

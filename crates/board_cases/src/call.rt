@@ -30,6 +30,8 @@ pub(crate) enum Call {
     Arm(Req),
     /// `expire REQUEST`
     Expire(Req),
+    /// `count REQUEST`
+    Count(Req),
     /// `fire REQUEST`
     Fire(Req),
     /// `settle REQUEST`
@@ -175,6 +177,7 @@ fn plain_call(kind: &str, words: &mut Words<'_>) -> Call {
         "tick" => Call::Tick(words.number()),
         "arm" => Call::Arm(words.req()),
         "expire" => Call::Expire(words.req()),
+        "count" => Call::Count(words.req()),
         "fire" => Call::Fire(words.req()),
         "settle" => Call::Settle(words.req()),
         "begin" => Call::Begin(words.number(), words.req()),

@@ -235,7 +235,7 @@ fn tick(board: &Board, poller: &mut Poller, to: u32) -> Answer
     }
 }
 
-/// The call of the poller: `release`, `tick`, `arm`, `expire`, `fire` or `settle`.
+/// The call of the poller: `release`, `tick`, `arm`, `expire`, `count`, `fire` or `settle`.
 fn carry_poller(board: &Board, poller: &mut Poller, call: Call) -> Answer
     requires { IsOf board.now poller.old }
     ensures { IsOf board.now poller.new }
@@ -245,6 +245,7 @@ fn carry_poller(board: &Board, poller: &mut Poller, call: Call) -> Answer
         Call::Tick(to) => tick(board, poller, to),
         Call::Arm(req) => Answer::Armed(board.arm(poller, req)),
         Call::Expire(req) => Answer::Expired(board.expire(poller, req)),
+        Call::Count(req) => Answer::Counted(board.count(poller, req)),
         Call::Fire(req) => Answer::Fired(board.fire(poller, req)),
         Call::Settle(req) => Answer::Settled(board.settle(poller, req)),
         _ => NO_PASS,
@@ -352,6 +353,7 @@ pub(crate) fn carry<'a>(board: &'a Board, cast: &mut Cast<'a>, call: Call) -> An
         | Call::Tick(_)
         | Call::Arm(_)
         | Call::Expire(_)
+        | Call::Count(_)
         | Call::Fire(_)
         | Call::Settle(_) => carry_poller(board, &mut cast.poller, call),
     }

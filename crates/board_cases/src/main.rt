@@ -8,8 +8,8 @@
 //! - `look PASS REQUEST`, where a pass is `poller`, `submitter0` or `worker0`, and a request is `0.3`;
 //! - `meet PASS PASS`, which are of two kinds, or two workers;
 //! - `submit RING ENTRY WORD..`, where an entry is one of those that `cases` reads, as `nop`, `read FD LEN`, `write FD BYTES`,
-//!   `close FD` or `poll FD MASK`, or `raw HEX`, where bytes 0 at its end are left out, and a word is `ud=NUMBER`,
-//!   `flags=NUMBER` or `buffer=HEX`;
+//!   `close FD`, `poll FD MASK` or `splice FD FD LEN`, or `raw HEX`, where bytes 0 at its end are left out, and a word is
+//!   `ud=NUMBER`, `flags=NUMBER` or `buffer=HEX`;
 //! - `batch RING ENTRY WORD.. / ENTRY WORD..`, of no entry or more, which are written as at `submit`;
 //! - `release REQUEST`, `begin WORKER REQUEST`, `park WORKER`, `run WORKER`, which says `parked: NotReady` of a request without an
 //!   answer now, `reap RING REQUEST`;

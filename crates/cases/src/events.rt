@@ -36,6 +36,7 @@ fn event_at(alloc: Global, kind: &str, req: Req, words: &mut Words<'_>) -> Resul
         "begin" => Event::Begin(req),
         "park" => Event::Park(req),
         "expire" => Event::Expire(req),
+        "count" => Event::Count(req),
         "settle" => Event::Settle(req),
         "sever" => Event::Sever(req),
         "reap" => Event::Reap(req),
@@ -162,10 +163,12 @@ fn entry_without_buffer(kind: &str, words: &mut Words<'_>) -> Sqe
 {
     match kind {
         "read-at" => prep::read(words.number(), words.number(), words.number()),
+        "splice" => prep::splice(words.number(), words.number(), words.number()),
         "close" => prep::close(words.number()),
         "poll" => prep::poll_add(words.number(), words.number()),
         "timeout" => prep::timeout(words.number(), 0),
         "timeout-ok" => prep::timeout(words.number(), ETIME_SUCCESS),
+        "timeout-count" => prep::timeout_count(words.number(), words.number(), 0),
         "link-timeout" => prep::link_timeout(words.number()),
         "cancel" => prep::cancel(words.number()),
         "remove" => prep::timeout_remove(words.number()),

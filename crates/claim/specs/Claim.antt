@@ -5,7 +5,7 @@ use Rattle.std.specs.Int.{w32, cast_signed}
 use Rattle.claim.specs.declared.tag.Tag.{Tag}
 use Rattle.claim.specs.declared.tag.Tag.TheVariants.{Empty, Held, Ready, Running, Armed, Done}
 use Rattle.claim.specs.declared.tag.Cause.{Cause}
-use Rattle.claim.specs.declared.tag.Cause.TheVariants.{Reply, Take, Expire, Fire, Settle, Sever}
+use Rattle.claim.specs.declared.tag.Cause.TheVariants.{Reply, Take, Expire, Fire, Settle, Sever, Count}
 
 -- what contracts see of a claim word: its four parts
 pub record Claim : Type 0 where
@@ -29,6 +29,7 @@ cause_number Expire = 3
 cause_number Fire = 4
 cause_number Settle = 5
 cause_number Sever = 6
+cause_number Count = 7
 
 -- the cause of a Done word: which event it was, and whether the reply fails
 abbrev pub cause_of : Cause → Bool → ℕ
@@ -40,7 +41,7 @@ packed c = tag_number c.tag + 16 * c.cause + 256 * c.generation + 4294967296 * c
 
 -- the low three bits name an event, and bit 3 is free
 abbrev pub is_cause : ℕ → Bool
-is_cause n = nat_lt n 16 && (nat_lt 0 (n % 8) && nat_lt (n % 8) 7)
+is_cause n = nat_lt n 16 && nat_lt 0 (n % 8)
 
 -- the cause and the payload that a tag may have: a cause with Done alone, a payload with Armed and Done alone
 abbrev pub allows : Tag → ℕ → ℕ → Bool

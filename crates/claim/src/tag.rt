@@ -34,6 +34,8 @@ pub enum Cause {
     Settle,
     /// An earlier member of its chain failed.
     Sever,
+    /// It is a TIMEOUT, and as many later requests of its ring were answered as it counts.
+    Count,
 }
 
 impl Tag {
@@ -72,7 +74,7 @@ impl Tag {
 }
 
 impl Cause {
-    /// The cause of a Done word: 1 to 6 for the event, and 8 more where the reply fails.
+    /// The cause of a Done word: 1 to 7 for the event, and 8 more where the reply fails.
     pub fn number(self, fails: bool) -> u8
         ensures { result ≡ cause_of self fails }
     {
@@ -83,6 +85,7 @@ impl Cause {
             Cause::Fire => 4,
             Cause::Settle => 5,
             Cause::Sever => 6,
+            Cause::Count => 7,
         };
         if fails { event + 8 } else { event }
     }

@@ -173,8 +173,7 @@ fn tag_of(word: u64) -> Option<Tag>
             _ => Tag::Running,
         });
     }
-    let event = (word >> 4) % 8;
-    let names_event = (0 < event) & (event < 7);
+    let names_event = (word >> 4) % 8 != 0;
     if word % 16 == 5 && names_event {
         Some(Tag::Done)
     } else if word % 256 == 4 {

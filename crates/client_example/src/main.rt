@@ -151,18 +151,25 @@ fn end<R: Threads + Wait>(
     }
 }
 
+/// Submits the requests of both rings, takes their completions, and prints them.
+fn serve<R: Wait + Print>(rt: &R, alloc: Global, zero: &mut Client, one: &mut Client) -> Result<()>
+    ensures zero { zero.new.board ≡ zero.old.board }
+    ensures one { one.new.board ≡ one.old.board }
+{
+    submit_hello(alloc, zero)?;
+    submit_timeout(alloc, one)?;
+    let (write, read) = next_two(rt, zero);
+    let timeout = next(rt, one);
+    for completion in [write, read, timeout] {
+        show(rt, &completion)?;
+    }
+    Ok(())
+}
+
 fn main(rt: HostRuntime) -> Result<()> {
     let alloc = rt.alloc();
     let (runtime, mut zero, mut one) = begin(rt, alloc)?;
-    submit_hello(alloc, &mut zero)?;
-    submit_timeout(alloc, &mut one)?;
-
-    let (write, read) = next_two(&rt, &mut zero);
-    let timeout = next(&rt, &mut one);
-    for completion in [write, read, timeout] {
-        show(&rt, &completion)?;
-    }
-
+    serve(&rt, alloc, &mut zero, &mut one)?;
     let left = end(&rt, alloc, runtime, zero, one)?;
     println!(rt; "left: {left}")?;
     Ok(())

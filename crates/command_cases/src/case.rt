@@ -55,23 +55,28 @@ pub fn folded(alloc: Global, bytes: &mut [u8]) -> Result<String, AllocError> {
     String::from_utf8_lossy(alloc, bytes)
 }
 
-/// The job of a kind of case. A run tries each waiting line a thousand times, or once, or a hundred thousand times, or without end
-/// to speak of.
+/// How often a waiting line of a run is tried: without end to speak of.
+const TURNS: u32 = 10_000_000;
+
+/// The job of a kind of case. A run has two workers, or one, or eight. It tries each waiting line a thousand times, or once, or
+/// thirty thousand times, or without end to speak of.
 pub fn job_of(kind: &str) -> Job {
     match kind {
         "outcomes" => Job::Outcomes { stats: false },
         "stats" => Job::Outcomes { stats: true },
         "history" => Job::History,
-        "stuck" => run_of(1000),
-        "once" => run_of(1),
-        "drawn" => run_of(100_000),
-        _ => run_of(10_000_000),
+        "stuck" => run_of(2, 1000),
+        "once" => run_of(2, 1),
+        "drawn" => run_of(2, 30_000),
+        "run-1" => run_of(1, TURNS),
+        "run-8" => run_of(8, TURNS),
+        _ => run_of(2, TURNS),
     }
 }
 
-/// A run with two workers that tries each waiting line so often.
-fn run_of(turns: u32) -> Job {
-    Job::Run { workers: 2, turns }
+/// A run with so many workers that tries each waiting line so often.
+fn run_of(workers: u32, turns: u32) -> Job {
+    Job::Run { workers, turns }
 }
 
 /// The status of a job, and what it writes on standard output and then on standard error.

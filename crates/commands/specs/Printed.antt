@@ -9,7 +9,7 @@ use Rattle.script_text.specs.TableText.{IsTableText, table_text}
 use Rattle.explore.specs.Courses.{Among}
 use Rattle.script.specs.Rows.{AreInOrder}
 use Rattle.script.specs.Tables.{IsTableOf}
-use Rattle.explore.specs.Trails.{IsHistoryOf}
+use Rattle.explore.specs.EventLogs.{IsHistoryOf}
 use Rattle.commands.specs.declared.job.Job.{Job}
 use Rattle.commands.specs.declared.job.Job.TheVariants.{Run, Outcomes, History}
 

@@ -18,6 +18,7 @@ pub record InTypes (r : Row) (f u : ℕ) : Type 0 where
   pub addr : r.addr < 2 ^ 64
   pub len : r.len < 2 ^ 32
   pub word : r.word < 2 ^ 32
+  pub splice_fd_in : FitsSigned w32 r.splice_fd_in
   pub flags : f < 2 ^ 8
   pub user_data : u < 2 ^ 64
 
@@ -25,18 +26,19 @@ IsBytes-drop : (n : ℕ) (bytes : List ℕ) → IsBytes bytes → IsBytes (drop 
 IsBytes-drop n bytes are i = let same = get_or-drop n bytes i 0 in omega (arith, same, are (n + i))
 
 -- the fields written one after the other
-pub layout-written : (r : Row) (flags user_data : ℕ) (fd off addr len word all : List ℕ)
+pub layout-written : (r : Row) (flags user_data : ℕ) (fd off addr len word user all : List ℕ)
     → fd ≡ put 4 4 (little_bytes 4 (cast_unsigned w32 r.fd)) (r.opcode ∷ flags ∷ replicate 62 0)
     → off ≡ put 8 8 (little_bytes 8 r.off) fd
     → addr ≡ put 16 8 (little_bytes 8 r.addr) off
     → len ≡ put 24 4 (little_bytes 4 r.len) addr
     → word ≡ put 28 4 (little_bytes 4 r.word) len
-    → all ≡ put 32 8 (little_bytes 8 user_data) word
+    → user ≡ put 32 8 (little_bytes 8 user_data) word
+    → all ≡ put 44 4 (little_bytes 4 (cast_unsigned w32 r.splice_fd_in)) user
     → all ≡ layout r flags user_data
 unfolding layout
-layout-written r flags user_data fd off addr len word all e1 e2 e3 e4 e5 e6 =
-    e6 ∙ ap (put 32 8 (little_bytes 8 user_data)) (e5 ∙ ap (put 28 4 (little_bytes 4 r.word)) (e4
-    ∙ ap (put 24 4 (little_bytes 4 r.len)) (e3 ∙ ap (put 16 8 (little_bytes 8 r.addr)) (e2 ∙ ap (put 8 8 (little_bytes 8 r.off)) e1))))
+layout-written r flags user_data fd off addr len word user all e1 e2 e3 e4 e5 e6 e7 =
+    e7 ∙ ap (put 44 4 (little_bytes 4 (cast_unsigned w32 r.splice_fd_in))) (e6 ∙ ap (put 32 8 (little_bytes 8 user_data)) (e5 ∙ ap (put 28 4 (little_bytes 4 r.word)) (e4
+    ∙ ap (put 24 4 (little_bytes 4 r.len)) (e3 ∙ ap (put 16 8 (little_bytes 8 r.addr)) (e2 ∙ ap (put 8 8 (little_bytes 8 r.off)) e1)))))
 
 -- a field, and what stands behind it
 pub front : (at n x : ℕ) (bytes tail : List ℕ) → at + n ≤ length bytes → IsBytes bytes → number_at at n bytes ≡ x → tail ≡ drop (at + n) bytes
@@ -50,6 +52,10 @@ pub number_at-lt : (at n : ℕ) (bytes : List ℕ) → IsBytes bytes → number_
 unfolding number_at
 number_at-lt at n bytes are = little_from-lt 0 n (drop at bytes) (IsBytes-drop at bytes are)
 
+-- four bytes read as a signed number, and written again
+signed_at : (at : ℕ) (bytes : List ℕ) → IsBytes bytes → number_at at 4 bytes ≡ cast_unsigned w32 (cast_signed w32 (number_at at 4 bytes))
+signed_at at bytes are = sym (of_z-to_z w32 (number_at at 4 bytes) (number_at-lt at 4 bytes are))
+
 first_two : (xs : List ℕ) → 2 ≤ length xs → slice_index xs 0 ∷ slice_index xs 1 ∷ drop 2 xs ≡ xs
 first_two [] h = absurd (omega arith)
 first_two (x ∷ []) h = absurd (omega arith)
@@ -57,14 +63,15 @@ first_two (x ∷ y ∷ xs) h = refl
 
 -- read, and written again
 pub layout-row_at : (bytes : List ℕ) → length bytes ≡ 64 → IsBytes bytes
-    → number_at 2 2 bytes ≡ 0 → number_at 40 8 bytes ≡ 0 → number_at 48 8 bytes ≡ 0 → number_at 56 8 bytes ≡ 0
+    → number_at 2 2 bytes ≡ 0 → number_at 40 4 bytes ≡ 0 → number_at 48 8 bytes ≡ 0 → number_at 56 8 bytes ≡ 0
     → layout (row_at bytes) (slice_index bytes 1) (number_at 32 8 bytes) ≡ bytes
 unfolding layout
 layout-row_at bytes len are e2 e40 e48 e56 =
     let end : drop 64 bytes ≡ [] = drop_all 64 bytes (omega arith) in
-    let fd : number_at 4 4 bytes ≡ cast_unsigned w32 (cast_signed w32 (number_at 4 4 bytes)) = sym (of_z-to_z w32 (number_at 4 4 bytes) (number_at-lt 4 4 bytes are)) in
-    let zero = front 40 8 0 bytes _ (omega arith) are e40 (front 48 8 0 bytes _ (omega arith) are e48 (front 56 8 0 bytes _ (omega arith) are e56 (sym end))) in
-    let numbers = front 24 4 _ bytes _ (omega arith) are refl (front 28 4 _ bytes _ (omega arith) are refl (front 32 8 _ bytes _ (omega arith) are refl zero)) in
+    let fd = signed_at 4 bytes are in
+    let zero = front 48 8 0 bytes _ (omega arith) are e48 (front 56 8 0 bytes _ (omega arith) are e56 (sym end)) in
+    let later = front 40 4 0 bytes _ (omega arith) are e40 (front 44 4 _ bytes _ (omega arith) are (signed_at 44 bytes are) zero) in
+    let numbers = front 24 4 _ bytes _ (omega arith) are refl (front 28 4 _ bytes _ (omega arith) are refl (front 32 8 _ bytes _ (omega arith) are refl later)) in
     let all = front 2 2 0 bytes _ (omega arith) are e2 (front 4 4 _ bytes _ (omega arith) are fd (front 8 8 _ bytes _ (omega arith) are refl (front 16 8 _ bytes _ (omega arith) are refl numbers))) in
     ap (λ (t : List ℕ). slice_index bytes 0 ∷ slice_index bytes 1 ∷ t) all ∙ first_two bytes (omega arith)
 
@@ -83,11 +90,13 @@ pub cast_unsigned-lt : (z : ℤ) → FitsSigned w32 z → cast_unsigned w32 z < 
 cast_unsigned-lt (pos n) fits = omega arith
 cast_unsigned-lt (negsuc n) fits = omega arith
 
-row_at-is : (bytes : List ℕ) (r : Row) → FitsSigned w32 r.fd → slice_index bytes 0 ≡ r.opcode → number_at 4 4 bytes ≡ cast_unsigned w32 r.fd
-    → number_at 8 8 bytes ≡ r.off → number_at 16 8 bytes ≡ r.addr → number_at 24 4 bytes ≡ r.len → number_at 28 4 bytes ≡ r.word → row_at bytes ≡ r
-row_at-is bytes r fits opcode fd off addr len word =
-    let signed : cast_signed w32 (number_at 4 4 bytes) ≡ r.fd = ap (cast_signed w32) fd ∙ to_z-of_z w32 r.fd fits in
-    rw (opcode, signed, off, addr, len, word) refl
+row_at-is : (bytes : List ℕ) (r : Row) → FitsSigned w32 r.fd → FitsSigned w32 r.splice_fd_in → slice_index bytes 0 ≡ r.opcode → number_at 4 4 bytes ≡ cast_unsigned w32 r.fd
+    → number_at 8 8 bytes ≡ r.off → number_at 16 8 bytes ≡ r.addr → number_at 24 4 bytes ≡ r.len → number_at 28 4 bytes ≡ r.word
+    → number_at 44 4 bytes ≡ cast_unsigned w32 r.splice_fd_in → row_at bytes ≡ r
+row_at-is bytes r fd_fits splice_fits opcode fd off addr len word splice_fd_in =
+    let signed : cast_signed w32 (number_at 4 4 bytes) ≡ r.fd = ap (cast_signed w32) fd ∙ to_z-of_z w32 r.fd fd_fits in
+    let spliced : cast_signed w32 (number_at 44 4 bytes) ≡ r.splice_fd_in = ap (cast_signed w32) splice_fd_in ∙ to_z-of_z w32 r.splice_fd_in splice_fits in
+    rw (opcode, signed, off, addr, len, word, spliced) refl
 
 pub Reads-layout : (r : Row) (f u : ℕ) → InTypes r f u → Reads r f u (layout r f u)
 unfolding layout
@@ -100,11 +109,12 @@ Reads-layout r f u fits =
     let word = number_at-layout 28 4 r.word bytes (drop 32 bytes) refl fits.word in
     let user_data = number_at-layout 32 8 u bytes (drop 40 bytes) refl fits.user_data in
     let e2 = number_at-layout 2 2 0 bytes (drop 4 bytes) refl (lit< tt) in
-    let e40 = number_at-layout 40 8 0 bytes (drop 48 bytes) refl (lit< tt) in
+    let e40 = number_at-layout 40 4 0 bytes (drop 44 bytes) refl (lit< tt) in
+    let splice_fd_in = number_at-layout 44 4 (cast_unsigned w32 r.splice_fd_in) bytes (drop 48 bytes) refl (cast_unsigned-lt r.splice_fd_in fits.splice_fd_in) in
     let e48 = number_at-layout 48 8 0 bytes (drop 56 bytes) refl (lit< tt) in
     let e56 = number_at-layout 56 8 0 bytes [] refl (lit< tt) in
     record {
-      row = row_at-is bytes r fits.fd refl fd off addr len word;
+      row = row_at-is bytes r fits.fd fits.splice_fd_in refl fd off addr len word splice_fd_in;
       flags = refl;
       user_data = user_data;
       plain = rw (e2, e40, e48, e56) refl;

@@ -7,7 +7,7 @@ use borrow.Author.Tests.{ltb-true}
 use Rattle.std.proofs.lemmas.Bool.{false≢true}
 use Rattle.std.proofs.lemmas.Nat.{and_le_r}
 use Rattle.entry.specs.declared.op.Op.{Op}
-use Rattle.entry.specs.declared.op.Op.TheVariants.{Nop, PollAdd, Timeout, TimeoutRemove, AsyncCancel, LinkTimeout, Close, Read, Write, Invalid}
+use Rattle.entry.specs.declared.op.Op.TheVariants.{Nop, PollAdd, Timeout, TimeoutRemove, AsyncCancel, LinkTimeout, Close, Read, Write, Splice, Invalid}
 use Rattle.entry.specs.declared.op.Offset.{Offset}
 use Rattle.entry.specs.declared.op.Offset.TheVariants.{Zero, Current}
 use Rattle.entry.specs.declared.row.Row.{Row}
@@ -42,9 +42,13 @@ fits-of : (f u : ℕ) (op : Op) → IsTrue (fits_op op) → bit_and f (allowed_f
 fits-of f u op ok flags user_data = both ok (both (eq-eqb _ _ flags) (lt-ltb u 18446744073709551616 user_data))
 
 within : (r : Row) (f u m : ℕ) → r.opcode < 2 ^ 8 → FitsSigned w32 r.fd → r.off < 2 ^ 64 → r.addr < 2 ^ 64 → r.len < 2 ^ 32 → r.word < 2 ^ 32
-    → bit_and f m ≡ f → m ≤ 14 → u < 2 ^ 64 → InTypes r f u
-within r f u m opcode fd off addr len word flags small user_data =
-    record { opcode = opcode; fd = fd; off = off; addr = addr; len = len; word = word; flags = omega (arith, and_le_r f m); user_data = user_data }
+    → FitsSigned w32 r.splice_fd_in → bit_and f m ≡ f → m ≤ 14 → u < 2 ^ 64 → InTypes r f u
+within r f u m opcode fd off addr len word splice_fd_in flags small user_data =
+    record { opcode = opcode; fd = fd; off = off; addr = addr; len = len; word = word; splice_fd_in = splice_fd_in; flags = omega (arith, and_le_r f m); user_data = user_data }
+
+-- 0 is a signed number of 32 bits
+zero_fits : FitsSigned w32 (pos 0)
+zero_fits = is_i32-fits (pos 0) refl
 
 place-lt : (o : Offset) → place o < 2 ^ 64
 place-lt Zero = lit< tt
@@ -56,33 +60,40 @@ etime_word-lt false = lit< tt
 
 InTypes-op : (op : Op) (f u : ℕ) → IsTrue (fits_op op) → bit_and f (allowed_flags op) ≡ f → u < 2 ^ 64 → InTypes (row op) f u
 InTypes-op Nop f u ok flags ud =
-    within (row Nop) f u 14 (lit< tt) (is_i32-fits no_fd refl) (lit< tt) (lit< tt) (lit< tt) (lit< tt) flags (lit≤ tt) ud
+    within (row Nop) f u 14 (lit< tt) (is_i32-fits no_fd refl) (lit< tt) (lit< tt) (lit< tt) (lit< tt) zero_fits flags (lit≤ tt) ud
 InTypes-op (PollAdd fd mask) f u ok flags ud =
     let parts = both_true (is_i32 fd) (bit_and mask 29 == mask) ok in
     let small : mask < 2 ^ 32 = omega (arith, eqb-true _ _ parts.1, and_le_r mask 29) in
-    within (row (PollAdd fd mask)) f u 14 (lit< tt) (is_i32-fits fd parts.0) (lit< tt) (lit< tt) (lit< tt) small flags (lit≤ tt) ud
-InTypes-op (Timeout ticks success) f u ok flags ud =
-    let small : ticks < 2 ^ 64 = omega (arith, ltb-true ticks _ ok) in
-    within (row (Timeout ticks success)) f u 14 (lit< tt) (is_i32-fits no_fd refl) (lit< tt) small (lit< tt) (etime_word-lt success) flags (lit≤ tt) ud
+    within (row (PollAdd fd mask)) f u 14 (lit< tt) (is_i32-fits fd parts.0) (lit< tt) (lit< tt) (lit< tt) small zero_fits flags (lit≤ tt) ud
+InTypes-op (Timeout ticks success count) f u ok flags ud =
+    let parts = both_true (nat_lt count 1024) (nat_lt ticks 2147483648) ok in
+    let small : ticks < 2 ^ 64 = omega (arith, ltb-true ticks _ parts.1) in
+    let few : count < 2 ^ 64 = omega (arith, ltb-true count _ parts.0) in
+    within (row (Timeout ticks success count)) f u 14 (lit< tt) (is_i32-fits no_fd refl) few small (lit< tt) (etime_word-lt success) zero_fits flags (lit≤ tt) ud
 InTypes-op (TimeoutRemove target) f u ok flags ud =
-    within (row (TimeoutRemove target)) f u 14 (lit< tt) (is_i32-fits no_fd refl) (lit< tt) (is_u64-lt target ok) (lit< tt) (lit< tt) flags (lit≤ tt) ud
+    within (row (TimeoutRemove target)) f u 14 (lit< tt) (is_i32-fits no_fd refl) (lit< tt) (is_u64-lt target ok) (lit< tt) (lit< tt) zero_fits flags (lit≤ tt) ud
 InTypes-op (AsyncCancel target) f u ok flags ud =
-    within (row (AsyncCancel target)) f u 14 (lit< tt) (is_i32-fits no_fd refl) (lit< tt) (is_u64-lt target ok) (lit< tt) (lit< tt) flags (lit≤ tt) ud
+    within (row (AsyncCancel target)) f u 14 (lit< tt) (is_i32-fits no_fd refl) (lit< tt) (is_u64-lt target ok) (lit< tt) (lit< tt) zero_fits flags (lit≤ tt) ud
 InTypes-op (LinkTimeout ticks) f u ok flags ud =
     let small : ticks < 2 ^ 64 = omega (arith, ltb-true ticks _ ok) in
-    within (row (LinkTimeout ticks)) f u 12 (lit< tt) (is_i32-fits no_fd refl) (lit< tt) small (lit< tt) (lit< tt) flags (lit≤ tt) ud
+    within (row (LinkTimeout ticks)) f u 12 (lit< tt) (is_i32-fits no_fd refl) (lit< tt) small (lit< tt) (lit< tt) zero_fits flags (lit≤ tt) ud
 InTypes-op (Close fd) f u ok flags ud =
-    within (row (Close fd)) f u 14 (lit< tt) (is_i32-fits fd ok) (lit< tt) (lit< tt) (lit< tt) (lit< tt) flags (lit≤ tt) ud
+    within (row (Close fd)) f u 14 (lit< tt) (is_i32-fits fd ok) (lit< tt) (lit< tt) (lit< tt) (lit< tt) zero_fits flags (lit≤ tt) ud
 InTypes-op (Read fd offset len) f u ok flags ud =
     let parts = both_true (is_i32 fd) (nat_lt len 2147483648) ok in
     let small : len < 2 ^ 32 = omega (arith, ltb-true len _ parts.1) in
-    within (row (Read fd offset len)) f u 14 (lit< tt) (is_i32-fits fd parts.0) (place-lt offset) (lit< tt) small (lit< tt) flags (lit≤ tt) ud
+    within (row (Read fd offset len)) f u 14 (lit< tt) (is_i32-fits fd parts.0) (place-lt offset) (lit< tt) small (lit< tt) zero_fits flags (lit≤ tt) ud
 InTypes-op (Write fd offset len) f u ok flags ud =
     let parts = both_true (is_i32 fd) (nat_lt len 2147483648) ok in
     let small : len < 2 ^ 32 = omega (arith, ltb-true len _ parts.1) in
-    within (row (Write fd offset len)) f u 14 (lit< tt) (is_i32-fits fd parts.0) (place-lt offset) (lit< tt) small (lit< tt) flags (lit≤ tt) ud
+    within (row (Write fd offset len)) f u 14 (lit< tt) (is_i32-fits fd parts.0) (place-lt offset) (lit< tt) small (lit< tt) zero_fits flags (lit≤ tt) ud
+InTypes-op (Splice fd_in fd_out len) f u ok flags ud =
+    let parts = both_true (is_i32 fd_in) (is_i32 fd_out && nat_lt len 2147483648) ok in
+    let more = both_true (is_i32 fd_out) (nat_lt len 2147483648) parts.1 in
+    let small : len < 2 ^ 32 = omega (arith, ltb-true len _ more.1) in
+    within (row (Splice fd_in fd_out len)) f u 14 (lit< tt) (is_i32-fits fd_out more.0) (lit< tt) (lit< tt) small (lit< tt) (is_i32-fits fd_in parts.0) flags (lit≤ tt) ud
 InTypes-op Invalid f u ok flags ud =
-    within (row Invalid) f u 12 (lit< tt) (is_i32-fits (pos 0) refl) (lit< tt) (lit< tt) (lit< tt) (lit< tt) flags (lit≤ tt) ud
+    within (row Invalid) f u 12 (lit< tt) zero_fits (lit< tt) (lit< tt) (lit< tt) (lit< tt) zero_fits flags (lit≤ tt) ud
 
 -- what an entry's row has fits its fields
 pub InTypes-fits : (e : Entry) → IsTrue (fits e) → InTypes (row e.op) e.flags e.user_data
@@ -138,7 +149,7 @@ pub Says-plain : (bytes : List ℕ) (r : Row) (u : ℕ) (e : Entry) → length b
     → r ≡ row_at bytes → u ≡ number_at 32 8 bytes → Says (layout r (slice_index bytes 1) u) e → Says bytes e
 Says-plain bytes r u e len are plain row user_data says =
     let one = both_true (number_at 2 2 bytes == 0) _ plain in
-    let two = both_true (number_at 40 8 bytes == 0) _ one.1 in
+    let two = both_true (number_at 40 4 bytes == 0) _ one.1 in
     let three = both_true (number_at 48 8 bytes == 0) _ two.1 in
     let whole = layout-row_at bytes len are (eqb-true _ _ one.0) (eqb-true _ _ two.0) (eqb-true _ _ three.0) (eqb-true _ _ three.1) in
     let same : layout r (slice_index bytes 1) u ≡ bytes =

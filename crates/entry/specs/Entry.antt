@@ -1,7 +1,7 @@
 -- What a submission queue entry says, which of its flags matter, and which replies are failures.
 use Rattle.std.specs.Prelude.{◌==◌, ◌&&◌, ◌||◌, not, nat_lt, ℕ, ℤ, pos, negsuc, Bool, true, false, bit_and}
 use Rattle.entry.specs.declared.op.Op.{Op}
-use Rattle.entry.specs.declared.op.Op.TheVariants.{Timeout, LinkTimeout, Read, Write}
+use Rattle.entry.specs.declared.op.Op.TheVariants.{Timeout, LinkTimeout, Read, Write, Splice}
 
 -- what contracts see of an entry: its user_data, the bits of its flags byte, and its operation
 pub record Entry : Type 0 where
@@ -41,9 +41,10 @@ is_etime (negsuc n) = n == 61
 
 abbrev pub fails_op : Op → ℤ → Bool
 fails_op (LinkTimeout ticks) res = false
-fails_op (Timeout ticks etime_success) res = is_negative res && not (etime_success && is_etime res)
+fails_op (Timeout ticks etime_success count) res = is_negative res && not (etime_success && is_etime res)
 fails_op (Read fd offset len) res = falls_short res len
 fails_op (Write fd offset len) res = falls_short res len
+fails_op (Splice fd_in fd_out len) res = falls_short res len
 fails_op _ res = is_negative res
 
 -- the reply is a failure, which a soft link doesn't survive: an error, or a transfer of fewer bytes than asked.

@@ -23,7 +23,7 @@ layout r flags user_data = concat (
     ∷ little_bytes 8 user_data
     ∷ little_bytes 2 0
     ∷ little_bytes 2 0
-    ∷ little_bytes 4 0
+    ∷ little_bytes 4 (cast_unsigned w32 r.splice_fd_in)
     ∷ little_bytes 16 0
     ∷ [])
 
@@ -48,12 +48,13 @@ row_at bytes = record {
   addr = number_at 16 8 bytes;
   len = number_at 24 4 bytes;
   word = number_at 28 4 bytes;
+  splice_fd_in = cast_signed w32 (number_at 44 4 bytes);
 }
 
--- the fields that are zero in every row are zero
+-- the fields that no row uses are zero: ioprio, buf_index, personality, and the last 16 bytes
 abbrev pub is_plain : List ℕ → Bool
 is_plain bytes =
-    (number_at 2 2 bytes == 0) && ((number_at 40 8 bytes == 0) && ((number_at 48 8 bytes == 0) && (number_at 56 8 bytes == 0)))
+    (number_at 2 2 bytes == 0) && ((number_at 40 4 bytes == 0) && ((number_at 48 8 bytes == 0) && (number_at 56 8 bytes == 0)))
 
 -- the bytes are those of this entry, which is one of a row with values that the row allows
 pub record IsRow (bytes : List ℕ) (e : Entry) : Type 0 where

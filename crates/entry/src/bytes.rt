@@ -20,15 +20,16 @@ fn row_at(bytes: &[u8; 64]) -> Row
         addr: u64_at(bytes, 16),
         len: u32_at(bytes, 24),
         word: u32_at(bytes, 28),
+        splice_fd_in: i32_at(bytes, 44),
     }
 }
 
-/// Whether all fields that no row uses are zero: ioprio, buf_index with personality and splice_fd_in, and the last 16 bytes.
+/// Whether all fields that no row uses are zero: ioprio, buf_index with personality, and the last 16 bytes.
 fn is_plain(bytes: &[u8; 64]) -> bool
     ensures { result ≡ is_plain bytes.now }
 {
     u16_at(bytes, 2) == 0
-        && u64_at(bytes, 40) == 0
+        && u32_at(bytes, 40) == 0
         && u64_at(bytes, 48) == 0
         && u64_at(bytes, 56) == 0
 }
@@ -46,6 +47,7 @@ fn layout(row: &Row, flags: u8, user_data: u64) -> [u8; 64]
     put_u32(&mut bytes, 24, row.len);
     put_u32(&mut bytes, 28, row.word);
     put_u64(&mut bytes, 32, user_data);
+    put_i32(&mut bytes, 44, row.splice_fd_in);
     bytes
 }
 

@@ -15,21 +15,51 @@ pub enum Op {
     /// Does nothing, and replies 0.
     Nop,
     /// Waits until an end of a pipe is ready for one of the events of `mask` (bits 1, 4, 8 and 16 of poll(2)).
-    PollAdd { fd: i32, mask: u32 },
-    /// Replies -62 (ETIME) once `ticks` have passed since it was armed. With `etime_success` that is no failure.
-    Timeout { ticks: u32, etime_success: bool },
+    PollAdd {
+        fd: i32,
+        mask: u32,
+    },
+    /// Replies -62 (ETIME) once `ticks` have passed since it was armed. With `etime_success` that is no failure. Where `count`
+    /// isn't 0, it replies 0 once so many later requests of its ring have replied, if that comes first.
+    Timeout {
+        ticks: u32,
+        etime_success: bool,
+        count: u32,
+    },
     /// Cancels the TIMEOUT whose user_data is `user_data`.
-    TimeoutRemove { user_data: u64 },
+    TimeoutRemove {
+        user_data: u64,
+    },
     /// Cancels the request whose user_data is `user_data`, unless that is a LINK_TIMEOUT.
-    AsyncCancel { user_data: u64 },
+    AsyncCancel {
+        user_data: u64,
+    },
     /// Cancels the entry before it in its chain once `ticks` have passed since it was armed.
-    LinkTimeout { ticks: u32 },
+    LinkTimeout {
+        ticks: u32,
+    },
     /// Closes an end of a pipe.
-    Close { fd: i32 },
+    Close {
+        fd: i32,
+    },
     /// Reads at most `len` bytes from the read end of a pipe.
-    Read { fd: i32, offset: Offset, len: u32 },
+    Read {
+        fd: i32,
+        offset: Offset,
+        len: u32,
+    },
     /// Writes `len` bytes to the write end of a pipe.
-    Write { fd: i32, offset: Offset, len: u32 },
+    Write {
+        fd: i32,
+        offset: Offset,
+        len: u32,
+    },
+    /// Moves at most `len` bytes from the read end of one pipe to the write end of another.
+    Splice {
+        fd_in: i32,
+        fd_out: i32,
+        len: u32,
+    },
     /// An entry that is none of the profile's. It replies -22 (EINVAL).
     Invalid,
 }

@@ -15,10 +15,14 @@ pub struct Row {
     pub addr: u64,
     pub len: u32,
     pub word: u32,
+    pub splice_fd_in: i32,
 }
 
 /// The largest number of ticks, and the largest `len`.
 pub const LARGEST: u32 = 0x7fff_ffff;
+
+/// The most completions that a TIMEOUT may count.
+pub const MOST_COMPLETIONS: u32 = 1023;
 
 /// The events that a POLL_ADD may ask for: POLLIN, POLLOUT, POLLERR and POLLHUP of poll(2).
 pub const POLL_EVENTS: u32 = 1 | 4 | 8 | 16;
@@ -30,7 +34,7 @@ const ETIME_SUCCESS: u32 = 32;
 const INVALID: u8 = 255;
 
 macro_rules! row_of {
-    (($op:expr) $($text:literal $name:ident { $($field:ident),* } = $code:literal: [$($fd:tt)*] [$($off:tt)*] [$($addr:tt)*] [$($len:tt)*] [$($word:tt)*] $flags:tt $fails:tt;)*) => {
+    (($op:expr) $($text:literal $name:ident { $($field:ident),* } = $code:literal: [$($fd:tt)*] [$($off:tt)*] [$($addr:tt)*] [$($len:tt)*] [$($word:tt)*] [$($splice_fd_in:tt)*] $flags:tt $fails:tt;)*) => {
         match $op {
             $(Op::$name { $($field),* } => Row {
                 opcode: $code,
@@ -39,8 +43,9 @@ macro_rules! row_of {
                 addr: column_of!($($addr)*),
                 len: column_of!($($len)*),
                 word: column_of!($($word)*),
+                splice_fd_in: column_of!($($splice_fd_in)*),
             },)*
-            Op::Invalid => Row { opcode: INVALID, fd: 0, off: 0, addr: 0, len: 0, word: 0 },
+            Op::Invalid => Row { opcode: INVALID, fd: 0, off: 0, addr: 0, len: 0, word: 0, splice_fd_in: 0 },
         }
     };
 }
@@ -49,14 +54,16 @@ macro_rules! column_of {
     (none) => { -1 };
     (zero) => { 0 };
     (one) => { 1 };
+    (current) => { u64::MAX };
     (place $offset:ident) => { $offset.number() };
     (ticks $ticks:ident) => { u64::from($ticks) };
+    (completions $count:ident) => { u64::from($count) };
     (etime $success:ident) => { if $success { ETIME_SUCCESS } else { 0 } };
     ($kind:ident $field:ident) => { $field };
 }
 
 macro_rules! op_at {
-    (($row:expr) $($text:literal $name:ident { $($field:ident),* } = $code:literal: [$($fd:tt)*] [$($off:tt)*] [$($addr:tt)*] [$($len:tt)*] [$($word:tt)*] $flags:tt $fails:tt;)*) => {
+    (($row:expr) $($text:literal $name:ident { $($field:ident),* } = $code:literal: [$($fd:tt)*] [$($off:tt)*] [$($addr:tt)*] [$($len:tt)*] [$($word:tt)*] [$($splice_fd_in:tt)*] $flags:tt $fails:tt;)*) => {
         match $row.opcode {
             $($code => {
                 field_at!($row.fd, $($fd)*);
@@ -64,6 +71,7 @@ macro_rules! op_at {
                 field_at!($row.addr, $($addr)*);
                 field_at!($row.len, $($len)*);
                 field_at!($row.word, $($word)*);
+                field_at!($row.splice_fd_in, $($splice_fd_in)*);
                 Op::$name { $($field),* }
             })*
             _ => Op::Invalid,
@@ -75,14 +83,15 @@ macro_rules! field_at {
     ($from:expr, $fixed:ident) => {};
     ($from:expr, place $offset:ident) => { let $offset = if $from == 0 { Offset::Zero } else { Offset::Current }; };
     ($from:expr, ticks $ticks:ident) => { let $ticks = ($from % 0x8000_0000) as u32; };
+    ($from:expr, completions $count:ident) => { let $count = ($from % 0x400) as u32; };
     ($from:expr, etime $success:ident) => { let $success = $from != 0; };
     ($from:expr, $kind:ident $field:ident) => { let $field = $from; };
 }
 
 macro_rules! fits_row {
-    (($op:expr) $($text:literal $name:ident { $($field:ident),* } = $code:literal: [$($fd:tt)*] [$($off:tt)*] [$($addr:tt)*] [$($len:tt)*] [$($word:tt)*] $flags:tt $fails:tt;)*) => {
+    (($op:expr) $($text:literal $name:ident { $($field:ident),* } = $code:literal: [$($fd:tt)*] [$($off:tt)*] [$($addr:tt)*] [$($len:tt)*] [$($word:tt)*] $splice_fd_in:tt $flags:tt $fails:tt;)*) => {
         match $op {
-            $(Op::$name { $($field),* } => fits_column!($($addr)*) && fits_column!($($len)*) && fits_column!($($word)*),)*
+            $(Op::$name { $($field),* } => fits_column!($($off)*) && fits_column!($($addr)*) && fits_column!($($len)*) && fits_column!($($word)*),)*
             Op::Invalid => true,
         }
     };
@@ -90,13 +99,14 @@ macro_rules! fits_row {
 
 macro_rules! fits_column {
     (ticks $ticks:ident) => { $ticks <= LARGEST };
+    (completions $count:ident) => { $count <= MOST_COMPLETIONS };
     (count $len:ident) => { $len <= LARGEST };
     (mask $mask:ident) => { $mask & POLL_EVENTS == $mask };
     ($($other:tt)*) => { true };
 }
 
 macro_rules! flags_of {
-    (($op:expr) $($text:literal $name:ident { $($field:ident),* } = $code:literal: $fd:tt $off:tt $addr:tt $len:tt $word:tt [$flags:ident] $fails:tt;)*) => {
+    (($op:expr) $($text:literal $name:ident { $($field:ident),* } = $code:literal: $fd:tt $off:tt $addr:tt $len:tt $word:tt $splice_fd_in:tt [$flags:ident] $fails:tt;)*) => {
         match $op {
             $(Op::$name { .. } => flags_column!($flags),)*
             Op::Invalid => flags_column!(no_drain),

@@ -21,7 +21,7 @@ impl fmt::Display for Offset {
 }
 
 macro_rules! shown {
-    (($op:expr, $f:expr) $($text:literal $name:ident { $($field:ident),* } = $code:literal: $fd:tt $off:tt $addr:tt $len:tt $word:tt $flags:tt $fails:tt;)*) => {
+    (($op:expr, $f:expr) $($text:literal $name:ident { $($field:ident),* } = $code:literal: $fd:tt $off:tt $addr:tt $len:tt $word:tt $splice_fd_in:tt $flags:tt $fails:tt;)*) => {
         match $op {
             $(Op::$name { $($field),* } => write!($f, $text),)*
             Op::Invalid => write!($f, "INVALID"),

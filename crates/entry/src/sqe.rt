@@ -35,7 +35,7 @@ impl Model for Sqe {
 }
 
 macro_rules! is_failure {
-    (($op:expr, $res:expr) $($text:literal $name:ident { $($field:ident),* } = $code:literal: $fd:tt $off:tt $addr:tt $len:tt $word:tt $flags:tt [$($fails:tt)*];)*) => {
+    (($op:expr, $res:expr) $($text:literal $name:ident { $($field:ident),* } = $code:literal: $fd:tt $off:tt $addr:tt $len:tt $word:tt $splice_fd_in:tt $flags:tt [$($fails:tt)*];)*) => {
         match $op {
             $(Op::$name { $($field),* } => fails_column!($res, $($fails)*),)*
             Op::Invalid => fails_column!($res, negative),

@@ -3,7 +3,7 @@
 /// The table of opcodes, a line a row. `by_opcode!(body!(args))` is `body! { (args) row; row; .. }` over all rows, and
 /// `by_opcode!(Read: body!(args))` is `body! { (args) row; }` over the row of READ. A row is
 ///
-/// `"text" Variant { fields } = opcode: [fd] [off] [addr] [len] [flags word] [flags] [fails];`
+/// `"text" Variant { fields } = opcode: [fd] [off] [addr] [len] [flags word] [splice_fd_in] [flags] [fails];`
 ///
 /// where the text is a format of the fields, and a column says what stands there: one value, or a word for the kind of value
 /// and the field of `Op` that has it.
@@ -22,35 +22,38 @@ macro_rules! by_opcode {
     };
 
     (@row Nop [$($then:tt)*]) => {
-        $crate::by_opcode!($($then)* { "NOP" Nop {} = 0: [none] [zero] [zero] [zero] [zero] [drain] [negative] } (plain nothing))
+        $crate::by_opcode!($($then)* { "NOP" Nop {} = 0: [none] [zero] [zero] [zero] [zero] [zero] [drain] [negative] } (plain nothing))
     };
     (@row PollAdd [$($then:tt)*]) => {
-        $crate::by_opcode!($($then)* { "POLL_ADD fd {fd} mask {mask}" PollAdd { fd, mask } = 6: [any fd] [zero] [zero] [zero] [mask mask] [drain] [negative] } (pipe poll fd mask))
+        $crate::by_opcode!($($then)* { "POLL_ADD fd {fd} mask {mask}" PollAdd { fd, mask } = 6: [any fd] [zero] [zero] [zero] [mask mask] [zero] [drain] [negative] } (pipe poll fd mask))
     };
     (@row Timeout [$($then:tt)*]) => {
-        $crate::by_opcode!($($then)* { "TIMEOUT ticks {ticks} etime-ok {etime_success}" Timeout { ticks, etime_success } = 11: [none] [zero] [ticks ticks] [one] [etime etime_success] [drain] [unless_etime etime_success] } (timer alone ticks))
+        $crate::by_opcode!($($then)* { "TIMEOUT ticks {ticks} count {count} etime-ok {etime_success}" Timeout { ticks, etime_success, count } = 11: [none] [completions count] [ticks ticks] [one] [etime etime_success] [zero] [drain] [unless_etime etime_success] } (timer alone ticks))
     };
     (@row TimeoutRemove [$($then:tt)*]) => {
-        $crate::by_opcode!($($then)* { "TIMEOUT_REMOVE target {user_data}" TimeoutRemove { user_data } = 12: [none] [zero] [target user_data] [zero] [zero] [drain] [negative] } (cancel timer user_data))
+        $crate::by_opcode!($($then)* { "TIMEOUT_REMOVE target {user_data}" TimeoutRemove { user_data } = 12: [none] [zero] [target user_data] [zero] [zero] [zero] [drain] [negative] } (cancel timer user_data))
     };
     (@row AsyncCancel [$($then:tt)*]) => {
-        $crate::by_opcode!($($then)* { "ASYNC_CANCEL target {user_data}" AsyncCancel { user_data } = 14: [none] [zero] [target user_data] [zero] [zero] [drain] [negative] } (cancel any user_data))
+        $crate::by_opcode!($($then)* { "ASYNC_CANCEL target {user_data}" AsyncCancel { user_data } = 14: [none] [zero] [target user_data] [zero] [zero] [zero] [drain] [negative] } (cancel any user_data))
     };
     (@row LinkTimeout [$($then:tt)*]) => {
-        $crate::by_opcode!($($then)* { "LINK_TIMEOUT ticks {ticks}" LinkTimeout { ticks } = 15: [none] [zero] [ticks ticks] [one] [zero] [no_drain] [never] } (timer linked ticks))
+        $crate::by_opcode!($($then)* { "LINK_TIMEOUT ticks {ticks}" LinkTimeout { ticks } = 15: [none] [zero] [ticks ticks] [one] [zero] [zero] [no_drain] [never] } (timer linked ticks))
     };
     (@row Close [$($then:tt)*]) => {
-        $crate::by_opcode!($($then)* { "CLOSE fd {fd}" Close { fd } = 19: [any fd] [zero] [zero] [zero] [zero] [drain] [negative] } (pipe close fd))
+        $crate::by_opcode!($($then)* { "CLOSE fd {fd}" Close { fd } = 19: [any fd] [zero] [zero] [zero] [zero] [zero] [drain] [negative] } (pipe close fd))
     };
     (@row Read [$($then:tt)*]) => {
-        $crate::by_opcode!($($then)* { "READ fd {fd}{offset} len {len}" Read { fd, offset, len } = 22: [any fd] [place offset] [zero] [count len] [zero] [drain] [short len] } (pipe read fd len))
+        $crate::by_opcode!($($then)* { "READ fd {fd}{offset} len {len}" Read { fd, offset, len } = 22: [any fd] [place offset] [zero] [count len] [zero] [zero] [drain] [short len] } (pipe read fd len))
     };
     (@row Write [$($then:tt)*]) => {
-        $crate::by_opcode!($($then)* { "WRITE fd {fd}{offset} len {len}" Write { fd, offset, len } = 23: [any fd] [place offset] [zero] [count len] [zero] [drain] [short len] } (pipe write fd len))
+        $crate::by_opcode!($($then)* { "WRITE fd {fd}{offset} len {len}" Write { fd, offset, len } = 23: [any fd] [place offset] [zero] [count len] [zero] [zero] [drain] [short len] } (pipe write fd len))
+    };
+    (@row Splice [$($then:tt)*]) => {
+        $crate::by_opcode!($($then)* { "SPLICE fd-in {fd_in} fd-out {fd_out} len {len}" Splice { fd_in, fd_out, len } = 30: [any fd_out] [current] [current] [count len] [zero] [any fd_in] [drain] [short len] } (pipe splice fd_in fd_out len))
     };
 
     (@over $walk:tt $($then:tt)*) => {
-        $crate::by_opcode!(@$walk [Nop PollAdd Timeout TimeoutRemove AsyncCancel LinkTimeout Close Read Write] $($then)*)
+        $crate::by_opcode!(@$walk [Nop PollAdd Timeout TimeoutRemove AsyncCancel LinkTimeout Close Read Write Splice] $($then)*)
     };
 
     (@all [$($rest:ident)*] [$($rows:tt)*] $body:ident ($($args:tt)*) { $($row:tt)* } $work:tt) => {

@@ -21,6 +21,7 @@ fn entry_of(opcode: u8, fd: i32, addr: u64, len: u32, flags: u8) -> Sqe {
         addr,
         len,
         word: 0,
+        splice_fd_in: 0,
     };
     Sqe::of_row(columns, flags, 0)
 }

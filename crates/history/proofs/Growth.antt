@@ -3,7 +3,7 @@ use Rattle.std.proofs.Common.{◌≡◌, ℕ, ◌<◌, ◌≤◌, Bool, true, fa
 use Rattle.entry.specs.Entry.{Entry}
 use Rattle.history.specs.declared.req.Req.{Req}
 use Rattle.history.specs.declared.event.Event.{Event}
-use Rattle.history.specs.declared.event.Event.TheVariants.{Submit, Begin, Park, Reply, Take, Miss, Tick, Arm, Expire, Fire, FireMiss, Settle, Sever, Reap, Shut, Cut}
+use Rattle.history.specs.declared.event.Event.TheVariants.{Submit, Begin, Park, Reply, Take, Miss, Tick, Arm, Expire, Count, Fire, FireMiss, Settle, Sever, Reap, Shut, Cut}
 use Rattle.history.specs.History.{Cause, Phase, unborn, waits, runs, armed, replied, reaped, Submission, same, concerns, becomes, phase, reply_in, reply, IsReplied, IsPending, IsIdle, submission, adds_to, submits}
 use Rattle.history.specs.Legal.{Setup, MayCome, Legal}
 use Rattle.history.proofs.Requests.{bool_cases, same_true}
@@ -26,6 +26,7 @@ MayChange runs (Reply r res data') = Unit {0}
 MayChange runs (Cut r) = Unit {0}
 MayChange (armed d) (Take c t) = Unit {0}
 MayChange (armed d) (Expire r) = Unit {0}
+MayChange (armed d) (Count r) = Unit {0}
 MayChange (armed d) (Fire l t) = Unit {0}
 MayChange (armed d) (Settle l) = Unit {0}
 MayChange (armed d) (Cut r) = Unit {0}
@@ -77,6 +78,7 @@ module _ (s : Setup) where
   changes (Tick m) h q n a w = absurd (true≢false (sym w))
   changes (Arm r d) h q n a w = let x = at_request h r q waits w a.0 in rw x tt
   changes (Expire r) h q n a w = let x = at_request h r q (armed a.0.0) w a.0.1 in rw x tt
+  changes (Count r) h q n a w = let x = at_request h r q (armed a.is_armed.0) w a.is_armed.1 in rw x tt
   changes (Fire l t) h q n a w = subst (λ (z : Req). MayChange (phase h z) (Fire l t)) (same_true t q w) (idle_fires l t (phase h t) a.3)
   changes (FireMiss l t) h q n a w = absurd (true≢false (sym w))
   changes (Settle l) h q n a w = let x = at_request h l q (armed a.0.0) w a.0.1 in rw x tt

@@ -2,6 +2,7 @@ pub mod Apart
 pub mod Alike
 pub mod Contents
 pub mod Growth
+pub mod LaterReplies
 pub mod Opening
 pub mod Requests
 pub mod Futures

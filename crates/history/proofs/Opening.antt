@@ -3,7 +3,7 @@ use Rattle.std.proofs.Common.{◌≡◌, ℕ, ◌-◌, ◌<◌, ◌≤◌, ◌==
 use Rattle.std.proofs.lemmas.Bool.{cases_lt}
 use Rattle.history.specs.declared.req.Req.{Req}
 use Rattle.history.specs.declared.event.Event.{Event}
-use Rattle.history.specs.declared.event.Event.TheVariants.{Submit, Begin, Park, Reply, Take, Miss, Tick, Arm, Expire, Fire, FireMiss, Settle, Sever, Reap, Shut, Cut}
+use Rattle.history.specs.declared.event.Event.TheVariants.{Submit, Begin, Park, Reply, Take, Miss, Tick, Arm, Expire, Count, Fire, FireMiss, Settle, Sever, Reap, Shut, Cut}
 use Rattle.history.specs.History.{Phase, Cause, unborn, waits, runs, replied, reaped, after_reap, becomes, concerns, submission, submits, phase, IsReplied}
 use Rattle.history.specs.Chains.{joins, previous, before_in, placed_from, placed, IsBefore, IsChainBefore, IsChained, IsChainDone, Severed, IsClear, is_link_timeout_in, gate_of, Open}
 use Rattle.history.specs.Legal.{Setup, MayCome, Legal}
@@ -124,6 +124,7 @@ begun_open s (Reply z res data') h r l a w is = no_run _ is (λ u. cc)
 begun_open s (Take c t) h r l a w is = no_run _ is (λ u. cc)
 begun_open s (Arm z d) h r l a w is = no_run _ is (λ u. cc)
 begun_open s (Expire z) h r l a w is = no_run _ is (λ u. cc)
+begun_open s (Count z) h r l a w is = no_run _ is (λ u. cc)
 begun_open s (Fire t c) h r l a w is = no_run _ is (λ u. cc)
 begun_open s (Settle z) h r l a w is = no_run _ is (λ u. cc)
 begun_open s (Sever z) h r l a w is = no_run _ is (λ u. cc)

@@ -2,7 +2,7 @@
 use Rattle.std.proofs.Common.{◌≡◌, true, false, cond, List, [], ◌∷◌, refl, sym, ap, ◌∙◌, ⊎_elim, true≢false}
 use Rattle.history.specs.declared.req.Req.{Req}
 use Rattle.history.specs.declared.event.Event.{Event}
-use Rattle.history.specs.declared.event.Event.TheVariants.{Submit, Begin, Park, Reply, Take, Miss, Tick, Arm, Expire, Fire, FireMiss, Settle, Sever, Reap, Shut, Cut}
+use Rattle.history.specs.declared.event.Event.TheVariants.{Submit, Begin, Park, Reply, Take, Miss, Tick, Arm, Expire, Count, Fire, FireMiss, Settle, Sever, Reap, Shut, Cut}
 use Rattle.history.specs.History.{phase, IsReplied, data_in, answers, data_of}
 use Rattle.history.specs.Legal.{Setup, Legal}
 use Rattle.history.proofs.Requests.{bool_cases}
@@ -12,6 +12,7 @@ answers_replied : (h : List Event) (e : Event) (q : Req) → answers e q ≡ tru
 answers_replied h (Reply r res bs) q w = rw w tt
 answers_replied h (Take c t) q w = rw w tt
 answers_replied h (Expire r) q w = rw w tt
+answers_replied h (Count r) q w = rw w tt
 answers_replied h (Fire l t) q w = rw w tt
 answers_replied h (Settle l) q w = rw w tt
 answers_replied h (Sever r) q w = rw w tt

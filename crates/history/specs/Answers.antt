@@ -1,7 +1,7 @@
 -- The table of answers: what each operation replies, and when it has no answer yet.
 use Rattle.std.specs.Prelude.{◌≡◌, ℕ, ◌+◌, ◌-◌, ◌<◌, ◌==◌, ◌&&◌, not, nat_lt, nat_le, min, take, length, slice_index, bit_and, bit_or, Bool, true, false, cond, ℤ, pos, negsuc, List, []}
 use Rattle.entry.specs.declared.op.Op.{Op}
-use Rattle.entry.specs.declared.op.Op.TheVariants.{Nop, PollAdd, Timeout, TimeoutRemove, AsyncCancel, LinkTimeout, Close, Read, Write, Invalid}
+use Rattle.entry.specs.declared.op.Op.TheVariants.{Nop, PollAdd, Timeout, TimeoutRemove, AsyncCancel, LinkTimeout, Close, Read, Write, Splice, Invalid}
 use Rattle.entry.specs.Entry.{Entry}
 use Rattle.history.specs.declared.req.Req.{Req}
 use Rattle.history.specs.declared.event.Event.{Event}
@@ -39,6 +39,18 @@ answer_write cap w len =
     (cond (nat_le len cap) (cond (nat_le len (free_in cap w)) (now (pos len) []) later)
     (cond (nat_lt 0 (free_in cap w)) (now (pos (free_in cap w)) []) later))))
 
+-- the most bytes that go over: those in the source, as far as there is room in the target
+abbrev pub most_spliced : ℕ → Flow → Flow → ℕ
+most_spliced cap source target = min (length (content source)) (free_in cap target)
+
+-- splice(2), with EPIPE (-32) where nobody can read what goes in; 0 at the end of the file; an empty source that is open to writers, or a full target, gives no answer. The order of the cases is this profile
+abbrev pub answer_splice : ℕ → Flow → Flow → ℕ → Answer
+answer_splice cap source target len =
+    cond (len == 0) (now (pos 0) [])
+    (cond target.read_shut (now (negsuc 31) [])
+    (cond (nat_lt 0 (most_spliced cap source target)) (now (pos (min len (most_spliced cap source target))) [])
+    (cond ((length (content source) == 0) && source.write_shut) (now (pos 0) []) later)))
+
 -- the events of a read end: POLLIN (1) where there are bytes, POLLHUP (16) where nobody writes (poll(2))
 abbrev pub read_events : Flow → ℕ
 read_events w = cond (nat_lt 0 (length (content w))) 1 0 + cond w.write_shut 16 0
@@ -63,6 +75,14 @@ module _ (caps : List ℕ) (flow_at : ℕ → Flow) where
   abbrev pub write_to : End → ℕ → Answer
   write_to (write_end p) len = cond (is_pipe caps p) (answer_write (slice_index caps p) (flow_at p) len) bad_end
   write_to _ len = bad_end
+
+  -- from the pipe p: -22 where both ends are of one pipe (splice(2), EINVAL)
+  abbrev pub splice_into : ℕ → ℕ → ℕ → Answer
+  splice_into p q len = cond (is_pipe caps q && not (flow_at q).write_shut) (cond (p == q) (now (negsuc 21) []) (answer_splice (slice_index caps q) (flow_at p) (flow_at q) len)) bad_end
+
+  abbrev pub splice_of : End → End → ℕ → Answer
+  splice_of (read_end p) (write_end q) len = cond (is_pipe caps p && not (flow_at p).read_shut) (splice_into p q len) bad_end
+  splice_of _ _ len = bad_end
 
   -- close(2): 0 the first time
   abbrev pub close_of : End → Answer
@@ -106,11 +126,12 @@ OpAnswers caps h r Nop res data' = now (pos 0) [] ≡ now res data'
 OpAnswers caps h r Invalid res data' = now (negsuc 21) [] ≡ now res data'
 OpAnswers caps h r (Read fd offset len) res data' = read_from caps (flow h) (end_of fd) len ≡ now res data'
 OpAnswers caps h r (Write fd offset len) res data' = write_to caps (flow h) (end_of fd) len ≡ now res data'
+OpAnswers caps h r (Splice fd_in fd len) res data' = splice_of caps (flow h) (end_of fd_in) (end_of fd) len ≡ now res data'
 OpAnswers caps h r (Close fd) res data' = close_of caps (flow h) (end_of fd) ≡ now res data'
 OpAnswers caps h r (PollAdd fd mask) res data' = poll_of caps (flow h) (end_of fd) mask ≡ now res data'
 OpAnswers caps h r (AsyncCancel user_data) res data' = CancelAnswers h r (hit h r) res × (data' ≡ [])
 OpAnswers caps h r (TimeoutRemove user_data) res data' = CancelAnswers h r (hit h r) res × (data' ≡ [])
-OpAnswers caps h r (Timeout ticks etime_success) res data' = ⊥
+OpAnswers caps h r (Timeout ticks etime_success count) res data' = ⊥
 OpAnswers caps h r (LinkTimeout ticks) res data' = ⊥
 
 -- a worker may answer r with this reply and these data

@@ -12,7 +12,7 @@ is_link_timeout (LinkTimeout ticks) = true
 is_link_timeout _ = false
 
 abbrev pub is_timeout : Op → Bool
-is_timeout (Timeout ticks etime_success) = true
+is_timeout (Timeout ticks etime_success count) = true
 is_timeout _ = false
 
 -- the poller arms it: no worker runs it

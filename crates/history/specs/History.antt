@@ -1,15 +1,16 @@
 -- A history: the list of the events so far, the newest first. What became of a request is read off the whole list.
-use Rattle.std.specs.Prelude.{ℕ, ◌+◌, ◌==◌, ◌&&◌, Bool, true, false, cond, ℤ, negsuc, List, [], ◌∷◌, Option, Some, None}
+use Rattle.std.specs.Prelude.{ℕ, zero, suc, ◌+◌, ◌-◌, ◌==◌, ◌&&◌, Bool, true, false, cond, ℤ, pos, negsuc, List, [], ◌∷◌, Option, Some, None}
 use Rattle.entry.specs.Entry.{Entry}
 use Rattle.history.specs.declared.req.Req.{Req}
 use Rattle.history.specs.declared.event.Event.{Event}
-use Rattle.history.specs.declared.event.Event.TheVariants.{Submit, Begin, Park, Reply, Take, Miss, Tick, Arm, Expire, Fire, FireMiss, Settle, Sever, Reap, Shut, Cut}
+use Rattle.history.specs.declared.event.Event.TheVariants.{Submit, Begin, Park, Reply, Take, Miss, Tick, Arm, Expire, Count, Fire, FireMiss, Settle, Sever, Reap, Shut, Cut}
 
 -- which event answered a request
 pub data Cause : Type 0 where
   by_reply : Cause
   by_take : Cause
   by_expire : Cause
+  by_count : Cause
   by_fire : Cause
   by_settle : Cause
   by_sever : Cause
@@ -50,6 +51,7 @@ concerns (Miss c t) q = false
 concerns (Tick n) q = false
 concerns (Arm r d) q = same r q
 concerns (Expire r) q = same r q
+concerns (Count r) q = same r q
 concerns (Fire l t) q = same t q
 concerns (FireMiss l t) q = false
 concerns (Settle l) q = same l q
@@ -72,7 +74,7 @@ abbrev pub after_reap : Phase → Phase
 after_reap (replied c res) = reaped c res
 after_reap p = p
 
--- where the request of an event stands after it. The answers without a result of their own are -125 (ECANCELED) and -62 (ETIME)
+-- where the request of an event stands after it. The answers without a result of their own are -125 (ECANCELED), -62 (ETIME), and 0 of a TIMEOUT that counted
 abbrev pub becomes : List Event → Event → Phase → Phase
 becomes h (Submit r e bytes last) p = waits
 becomes h (Begin r) p = runs
@@ -81,6 +83,7 @@ becomes h (Reply r res data') p = replied by_reply res
 becomes h (Take c t) p = replied by_take (negsuc 124)
 becomes h (Arm r d) p = armed d
 becomes h (Expire r) p = replied by_expire (negsuc 61)
+becomes h (Count r) p = replied by_count (pos 0)
 becomes h (Fire l t) p = replied by_fire (negsuc 124)
 becomes h (Settle l) p = replied by_settle (cond (fired h l) (negsuc 61) (negsuc 124))
 becomes h (Sever r) p = replied by_sever (negsuc 124)
@@ -107,6 +110,11 @@ IsReplied (replied c res) = Unit {0}
 IsReplied (reaped c res) = Unit {0}
 IsReplied _ = ⊥
 
+abbrev pub is_replied : Phase → Bool
+is_replied (replied c res) = true
+is_replied (reaped c res) = true
+is_replied _ = false
+
 -- it was submitted, and has not been answered
 abbrev pub IsPending : Phase → Type 0
 IsPending waits = Unit {0}
@@ -130,6 +138,7 @@ abbrev pub answers : Event → Req → Bool
 answers (Reply r res data') q = same r q
 answers (Take c t) q = same t q
 answers (Expire r) q = same r q
+answers (Count r) q = same r q
 answers (Fire l t) q = same t q
 answers (Settle l) q = same l q
 answers (Sever r) q = same r q
@@ -183,3 +192,12 @@ shuts _ b = b
 abbrev pub was_shut : List Event → Bool
 was_shut [] = false
 was_shut (e ∷ h) = shuts e (was_shut h)
+
+-- how many of the n requests of the ring i from its k-th on have been answered
+abbrev pub replies_from : List Event → ℕ → ℕ → ℕ → ℕ
+replies_from h i k zero = 0
+replies_from h i k (suc n) = replies_from h i k n + cond (is_replied (phase h (record { ring = i; k = k + n }))) 1 0
+
+-- how many later requests of its ring have been answered
+abbrev pub later_replies : List Event → Req → ℕ
+later_replies h r = replies_from h r.ring (suc r.k) (submits h r.ring - suc r.k)

@@ -5,8 +5,8 @@ use Rattle.entry.specs.declared.op.Op.TheVariants.{Timeout, LinkTimeout, Read, W
 use Rattle.entry.specs.Entry.{Entry}
 use Rattle.history.specs.declared.req.Req.{Req}
 use Rattle.history.specs.declared.event.Event.{Event}
-use Rattle.history.specs.declared.event.Event.TheVariants.{Submit, Begin, Park, Reply, Take, Miss, Tick, Arm, Expire, Fire, FireMiss, Settle, Sever, Reap, Shut, Cut}
-use Rattle.history.specs.History.{Cause, phase, waits, runs, armed, replied, hit, nothing, fired, submits, clock_of, was_shut, IsReplied, IsPending, IsIdle}
+use Rattle.history.specs.declared.event.Event.TheVariants.{Submit, Begin, Park, Reply, Take, Miss, Tick, Arm, Expire, Count, Fire, FireMiss, Settle, Sever, Reap, Shut, Cut}
+use Rattle.history.specs.History.{Cause, phase, waits, runs, armed, replied, hit, nothing, fired, submits, clock_of, was_shut, later_replies, IsReplied, IsPending, IsIdle}
 use Rattle.history.specs.Chains.{Open, Severed, IsPlaced, IsLinkTimeout, IsTarget, is_timer, is_timeout}
 use Rattle.history.specs.Answers.{Answers, IsFirst}
 
@@ -27,13 +27,26 @@ Fits e bytes = FitsOp e.op (length bytes)
 
 -- the ticks of a timer
 abbrev pub ticks_of : Op → Option ℕ
-ticks_of (Timeout ticks etime_success) = Some ticks
+ticks_of (Timeout ticks etime_success count) = Some ticks
 ticks_of (LinkTimeout ticks) = Some ticks
 ticks_of _ = None
+
+-- after how many completions a TIMEOUT is answered (io_uring_prep_timeout(3)); 0 where it counts none
+abbrev pub count_of : Op → ℕ
+count_of (Timeout ticks etime_success count) = count
+count_of _ = 0
 
 -- the deadline of an armed timer is at or below the clock
 abbrev pub IsDue : List Event → Req → Type 0
 IsDue h r = (d : ℕ) × (phase h r ≡ armed d) × (d ≤ clock_of h)
+
+-- an armed TIMEOUT counts completions, and so many later requests of its ring have been answered. What is counted is this profile
+pub record IsCounted (h : List Event) (r : Req) : Type 0 where
+  pub is_armed : (d : ℕ) × (phase h r ≡ armed d)
+  pub entry : Entry
+  pub as_placed : IsPlaced h r entry
+  pub counts : 0 < count_of entry.op
+  pub enough : count_of entry.op ≤ later_replies h r
 
 -- the request was placed as one of these operations
 abbrev pub IsOf : List Event → Req → (Op → Bool) → Bool → Type 0
@@ -50,6 +63,7 @@ MayCome s h (Miss c t) = (phase h c ≡ runs) × (hit h c ≡ nothing) × IsFirs
 MayCome s h (Tick n) = (clock_of h ≤ n) × (n ≤ 2147483647)
 MayCome s h (Arm r d) = (phase h r ≡ waits) × Open h r × (e : Entry) × (n : ℕ) × IsPlaced h r e × (ticks_of e.op ≡ Some n) × (d ≡ clock_of h + n)
 MayCome s h (Expire r) = IsDue h r × IsOf h r is_timeout true
+MayCome s h (Count r) = IsCounted h r
 MayCome s h (Fire l t) = IsDue h l × (fired h l ≡ false) × IsTarget h l t × IsIdle (phase h t)
 MayCome s h (FireMiss l t) = IsDue h l × (fired h l ≡ false) × IsTarget h l t × (phase h t ≡ runs)
 MayCome s h (Settle l) = ((d : ℕ) × (phase h l ≡ armed d)) × IsLinkTimeout h l × ((fired h l ≡ true) ⊎ ((t : Req) × IsTarget h l t × IsReplied (phase h t)))

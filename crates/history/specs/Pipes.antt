@@ -1,7 +1,7 @@
 -- What is in a pipe and which of its ends are closed, as the history tells.
 use Rattle.std.specs.Prelude.{ℕ, ◌+◌, ◌/◌, ◌%◌, ◌==◌, ◌&&◌, ◌++◌, take, drop, Bool, true, false, cond, ℤ, pos, negsuc, List, [], ◌∷◌, Option, Some}
 use Rattle.entry.specs.declared.op.Op.{Op}
-use Rattle.entry.specs.declared.op.Op.TheVariants.{Close, Read, Write}
+use Rattle.entry.specs.declared.op.Op.TheVariants.{Close, Read, Write, Splice}
 use Rattle.entry.specs.Entry.{Entry}
 use Rattle.history.specs.declared.event.Event.{Event}
 use Rattle.history.specs.declared.event.Event.TheVariants.{Reply}
@@ -54,22 +54,38 @@ closes (read_end x) res p w = cond ((x == p) && is_zero res) (record w { read_sh
 closes (write_end x) res p w = cond ((x == p) && is_zero res) (record w { write_shut = true }) w
 closes no_end res p w = w
 
--- what a reply to this operation makes of the pipe p
+-- what a reply to this operation makes of the pipe p, where it puts the first of these bytes in
 abbrev pub flows : Op → List ℕ → ℤ → ℕ → Flow → Flow
 flows (Read fd offset len) bytes res p w = reads (end_of fd) res p w
 flows (Write fd offset len) bytes res p w = writes (end_of fd) bytes res p w
 flows (Close fd) bytes res p w = closes (end_of fd) res p w
+flows (Splice fd_in fd len) bytes res p w = reads (end_of fd_in) res p (writes (end_of fd) bytes res p w)
 flows _ bytes res p w = w
 
-abbrev pub flows_as : Option Entry → Option Submission → ℤ → ℕ → Flow → Flow
-flows_as (Some e) (Some s) res p w = flows e.op s.bytes res p w
-flows_as _ _ res p w = w
+-- the bytes that come out at an end, where this is what each pipe has
+abbrev pub given_at : End → (ℕ → List ℕ) → List ℕ
+given_at (read_end p) before = before p
+given_at _ before = []
 
-abbrev pub moves : List Event → Event → ℕ → Flow → Flow
-moves h (Reply r res data') p w = flows_as (placed h r) (submission h r) res p w
-moves h _ p w = w
+-- the bytes of which a reply to this operation puts the first into a pipe: those of the buffer of a WRITE (write(2)), and what was in the source of a SPLICE before the reply (splice(2))
+abbrev pub offered : Op → (ℕ → List ℕ) → List ℕ → List ℕ
+offered (Write fd offset len) before bytes = bytes
+offered (Splice fd_in fd len) before bytes = given_at (end_of fd_in) before
+offered _ before bytes = []
+
+abbrev pub flows_as : Option Entry → Option Submission → (ℕ → List ℕ) → ℤ → ℕ → Flow → Flow
+flows_as (Some e) (Some s) before res p w = flows e.op (offered e.op before s.bytes) res p w
+flows_as _ _ before res p w = w
+
+abbrev pub moves : List Event → Event → (ℕ → List ℕ) → ℕ → Flow → Flow
+moves h (Reply r res data') before p w = flows_as (placed h r) (submission h r) before res p w
+moves h _ before p w = w
 
 -- the pipe p after these events
 abbrev pub flow : List Event → ℕ → Flow
 flow [] p = untouched
-flow (e ∷ h) p = moves h e p (flow h p)
+flow (e ∷ h) p = moves h e (λ y. content (flow h y)) p (flow h p)
+
+-- what is in each pipe
+abbrev pub contents : List Event → ℕ → List ℕ
+contents h p = content (flow h p)

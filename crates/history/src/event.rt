@@ -42,6 +42,8 @@ pub enum Event {
     },
     /// An armed TIMEOUT ran out: it is answered with -62 (ETIME).
     Expire(Req),
+    /// An armed TIMEOUT has counted enough completions: it is answered with 0.
+    Count(Req),
     /// An armed LINK_TIMEOUT ended its target, which is answered with -125 (ECANCELED).
     Fire {
         timer: Req,

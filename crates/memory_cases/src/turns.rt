@@ -149,12 +149,17 @@ fn turns_of<R: Wait>(rt: &R, alloc: Global, stage: &mut Stage) -> Result<(String
     Ok((text, went))
 }
 
-/// A poller's desk, and its turns.
-pub(crate) fn tell_turns<R: Wait + Print>(rt: &R, alloc: Global) -> Result<()> {
-    let (mut stage, went) = Stage::new(alloc)?;
+/// How the desk was made, and how its turns go.
+fn tell_stage<R: Wait + Print>(rt: &R, alloc: Global, stage: &mut Stage, made: Went) -> Result<()> {
     let gave = format!(in alloc; "{} places", stage.places())?;
-    tell(rt, "PollDesk::new", went, gave.as_str())?;
-    let (gave, went) = turns_of(rt, alloc, &mut stage)?;
+    tell(rt, "PollDesk::new", made, gave.as_str())?;
+    let (gave, went) = turns_of(rt, alloc, stage)?;
     tell(rt, "poll_turn", went, gave.as_str())?;
     Ok(())
+}
+
+/// A poller's desk, and its turns.
+pub(crate) fn tell_turns<R: Wait + Print>(rt: &R, alloc: Global) -> Result<()> {
+    let (mut stage, made) = Stage::new(alloc)?;
+    tell_stage(rt, alloc, &mut stage, made)
 }

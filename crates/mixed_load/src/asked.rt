@@ -17,7 +17,7 @@ pub(crate) const ALREADY: i32 = -114;
 pub(crate) const CANCELED: i32 = -125;
 
 /// How many kinds of requests there are.
-pub(crate) const KINDS: usize = 10;
+pub(crate) const KINDS: usize = 11;
 
 /// The names of the kinds.
 pub(crate) const NAMES: [&str; KINDS] = [
@@ -31,6 +31,7 @@ pub(crate) const NAMES: [&str; KINDS] = [
     "LINK_TIMEOUT",
     "ASYNC_CANCEL",
     "TIMEOUT_REMOVE",
+    "SPLICE",
 ];
 
 /// What a request asks for, as far as its possible replies hang on it.
@@ -47,6 +48,7 @@ pub(crate) enum Asked {
     LinkTimeout,
     Cancel { target: u64 },
     Remove { target: u64 },
+    Splice { fd_in: i32, fd_out: i32, len: u32 },
 }
 
 /// The number of bytes as a reply.
@@ -78,6 +80,25 @@ fn may_write(fd: i32, len: u32, res: i32) -> bool {
     is_closed || is_written
 }
 
+/// Whether a SPLICE may have this reply.
+fn may_splice(fd_in: i32, fd_out: i32, len: u32, res: i32) -> bool {
+    if !ends::is_read_end(fd_in) || !ends::is_write_end(fd_out) {
+        return res == BAD_FD;
+    }
+    let (from, into) = (ends::may_be_closed(fd_in), ends::may_be_closed(fd_out));
+    if res == BAD_FD {
+        return from || into;
+    }
+    if ends::pipe_of(fd_in) == ends::pipe_of(fd_out) {
+        return res == INVALID;
+    }
+    if len == 0 {
+        return res == 0;
+    }
+    let is_closed = (into && res == BROKEN_PIPE) || (from && res == 0);
+    is_closed || (1 <= res && res <= as_reply(len.min(CAPACITY)))
+}
+
 /// Whether a POLL_ADD may have this reply.
 fn may_poll(fd: i32, mask: u32, res: i32) -> bool {
     if !ends::is_end(fd) {
@@ -105,6 +126,7 @@ impl Asked {
             Asked::LinkTimeout => res == TIMED_OUT,
             Asked::Cancel { .. } => res == 0 || res == NO_ENTRY || res == ALREADY,
             Asked::Remove { .. } => res == 0 || res == NO_ENTRY,
+            Asked::Splice { fd_in, fd_out, len } => may_splice(fd_in, fd_out, len, res),
         }
     }
 
@@ -118,7 +140,9 @@ impl Asked {
         match self {
             Asked::LinkTimeout => false,
             Asked::Timeout { is_success, .. } => !is_success || res != TIMED_OUT,
-            Asked::Read { len, .. } | Asked::Write { len, .. } => res < as_reply(len),
+            Asked::Read { len, .. } | Asked::Write { len, .. } | Asked::Splice { len, .. } => {
+                res < as_reply(len)
+            }
             _ => res < 0,
         }
     }
@@ -141,6 +165,7 @@ impl Asked {
             Asked::LinkTimeout => 7,
             Asked::Cancel { .. } => 8,
             Asked::Remove { .. } => 9,
+            Asked::Splice { .. } => 10,
         }
     }
 

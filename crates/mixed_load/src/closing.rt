@@ -18,11 +18,12 @@ impl End {
     }
 }
 
-/// The read end and the write end.
+/// The read end and the write end, and whether a reply tells that one of them was closed.
 #[derive(Clone, Copy)]
 struct Ends {
     read: End,
     write: End,
+    is_one_told: bool,
 }
 
 impl Ends {
@@ -32,6 +33,28 @@ impl Ends {
             (&mut self.read, &mut self.write)
         } else {
             (&mut self.write, &mut self.read)
+        }
+    }
+
+    /// Takes in what the reply to a SPLICE tells. Where both ends are the last pipe's, -9 (EBADF) tells that one of them was closed.
+    fn take_in_splice(&mut self, fd_in: i32, fd_out: i32, len: u32, res: i32) {
+        if !ends::is_read_end(fd_in) || !ends::is_write_end(fd_out) {
+            return;
+        }
+        let is_bad = res == BAD_FD;
+        match (ends::may_be_closed(fd_in), ends::may_be_closed(fd_out)) {
+            (true, true) => {
+                self.is_one_told |= is_bad;
+            }
+            (true, false) => {
+                self.read.is_told |= is_bad;
+                self.write.is_told |= res == 0 && 0 < len;
+            }
+            (false, true) => {
+                self.write.is_told |= is_bad;
+                self.read.is_told |= res == BROKEN_PIPE;
+            }
+            (false, false) => {}
         }
     }
 
@@ -45,6 +68,10 @@ impl Ends {
             Asked::Write { fd, .. } => (fd, ends::is_write_end(fd), res == BROKEN_PIPE),
             Asked::Poll { fd, .. } => (fd, true, ends::hang_up(fd) <= res),
             Asked::Close { fd } => (fd, true, false),
+            Asked::Splice { fd_in, fd_out, len } => {
+                self.take_in_splice(fd_in, fd_out, len, res);
+                return;
+            }
             _ => return,
         };
         if !ends::may_be_closed(fd) || !fits {
@@ -66,6 +93,12 @@ impl Ends {
             }
         }
     }
+
+    /// Whether each was closed once at most, and where a reply tells so.
+    fn are_right(self) -> bool {
+        let is_one = self.read.closed != 0 || self.write.closed != 0;
+        self.read.is_right() && self.write.is_right() && (is_one || !self.is_one_told)
+    }
 }
 
 /// Whether each end of the last pipe was closed once at most, and was closed where a reply tells so.
@@ -77,8 +110,9 @@ pub(crate) fn is_right(zero: &Pending, one: &Pending) -> bool {
     let mut ends = Ends {
         read: open,
         write: open,
+        is_one_told: false,
     };
     ends.take_in_all(zero);
     ends.take_in_all(one);
-    ends.read.is_right() && ends.write.is_right()
+    ends.are_right()
 }

@@ -16,7 +16,7 @@ pub(crate) struct Counts {
     pub missed: u64,
     /// TIMEOUTs and LINK_TIMEOUTs that ran out.
     pub timed_out: u64,
-    /// READs and WRITEs that moved bytes.
+    /// READs, WRITEs and SPLICEs that moved bytes.
     pub moved: u64,
     /// Looks, and those that found a request running.
     pub looks: u64,
@@ -51,7 +51,10 @@ impl Counts {
     /// Counts the reply to a request.
     pub fn replied(&mut self, asked: Asked, res: i32) {
         let is_taker = asked.target().is_some();
-        let is_transfer = matches!(asked, Asked::Read { .. } | Asked::Write { .. });
+        let is_transfer = matches!(
+            asked,
+            Asked::Read { .. } | Asked::Write { .. } | Asked::Splice { .. }
+        );
         add(&mut self.canceled, res == CANCELED);
         add(&mut self.took, is_taker && res == 0);
         add(&mut self.missed, is_taker && res == ALREADY);

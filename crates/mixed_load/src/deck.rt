@@ -19,6 +19,10 @@ const SPAN: u64 = 128;
 /// In how many batches it settles once, on average, all the same.
 const OFTEN: u32 = 64;
 
+/// How many requests there may be from the oldest without a completion on, before it cancels one at a time, after a rest each. A
+/// cancel doesn't take what a worker is just trying again.
+const FAR: u64 = 192;
+
 /// In how many completions it looks at a request once, on average.
 const LOOKS: u32 = 4;
 
@@ -37,7 +41,7 @@ pub(crate) struct Habit {
 }
 
 /// A client's habit, where its batches are drawn from, its requests, its bytes, the newest request with a drain, whether it settles,
-/// and what was counted.
+/// whether it has rested since its last cancels, and what was counted.
 #[derive(Drop)]
 pub(crate) struct Deck {
     alloc: Global,
@@ -47,6 +51,7 @@ pub(crate) struct Deck {
     pub flow: Flow,
     drain: Option<u64>,
     settles: bool,
+    is_rested: bool,
     pub counts: Counts,
 }
 
@@ -61,8 +66,14 @@ impl Deck {
             flow: Flow::new(alloc, habit.streams, ring)?,
             drain: None,
             settles: false,
+            is_rested: false,
             counts: Counts::new(),
         })
+    }
+
+    /// Notes that it has rested.
+    pub fn rest(&mut self) {
+        self.is_rested = true;
     }
 
     /// How many requests were submitted, and how many completions were taken.
@@ -111,13 +122,17 @@ impl Deck {
         Ok(draft)
     }
 
-    /// Adds a cancel for each of the oldest requests that may wait, once the cancels before have replied.
+    /// Adds a cancel for each of the oldest requests that may wait, once the cancels before have replied. Where few cells may be left,
+    /// it adds one after each rest.
     fn settling(&mut self, mut draft: Draft) -> Result<Draft, AllocError> {
-        if self.pending.ending() > 0 {
+        let is_far = FAR <= self.pending.span();
+        if self.pending.ending() > 0 || (is_far && !self.is_rested) {
             return Ok(draft);
         }
+        self.is_rested = false;
+        let most = if is_far { 1 } else { MOST };
         let mut from = self.pending.oldest();
-        for _cancel in 0..MOST {
+        for _cancel in 0..most {
             let Some(target) = self.pending.next_waiting(from) else {
                 break;
             };

@@ -1,13 +1,13 @@
 //! Batches of requests of all kinds, drawn at random.
 use crate::asked::Asked;
-use crate::ends::{CAPACITY, PIPES, STREAMS, is_end};
+use crate::ends::{CAPACITY, PIPES, SHARED, SOURCE, TARGET, is_end, stream_of};
 use crate::flow::Flow;
 use crate::pending::Pending;
 use crate::random::Random;
 use crate::record::{Fate, Record};
 use entry::Sqe;
 use prep::{
-    cancel, close, link_timeout, nop, poll_add, read, timeout, timeout_remove, with_flags,
+    cancel, close, link_timeout, nop, poll_add, read, splice, timeout, timeout_remove, with_flags,
     with_user_data, write,
 };
 use std::alloc::{AllocError, Global};
@@ -37,7 +37,7 @@ const LATE: u64 = 1_000_000_000;
 
 const TOO_LATE: u64 = 2_147_483_648;
 
-/// How many bytes a READ or a WRITE has at most, mostly, and now and then.
+/// How many bytes a READ, a WRITE or a SPLICE has at most, mostly, and now and then.
 const SHORT: u32 = 33;
 
 const LONG: u32 = 2 * CAPACITY;
@@ -134,8 +134,7 @@ impl Draft {
         flow: &mut Flow,
         flags: u8,
     ) -> Result<(), AllocError> {
-        let most = if random.is_one_in(32) { LONG } else { SHORT };
-        let len = random.below(most);
+        let len = length_of(random);
         let is_read = random.is_one_in(2);
         let (pipe, from) = pipe_for(random, flow, is_read);
         let is_odd = random.is_one_in(32);
@@ -148,7 +147,27 @@ impl Draft {
         self.add(flow, sqe, flags, Record::new(asked, Fate::Waits, from), len)
     }
 
-    /// Adds a READ or a WRITE with a LINK_TIMEOUT.
+    /// Adds a SPLICE: of the stream that has two pipes, or from a shared pipe, or now and then none, into another or into itself. Now and
+    /// then one of its ends is the other end of that pipe, which it can't use.
+    fn add_splice(
+        &mut self,
+        random: &mut Random,
+        flow: &mut Flow,
+        flags: u8,
+    ) -> Result<(), AllocError> {
+        let len = length_of(random);
+        let (source, target) = if random.is_one_in(2) {
+            (SOURCE, TARGET)
+        } else {
+            (shared_or_none(random), shared_or_none(random))
+        };
+        let odd = random.below(64);
+        let (fd_in, fd_out) = (end_of(source, odd == 0), end_of(target, odd != 1));
+        let asked = Asked::Splice { fd_in, fd_out, len };
+        self.add_plain(flow, splice(fd_in, fd_out, len), flags, asked, Fate::Waits)
+    }
+
+    /// Adds a READ, a WRITE or a SPLICE with a LINK_TIMEOUT.
     fn add_timed(
         &mut self,
         random: &mut Random,
@@ -156,7 +175,11 @@ impl Draft {
         flags: u8,
     ) -> Result<(), AllocError> {
         let link = if random.is_one_in(4) { HARDLINK } else { LINK };
-        self.add_transfer(random, flow, link)?;
+        if random.is_one_in(4) {
+            self.add_splice(random, flow, link)?;
+        } else {
+            self.add_transfer(random, flow, link)?;
+        }
         self.add_link_timeout(random, flow, flags)
     }
 
@@ -283,7 +306,7 @@ impl Draft {
             0
         };
         let flags = link_of(random) | drain;
-        match random.below(32) {
+        match random.below(36) {
             0..10 => self.add_transfer(random, flow, flags),
             10..14 => self.add_timed(random, flow, flags & !DRAIN),
             14..16 => self.add_poll(random, flow, flags),
@@ -293,6 +316,7 @@ impl Draft {
             }
             20..24 => self.add_taker(random, flow, pending, flags),
             24 => self.add_link_timeout(random, flow, flags),
+            25..29 => self.add_splice(random, flow, flags),
             _ => self.add_quick(random, flow, flags),
         }
     }
@@ -330,15 +354,35 @@ fn end_of(pipe: u32, is_write_end: bool) -> i32 {
     i32::try_from(pipe.saturating_mul(2).saturating_add(end)).unwrap_or(-1)
 }
 
-/// A pipe for a READ or a WRITE, or now and then none; and where its bytes stand there, if it is a stream. A stream that isn't this
-/// client's, or where it is under way already, gives way to a pipe that all use.
+/// How many bytes a READ, a WRITE or a SPLICE asks for: now and then more than a pipe holds.
+fn length_of(random: &mut Random) -> u32 {
+    let most = if random.is_one_in(32) { LONG } else { SHORT };
+    random.below(most)
+}
+
+/// One of the pipes that all requests share.
+fn shared_pipe(random: &mut Random) -> u32 {
+    SHARED + random.below(PIPES - SHARED)
+}
+
+/// One of them, or none.
+fn shared_or_none(random: &mut Random) -> u32 {
+    SHARED + random.below(PIPES + 1 - SHARED)
+}
+
+/// A pipe for a READ or a WRITE, or now and then none; and where its bytes stand there, if it is a stream's. A stream that isn't this
+/// client's, or where it is under way already, gives way to a pipe that all use, and so does a pipe that only SPLICEs use there.
 fn pipe_for(random: &mut Random, flow: &Flow, is_read: bool) -> (u32, u64) {
     let pipe = random.below(PIPES + 1);
-    if STREAMS <= pipe {
+    if SHARED <= pipe {
         return (pipe, 0);
     }
-    match flow.start_of(pipe, is_read) {
+    let from = match stream_of(end_of(pipe, !is_read)) {
+        Some(stream) => flow.start_of(stream, is_read),
+        None => None,
+    };
+    match from {
         Some(from) => (pipe, from),
-        None => (STREAMS + random.below(PIPES - STREAMS), 0),
+        None => (shared_pipe(random), 0),
     }
 }

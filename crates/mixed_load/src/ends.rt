@@ -1,10 +1,30 @@
 //! The pipes of the load and their ends.
 
-/// How many pipes there are. The first are streams; the ends of the last one may be closed.
-pub(crate) const PIPES: u32 = 8;
+/// How many pipes there are. The first belong to streams, the others are shared; the ends of the last one may be closed.
+pub(crate) const PIPES: u32 = 10;
 
-/// How many are streams: only one ring writes to a stream, one request at a time, and one ring reads from it likewise.
-pub(crate) const STREAMS: u32 = 4;
+/// How many streams there are: only one ring writes to a stream, one request at a time, and one ring reads from it likewise. Each of
+/// them but the last has one pipe, with its number.
+pub(crate) const STREAMS: u32 = 5;
+
+/// The pipes of the last stream: it is written to the one, and read from the other. SPLICEs of both rings, any number at a time, move it
+/// on, and nothing else does.
+pub(crate) const SOURCE: u32 = STREAMS - 1;
+
+pub(crate) const TARGET: u32 = STREAMS;
+
+/// The first of the pipes that all requests share.
+pub(crate) const SHARED: u32 = STREAMS + 1;
+
+/// The groups of pipes, each by its first pipe and the one behind its last. No SPLICE moves bytes from one group to another.
+pub(crate) const GROUPS: [(u32, u32); 6] = [
+    (0, 1),
+    (1, 2),
+    (2, 3),
+    (3, SOURCE),
+    (SOURCE, SHARED),
+    (SHARED, PIPES),
+];
 
 /// How many bytes a pipe holds.
 pub(crate) const CAPACITY: u32 = 128;
@@ -44,10 +64,16 @@ pub(crate) fn may_be_closed(fd: i32) -> bool {
     pipe_of(fd) == Some(PIPES - 1)
 }
 
-/// The stream that an end belongs to.
+/// The stream that is written to an end, or read from it.
 pub(crate) fn stream_of(fd: i32) -> Option<u32> {
     let pipe = pipe_of(fd)?;
-    if pipe < STREAMS { Some(pipe) } else { None }
+    if pipe < SOURCE || (pipe == SOURCE && is_write_end(fd)) {
+        Some(pipe)
+    } else if pipe == TARGET && is_read_end(fd) {
+        Some(SOURCE)
+    } else {
+        None
+    }
 }
 
 /// The event of an end: that there are bytes, or that there is room.

@@ -1,6 +1,6 @@
 //! The bytes that a client wrote to the pipes, and those that it read from them.
 use crate::asked::Asked;
-use crate::ends::{self, CAPACITY, PIPES, STREAMS};
+use crate::ends::{self, CAPACITY, GROUPS, PIPES, STREAMS};
 use crate::fault::Fault;
 use crate::random::mixed;
 use crate::record::Record;
@@ -16,7 +16,8 @@ struct Way {
     is_busy: bool,
 }
 
-/// How far a client has written to each stream and read from it, and how often it wrote each byte to each pipe and read it there.
+/// How far a client has written to each stream and read from it, how often it wrote each byte to each pipe and read it there, and how
+/// many bytes its SPLICEs moved into each pipe and out of it.
 #[derive(Drop)]
 pub(crate) struct Flow {
     seed: u64,
@@ -25,6 +26,8 @@ pub(crate) struct Flow {
     reads: Vec<Way>,
     written: Vec<u64>,
     read: Vec<u64>,
+    gained: Vec<u64>,
+    lost: Vec<u64>,
 }
 
 /// The place of a byte of a pipe among the counts.
@@ -57,6 +60,8 @@ impl Flow {
             reads: Vec::from_elem(alloc, way, STREAMS as usize)?,
             written: Vec::from_elem(alloc, 0, counts)?,
             read: Vec::from_elem(alloc, 0, counts)?,
+            gained: Vec::from_elem(alloc, 0, PIPES as usize)?,
+            lost: Vec::from_elem(alloc, 0, PIPES as usize)?,
         })
     }
 
@@ -151,6 +156,10 @@ impl Flow {
         let data = if is_read { moved } else { 0 };
         self.are_right(number, record, fd, data, buffer)?;
         self.count(fd, is_read, moved, buffer);
+        if let Asked::Splice { fd_in, fd_out, .. } = record.asked {
+            add_at(&mut self.lost, ends::pipe_of(fd_in), moved);
+            add_at(&mut self.gained, ends::pipe_of(fd_out), moved);
+        }
         if let Some(way) = self.way(record.asked) {
             way.done = way.done.saturating_add(moved);
             way.is_busy = false;
@@ -200,33 +209,71 @@ impl Flow {
     }
 }
 
-/// How often a byte was written to a pipe, and how often it was read there.
-fn counted(flows: (&Flow, &Flow), at: usize) -> (u64, u64) {
-    let (zero, one) = flows;
+/// Adds a number to that of a pipe.
+fn add_at(counts: &mut Vec<u64>, pipe: Option<u32>, number: u64) {
+    let Some(pipe) = pipe else {
+        return;
+    };
+    if let Some(count) = counts.get_mut(pipe as usize) {
+        *count = count.saturating_add(number);
+    }
+}
+
+/// The sum of two clients' numbers at a place.
+fn sum_at(counts: (&Vec<u64>, &Vec<u64>), at: usize) -> u64 {
     let of = |counts: &[u64]| counts.get(at).copied().unwrap_or(0);
+    of(counts.0.as_slice()).saturating_add(of(counts.1.as_slice()))
+}
+
+/// How often a byte was written to a pipe, and how often it was read there.
+fn counted(flows: (&Flow, &Flow), pipe: u32, byte: u8) -> (u64, u64) {
+    let (zero, one) = flows;
+    let at = place(pipe, byte);
     (
-        of(zero.written.as_slice()).saturating_add(of(one.written.as_slice())),
-        of(zero.read.as_slice()).saturating_add(of(one.read.as_slice())),
+        sum_at((&zero.written, &one.written), at),
+        sum_at((&zero.read, &one.read), at),
     )
 }
 
-/// Whether no byte was read of a pipe more often than it was written, and the pipe holds no more than it has room for.
-fn agrees(flows: (&Flow, &Flow), pipe: u32) -> bool {
-    let mut left = 0u64;
+/// Whether no byte was read of the pipes of a group more often than it was written to them.
+fn are_written(flows: (&Flow, &Flow), group: (u32, u32)) -> bool {
     for byte in 0..=u8::MAX {
-        let (written, read) = counted(flows, place(pipe, byte));
+        let (mut written, mut read) = (0u64, 0u64);
+        for pipe in group.0..group.1 {
+            let (more, less) = counted(flows, pipe, byte);
+            written = written.saturating_add(more);
+            read = read.saturating_add(less);
+        }
         if written < read {
             return false;
         }
-        left = left.saturating_add(written.saturating_sub(read));
     }
-    left <= u64::from(CAPACITY)
+    true
 }
 
-/// Whether the bytes that two clients read of all pipes are such as they wrote.
+/// Whether no more bytes came out of a pipe than went in, and the pipe holds no more than it has room for.
+fn has_room(flows: (&Flow, &Flow), pipe: u32) -> bool {
+    let (zero, one) = flows;
+    let at = pipe as usize;
+    let mut came = sum_at((&zero.gained, &one.gained), at);
+    let mut went = sum_at((&zero.lost, &one.lost), at);
+    for byte in 0..=u8::MAX {
+        let (written, read) = counted(flows, pipe, byte);
+        came = came.saturating_add(written);
+        went = went.saturating_add(read);
+    }
+    went <= came && came.saturating_sub(went) <= u64::from(CAPACITY)
+}
+
+/// Whether the bytes that two clients read of all pipes are such as they wrote, and SPLICEs moved.
 pub(crate) fn agree(zero: &Flow, one: &Flow) -> bool {
+    for group in GROUPS {
+        if !are_written((zero, one), group) {
+            return false;
+        }
+    }
     for pipe in 0..PIPES {
-        if !agrees((zero, one), pipe) {
+        if !has_room((zero, one), pipe) {
             return false;
         }
     }

@@ -14,6 +14,10 @@ use std::time::{Clock, Duration, Instant};
 /// How many steps are made between two looks at the clock.
 const STEPS: u32 = 64;
 
+/// How long a client whose ring has nearly gone round waits before each cancel, in milliseconds: a thread that has such a request in
+/// hand may stand still for long.
+const REST: u64 = 50;
+
 /// A client that submits requests of all kinds at random, what it goes by, and the fault that stopped it, if one did, with the
 /// number of the request at which it was noticed. From time to time it settles: it submits nothing but cancels until all requests
 /// have their completions. Then it submits drains, which so wait for nothing that doesn't come.
@@ -74,9 +78,15 @@ impl Mixer {
         ensures { self.new.client.board ≡ self.old.client.board }
     {
         let start = Instant::now(rt)?;
+        let rest = Duration::from_millis(REST);
+        let mut rested = Instant::now(rt)?;
         for _ in rt.forever() {
             if time <= start.elapsed(rt)? {
                 return Ok(());
+            }
+            if rest <= rested.elapsed(rt)? {
+                self.deck.rest();
+                rested = Instant::now(rt)?;
             }
             self.make_steps(rt)?;
         }

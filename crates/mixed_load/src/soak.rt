@@ -145,7 +145,7 @@ impl Sums {
             counts.canceled, counts.took, counts.missed, counts.timed_out
         )?;
         println!(rt;
-            "{} READs and WRITEs moved bytes, {} looks, of which {} found a request running",
+            "{} READs, WRITEs and SPLICEs moved bytes, {} looks, of which {} found a request running",
             counts.moved, counts.looks, counts.running
         )?;
         println!(rt;

@@ -15,6 +15,7 @@ pub mod RequestReading
 pub mod ReplyEvents
 pub mod SingleEvents
 pub mod TimerEvents
+pub mod CountEvents
 pub mod Token
 pub mod WideEvents
 pub mod KeptWords

@@ -45,7 +45,7 @@ some_due : (clock : ℕ) (o : Option Request) → is_due clock (stage_at o) ≡ 
 some_due clock None e = absurd (true≢false (sym e))
 some_due clock (Some x) e = (x, refl)
 
-some_armed : (o : Option Request) → is_armed (stage_at o) ≡ true → (x : Request) × (o ≡ Some x)
+pub some_armed : (o : Option Request) → is_armed (stage_at o) ≡ true → (x : Request) × (o ≡ Some x)
 some_armed None e = absurd (true≢false (sym e))
 some_armed (Some x) e = (x, refl)
 
@@ -53,7 +53,7 @@ pub some_idle : (o : Option Request) → is_idle (stage_at o) ≡ true → (x : 
 some_idle None e = absurd (true≢false (sym e))
 some_idle (Some x) e = (x, refl)
 
-armed_unreplied : (p : Phase) (d : ℕ) → p ≡ armed d → ¬ IsReplied p
+pub armed_unreplied : (p : Phase) (d : ℕ) → p ≡ armed d → ¬ IsReplied p
 armed_unreplied p d e r = subst IsReplied e r
 
 pub idle_unreplied : (p : Phase) → IsIdle p → ¬ IsReplied p

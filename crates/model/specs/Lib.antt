@@ -9,5 +9,6 @@ pub mod Reaches
 pub mod Replies
 pub mod Run
 pub mod Seen
+pub mod Splices
 pub mod Tells
 pub mod Worded

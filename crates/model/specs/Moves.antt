@@ -1,5 +1,6 @@
 -- What the events make of the requests of a ring.
-use Rattle.std.specs.Prelude.{ℕ, suc, ◌+◌, ◌-◌, ◌==◌, ◌&&◌, ◌||◌, not, nat_lt, nat_le, Bool, true, false, cond, negsuc, List, [], length, Option, Some, None, slice_get, set}
+use Rattle.std.specs.Prelude.{ℕ, suc, ◌+◌, ◌-◌, ◌==◌, ◌&&◌, ◌||◌, not, nat_lt, nat_le, Bool, true, false, cond, pos, negsuc, List, [], length, drop, Option, Some, None, slice_get, set}
+use Rattle.std.specs.List.{filter}
 use Rattle.entry.specs.Entry.{Entry}
 use Rattle.entry.specs.declared.op.Op.{Op}
 use Rattle.model.specs.declared.request.Request.{Request}
@@ -8,7 +9,7 @@ use Rattle.model.specs.declared.request.Stage.TheVariants.{Waits, Runs, Armed, R
 use Rattle.model.specs.declared.request.Found.{Found}
 use Rattle.model.specs.declared.request.Found.TheVariants.{Nothing}
 use Rattle.history.specs.Chains.{is_timer, is_timeout, is_link_timeout, is_link_timeout_in}
-use Rattle.history.specs.Legal.{ticks_of}
+use Rattle.history.specs.Legal.{ticks_of, count_of}
 use Rattle.model.specs.Seen.{is_pending, stage_at, placed_in}
 use Rattle.model.specs.Decides.{runs_of, pending_of, severed_in, clear_in, any_below, wanted}
 
@@ -89,12 +90,15 @@ abbrev pub seeks : Option Request → Bool
 seeks None = false
 seeks (Some x) = is_nothing x.found
 
--- -125 and -62
+-- -125, -62 and 0
 abbrev pub cancelled : Stage
 cancelled = Replied (negsuc 124)
 
 abbrev pub timed_out : Stage
 timed_out = Replied (negsuc 61)
+
+abbrev pub counted : Stage
+counted = Replied (pos 0)
 
 abbrev pub may_park : List Request → ℕ → Bool
 may_park xs k = is_running (stage_at (slice_get xs k))
@@ -129,6 +133,22 @@ may_arm clock xs k d = is_waits (stage_at (slice_get xs k)) && (open_in xs k && 
 
 abbrev pub may_expire : ℕ → List Request → ℕ → Bool
 may_expire clock xs k = is_due clock (stage_at (slice_get xs k)) && placed_as is_timeout (placed_in xs k)
+
+-- it was answered
+abbrev pub is_done : Request → Bool
+is_done x = not (is_pending x.stage)
+
+-- how many requests after k were answered
+abbrev pub later_answered : List Request → ℕ → ℕ
+later_answered xs k = length (filter is_done (drop (suc k) xs))
+
+-- it counts completions, and so many are enough
+abbrev pub counts_up : ℕ → Option Entry → Bool
+counts_up n None = false
+counts_up n (Some e) = nat_lt 0 (count_of e.op) && nat_le (count_of e.op) n
+
+abbrev pub may_count : List Request → ℕ → Bool
+may_count xs k = is_armed (stage_at (slice_get xs k)) && counts_up (later_answered xs k) (placed_in xs k)
 
 -- the timer l runs out now, and t is its target
 abbrev pub runs_out : ℕ → List Request → ℕ → ℕ → Bool

@@ -4,9 +4,9 @@ use Rattle.std.specs.Ordering.{int_eq}
 use Rattle.std.specs.Str.{bytes_eq}
 use Rattle.model.specs.Content.{Content}
 use Rattle.entry.specs.declared.op.Op.{Op}
-use Rattle.entry.specs.declared.op.Op.TheVariants.{Nop, PollAdd, Timeout, TimeoutRemove, AsyncCancel, LinkTimeout, Close, Read, Write, Invalid}
+use Rattle.entry.specs.declared.op.Op.TheVariants.{Nop, PollAdd, Timeout, TimeoutRemove, AsyncCancel, LinkTimeout, Close, Read, Write, Splice, Invalid}
 use Rattle.history.specs.Pipes.{Flow, untouched, end_of}
-use Rattle.history.specs.Answers.{Answer, now, later, read_from, write_to, close_of, poll_of}
+use Rattle.history.specs.Answers.{Answer, now, later, read_from, write_to, splice_of, close_of, poll_of}
 
 -- the answer is this reply with these data
 abbrev pub tells : Answer → ℤ → List ℕ → Bool
@@ -35,9 +35,10 @@ module _ (caps : List ℕ) (flow_at : ℕ → Flow) where
   op_answer Invalid = now (negsuc 21) []
   op_answer (Read fd offset len) = read_from caps flow_at (end_of fd) len
   op_answer (Write fd offset len) = write_to caps flow_at (end_of fd) len
+  op_answer (Splice fd_in fd_out len) = splice_of caps flow_at (end_of fd_in) (end_of fd_out) len
   op_answer (Close fd) = close_of caps flow_at (end_of fd)
   op_answer (PollAdd fd mask) = poll_of caps flow_at (end_of fd) mask
   op_answer (AsyncCancel user_data) = later
   op_answer (TimeoutRemove user_data) = later
-  op_answer (Timeout ticks etime_success) = later
+  op_answer (Timeout ticks etime_success count) = later
   op_answer (LinkTimeout ticks) = later

@@ -1,12 +1,13 @@
 //! Which replies the table of answers allows, cancels apart.
 ghost use Rattle.std.specs.Prelude.{◌≡◌, length};
 ghost use Rattle.history.specs.Pipes.{end_of};
-ghost use Rattle.history.specs.Answers.{read_from, write_to, close_of, poll_of};
+ghost use Rattle.history.specs.Answers.{read_from, write_to, splice_of, close_of, poll_of};
 ghost use Rattle.model.specs.Reaches.{reached, IsWithin};
 ghost use Rattle.model.specs.Tells.{tells, caps_of, flow_in, op_answer};
 
 use crate::errno::INVALID;
 use crate::pipe::{Pipe, tells_bad_end, tells_number};
+use crate::splice::splice_now;
 use entry::{Op, by_opcode};
 
 /// The end of a pipe that is there.
@@ -42,6 +43,7 @@ macro_rules! answers_work {
     ((plain invalid) ($pipes:ident, $res:ident, $bytes:ident)) => { $res == INVALID && $bytes.is_empty() };
     ((pipe read $fd:ident $len:ident) ($pipes:ident, $res:ident, $bytes:ident)) => { answers_read($pipes, $fd, $len, $res, $bytes) };
     ((pipe write $fd:ident $len:ident) ($pipes:ident, $res:ident, $bytes:ident)) => { answers_write($pipes, $fd, $len, $res, $bytes) };
+    ((pipe splice $fd_in:ident $fd_out:ident $len:ident) ($pipes:ident, $res:ident, $bytes:ident)) => { answers_splice($pipes, $fd_in, $fd_out, $len, $res, $bytes) };
     ((pipe close $fd:ident) ($pipes:ident, $res:ident, $bytes:ident)) => { answers_close($pipes, $fd, $res, $bytes) };
     ((pipe poll $fd:ident $mask:ident) ($pipes:ident, $res:ident, $bytes:ident)) => { answers_poll($pipes, $fd, $mask, $res, $bytes) };
     ((timer $kind:ident $ticks:ident) $args:tt) => { false };
@@ -71,6 +73,12 @@ fn answers_write(pipes: &[Pipe], fd: i32, len: u32, res: i32, bytes: &[u8]) -> b
         Reached::Write(p) => pipes[p].tells_write(len, res, bytes),
         _ => tells_bad_end(res, bytes),
     }
+}
+
+fn answers_splice(pipes: &[Pipe], fd_in: i32, fd_out: i32, len: u32, res: i32, bytes: &[u8]) -> bool
+    ensures { result ≡ tells (splice_of (caps_of pipes.now) (flow_in pipes.now) (end_of fd_in) (end_of fd_out) len) res bytes.now }
+{
+    splice_now(pipes, fd_in, fd_out, len).tells(res, bytes)
 }
 
 fn answers_close(pipes: &[Pipe], fd: i32, res: i32, bytes: &[u8]) -> bool

@@ -2,13 +2,14 @@
 ghost use Rattle.std.specs.Prelude.{◌≡◌, ◌<◌, [], pos, true, not, cond, length, Some, IfOk, OnErr};
 ghost use Rattle.entry.specs.Table.{fits_op};
 ghost use Rattle.history.specs.Pipes.{end_of};
-ghost use Rattle.history.specs.Answers.{now, bad_end, answer_read, answer_write, answer_poll, read_events, write_events, read_from, write_to, close_of, poll_of};
+ghost use Rattle.history.specs.Answers.{now, bad_end, answer_read, answer_write, answer_poll, read_events, write_events, read_from, write_to, splice_of, close_of, poll_of};
 ghost use Rattle.model.specs.Tells.{flow_of, caps_of, flow_in, op_answer};
 ghost use Rattle.model.specs.Asked.{told_by, IsTold};
 
 use crate::answer::{Reached, reach};
 use crate::errno::{BAD_END, BROKEN_PIPE, INVALID};
 use crate::pipe::Pipe;
+use crate::splice::splice_now;
 use entry::{Op, by_opcode};
 use history::Bytes;
 use std::alloc::{AllocError, Global};
@@ -143,6 +144,7 @@ macro_rules! work_now {
     ((plain invalid) ($alloc:ident, $pipes:ident)) => { Ok(failure($alloc, INVALID)) };
     ((pipe read $fd:ident $len:ident) ($alloc:ident, $pipes:ident)) => { read_at($alloc, $pipes, $fd, $len) };
     ((pipe write $fd:ident $len:ident) ($alloc:ident, $pipes:ident)) => { Ok(write_at($alloc, $pipes, $fd, $len)) };
+    ((pipe splice $fd_in:ident $fd_out:ident $len:ident) ($alloc:ident, $pipes:ident)) => { Ok(splice_at($alloc, $pipes, $fd_in, $fd_out, $len)) };
     ((pipe close $fd:ident) ($alloc:ident, $pipes:ident)) => { Ok(close_at($alloc, $pipes, $fd)) };
     ((pipe poll $fd:ident $mask:ident) ($alloc:ident, $pipes:ident)) => { Ok(poll_at($alloc, $pipes, $fd, $mask)) };
     ((timer $kind:ident $ticks:ident) $args:tt) => { Ok(None) };
@@ -177,6 +179,13 @@ fn write_at(alloc: Global, pipes: &[Pipe], fd: i32, len: u32) -> Told
         Reached::Write(p) => pipes[p].write_now(alloc, len),
         _ => failure(alloc, BAD_END),
     }
+}
+
+fn splice_at(alloc: Global, pipes: &[Pipe], fd_in: i32, fd_out: i32, len: u32) -> Told
+    requires { len < 2147483648 }
+    ensures { result ≡ told_by (splice_of (caps_of pipes.now) (flow_in pipes.now) (end_of fd_in) (end_of fd_out) len) }
+{
+    splice_now(pipes, fd_in, fd_out, len).told(alloc)
 }
 
 fn close_at(alloc: Global, pipes: &[Pipe], fd: i32) -> Told

@@ -1,7 +1,7 @@
 //! What kind of work an operation asks for.
 ghost use Rattle.std.specs.Prelude.{◌≡◌};
 ghost use Rattle.history.specs.Chains.{is_link_timeout, is_timeout};
-ghost use Rattle.history.specs.Legal.{ticks_of};
+ghost use Rattle.history.specs.Legal.{ticks_of, count_of};
 ghost use Rattle.model.specs.Replies.{is_cancel};
 
 use entry::{Op, by_opcode};
@@ -55,6 +55,16 @@ pub fn ticks_of(op: Op) -> Option<u32>
     ensures { result ≡ ticks_of op }
 {
     by_opcode!(op => ticks_of_work!())
+}
+
+/// After how many completions a TIMEOUT is answered, 0 for none.
+pub fn count_of(op: Op) -> u32
+    ensures { result ≡ count_of op }
+{
+    match op {
+        Op::Timeout { count, .. } => count,
+        _ => 0,
+    }
 }
 
 /// It looks for another request.

@@ -19,6 +19,7 @@ mod reply;
 mod request;
 mod ring;
 mod shared;
+mod splice;
 mod state;
 mod steps;
 mod timing;

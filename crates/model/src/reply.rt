@@ -8,7 +8,7 @@ ghost use Rattle.model.specs.Reaches.{reached};
 ghost use Rattle.model.specs.Seen.{stage_at, placed_in, handed_in, with_op};
 ghost use Rattle.model.specs.Decides.{any_below, wanted};
 ghost use Rattle.model.specs.Moves.{is_running};
-ghost use Rattle.model.specs.Replies.{is_cancel, cancel_tells, found_in, op_replies, may_reply, put_reply, bytes_in, taken_from, put_into, shut_at, moved};
+ghost use Rattle.model.specs.Replies.{is_cancel, cancel_tells, found_in, op_replies, may_reply, put_reply, bytes_in, taken_from, put_into, shut_at, given_in, moved_over, moved};
 
 use crate::answer::{Reached, answers, reach};
 use crate::errno::{ALREADY, NOT_FOUND};
@@ -75,7 +75,7 @@ impl State {
             return Ok(false);
         };
         let taken = Bytes::copy(alloc, told.as_slice())?;
-        carry(&mut self.pipes, op, self.rings[i].bytes(req.k), res)?;
+        carry(alloc, &mut self.pipes, op, self.rings[i].bytes(req.k), res)?;
         self.rings[i].answer(req.k as usize, res, taken);
         Ok(true)
     }
@@ -131,9 +131,10 @@ fn size(res: i32) -> usize
 }
 
 macro_rules! carry_work {
-    ((pipe read $fd:ident $len:ident) ($pipes:ident, $bytes:ident, $res:ident)) => { take_out($pipes, $fd, size($res)) };
-    ((pipe write $fd:ident $len:ident) ($pipes:ident, $bytes:ident, $res:ident)) => { put_in($pipes, $fd, front($bytes, size($res)))? };
-    ((pipe close $fd:ident) ($pipes:ident, $bytes:ident, $res:ident)) => { if $res == 0 { shut_end($pipes, $fd) } };
+    ((pipe read $fd:ident $len:ident) ($alloc:ident, $pipes:ident, $bytes:ident, $res:ident)) => { take_out($pipes, $fd, size($res)) };
+    ((pipe write $fd:ident $len:ident) ($alloc:ident, $pipes:ident, $bytes:ident, $res:ident)) => { put_in($pipes, $fd, front($bytes, size($res)))? };
+    ((pipe splice $fd_in:ident $fd_out:ident $len:ident) ($alloc:ident, $pipes:ident, $bytes:ident, $res:ident)) => { move_over($alloc, $pipes, $fd_in, $fd_out, size($res))? };
+    ((pipe close $fd:ident) ($alloc:ident, $pipes:ident, $bytes:ident, $res:ident)) => { if $res == 0 { shut_end($pipes, $fd) } };
     ((pipe poll $fd:ident $mask:ident) $args:tt) => { () };
     ((plain $kind:ident) $args:tt) => { () };
     ((timer $kind:ident $ticks:ident) $args:tt) => { () };
@@ -141,11 +142,17 @@ macro_rules! carry_work {
 }
 
 /// The reply to this operation moves bytes, or closes an end.
-pub fn carry(pipes: &mut Vec<Pipe>, op: Op, bytes: &[u8], res: i32) -> Result<(), AllocError>
+pub fn carry(
+    alloc: Global,
+    pipes: &mut Vec<Pipe>,
+    op: Op,
+    bytes: &[u8],
+    res: i32,
+) -> Result<(), AllocError>
     ensures ok { OnOk result (pipes.new.items ≡ moved pipes.old.items op bytes.now res) }
     ensures err { OnErr result (pipes.new.items ≡ pipes.old.items) }
 {
-    by_opcode!(op => carry_work!(pipes, bytes, res));
+    by_opcode!(op => carry_work!(alloc, pipes, bytes, res));
     Ok(())
 }
 
@@ -171,6 +178,36 @@ fn put_in(pipes: &mut Vec<Pipe>, fd: i32, bytes: &[u8]) -> Result<(), AllocError
     if let Reached::Write(p) = reach(fd, pipes.len()) {
         pipes[p].put(bytes)?;
     }
+    Ok(())
+}
+
+/// The bytes that come out at this end.
+fn given(pipes: &[Pipe], fd: i32) -> &[u8]
+    ensures { result.now ≡ given_in pipes.now (reached fd (length pipes.now)) }
+{
+    match reach(fd, pipes.len()) {
+        Reached::Read(p) => {
+            let pipe = &pipes[p];
+            &pipe.bytes
+        }
+        _ => &[],
+    }
+}
+
+/// The first `n` bytes of one pipe go over into another. Both stay as they are where memory is wanting.
+fn move_over(
+    alloc: Global,
+    pipes: &mut Vec<Pipe>,
+    fd_in: i32,
+    fd_out: i32,
+    n: usize,
+) -> Result<(), AllocError>
+    ensures ok { OnOk result (pipes.new.items ≡ moved_over pipes.old.items (reached fd_in (length pipes.old.items)) (reached fd_out (length pipes.old.items)) n) }
+    ensures err { OnErr result (pipes.new.items ≡ pipes.old.items) }
+{
+    let moved = Bytes::copy(alloc, front(given(pipes, fd_in), n))?;
+    put_in(pipes, fd_out, moved.as_slice())?;
+    take_out(pipes, fd_in, n);
     Ok(())
 }
 

@@ -1,7 +1,7 @@
 //! What is kept of a run, and the events of its requests.
 ghost use Rattle.std.specs.Prelude.{◌≡◌, true, false};
 ghost use Rattle.model.specs.Agrees.{Decided};
-ghost use Rattle.history.specs.declared.event.Event.TheVariants.{Begin, Park, Take, Miss, Arm, Expire, Fire, FireMiss, Settle, Sever, Reap, Cut};
+ghost use Rattle.history.specs.declared.event.Event.TheVariants.{Begin, Park, Take, Miss, Arm, Expire, Count, Fire, FireMiss, Settle, Sever, Reap, Cut};
 
 use crate::pipe::Pipe;
 use crate::ring::Ring;
@@ -108,6 +108,18 @@ impl State {
             return false;
         }
         self.rings[i].expire(self.clock, req.k)
+    }
+
+    /// The armed TIMEOUT has counted enough completions.
+    pub fn count(&mut self, req: Req) -> bool
+        requires { self.old.shut ≡ false }
+        ensures { Decided result self.old (Count req) self.new }
+    {
+        let i = req.ring as usize;
+        if i >= self.rings.len() {
+            return false;
+        }
+        self.rings[i].count(req.k)
     }
 
     /// The armed LINK_TIMEOUT is answered.

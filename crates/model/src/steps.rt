@@ -34,6 +34,7 @@ impl State {
             Event::Tick(to) => Ok(self.tick(*to)),
             Event::Arm { req, deadline } => Ok(self.arm(*req, *deadline)),
             Event::Expire(req) => Ok(self.expire(*req)),
+            Event::Count(req) => Ok(self.count(*req)),
             Event::Fire { timer, target } => Ok(self.fire(*timer, *target)),
             Event::FireMiss { timer, target } => Ok(self.fire_miss(*timer, *target)),
             Event::Settle(req) => Ok(self.settle(*req)),

@@ -1,12 +1,13 @@
 //! What the timers' events make of the requests of a ring.
-ghost use Rattle.std.specs.Prelude.{◌≡◌, cond, slice_get};
+ghost use Rattle.std.specs.Prelude.{◌≡◌, ◌<◌, cond, length, slice_get};
+ghost use Rattle.std.specs.List.{filter};
 ghost use Rattle.model.specs.declared.request.Stage.TheVariants.{Armed};
-ghost use Rattle.model.specs.Moves.{put_stage, put_fired, put_settled, may_arm, may_expire, runs_out, may_fire, may_fire_miss, may_settle, cancelled, timed_out, is_due, fired_of, is_answered};
+ghost use Rattle.model.specs.Moves.{put_stage, put_fired, put_settled, may_arm, may_expire, is_done, later_answered, may_count, runs_out, may_fire, may_fire_miss, may_settle, cancelled, timed_out, counted, is_due, fired_of, is_answered};
 ghost use Rattle.model.specs.Seen.{stage_at};
 
 use crate::errno::{CANCELLED, TIMED_OUT};
-use crate::kind::{is_link_timeout, is_timeout, ticks_of};
-use crate::request::Stage;
+use crate::kind::{count_of, is_link_timeout, is_timeout, ticks_of};
+use crate::request::{Request, Stage};
 use crate::ring::Ring;
 
 impl Ring {
@@ -47,6 +48,30 @@ impl Ring {
             return false;
         }
         self.set_stage(k as usize, Stage::Replied(TIMED_OUT));
+        true
+    }
+
+    /// How many requests after `k` were answered.
+    fn later_answered(&self, k: usize) -> usize
+        requires { k < length self.now }
+        ensures { result ≡ later_answered self.now k }
+    {
+        count_answered(&self.requests[k + 1..])
+    }
+
+    #[tactic(auto, using(crate::proofs::RequestWrites::stage_within))]
+    pub fn count(&mut self, k: u64) -> bool
+        ensures may { result ≡ may_count self.old k }
+        ensures after { self.new ≡ cond result (put_stage self.old k counted) self.old }
+    {
+        if !matches!(self.stage(k), Some(Stage::Armed(_))) {
+            return false;
+        }
+        let count = count_of(self.op(k as usize)) as usize;
+        if count == 0 || self.later_answered(k as usize) < count {
+            return false;
+        }
+        self.set_stage(k as usize, Stage::Replied(0));
         true
     }
 
@@ -126,4 +151,14 @@ impl Ring {
             None => false,
         }
     }
+}
+
+/// How many of the requests were answered.
+fn count_answered(requests: &[Request]) -> usize
+    ensures { result ≡ length (filter is_done requests.now) }
+{
+    requests
+        .iter()
+        .filter(|request| !request.stage.is_pending())
+        .count()
 }

@@ -84,6 +84,7 @@ fn any_runs(rings: &[Ring]) -> bool
 macro_rules! fits_work {
     ((pipe read $fd:ident $wanted:ident) ($len:ident)) => { $len == $wanted as usize };
     ((pipe write $fd:ident $wanted:ident) ($len:ident)) => { $len == $wanted as usize };
+    ((pipe splice $fd_in:ident $fd_out:ident $wanted:ident) ($len:ident)) => { $len == 0 };
     ((pipe close $fd:ident) ($len:ident)) => { $len == 0 };
     ((pipe poll $fd:ident $mask:ident) ($len:ident)) => { $len == 0 };
     ((plain nothing) ($len:ident)) => { $len == 0 };

@@ -1,5 +1,5 @@
 -- The table of answers over one pipe: what each call answers, and what it makes of the pipe. In each row the first case that holds decides.
-use Rattle.std.specs.Prelude.{ℕ, ◌+◌, ◌-◌, ◌==◌, nat_lt, nat_le, min, take, drop, length, bit_and, bit_or, Bool, true, false, cond, pos, List, [], ◌++◌}
+use Rattle.std.specs.Prelude.{ℕ, ◌+◌, ◌-◌, ◌==◌, ◌&&◌, nat_lt, nat_le, min, take, drop, length, bit_and, bit_or, Bool, true, false, cond, pos, List, [], ◌++◌}
 use Rattle.pipe.specs.declared.ends.End.{End}
 use Rattle.pipe.specs.declared.ends.End.TheVariants.{Read, Write}
 use Rattle.pipe.specs.declared.ready.Ready.{Ready}
@@ -34,6 +34,19 @@ answer_write c len =
     (cond c.read_shut (Fail (pos 32))
     (cond (nat_le len c.cap) (cond (nat_le len (free_in c)) (Now len) Wait)
     (cond (nat_lt 0 (free_in c)) (Now (free_in c)) Wait))))
+
+-- the most bytes that go over: those in the source, as far as there is room in the target
+abbrev pub most_spliced : Conduit → Conduit → ℕ
+most_spliced source target = min (length source.content) (free_in target)
+
+-- splice(2), with EPIPE (32) where nobody can read what goes in; 0 at the end of the file; with an empty source that is open to writers, or a full
+-- target, there is no answer. The order of the cases is this profile. Whether the source is open to readers and the target to writers isn't asked here
+abbrev pub answer_splice : Conduit → Conduit → ℕ → Ready ℕ
+answer_splice source target len =
+    cond (len == 0) (Now 0)
+    (cond target.read_shut (Fail (pos 32))
+    (cond (nat_lt 0 (most_spliced source target)) (Now (min len (most_spliced source target)))
+    (cond (length source.content == 0 && source.write_shut) (Now 0) Wait)))
 
 abbrev pub is_shut : End → Conduit → Bool
 is_shut Read c = c.read_shut

@@ -1,7 +1,8 @@
 //! The pipe.
-ghost use Rattle.std.specs.Prelude.{◌≡◌, ◌<◌, ◌≤◌, ◌↔◌, ◌⊎◌, ◌++◌, length, take, drop, nat_lt, nat_le, if◌then◌else◌, IfOk, IsErrOf};
+ghost use Rattle.std.specs.Prelude.{◌≡◌, ◌<◌, ◌≤◌, ◌+◌, ◌↔◌, ◌⊎◌, ◌++◌, length, take, drop, nat_lt, nat_le, if◌then◌else◌, IfOk, IsErrOf};
+ghost use Rattle.circular_buffer.specs.Buffer.{buffer};
 ghost use Rattle.pipe.specs.Pipe.{IsConduit};
-ghost use Rattle.pipe.specs.PipeAnswers.{new_conduit, answer_read, answer_write, answer_close, answer_poll, is_shut, events_at, free_in, moved, IfNow, OnIdle, after_read, after_write, after_close};
+ghost use Rattle.pipe.specs.PipeAnswers.{new_conduit, answer_read, answer_write, answer_splice, answer_close, answer_poll, is_shut, events_at, free_in, moved, IfNow, OnIdle, after_read, after_write, after_close};
 
 use crate::ends::End;
 use crate::errno::{EBADF, EPIPE};
@@ -96,6 +97,33 @@ impl Pipe {
         }
     }
 
+    /// Moves the oldest bytes into another pipe, behind those that are there: as many as are here and as it has room for, at
+    /// most `len` (splice(2)). `Now(0)` for a `len` above 0 is the end of the file. Whether this pipe is open to readers and
+    /// the other to writers isn't looked at.
+    pub fn splice_to(&mut self, target: &mut Pipe, len: u32) -> Ready<usize>
+        ensures answer { result ≡ answer_splice self.old target.old len }
+        ensures left { self.new ≡ after_read (moved result) self.old }
+        ensures gone_in { target.new ≡ after_write (moved result) self.old.content target.old }
+        ensures unchanged { OnIdle result ((self.new ≡ self.old) × (target.new ≡ target.old)) }
+        ensures count { IfNow result (λ n. n ≤ 65536) }
+        ensures limits { IsConduit self.new × IsConduit target.new }
+    {
+        let most = self.bytes.len().min(target.free());
+        if len == 0 {
+            Ready::Now(0)
+        } else if target.read_shut {
+            Ready::Fail(EPIPE)
+        } else if most > 0 {
+            let count = most.min(len as usize);
+            move_bytes(&mut self.bytes, &mut target.bytes, count);
+            Ready::Now(count)
+        } else if self.bytes.is_empty() && self.write_shut {
+            Ready::Now(0)
+        } else {
+            Ready::Wait
+        }
+    }
+
     /// Closes an end (close(2)). An end is closed once.
     pub fn close_end(&mut self, end: End) -> Ready<()>
         ensures answer { result ≡ answer_close self.old end }
@@ -129,7 +157,8 @@ impl Pipe {
         }
     }
 
-    fn is_shut(&self, end: End) -> bool
+    /// Whether an end is closed.
+    pub fn is_shut(&self, end: End) -> bool
         ensures answer { result ≡ is_shut end self.now }
         ensures limits { IsConduit self.now }
     {
@@ -139,11 +168,18 @@ impl Pipe {
         }
     }
 
+    /// How many more bytes go in.
+    fn free(&self) -> usize
+        ensures { result ≡ free_in self.now }
+    {
+        self.bytes.capacity() - self.bytes.len()
+    }
+
     /// Whether a write of so many bytes goes in now: whole where the pipe is large enough, else in part.
     fn takes(&self, len: usize) -> bool
         ensures { result ≡ (if nat_le len self.now.cap then nat_le len (free_in self.now) else nat_lt 0 (free_in self.now)) }
     {
-        let free = self.bytes.capacity() - self.bytes.len();
+        let free = self.free();
         if len <= self.bytes.capacity() {
             len <= free
         } else {
@@ -162,6 +198,20 @@ impl Pipe {
                 | bits_if(self.read_shut, POLLERR),
         }
     }
+}
+
+/// Moves the first bytes into another buffer, behind those that are there.
+fn move_bytes(from: &mut HeapCircularBuffer<u8>, to: &mut HeapCircularBuffer<u8>, count: usize)
+    requires here { count ≤ length from.old.items }
+    requires room { length to.old.items + count ≤ to.old.capacity }
+    ensures left { from.new ≡ buffer (drop count from.old.items) from.old.capacity }
+    ensures gone_in { to.new ≡ buffer (to.old.items ++ take count from.old.items) to.old.capacity }
+{
+    let (front, back) = from.as_slices();
+    let in_front = count.min(front.len());
+    to.fill_from_slice(&front[..in_front]);
+    to.fill_from_slice(&back[..count - in_front]);
+    from.truncate_front(from.len() - count);
 }
 
 fn bits_if(holds: bool, bits: u32) -> u32

@@ -5,13 +5,13 @@ use Rattle.std.specs.Int.RustNames.{FitsSigned}
 use Rattle.std.proofs.lemmas.Bool.{false≢true, lt-ltb}
 use Rattle.std.proofs.lemmas.Bool.Decides.{eqb_tells}
 use Rattle.entry.specs.declared.op.Op.{Op}
-use Rattle.entry.specs.declared.op.Op.TheVariants.{PollAdd, Timeout, LinkTimeout, Read, Write, Invalid}
+use Rattle.entry.specs.declared.op.Op.TheVariants.{PollAdd, Timeout, LinkTimeout, Read, Write, Splice, Invalid}
 use Rattle.entry.specs.declared.op.Offset.{Offset}
 use Rattle.entry.specs.declared.op.Offset.TheVariants.{Zero, Current}
 use Rattle.entry.specs.declared.row.Row.{Row}
 use Rattle.entry.specs.Entry.{Entry}
-use Rattle.entry.specs.Table.{etime_word, fits, fits_op, is_i32, is_valid, no_fd, place, row}
-use Rattle.prep.specs.Built.{IsOfRow, is_place, link_timeout_op, offset_of, plain, poll_op, read_op, timeout_op, write_op}
+use Rattle.entry.specs.Table.{allowed_flags, etime_word, fits, fits_op, is_i32, is_valid, no_fd, place, row}
+use Rattle.prep.specs.Built.{IsOfRow, flagged, is_place, link_timeout_op, offset_of, plain, poll_op, read_op, splice_op, timeout_count_op, write_op}
 
 -- op is the operation of the row, or Invalid where the row is none's
 pub record Reads (r : Row) (op : Op) : Type 0 where
@@ -36,10 +36,10 @@ plain-fits op ok = both ok refl
 entry_with : ℕ → ℕ → Op → Entry
 entry_with user_data flags op = record { user_data = user_data; flags = flags; op = op }
 
-plain-same : (e : Entry) (op : Op) → e.user_data ≡ 0 → e.flags ≡ 0 → e.op ≡ op → e ≡ plain op
+entry-same : (e : Entry) (u f : ℕ) (op : Op) → e.user_data ≡ u → e.flags ≡ f → e.op ≡ op → e ≡ record { user_data = u; flags = f; op = op }
 unfolding entry_with
-plain-same e op user_data flags is =
-    let same : entry_with e.user_data e.flags e.op ≡ entry_with 0 0 op = rw (user_data, flags, is) refl in
+entry-same e u f op user_data flags is =
+    let same : entry_with e.user_data e.flags e.op ≡ entry_with u f op = rw (user_data, flags, is) refl in
     same
 
 -- the entry of the row is the operation's
@@ -50,9 +50,43 @@ built r e op is reads = elim (valid_or_not op) [
     | inl valid ↦
         let ok = both_true (fits_op e.op) _ is.within in
         absurd (false≢true (sym (ap is_valid not) ∙ reads.only e.op valid ok.0 (is.valid valid).0))
-    | inr none ↦ plain-same e op is.user_data (is.invalid none) (none ∙ sym not)
+    | inr none ↦ entry-same e 0 0 op is.user_data (is.invalid none) (none ∙ sym not)
   ]
 ]
+
+-- ---- other flags
+
+-- the flags that an operation may have go by its opcode
+abbrev allowed_at : ℕ → ℕ
+allowed_at code = if (code == 15) || (code == 255) then 12 else 14
+
+allowed-opcode : (op : Op) → allowed_flags op ≡ allowed_at (row op).opcode
+allowed-opcode (LinkTimeout ticks) = refl
+allowed-opcode Invalid = refl
+allowed-opcode op = refl
+
+-- the entry of a row with these flags is the one that has it, where its row allows them
+pub flagged-row : (e o : Entry) (r : Row) (flags u : ℕ) → r ≡ row e.op → u ≡ e.user_data → IsTrue (fits e) → IsTrue (fits o) → o.user_data ≡ u
+    → (IsTrue (is_valid o.op) → (r ≡ row o.op) × (flags ≡ o.flags)) → (o.op ≡ Invalid → o.flags ≡ bit_and flags 12)
+    → ((x : Entry) → IsTrue (fits x) → r ≡ row x.op → flags ≡ x.flags → u ≡ x.user_data → o ≡ x) → o ≡ flagged e flags
+flagged-row e o r flags u is number ok fit user_data valid invalid again = elim (eqb_tells (bit_and flags (allowed_flags e.op)) flags) [
+  | inl t ↦
+      let parts = both_true (fits_op e.op) _ ok in
+      let more = both_true (bit_and e.flags (allowed_flags e.op) == e.flags) _ parts.1 in
+      rw t.0 (again (record { user_data = e.user_data; flags = flags; op = e.op }) (both parts.0 (both t.0 more.1)) is refl number)
+  | inr t ↦ rw t.0 elim (valid_or_not o.op) [
+    | inl v ↦
+        let made = valid v in
+        let parts = both_true (fits_op o.op) _ fit in
+        let more = both_true (bit_and o.flags (allowed_flags o.op) == o.flags) _ parts.1 in
+        let same = allowed-opcode o.op ∙ ap (λ (q : Row). allowed_at q.opcode) (sym made.0 ∙ is) ∙ sym (allowed-opcode e.op) in
+        let kept = ap (λ (f : ℕ). bit_and f (allowed_flags e.op) == f) made.1 ∙ ap (λ (a : ℕ). bit_and o.flags a == o.flags) (sym same) ∙ more.0 in
+        absurd (false≢true (sym t.0 ∙ kept))
+    | inr none ↦ entry-same o e.user_data (bit_and flags 12) Invalid (user_data ∙ number) (invalid none) none
+  ]
+]
+
+-- ---- each builder
 
 place-offset_of : (off : ℕ) → IsTrue (is_place off) → off ≡ place (offset_of off)
 place-offset_of off h = elim (eqb_tells off 0) [
@@ -75,14 +109,14 @@ is_i32-from (pos n) fits = lt-ltb n _ fits.sfits
 is_i32-from (negsuc n) fits = lt-ltb n _ fits.sfits
 
 is_read : (z : ℤ) (len off : ℕ) (o : Op) → IsTrue (is_valid o) → IsTrue (fits_op o)
-    → record { opcode = 22; fd = z; off = off; addr = 0; len = len; word = 0 } ≡ row o → IsTrue (is_place off && nat_lt len 2147483648)
+    → record { opcode = 22; fd = z; off = off; addr = 0; len = len; word = 0; splice_fd_in = pos 0 } ≡ row o → IsTrue (is_place off && nat_lt len 2147483648)
 is_read z len off (Read fd offset n) valid ok is =
     let parts = both_true (is_i32 fd) (nat_lt n 2147483648) ok in
     both (is_place-place off offset (ap (λ (r : Row). r.off) is)) (ap (λ (r : Row). nat_lt r.len 2147483648) is ∙ parts.1)
 is_read z len off o valid ok is = let code = ap (λ (r : Row). r.opcode) is in absurd (omega arith)
 
 pub Reads-read : (z fd : ℤ) (len off : ℕ) → FitsSigned w32 fd → z ≡ fd
-    → Reads (record { opcode = 22; fd = z; off = off; addr = 0; len = len; word = 0 }) (read_op fd len off)
+    → Reads (record { opcode = 22; fd = z; off = off; addr = 0; len = len; word = 0; splice_fd_in = pos 0 }) (read_op fd len off)
 Reads-read z fd len off fits is =
     Reads-chosen _ (is_place off && nat_lt len 2147483648) (Read fd (offset_of off) len)
     (λ t.
@@ -92,14 +126,14 @@ Reads-read z fd len off fits is =
     refl (is_read z len off)
 
 is_write : (z : ℤ) (len off : ℕ) (o : Op) → IsTrue (is_valid o) → IsTrue (fits_op o)
-    → record { opcode = 23; fd = z; off = off; addr = 0; len = len; word = 0 } ≡ row o → IsTrue (is_place off && nat_lt len 2147483648)
+    → record { opcode = 23; fd = z; off = off; addr = 0; len = len; word = 0; splice_fd_in = pos 0 } ≡ row o → IsTrue (is_place off && nat_lt len 2147483648)
 is_write z len off (Write fd offset n) valid ok is =
     let parts = both_true (is_i32 fd) (nat_lt n 2147483648) ok in
     both (is_place-place off offset (ap (λ (r : Row). r.off) is)) (ap (λ (r : Row). nat_lt r.len 2147483648) is ∙ parts.1)
 is_write z len off o valid ok is = let code = ap (λ (r : Row). r.opcode) is in absurd (omega arith)
 
 pub Reads-write : (z fd : ℤ) (len off : ℕ) → FitsSigned w32 fd → z ≡ fd
-    → Reads (record { opcode = 23; fd = z; off = off; addr = 0; len = len; word = 0 }) (write_op fd len off)
+    → Reads (record { opcode = 23; fd = z; off = off; addr = 0; len = len; word = 0; splice_fd_in = pos 0 }) (write_op fd len off)
 Reads-write z fd len off fits is =
     Reads-chosen _ (is_place off && nat_lt len 2147483648) (Write fd (offset_of off) len)
     (λ t.
@@ -108,14 +142,25 @@ Reads-write z fd len off fits is =
     (both (is_i32-from fd fits) parts.1, rw (is, ← at) refl))
     refl (is_write z len off)
 
+is_splice : (y z : ℤ) (len : ℕ) (o : Op) → IsTrue (is_valid o) → IsTrue (fits_op o)
+    → record { opcode = 30; fd = z; off = 18446744073709551615; addr = 18446744073709551615; len = len; word = 0; splice_fd_in = y } ≡ row o → IsTrue (nat_lt len 2147483648)
+is_splice y z len (Splice fd_in fd_out n) valid ok is =
+    ap (λ (r : Row). nat_lt r.len 2147483648) is ∙ (both_true (is_i32 fd_out) (nat_lt n 2147483648) (both_true (is_i32 fd_in) (is_i32 fd_out && nat_lt n 2147483648) ok).1).1
+is_splice y z len o valid ok is = let code = ap (λ (r : Row). r.opcode) is in absurd (omega arith)
+
+pub Reads-splice : (y z fd_in fd_out : ℤ) (len : ℕ) → FitsSigned w32 fd_in → FitsSigned w32 fd_out → y ≡ fd_in → z ≡ fd_out
+    → Reads (record { opcode = 30; fd = z; off = 18446744073709551615; addr = 18446744073709551615; len = len; word = 0; splice_fd_in = y }) (splice_op fd_in fd_out len)
+Reads-splice y z fd_in fd_out len in_fits out_fits is same =
+    Reads-chosen _ (nat_lt len 2147483648) (Splice fd_in fd_out len) (λ t. (both (is_i32-from fd_in in_fits) (both (is_i32-from fd_out out_fits) t), rw (is, same) refl)) refl (is_splice y z len)
+
 is_poll : (z : ℤ) (mask : ℕ) (o : Op) → IsTrue (is_valid o) → IsTrue (fits_op o)
-    → record { opcode = 6; fd = z; off = 0; addr = 0; len = 0; word = mask } ≡ row o → IsTrue (bit_and mask 29 == mask)
+    → record { opcode = 6; fd = z; off = 0; addr = 0; len = 0; word = mask; splice_fd_in = pos 0 } ≡ row o → IsTrue (bit_and mask 29 == mask)
 is_poll z mask (PollAdd fd m) valid ok is =
     ap (λ (r : Row). bit_and r.word 29 == r.word) is ∙ (both_true (is_i32 fd) (bit_and m 29 == m) ok).1
 is_poll z mask o valid ok is = let code = ap (λ (r : Row). r.opcode) is in absurd (omega arith)
 
 pub Reads-poll : (z fd : ℤ) (mask : ℕ) → FitsSigned w32 fd → z ≡ fd
-    → Reads (record { opcode = 6; fd = z; off = 0; addr = 0; len = 0; word = mask }) (poll_op fd mask)
+    → Reads (record { opcode = 6; fd = z; off = 0; addr = 0; len = 0; word = mask; splice_fd_in = pos 0 }) (poll_op fd mask)
 Reads-poll z fd mask fits is =
     Reads-chosen _ (bit_and mask 29 == mask) (PollAdd fd mask) (λ t. (both (is_i32-from fd fits) t, rw is refl)) refl (is_poll z mask)
 
@@ -133,25 +178,30 @@ etime_word-eq flags h = elim (eqb_tells flags 0) [
   | inr t ↦ let is = eqb-true flags 32 (rw t.0 at h) in rw is refl
 ]
 
-is_timeout : (ticks flags : ℕ) (o : Op) → IsTrue (is_valid o) → IsTrue (fits_op o)
-    → record { opcode = 11; fd = no_fd; off = 0; addr = ticks; len = 1; word = flags } ≡ row o → IsTrue (nat_lt ticks 2147483648 && is_etime_word flags)
-is_timeout ticks flags (Timeout n success) valid ok is =
-    both (ap (λ (r : Row). nat_lt r.addr 2147483648) is ∙ ok) (is_etime_word-word flags success (ap (λ (r : Row). r.word) is))
-is_timeout ticks flags o valid ok is = let code = ap (λ (r : Row). r.opcode) is in absurd (omega arith)
+is_timeout : (ticks count flags : ℕ) (o : Op) → IsTrue (is_valid o) → IsTrue (fits_op o)
+    → record { opcode = 11; fd = no_fd; off = count; addr = ticks; len = 1; word = flags; splice_fd_in = pos 0 } ≡ row o
+    → IsTrue (nat_lt count 1024 && (nat_lt ticks 2147483648 && is_etime_word flags))
+is_timeout ticks count flags (Timeout n success m) valid ok is =
+    let parts = both_true (nat_lt m 1024) (nat_lt n 2147483648) ok in
+    both (ap (λ (r : Row). nat_lt r.off 1024) is ∙ parts.0)
+    (both (ap (λ (r : Row). nat_lt r.addr 2147483648) is ∙ parts.1) (is_etime_word-word flags success (ap (λ (r : Row). r.word) is)))
+is_timeout ticks count flags o valid ok is = let code = ap (λ (r : Row). r.opcode) is in absurd (omega arith)
 
-pub Reads-timeout : (ticks flags : ℕ) → Reads (record { opcode = 11; fd = no_fd; off = 0; addr = ticks; len = 1; word = flags }) (timeout_op ticks flags)
-Reads-timeout ticks flags =
-    Reads-chosen _ (nat_lt ticks 2147483648 && is_etime_word flags) (Timeout ticks (flags == 32))
+pub Reads-timeout : (ticks count flags : ℕ)
+    → Reads (record { opcode = 11; fd = no_fd; off = count; addr = ticks; len = 1; word = flags; splice_fd_in = pos 0 }) (timeout_count_op ticks count flags)
+Reads-timeout ticks count flags =
+    Reads-chosen _ (nat_lt count 1024 && (nat_lt ticks 2147483648 && is_etime_word flags)) (Timeout ticks (flags == 32) count)
     (λ t.
-    let parts = both_true (nat_lt ticks 2147483648) (is_etime_word flags) t in
+    let few = both_true (nat_lt count 1024) (nat_lt ticks 2147483648 && is_etime_word flags) t in
+    let parts = both_true (nat_lt ticks 2147483648) (is_etime_word flags) few.1 in
     let at = etime_word-eq flags parts.1 in
-    (parts.0, rw (← at) refl))
-    refl (is_timeout ticks flags)
+    (both few.0 parts.0, rw (← at) refl))
+    refl (is_timeout ticks count flags)
 
 is_link_timeout : (ticks : ℕ) (o : Op) → IsTrue (is_valid o) → IsTrue (fits_op o)
-    → record { opcode = 15; fd = no_fd; off = 0; addr = ticks; len = 1; word = 0 } ≡ row o → IsTrue (nat_lt ticks 2147483648)
+    → record { opcode = 15; fd = no_fd; off = 0; addr = ticks; len = 1; word = 0; splice_fd_in = pos 0 } ≡ row o → IsTrue (nat_lt ticks 2147483648)
 is_link_timeout ticks (LinkTimeout n) valid ok is = ap (λ (r : Row). nat_lt r.addr 2147483648) is ∙ ok
 is_link_timeout ticks o valid ok is = let code = ap (λ (r : Row). r.opcode) is in absurd (omega arith)
 
-pub Reads-link_timeout : (ticks : ℕ) → Reads (record { opcode = 15; fd = no_fd; off = 0; addr = ticks; len = 1; word = 0 }) (link_timeout_op ticks)
+pub Reads-link_timeout : (ticks : ℕ) → Reads (record { opcode = 15; fd = no_fd; off = 0; addr = ticks; len = 1; word = 0; splice_fd_in = pos 0 }) (link_timeout_op ticks)
 Reads-link_timeout ticks = Reads-chosen _ (nat_lt ticks 2147483648) (LinkTimeout ticks) (λ t. (t, refl)) refl (is_link_timeout ticks)

@@ -1,7 +1,7 @@
 -- The entries that the builders give.
 use Rattle.std.specs.Prelude.{◌≡◌, IsTrue, ◌==◌, ◌&&◌, ◌||◌, nat_lt, ℕ, ℤ, Bool, bit_and, if◌then◌else◌}
 use Rattle.entry.specs.declared.op.Op.{Op}
-use Rattle.entry.specs.declared.op.Op.TheVariants.{PollAdd, Timeout, LinkTimeout, Read, Write, Invalid}
+use Rattle.entry.specs.declared.op.Op.TheVariants.{PollAdd, Timeout, LinkTimeout, Read, Write, Splice, Invalid}
 use Rattle.entry.specs.declared.op.Offset.{Offset}
 use Rattle.entry.specs.declared.op.Offset.TheVariants.{Zero, Current}
 use Rattle.entry.specs.Entry.{Entry}
@@ -35,11 +35,19 @@ read_op fd len off = if is_place off && nat_lt len 2147483648 then Read fd (offs
 abbrev pub write_op : ℤ → ℕ → ℕ → Op
 write_op fd len off = if is_place off && nat_lt len 2147483648 then Write fd (offset_of off) len else Invalid
 
+abbrev pub splice_op : ℤ → ℤ → ℕ → Op
+splice_op fd_in fd_out len = if nat_lt len 2147483648 then Splice fd_in fd_out len else Invalid
+
 abbrev pub poll_op : ℤ → ℕ → Op
 poll_op fd mask = if bit_and mask 29 == mask then PollAdd fd mask else Invalid
 
+-- a TIMEOUT with a count of at most 1023 completions, and 0 for none (io_uring_enter(2), IORING_OP_TIMEOUT)
+abbrev pub timeout_count_op : ℕ → ℕ → ℕ → Op
+timeout_count_op ticks count flags =
+    if nat_lt count 1024 && (nat_lt ticks 2147483648 && ((flags == 0) || (flags == 32))) then Timeout ticks (flags == 32) count else Invalid
+
 abbrev pub timeout_op : ℕ → ℕ → Op
-timeout_op ticks flags = if nat_lt ticks 2147483648 && ((flags == 0) || (flags == 32)) then Timeout ticks (flags == 32) else Invalid
+timeout_op ticks flags = timeout_count_op ticks 0 flags
 
 abbrev pub link_timeout_op : ℕ → Op
 link_timeout_op ticks = if nat_lt ticks 2147483648 then LinkTimeout ticks else Invalid

@@ -5,14 +5,17 @@
 ghost use Rattle.std.specs.Prelude.{◌≡◌, pos, negsuc};
 ghost use Rattle.entry.specs.Table.{no_fd, row as table_row};
 ghost use Rattle.entry.specs.Text.{Says, layout};
-ghost use Rattle.prep.specs.Built.{IsOfRow, flagged, link_timeout_op, plain, poll_op, read_op, timeout_op, write_op};
+ghost use Rattle.prep.specs.Built.{IsOfRow, flagged, link_timeout_op, plain, poll_op, read_op, splice_op, timeout_count_op, timeout_op, write_op};
 
 use bitflags::Flags;
 use entry::{Op, Row, Sqe, by_opcode};
 
-/// A row with the given values in its free places.
+/// A row with the given values in its free places. Where five are given, as to io_uring_prep_rw, splice_fd_in is 0.
 macro_rules! filled {
-    (($fd:expr, $off:expr, $addr:expr, $len:expr, $word:expr) $text:literal $name:ident { $($field:ident),* } = $code:literal: [$($fd_is:tt)*] [$($off_is:tt)*] [$($addr_is:tt)*] [$($len_is:tt)*] [$($word_is:tt)*] $flags:tt $fails:tt;) => {
+    (($fd:expr, $off:expr, $addr:expr, $len:expr, $word:expr) $($row:tt)*) => {
+        filled! { ($fd, $off, $addr, $len, $word, 0) $($row)* }
+    };
+    (($fd:expr, $off:expr, $addr:expr, $len:expr, $word:expr, $splice_fd_in:expr) $text:literal $name:ident { $($field:ident),* } = $code:literal: [$($fd_is:tt)*] [$($off_is:tt)*] [$($addr_is:tt)*] [$($len_is:tt)*] [$($word_is:tt)*] [$($splice_is:tt)*] $flags:tt $fails:tt;) => {
         Row {
             opcode: $code,
             fd: given!($fd, $($fd_is)*),
@@ -20,6 +23,7 @@ macro_rules! filled {
             addr: given!($addr, $($addr_is)*),
             len: given!($len, $($len_is)*),
             word: given!($word, $($word_is)*),
+            splice_fd_in: given!($splice_fd_in, $($splice_is)*),
         }
     };
 }
@@ -28,6 +32,7 @@ macro_rules! given {
     ($value:expr, none) => { -1 };
     ($value:expr, zero) => { 0 };
     ($value:expr, one) => { 1 };
+    ($value:expr, current) => { u64::MAX };
     ($value:expr, $kind:ident $field:ident) => { $value };
 }
 
@@ -48,7 +53,7 @@ pub fn nop() -> Sqe
 
 /// io_uring_prep_read(3), whose buffer is handed over with the entry.
 pub fn read(fd: i32, len: u32, off: u64) -> Sqe
-    ensures says { Says (layout (record { opcode = 22; fd = fd; off = off; addr = 0; len = len; word = 0 }) 0 0) result }
+    ensures says { Says (layout (record { opcode = 22; fd = fd; off = off; addr = 0; len = len; word = 0; splice_fd_in = pos 0 }) 0 0) result }
     ensures entry { result ≡ plain (read_op fd len off) }
 {
     entry_of(by_opcode!(Read: filled!(fd, off, 0, len, 0)))
@@ -56,7 +61,7 @@ pub fn read(fd: i32, len: u32, off: u64) -> Sqe
 
 /// io_uring_prep_write(3), whose buffer is handed over with the entry.
 pub fn write(fd: i32, len: u32, off: u64) -> Sqe
-    ensures says { Says (layout (record { opcode = 23; fd = fd; off = off; addr = 0; len = len; word = 0 }) 0 0) result }
+    ensures says { Says (layout (record { opcode = 23; fd = fd; off = off; addr = 0; len = len; word = 0; splice_fd_in = pos 0 }) 0 0) result }
     ensures entry { result ≡ plain (write_op fd len off) }
 {
     entry_of(by_opcode!(Write: filled!(fd, off, 0, len, 0)))
@@ -71,7 +76,7 @@ pub fn close(fd: i32) -> Sqe
 
 /// io_uring_prep_poll_add(3): `mask` has events of poll(2).
 pub fn poll_add(fd: i32, mask: u32) -> Sqe
-    ensures says { Says (layout (record { opcode = 6; fd = fd; off = 0; addr = 0; len = 0; word = mask }) 0 0) result }
+    ensures says { Says (layout (record { opcode = 6; fd = fd; off = 0; addr = 0; len = 0; word = mask; splice_fd_in = pos 0 }) 0 0) result }
     ensures entry { result ≡ plain (poll_op fd mask) }
 {
     entry_of(by_opcode!(PollAdd: filled!(fd, 0, 0, 0, mask)))
@@ -79,15 +84,24 @@ pub fn poll_add(fd: i32, mask: u32) -> Sqe
 
 /// io_uring_prep_timeout(3), with ticks of the ring's clock in place of a timespec. `flags` is 0 or ETIME_SUCCESS (32).
 pub fn timeout(ticks: u64, flags: u32) -> Sqe
-    ensures says { Says (layout (record { opcode = 11; fd = no_fd; off = 0; addr = ticks; len = 1; word = flags }) 0 0) result }
+    ensures says { Says (layout (record { opcode = 11; fd = no_fd; off = 0; addr = ticks; len = 1; word = flags; splice_fd_in = pos 0 }) 0 0) result }
     ensures entry { result ≡ plain (timeout_op ticks flags) }
 {
-    entry_of(by_opcode!(Timeout: filled!(-1, 0, ticks, 1, flags)))
+    timeout_count(ticks, 0, flags)
+}
+
+/// io_uring_prep_timeout(3) with a count: it replies 0 once so many later requests of its ring have replied, if that comes
+/// first. `count` is at most 1023, and 0 counts nothing.
+pub fn timeout_count(ticks: u64, count: u64, flags: u32) -> Sqe
+    ensures says { Says (layout (record { opcode = 11; fd = no_fd; off = count; addr = ticks; len = 1; word = flags; splice_fd_in = pos 0 }) 0 0) result }
+    ensures entry { result ≡ plain (timeout_count_op ticks count flags) }
+{
+    entry_of(by_opcode!(Timeout: filled!(-1, count, ticks, 1, flags)))
 }
 
 /// io_uring_prep_link_timeout(3), with ticks of the ring's clock in place of a timespec.
 pub fn link_timeout(ticks: u64) -> Sqe
-    ensures says { Says (layout (record { opcode = 15; fd = no_fd; off = 0; addr = ticks; len = 1; word = 0 }) 0 0) result }
+    ensures says { Says (layout (record { opcode = 15; fd = no_fd; off = 0; addr = ticks; len = 1; word = 0; splice_fd_in = pos 0 }) 0 0) result }
     ensures entry { result ≡ plain (link_timeout_op ticks) }
 {
     entry_of(by_opcode!(LinkTimeout: filled!(-1, 0, ticks, 1, 0)))
@@ -105,6 +119,14 @@ pub fn timeout_remove(user_data: u64) -> Sqe
     ensures { result ≡ plain (Op.TimeoutRemove user_data) }
 {
     entry_of(by_opcode!(TimeoutRemove: filled!(-1, 0, user_data, 0, 0)))
+}
+
+/// io_uring_prep_splice(3) between two pipes, which have no offsets.
+pub fn splice(fd_in: i32, fd_out: i32, len: u32) -> Sqe
+    ensures says { Says (layout (record { opcode = 30; fd = fd_out; off = 18446744073709551615; addr = 18446744073709551615; len = len; word = 0; splice_fd_in = fd_in }) 0 0) result }
+    ensures entry { result ≡ plain (splice_op fd_in fd_out len) }
+{
+    entry_of(by_opcode!(Splice: filled!(fd_out, 0, 0, len, 0, fd_in)))
 }
 
 /// The entry that its bytes stand for with this flags byte: io_uring_sqe_set_flags(3).

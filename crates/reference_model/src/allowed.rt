@@ -12,7 +12,9 @@ fn fails(op: Op, res: i32) -> bool {
             etime_success: true,
             ..
         } if res == TIMED_OUT => false,
-        Op::Read { len, .. } | Op::Write { len, .. } => i64::from(res) < i64::from(len),
+        Op::Read { len, .. } | Op::Write { len, .. } | Op::Splice { len, .. } => {
+            i64::from(res) < i64::from(len)
+        }
         _ => res < 0,
     }
 }
@@ -161,6 +163,7 @@ impl<'a> List<'a> {
             }
             Event::Arm { req, deadline } => self.arms(*req, *deadline),
             Event::Expire(r) => self.is_timeout(*r) && self.is_due(*r),
+            Event::Count(r) => self.has_counted(*r),
             Event::Settle(l) => self.settles(*l),
             Event::Sever(r) => self.waits(*r) && self.is_severed(*r),
             Event::Reap(r) => self.reply(*r).is_some() && !self.is_reaped(*r),
@@ -211,6 +214,31 @@ impl<'a> List<'a> {
         self.waits(r)
             && self.is_open(r)
             && u64::from(deadline) == u64::from(self.now()) + u64::from(ticks)
+    }
+
+    /// It is an armed TIMEOUT with a count, and so many later requests of its ring have an answer.
+    fn has_counted(self, r: Req) -> bool {
+        match self.op(r) {
+            Some(Op::Timeout { count, .. }) => {
+                count > 0 && self.armed(r).is_some() && self.later_answers(r) >= u64::from(count)
+            }
+            _ => false,
+        }
+    }
+
+    /// How many later requests of its ring have an answer.
+    fn later_answers(self, r: Req) -> u64 {
+        let mut answers = 0u64;
+        for event in self.events {
+            if let Event::Submit { req, .. } = *event
+                && req.ring == r.ring
+                && req.k > r.k
+                && self.reply(*req).is_some()
+            {
+                answers = answers.wrapping_add(1);
+            }
+        }
+        answers
     }
 
     /// It is an armed LINK_TIMEOUT that ran out, or whose target has an answer.

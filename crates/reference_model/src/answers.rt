@@ -12,6 +12,16 @@ pub enum End {
     Write(usize),
 }
 
+/// Where bytes came from that went into a pipe.
+#[derive(Clone, Copy)]
+enum Source<'a> {
+    Nothing,
+    /// The buffer of a WRITE.
+    Buffer(&'a [u8]),
+    /// The front of another pipe, by a SPLICE.
+    Pipe(usize),
+}
+
 impl<'a> List<'a> {
     /// The pipe p has the read end 2p and the write end 2p + 1.
     fn end(self, fd: i32) -> End {
@@ -28,36 +38,49 @@ impl<'a> List<'a> {
         }
     }
 
-    /// How many bytes of this WRITE went into the pipe by this event.
-    fn put(self, event: &Event, p: usize) -> (usize, &'a [u8]) {
+    /// The entry that an event answers with a number above 0, and that number.
+    fn moved(self, event: &Event) -> Option<(Req, Op, usize)> {
         let Event::Reply { req, res, .. } = event else {
-            return (0, &[]);
+            return None;
         };
-        match (self.placed(*req), self.handed(*req)) {
-            (Some(placed), Some(handed)) => match placed.op {
-                Op::Write { fd, .. } if *res > 0 && self.end(fd) == End::Write(p) => {
-                    let n = res.unsigned_abs() as usize;
-                    (n.min(handed.bytes.len()), handed.bytes)
+        if *res <= 0 {
+            return None;
+        }
+        Some((*req, self.placed(*req)?.op, res.unsigned_abs() as usize))
+    }
+
+    /// How many bytes went into the pipe by this event, and where they came from.
+    fn put(self, event: &Event, p: usize) -> (usize, Source<'a>) {
+        match self.moved(event) {
+            Some((req, Op::Write { fd, .. }, n)) if self.end(fd) == End::Write(p) => {
+                let bytes = self.buffer(req);
+                (n.min(bytes.len()), Source::Buffer(bytes))
+            }
+            Some((_, Op::Splice { fd_in, fd_out, .. }, n)) if self.end(fd_out) == End::Write(p) => {
+                match self.end(fd_in) {
+                    End::Read(from) => (n, Source::Pipe(from)),
+                    _ => (0, Source::Nothing),
                 }
-                _ => (0, &[]),
-            },
-            _ => (0, &[]),
+            }
+            _ => (0, Source::Nothing),
+        }
+    }
+
+    /// The buffer that was handed in.
+    fn buffer(self, r: Req) -> &'a [u8] {
+        match self.handed(r) {
+            Some(handed) => handed.bytes,
+            None => &[],
         }
     }
 
     /// How many bytes left the pipe by this event.
     fn taken(self, event: &Event, p: usize) -> usize {
-        let Event::Reply { req, res, .. } = event else {
-            return 0;
-        };
-        match self.placed(*req) {
-            Some(placed) => match placed.op {
-                Op::Read { fd, .. } if *res > 0 && self.end(fd) == End::Read(p) => {
-                    res.unsigned_abs() as usize
-                }
-                _ => 0,
-            },
-            None => 0,
+        match self.moved(event) {
+            Some((_, Op::Read { fd, .. } | Op::Splice { fd_in: fd, .. }, n)) => {
+                if self.end(fd) == End::Read(p) { n } else { 0 }
+            }
+            _ => 0,
         }
     }
 
@@ -77,15 +100,39 @@ impl<'a> List<'a> {
         into.saturating_sub(out)
     }
 
-    /// The byte at this place of all that went in.
-    fn byte(self, p: usize, place: usize) -> Option<u8> {
-        let mut before = 0usize;
-        for event in self.events {
-            let (n, bytes) = self.put(*event, p);
-            if place >= before && place - before < n {
-                return bytes.get(place - before).copied();
+    /// The first so many events.
+    fn first_events(self, n: usize) -> List<'a> {
+        List {
+            rings: self.rings,
+            caps: self.caps,
+            events: &self.events[..n.min(self.events.len())],
+        }
+    }
+
+    /// The byte at this place of all that went into the pipe. The event that put it there is looked for from the last one
+    /// back: a WRITE has it in its buffer; behind a SPLICE it was at a place of another pipe before.
+    fn byte(self, pipe: usize, place: usize) -> Option<u8> {
+        let mut p = pipe;
+        let mut place = place;
+        for i in (0..self.events.len()).rev() {
+            let (n, source) = self.put(self.events[i], p);
+            if n == 0 {
+                continue;
             }
-            before = before.wrapping_add(n);
+            let earlier = self.first_events(i);
+            let (into, _) = earlier.into_and_out(p);
+            if place < into || place - into >= n {
+                continue;
+            }
+            match source {
+                Source::Buffer(bytes) => return bytes.get(place - into).copied(),
+                Source::Pipe(from) => {
+                    let (_, out) = earlier.into_and_out(from);
+                    place = out.wrapping_add(place - into);
+                    p = from;
+                }
+                Source::Nothing => return None,
+            }
         }
         None
     }
@@ -179,6 +226,9 @@ impl<'a> List<'a> {
                 -9
             }),
             Op::PollAdd { fd, mask } => self.poll(self.end(fd), mask),
+            Op::Splice { fd_in, fd_out, len } => {
+                self.splice(self.end(fd_in), self.end(fd_out), len as usize)
+            }
             _ => None,
         }
     }
@@ -200,6 +250,30 @@ impl<'a> List<'a> {
             }
         } else if free >= 1 {
             i64::try_from(free).ok()
+        } else {
+            None
+        }
+    }
+
+    fn splice(self, from: End, to: End, len: usize) -> Option<i64> {
+        let (End::Read(source), true) = (from, self.is_open_end(from)) else {
+            return Some(-9);
+        };
+        let (End::Write(target), true) = (to, self.is_open_end(to)) else {
+            return Some(-9);
+        };
+        let there = self.content_len(source);
+        let free = self.free(target);
+        if source == target {
+            Some(-22)
+        } else if len == 0 {
+            Some(0)
+        } else if self.is_closed(End::Read(target)) {
+            Some(-32)
+        } else if there > 0 && free > 0 {
+            i64::try_from(len.min(there).min(free)).ok()
+        } else if there == 0 && self.is_closed(End::Write(source)) {
+            Some(0)
         } else {
             None
         }

@@ -179,6 +179,7 @@ impl<'a> List<'a> {
                 Some(CANCELLED)
             }
             Event::Expire(req) if *req == r => Some(TIMED_OUT),
+            Event::Count(req) if *req == r => Some(0),
             Event::Settle(req) if *req == r => Some(if self.has_fired(r) {
                 TIMED_OUT
             } else {

@@ -7,9 +7,7 @@ use Rattle.history.specs.History.{same}
 use Rattle.history.specs.Ticked.{ticked}
 use Rattle.history.proofs.Requests.{bool_cases, same_true}
 use Rattle.steps.specs.declared.line.Line.{Line}
-use Rattle.steps.specs.declared.view.Role.{Role}
-use Rattle.steps.specs.Journal.{event_of, freed}
-use Rattle.steps.specs.Rule.{owns}
+use Rattle.steps.specs.Journal.{freed}
 use Rattle.work.specs.Board.{Facts, IsOf}
 use Rattle.work.specs.Passes.{Pass, own_of}
 use Rattle.board.specs.Calls.{Goes}

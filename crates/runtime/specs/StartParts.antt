@@ -1,9 +1,10 @@
 -- What a new runtime is made of.
-use Rattle.std.specs.Prelude.{◌≡◌, ℕ, suc, ◌+◌, ◌<◌, List, [], ◌∷◌, All, length}
+use Rattle.std.specs.Prelude.{◌≡◌, ℕ, suc, ◌+◌, ◌<◌, List, [], ◌∷◌, All, length, sum_by}
 use Rattle.bell.specs.BellPasses.{Facts as Bell, Ringing, IsRingerOf, IsSleeperOf}
 use Rattle.board.specs.declared.shape.Shape.{Shape}
 use Rattle.board.specs.New.{IsNew}
-use Rattle.ready.specs.Ready.{AreAll, IsOf as IsOfQueue}
+use Rattle.ready.specs.Ready.{IsOf as IsOfQueue}
+use Rattle.ready.specs.Rule.{all_shares}
 use Rattle.runtime.specs.declared.startup.Parts.{Parts}
 
 -- the ringer of this bell and of the ring n, which has told no tail
@@ -17,12 +18,13 @@ AreRingers b n (r ∷ rs) = IsNewRinger b n r × AreRingers b (suc n) rs
 
 -- a board of this shape, a bell and a ready queue that go with it, and all their passes
 pub record IsParts (s : Shape) (p : Parts) : Type 0 where
-  pub board : IsNew s p.shared.board p.poller p.submitters.items p.workers.items
+  pub board : IsNew s p.shared.board p.poller.poller p.clients.submitters.items p.workers.workers.items
   pub some : 0 < length s.rings.items
   pub rings : p.shared.bell.rings ≡ length s.rings.items
-  pub sleeper : IsSleeperOf p.shared.bell p.sleeper
-  pub ringers : AreRingers p.shared.bell 0 p.ringers.items × (length p.ringers.items ≡ length s.rings.items)
-  pub passes : All (λ q. IsOfQueue p.shared.queue q) p.passes.items
-  pub count : length p.passes.items ≡ length p.workers.items + 1
-  pub shares : AreAll p.passes.items
+  pub sleeper : IsSleeperOf p.shared.bell p.poller.sleeper
+  pub ringers : AreRingers p.shared.bell 0 p.clients.ringers.items × (length p.clients.ringers.items ≡ length s.rings.items)
+  pub ready : IsOfQueue p.shared.queue p.poller.ready
+  pub passes : All (λ q. IsOfQueue p.shared.queue q) p.workers.passes.items
+  pub count : length p.workers.passes.items ≡ length p.workers.workers.items
+  pub shares : p.poller.ready.share + sum_by (λ q. q.share) p.workers.passes.items ≡ all_shares
   pub posts : length p.shared.posts.items ≡ length s.rings.items

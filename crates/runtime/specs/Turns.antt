@@ -2,7 +2,7 @@
 use Rattle.std.specs.Prelude.{◌≡◌, List, [], ◌++◌, ◌∷◌, Option, Some, None}
 use Rattle.history.specs.declared.req.Req.{Req}
 use Rattle.history.specs.declared.event.Event.{Event}
-use Rattle.history.specs.declared.event.Event.TheVariants.{Reply, Take, Expire, Fire, Settle, Sever, Cut}
+use Rattle.history.specs.declared.event.Event.TheVariants.{Reply, Take, Expire, Count, Fire, Settle, Sever, Cut}
 use Rattle.steps.specs.declared.line.Line.{Line}
 use Rattle.ready.specs.Ready.{Moves}
 use Rattle.work.specs.Board.{Facts, IsOf}
@@ -13,6 +13,7 @@ abbrev pub answered_one : Event → List Req
 answered_one (Reply r res data') = r ∷ []
 answered_one (Take c t) = t ∷ []
 answered_one (Expire r) = r ∷ []
+answered_one (Count r) = r ∷ []
 answered_one (Fire l t) = t ∷ []
 answered_one (Settle l) = l ∷ []
 answered_one (Sever r) = r ∷ []

@@ -1,5 +1,5 @@
 //! The client of one ring.
-ghost use Rattle.std.specs.Prelude.{◌≡◌, ◌⊎◌, ◌+◌, ◌*◌, ◌<◌, ◌≤◌, ℕ, [], ◌∷◌, ◌++◌, length, IfOk, IfErr, IfSome, MatchOption};
+ghost use Rattle.std.specs.Prelude.{◌≡◌, ◌⊎◌, ◌+◌, ◌<◌, ◌≤◌, ℕ, [], ◌∷◌, ◌++◌, length, IfOk, IfErr, IfSome, MatchOption};
 ghost use Rattle.std.specs.Arc.{arc_value};
 ghost use Rattle.history.specs.declared.event.Event.TheVariants.{Reap};
 ghost use Rattle.history.specs.History.{phase, submits};
@@ -10,7 +10,7 @@ ghost use Rattle.work.specs.Board.{IsOf};
 ghost use Rattle.work.specs.Passes.{seen_of, Took};
 ghost use Rattle.bell.specs.BellPasses.{IsRingerOf};
 ghost use Rattle.compring.specs.Posts.{waiting};
-ghost use Rattle.board.specs.Batches.{submits_of};
+ghost use Rattle.board.specs.Batches.{steps_in, submits_of};
 ghost use Rattle.board.specs.Calls.{Goes, Finds, next_of};
 ghost use Rattle.board.specs.Headline.{IsCompletion, HasOnce};
 ghost use Rattle.board.specs.Lanes.{nth, LinkedAreReaped};
@@ -139,7 +139,7 @@ impl Client {
         ensures submitted { IfOk result (λ r. (r ≡ next_of self.old.submitter self.old.ring) × Goes self.old.board self.old.submitter (submits_of self.old.ring r.k batch.items) self.new.submitter) }
         ensures told { IfOk result (λ r. submits (seen_of self.new.submitter) self.old.ring ≤ self.new.tail) }
         ensures free { IfOk result (λ r. (i : ℕ) → i < length batch.items → IsFree self.old.board.layout.cells (seen_of self.new.submitter) (nth r.ring (r.k + i))) }
-        ensures steps { IfOk result (λ r. (n : ℕ) × (n ≤ cells_in self.old.board.layout.cells r.ring + 1) × (LinkedAreReaped (seen_of self.old.submitter) r.ring → n ≡ 0) × Took self.old.submitter.view self.new.submitter.view (n + 3 * length batch.items)) }
+        ensures steps { IfOk result (λ r. (n : ℕ) × (n ≤ cells_in self.old.board.layout.cells r.ring + 1) × (LinkedAreReaped (seen_of self.old.submitter) r.ring → n ≡ 0) × Took self.old.submitter.view self.new.submitter.view (n + steps_in batch.items)) }
         ensures refused { IfErr result (λ e. Goes self.old.board self.old.submitter [] self.new.submitter × (e.1 ≡ batch)) }
         ensures reason { IfErr result (λ e. RefusesBatch self.old.board batch.items self.old.ring (next_of self.old.submitter self.old.ring).k self.old.submitter self.new.submitter e.0) }
     {

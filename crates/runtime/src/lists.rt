@@ -15,14 +15,14 @@ pub(crate) struct Intake {
     pub taken: u64,
 }
 
-/// Of each ring how many requests were taken up; those that wait for another; the armed timers; among them those that may be
-/// LINK_TIMEOUTs, which wait for their targets; the timer that found no memory; and the time of the clock.
+/// Of each ring how many requests were taken up; those that wait for another; the armed timers; among them those that may wait for
+/// replies, as LINK_TIMEOUTs do and TIMEOUTs that count; the timer that found no memory; and the time of the clock.
 #[derive(Drop)]
 pub(crate) struct Lists {
     pub rings: Vec<Intake>,
     pub waiting: Shelf,
     pub timers: Timers,
-    pub linked: Shelf,
+    pub watchers: Shelf,
     pub unset: Option<(Req, u32)>,
     pub now: u32,
 }
@@ -33,12 +33,12 @@ impl Lists {
         ensures { IfOk result (λ l. l.rings ≡ rings) }
     {
         let waiting = Shelf::new(alloc, places)?;
-        let linked = Shelf::new(alloc, places)?;
+        let watchers = Shelf::new(alloc, places)?;
         Ok(Lists {
             rings,
             waiting,
             timers: Timers::new(alloc),
-            linked,
+            watchers,
             unset: None,
             now: 0,
         })
@@ -47,7 +47,7 @@ impl Lists {
     /// Notes the deadline of a timer. Where that finds no memory it is tried again by `set_again`.
     pub fn set(&mut self, req: Req, deadline: u32) -> Result<(), Memory>
         ensures rings { length self.new.rings.items ≡ length self.old.rings.items }
-        ensures shelves { (self.new.waiting ≡ self.old.waiting) × (self.new.linked ≡ self.old.linked) }
+        ensures shelves { (self.new.waiting ≡ self.old.waiting) × (self.new.watchers ≡ self.old.watchers) }
     {
         if self.timers.arm(req, deadline).is_err() {
             self.unset = Some((req, deadline));
@@ -70,7 +70,7 @@ impl Lists {
     pub fn take_up(&mut self, ring: u16, k: u64) -> Req
         ensures req { result ≡ record { ring = ring; k = k } }
         ensures rings { length self.new.rings.items ≡ length self.old.rings.items }
-        ensures shelves { (self.new.waiting ≡ self.old.waiting) × (self.new.linked ≡ self.old.linked) }
+        ensures shelves { (self.new.waiting ≡ self.old.waiting) × (self.new.watchers ≡ self.old.watchers) }
     {
         let req = Req { ring, k };
         if let Some(intake) = self.rings.get_mut(usize::from(ring)) {

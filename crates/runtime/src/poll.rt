@@ -13,7 +13,7 @@ use crate::error::Memory;
 use crate::hands::Hands;
 use crate::lists::{Intake, Lists};
 use crate::releasing::{END, release_waiting, take_new};
-use crate::ringing::{has_timers, ring_due, settle_linked};
+use crate::ringing::{has_timers, ring_due, watch_replies};
 use crate::turn::Turn;
 use bell::{Bell, Nap, Sleeper};
 use board::{Board, Phase, Poller, RingShape, Shape};
@@ -210,7 +210,7 @@ fn look_after<R: Wait>(
     release_waiting(rt, board, queue, hands, lists, outbox)?;
     take_new(rt, board, queue, sleeper, hands, lists, outbox)?;
     ring_due(board, hands, lists, outbox);
-    settle_linked(board, hands, lists, outbox);
+    watch_replies(board, hands, lists, outbox);
     hands.retry(rt, queue);
     Ok(has_work(board, hands, lists, outbox))
 }
@@ -227,7 +227,7 @@ fn has_work(board: &Board, hands: &mut Hands, lists: &mut Lists, outbox: &mut Ou
     if hands.moved || !hands.kept.is_empty() {
         return true;
     }
-    if lists.waiting.len() > 0 || lists.linked.len() > 0 {
+    if lists.waiting.len() > 0 || lists.watchers.len() > 0 {
         return true;
     }
     has_timers(board, hands, lists, outbox) || hands.moved

@@ -21,14 +21,14 @@ fn arm(board: &Board, hands: &mut Hands, lists: &mut Lists, req: Req) -> Result<
     ensures armed { HasArmed board.now hands.old hands.new }
     ensures rings { length lists.new.rings.items ≡ length lists.old.rings.items }
 {
-    if lists.linked.is_full() {
+    if lists.watchers.is_full() {
         lists.waiting.put(req);
         return Ok(());
     }
     match board.arm(&mut hands.poller, req) {
         Arming::Armed(deadline) => {
             hands.moved = true;
-            lists.linked.put(req);
+            lists.watchers.put(req);
             lists.set(req, deadline)
         }
         Arming::NotHeld => Ok(()),

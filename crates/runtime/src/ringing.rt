@@ -6,10 +6,10 @@ ghost use Rattle.runtime.specs.PollTurns.{HasRoom, Rang};
 
 use crate::hands::Hands;
 use crate::lists::Lists;
-use board::{Board, Expiry, Firing, Settling};
+use board::{Board, Counting, Expiry, Firing, Settling};
 use history::Req;
 use outbox::Outbox;
-use wheel::TimerSet;
+use wheel::{TimerSet, Timers};
 
 /// The request before this one, which is the target of a LINK_TIMEOUT.
 fn target_of(req: Req) -> Req
@@ -134,8 +134,35 @@ pub(crate) fn has_timers(
     !ring_by(board, hands, lists, outbox, u32::MAX)
 }
 
-/// Settles those LINK_TIMEOUTs whose targets have replied. Those that wait for theirs stay, and no other timer does.
-pub(crate) fn settle_linked(
+/// Looks after an armed timer that may wait for replies: a TIMEOUT that counts them is answered once they are enough, and a
+/// LINK_TIMEOUT once its target has replied. Whether it still waits. One that has counted enough is forgotten.
+fn watch(
+    board: &Board,
+    hands: &mut Hands,
+    timers: &mut Timers,
+    outbox: &mut Outbox,
+    req: Req,
+) -> bool
+    requires own { IsOf board.now hands.old.poller }
+    requires some { 0 < hands.old.room }
+    requires room { HasRoom hands.old outbox.old }
+    ensures rang { Rang board.now hands.old outbox.old hands.new outbox.new }
+{
+    match board.count(&mut hands.poller, req) {
+        Counting::Counted => {
+            timers.drop_timer(req);
+            hands.answer(outbox, req);
+            false
+        }
+        Counting::Fewer => true,
+        Counting::NotCounted => settle(board, hands, outbox, req),
+        Counting::NotArmed => false,
+    }
+}
+
+/// Answers those TIMEOUTs that have counted enough, and those LINK_TIMEOUTs whose targets have replied. Those that wait on stay, and
+/// no other timer does.
+pub(crate) fn watch_replies(
     board: &Board,
     hands: &mut Hands,
     lists: &mut Lists,
@@ -146,15 +173,15 @@ pub(crate) fn settle_linked(
     ensures rang { Rang board.now hands.old outbox.old hands.new outbox.new }
     ensures rings { length lists.new.rings.items ≡ length lists.old.rings.items }
 {
-    for _n in 0..lists.linked.len() {
+    for _n in 0..lists.watchers.len() {
         if hands.room == 0 {
             break;
         }
-        let Some(req) = lists.linked.take() else {
+        let Some(req) = lists.watchers.take() else {
             break;
         };
-        if settle(board, hands, outbox, req) {
-            lists.linked.put(req);
+        if watch(board, hands, &mut lists.timers, outbox, req) {
+            lists.watchers.put(req);
         }
     }
 }

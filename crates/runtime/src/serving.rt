@@ -149,8 +149,9 @@ fn serve<G: Turnstile>(
 }
 
 /// One turn of a worker: it takes a number from the ready queue, begins that request and runs it. What it answered is in the outbox,
-/// which has room for two. A number whose request isn't Ready any more is dropped. It is `Idle` only where it found no number, and
-/// keeps none.
+/// which has room for two. A number whose request isn't Ready any more is dropped. That of a request that parked goes back into the
+/// queue in the next turn, so that what the worker does until then leaves the request to a cancel. The turn is `Idle` only where it
+/// found no number, and keeps none.
 pub fn work_turn<R: Wait, G: Turnstile>(
     rt: &R,
     board: &Board,
@@ -182,6 +183,5 @@ pub fn work_turn<R: Wait, G: Turnstile>(
     if is_parked {
         desk.keep(req);
     }
-    desk.retry(rt, queue);
     (worker, Turn::Moved)
 }

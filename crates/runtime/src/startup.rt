@@ -1,16 +1,18 @@
 //! The start of a runtime.
-ghost use Rattle.std.specs.Prelude.{◌≡◌, ◌≢◌, ◌<◌, ◌≤◌, [], All, false, length, sum_by, vec_capacity, Err, IfOk, IfErr};
+ghost use Rattle.std.specs.Prelude.{◌≡◌, ◌≢◌, ◌+◌, ◌<◌, ◌≤◌, [], All, false, length, sum_by, vec_capacity, Err, IfOk, IfErr};
 ghost use Rattle.std.specs.Arc.{arc_value};
 ghost use Rattle.work.specs.Board.{IsOf};
 ghost use Rattle.work.specs.Passes.{seen_of};
-ghost use Rattle.ready.specs.Ready.{AreAll, IsOf as IsOfQueue};
+ghost use Rattle.ready.specs.QueueParts.{IsRoom};
+ghost use Rattle.ready.specs.Ready.{IsOf as IsOfQueue};
+ghost use Rattle.ready.specs.Rule.{all_shares};
 ghost use Rattle.bell.specs.BellPasses.{IsSleeperOf};
 ghost use Rattle.board.specs.New.{AreSubmitters};
 ghost use Rattle.board.specs.ShapeLimits.{is_shape};
 ghost use Rattle.runtime.specs.Clients.{AreClients, AreNewClients, IsStarted};
 ghost use Rattle.runtime.specs.Crews.{AreWorking, shares_of};
 ghost use Rattle.runtime.specs.Loops.{IsPolling, IsServing};
-ghost use Rattle.runtime.specs.PollTurns.{IsNewDesk};
+ghost use Rattle.runtime.specs.PollTurns.{IsNewDesk, IsPollers};
 ghost use Rattle.runtime.specs.StartParts.{AreRingers, IsParts};
 ghost use Rattle.runtime.specs.declared.error.StartError.TheVariants.{BadShape};
 
@@ -27,7 +29,7 @@ use board::{Board, BoardError, Poller, RingShape, Shape, Submitter, Worker};
 use compring::CompletionRing;
 use controls::{Clock, Turnstile};
 use outbox::Outbox;
-use ready::{ReadyPass, ReadyQueue};
+use ready::{GatherRoom, ReadyPass, ReadyQueue};
 use std::alloc::Global;
 use std::snapshot::Snapshot;
 use std::sync::atomic::{AtomicBool, Ordering};
@@ -42,12 +44,47 @@ const WORK_PLACES: u32 = 17;
 #[derive(Drop)]
 struct Parts {
     shared: Shared,
+    poller: PollerParts,
+    clients: ClientParts,
+    workers: WorkerParts,
+}
+
+/// The passes of the poller: of the board, of the bell and of the ready queue.
+#[derive(Drop)]
+struct PollerParts {
     poller: Poller,
-    submitters: Vec<Submitter>,
-    workers: Vec<Worker>,
-    ringers: Vec<Ringer>,
     sleeper: Sleeper,
+    ready: ReadyPass,
+}
+
+/// The passes of the clients, of the board and of the bell, in the order of the rings.
+#[derive(Drop)]
+struct ClientParts {
+    submitters: Vec<Submitter>,
+    ringers: Vec<Ringer>,
+}
+
+/// The passes of the workers, of the board and of the ready queue.
+#[derive(Drop)]
+struct WorkerParts {
+    workers: Vec<Worker>,
     passes: Vec<ReadyPass>,
+}
+
+/// What is shared by all threads, and by the clients.
+#[derive(Drop)]
+struct Stage<G> {
+    shared: Arc<Shared>,
+    turnstile: Arc<G>,
+}
+
+/// Room for the threads of the workers, for the passes that they bring back, and for the end of the ready queue.
+#[derive(Drop)]
+struct Rooms {
+    threads: Vec<WorkThread>,
+    ended: Vec<Worker>,
+    passes: Vec<ReadyPass>,
+    gather: GatherRoom,
 }
 
 /// The completion ring of each ring: of so many posts as it says, else of twice as many as it has cells.
@@ -77,17 +114,25 @@ fn bell_of(alloc: Global, rings: u16) -> Result<(Bell, Vec<Ringer>, Sleeper), Me
     }
 }
 
-/// A new ready queue and its passes.
-fn queue_of(alloc: Global, places: u32, passes: u32) -> Result<(ReadyQueue, Vec<ReadyPass>), Memory>
-    requires { (0 < places) × (0 < passes) }
-    ensures passes { IfOk result (λ t. All (λ p. IsOfQueue t.0 p) t.1.items) }
-    ensures count { IfOk result (λ t. length t.1.items ≡ passes) }
-    ensures shares { IfOk result (λ t. AreAll t.1.items) }
+/// A new ready queue, the poller's pass, and as many others.
+fn queue_of(
+    alloc: Global,
+    places: u32,
+    others: u32,
+) -> Result<(ReadyQueue, ReadyPass, Vec<ReadyPass>), Memory>
+    requires { (0 < places) × (others < 4294967295) }
+    ensures ready { IfOk result (λ t. IsOfQueue t.0 t.1) }
+    ensures passes { IfOk result (λ t. All (λ p. IsOfQueue t.0 p) t.2.items) }
+    ensures count { IfOk result (λ t. length t.2.items ≡ others) }
+    ensures shares { IfOk result (λ t. t.1.share + sum_by (λ p. p.share) t.2.items ≡ all_shares) }
 {
-    match ReadyQueue::new(alloc, places, passes) {
-        Ok((queue, passes)) => Ok((queue, passes)),
-        Err(_) => Err(Memory),
-    }
+    let Ok((queue, mut passes)) = ReadyQueue::new(alloc, places, others + 1) else {
+        return Err(Memory);
+    };
+    let Some(ready) = passes.pop() else {
+        unreachable!()
+    };
+    Ok((queue, ready, passes))
 }
 
 /// What a new runtime is made of.
@@ -105,7 +150,7 @@ fn parts_of(alloc: Global, shape: &Shape) -> Result<Parts, StartError>
     let Ok((bell, ringers, sleeper)) = bell_of(alloc, shape.rings.len() as u16) else {
         return Err(StartError::Memory);
     };
-    let Ok((queue, passes)) = queue_of(alloc, places, shape.workers + 1) else {
+    let Ok((queue, ready, passes)) = queue_of(alloc, places, shape.workers) else {
         return Err(StartError::Memory);
     };
     let Ok(posts) = posts_of(alloc, shape.rings.as_slice()) else {
@@ -120,12 +165,16 @@ fn parts_of(alloc: Global, shape: &Shape) -> Result<Parts, StartError>
     };
     Ok(Parts {
         shared,
-        poller,
-        submitters,
-        workers,
-        ringers,
-        sleeper,
-        passes,
+        poller: PollerParts {
+            poller,
+            sleeper,
+            ready,
+        },
+        clients: ClientParts {
+            submitters,
+            ringers,
+        },
+        workers: WorkerParts { workers, passes },
     })
 }
 
@@ -138,14 +187,17 @@ fn shelf_of(alloc: Global) -> Result<Shelf, Memory> {
 fn clients_of(
     alloc: Global,
     shared: &Arc<Shared>,
-    mut submitters: Vec<Submitter>,
-    mut ringers: Vec<Ringer>,
+    parts: ClientParts,
 ) -> Result<Vec<Client>, Memory>
-    requires submitters { AreSubmitters (arc_value shared.now).board 0 submitters.items }
-    requires ringers { AreRingers (arc_value shared.now).bell 0 ringers.items }
-    requires count { length ringers.items ≡ length submitters.items }
-    ensures clients { IfOk result (λ v. AreNewClients (arc_value shared.now).board 0 v.items × (length v.items ≡ length submitters.items)) }
+    requires submitters { AreSubmitters (arc_value shared.now).board 0 parts.submitters.items }
+    requires ringers { AreRingers (arc_value shared.now).bell 0 parts.ringers.items }
+    requires count { length parts.ringers.items ≡ length parts.submitters.items }
+    ensures clients { IfOk result (λ v. AreNewClients (arc_value shared.now).board 0 v.items × (length v.items ≡ length parts.submitters.items)) }
 {
+    let ClientParts {
+        mut submitters,
+        mut ringers,
+    } = parts;
     let mut clients = Vec::with_capacity(alloc, submitters.len())?;
     while let Some(submitter) = submitters.pop() {
         let Some(ringer) = ringers.pop() else {
@@ -160,16 +212,15 @@ fn clients_of(
 }
 
 /// The poller's desk, and an outbox for its turns.
-fn desk_of(
-    alloc: Global,
-    shape: &Shape,
-    poller: Poller,
-    sleeper: Sleeper,
-    ready: ReadyPass,
-) -> Result<(PollDesk, Outbox), Memory>
-    ensures desk { IfOk result (λ t. IsNewDesk (length shape.now.rings.items) poller sleeper ready t.0) }
+fn desk_of(alloc: Global, shape: &Shape, parts: PollerParts) -> Result<(PollDesk, Outbox), Memory>
+    ensures desk { IfOk result (λ t. IsNewDesk (length shape.now.rings.items) parts.poller parts.sleeper parts.ready t.0) }
     ensures outbox { IfOk result (λ t. (t.1.answered ≡ []) × (t.0.places ≤ t.1.places)) }
 {
+    let PollerParts {
+        poller,
+        sleeper,
+        ready,
+    } = parts;
     let Ok(desk) = PollDesk::new(alloc, shape, poller, sleeper, ready) else {
         return Err(Memory);
     };
@@ -180,30 +231,27 @@ fn desk_of(
     Ok((desk, outbox))
 }
 
-/// Starts the poller's thread.
-fn start_poller<
+/// Starts the poller's thread, with this desk.
+fn spawn_poller<
     R: Threads + Wait + Copy + Send + 'static,
     G: Turnstile + Send + Sync + Drop + 'static,
     C: Clock + Send + Drop + 'static,
 >(
     rt: R,
-    shared: &Arc<Shared>,
+    theirs: Arc<Shared>,
     desk: PollDesk,
     clock: C,
     turnstile: Arc<G>,
     idle: u32,
     outbox: Outbox,
 ) -> Result<PromisedHandle<(Poller, ReadyPass, C), Ours>, StartError>
-    requires desk { IsPolling (arc_value shared.now) desk }
+    requires desk { IsPolling (arc_value theirs) desk }
     requires clock { C.follows clock (seen_of desk.poller) }
     requires outbox { (outbox.answered ≡ []) × (desk.places ≤ outbox.places) }
-    ensures thread { IfOk result (λ h. (arc_value h.promise.0.value ≡ arc_value shared.now) × (h.promise.1.value.share ≡ desk.ready.share)) }
+    ensures thread { IfOk result (λ h. (arc_value h.promise.0.value ≡ arc_value theirs) × (h.promise.1.value.share ≡ desk.ready.share)) }
     ensures refused { IfErr result (λ e. e ≢ BadShape) }
 {
-    let Ok(theirs) = Arc::try_clone(shared) else {
-        return Err(StartError::Memory);
-    };
-    let promise = Ours(Snapshot::of(shared), Snapshot::of(desk.ready()));
+    let promise = Ours(Snapshot::of(&theirs), Snapshot::of(desk.ready()));
     match thread::spawn_with(
         &rt,
         promise,
@@ -217,6 +265,40 @@ fn start_poller<
         Ok(handle) => Ok(handle),
         Err(_) => Err(StartError::Thread),
     }
+}
+
+/// Starts the poller's thread: makes its desk, and hands it the clock and the turnstile.
+fn start_poller<
+    R: Threads + Wait + Copy + Send + 'static,
+    G: Turnstile + Send + Sync + Drop + 'static,
+    C: Clock + Send + Drop + 'static,
+>(
+    rt: R,
+    alloc: Global,
+    shape: &Shape,
+    idle: u32,
+    stage: &Stage<G>,
+    clock: C,
+    parts: PollerParts,
+) -> Result<PromisedHandle<(Poller, ReadyPass, C), Ours>, StartError>
+    requires board { IsOf (arc_value stage.now.shared).board parts.poller × IsPollers parts.poller }
+    requires rings { (0 < length shape.now.rings.items) × ((arc_value stage.now.shared).bell.rings ≡ length shape.now.rings.items) }
+    requires sleeper { IsSleeperOf (arc_value stage.now.shared).bell parts.sleeper }
+    requires ready { IsOfQueue (arc_value stage.now.shared).queue parts.ready }
+    requires clock { C.follows clock (seen_of parts.poller) }
+    ensures thread { IfOk result (λ h. (arc_value h.promise.0.value ≡ arc_value stage.now.shared) × (h.promise.1.value.share ≡ parts.ready.share)) }
+    ensures refused { IfErr result (λ e. e ≢ BadShape) }
+{
+    let Ok((desk, outbox)) = desk_of(alloc, shape, parts) else {
+        return Err(StartError::Memory);
+    };
+    let (Ok(theirs), Ok(points)) = (
+        Arc::try_clone(&stage.shared),
+        Arc::try_clone(&stage.turnstile),
+    ) else {
+        return Err(StartError::Memory);
+    };
+    spawn_poller(rt, theirs, desk, clock, points, idle, outbox)
 }
 
 /// Starts the thread of a worker.
@@ -309,6 +391,95 @@ fn abandon<R: Threads, C: Clock + Drop>(
     }
 }
 
+/// Room for so many workers.
+fn rooms_of(alloc: Global, queue: &ReadyQueue, workers: &Vec<Worker>) -> Result<Rooms, Memory>
+    ensures threads { IfOk result (λ r. (r.threads.items ≡ []) × (length workers.now.items ≤ vec_capacity r.threads)) }
+    ensures ended { IfOk result (λ r. (r.ended.items ≡ []) × (length workers.now.items ≤ vec_capacity r.ended)) }
+    ensures passes { IfOk result (λ r. (r.passes.items ≡ []) × (length workers.now.items < vec_capacity r.passes)) }
+    ensures gather { IfOk result (λ r. IsRoom queue.now.places (length workers.now.items + 1) r.gather) }
+{
+    let Ok(gather) = queue.make_room(alloc, workers.len() + 1) else {
+        return Err(Memory);
+    };
+    let threads = Vec::with_capacity(alloc, workers.len())?;
+    let ended = Vec::with_capacity(alloc, workers.len())?;
+    let passes = Vec::with_capacity(alloc, workers.len() + 1)?;
+    Ok(Rooms {
+        threads,
+        ended,
+        passes,
+        gather,
+    })
+}
+
+/// Shares what the threads of a new runtime share, and its turnstile.
+fn stage_of<G: Drop>(alloc: Global, shared: Shared, turnstile: G) -> Result<Stage<G>, Memory>
+    ensures { IfOk result (λ t. arc_value t.shared ≡ shared) }
+{
+    let (Ok(shared), Ok(turnstile)) = (Arc::new(alloc, shared), Arc::new(alloc, turnstile)) else {
+        return Err(Memory);
+    };
+    Ok(Stage { shared, turnstile })
+}
+
+/// Starts the threads of the workers, beside that of the poller. Where one can't be started, it ends those that were.
+fn start_others<
+    R: Threads + Wait + Copy + Send + 'static,
+    G: Turnstile + Send + Sync + Drop + 'static,
+    C: Clock + Drop,
+>(
+    rt: R,
+    alloc: Global,
+    stage: Stage<G>,
+    poller: PromisedHandle<(Poller, ReadyPass, C), Ours>,
+    parts: WorkerParts,
+    rooms: Rooms,
+    mut clients: Vec<Client>,
+) -> Result<(Runtime<C>, Vec<Client>), StartError>
+    requires rings { length clients.items ≡ length (arc_value stage.shared).board.layout.cells }
+    requires poller { arc_value poller.promise.0.value ≡ arc_value stage.shared }
+    requires clients { AreClients (arc_value stage.shared).board clients.items }
+    requires workers { All (λ p. IsOf (arc_value stage.shared).board p) parts.workers.items }
+    requires pool { length parts.workers.items ≡ (arc_value stage.shared).board.workers }
+    requires passes { All (λ p. IsOfQueue (arc_value stage.shared).queue p) parts.passes.items × (length parts.passes.items ≡ length parts.workers.items) }
+    requires shares { poller.promise.1.value.share + sum_by (λ p. p.share) parts.passes.items ≡ all_shares }
+    requires threads { (rooms.threads.items ≡ []) × (length parts.workers.items ≤ vec_capacity rooms.threads) }
+    requires ended { (rooms.ended.items ≡ []) × (length parts.workers.items ≤ vec_capacity rooms.ended) }
+    requires back { (rooms.passes.items ≡ []) × (length parts.workers.items < vec_capacity rooms.passes) }
+    requires gather { IsRoom (arc_value stage.shared).queue.places (length parts.workers.items + 1) rooms.gather }
+    ensures started { IfOk result (λ t. (t.0 ≡ (arc_value stage.shared).board) × (t.1.items ≡ clients.items)) }
+    ensures own { IfOk result (λ t. AreClients t.0 t.1.items) }
+    ensures refused { IfErr result (λ e. e ≢ BadShape) }
+{
+    let Stage { shared, turnstile } = stage;
+    let WorkerParts { workers, passes } = parts;
+    let Rooms {
+        mut threads,
+        ended,
+        passes: back,
+        gather,
+    } = rooms;
+    match start_workers(
+        rt,
+        alloc,
+        &shared,
+        workers,
+        passes,
+        &turnstile,
+        &mut threads,
+    ) {
+        Ok(()) => {
+            let rings = clients.len();
+            let runtime = Runtime::new(shared, rings, poller, threads, ended, back, gather);
+            Ok((runtime, clients))
+        }
+        Err(error) => {
+            abandon(&rt, &shared, &mut clients, poller, threads);
+            Err(error)
+        }
+    }
+}
+
 /// Starts all threads of a new runtime.
 fn start_threads<
     R: Threads + Wait + Copy + Send + 'static,
@@ -332,56 +503,21 @@ fn start_threads<
     let Parts {
         shared,
         poller,
-        submitters,
+        clients,
         workers,
-        ringers,
-        sleeper,
-        mut passes,
     } = parts;
-    let rings = submitters.len();
-    let Some(ready) = passes.pop() else {
-        unreachable!()
-    };
-    let Ok(room) = shared.queue.make_room(alloc, workers.len() + 1) else {
+    let Ok(rooms) = rooms_of(alloc, &shared.queue, &workers.workers) else {
         return Err(StartError::Memory);
     };
-    let (Ok(shared), Ok(turnstile), Ok((desk, outbox)), Ok(mut threads), Ok(ended), Ok(back)) = (
-        Arc::new(alloc, shared),
-        Arc::new(alloc, turnstile),
-        desk_of(alloc, shape, poller, sleeper, ready),
-        Vec::with_capacity(alloc, workers.len()),
-        Vec::with_capacity(alloc, workers.len()),
-        Vec::with_capacity(alloc, workers.len() + 1),
-    ) else {
+    let Ok(stage) = stage_of(alloc, shared, turnstile) else {
         return Err(StartError::Memory);
     };
-    let (Ok(mut clients), Ok(points)) = (
-        clients_of(alloc, &shared, submitters, ringers),
-        Arc::try_clone(&turnstile),
-    ) else {
+    let Ok(clients) = clients_of(alloc, &stage.shared, clients) else {
         return Err(StartError::Memory);
     };
-    let poller = match start_poller(rt, &shared, desk, clock, points, idle, outbox) {
-        Ok(poller) => poller,
-        Err(error) => return Err(error),
-    };
-    match start_workers(
-        rt,
-        alloc,
-        &shared,
-        workers,
-        passes,
-        &turnstile,
-        &mut threads,
-    ) {
-        Ok(()) => {
-            let runtime = Runtime::new(shared, rings, poller, threads, ended, back, room);
-            Ok((runtime, clients))
-        }
-        Err(error) => {
-            abandon(&rt, &shared, &mut clients, poller, threads);
-            Err(error)
-        }
+    match start_poller(rt, alloc, shape, idle, &stage, clock, poller) {
+        Ok(poller) => start_others(rt, alloc, stage, poller, workers, rooms, clients),
+        Err(error) => Err(error),
     }
 }
 

@@ -1,7 +1,7 @@
 //! Turns one after another in one thread: what each comes to, and when there is nothing to do.
 use crate::stage::{Entry, play};
 use entry::Sqe;
-use prep::{cancel, link_timeout, nop, read, timeout, write};
+use prep::{cancel, link_timeout, nop, read, timeout, timeout_count, write};
 use std::test::Fail;
 
 /// IOSQE_IO_DRAIN, IOSQE_IO_LINK.
@@ -61,7 +61,7 @@ fn a_parked_read_is_served_after_the_write(rt: HostRuntime) -> Result<(), Fail> 
     let told = play(&rt, rt.alloc(), &[2, 2], 4, &first, &second, words, 0)?;
     assert_eq!(rt;
         told.as_str(),
-        "idle idle 0.0 moved idle moved ready moved ready moved 1.0 moved moved moved+1.0 moved+0.0 idle idle 3:1:2:3:73:74 on"
+        "idle idle 0.0 moved idle moved ready moved ready moved 1.0 moved moved+1.0 moved+0.0 idle idle idle 3:1:2:3:73:74 on"
     );
     Ok(())
 }
@@ -105,6 +105,24 @@ fn a_timeout_runs_out_once(rt: HostRuntime) -> Result<(), Fail> {
     assert_eq!(rt;
         told.as_str(),
         "0.0 moved armed7 armed5 moved moved+0.1 moved moved+0.0 idle idle -62 -62 past"
+    );
+    Ok(())
+}
+
+/// The clock stands still. The first NOP isn't counted, since it came before.
+#[test]
+fn a_timeout_is_answered_once_it_has_counted(rt: HostRuntime) -> Result<(), Fail> {
+    let first = [
+        plain(nop(), 0, 41),
+        plain(timeout_count(100, 2, 0), 0, 42),
+        plain(nop(), 0, 43),
+        plain(nop(), 0, 44),
+    ];
+    let words = "f p l1 w p w p w p p r1 r3";
+    let told = play(&rt, rt.alloc(), &[4], 4, &first, &[], words, 0)?;
+    assert_eq!(rt;
+        told.as_str(),
+        "0.0 moved armed100 moved+0.0 moved moved+0.2 moved moved+0.3 moved+0.1 idle 0 0 on"
     );
     Ok(())
 }

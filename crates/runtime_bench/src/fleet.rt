@@ -5,7 +5,7 @@ ghost use Rattle.runtime.specs.Clients.{AreClients};
 
 use crate::course::Course;
 use crate::fault::Fault;
-use crate::lane::Lane;
+use crate::generator::Generator;
 use crate::load::{Load, pipes_of};
 use crate::setup::Setup;
 use board::{RingShape, Shape};
@@ -20,12 +20,12 @@ use std::time::{Clock, Instant};
 /// After how many idle turns in a row the poller sleeps.
 const IDLE: u32 = 4096;
 
-/// A runtime, the lane of ring 0, and that of ring 1, where there is one. That one may have no work.
+/// A runtime, the generator of ring 0, and that of ring 1, where there is one. That one may have no work.
 #[derive(Drop)]
 pub(crate) struct Fleet {
     runtime: Runtime<NoClock>,
-    zero: Lane,
-    one: Option<Lane>,
+    zero: Generator,
+    one: Option<Generator>,
     is_pair: bool,
 }
 
@@ -53,12 +53,12 @@ fn shape_of(alloc: Global, setup: &Setup) -> Result<Shape, AllocError> {
     })
 }
 
-/// The lane of a client.
-fn lane_of(alloc: Global, client: Client, setup: &Setup) -> Result<Lane, AllocError>
+/// The generator of a client.
+fn generator_of(alloc: Global, client: Client, setup: &Setup) -> Result<Generator, AllocError>
     ensures { IfOk result (λ l. l.client ≡ client) }
 {
     let load = Load::new(alloc, setup, client.ring())?;
-    Ok(Lane::new(client, Course::new(alloc, load, setup.depth)))
+    Ok(Generator::new(client, Course::new(alloc, load, setup.depth)))
 }
 
 /// The last client of this runtime that is left.
@@ -71,13 +71,13 @@ fn last_client(runtime: &Runtime<NoClock>, clients: &mut Vec<Client>) -> Option<
     clients.pop()
 }
 
-/// The lanes of both clients of this runtime, or of the one that there is.
-fn lanes_of(
+/// The generators of both clients of this runtime, or of the one that there is.
+fn generators_of(
     alloc: Global,
     runtime: &Runtime<NoClock>,
     mut clients: Vec<Client>,
     setup: &Setup,
-) -> Result<(Lane, Option<Lane>), Fault>
+) -> Result<(Generator, Option<Generator>), Fault>
     requires { AreClients runtime.now clients.items }
     ensures zero { IfOk result (λ t. t.0.client.board ≡ runtime.now) }
     ensures one { IfOk result (λ t. IfSome t.1 (λ l. l.client.board ≡ runtime.now)) }
@@ -85,15 +85,20 @@ fn lanes_of(
     let Some(last) = last_client(runtime, &mut clients) else {
         return Err(Fault::Start);
     };
-    let last = lane_of(alloc, last, setup)?;
+    let last = generator_of(alloc, last, setup)?;
     match last_client(runtime, &mut clients) {
-        Some(client) => Ok((lane_of(alloc, client, setup)?, Some(last))),
+        Some(client) => Ok((generator_of(alloc, client, setup)?, Some(last))),
         None => Ok((last, None)),
     }
 }
 
-/// Both lanes at work, each in a thread.
-fn run_both<R: Threads + Wait + Sync>(rt: &R, zero: Lane, one: Lane, units: u64) -> (Lane, Lane)
+/// Both generators at work, each in a thread.
+fn run_both<R: Threads + Wait + Sync>(
+    rt: &R,
+    zero: Generator,
+    one: Generator,
+    units: u64,
+) -> (Generator, Generator)
     ensures zero { result.0.client.board ≡ zero.client.board }
     ensures one { result.1.client.board ≡ one.client.board }
 {
@@ -124,7 +129,7 @@ impl Fleet {
     ) -> Result<Fleet, Fault> {
         let shape = shape_of(alloc, setup)?;
         let (runtime, clients) = start(rt, alloc, &shape, IDLE, Open, NoClock)?;
-        let (zero, one) = lanes_of(alloc, &runtime, clients, setup)?;
+        let (zero, one) = generators_of(alloc, &runtime, clients, setup)?;
         Ok(Fleet {
             runtime,
             zero,

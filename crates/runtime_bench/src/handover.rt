@@ -1,6 +1,6 @@
 //! Hand-overs between two threads: a number goes to the other thread through a queue, and comes back through another.
 use crate::fault::Fault;
-use crate::lane::waited;
+use crate::generator::waited;
 use crossbeam_queue::ArrayQueue;
 use std::alloc::Global;
 use std::sync::Wait;

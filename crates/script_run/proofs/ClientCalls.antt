@@ -37,6 +37,7 @@ answers_concern : (e : Event) (q : Req) → answers e q ≡ true → concerns e 
 answers_concern (event.Reply r res data') q w = w
 answers_concern (event.Take c t) q w = w
 answers_concern (event.Expire r) q w = w
+answers_concern (event.Count r) q w = w
 answers_concern (event.Fire l t) q w = w
 answers_concern (event.Settle l) q w = w
 answers_concern (event.Sever r) q w = w

@@ -3,15 +3,15 @@ use Rattle.std.proofs.Common.{◌≡◌, ℕ, ◌==◌, ◌&&◌, not, nat_lt, n
 use Rattle.std.proofs.lemmas.List.{length-take}
 use Rattle.entry.specs.declared.op.Offset.{Offset}
 use Rattle.entry.specs.declared.op.Op.{Op}
-use Rattle.entry.specs.declared.op.Op.TheVariants.{Nop, PollAdd, Timeout, TimeoutRemove, AsyncCancel, LinkTimeout, Close, Read, Write, Invalid}
+use Rattle.entry.specs.declared.op.Op.TheVariants.{Nop, PollAdd, Timeout, TimeoutRemove, AsyncCancel, LinkTimeout, Close, Read, Write, Splice, Invalid}
 use Rattle.entry.specs.Entry.{Entry}
 use Rattle.history.specs.declared.req.Req.{Req}
 use Rattle.history.specs.declared.event.Event.{Event}
 use Rattle.history.specs.declared.event.Event.TheVariants as event
-use Rattle.history.specs.History.{Phase, unborn, waits, runs, armed, replied, reaped, Submission, concerns, becomes, answers, data_in, data_of, phase, reply, reply_in, fired, submission, hands_in, same}
+use Rattle.history.specs.History.{Phase, unborn, waits, runs, armed, replied, reaped, Submission, concerns, becomes, data_of, phase, reply, reply_in, fired, submission}
 use Rattle.history.specs.Chains.{is_link_timeout, hosts, placed_behind, placed_from, before_in}
 use Rattle.history.specs.Pipes.{Flow, flow, content, End, no_end, read_end, write_end, end_of}
-use Rattle.history.specs.Answers.{Answer, now, later, bad_end, answer_read, answer_write, answer_poll, free_in, read_events, write_events, is_pipe, read_from, write_to, close_of, poll_of, OpAnswers, Answers}
+use Rattle.history.specs.Answers.{Answer, now, later, bad_end, answer_read, answer_write, answer_splice, answer_poll, free_in, most_spliced, read_events, write_events, is_pipe, read_from, write_to, splice_into, splice_of, close_of, poll_of, OpAnswers, Answers}
 use Rattle.history.specs.Legal.{Setup, Legal}
 use Rattle.history.proofs.Requests.{bool_cases, same_true}
 use Rattle.history.proofs.Growth.{MayChange, may_change, changed, unchanged}
@@ -78,6 +78,26 @@ writes_to caps flow_at (write_end p) len = either HasNone (is_pipe caps p) (answ
 writes_to caps flow_at (read_end p) len = none (negsuc 8)
 writes_to caps flow_at no_end len = none (negsuc 8)
 
+splices : (cap : ℕ) (v w : Flow) (len : ℕ) → HasNone (answer_splice cap v w len)
+splices cap v w len =
+    either HasNone (len == 0) (now (pos 0) []) _ (none (pos 0))
+    (either HasNone w.read_shut (now (negsuc 31) []) _ (none (negsuc 31))
+    (either HasNone (nat_lt 0 (most_spliced cap v w)) (now (pos (min len (most_spliced cap v w))) []) _ (none (pos (min len (most_spliced cap v w))))
+    (either HasNone ((length (content v) == 0) && v.write_shut) (now (pos 0) []) later (none (pos 0)) nothing_yet)))
+
+splices_into : (caps : List ℕ) (flow_at : ℕ → Flow) (p q len : ℕ) → HasNone (splice_into caps flow_at p q len)
+splices_into caps flow_at p q len =
+    either HasNone (is_pipe caps q && not (flow_at q).write_shut) _ bad_end
+    (either HasNone (p == q) (now (negsuc 21) []) _ (none (negsuc 21)) (splices (slice_index caps q) (flow_at p) (flow_at q) len))
+    (none (negsuc 8))
+
+splices_of : (caps : List ℕ) (flow_at : ℕ → Flow) (x y : End) (len : ℕ) → HasNone (splice_of caps flow_at x y len)
+splices_of caps flow_at (read_end p) (write_end q) len = either HasNone (is_pipe caps p && not (flow_at p).read_shut) (splice_into caps flow_at p q len) bad_end (splices_into caps flow_at p q len) (none (negsuc 8))
+splices_of caps flow_at (read_end p) (read_end q) len = none (negsuc 8)
+splices_of caps flow_at (read_end p) no_end len = none (negsuc 8)
+splices_of caps flow_at (write_end p) y len = none (negsuc 8)
+splices_of caps flow_at no_end y len = none (negsuc 8)
+
 closes : (caps : List ℕ) (flow_at : ℕ → Flow) (e : End) → HasNone (close_of caps flow_at e)
 closes caps flow_at (read_end p) = either HasNone (is_pipe caps p && not (flow_at p).read_shut) (now (pos 0) []) bad_end (none (pos 0)) (none (negsuc 8))
 closes caps flow_at (write_end p) = either HasNone (is_pipe caps p && not (flow_at p).write_shut) (now (pos 0) []) bad_end (none (pos 0)) (none (negsuc 8))
@@ -100,11 +120,12 @@ answer_long caps h r Nop res data' a = none (pos 0) res data' a
 answer_long caps h r Invalid res data' a = none (negsuc 21) res data' a
 answer_long caps h r (Read fd offset len) res data' a = reads_from caps (flow h) (end_of fd) len res data' a ∙ read_count fd offset len res
 answer_long caps h r (Write fd offset len) res data' a = writes_to caps (flow h) (end_of fd) len res data' a
+answer_long caps h r (Splice fd_in fd_out len) res data' a = splices_of caps (flow h) (end_of fd_in) (end_of fd_out) len res data' a
 answer_long caps h r (Close fd) res data' a = closes caps (flow h) (end_of fd) res data' a
 answer_long caps h r (PollAdd fd mask) res data' a = polls caps (flow h) (end_of fd) mask res data' a
 answer_long caps h r (AsyncCancel user_data) res data' a = ap length a.1
 answer_long caps h r (TimeoutRemove user_data) res data' a = ap length a.1
-answer_long caps h r (Timeout ticks etime_success) res data' a = absurd a
+answer_long caps h r (Timeout ticks etime_success count) res data' a = absurd a
 answer_long caps h r (LinkTimeout ticks) res data' a = absurd a
 
 -- ---- the entry as it is placed, and as it was handed in
@@ -115,11 +136,12 @@ linked_none Nop res w = absurd (true≢false (sym w))
 linked_none Invalid res w = absurd (true≢false (sym w))
 linked_none (Read fd offset len) res w = absurd (true≢false (sym w))
 linked_none (Write fd offset len) res w = absurd (true≢false (sym w))
+linked_none (Splice fd_in fd_out len) res w = absurd (true≢false (sym w))
 linked_none (Close fd) res w = absurd (true≢false (sym w))
 linked_none (PollAdd fd mask) res w = absurd (true≢false (sym w))
 linked_none (AsyncCancel user_data) res w = absurd (true≢false (sym w))
 linked_none (TimeoutRemove user_data) res w = absurd (true≢false (sym w))
-linked_none (Timeout ticks etime_success) res w = absurd (true≢false (sym w))
+linked_none (Timeout ticks etime_success count) res w = absurd (true≢false (sym w))
 
 behind_count : (a b : Bool) (e : Entry) (res : ℤ) → (a ≡ true → 0 ≡ data_count e.op res) → data_count (cond (a && b) (record e { op = Invalid }) e).op res ≡ data_count e.op res
 behind_count true true e res z = z refl
@@ -145,6 +167,10 @@ cut_count : (op : Op) (n : ℕ) → data_count op (negsuc n) ≡ 0
 cut_count (Read fd offset len) n = refl
 cut_count op n = refl
 
+none_count : (op : Op) → data_count op (pos 0) ≡ 0
+none_count (Read fd offset len) = refl
+none_count op = refl
+
 -- another's event, or one that answers nothing
 same_sub : (e : Event) (h : List Event) (r : Req) → concerns e r ≡ false → submission (e ∷ h) r ≡ submission h r
 same_sub (event.Submit q d bytes last) h r w = ap (λ (b : Bool). cond b (Some (record { entry = d; bytes = bytes; last = last })) (submission h r)) w
@@ -154,6 +180,7 @@ same_data : (e : Event) (h : List Event) (r : Req) → concerns e r ≡ false �
 same_data (event.Reply q res data') h r w = ap (λ (b : Bool). cond b data' (data_of h r)) w
 same_data (event.Take c t) h r w = ap (λ (b : Bool). cond b [] (data_of h r)) w
 same_data (event.Expire q) h r w = ap (λ (b : Bool). cond b [] (data_of h r)) w
+same_data (event.Count q) h r w = ap (λ (b : Bool). cond b [] (data_of h r)) w
 same_data (event.Fire l t) h r w = ap (λ (b : Bool). cond b [] (data_of h r)) w
 same_data (event.Settle q) h r w = ap (λ (b : Bool). cond b [] (data_of h r)) w
 same_data (event.Sever q) h r w = ap (λ (b : Bool). cond b [] (data_of h r)) w
@@ -162,6 +189,12 @@ same_data _ h r w = refl
 
 no_reply : (p q : Phase) (res : ℤ) → p ≡ q → reply_in q ≡ None → reply_in p ≡ Some res → ⊥
 no_reply p q res e n w = none_some res (sym n ∙ (ap reply_in (sym e) ∙ w))
+
+-- answered with 0 and no data
+bare : (h : List Event) (e : Event) (r : Req) (p : Phase) (res : ℤ) (op : Op) → phase (e ∷ h) r ≡ p → reply_in p ≡ Some (pos 0) → reply (e ∷ h) r ≡ Some res → data_of (e ∷ h) r ≡ [] → length (data_of (e ∷ h) r) ≡ data_count op res
+bare h e r p res op is says re d = let one : pos 0 ≡ res = some_same (pos 0) res (sym says ∙ (ap reply_in (sym is) ∙ re)) in ap length d ∙ (sym (none_count op) ∙ ap (data_count op) one) where
+  some_same : {X : Type 0} → (a b : X) → Some a ≡ Some b → a ≡ b
+  some_same a b e = cc
 
 -- answered with an error number and no data
 failed : (h : List Event) (e : Event) (r : Req) (p : Phase) (n : ℕ) (res : ℤ) (op : Op) → phase (e ∷ h) r ≡ p → reply_in p ≡ Some (negsuc n) → reply (e ∷ h) r ≡ Some res → data_of (e ∷ h) r ≡ [] → length (data_of (e ∷ h) r) ≡ data_count op res
@@ -183,6 +216,7 @@ long_after s (event.Reply q v data') h r l w k res y re sub =
       some_same a b e = cc
 long_after s (event.Take c t) h r l w k res y re sub = failed h (event.Take c t) r (becomes h (event.Take c t) (phase h r)) 124 res y.entry.op (changed s (event.Take c t) h r w) refl re (ap (λ (b : Bool). cond b [] (data_of h r)) w)
 long_after s (event.Expire q) h r l w k res y re sub = failed h (event.Expire q) r (becomes h (event.Expire q) (phase h r)) 61 res y.entry.op (changed s (event.Expire q) h r w) refl re (ap (λ (b : Bool). cond b [] (data_of h r)) w)
+long_after s (event.Count q) h r l w k res y re sub = bare h (event.Count q) r (becomes h (event.Count q) (phase h r)) res y.entry.op (changed s (event.Count q) h r w) refl re (ap (λ (b : Bool). cond b [] (data_of h r)) w)
 long_after s (event.Fire q t) h r l w k res y re sub = failed h (event.Fire q t) r (becomes h (event.Fire q t) (phase h r)) 124 res y.entry.op (changed s (event.Fire q t) h r w) refl re (ap (λ (b : Bool). cond b [] (data_of h r)) w)
 long_after s (event.Settle q) h r l w k res y re sub = ⊎_elim
     (λ (f : fired h q ≡ true). failed h (event.Settle q) r (replied Rattle.history.specs.History.by_settle (negsuc 61)) 61 res y.entry.op (changed s (event.Settle q) h r w ∙ ap (λ (b : Bool). replied Rattle.history.specs.History.by_settle (cond b (negsuc 61) (negsuc 124))) f) refl re (ap (λ (b : Bool). cond b [] (data_of h r)) w))

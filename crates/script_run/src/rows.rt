@@ -100,6 +100,7 @@ macro_rules! data_work {
     ((pipe write $fd:ident $len:ident) ($res:ident)) => { 0 };
     ((pipe close $fd:ident) ($res:ident)) => { 0 };
     ((pipe poll $fd:ident $mask:ident) ($res:ident)) => { 0 };
+    ((pipe splice $fd_in:ident $fd_out:ident $len:ident) ($res:ident)) => { 0 };
     ((plain $kind:ident) ($res:ident)) => { 0 };
     ((timer $kind:ident $ticks:ident) ($res:ident)) => { 0 };
     ((cancel $kind:ident $target:ident) ($res:ident)) => { 0 };

@@ -62,6 +62,16 @@ fn a_clock_fires_a_link_timeout(rt: HostRuntime) -> Result<(), Fail> {
 }
 
 #[test]
+fn a_timeout_counts_two_replies(rt: HostRuntime) -> Result<(), Fail> {
+    let text = b"pipe 16\nring 8\non 0\ntimeout t 100 count=2\nnop a\nnop b\nsubmit\nwait t\n";
+    for workers in [1, 3] {
+        let table = ran(&rt, rt.alloc(), text, workers, 10_000_000, Open)?;
+        assert_eq!(rt; table.as_str(), "t 0\na 0\nb 0\n");
+    }
+    Ok(())
+}
+
+#[test]
 fn two_rings_meet_at_a_pipe(rt: HostRuntime) -> Result<(), Fail> {
     let text =
         b"pipe 4\nring 2\nring 4 1\non 0\nwrite w 1 abcdefg\nsubmit\nwait w\non 1\nread r 0 3\nsubmit\nwait r\nread s 0 1\nsubmit\nwait s\nwait w\n";

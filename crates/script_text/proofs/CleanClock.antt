@@ -9,19 +9,19 @@ use Rattle.entry.specs.Table.{allowed_flags}
 use Rattle.entry.specs.declared.op.Op.{Op}
 use Rattle.entry.specs.declared.op.Op.TheVariants as op
 use Rattle.limits.specs.declared.TheConstants.{ENTRIES, TICK}
-use Rattle.prep.specs.Built.{flagged, link_timeout_op, plain, timeout_op}
+use Rattle.prep.specs.Built.{flagged, link_timeout_op, plain, timeout_count_op}
 use Rattle.script.specs.Rules.{is_timed_op}
 use Rattle.text.specs.Number.{number_in}
 use Rattle.script_text.specs.declared.actor.Actor.{Actor}
 use Rattle.script_text.specs.declared.actor.Actor.TheVariants as who
 use Rattle.script_text.specs.declared.fault.Fault.TheVariants.{OutOfRange}
 use Rattle.script_text.specs.declared.keyword.Kind.{Kind}
-use Rattle.script_text.specs.declared.keyword.Kind.TheVariants.{Nop, Read, Write, Close, Poll, Timeout, LinkTimeout, Cancel, Remove, Raw}
+use Rattle.script_text.specs.declared.keyword.Kind.TheVariants.{Nop, Read, Write, Close, Poll, Timeout, LinkTimeout, Cancel, Remove, Splice, Raw}
 use Rattle.script_text.specs.declared.keyword.Keyword.{Keyword}
 use Rattle.script_text.specs.declared.keyword.Keyword.TheVariants.{Pipe, Ring, On, Submit, Wait, Tick, Armed, Entry as EntryLine}
 use Rattle.script_text.specs.Above.{Deed, Entered, actor_in, batch_in, deeds_in, deeds_with, entered_in, entered_line, entered_with, is_same_actor, place_in, sets, stated_in, stated_line, stated_with, submits, time_in, time_with, waits, waits_armed}
 use Rattle.script_text.specs.Actors.{is_clock, is_ring}
-use Rattle.script_text.specs.EntryLines.{Stated, etime_bit, line_of, options_of, ticks_in}
+use Rattle.script_text.specs.EntryLines.{Stated, count_of, etime_bit, line_of, options_of, ticks_in}
 use Rattle.script_text.specs.Options.{flags_in, has_etime}
 use Rattle.script_text.specs.Keywords.{is_timer}
 use Rattle.script_text.specs.LineEntries.{line_entry}
@@ -41,8 +41,9 @@ timed_flagged e flags is =
     cond_both (bit_and flags (allowed_flags e.op) == flags) (record { user_data = e.user_data; flags = flags; op = e.op }) (record { user_data = e.user_data; flags = bit_and flags 12; op = op.Invalid })
     (λ (x : Entry). is_timed_op x.op ≡ true) (λ _. is) (λ _. refl)
 
-timed_timeout : (ticks flags : ℕ) → is_timed_op (timeout_op ticks flags) ≡ true
-timed_timeout ticks flags = cond_both (nat_lt ticks 2147483648 && ((flags == 0) || (flags == 32))) (op.Timeout ticks (flags == 32)) op.Invalid (λ (o : Op). is_timed_op o ≡ true) (λ _. refl) (λ _. refl)
+timed_timeout : (ticks count flags : ℕ) → is_timed_op (timeout_count_op ticks count flags) ≡ true
+timed_timeout ticks count flags =
+    cond_both (nat_lt count 1024 && (nat_lt ticks 2147483648 && ((flags == 0) || (flags == 32)))) (op.Timeout ticks (flags == 32) count) op.Invalid (λ (o : Op). is_timed_op o ≡ true) (λ _. refl) (λ _. refl)
 
 timed_link_timeout : (ticks : ℕ) → is_timed_op (link_timeout_op ticks) ≡ true
 timed_link_timeout ticks = cond_both (nat_lt ticks 2147483648) (op.LinkTimeout ticks) op.Invalid (λ (o : Op). is_timed_op o ≡ true) (λ _. refl) (λ _. refl)
@@ -55,13 +56,15 @@ timed_line lines Close words number given e = absurd cc
 timed_line lines Poll words number given e = absurd cc
 timed_line lines Timeout words number given e =
     let ticks = ticks_in (word_at words 2) in
+    let count = count_of (options_of Timeout words) in
     let bit = etime_bit (has_etime Timeout (options_of Timeout words)) in
-    timed_flagged (plain (timeout_op ticks bit)) (flags_in (options_of Timeout words)) (timed_timeout ticks bit)
+    timed_flagged (plain (timeout_count_op ticks count bit)) (flags_in (options_of Timeout words)) (timed_timeout ticks count bit)
 timed_line lines LinkTimeout words number given e =
     let ticks = ticks_in (word_at words 2) in
     timed_flagged (plain (link_timeout_op ticks)) (flags_in (options_of LinkTimeout words)) (timed_link_timeout ticks)
 timed_line lines Cancel words number given e = absurd cc
 timed_line lines Remove words number given e = absurd cc
+timed_line lines Splice words number given e = absurd cc
 timed_line lines Raw words number given e = absurd cc
 
 -- entry lines with their entries: those of timers have timers

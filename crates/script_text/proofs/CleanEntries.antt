@@ -10,16 +10,16 @@ use Rattle.entry.specs.Table.{allowed_flags}
 use Rattle.entry.specs.declared.op.Op.{Op}
 use Rattle.entry.specs.declared.op.Op.TheVariants as op
 use Rattle.limits.specs.declared.TheConstants.{BUFFER, ENTRIES, FD, LENGTH}
-use Rattle.prep.specs.Built.{flagged, link_timeout_op, offset_of, plain, poll_op, timeout_op}
+use Rattle.prep.specs.Built.{flagged, link_timeout_op, offset_of, plain, poll_op, splice_op, timeout_count_op}
 use Rattle.script.specs.Rules.{fits_buffer, is_label}
 use Rattle.text.specs.Number.{number_in}
 use Rattle.script_text.specs.declared.fault.Fault.TheVariants.{BadBytes, OutOfRange}
 use Rattle.script_text.specs.declared.keyword.Kind.{Kind}
-use Rattle.script_text.specs.declared.keyword.Kind.TheVariants.{Nop, Read, Write, Close, Poll, Timeout, LinkTimeout, Cancel, Remove, Raw}
+use Rattle.script_text.specs.declared.keyword.Kind.TheVariants.{Nop, Read, Write, Close, Poll, Timeout, LinkTimeout, Cancel, Remove, Splice, Raw}
 use Rattle.script_text.specs.declared.keyword.Keyword.{Keyword}
 use Rattle.script_text.specs.declared.keyword.Keyword.TheVariants.{Pipe, Ring, On, Submit, Wait, Tick, Armed, Entry as EntryLine}
 use Rattle.script_text.specs.Above.{Entered, actor_in, entered_in, entered_line, entered_with, stated_in, stated_line, stated_with}
-use Rattle.script_text.specs.EntryLines.{Stated, argument_faults, declares, etime_bit, fd_in, len_in, len_of, mask_in, options_of, target_in, text_bytes, text_faults, text_len, ticks_in}
+use Rattle.script_text.specs.EntryLines.{Stated, argument_faults, count_of, declares, etime_bit, fd_in, len_in, len_of, mask_in, options_of, splice_len_in, target_in, text_bytes, text_faults, text_len, ticks_in}
 use Rattle.script_text.specs.LineEntries.{line_buffer, line_entry}
 use Rattle.script_text.specs.LineFaults.{Standing, declare_faults, kind_faults}
 use Rattle.script_text.specs.Noted.{number_faults}
@@ -53,11 +53,15 @@ fits_none o flags e =
 fits_poll : (mask n : ℕ) → fits_buffer (poll_op (pos n) mask) 0 ≡ true
 fits_poll mask n = cond_both (bit_and mask 29 == mask) (op.PollAdd (pos n) mask) op.Invalid (λ (o : Op). fits_buffer o 0 ≡ true) (λ _. refl) (λ _. refl)
 
-fits_timeout : (ticks flags : ℕ) → fits_buffer (timeout_op ticks flags) 0 ≡ true
-fits_timeout ticks flags = cond_both (nat_lt ticks 2147483648 && ((flags == 0) || (flags == 32))) (op.Timeout ticks (flags == 32)) op.Invalid (λ (o : Op). fits_buffer o 0 ≡ true) (λ _. refl) (λ _. refl)
+fits_timeout : (ticks count flags : ℕ) → fits_buffer (timeout_count_op ticks count flags) 0 ≡ true
+fits_timeout ticks count flags =
+    cond_both (nat_lt count 1024 && (nat_lt ticks 2147483648 && ((flags == 0) || (flags == 32)))) (op.Timeout ticks (flags == 32) count) op.Invalid (λ (o : Op). fits_buffer o 0 ≡ true) (λ _. refl) (λ _. refl)
 
 fits_link_timeout : (ticks : ℕ) → fits_buffer (link_timeout_op ticks) 0 ≡ true
 fits_link_timeout ticks = cond_both (nat_lt ticks 2147483648) (op.LinkTimeout ticks) op.Invalid (λ (o : Op). fits_buffer o 0 ≡ true) (λ _. refl) (λ _. refl)
+
+fits_splice : (fd_in' fd_out len : ℕ) → fits_buffer (splice_op (pos fd_in') (pos fd_out) len) 0 ≡ true
+fits_splice fd_in' fd_out len = cond_both (nat_lt len 2147483648) (op.Splice (pos fd_in') (pos fd_out) len) op.Invalid (λ (o : Op). fits_buffer o 0 ≡ true) (λ _. refl) (λ _. refl)
 
 fits_read : (fd len flags : ℕ) → len ≤ BUFFER → (bit_and flags 14 == flags) ≡ true → fits_buffer (flagged (plain (cond (nat_lt len 2147483648) (op.Read (pos fd) (offset_of 0) len) op.Invalid)) flags).op (length {A = ℕ} (replicate len 0)) ≡ true
 fits_read fd len flags le ok =
@@ -71,13 +75,14 @@ fits_write fd len flags bytes is le ok = rw (lt-ltb len 2147483648 (omega (arith
 raw_fits : (o : Op) → nat_lt BUFFER (len_of o) ≡ false → fits_buffer o (length {A = ℕ} (cond (nat_lt BUFFER (len_of o)) [] (replicate (len_of o) 0))) ≡ true
 raw_fits op.Nop e = refl
 raw_fits (op.PollAdd fd mask) e = refl
-raw_fits (op.Timeout ticks success) e = refl
+raw_fits (op.Timeout ticks success count) e = refl
 raw_fits (op.TimeoutRemove target) e = refl
 raw_fits (op.AsyncCancel target) e = refl
 raw_fits (op.LinkTimeout ticks) e = refl
 raw_fits (op.Close fd) e = refl
 raw_fits (op.Read fd offset len) e = rw (e, length-replicate {A = ℕ} len 0) (and_from (len == len) (nat_le len BUFFER) (eq-eqb len len refl) (le-leb len BUFFER (ltb-false BUFFER len e)))
 raw_fits (op.Write fd offset len) e = rw (e, length-replicate {A = ℕ} len 0) (eq-eqb len len refl)
+raw_fits (op.Splice fd_in' fd_out len) e = refl
 raw_fits op.Invalid e = refl
 
 one_fault : BadBytes ∷ [] ≡ [] → ⊥
@@ -103,11 +108,15 @@ kind_fits p lines u Write words given number c =
 kind_fits p lines u Close words given number c = fits_none (op.Close (pos (fd_in (word_at words 2)))) (flags_in (options_of Close words)) refl
 kind_fits p lines u Poll words given number c = fits_none (poll_op (pos (fd_in (word_at words 2))) (mask_in (word_at words 3))) (flags_in (options_of Poll words)) (fits_poll (mask_in (word_at words 3)) (fd_in (word_at words 2)))
 kind_fits p lines u Timeout words given number c =
+    let count = count_of (options_of Timeout words) in
     let bit = etime_bit (has_etime Timeout (options_of Timeout words)) in
-    fits_none (timeout_op (ticks_in (word_at words 2)) bit) (flags_in (options_of Timeout words)) (fits_timeout (ticks_in (word_at words 2)) bit)
+    fits_none (timeout_count_op (ticks_in (word_at words 2)) count bit) (flags_in (options_of Timeout words)) (fits_timeout (ticks_in (word_at words 2)) count bit)
 kind_fits p lines u LinkTimeout words given number c = fits_none (link_timeout_op (ticks_in (word_at words 2))) (flags_in (options_of LinkTimeout words)) (fits_link_timeout (ticks_in (word_at words 2)))
 kind_fits p lines u Cancel words given number c = fits_none (op.AsyncCancel (target_in lines (word_at words 2))) (flags_in (options_of Cancel words)) refl
 kind_fits p lines u Remove words given number c = fits_none (op.TimeoutRemove (target_in lines (word_at words 2))) (flags_in (options_of Remove words)) refl
+kind_fits p lines u Splice words given number c =
+    let len = splice_len_in (word_at words 4) in
+    fits_none (splice_op (pos (fd_in (word_at words 2))) (pos (fd_in (word_at words 3))) len) (flags_in (options_of Splice words)) (fits_splice (fd_in (word_at words 2)) (fd_in (word_at words 3)) len)
 kind_fits p lines u Raw words None number c = absurd (one_fault (both_nil (declare_faults p (word_at words 1) u) (kind_faults lines Raw words None) c.own).1)
 kind_fits p lines u Raw words (Some e) number c = raw_fits e.op (no_fault_if (nat_lt BUFFER (len_of e.op)) OutOfRange (both_nil (declare_faults p (word_at words 1) u) (kind_faults lines Raw words (Some e)) c.own).1)
 

@@ -17,3 +17,4 @@ pub mod Accepted
 pub mod RawEntries
 pub mod TableLines
 pub mod Histories
+pub mod TimeoutLines

@@ -4,7 +4,7 @@ use Rattle.std.specs.List.{find, list_any}
 use Rattle.std.specs.Option.{option_map}
 use Rattle.script_text.specs.declared.declared_line.Declared.{Declared}
 use Rattle.script_text.specs.EntryLines.{found_stated, stated}
-use Rattle.script_text.specs.Options.{given_user_data, is_user_data, user_data_in}
+use Rattle.script_text.specs.Options.{number_of_word}
 use Rattle.script_text.specs.TextWords.{now_of, texts}
 
 pub list_any-texts : (p : List ℕ → Bool) (ws : List (Bor (List ℕ))) → list_any p (texts ws) ≡ list_any (λ w. p w.now) ws
@@ -20,14 +20,14 @@ pub find-texts : (p : List ℕ → Bool) (ws : List (Bor (List ℕ))) → find p
 find-texts p [] = refl
 find-texts p (w ∷ ws) = find_step (p w.now) w _ _ (find-texts p ws)
 
--- the option that a search found, and what it gives
-pub user_data_found : (ws : List (Bor (List ℕ))) (r : Option (Bor (Bor (List ℕ)))) (w : Bor (Bor (List ℕ))) (n : Option ℕ) → r ≡ Some w
-    → option_map (λ x. x.now) r ≡ find (λ w. is_user_data w.now) ws → n ≡ user_data_in w.now.now → n ≡ given_user_data (texts ws)
-user_data_found ws r w n is found given = rw (find-texts is_user_data ws, ← found, is) given
+-- the option that a search found, and its number
+pub number_found : (p : List ℕ → Bool) (number : List ℕ → Option ℕ) (ws : List (Bor (List ℕ))) (r : Option (Bor (Bor (List ℕ)))) (w : Bor (Bor (List ℕ))) (n : Option ℕ) → r ≡ Some w
+    → option_map (λ x. x.now) r ≡ find (λ w. p w.now) ws → n ≡ number w.now.now → n ≡ number_of_word number (find p (texts ws))
+number_found p number ws r w n is found given = rw (find-texts p ws, ← found, is) given
 
-pub user_data_none : (ws : List (Bor (List ℕ))) (r : Option (Bor (Bor (List ℕ)))) → r ≡ None
-    → option_map (λ x. x.now) r ≡ find (λ w. is_user_data w.now) ws → None ≡ given_user_data (texts ws)
-user_data_none ws r is found = rw (find-texts is_user_data ws, ← found, is) refl
+pub number_none : (p : List ℕ → Bool) (number : List ℕ → Option ℕ) (ws : List (Bor (List ℕ))) (r : Option (Bor (Bor (List ℕ)))) → r ≡ None
+    → option_map (λ x. x.now) r ≡ find (λ w. p w.now) ws → None ≡ number_of_word number (find p (texts ws))
+number_none p number ws r is found = rw (find-texts p ws, ← found, is) refl
 
 -- ---- entry lines, without where they lie in memory
 

@@ -9,7 +9,7 @@ use Rattle.script_text.specs.declared.actor.Actor.{Actor}
 use Rattle.script_text.specs.declared.actor.Actor.TheVariants as actor
 use Rattle.script_text.specs.declared.fault.Fault.{Fault}
 use Rattle.script_text.specs.declared.keyword.Kind.{Kind}
-use Rattle.script_text.specs.declared.keyword.Kind.TheVariants.{Nop, Read, Write, Close, Poll, Timeout, LinkTimeout, Cancel, Remove, Raw}
+use Rattle.script_text.specs.declared.keyword.Kind.TheVariants.{Nop, Read, Write, Close, Poll, Timeout, LinkTimeout, Cancel, Remove, Splice, Raw}
 use Rattle.script_text.specs.declared.keyword.Keyword.{Keyword}
 use Rattle.script_text.specs.declared.keyword.Keyword.TheVariants.{Ring, Entry as EntryLine}
 use Rattle.script_text.specs.Actors.{is_ring}
@@ -124,6 +124,7 @@ some_arguments Timeout = omega arith
 some_arguments LinkTimeout = omega arith
 some_arguments Cancel = omega arith
 some_arguments Remove = omega arith
+some_arguments Splice = omega arith
 some_arguments Raw = omega arith
 
 pub long_entry : (p : Standing) (lines : List Stated) (u : Bool) (kind : Kind) (words : List (List ℕ)) (given : Option Entry) → IsClean p lines u (EntryLine kind) words given → 1 < length words

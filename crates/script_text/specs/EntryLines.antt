@@ -5,7 +5,7 @@ use Rattle.std.specs.List.{find, position}
 use Rattle.entry.specs.declared.op.Op.{Op}
 use Rattle.entry.specs.declared.op.Op.TheVariants as op
 use Rattle.entry.specs.Entry.{Entry}
-use Rattle.prep.specs.Built.{flagged, link_timeout_op, plain, poll_op, read_op, timeout_op, write_op}
+use Rattle.prep.specs.Built.{flagged, link_timeout_op, plain, poll_op, read_op, splice_op, timeout_count_op, write_op}
 use Rattle.entry.specs.Text.{Says}
 use Rattle.hex.specs.Hex.{IsBytes, encode_lower}
 use Rattle.limits.specs.declared.TheConstants.{BUFFER, FD, LENGTH}
@@ -14,11 +14,11 @@ use Rattle.text.specs.Number.{number_in}
 use Rattle.script_text.specs.declared.fault.Fault.{Fault}
 use Rattle.script_text.specs.declared.fault.Fault.TheVariants.{BadBytes, BadLabel, OutOfRange, UnknownLabel}
 use Rattle.script_text.specs.declared.keyword.Kind.{Kind}
-use Rattle.script_text.specs.declared.keyword.Kind.TheVariants.{Nop, Read, Write, Close, Poll, Timeout, LinkTimeout, Cancel, Remove, Raw}
+use Rattle.script_text.specs.declared.keyword.Kind.TheVariants.{Nop, Read, Write, Close, Poll, Timeout, LinkTimeout, Cancel, Remove, Splice, Raw}
 use Rattle.script_text.specs.declared.declared_line.Declared.{Declared}
 use Rattle.script_text.specs.Keywords.{arguments_of}
 use Rattle.script_text.specs.Noted.{fault_if, long_faults, long_or, number_faults, number_or}
-use Rattle.script_text.specs.Options.{flags_in, given_user_data, has_etime, is_user_data, option_faults, user_data_in}
+use Rattle.script_text.specs.Options.{flags_in, given_count, given_user_data, has_etime, is_user_data, option_faults, user_data_in}
 use Rattle.script_text.specs.TextWords.{is_same, word_at}
 
 -- ---- labels
@@ -91,6 +91,10 @@ fd_in word = number_or (number_in word) 0 FD
 abbrev pub len_in : List ℕ → ℕ
 len_in word = number_or (number_in word) 0 BUFFER
 
+-- of a `splice`, which has no buffer
+abbrev pub splice_len_in : List ℕ → ℕ
+splice_len_in word = number_or (number_in word) 0 LENGTH
+
 abbrev pub mask_in : List ℕ → ℕ
 mask_in word = number_or (number_in word) 0 4294967295
 
@@ -114,23 +118,30 @@ argument_faults lines Timeout words = long_faults (number_in (word_at words 2))
 argument_faults lines LinkTimeout words = long_faults (number_in (word_at words 2))
 argument_faults lines Cancel words = target_faults lines (word_at words 2)
 argument_faults lines Remove words = target_faults lines (word_at words 2)
+argument_faults lines Splice words = number_faults (word_at words 2) 0 FD ++ (number_faults (word_at words 3) 0 FD ++ number_faults (word_at words 4) 0 LENGTH)
 argument_faults lines Raw words = []
 
 -- ETIME_SUCCESS, the bit of a TIMEOUT's flags word
 abbrev pub etime_bit : Bool → ℕ
 etime_bit is_set = if is_set then 32 else 0
 
--- the operation that the words ask for; ticks above 2147483647 and a mask with other bits make it Invalid
+-- the count of completions that the options of a `timeout` give, and 0 where they give none
+abbrev pub count_of : List (List ℕ) → ℕ
+count_of options = long_or (given_count options)
+
+-- the operation that the words ask for; ticks above 2147483647, a count above 1023 and a mask with other bits make it Invalid
 abbrev pub op_of : List Stated → Kind → List (List ℕ) → Op
 op_of lines Nop words = op.Nop
 op_of lines Read words = read_op (pos (fd_in (word_at words 2))) (len_in (word_at words 3)) 0
 op_of lines Write words = write_op (pos (fd_in (word_at words 2))) (text_len (word_at words 3)) 0
 op_of lines Close words = op.Close (pos (fd_in (word_at words 2)))
 op_of lines Poll words = poll_op (pos (fd_in (word_at words 2))) (mask_in (word_at words 3))
-op_of lines Timeout words = timeout_op (ticks_in (word_at words 2)) (etime_bit (has_etime Timeout (options_of Timeout words)))
+op_of lines Timeout words =
+    timeout_count_op (ticks_in (word_at words 2)) (count_of (options_of Timeout words)) (etime_bit (has_etime Timeout (options_of Timeout words)))
 op_of lines LinkTimeout words = link_timeout_op (ticks_in (word_at words 2))
 op_of lines Cancel words = op.AsyncCancel (target_in lines (word_at words 2))
 op_of lines Remove words = op.TimeoutRemove (target_in lines (word_at words 2))
+op_of lines Splice words = splice_op (pos (fd_in (word_at words 2))) (pos (fd_in (word_at words 3))) (splice_len_in (word_at words 4))
 op_of lines Raw words = op.Nop
 
 -- the number that is given, or else the number of the entry line in the file, from 1

@@ -6,7 +6,7 @@ use Rattle.std.specs.String.{string_bytes}
 use Rattle.std.specs.Fmt.{signed_decimal}
 use Rattle.history.specs.declared.req.Req.{Req}
 use Rattle.history.specs.declared.event.Event.{Event}
-use Rattle.history.specs.declared.event.Event.TheVariants.{Submit, Begin, Park, Reply, Take, Miss, Tick, Arm, Expire, Fire, FireMiss, Settle, Sever, Reap, Shut, Cut}
+use Rattle.history.specs.declared.event.Event.TheVariants.{Submit, Begin, Park, Reply, Take, Miss, Tick, Arm, Expire, Count, Fire, FireMiss, Settle, Sever, Reap, Shut, Cut}
 use Rattle.history.specs.History.{fires}
 use Rattle.script.specs.declared.act.Act.{Act}
 use Rattle.script.specs.declared.named.Named.{Named}
@@ -54,6 +54,7 @@ event_text c before (Submit r e bytes last) = short_line (codes "submit") (label
 event_text c before (Begin r) = short_line (codes "begin") (label_of c r)
 event_text c before (Park r) = short_line (codes "park") (label_of c r)
 event_text c before (Expire r) = short_line (codes "expire") (label_of c r)
+event_text c before (Count r) = short_line (codes "count") (label_of c r)
 event_text c before (Sever r) = short_line (codes "sever") (label_of c r)
 event_text c before (Reap r) = short_line (codes "reap") (label_of c r)
 event_text c before (Cut r) = short_line (codes "cut") (label_of c r)

@@ -1,7 +1,7 @@
 -- The first words of lines.
 use Rattle.std.specs.Prelude.{ℕ, List, Bool, true, false, Option, Some, None, codes, if◌then◌else◌}
 use Rattle.script_text.specs.declared.keyword.Kind.{Kind}
-use Rattle.script_text.specs.declared.keyword.Kind.TheVariants.{Nop, Read, Write, Close, Poll, Timeout, LinkTimeout, Cancel, Remove, Raw}
+use Rattle.script_text.specs.declared.keyword.Kind.TheVariants.{Nop, Read, Write, Close, Poll, Timeout, LinkTimeout, Cancel, Remove, Splice, Raw}
 use Rattle.script_text.specs.declared.keyword.Keyword.{Keyword}
 use Rattle.script_text.specs.declared.keyword.Keyword.TheVariants.{Pipe, Ring, On, Submit, Wait, Tick, Armed, Entry}
 use Rattle.script_text.specs.TextWords.{is_same}
@@ -18,6 +18,7 @@ kind_of word =
     if is_same word (codes "link-timeout") then Some LinkTimeout else
     if is_same word (codes "cancel") then Some Cancel else
     if is_same word (codes "remove") then Some Remove else
+    if is_same word (codes "splice") then Some Splice else
     if is_same word (codes "raw") then Some Raw else None
 
 abbrev pub entry_of_kind : Option Kind → Option Keyword
@@ -46,6 +47,7 @@ arguments_of Timeout = 2
 arguments_of LinkTimeout = 2
 arguments_of Cancel = 2
 arguments_of Remove = 2
+arguments_of Splice = 4
 arguments_of Raw = 2
 
 -- how many words have to stand behind the first

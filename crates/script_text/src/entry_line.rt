@@ -2,7 +2,7 @@
 ghost use Rattle.std.specs.Prelude.{◌≡◌, pos, IfOk};
 ghost use Rattle.prep.specs.Built.{plain};
 ghost use Rattle.text.specs.Number.{number_in};
-ghost use Rattle.script_text.specs.EntryLines.{all_stated, argument_faults, buffer_in, entry_faults, entry_of, fd_in, op_of, options_of, text_bytes, text_len};
+ghost use Rattle.script_text.specs.EntryLines.{all_stated, argument_faults, buffer_in, count_of, entry_faults, entry_of, etime_bit, fd_in, op_of, options_of, text_bytes, text_len};
 ghost use Rattle.script_text.specs.Options.{has_etime};
 ghost use Rattle.script_text.specs.Kept.{KeepsFault};
 ghost use Rattle.script_text.specs.Noted.{long_or, number_or, with_faults};
@@ -62,23 +62,35 @@ fn text_len(word: &[u8]) -> u32
     if len > LENGTH as usize { 0 } else { len as u32 }
 }
 
+/// The flags word of a TIMEOUT.
+fn etime_bit(is_set: bool) -> u32
+    ensures { result ≡ etime_bit is_set }
+{
+    if is_set { ETIME_SUCCESS } else { 0 }
+}
+
 /// The entry of a line that is no `raw`, without flags and user_data.
-fn plain_entry<'a>(labels: &Labels<'a>, kind: Kind, words: &[&'a [u8]], etime_ok: bool) -> Sqe
-    requires { etime_ok ≡ has_etime kind (options_of kind (texts words.now)) }
+fn plain_entry<'a>(labels: &Labels<'a>, kind: Kind, words: &[&'a [u8]], options: Options) -> Sqe
+    requires etime_ok { options.etime_ok ≡ has_etime kind (options_of kind (texts words.now)) }
+    requires count { options.count ≡ count_of (options_of kind (texts words.now)) }
     ensures { result ≡ plain (op_of (all_stated labels.now.lines.items) kind (texts words.now)) }
 {
     let second = word_at(words, 2);
     let third = word_at(words, 3);
+    let fourth = word_at(words, 4);
     match kind {
         Kind::Nop | Kind::Raw => prep::nop(),
         Kind::Read => prep::read(fd_in(second), number_or(third, 0, BUFFER), 0),
         Kind::Write => prep::write(fd_in(second), text_len(third), 0),
         Kind::Close => prep::close(fd_in(second)),
         Kind::Poll => prep::poll_add(fd_in(second), number_or(third, 0, u32::MAX)),
-        Kind::Timeout => prep::timeout(long_or(second), if etime_ok { ETIME_SUCCESS } else { 0 }),
+        Kind::Timeout => {
+            prep::timeout_count(long_or(second), options.count, etime_bit(options.etime_ok))
+        }
         Kind::LinkTimeout => prep::link_timeout(long_or(second)),
         Kind::Cancel => prep::cancel(target_in(labels, second)),
         Kind::Remove => prep::timeout_remove(target_in(labels, second)),
+        Kind::Splice => prep::splice(fd_in(second), fd_in(third), number_or(fourth, 0, LENGTH)),
     }
 }
 
@@ -87,7 +99,7 @@ pub fn entry_of<'a>(labels: &Labels<'a>, kind: Kind, words: &[&'a [u8]], number:
     ensures { result ≡ entry_of (all_stated labels.now.lines.items) kind (texts words.now) number }
 {
     let options = Options::of(kind, options_in(kind, words));
-    let sqe = plain_entry(labels, kind, words, options.etime_ok);
+    let sqe = plain_entry(labels, kind, words, options);
     let flagged = prep::with_flags(sqe, options.flags);
     prep::with_user_data(flagged, options.user_data.unwrap_or(number))
 }
@@ -100,6 +112,7 @@ fn note_arguments<'a>(faults: &mut Faults, labels: &Labels<'a>, kind: Kind, word
 {
     let second = word_at(words, 2);
     let third = word_at(words, 3);
+    let fourth = word_at(words, 4);
     match kind {
         Kind::Nop | Kind::Raw => {}
         Kind::Read => {
@@ -117,6 +130,11 @@ fn note_arguments<'a>(faults: &mut Faults, labels: &Labels<'a>, kind: Kind, word
         }
         Kind::Timeout | Kind::LinkTimeout => faults.long_number(second),
         Kind::Cancel | Kind::Remove => note_target(faults, labels, second),
+        Kind::Splice => {
+            faults.number(second, 0, FD);
+            faults.number(third, 0, FD);
+            faults.number(fourth, 0, LENGTH);
+        }
     }
 }
 

@@ -42,6 +42,7 @@ fn write_event(
         Event::Begin(req) => write_short(out, "begin", script, *req),
         Event::Park(req) => write_short(out, "park", script, *req),
         Event::Expire(req) => write_short(out, "expire", script, *req),
+        Event::Count(req) => write_short(out, "count", script, *req),
         Event::Sever(req) => write_short(out, "sever", script, *req),
         Event::Reap(req) => write_short(out, "reap", script, *req),
         Event::Cut(req) => write_short(out, "cut", script, *req),

@@ -16,6 +16,7 @@ pub enum Kind {
     LinkTimeout,
     Cancel,
     Remove,
+    Splice,
     Raw,
 }
 
@@ -56,6 +57,8 @@ impl Kind {
             Some(Kind::Cancel)
         } else if is_same(word, b"remove") {
             Some(Kind::Remove)
+        } else if is_same(word, b"splice") {
+            Some(Kind::Splice)
         } else if is_same(word, b"raw") {
             Some(Kind::Raw)
         } else {
@@ -66,7 +69,7 @@ impl Kind {
     /// How many words an entry line has after its first, options left out.
     pub fn arguments(self) -> usize
         ensures count { result ≡ arguments_of self }
-        ensures few { result ≤ 3 }
+        ensures few { result ≤ 4 }
     {
         match self {
             Kind::Nop => 1,
@@ -77,6 +80,7 @@ impl Kind {
             | Kind::Remove
             | Kind::Raw => 2,
             Kind::Read | Kind::Write | Kind::Poll => 3,
+            Kind::Splice => 4,
         }
     }
 

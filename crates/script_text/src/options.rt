@@ -5,7 +5,8 @@ ghost use Rattle.script_text.specs.Above.{user_data_of};
 ghost use Rattle.script_text.specs.Kept.{KeepsFault};
 ghost use Rattle.script_text.specs.Keywords.{arguments_of};
 ghost use Rattle.script_text.specs.Noted.{with_faults};
-ghost use Rattle.script_text.specs.Options.{bit_if, flags_in, given_user_data, has_etime, has_option, has_twice, has_user_data_twice, is_bad_user_data, is_option, is_user_data, option_faults, repeats, takes_etime, user_data_in};
+ghost use Rattle.script_text.specs.EntryLines.{count_of};
+ghost use Rattle.script_text.specs.Options.{bit_if, count_in, flags_in, given_count, given_user_data, has_count_twice, has_etime, has_option, has_twice, has_user_data_twice, is_bad_number, is_count, is_option, is_timeout, is_user_data, option_faults, repeats, user_data_in};
 ghost use Rattle.script_text.specs.TextWords.{texts};
 
 use crate::fault::Fault;
@@ -45,6 +46,8 @@ macro_rules! flag_bits {
 pub struct Options {
     pub flags: u8,
     pub etime_ok: bool,
+    /// How many completions a `timeout` counts, and 0 where no option gives it.
+    pub count: u64,
     pub user_data: Option<u64>,
 }
 
@@ -53,11 +56,13 @@ impl Options {
     pub fn of(kind: Kind, options: &[&[u8]]) -> Options
         ensures flags { result.flags ≡ flags_in (texts options.now) }
         ensures etime_ok { result.etime_ok ≡ has_etime kind (texts options.now) }
+        ensures count { result.count ≡ count_of (texts options.now) }
         ensures user_data { result.user_data ≡ given_user_data (texts options.now) }
     {
         Options {
             flags: flags_in(options),
-            etime_ok: takes_etime(kind) && has_option(options, b"etime-ok"),
+            etime_ok: is_timeout(kind) && has_option(options, b"etime-ok"),
+            count: given_count(options).unwrap_or(0),
             user_data: given_user_data(options),
         }
     }
@@ -71,7 +76,7 @@ pub fn note_options(faults: &mut Faults, kind: Kind, options: &[&[u8]])
 {
     faults.note_if(has_unknown(kind, options), Fault::UnknownWord);
     faults.note_if(repeats(kind, options), Fault::ExtraArgument);
-    faults.note_if(has_bad_user_data(options), Fault::BadNumber);
+    faults.note_if(has_bad_number(options), Fault::BadNumber);
 }
 
 /// Whether a word is `ud=NUMBER`, whatever its number.
@@ -88,16 +93,31 @@ pub fn user_data_in(word: &[u8]) -> Option<u64>
     number_of(&word[3.min(word.len())..])
 }
 
-/// Whether a word is `ud=` and no number.
-fn is_bad_user_data(word: &[u8]) -> bool
-    ensures { result ≡ is_bad_user_data word.now }
+/// Whether a word is `count=NUMBER`, whatever its number.
+fn is_count(word: &[u8]) -> bool
+    ensures { result ≡ is_count word.now }
 {
-    is_user_data(word) && user_data_in(word).is_none()
+    word.starts_with(b"count=")
 }
 
-/// Whether `etime-ok` is an option of such a line.
-fn takes_etime(kind: Kind) -> bool
-    ensures { result ≡ takes_etime kind }
+/// The number that stands after `count=`, or in place of other six bytes.
+fn count_in(word: &[u8]) -> Option<u64>
+    ensures { result ≡ count_in word.now }
+{
+    number_of(&word[6.min(word.len())..])
+}
+
+/// Whether a word is `ud=` or `count=` and no number.
+fn is_bad_number(word: &[u8]) -> bool
+    ensures { result ≡ is_bad_number word.now }
+{
+    (is_user_data(word) && user_data_in(word).is_none())
+        || (is_count(word) && count_in(word).is_none())
+}
+
+/// Whether `etime-ok` and `count=NUMBER` are options of such a line.
+fn is_timeout(kind: Kind) -> bool
+    ensures { result ≡ is_timeout kind }
 {
     matches!(kind, Kind::Timeout)
 }
@@ -107,8 +127,8 @@ fn is_option(kind: Kind, word: &[u8]) -> bool
     ensures { result ≡ is_option kind word.now }
 {
     let is_flag = by_flag!(is_flag!(word));
-    let is_etime = takes_etime(kind) && is_same(word, b"etime-ok");
-    is_flag || (is_etime || is_user_data(word))
+    let is_timed = is_timeout(kind) && (is_same(word, b"etime-ok") || is_count(word));
+    is_flag || (is_timed || is_user_data(word))
 }
 
 fn has_unknown(kind: Kind, options: &[&[u8]]) -> bool
@@ -117,10 +137,10 @@ fn has_unknown(kind: Kind, options: &[&[u8]]) -> bool
     options.iter().any(|option| !is_option(kind, option))
 }
 
-fn has_bad_user_data(options: &[&[u8]]) -> bool
-    ensures { result ≡ list_any is_bad_user_data (texts options.now) }
+fn has_bad_number(options: &[&[u8]]) -> bool
+    ensures { result ≡ list_any is_bad_number (texts options.now) }
 {
-    options.iter().any(|option| is_bad_user_data(option))
+    options.iter().any(|option| is_bad_number(option))
 }
 
 fn has_option(options: &[&[u8]], name: &[u8]) -> bool
@@ -145,13 +165,19 @@ fn has_user_data_twice(options: &[&[u8]]) -> bool
     options.iter().filter(|option| is_user_data(option)).count() > 1
 }
 
+fn has_count_twice(options: &[&[u8]]) -> bool
+    ensures { result ≡ has_count_twice (texts options.now) }
+{
+    options.iter().filter(|option| is_count(option)).count() > 1
+}
+
 /// Whether an option stands twice.
 fn repeats(kind: Kind, options: &[&[u8]]) -> bool
     ensures { result ≡ repeats kind (texts options.now) }
 {
     let flag = by_flag!(repeats_flag!(options));
-    let etime = takes_etime(kind) && has_twice(options, b"etime-ok");
-    flag || (etime || has_user_data_twice(options))
+    let timed = is_timeout(kind) && (has_twice(options, b"etime-ok") || has_count_twice(options));
+    flag || (timed || has_user_data_twice(options))
 }
 
 fn bit_if(is_set: bool, bit: u8) -> u8
@@ -173,6 +199,16 @@ fn given_user_data(options: &[&[u8]]) -> Option<u64>
 {
     match options.iter().find(|option| is_user_data(option)) {
         Some(option) => user_data_in(option),
+        None => None,
+    }
+}
+
+/// The count that the first `count=NUMBER` of these options gives.
+fn given_count(options: &[&[u8]]) -> Option<u64>
+    ensures { result ≡ given_count (texts options.now) }
+{
+    match options.iter().find(|option| is_count(option)) {
+        Some(option) => count_in(option),
         None => None,
     }
 }

@@ -28,20 +28,21 @@ pub fn raw_entry(alloc: Global, digits: &[u8]) -> Result<Option<Sqe>, AllocError
     Ok(Some(Sqe::of_bytes(&entry)))
 }
 
-/// How many bytes each row asks for.
+/// How long a buffer each row has.
 macro_rules! len_of {
-    (($op:expr) $($text:literal $name:ident { $($field:ident),* } = $code:literal: $fd:tt $off:tt $addr:tt [$($len:tt)*] $word:tt $flags:tt $fails:tt;)*) => {
+    (($op:expr) $($text:literal $name:ident { $($field:ident),* } = $code:literal: $fd:tt $off:tt $addr:tt [$($len:tt)*] $word:tt $splice_fd_in:tt $flags:tt $fails:tt;)*) => {
         match $op {
-            $(Op::$name { $($field),* } => len_column!($($len)*),)*
+            $(Op::$name { $($field),* } => len_column!($name $($len)*),)*
             Op::Invalid => 0,
         }
     };
 }
 
 macro_rules! len_column {
-    (count $len:ident) => { $len };
-    (zero) => { 0 };
-    (one) => { 0 };
+    (Splice count $len:ident) => { 0 };
+    ($name:ident count $len:ident) => { $len };
+    ($name:ident zero) => { 0 };
+    ($name:ident one) => { 0 };
 }
 
 /// How many bytes a READ or WRITE asks for, and 0 of another entry.

@@ -14,7 +14,7 @@ use text::{line_at, push_line};
 
 /// Whether an entry of each row brings data, which its line shows.
 macro_rules! is_read {
-    (($op:expr) $($text:literal $name:ident { $($field:ident),* } = $code:literal: $fd:tt $off:tt $addr:tt $len:tt $word:tt $flags:tt $fails:tt;)*) => {
+    (($op:expr) $($text:literal $name:ident { $($field:ident),* } = $code:literal: $fd:tt $off:tt $addr:tt $len:tt $word:tt $splice_fd_in:tt $flags:tt $fails:tt;)*) => {
         match $op {
             $(Op::$name { $($field),* } => brings_data!($name),)*
             Op::Invalid => false,
@@ -32,6 +32,7 @@ macro_rules! brings_data {
     (Close) => { false };
     (Read) => { true };
     (Write) => { false };
+    (Splice) => { false };
 }
 
 fn is_read(op: Op) -> bool

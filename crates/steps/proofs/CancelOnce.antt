@@ -2,7 +2,7 @@
 use Rattle.std.proofs.Common.{◌≡◌, Bool, true, false, cond, List, [], ◌∷◌, sym, refl, ap, ◌∙◌, subst, ⊎_elim, arith}
 use Rattle.history.specs.declared.req.Req.{Req}
 use Rattle.history.specs.declared.event.Event.{Event}
-use Rattle.history.specs.declared.event.Event.TheVariants.{Submit, Begin, Park, Reply, Take, Miss, Arm, Expire, Fire, Settle, Sever, Reap, Cut}
+use Rattle.history.specs.declared.event.Event.TheVariants.{Submit, Begin, Park, Reply, Take, Miss, Arm, Expire, Count, Fire, Settle, Sever, Reap, Cut}
 use Rattle.history.specs.History.{Hit, Phase, unborn, waits, runs, armed, replied, reaped, nothing, took, missed, same, concerns, becomes, phase, hit, submits}
 use Rattle.history.specs.Legal.{Setup, Legal}
 use Rattle.history.proofs.Requests.{bool_cases, same_true}
@@ -62,6 +62,7 @@ module _ (L : Layout) (r : Req) where
       (λ (n : same c r ≡ false). stays (Miss c t) (events_of j) refl (ap (λ (b : Bool). cond b (missed t) (hit (events_of j) r)) n) (unhit j legal.1 orderly.1) early) (bool_cases (same c r))
   unhit (Did (Arm q d) ∷ j) legal orderly early = either_way (Arm q d) (events_of j) _ (λ _. refl) (λ z. z) refl (unhit j legal.1 orderly.1) early
   unhit (Did (Expire q) ∷ j) legal orderly early = either_way (Expire q) (events_of j) _ (λ _. refl) (λ z. z) refl (unhit j legal.1 orderly.1) early
+  unhit (Did (Count q) ∷ j) legal orderly early = either_way (Count q) (events_of j) _ (λ _. refl) (λ z. z) refl (unhit j legal.1 orderly.1) early
   unhit (Did (Fire l t) ∷ j) legal orderly early = either_way (Fire l t) (events_of j) _ (λ _. refl) (λ z. z) refl (unhit j legal.1 orderly.1) early
   unhit (Did (Settle l) ∷ j) legal orderly early = either_way (Settle l) (events_of j) _ (λ _. refl) (λ z. z) refl (unhit j legal.1 orderly.1) early
   unhit (Did (Sever q) ∷ j) legal orderly early = either_way (Sever q) (events_of j) _ (λ _. refl) (λ z. z) refl (unhit j legal.1 orderly.1) early

@@ -5,7 +5,7 @@ use Rattle.claim.specs.declared.tag.Tag.{Tag}
 use Rattle.claim.specs.declared.tag.Tag.TheVariants.{Empty, Held, Ready, Running, Armed, Done}
 use Rattle.entry.specs.Entry.{Entry, fails}
 use Rattle.history.specs.declared.req.Req.{Req}
-use Rattle.history.specs.History.{Cause, by_reply, by_take, by_expire, by_fire, by_settle, by_sever, by_cut, Phase, unborn, runs, replied, reaped, phase, data_of}
+use Rattle.history.specs.History.{Cause, by_reply, by_take, by_expire, by_count, by_fire, by_settle, by_sever, by_cut, Phase, unborn, runs, replied, reaped, phase, data_of}
 use Rattle.history.specs.Chains.{IsPlaced}
 use Rattle.steps.specs.declared.line.Line.{Line}
 use Rattle.steps.specs.Journal.{events_of, lent}
@@ -23,6 +23,8 @@ cause_fits by_take true = omega arith
 cause_fits by_take false = omega arith
 cause_fits by_expire true = omega arith
 cause_fits by_expire false = omega arith
+cause_fits by_count true = omega arith
+cause_fits by_count false = omega arith
 cause_fits by_fire true = omega arith
 cause_fits by_fire false = omega arith
 cause_fits by_settle true = omega arith

@@ -17,12 +17,12 @@ use Rattle.steps.specs.declared.parcel.Thing.{Thing}
 use Rattle.steps.specs.declared.view.Heard.{Heard}
 use Rattle.steps.specs.declared.view.Layout.{Layout}
 use Rattle.steps.specs.declared.view.Role.{Role}
-use Rattle.steps.specs.declared.view.Role.TheVariants.{Poller, Submitter, Lending, Idle, Busy, Leaving, Spent}
+use Rattle.steps.specs.declared.view.Role.TheVariants.{Poller, Submitter, Lending, Idle, Busy, Leaving, Parting, Spent}
 use Rattle.steps.specs.declared.view.View.{View}
 use Rattle.steps.specs.Journal.{events_of}
 use Rattle.steps.specs.Cells.{CellOk, PipeIs, total, claim_at, note_at, pipe_at, slot_at, slots_of, words_of}
-use Rattle.steps.specs.Rule.{Owner, nobody, pollers, rings, workers, owner, stands_for, apart, NoneOf, Begins, IsHeard, IsGone, Saw, SeatOk, parts_of, IsRunBy, IsHeldBy, IsLentBy, IsOneOf, Knows, Ruled, opening_view, without_one, without_next, next_poller, submitter_of, next_submitter, idle_one, messenger, hearing, spent_view, Ended}
-use Rattle.steps.proofs.Roles.{apart_sym, idle_apart, idle_none, spent_apart}
+use Rattle.steps.specs.Rule.{Owner, nobody, pollers, rings, workers, holders, owner, stands_for, apart, NoneOf, Begins, IsHeard, IsGone, Saw, SeatOk, parts_of, IsRunBy, IsHeldBy, IsLentBy, IsOneOf, Knows, Ruled, opening_view, without_one, without_next, next_poller, submitter_of, next_submitter, idle_one, messenger, hearing, spent_view, Ended}
+use Rattle.steps.proofs.Roles.{apart_sym, works_for, idle_apart, idle_none, none_of, spent_apart}
 use Rattle.steps.proofs.RuleKept.{parts_set, run_set, held_set, lent_set, known_set, IsKnown, at_now}
 
 at_end : {A : Type 0} (l : List A) (a b : A) (j : ℕ) → get_elem? (l ++ a ∷ []) j ≡ some b → (get_elem? l j ≡ some b) ⊎ ((j ≡ length l) × (a ≡ b))
@@ -30,10 +30,6 @@ at_end [] a b zero e = inr (refl, some-injective a b e)
 at_end [] a b (suc j) e = absurd (some-ne-none b (sym e))
 at_end (x ∷ xs) a b zero e = inl e
 at_end (x ∷ xs) a b (suc j) e = ⊎_elim (λ h. inl h) (λ (t : (j ≡ length xs) × (a ≡ b)). inr (ap suc t.0, t.1)) (at_end xs a b j e)
-
-none_of : (a b : Role) → ((o : Owner) → stands_for a o ≡ false → stands_for b o ≡ false) → (l : List Line) → NoneOf a l → NoneOf b l
-none_of a b h [] n = tt
-none_of a b h (e ∷ l) n = (h (owner e) n.0, none_of a b h l n.1)
 
 home_of : {A : Type 0} (l : List A) (i : ℕ) (a : A) → get_elem? l i ≡ some a → get_elem? (map some l) i ≡ some (some a)
 home_of [] i a e = absurd (some-ne-none a (sym e))
@@ -59,8 +55,8 @@ spent_none (e ∷ l) = (spent_owns (owner e), spent_none l)
 run_longer : (vs : List View) (w : View) (q : Req) → IsRunBy vs q → IsRunBy (vs ++ w ∷ []) q
 run_longer vs w q by = (by.0, by.1, at_longer vs (w ∷ []) by.0 by.1 by.2, by.3)
 
-held_longer : (vs : List View) (w : View) (q : Req) → IsHeldBy vs q → IsHeldBy (vs ++ w ∷ []) q
-held_longer vs w q by = (by.0, by.1, at_longer vs (w ∷ []) by.0 by.1 by.2, by.3)
+held_longer : (vs : List View) (w : View) (q : Req) (p : ℕ) → IsHeldBy vs q p → IsHeldBy (vs ++ w ∷ []) q p
+held_longer vs w q p by = (by.0, by.1, at_longer vs (w ∷ []) by.0 by.1 by.2, by.3)
 
 lent_longer : (vs : List View) (w : View) (q : Req) → IsLentBy vs q → IsLentBy (vs ++ w ∷ []) q
 lent_longer vs w q by = (by.0, by.1, at_longer vs (w ∷ []) by.0 by.1 by.2, by.3)
@@ -159,7 +155,7 @@ module _ (L : Layout) where
 
   -- a seat is cut in two, of which the left one keeps its work
   split_ok : (s : St) (r : Ruled L s) (id : ℕ) (v left right : View) → get_elem? s.views id ≡ some v → left.parts + right.parts ≡ v.parts → (0 < v.parts → 0 < left.parts) → (Knows v (events_of r.past) → Knows left (events_of r.past))
-      → ((q : Req) → v.role ≡ Busy q → left.role ≡ Busy q) → ((q : Req) → v.role ≡ Lending q → left.role ≡ Lending q) → ((q : Req) → stands_for v.role (workers q) ≡ true → stands_for left.role (workers q) ≡ true)
+      → ((q : Req) → v.role ≡ Busy q → left.role ≡ Busy q) → ((q : Req) → v.role ≡ Lending q → left.role ≡ Lending q) → ((q : Req) (p : ℕ) → stands_for v.role (holders q p) ≡ true → stands_for left.role (holders q p) ≡ true)
       → SeatOk L r.past left → SeatOk L r.past right → apart left.role right.role ≡ true → left.heard ≡ v.heard → right.heard ≡ []
       → ((u : Role) → apart v.role u ≡ true → (apart left.role u ≡ true) × (apart right.role u ≡ true))
       → Ruled L record { words = s.words; homes = s.homes; views = set s.views id left ++ right ∷ [] }
@@ -209,7 +205,7 @@ module _ (L : Layout) where
             (λ (t : (l ≡ length vs) × (right ≡ y)). subst (λ (z : View). IsGone x.role z.role) t.1 (apart'.1, mine.1)) (at_end vs right y l q))
             (λ (t : (i ≡ length vs) × (right ≡ u)). absurd (subst (IsHeard x) (ap (λ (z : View). z.heard) (sym t.1) ∙ none) h)) (at_end vs right u i p);
         run = λ q is. run_longer vs right q (run_set s.views id v left q there (runner q) (r.run q is));
-        held_by = λ p q is. held_longer vs right q (held_set s.views id v left q there (keeper q) (r.held_by p q is));
+        held_by = λ p q is. held_longer vs right q p (held_set s.views id v left q p there (keeper q p) (r.held_by p q is));
         lent_by = λ q is. lent_longer vs right q (lent_set s.views id v left q there (lender q) (r.lent_by q is));
         parts = (let p = parts_set s.views id v left there in let old = r.parts in let l = parts_end vs right in omega arith);
         newest = known_longer vs right (events_of r.past) (known_set s.views id v left (events_of r.past) there (λ some' k. (has some', knows k)) r.newest);
@@ -220,12 +216,14 @@ module _ (L : Layout) where
   next_left n pollers h = h
   next_left n (rings i) h = grind (arith, nat_tests)
   next_left n (workers c) h = refl
+  next_left n (holders c p) h = refl
 
   next_right : (n : ℕ) (o : Owner) → stands_for (Poller n) o ≡ false → stands_for (Submitter n) o ≡ false
   next_right n nobody h = refl
   next_right n pollers h = refl
   next_right n (rings i) h = grind (arith, nat_tests)
   next_right n (workers c) h = refl
+  next_right n (holders c p) h = refl
 
   next_apart : (n : ℕ) (u : Role) → apart (Poller n) u ≡ true → (apart (Poller (suc n)) u ≡ true) × (apart (Submitter n) u ≡ true)
   next_apart n (Poller m) h = absurd (true≢false (sym h))
@@ -234,6 +232,7 @@ module _ (L : Layout) where
   next_apart n Idle h = (refl, refl)
   next_apart n (Busy q) h = (refl, refl)
   next_apart n (Leaving q) h = (refl, refl)
+  next_apart n (Parting q p) h = (refl, refl)
   next_apart n Spent h = (refl, refl)
 
   -- the next submitter leaves the poller
@@ -244,7 +243,7 @@ module _ (L : Layout) where
       let right : next_submitter v ≡ record v { role = Submitter n; parts = 1; heard = []; steps = [] } = ap (λ (z : Role). record v { role = submitter_of z; parts = 1; heard = []; steps = [] }) is in
       let none : NoneOf (Poller n) seat.saw.later = subst (λ (z : Role). NoneOf z seat.saw.later) is seat.saw.none in
       rw (left, right) (split_ok s r id v (record v { role = Poller (suc n); parts = v.parts - 1 }) (record v { role = Submitter n; parts = 1; heard = []; steps = [] }) there (omega arith) (λ _. omega arith) (λ k. k)
-      (λ q e. absurd (let y = sym is ∙ e in cc)) (λ q e. absurd (let y = sym is ∙ e in cc)) (λ q e. absurd (true≢false (sym e ∙ ap (λ (z : Role). stands_for z (workers q)) is)))
+      (λ q e. absurd (let y = sym is ∙ e in cc)) (λ q e. absurd (let y = sym is ∙ e in cc)) (λ q p e. absurd (true≢false (sym e ∙ ap (λ (z : Role). stands_for z (holders q p)) is)))
       record { layout = λ _. layout; saw = record { later = seat.saw.later; is = seat.saw.is; none = none_of (Poller n) (Poller (suc n)) (next_left n) seat.saw.later none }; heard = seat.heard; busy = (λ q e. absurd (cc)); leaving = (λ q e. absurd (cc)); lending = (λ q e. absurd (cc)) }
       record { layout = λ _. layout; saw = record { later = seat.saw.later; is = seat.saw.is; none = none_of (Poller n) (Submitter n) (next_right n) seat.saw.later none }; heard = λ x h. absurd h; busy = (λ q e. absurd (cc)); leaving = (λ q e. absurd (cc)); lending = (λ q e. absurd (cc)) }
       (grind (arith, nat_tests)) refl refl (λ u h. next_apart n u (subst (λ (z : Role). apart z u ≡ true) is h)))
@@ -258,14 +257,14 @@ module _ (L : Layout) where
 
   pub cuts_idle : (id : ℕ) (v : View) → v.role ≢ Spent → 1 < v.parts → Splits (Ruled L) id v (without_one v) (idle_one v)
   cuts_idle id v live more s r there = let seat = r.seats id v there in
-      split_ok s r id v (without_one v) (idle_one v) there (omega arith) (λ _. omega arith) (λ k. k) (λ q e. e) (λ q e. e) (λ q e. e)
+      split_ok s r id v (without_one v) (idle_one v) there (omega arith) (λ _. omega arith) (λ k. k) (λ q e. e) (λ q e. e) (λ q p e. e)
       record { layout = seat.layout; saw = seat.saw; heard = seat.heard; busy = (λ q e. (omega arith, (seat.busy q e).1)); leaving = (λ q e. (omega arith, (seat.leaving q e).1)); lending = (λ q e. omega arith) }
       (idle_ok r.past v 1 (seat.layout live) (seat.saw.later, seat.saw.is)) (apart_idle v.role) refl refl (λ u h. (h, idle_apart u))
 
   -- a messenger leaves any other seat
   pub cuts_messenger : (id : ℕ) (v : View) → v.role ≢ Spent → Splits (Ruled L) id v v (messenger v)
   cuts_messenger id v live s r there = let seat = r.seats id v there in
-      split_ok s r id v v (messenger v) there (omega arith) (λ h. h) (λ k. k) (λ q e. e) (λ q e. e) (λ q e. e) seat (idle_ok r.past v 0 (seat.layout live) (seat.saw.later, seat.saw.is)) (apart_idle v.role) refl refl (λ u h. (h, idle_apart u))
+      split_ok s r id v v (messenger v) there (omega arith) (λ h. h) (λ k. k) (λ q e. e) (λ q e. e) (λ q p e. e) seat (idle_ok r.past v 0 (seat.layout live) (seat.saw.later, seat.saw.is)) (apart_idle v.role) refl refl (λ u h. (h, idle_apart u))
 
   spent_ok : (j : List Line) → SeatOk L j spent_view
   spent_ok j = record { layout = λ n. absurd (n refl); saw = record { later = j; is = sym (append-nil j); none = spent_none j }; heard = λ x h. absurd h; busy = (λ q e. absurd (cc)); leaving = (λ q e. absurd (cc)); lending = (λ q e. absurd (cc)) }
@@ -311,7 +310,7 @@ module _ (L : Layout) where
             (λ (k : (l ≡ other) × (spent_view ≡ y)). subst (λ (z : View). IsGone x.role z.role) k.1 (spent_apart x.role, (told id (hearing v w) (λ e. ne (sym e)) (at_now s.views id v (hearing v w) there) i u t.1 x h).1))
             (λ (k : (l ≢ other) × (get_elem? vs l ≡ some y)). told l y k.0 k.1 i u t.1 x h) (at_set vs other l spent_view y q)) (at_set vs other i spent_view u p);
         run = λ q is. run_set vs other w spent_view q at (λ b. absurd (true≢false (sym (subst (λ (z : Role). stands_for z (workers q) ≡ true) (sym b) (same_itself q)) ∙ lazy q))) (run_set s.views id v (hearing v w) q there (λ e. e) (r.run q is));
-        held_by = λ p q is. held_set vs other w spent_view q at (λ b. absurd (true≢false (sym b ∙ lazy q))) (held_set s.views id v (hearing v w) q there (λ e. e) (r.held_by p q is));
+        held_by = λ p q is. held_set vs other w spent_view q p at (λ b. absurd (true≢false (sym (works_for w.role q p b) ∙ lazy q))) (held_set s.views id v (hearing v w) q p there (λ e. e) (r.held_by p q is));
         lent_by = λ q is. lent_set vs other w spent_view q at (λ b. absurd (bare q b)) (lent_set s.views id v (hearing v w) q there (λ e. e) (r.lent_by q is));
         parts = (let p = parts_set s.views id v (hearing v w) there in let p' = parts_set vs other w spent_view at in let old = r.parts in omega arith);
         newest = known_joined s.views id other v w (events_of r.past) there at_old ne r.newest;

@@ -145,7 +145,7 @@ module _ (slots id : ℕ) (me : Seated) where
                 (owned L s r id v l at own) (λ y h k. quiet.concerns' (request_at K y k)) (length-set s.words i n) (λ y. words (claim_at y) (omega arith)) (λ y k h small. words (note_at y k) (omega arith) ∙ r.notes y k h small) clock refl (λ y. refl)
                 (λ p small. subst (λ (m : ℕ). PipeOk L.caps (l ∷ r.past) p m (get_elem? s.homes p)) (sym (words (pipe_at p) (omega arith))) (pipe_stays L.caps l r.past p _ _ refl (λ _. quiet.plain.flow' (events_of r.past) p) (r.pipes p small)))
                 (λ q is. run_set s.views id v w q at (λ z. z) (r.run q (sym (stays q) ∙ is)))
-                (λ p q is. held_set s.views id v w q at (λ z. z) (r.held_by p q is))
+                (λ p q is. held_set s.views id v w q p at (λ z. z) (r.held_by p q is))
                 (λ q is. lent_set s.views id v w q at (λ z. z) (r.lent_by q (sym (quiet.plain.lent' r.past q) ∙ is)))
                 (id, w, at_now s.views id v w at, has s r at, Rattle.std.proofs.Common.inl refl),
             (extends slots id me s r at l v.role legal live (quiet.plain.fair' L r.past) t, refl),

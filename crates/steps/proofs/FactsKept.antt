@@ -120,7 +120,7 @@ module _ (L : Layout) (s : Setup) (x : ℕ) (inside : IsCell L.cells x) (g : ℕ
       (λ (w : concerns e r ≡ false). carry l j y d refl (unchanged s e (events_of j) r w) (done_on L s l j r h gone') (facts_are j h.1 o.1 y d is (placed_before L s x inside g e (events_of j) y d h is p) gone')) (bool_cases (concerns e r))
   facts_are (Lent q word value ∷ j) h o y d is p gone = at_store q word value j y d h o.1 (stored_by L s j q word value (phase (events_of j) q) refl o.0) gone (facts_are j h o.1 y d is p gone)
   facts_are (Noted q word value ∷ j) h o y d is p gone = let f' = o.0 in
-      carry (Noted q word value) j y d (ap (λ b. cond b value (noted j (facts_at x))) (ne_eqb word (facts_at x) (let e = f'.3 in λ z. absurd (let k = z in omega arith)))) refl (λ z. z) (facts_are j h o.1 y d is p gone)
+      carry (Noted q word value) j y d (ap (λ b. cond b value (noted j (facts_at x))) (ne_eqb word (facts_at x) (let low = f'.4.0 in let few = f'.4.1 in let e = f'.5 in λ z. absurd (let k = z in omega arith)))) refl (λ z. z) (facts_are j h o.1 y d is p gone)
   facts_are (l ∷ j) h o y d is p gone = carry l j y d refl refl (λ z. z) (facts_are j h o.1 y d is p gone)
 
 -- what a load of a cell's facts tells of the requests that were reaped

@@ -2,7 +2,7 @@
 use Rattle.std.proofs.Common.{◌≡◌, ◌≢◌, ◌⊎◌, ⊎_elim, inl, inr, ℕ, ◌+◌, ◌*◌, ◌%◌, ◌<◌, ◌≤◌, ◌&&◌, nat_lt, ltb-true, Bool, true, false, cond, true≢false, ℤ, negsuc, List, Option, Some, None, IsTrue, sym, refl, ap, ◌∙◌, subst, arith}
 use Rattle.claim.specs.Facts.{Facts, bit, packed_facts, fits_facts}
 use Rattle.entry.specs.declared.op.Op.{Op}
-use Rattle.entry.specs.declared.op.Op.TheVariants.{Nop, PollAdd, Timeout, TimeoutRemove, AsyncCancel, LinkTimeout, Close, Read, Write, Invalid}
+use Rattle.entry.specs.declared.op.Op.TheVariants.{Nop, PollAdd, Timeout, TimeoutRemove, AsyncCancel, LinkTimeout, Close, Read, Write, Splice, Invalid}
 use Rattle.entry.specs.Entry.{Entry, fails, drains, links_soft, links_hard}
 use Rattle.history.specs.declared.req.Req.{Req}
 use Rattle.history.specs.History.{Cause, Phase, unborn, waits, runs, armed, replied, reaped, Submission, submission, submits, phase, IsReplied}
@@ -23,13 +23,14 @@ use Rattle.steps.specs.FactsTold.{AreFacts, TellsFacts}
 pub row_small : (op : Op) → row_number op < 16
 row_small Nop = omega arith
 row_small (PollAdd fd mask) = omega arith
-row_small (Timeout ticks etime_success) = omega arith
+row_small (Timeout ticks etime_success count) = omega arith
 row_small (TimeoutRemove user_data) = omega arith
 row_small (AsyncCancel user_data) = omega arith
 row_small (LinkTimeout ticks) = omega arith
 row_small (Close fd) = omega arith
 row_small (Read fd offset len) = omega arith
 row_small (Write fd offset len) = omega arith
+row_small (Splice fd_in fd_out len) = omega arith
 row_small Invalid = omega arith
 
 bit_small : (b : Bool) → bit b < 2

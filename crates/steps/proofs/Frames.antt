@@ -1,6 +1,6 @@
 -- A line about one request leaves all other cells and pipes as they were.
 use Rattle.std.specs.Prelude.{◌==◌}
-use Rattle.std.proofs.Common.{◌≡◌, ◌≢◌, ℕ, ◌<◌, Bool, true, false, cond, List, [], ◌∷◌, ◌++◌, Option, Some, None, sym, refl, ap, ◌∙◌, subst, ⊎_elim, arith, true≢false}
+use Rattle.std.proofs.Common.{◌≡◌, ◌≢◌, ℕ, ◌<◌, Bool, true, false, cond, List, [], ◌∷◌, ◌++◌, Option, Some, None, sym, refl, ap, ◌∙◌, subst, ⊎_elim, arith, true≢false, eqb-true}
 use Rattle.history.specs.declared.req.Req.{Req}
 use Rattle.history.specs.declared.event.Event.{Event}
 use Rattle.history.specs.History.{Phase, unborn, waits, runs, armed, replied, same, answers, data_in, data_of, phase, submission, submits}
@@ -15,7 +15,7 @@ use Rattle.steps.specs.declared.line.Line.TheVariants.{Did, Hold, Free}
 use Rattle.steps.specs.declared.view.Role.{Role}
 use Rattle.steps.specs.Journal.{events_of, holder}
 use Rattle.steps.specs.Cells.{request_at, Home, IsParcel, Keeps, Ages, MayBegin, Says, CellOk, PipeIs, PipeSays, PipeOk}
-use Rattle.steps.specs.Rule.{workers, stands_for, NoneOf}
+use Rattle.steps.specs.Rule.{holders, stands_for, NoneOf}
 use Rattle.steps.proofs.JournalGrowth.{about, phase_stays, data_stays, freed_stays, lent_stays, counted_in, lasts_by, lasts, submission_lasts, placed_lasts, open_lasts, kind_lasts}
 
 abbrev pub Quiet : List ℕ → Line → ℕ → Type 0
@@ -83,17 +83,17 @@ module _ (caps : List ℕ) (l : Line) (j : List Line) (p word : ℕ) (home : Hom
   pub pipe_stays : holder (l ∷ j) p ≡ holder j p → (holder j p ≡ None → flow (events_of (l ∷ j)) p ≡ flow (events_of j) p) → PipeOk caps j p word home → PipeOk caps (l ∷ j) p word home
   pipe_stays same f ok = subst (PipeSays caps (l ∷ j) p word home) (sym same) (by_holder (holder j p) f ok)
 
--- while a seat that acts for r does nothing, it gets no pipe
-module _ (role : Role) (r : Req) (p : ℕ) (mine : stands_for role (workers r) ≡ true) where
+-- while a seat that may have the pipe p for r does nothing, it doesn't get it
+module _ (role : Role) (r : Req) (p : ℕ) (mine : stands_for role (holders r p) ≡ true) where
   some_one : (q c : Req) → Some q ≡ Some c → q ≡ c
   some_one q c e = cc
 
-  not_else : (q : Req) → stands_for role (workers q) ≡ false → Some r ≡ Some q → ⊥
-  not_else q n e = true≢false (sym mine ∙ (ap (λ (z : Req). stands_for role (workers z)) (some_one r q e) ∙ n))
+  not_else : (q : Req) → stands_for role (holders q p) ≡ false → Some r ≡ Some q → ⊥
+  not_else q n e = true≢false (sym mine ∙ (ap (λ (z : Req). stands_for role (holders z p)) (some_one r q e) ∙ n))
 
   lacks_by : (l : Line) (j : List Line) → Rattle.steps.specs.Rule.owns role l ≡ false → holder j p ≢ Some r → holder (l ∷ j) p ≢ Some r
   lacks_by (Hold q m) j n h = λ is. ⊎_elim
-      (λ (t : (m == p) ≡ true). not_else q n (sym is ∙ ap (λ (b : Bool). cond b (Some q) (holder j p)) t))
+      (λ (t : (m == p) ≡ true). not_else q (subst (λ (z : ℕ). stands_for role (holders q z) ≡ false) (eqb-true m p t) n) (sym is ∙ ap (λ (b : Bool). cond b (Some q) (holder j p)) t))
       (λ (t : (m == p) ≡ false). h (sym (ap (λ (b : Bool). cond b (Some q) (holder j p)) t) ∙ is)) (bool_cases (m == p))
   lacks_by (Free q m) j n h = λ is. ⊎_elim
       (λ (t : (m == p) ≡ true). let z = sym is ∙ ap (λ (b : Bool). cond b None (holder j p)) t in cc)

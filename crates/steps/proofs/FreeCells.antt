@@ -55,7 +55,7 @@ module _ (L : Layout) (role : Role) (x k : ℕ) (small : k < 7) (inside : IsCell
 
   noted_by : (l : Line) (j : List Line) → Fair L j l → owns role l ≡ false → noted (l ∷ j) (note_at x k) ≡ noted j (note_at x k)
   noted_by (Lent r word value) j f n = let w = facts_word L.cells j r word value (phase (events_of j) r) f in elsewhere r word value (noted j (note_at x k)) w.0 w.1 0 n w.2 (omega arith) w.3
-  noted_by (Noted r word value) j f n = elsewhere r word value (noted j (note_at x k)) f.0 f.1 1 n f.2 (omega arith) f.3
+  noted_by (Noted r word value) j f n = elsewhere r word value (noted j (note_at x k)) f.0 f.1 f.2 n f.3 (let few = f.4.1 in omega arith) f.5
   noted_by (Did e) j f n = refl
   noted_by (Freed r) j f n = refl
   noted_by (Hold r p) j f n = refl

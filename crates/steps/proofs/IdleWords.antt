@@ -8,7 +8,7 @@ use Rattle.claim.specs.Claim.{Claim, fits, packed}
 use Rattle.history.specs.declared.req.Req.{Req}
 use Rattle.history.specs.declared.event.Event.{Event}
 use Rattle.history.specs.History.{Phase, unborn, armed, reaped, concerns, becomes, phase, IsReplied}
-use Rattle.history.specs.declared.event.Event.TheVariants.{Take, Expire, Fire, Settle, Cut}
+use Rattle.history.specs.declared.event.Event.TheVariants.{Take, Expire, Count, Fire, Settle, Cut}
 use Rattle.history.proofs.Requests.{bool_cases}
 use Rattle.history.proofs.Growth.{MayChange, may_change, changed, unchanged, replied_stays}
 use Rattle.history.specs.Legal.{Setup, Legal}
@@ -69,6 +69,7 @@ IsArmedYet d p = (p ≡ armed d) ⊎ IsReplied p
 ends_armed : (h : List Event) (e : Event) (d : ℕ) (p : Phase) → MayChange (armed d) e → IsReplied (becomes h e p)
 ends_armed h (Take c t) d p m = tt
 ends_armed h (Expire r) d p m = tt
+ends_armed h (Count r) d p m = tt
 ends_armed h (Fire l t) d p m = tt
 ends_armed h (Settle l) d p m = tt
 ends_armed h (Cut r) d p m = tt

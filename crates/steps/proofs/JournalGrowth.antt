@@ -3,12 +3,13 @@ use Rattle.std.proofs.Common.{◌≡◌, ◌≢◌, ℕ, ◌<◌, ◌≤◌, ◌
 use Rattle.entry.specs.Entry.{Entry}
 use Rattle.history.specs.declared.req.Req.{Req}
 use Rattle.history.specs.declared.event.Event.{Event}
-use Rattle.history.specs.declared.event.Event.TheVariants.{Submit, Begin, Park, Reply, Take, Miss, Tick, Expire, Fire, FireMiss, Settle, Sever, Reap, Shut, Cut}
-use Rattle.history.specs.History.{Cause, Phase, unborn, runs, replied, reaped, Submission, same, concerns, becomes, phase, answers, data_in, data_of, submission, submits, adds_to, was_shut, IsReplied}
+use Rattle.history.specs.declared.event.Event.TheVariants.{Submit, Begin, Park, Reply, Take, Miss, Tick, Expire, Count, Fire, FireMiss, Settle, Sever, Reap, Shut, Cut}
+use Rattle.history.specs.History.{Cause, Phase, unborn, runs, replied, reaped, Submission, same, concerns, becomes, phase, answers, data_in, data_of, submission, submits, adds_to, was_shut, later_replies, IsReplied}
 use Rattle.history.specs.Chains.{before_in, previous, IsPlaced, IsChainDone, Open, Severed}
 use Rattle.history.specs.Legal.{Setup, MayCome, shut_for, Legal, IsOf}
 use Rattle.history.proofs.Requests.{bool_cases, same_true, same_false}
 use Rattle.history.proofs.Growth.{MayChange, may_change, changed, unchanged, counted, submission_stays, submission_none, replied_stays}
+use Rattle.history.proofs.LaterReplies.{later_grows}
 use Rattle.history.proofs.Opening.{placed_stays, open_stays, severed_stays, done_stays}
 use Rattle.steps.specs.declared.line.Line.{Line}
 use Rattle.steps.specs.declared.line.Line.TheVariants.{Did, Freed, Lent, Noted, Hold, Free}
@@ -31,6 +32,7 @@ pub answers_concerns : (e : Event) (q : Req) → concerns e q ≡ false → answ
 answers_concerns (Reply r res data') q n = n
 answers_concerns (Take c t) q n = n
 answers_concerns (Expire r) q n = n
+answers_concerns (Count r) q n = n
 answers_concerns (Fire l t) q n = n
 answers_concerns (Settle l) q n = n
 answers_concerns (Sever r) q n = n
@@ -124,6 +126,9 @@ module _ (s : Setup) where
 
   pub reaped_lasts : (q : Req) (c' : Cause) (res : ℤ) → Lasting (λ h. phase h q ≡ reaped c' res) q
   reaped_lasts q c' res e h l a c is = Rattle.history.proofs.Growth.reaped_stays s e h q c' res l a is
+
+  pub replies_last : (q : Req) (n : ℕ) → Lasting (λ h. n ≤ later_replies h q) q
+  replies_last q n e h l a c is = let m = later_grows s e h q l a in omega arith
 
   -- who has been submitted was counted
   pub counted_in : (j : List Line) (q : Req) (p : Phase) → Legal s (events_of j) → phase (events_of j) q ≡ p → p ≢ unborn → q.k < submits (events_of j) q.ring

@@ -28,3 +28,4 @@ pub mod FactsRead
 pub mod CancelOnce
 pub mod MatchesKept
 pub mod IdleWords
+pub mod CountsRead

@@ -32,10 +32,10 @@ use Rattle.steps.specs.Fairness.{Fair}
 use Rattle.steps.specs.declared.view.Role.TheVariants.{Idle, Busy, Spent}
 use Rattle.steps.specs.Journal.{events_of, freed, holder}
 use Rattle.steps.specs.Cells.{IsCell, ring_of, request_at, Keeps, MayBegin, claim_at, note_at, slot_at, word_of}
-use Rattle.steps.specs.Rule.{pollers, workers, stands_for, Ruled}
+use Rattle.steps.specs.Rule.{pollers, workers, holders, stands_for, Ruled}
 use Rattle.steps.specs.Plays.{looked, noticed, tried, released, began}
 use Rattle.steps.proofs.CellNumbers.{other_cell, other_age}
-use Rattle.steps.proofs.Roles.{unowned, busy_apart}
+use Rattle.steps.proofs.Roles.{unowned, busy_apart, works_for}
 use Rattle.steps.proofs.JournalGrowth.{counted_in, open_lasts, kind_lasts, phase_stays}
 use Rattle.steps.proofs.Frames.{may_stays, ages_stay}
 use Rattle.steps.proofs.ClaimWords.{says_of}
@@ -116,7 +116,7 @@ module _ (slots id : ℕ) (me : Seated) where
         takes (slot_at x) (Some (Full parcel.0)),
         parcel.1,
         adds_claim L s r id v (Busy q) x new (set s.homes (slot_at x) maybe.none) l (tick slots id me (claim_at x) s (l ∷ r.past)) inside refl (quiet_line L r.past l tt r.live refl (λ p. (refl, refl))) record {
-          keeps = (λ p c is own. absurd (true≢false (sym own ∙ ap (λ (z : Role). stands_for z (workers c)) idle)));
+          keeps = (λ p c is own. absurd (true≢false (sym own ∙ ap (λ (z : Role). stands_for z (holders c p)) idle)));
           has = has;
           gone = (λ a g. (unowned a, busy_apart q a (λ c own. absurd (true≢false (sym own ∙ g.1 c)))));
           lends = (λ c is. inr (is, λ z. absurd (let y = sym idle ∙ z in cc)));
@@ -134,7 +134,7 @@ module _ (slots id : ℕ) (me : Seated) where
               says = (refl, refl, running, here.0.3, here.0.4, may_stays S l r.past legal q (counted_in S r.past q waits r.legal waiting (λ e. cc)) here.0.6);
               ages = ages_stay S l r.past legal K x g (λ n other. other_age K x g n inside other) here.1;
             },
-        (extends slots id me s r at l (Busy q) legal r.live tt (tick slots id me (claim_at x) s (l ∷ r.past)), (parcel.0, refl, parcel.2), (λ n held'. (let by = r.held_by n q held' in free by.0 by.1 by.2 by.3))),
+        (extends slots id me s r at l (Busy q) legal r.live tt (tick slots id me (claim_at x) s (l ∷ r.past)), (parcel.0, refl, parcel.2), (λ n held'. (let by = r.held_by n q held' in free by.0 by.1 by.2 (works_for by.1.role q n by.3)))),
         refl,
       )
 

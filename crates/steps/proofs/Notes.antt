@@ -27,15 +27,15 @@ use Rattle.atomic_table.specs.Table.{State}
 use Rattle.history.specs.Legal.{Setup}
 use Rattle.steps.specs.Cells.{setup_of}
 use Rattle.steps.specs.Plays.{Seated}
-use Rattle.steps.specs.declared.view.Role.TheVariants.{Submitter, Lending, Busy, Leaving}
+use Rattle.steps.specs.declared.view.Role.TheVariants.{Submitter, Lending, Busy}
 use Rattle.steps.specs.Journal.{events_of, lent, noted}
-use Rattle.steps.specs.Cells.{IsCell, ring_of, request_at, CellOk, IsParcel, claim_at, note_at, facts_at, user_at, slot_at, cause_bits}
-use Rattle.steps.specs.Rule.{rings, workers, stands_for, apart, Vacant, Ruled, Extends}
+use Rattle.steps.specs.Cells.{IsCell, ring_of, request_at, CellOk, IsParcel, claim_at, note_at, facts_at, slot_at, cause_bits}
+use Rattle.steps.specs.Rule.{rings, workers, stands_for, apart, is_leaving, Vacant, Ruled, Extends}
 use Rattle.steps.specs.Fairness.{Fair, IsFactsNote}
 use Rattle.steps.specs.Notes.{outcome_of}
-use Rattle.steps.specs.Plays.{opened, noted_user, emptied, Hands}
+use Rattle.steps.specs.Plays.{opened, noted_more, emptied, Hands}
 use Rattle.steps.proofs.CellNumbers.{other_cell, other_age, one_word}
-use Rattle.steps.proofs.Roles.{as_lending}
+use Rattle.steps.proofs.Roles.{as_lending, idle_hands}
 use Rattle.steps.proofs.JournalGrowth.{begins, ran, lent_stays, counted_in, placed_lasts}
 use Rattle.steps.proofs.Frames.{ages_stay, cell_stays}
 use Rattle.steps.proofs.ClaimWords.{says_of, done_word}
@@ -66,14 +66,14 @@ module _ (slots id : ℕ) (me : Seated) where
       (λ ne. get_or-set_other s.words a b n 0 (λ e. ne (sym e)) ∙ (r.notes y i h fits ∙ sym (stored b ∙ ap (λ (t : Bool). cond t n (noted r.past b)) (ne_eqb a b ne))))
 
   -- a seat that changes from the role of a submitter to another, or back, without a worker's part
-  pub turns_by : (s : St) (r : Ruled L s) (l : Line) (role : Role) → LeavesGone v.role l role → begins l ≡ false → Legal S (events_of (l ∷ r.past)) → 0 < v.parts → ((c : Req) → stands_for v.role (workers c) ≡ false) → ((c : Req) → role ≢ Busy c) → ((c : Req) → role ≢ Leaving c)
+  pub turns_by : (s : St) (r : Ruled L s) (l : Line) (role : Role) → LeavesGone v.role l role → begins l ≡ false → Legal S (events_of (l ∷ r.past)) → 0 < v.parts → ((c : Req) → stands_for v.role (workers c) ≡ false) → ((c : Req) → role ≢ Busy c) → ((c : Req) → is_leaving role c ≡ false)
       → ((q : Req) → lent (l ∷ r.past) q ≡ true → (role ≡ Lending q) ⊎ ((lent r.past q ≡ true) × (v.role ≡ Lending q → role ≡ Lending q))) → Turns r.past l v role
   turns_by s r l role gone calm legal has aside lazy' stays lends' = record {
     gone = gone;
-    keeps = λ p c is own. absurd (true≢false (sym own ∙ aside c));
+    keeps = λ p c is own. absurd (true≢false (sym own ∙ idle_hands v.role c p (aside c)));
     has = has;
     busy = λ c is. absurd (lazy' c is);
-    leaving = λ c is. absurd (stays c is);
+    leaving = λ c is. absurd (true≢false (sym is ∙ stays c));
     lends = lends';
     running = λ c is. inr (ran S l r.past c legal calm is, λ z. absurd (true≢false (sym (subst (λ (k : Role). stands_for k (workers c) ≡ true) (sym z) (same_itself c)) ∙ aside c)));
   }
@@ -87,7 +87,7 @@ module _ (slots id : ℕ) (me : Seated) where
     submits_here = ap (λ (z : Role). stands_for z (rings (ring_of K x))) mine ∙ eq-eqb (ring_of K x) (ring_of K x) refl
 
     lend_turns : (s : St) (r : Ruled L s) (w n : ℕ) → Turns r.past (Lent q w n) v (Lending q)
-    lend_turns s r w n = turns_by s r (Lent q w n) (Lending q) (gone_own v.role (Lending q) (Lent q w n) submits_here (λ a g. sym (as_lending q a) ∙ subst (λ (z : Role). apart z a ≡ true) mine g)) refl r.legal has (λ c. ap (λ (z : Role). stands_for z (workers c)) mine) (λ c e. cc) (λ c e. cc)
+    lend_turns s r w n = turns_by s r (Lent q w n) (Lending q) (gone_own v.role (Lending q) (Lent q w n) submits_here (λ a g. sym (as_lending q a) ∙ subst (λ (z : Role). apart z a ≡ true) mine g)) refl r.legal has (λ c. ap (λ (z : Role). stands_for z (workers c)) mine) (λ c e. cc) (λ c. refl)
         (λ c is. dec_req q c (λ same'. inl (ap Lending same')) (λ ne. inr (sym (lent_stays (Lent q w n) r.past c (same_false q c ne)) ∙ is, λ z. absurd (let y = sym mine ∙ z in cc))))
 
     lend_by : (n : ℕ) (s : St) (r : Ruled L s) → There slots id me s → Fair L r.past (Lent q (facts_at x) n) → (y : Option Thing) → get_elem? s.homes (slot_at x) ≡ some (some y)
@@ -173,33 +173,33 @@ module _ (slots id : ℕ) (me : Seated) where
     pub empty_allows : (M : Layout) (n : ℕ) (c : Cause) (res : ℤ) (e : Entry) → phase (events_of v.seen) q ≡ replied c res → IsPlaced (events_of v.seen) q e → n ≡ outcome_of (noted v.seen (facts_at x)) (fails e res) → lent v.seen q ≡ false → Allows (Ruled M) slots id me (facts_at x) (λ _. n) (λ _. emptied (step slots (facts_at x) n 0 none) me n)
     empty_allows M n c res e done is_e value home = shaped slots id me M (facts_at x) (λ _. n) (λ _. emptied (step slots (facts_at x) n 0 none) me n) (λ z. (let y = sym mine ∙ z in cc)) (empty_does n c res e done is_e value home)
 
-  -- NOTE of the user_data before the Submit, by who has the slot
-  module _ (x g : ℕ) (mine : v.role ≡ Lending (request_at K x g)) (has : 0 < v.parts) (inside : IsCell K x) (f : g < 16777216) where
+  -- another NOTE before the Submit, by who has the slot
+  module _ (x g : ℕ) (mine : v.role ≡ Lending (request_at K x g)) (has : 0 < v.parts) (inside : IsCell K x) (f : g < 16777216) (i : ℕ) (low : 0 < i) (few : i < 3) where
     abbrev r : Req
     r = request_at K x g
 
     lends_it : stands_for v.role (rings (ring_of K x)) ≡ true
     lends_it = ap (λ (z : Role). stands_for z (rings (ring_of K x))) mine ∙ eq-eqb (ring_of K x) (ring_of K x) refl
 
-    user_does : (n : ℕ) → Vacant K v.seen x g → (s : St) (u : Ruled L s) → There slots id me s → Does slots id me L s (user_at x) n (noted_user (step slots (user_at x) n 0 none) me n)
-    user_does n free s u at =
-        let l : Line = Noted r (user_at x) n in let now = vacant_now slots id me s u at x g inside f lends_it free in
-        let fair : Fair L u.past l = (x, g, (inside, refl), refl, now.1, free_now slots id me s u at x g free) in
-        let view : View = with_line slots id me (user_at x) s u.past l v.role in (
+    more_does : (n : ℕ) → Vacant K v.seen x g → (s : St) (u : Ruled L s) → There slots id me s → Does slots id me L s (note_at x i) n (noted_more (step slots (note_at x i) n 0 none) me n)
+    more_does n free s u at =
+        let l : Line = Noted r (note_at x i) n in let now = vacant_now slots id me s u at x g inside f lends_it free in
+        let fair : Fair L u.past l = (x, g, i, (inside, refl), (low, few), refl, now.1, free_now slots id me s u at x g free) in
+        let view : View = with_line slots id me (note_at x i) s u.past l v.role in (
           view,
           keeps,
           tt,
-          adds L s u id v v.role x (set s.words (user_at x) n) s.homes l (tick slots id me (user_at x) s (l ∷ u.past)) refl (quiet_line L u.past l fair u.live refl (λ p. (refl, refl)))
+          adds L s u id v v.role x (set s.words (note_at x i) n) s.homes l (tick slots id me (note_at x i) s (l ∷ u.past)) refl (quiet_line L u.past l fair u.live refl (λ p. (refl, refl)))
               (same_turns slots id me s u at l lends_it refl u.legal has (λ _. refl) (λ c is. absurd (let y = sym mine ∙ is in cc))) u.legal at (owned L s u id v l at lends_it)
-              (λ y h other k. refl) (length-set s.words (user_at x) n) (λ y other. get_or-set_other s.words (user_at x) (claim_at y) n 0 (omega arith)) (λ y h. get_or-set_other s.words (user_at x) y n 0 (omega arith))
-              (note_set s u x 1 n l inside (omega arith) (λ w. refl)) refl (λ y other. refl)
-              (subst (λ (z : ℕ). CellOk K (l ∷ u.past) x z (get_elem? s.homes (slot_at x))) (sym (get_or-set_other s.words (user_at x) (claim_at x) n 0 (omega arith))) (cell_stays S l u.past u.legal K x _ _ (λ _. refl) (u.cells x inside))),
-          (λ y h word inside' role'. let same' : r ≡ request_at K y h = (let z = sym mine ∙ role' in cc) in (
-            (subst (λ (z : Req). Extends v (Noted z (user_at x) n) v.role view) same' (extends slots id me s u at l v.role u.legal u.live fair (tick slots id me (user_at x) s (l ∷ u.past))), refl),
-            (get_or s.words (user_at x) 0, refl),
+              (λ y h other k. refl) (length-set s.words (note_at x i) n) (λ y other. get_or-set_other s.words (note_at x i) (claim_at y) n 0 (omega arith)) (λ y h. get_or-set_other s.words (note_at x i) y n 0 (omega arith))
+              (note_set s u x i n l inside (omega arith) (λ w. refl)) refl (λ y other. refl)
+              (subst (λ (z : ℕ). CellOk K (l ∷ u.past) x z (get_elem? s.homes (slot_at x))) (sym (get_or-set_other s.words (note_at x i) (claim_at x) n 0 (omega arith))) (cell_stays S l u.past u.legal K x _ _ (λ _. refl) (u.cells x inside))),
+          (λ c role'. let same' : r ≡ c = (let z = sym mine ∙ role' in cc) in (
+            (subst (λ (z : Req). Extends v (Noted z (note_at x i) n) v.role view) same' (extends slots id me s u at l v.role u.legal u.live fair (tick slots id me (note_at x i) s (l ∷ u.past))), refl),
+            (get_or s.words (note_at x i) 0, refl),
           )),
           refl,
         )
 
-    pub user_allows : (M : Layout) (n : ℕ) → Vacant K v.seen x g → Allows (Ruled M) slots id me (user_at x) (λ _. n) (λ _. noted_user (step slots (user_at x) n 0 none) me n)
-    user_allows M n free = shaped slots id me M (user_at x) (λ _. n) (λ _. noted_user (step slots (user_at x) n 0 none) me n) (λ z. (let y = sym mine ∙ z in cc)) (user_does n free)
+    pub more_allows : (M : Layout) (n : ℕ) → Vacant K v.seen x g → Allows (Ruled M) slots id me (note_at x i) (λ _. n) (λ _. noted_more (step slots (note_at x i) n 0 none) me n)
+    more_allows M n free = shaped slots id me M (note_at x i) (λ _. n) (λ _. noted_more (step slots (note_at x i) n 0 none) me n) (λ z. (let y = sym mine ∙ z in cc)) (more_does n free)

@@ -7,8 +7,8 @@ use Rattle.history.specs.declared.req.Req.{Req}
 use Rattle.history.specs.declared.event.Event.{Event}
 use Rattle.history.specs.declared.event.Event.TheVariants.{Submit, Reap}
 use Rattle.history.specs.History.{Cause, Phase, unborn, waits, runs, armed, replied, reaped, Submission, same, concerns, phase, submission, submits, after_reap}
-use Rattle.history.specs.Chains.{IsPlaced, IsChainDone}
-use Rattle.history.specs.Legal.{Setup, Legal, MayCome}
+use Rattle.history.specs.Chains.{IsPlaced, IsChainDone, is_timeout}
+use Rattle.history.specs.Legal.{Setup, Legal, MayCome, count_of}
 use Rattle.history.proofs.Requests.{bool_cases, same_itself, same_true}
 use Rattle.history.proofs.Growth.{MayChange, may_change, changed, unchanged, born_once, submission_none}
 use Rattle.history.proofs.Opening.{placed_stays}
@@ -17,7 +17,7 @@ use Rattle.steps.specs.declared.line.Line.TheVariants.{Did, Lent, Noted}
 use Rattle.steps.specs.declared.view.Layout.{Layout}
 use Rattle.steps.specs.Fairness.{Fair, Orderly, IsFree, IsReaped, IsIn, AreNoted, IsFactsNote, NotesSay, NotesTell}
 use Rattle.steps.specs.Journal.{events_of, lent, noted}
-use Rattle.steps.specs.Cells.{IsCell, ring_of, place_of, cells_in, request_at, facts_at, user_at}
+use Rattle.steps.specs.Cells.{IsCell, ring_of, place_of, cells_in, request_at, facts_at, user_at, count_at}
 use Rattle.steps.specs.Notes.{facts_of, outcome_of}
 use Rattle.steps.proofs.CellNumbers.{one_cell, other_cell}
 use Rattle.steps.proofs.FreeCells.{reaped_as}
@@ -155,12 +155,13 @@ module _ (L : Layout) (s : Setup) where
     submitted_at h y l is = (let n : ¬ (submits h r.ring ≤ r.k) = λ le. (let e = sym is ∙ submission_none s h r l le in cc) in omega arith)
 
     -- a line that stores nothing in the notes of x, and leaves the request's slot and phase
-    carry : (l : Line) (j : List Line) (y : Submission) (d : Entry) → noted (l ∷ j) (facts_at x) ≡ noted j (facts_at x) → noted (l ∷ j) (user_at x) ≡ noted j (user_at x) → lent (l ∷ j) r ≡ lent j r
+    carry : (l : Line) (j : List Line) (y : Submission) (d : Entry) → noted (l ∷ j) (facts_at x) ≡ noted j (facts_at x) → noted (l ∷ j) (user_at x) ≡ noted j (user_at x) → noted (l ∷ j) (count_at x) ≡ noted j (count_at x) → lent (l ∷ j) r ≡ lent j r
         → ((c : Cause) (res : ℤ) → phase (events_of (l ∷ j)) r ≡ replied c res → lent j r ≡ true → phase (events_of j) r ≡ replied c res) → NotesSay K j x g y d → NotesSay K (l ∷ j) x g y d
-    carry l j y d facts user slot still n = record {
+    carry l j y d facts user count slot still n = record {
       facts = λ f. facts ∙ n.facts (sym slot ∙ f);
       outcome = λ c res p f. facts ∙ n.outcome c res (still c res p (sym slot ∙ f)) (sym slot ∙ f);
       user_data = user ∙ n.user_data;
+      count = λ t. count ∙ n.count t;
     }
 
     pub placed_before : (e : Event) (h : List Event) (y : Submission) (d : Entry) → Legal s (e ∷ h) → submission h r ≡ Some y → IsPlaced (e ∷ h) r d → IsPlaced h r d
@@ -179,6 +180,7 @@ module _ (L : Layout) (s : Setup) where
           facts = λ _. sym (ap (λ (n : ℕ). noted j (facts_at n)) at'.0) ∙ (a.5 ∙ (λ i. facts_of (at'.1 i) (same_entry i) (given i).last));
           outcome = λ c res k f. absurd (true≢false (sym f ∙ ap (λ b. cond b false (lent j r)) w));
           user_data = sym (ap (λ (n : ℕ). noted j (user_at n)) at'.0) ∙ (a.6 ∙ ap (λ (n : Submission). n.entry.user_data) given);
+          count = λ t. sym (ap (λ (n : ℕ). noted j (count_at n)) at'.0) ∙ (a.7 (ap (λ (n : Entry). is_timeout n.op) same_entry ∙ t) ∙ ap (λ (n : Entry). count_of n.op) same_entry);
         }
 
     -- a note before the Submit of another request of the cell is not stored now
@@ -203,7 +205,7 @@ module _ (L : Layout) (s : Setup) where
         (λ (u : IsFresh j q value st.gen). not_now j y st.gen h o is alive (subst (λ (k : Req). phase (events_of j) k ≡ unborn) (sym here) u.0) (subst (λ (k : Req). IsFree K (events_of j) k) (sym here) u.1))
         (λ (u : IsClosing j q value st.cell).
         (let k = subst (λ (k : Req). phase (events_of j) k ≡ replied u.0 u.1) (sym here) u.3 in subst IsReaped k (no_other x inside j h o g st.gen ne (born_at j y h is) alive (λ e. (let z = sym k ∙ e in cc))))) st.why))))
-        (λ ne. carry (Lent q word value) j y d (ap (λ b. cond b value (noted j (facts_at x))) (ne_eqb word (facts_at x) (let e = st.word_is in λ z. ne (omega arith)))) (ap (λ b. cond b value (noted j (user_at x))) (ne_eqb word (user_at x) (let e = st.word_is in λ z. absurd (let k = z in omega arith))))
+        (λ ne. carry (Lent q word value) j y d (ap (λ b. cond b value (noted j (facts_at x))) (ne_eqb word (facts_at x) (let e = st.word_is in λ z. ne (omega arith)))) (ap (λ b. cond b value (noted j (user_at x))) (ne_eqb word (user_at x) (let e = st.word_is in λ z. absurd (let k = z in omega arith)))) (ap (λ b. cond b value (noted j (count_at x))) (ne_eqb word (count_at x) (let e = st.word_is in λ z. absurd (let k = z in omega arith))))
         (ap (λ b. cond b true (lent j r)) (subst (λ (k : Req). same k r ≡ false) st.is_in.1 (other_cell K st.cell x st.gen g st.is_in.0 inside (λ e. ne (sym e))))) (λ c res k f. k) n)
       where
         own_store : (q : Req) (word value : ℕ) (j : List Line) (y : Submission) (d : Entry) (c : Cause) (res : ℤ) (e : Entry) → q ≡ r → word ≡ facts_at x → phase (events_of j) r ≡ replied c res → e ≡ d → value ≡ outcome_of (noted j (facts_at x)) (fails e res) → NotesSay K j x g y d → NotesSay K (Lent q word value ∷ j) x g y d
@@ -214,6 +216,7 @@ module _ (L : Layout) (s : Setup) where
               (λ (t : lent j r ≡ true). ap (λ (m : ℕ). outcome_of m (fails d res')) (n.outcome c' res' k t) ∙ same_outcome (facts_of g d y.last) (fails d res'))
               (λ (t : lent j r ≡ false). ap (λ (m : ℕ). outcome_of m (fails d res')) (n.facts t)) (bool_cases (lent j r)))));
           user_data = ap (λ b. cond b value (noted j (user_at x))) (ne_eqb word (user_at x) (λ z. absurd (let k = z in omega arith))) ∙ n.user_data;
+          count = λ t. ap (λ b. cond b value (noted j (count_at x))) (ne_eqb word (count_at x) (λ z. absurd (let k = z in omega arith))) ∙ n.count t;
         }
 
     -- REAPED: who was reaped after an event that reaps him
@@ -227,14 +230,14 @@ module _ (L : Layout) (s : Setup) where
     notes_are (Did (Submit q e bytes last) ∷ j) h o y d is p alive = let l : Line = Did (Submit q e bytes last) in ⊎_elim
         (λ (w : same q r ≡ true). at_submit q e bytes last j y d w o.0 is p)
         (λ (w : same q r ≡ false). (let z : Submission = record { entry = e; bytes = bytes; last = last } in let was : submission (events_of j) r ≡ Some y = sym (ap (λ b. cond b (Some z) (submission (events_of j) r)) w) ∙ is in
-        carry l j y d refl refl (ap (λ b. cond b false (lent j r)) w) (λ c res k f. sym (unchanged s (Submit q e bytes last) (events_of j) r w) ∙ k)
+        carry l j y d refl refl refl (ap (λ b. cond b false (lent j r)) w) (λ c res k f. sym (unchanged s (Submit q e bytes last) (events_of j) r w) ∙ k)
         (notes_are j h.1 o.1 y d was (placed_before (Submit q e bytes last) (events_of j) y d h was p) (λ k. alive (reaped_on l j r h k))))) (bool_cases (same q r))
     notes_are (Did (Reap q) ∷ j) h o y d is p alive = let l : Line = Did (Reap q) in ⊎_elim
         (λ (w : same q r ≡ true). absurd (alive (reaped_now q (events_of j) h w)))
-        (λ (w : same q r ≡ false). carry l j y d refl refl (ap (λ b. cond b false (lent j r)) w) (λ c res k f. sym (unchanged s (Reap q) (events_of j) r w) ∙ k)
+        (λ (w : same q r ≡ false). carry l j y d refl refl refl (ap (λ b. cond b false (lent j r)) w) (λ c res k f. sym (unchanged s (Reap q) (events_of j) r w) ∙ k)
         (notes_are j h.1 o.1 y d is (placed_before (Reap q) (events_of j) y d h is p) (λ k. alive (reaped_on l j r h k)))) (bool_cases (same q r))
     notes_are (Did e ∷ j) h o y d is p alive = let l : Line = Did e in
-        carry l j y d refl refl refl (λ c res k f. ⊎_elim
+        carry l j y d refl refl refl refl (λ c res k f. ⊎_elim
         (λ (w : concerns e r ≡ true). (let m = may_change s e (events_of j) r h.1 h.0.1 w in ⊎_elim
         (λ (u : phase (events_of j) r ≡ unborn). absurd (born_at j y h.1 is u))
         (λ (u : (c : Cause) × (res : ℤ) × (phase (events_of j) r ≡ replied c res)). absurd (subst (λ (z : Phase). MayChange z e) u.2 m)) (lent_out j r h.1 o.1 f)))
@@ -242,10 +245,10 @@ module _ (L : Layout) (s : Setup) where
         (notes_are j h.1 o.1 y d is (placed_before e (events_of j) y d h is p) (λ k. alive (reaped_on l j r h k)))
     notes_are (Lent q word value ∷ j) h o y d is p alive = at_store q word value j y d h o.1 (stored_by j q word value (phase (events_of j) q) refl o.0) is p alive (notes_are j h o.1 y d is p alive)
     notes_are (Noted q word value ∷ j) h o y d is p alive =
-        let f = o.0 in let n = notes_are j h o.1 y d is p alive in let other : ¬ (f.0 ≡ x) = λ e. (let here : request_at K x f.1 ≡ q = subst (λ (m : ℕ). request_at K m f.1 ≡ q) e f.2.1 in
-        not_now j y f.1 h o.1 is alive (subst (λ (k : Req). phase (events_of j) k ≡ unborn) (sym here) f.4) (subst (λ (k : Req). IsFree K (events_of j) k) (sym here) f.5)) in
-        carry (Noted q word value) j y d (ap (λ b. cond b value (noted j (facts_at x))) (ne_eqb word (facts_at x) (let e = f.3 in λ z. absurd (let k = z in omega arith)))) (ap (λ b. cond b value (noted j (user_at x))) (ne_eqb word (user_at x) (let e = f.3 in λ z. other (omega arith)))) refl (λ c res k f. k) n
-    notes_are (l ∷ j) h o y d is p alive = carry l j y d refl refl refl (λ c res k f. k) (notes_are j h o.1 y d is p alive)
+        let f = o.0 in let n = notes_are j h o.1 y d is p alive in let low = f.4.0 in let few = f.4.1 in let at' = f.5 in let other : ¬ (f.0 ≡ x) = λ e. (let here : request_at K x f.1 ≡ q = subst (λ (m : ℕ). request_at K m f.1 ≡ q) e f.3.1 in
+        not_now j y f.1 h o.1 is alive (subst (λ (k : Req). phase (events_of j) k ≡ unborn) (sym here) f.6) (subst (λ (k : Req). IsFree K (events_of j) k) (sym here) f.7)) in
+        carry (Noted q word value) j y d (ap (λ b. cond b value (noted j (facts_at x))) (ne_eqb word (facts_at x) (λ z. absurd (let k = z in omega arith)))) (ap (λ b. cond b value (noted j (user_at x))) (ne_eqb word (user_at x) (λ z. other (omega arith)))) (ap (λ b. cond b value (noted j (count_at x))) (ne_eqb word (count_at x) (λ z. other (omega arith)))) refl (λ c res k f. k) n
+    notes_are (l ∷ j) h o y d is p alive = carry l j y d refl refl refl refl (λ c res k f. k) (notes_are j h o.1 y d is p alive)
 
 -- what a load of a cell's notes tells
 pub notes_tell : (L : Layout) (s : Setup) (j : List Line) (x : ℕ) → IsCell L.cells x → Legal s (events_of j) → Orderly L j → NotesTell L.cells j x

@@ -6,7 +6,7 @@ use Rattle.entry.specs.declared.op.Op.TheVariants.{AsyncCancel, TimeoutRemove, L
 use Rattle.entry.specs.Entry.{Entry}
 use Rattle.history.specs.declared.req.Req.{Req}
 use Rattle.history.specs.declared.event.Event.{Event}
-use Rattle.history.specs.declared.event.Event.TheVariants.{Take, Miss, Tick, Expire, Fire, FireMiss, Settle, Cut}
+use Rattle.history.specs.declared.event.Event.TheVariants.{Take, Miss, Tick, Expire, Count, Fire, FireMiss, Settle, Cut}
 use Rattle.history.specs.History.{took, missed, armed, concerns, phase, fired, hit, clock_of, was_shut}
 use Rattle.history.specs.Chains.{IsPlaced, IsLinkTimeout, is_link_timeout, is_timeout}
 use Rattle.history.specs.Answers.{asks_for}
@@ -58,6 +58,7 @@ module _ (role : Role) (mine : stands_for role pollers ≡ true) where
         let x = may.2.matches in let one : t ≡ q = same_true t q w in let is : IsPlaced h q x.2 = subst (λ (z : Req). IsPlaced h z x.2) one x.4 in
         let same' : x.2 ≡ link.0 = (let z = sym is ∙ link.1 in cc) in true≢false (sym x.5 ∙ never_asked x.1.op x.2 (ap (λ (z : Entry). is_link_timeout z.op) same' ∙ link.2))
     armed_ends (Expire r) h may link m w o n = true≢false (sym mine ∙ n)
+    armed_ends (Count r) h may link m w o n = true≢false (sym mine ∙ n)
     armed_ends (Fire l t) h may link m w o n = true≢false (sym mine ∙ n)
     armed_ends (Settle l) h may link m w o n = true≢false (sym mine ∙ n)
     armed_ends (Cut r) h may link m w o n = true≢false o

@@ -1,5 +1,7 @@
--- How a worker takes a pipe, and how it gives it back: before a reply, or after it.
-use Rattle.std.proofs.Common.{◌≡◌, ◌≢◌, ℕ, suc, ◌+◌, ◌<◌, true, false, cond, List, [], ◌∷◌, ◌++◌, length, Option, Some, None, get_or, set, sym, refl, ap, ◌∙◌, subst, ⊎_elim, arith, eqb, eq-eqb, ne_eqb, true≢false, length-set, get_or-set_same, get_or-set_other}
+-- How a worker takes a pipe, and how it gives it back, or one of two: before a reply, or after it.
+use Rattle.std.specs.Prelude.{◌==◌}
+use Rattle.std.proofs.Common.{◌≡◌, ◌≢◌, ℕ, suc, ◌+◌, ◌<◌, ◌⊎◌, true, false, cond, List, [], ◌∷◌, ◌++◌, length, Option, Some, None, get_or, set, sym, refl, ap, ◌∙◌, subst, ⊎_elim, inl, inr, arith, eqb, eqb-true, eq-eqb, ne_eqb, true≢false, length-set, get_or-set_same, get_or-set_other}
+use Rattle.std.proofs.lemmas.Bool.{and_parts, and_from, and_right}
 use mathlib.Core.Option.{some, none}
 use mathlib.Core.Option as maybe
 use mathlib.Core.Logic.{dite}
@@ -11,13 +13,15 @@ use Rattle.atomic_table.specs.Table.{State, step, keeps, takes, gives, stepped, 
 use Rattle.atomic_table.proofs.Lists.{set_here, set_else, exchanged}
 use Rattle.history.specs.declared.req.Req.{Req}
 use Rattle.history.specs.declared.event.Event.{Event}
-use Rattle.history.specs.History.{phase, was_shut, clock_of, submission, submits, Submission}
+use Rattle.history.specs.History.{same, phase, was_shut, clock_of, submission, submits, Submission}
 use Rattle.history.specs.Chains.{IsPlaced}
-use Rattle.history.specs.Pipes.{Flow, flow, flows_as}
-use Rattle.history.specs.Answers.{is_pipe}
+use Rattle.history.specs.Pipes.{Flow, content, contents, flow, flows_as}
+use Rattle.history.specs.Answers.{is_pipe, OpAnswers}
+use Rattle.history.specs.Users.{uses_at}
 use Rattle.history.specs.Legal.{Legal, Setup}
 use Rattle.entry.specs.Entry.{Entry}
 use Rattle.history.proofs.Requests.{same_itself, same_true}
+use Rattle.history.proofs.Contents.{flows_as_by}
 use Rattle.history.specs.declared.event.Event.TheVariants.{Reply}
 use Rattle.pipe.specs.Pipe.{Conduit}
 use Rattle.steps.specs.declared.line.Line.{Line}
@@ -27,15 +31,15 @@ use Rattle.steps.specs.declared.parcel.Thing.TheVariants.{Full, Piped}
 use Rattle.steps.specs.declared.view.Heard.{Heard}
 use Rattle.steps.specs.declared.view.Layout.{Layout}
 use Rattle.steps.specs.declared.view.Role.{Role}
-use Rattle.steps.specs.declared.view.Role.TheVariants.{Idle, Busy, Leaving, Lending}
+use Rattle.steps.specs.declared.view.Role.TheVariants.{Idle, Busy, Leaving, Parting, Lending}
 use Rattle.steps.specs.declared.view.Step.{Step}
 use Rattle.steps.specs.declared.view.View.{View}
 use Rattle.steps.specs.Fairness.{Fair, Orderly}
 use Rattle.steps.specs.Journal.{events_of, lent, noted, holder}
 use Rattle.steps.specs.Cells.{setup_of, request_at, claim_at, note_at, pipe_at, slot_at, Home, PipeIs, PipeSays, PipeOk}
-use Rattle.steps.specs.Rule.{workers, stands_for, owns, apart, IsHeard, SeatOk, IsHeldBy, Knows, Ruled, seeing, Looks, Extends, IsStep, leaves}
-use Rattle.steps.specs.Plays.{Seated, HasAlone, HasPipe, pipe_taken, pipe_returned, pipe_left}
-use Rattle.steps.proofs.Roles.{same_sym, idle_apart, idle_none}
+use Rattle.steps.specs.Rule.{Owner, holders, stands_for, is_leaving, owns, apart, IsHeard, Saw, SeatOk, IsHeldBy, Knows, Ruled, seeing, Looks, Extends, IsStep, leaves_one}
+use Rattle.steps.specs.Plays.{Seated, HasAlone, HasBoth, HasPipe, HasPipeAfter, IsSamePipe, pipe_taken, pipe_returned, pipe_left, pipe_left_first, pipe_left_last}
+use Rattle.steps.proofs.Roles.{same_sym, idle_hands, idle_apart, idle_owns, none_of, parting_apart, parting_owns}
 use Rattle.steps.proofs.JournalGrowth.{about, lasts, legal_before, submitted_in, submission_lasts, placed_lasts}
 use Rattle.steps.proofs.Frames.{pipe_stays, still_lacks}
 use Rattle.steps.proofs.PipesKept.{still_has}
@@ -56,6 +60,23 @@ a_pipe caps p None w there is = absurd (let past : length caps < suc p = is in o
 a_pipe caps p (Some (Full x)) w there is = absurd is
 a_pipe caps p (Some (Piped c)) w there is = (c, refl)
 
+-- whom a worker works for is known, and which pipes it has
+pub one_worker : (a b : Req) → Busy a ≡ Busy b → a ≡ b
+one_worker a b e = cc
+
+pub one_leaver : (a b : Req) → Leaving a ≡ Leaving b → a ≡ b
+one_leaver a b e = cc
+
+pub one_alone : (j : List Line) (p n : ℕ) (q : Req) → HasAlone j p q → HasAlone j n q → p ≡ n
+one_alone j p n q a b = dite (ℕ_discrete n p) (λ e. sym e) (λ ne. absurd (a.1 n ne b.0))
+
+pub one_other : (j : List Line) (p n m : ℕ) (q : Req) → HasBoth j p n q → HasBoth j p m q → n ≡ m
+one_other j p n m q a b = dite (ℕ_discrete m n) (λ e. sym e) (λ ne. absurd (a.3 m (λ e. b.0 (sym e)) ne b.2))
+
+-- and has them in either order
+pub both_turned : (j : List Line) (p n : ℕ) (q : Req) → HasBoth j p n q → HasBoth j n p q
+both_turned j p n q has = ((λ e. has.0 (sym e)), has.2, has.1, (λ m other ne. has.3 m ne other))
+
 -- a line about no cell and no event, which changes who has the pipe p
 module _ (L : Layout) (s : State (Option Thing) View) (r : Ruled L s) (id : ℕ) (v w : View) (at : get_elem? s.views id ≡ some v) (p : ℕ) (small : p < 64) (l : Line)
     (silent : (j : List Line) → events_of (l ∷ j) ≡ events_of j) (noteless : (j : List Line) (i : ℕ) → noted (l ∷ j) i ≡ noted j i) (unlent : (j : List Line) (c : Req) → lent (l ∷ j) c ≡ lent j c)
@@ -64,8 +85,8 @@ module _ (L : Layout) (s : State (Option Thing) View) (r : Ruled L s) (id : ℕ)
       → ((i : ℕ) (u : View) → ¬ (i ≡ id) → get_elem? s.views i ≡ some u → (owns u.role l ≡ false) × (apart w.role u.role ≡ true))
       → PipeOk L.caps (l ∷ r.past) p n (some h)
       → ((c : Req) → v.role ≡ Busy c → w.role ≡ Busy c) → ((c : Req) → v.role ≡ Lending c → w.role ≡ Lending c)
-      → ((c : Req) → holder (l ∷ r.past) p ≡ Some c → IsHeldBy (set s.views id w) c)
-      → ((m : ℕ) (c : Req) → m ≢ p → holder r.past m ≡ Some c → stands_for v.role (workers c) ≡ true → stands_for w.role (workers c) ≡ true)
+      → ((c : Req) → holder (l ∷ r.past) p ≡ Some c → IsHeldBy (set s.views id w) c p)
+      → ((m : ℕ) (c : Req) → m ≢ p → holder r.past m ≡ Some c → stands_for v.role (holders c m) ≡ true → stands_for w.role (holders c m) ≡ true)
       → (0 < v.parts → Knows v (events_of r.past) → (0 < w.parts) × Knows w (events_of r.past))
       → Ruled L record { words = set s.words (pipe_at p) n; homes = set s.homes p h; views = set s.views id w }
   pipe_line n h fair ok parts gone fewer others pipe runner lender holds keeper knows =
@@ -81,7 +102,7 @@ module _ (L : Layout) (s : State (Option Thing) View) (r : Ruled L s) (id : ℕ)
       (λ ne. subst (λ (z : ℕ × Home). PipeOk L.caps (l ∷ r.past) m z.0 z.1) (λ i. (sym (get_or-set_other s.words (pipe_at p) (pipe_at m) n 0 (omega arith)) i, sym (set_else s.homes p m h ne) i))
       (pipe_stays L.caps l r.past m _ _ (else m ne) (λ _. ap (λ h. flow h m) same) (r.pipes m few))))
       (λ q is. run_set s.views id v w q at (runner q) (r.run q (sym (ap (λ h. phase h q) same) ∙ is)))
-      (λ m c is. dite (ℕ_discrete m p) (λ one. holds c (ap (holder (l ∷ r.past)) (sym one) ∙ is)) (λ ne. let was : holder r.past m ≡ Some c = sym (else m ne) ∙ is in held_set s.views id v w c at (keeper m c ne was) (r.held_by m c was)))
+      (λ m c is. dite (ℕ_discrete m p) (λ one. subst (IsHeldBy (set s.views id w) c) (sym one) (holds c (ap (holder (l ∷ r.past)) (sym one) ∙ is))) (λ ne. let was : holder r.past m ≡ Some c = sym (else m ne) ∙ is in held_set s.views id v w c m at (keeper m c ne was) (r.held_by m c was)))
       (λ q is. lent_set s.views id v w q at (lender q) (r.lent_by q (sym (unlent r.past q) ∙ is)))
       (subst (IsKnown (set s.views id w)) (sym same) (known_set s.views id v w (events_of r.past) at knows r.newest))
 
@@ -96,7 +117,7 @@ module _ (slots id : ℕ) (me : Seated) where
   St = State (Option Thing) View
 
   -- what the worker of q has is still its own
-  pub has_now : (s : St) (r : Ruled L s) → There slots id me s → (q : Req) (p : ℕ) → stands_for v.role (workers q) ≡ true → is_pipe L.caps p ≡ true → holder v.seen p ≡ Some q → (holder r.past p ≡ Some q) × (flow (events_of r.past) p ≡ flow (events_of v.seen) p)
+  pub has_now : (s : St) (r : Ruled L s) → There slots id me s → (q : Req) (p : ℕ) → stands_for v.role (holders q p) ≡ true → is_pipe L.caps p ≡ true → holder v.seen p ≡ Some q → (holder r.past p ≡ Some q) × (flow (events_of r.past) p ≡ flow (events_of v.seen) p)
   has_now s r at q p mine there h = let seat = r.seats id v at in let x = still_has L v.role q p mine there (flow (events_of v.seen) p) seat.saw.later v.seen (subst (Orderly L) seat.saw.is r.orderly) seat.saw.none (h, refl) in
       (ap (λ z. holder z p) seat.saw.is ∙ x.0, ap (λ z. flow (events_of z) p) seat.saw.is ∙ x.1)
 
@@ -114,13 +135,13 @@ module _ (slots id : ℕ) (me : Seated) where
 
   -- HOLD
   module _ (q : Req) (p : ℕ) (busy : v.role ≡ Busy q) (small : p < 64) where
-    mine : stands_for v.role (workers q) ≡ true
-    mine = subst (λ (z : Role). stands_for z (workers q) ≡ true) (sym busy) (same_itself q)
+    mine : stands_for v.role (holders q p) ≡ true
+    mine = subst (λ (z : Role). stands_for z (holders q p) ≡ true) (sym busy) (same_itself q)
 
     -- a view that goes on as the worker of q
     goes_on : (s : St) (r : Ruled L s) → There slots id me s → (l : Line) → events_of (l ∷ r.past) ≡ events_of r.past → (t : List Step) → SeatOk L (l ∷ r.past) (seeing v v.role (l ∷ r.past) t)
     goes_on s r at l same t = seat_sees L (l ∷ r.past) t v v.role refl
-        (λ c is. (let b = busy_now slots id me s r at c is in (b.0, ap (λ h. phase h c) same ∙ b.1))) (λ c is. absurd (let y = sym busy ∙ is in cc)) (λ c is. absurd (let y = sym busy ∙ is in cc))
+        (λ c is. (let b = busy_now slots id me s r at c is in (b.0, ap (λ h. phase h c) same ∙ b.1))) (λ c is. absurd (true≢false (sym is ∙ ap (λ (z : Role). is_leaving z c) busy))) (λ c is. absurd (let y = sym busy ∙ is in cc))
 
     has_parts : (s : St) (r : Ruled L s) → There slots id me s → 0 < v.parts
     has_parts s r at = (busy_now slots id me s r at q busy).0
@@ -134,7 +155,7 @@ module _ (slots id : ℕ) (me : Seated) where
           home.2,
           pipe_line L s r id v w at p small l (λ j. refl) (λ j i. refl) (λ j c. refl) (λ c. refl) (held_else r.past q p) 1 maybe.none home.0 (goes_on s r at l refl t) refl (gone_same v.role l mine) (λ y k. absurd k) (owned L s r id v l at mine)
               (subst (PipeSays L.caps (l ∷ r.past) p 1 (some maybe.none)) (sym (held_here r.past q p)) refl) (λ c is'. is') (λ c is'. is')
-              (λ c is'. (let one : q ≡ c = (let z = sym (held_here r.past q p) ∙ is' in cc) in (id, w, at_now s.views id v w at, subst (λ (z : Req). stands_for v.role (workers z) ≡ true) one mine))) (λ m c ne was own. own)
+              (λ c is'. (let one : q ≡ c = (let z = sym (held_here r.past q p) ∙ is' in cc) in (id, w, at_now s.views id v w at, subst (λ (z : Req). stands_for v.role (holders z p) ≡ true) one mine))) (λ m c ne was own. own)
               (λ has k. (has, Rattle.std.proofs.Common.inl refl)),
           (extends slots id me s r at l v.role r.legal r.live home.0 t, (c.0, ap (λ (o : Option Thing). (p, o) ∷ me.1) c.1, subst (λ (o : Option Thing). PipeIs L.caps p o (flow (events_of r.past) p)) c.1 home.3)),
           refl,
@@ -196,63 +217,203 @@ module _ (slots id : ℕ) (me : Seated) where
       pub free_allows : (M : Layout) → Allows (Ruled M) slots id me (pipe_at p) (λ _. 0) (λ _. pipe_returned (step slots (pipe_at p) 0 0 none) me 0)
       free_allows M = shaped slots id me M (pipe_at p) (λ _. 0) (λ _. pipe_returned (step slots (pipe_at p) 0 0 none) me 0) (λ z. (let y = sym busy ∙ z in cc)) free_does
 
-  -- FREE, after a reply
-  module _ (q : Req) (p : ℕ) (leaving : v.role ≡ Leaving q) (small : p < 64) (c : Conduit) (there : is_pipe L.caps p ≡ true) (has : HasAlone v.seen p q) (out : me.1 ≡ (p, Some (Piped c)) ∷ rest me.1) (good : PipeIs L.caps p (Some (Piped c)) (flow (events_of v.seen) p)) where
-    stays : stands_for v.role (workers q) ≡ true
-    stays = subst (λ (z : Role). stands_for z (workers q) ≡ true) (sym leaving) (same_itself q)
+  -- FREE, after a reply: as it gives the pipe p back the seat goes on to the role `next`, which owns no line that the seat doesn't own now, and none about p
+  record GivesUp (q : Req) (p : ℕ) (next : Role) : Type 0 where
+    works : stands_for v.role (holders q p) ≡ true
+    off : stands_for next (holders q p) ≡ false
+    fewer : (o : Owner) → stands_for v.role o ≡ false → stands_for next o ≡ false
+    spread : (u : Role) → apart v.role u ≡ true → apart next u ≡ true
+    still : (d : Req) → is_leaving next d ≡ true → is_leaving v.role d ≡ true
+    over : (d : Req) → (v.role ≢ Busy d) × (next ≢ Busy d) × (v.role ≢ Lending d) × (next ≢ Lending d)
+    others : (m : ℕ) (d : Req) → m ≢ p → stands_for v.role (holders d m) ≡ true → (stands_for next (holders d m) ≡ true) ⊎ (holder v.seen m ≢ Some d)
 
-    -- the seat acts for q alone
-    only : (d : Req) → stands_for v.role (workers d) ≡ true → q ≡ d
-    only d own = same_true q d (same_sym q d ∙ subst (λ (z : Role). stands_for z (workers d) ≡ true) leaving own)
+  module _ (q : Req) (p : ℕ) (next : Role) (k : GivesUp q p next) (small : p < 64) (c : Conduit) (there : is_pipe L.caps p ≡ true) (has : holder v.seen p ≡ Some q) (out : me.1 ≡ (p, Some (Piped c)) ∷ rest me.1) (good : PipeIs L.caps p (Some (Piped c)) (flow (events_of v.seen) p)) where
+    -- the view after it, which has seen no more
+    abbrev given_up : ℕ → View
+    given_up found = record v { role = next; steps = record { word = pipe_at p; found = found; seen = v.seen } ∷ v.steps }
 
-    leave_does : (s : St) (r : Ruled L s) → There slots id me s → Does slots id me L s (pipe_at p) 0 (pipe_left (step slots (pipe_at p) 0 0 none) me 0)
-    leave_does s r at =
-        let l : Line = Free q p in let n : ℕ = get_or s.words (pipe_at p) 0 in let w : View = leaves (pipe_at p) n v in let now' = has_now s r at q p stays there has.0 in let none' = freed_here r.past q p in let seat = r.seats id v at in
-        let ok : SeatOk L (l ∷ r.past) w = record { layout = λ _. refl; saw = record { later = l ∷ seat.saw.later; is = ap (λ (j : List Line). l ∷ j) seat.saw.is; none = idle_none (l ∷ seat.saw.later) }; heard = heard_more l r.past v.heard (λ y k. (r.gone id id v v at at y k).1 q) seat.heard; busy = (λ c is. absurd (cc)); leaving = (λ c is. absurd (cc)); lending = (λ c is. absurd (cc)) } in (
+    abbrev GivenUp : Seated → Type 0
+    GivenUp m' = (found : ℕ) × (m'.0 ≡ given_up found) × (m'.1 ≡ rest me.1)
+
+    given_up_ok : (s : St) (r : Ruled L s) → There slots id me s → SeatOk L (Free q p ∷ r.past) (given_up (get_or s.words (pipe_at p) 0))
+    given_up_ok s r at = let l : Line = Free q p in let seat = r.seats id v at in record {
+      layout = λ _. refl;
+      saw = record { later = l ∷ seat.saw.later; is = ap (λ (j : List Line). l ∷ j) seat.saw.is; none = (k.off, none_of v.role next k.fewer seat.saw.later seat.saw.none) };
+      heard = heard_more l r.past v.heard (λ y h. idle_hands y.role q p ((r.gone id id v v at at y h).1 q)) seat.heard;
+      busy = λ d is. absurd ((k.over d).1 is);
+      leaving = λ d is. seat.leaving d (k.still d is);
+      lending = λ d is. absurd ((k.over d).3 is);
+    }
+
+    gives_up : (s : St) (r : Ruled L s) → There slots id me s → Does slots id me L s (pipe_at p) 0 GivenUp
+    gives_up s r at =
+        let l : Line = Free q p in let n : ℕ = get_or s.words (pipe_at p) 0 in let w : View = given_up n in let now' = has_now s r at q p k.works there has in let none' = freed_here r.past q p in (
           w,
           gives,
           tt,
           subst (λ (cs : List (ℕ × Option Thing)). Ruled L (stepped s (pipe_at p) 0 id cs w gives)) (sym out)
-              (pipe_line L s r id v w at p small l (λ j. refl) (λ j i. refl) (λ j c. refl) (λ c. refl) (freed_else r.past q p) 0 (some (Some (Piped c))) now'.0 ok refl (gone_own v.role Idle l stays (λ a _. idle_apart a)) (λ y k. k) (λ i u other at'. ((owned L s r id v l at stays i u other at').0, idle_apart u.role))
+              (pipe_line L s r id v w at p small l (λ j. refl) (λ j i. refl) (λ j c. refl) (λ c. refl) (freed_else r.past q p) 0 (some (Some (Piped c))) now'.0 (given_up_ok s r at) refl (gone_own v.role next l k.works k.spread) (λ y h. h)
+              (λ i u other at'. (let o = owned L s r id v l at k.works i u other at' in (o.0, k.spread u.role o.1)))
               (subst (PipeSays L.caps (l ∷ r.past) p 0 (some (some (Some (Piped c))))) (sym none') (refl, Some (Piped c), refl, subst (PipeIs L.caps p (Some (Piped c))) (sym now'.1) good))
-              (λ d is'. absurd (let y = sym leaving ∙ is' in cc)) (λ d is'. absurd (let y = sym leaving ∙ is' in cc))
-              (λ d is'. absurd (let z = sym none' ∙ is' in cc)) (λ m d ne was own. absurd (lacks_now slots id me s r at q m stays (has.1 m ne) (was ∙ ap Some (sym (only d own))))) (λ has' k. (has', k))),
-          (λ m d here is has'. (let one : p ≡ m = omega arith in (n, refl, refl))),
+              (λ d is'. absurd ((k.over d).0 is')) (λ d is'. absurd ((k.over d).2 is'))
+              (λ d is'. absurd (let z = sym none' ∙ is' in cc))
+              (λ m d ne was own. ⊎_elim (λ (y : stands_for next (holders d m) ≡ true). y) (λ (lacks : holder v.seen m ≢ Some d). absurd (lacks_now slots id me s r at d m own lacks was)) (k.others m d ne own)) (λ has' h. (has', h))),
+          (n, refl, refl),
           refl,
         )
 
-    pub leave_allows : (M : Layout) → Allows (Ruled M) slots id me (pipe_at p) (λ _. 0) (λ _. pipe_left (step slots (pipe_at p) 0 0 none) me 0)
-    leave_allows M = shaped slots id me M (pipe_at p) (λ _. 0) (λ _. pipe_left (step slots (pipe_at p) 0 0 none) me 0) (λ z. (let y = sym leaving ∙ z in cc)) leave_does
+  -- the worker of q, which has replied
+  module _ (q : Req) (leaving : v.role ≡ Leaving q) where
+    leaves_mine : (p : ℕ) → stands_for v.role (holders q p) ≡ true
+    leaves_mine p = subst (λ (z : Role). stands_for z (holders q p) ≡ true) (sym leaving) (same_itself q)
 
--- ---- what a view keeps of its pipe between two steps of one call
+    -- the seat acts for q alone
+    only : (d : Req) (m : ℕ) → stands_for v.role (holders d m) ≡ true → q ≡ d
+    only d m own = same_true q d (same_sym q d ∙ subst (λ (z : Role). stands_for z (holders d m) ≡ true) leaving own)
+
+    -- it gives its pipe back, and is idle
+    gives_alone : (p : ℕ) → HasAlone v.seen p q → GivesUp q p Idle
+    gives_alone p has = record {
+      works = leaves_mine p;
+      off = refl;
+      fewer = λ o _. idle_owns o;
+      spread = λ u _. idle_apart u;
+      still = λ d is. absurd (true≢false (sym is));
+      over = λ d. ((λ is. (let y = sym leaving ∙ is in cc)), (λ is. cc), (λ is. (let y = sym leaving ∙ is in cc)), (λ is. cc));
+      others = λ m d ne own. inr (subst (λ (z : Req). holder v.seen m ≢ Some z) (only d m own) (has.1 m ne));
+    }
+
+    leave_does : (p : ℕ) (small : p < 64) (c : Conduit) (there : is_pipe L.caps p ≡ true) (has : HasAlone v.seen p q) (out : me.1 ≡ (p, Some (Piped c)) ∷ rest me.1) (good : PipeIs L.caps p (Some (Piped c)) (flow (events_of v.seen) p))
+        → (s : St) (r : Ruled L s) → There slots id me s → Does slots id me L s (pipe_at p) 0 (pipe_left (step slots (pipe_at p) 0 0 none) me 0)
+    leave_does p small c there has out good s r at = let d = gives_up q p Idle (gives_alone p has) small c there has.0 out good s r at in (d.0, d.1, d.2, d.3, (λ m e here is has'. d.4), d.5)
+
+    pub leave_allows : (p : ℕ) (small : p < 64) (c : Conduit) (there : is_pipe L.caps p ≡ true) (has : HasAlone v.seen p q) (out : me.1 ≡ (p, Some (Piped c)) ∷ rest me.1) (good : PipeIs L.caps p (Some (Piped c)) (flow (events_of v.seen) p))
+        → (M : Layout) → Allows (Ruled M) slots id me (pipe_at p) (λ _. 0) (λ _. pipe_left (step slots (pipe_at p) 0 0 none) me 0)
+    leave_allows p small c there has out good M = shaped slots id me M (pipe_at p) (λ _. 0) (λ _. pipe_left (step slots (pipe_at p) 0 0 none) me 0) (λ z. (let y = sym leaving ∙ z in cc)) (leave_does p small c there has out good)
+
+    -- it gives one of its two pipes back, and has the other alone
+    gives_one : (p n : ℕ) → HasBoth v.seen p n q → GivesUp q p (Parting q n)
+    gives_one p n has = record {
+      works = leaves_mine p;
+      off = and_right (same q q) (n == p) (ne_eqb n p (λ e. has.0 (sym e)));
+      fewer = λ o lacks. parting_owns q n o (subst (λ (z : Role). stands_for z o ≡ false) leaving lacks);
+      spread = λ u a. parting_apart q n u (subst (λ (z : Role). apart z u ≡ true) leaving a);
+      still = λ d is. subst (λ (z : Role). is_leaving z d ≡ true) (sym leaving) is;
+      over = λ d. ((λ is. (let y = sym leaving ∙ is in cc)), (λ is. cc), (λ is. (let y = sym leaving ∙ is in cc)), (λ is. cc));
+      others = λ m d ne own. dite (ℕ_discrete m n)
+          (λ one. inl (and_from (same d q) (n == m) (subst (λ (z : Role). stands_for z (holders d m) ≡ true) leaving own) (eq-eqb n m (sym one))))
+          (λ other. inr (subst (λ (z : Req). holder v.seen m ≢ Some z) (only d m own) (has.3 m ne other)));
+    }
+
+    pub leave_first_allows : (p n : ℕ) (small : p < 64) (c : Conduit) (there : is_pipe L.caps p ≡ true) (has : HasBoth v.seen p n q) (out : me.1 ≡ (p, Some (Piped c)) ∷ rest me.1) (good : PipeIs L.caps p (Some (Piped c)) (flow (events_of v.seen) p))
+        → (M : Layout) → Allows (Ruled M) slots id me (pipe_at p) (λ _. 0) (λ _. pipe_left_first (step slots (pipe_at p) 0 0 none) me 0)
+    leave_first_allows p n small c there has out good M = shaped slots id me M (pipe_at p) (λ _. 0) (λ _. pipe_left_first (step slots (pipe_at p) 0 0 none) me 0) (λ z. (let y = sym leaving ∙ z in cc))
+        (λ s r at. (let d = gives_up q p (Parting q n) (gives_one p n has) small c there has.1 out good s r at in (
+          d.0,
+          d.1,
+          d.2,
+          d.3,
+          (λ p' n' e here is both. (let one : p ≡ p' = omega arith in let who : q ≡ e = (let z = sym leaving ∙ is in cc) in
+              let kept : n ≡ n' = one_other v.seen p n n' q has (subst (λ (z : ℕ × Req). HasBoth v.seen z.0 n' z.1) (λ i. (sym one i, sym who i)) both) in
+              subst (λ (z : Req × ℕ). (found : ℕ) × (d.0 ≡ leaves_one z.0 z.1 (pipe_at p) found v) × (carried_after me.1 d.1 ≡ rest me.1)) (λ i. (who i, kept i)) d.4)),
+          d.5,
+        )))
+
+  -- the worker of q, which has replied, and of two pipes has given back one
+  module _ (q : Req) (p : ℕ) (parting : v.role ≡ Parting q p) where
+    gives_last : GivesUp q p Idle
+    gives_last = record {
+      works = subst (λ (z : Role). stands_for z (holders q p) ≡ true) (sym parting) (and_from (same q q) (p == p) (same_itself q) (eq-eqb p p refl));
+      off = refl;
+      fewer = λ o _. idle_owns o;
+      spread = λ u _. idle_apart u;
+      still = λ d is. absurd (true≢false (sym is));
+      over = λ d. ((λ is. (let y = sym parting ∙ is in cc)), (λ is. cc), (λ is. (let y = sym parting ∙ is in cc)), (λ is. cc));
+      others = λ m d ne own. absurd (ne (sym (eqb-true p m (and_parts (same d q) (p == m) (subst (λ (z : Role). stands_for z (holders d m) ≡ true) parting own)).1)));
+    }
+
+    pub leave_last_allows : (small : p < 64) (c : Conduit) (there : is_pipe L.caps p ≡ true) (has : holder v.seen p ≡ Some q) (out : me.1 ≡ (p, Some (Piped c)) ∷ rest me.1) (good : PipeIs L.caps p (Some (Piped c)) (flow (events_of v.seen) p))
+        → (M : Layout) → Allows (Ruled M) slots id me (pipe_at p) (λ _. 0) (λ _. pipe_left_last (step slots (pipe_at p) 0 0 none) me 0)
+    leave_last_allows small c there has out good M = shaped slots id me M (pipe_at p) (λ _. 0) (λ _. pipe_left_last (step slots (pipe_at p) 0 0 none) me 0) (λ z. (let y = sym parting ∙ z in cc))
+        (λ s r at. (let d = gives_up q p Idle gives_last small c there has out good s r at in (d.0, d.1, d.2, d.3, (λ m e here is. d.4), d.5)))
+
+-- ---- what a view keeps of its pipes between two steps of one call
 
 module _ (v w : View) (q : Req) (p : ℕ) (busy : v.role ≡ Busy q) where
-  acts : stands_for v.role (workers q) ≡ true
-  acts = subst (λ (z : Role). stands_for z (workers q) ≡ true) (sym busy) (same_itself q)
+  acts : (n : ℕ) → stands_for v.role (holders q n) ≡ true
+  acts n = subst (λ (z : Role). stands_for z (holders q n) ≡ true) (sym busy) (same_itself q)
+
+  -- what it doesn't have, others don't give it
+  lacks_on : (n : ℕ) (j : List Line) → Saw v.role v.seen j → holder v.seen n ≢ Some q → holder j n ≢ Some q
+  lacks_on n j saw lacks is = still_lacks v.role q n (acts n) saw.later v.seen saw.none lacks (sym (ap (λ (j : List Line). holder j n) saw.is) ∙ is)
+
+  -- what it has, they leave
+  keeps_on : (n : ℕ) (j : List Line) → Saw v.role v.seen j → Orderly v.layout j → is_pipe v.layout.caps n ≡ true → holder v.seen n ≡ Some q → (holder j n ≡ Some q) × (flow (events_of j) n ≡ flow (events_of v.seen) n)
+  keeps_on n j saw orderly there has = let k = still_has v.layout v.role q n (acts n) there (flow (events_of v.seen) n) saw.later v.seen (subst (Orderly v.layout) saw.is orderly) saw.none (has, refl) in
+      subst (λ (j : List Line). (holder j n ≡ Some q) × (flow (events_of j) n ≡ flow (events_of v.seen) n)) (sym saw.is) k
 
   -- who had no pipe, and looked, has none
   pub lacks_after : holder v.seen p ≢ Some q → Looks v w → holder w.seen p ≢ Some q
-  lacks_after n x = λ is. still_lacks v.role q p acts x.saw.later v.seen x.saw.none n (sym (ap (λ (j : List Line). holder j p) (ap (λ (z : View). z.seen) x.is ∙ x.saw.is)) ∙ is)
+  lacks_after n x = λ is. lacks_on p x.now x.saw n (sym (ap (λ (j : List Line). holder j p) (ap (λ (z : View). z.seen) x.is)) ∙ is)
+
+  -- who had one, and looked, has it as it was
+  pub same_looked : is_pipe v.layout.caps p ≡ true → holder v.seen p ≡ Some q → Looks v w → (holder w.seen p ≡ Some q) × IsSamePipe v w p
+  same_looked there has x = subst (λ (j : List Line). (holder j p ≡ Some q) × (flow (events_of j) p ≡ flow (events_of v.seen) p)) (sym (ap (λ (z : View). z.seen) x.is)) (keeps_on p x.now x.saw x.orderly there has)
+
+  pub alone_looked : is_pipe v.layout.caps p ≡ true → HasAlone v.seen p q → Looks v w → HasAlone w.seen p q
+  alone_looked there has x = ((same_looked there has.0 x).0, λ n ne is. lacks_on n x.now x.saw (has.1 n ne) (sym (ap (λ (j : List Line). holder j n) (ap (λ (z : View). z.seen) x.is)) ∙ is))
 
   -- who had none, and took one, has it alone
   pub alone_after : ((n : ℕ) → holder v.seen n ≢ Some q) → Extends v (Hold q p) (Busy q) w → HasAlone w.seen p q
   alone_after bare x = let seen : w.seen ≡ Hold q p ∷ x.mid = ap (λ (z : View). z.seen) x.is in
       subst (λ (j : List Line). HasAlone j p q) (sym seen) (
         ap (λ b. cond b (Some q) (holder x.mid p)) (eq-eqb p p refl),
-        λ n ne is. (let was : holder x.mid n ≡ Some q = sym (ap (λ b. cond b (Some q) (holder x.mid n)) (ne_eqb p n (λ z. ne (sym z)))) ∙ is in
-            still_lacks v.role q n acts x.saw.later v.seen x.saw.none (bare n) (sym (ap (λ (j : List Line). holder j n) x.saw.is) ∙ was)),
+        λ n ne is. lacks_on n x.mid x.saw (bare n) (sym (ap (λ b. cond b (Some q) (holder x.mid n)) (ne_eqb p n (λ z. ne (sym z)))) ∙ is),
       )
+
+  -- who had one alone, and took another, has both, and the first as it was
+  module _ (first : ℕ) (other : first ≢ p) (there : is_pipe v.layout.caps first ≡ true) (has : HasAlone v.seen first q) (x : Extends v (Hold q p) (Busy q) w) where
+    kept_first : (holder x.mid first ≡ Some q) × (flow (events_of x.mid) first ≡ flow (events_of v.seen) first)
+    kept_first = keeps_on first x.mid x.saw x.orderly.1 there has.0
+
+    pub both_after : HasBoth w.seen first p q
+    both_after = let seen : w.seen ≡ Hold q p ∷ x.mid = ap (λ (z : View). z.seen) x.is in
+        subst (λ (j : List Line). HasBoth j first p q) (sym seen) (
+          other,
+          ap (λ b. cond b (Some q) (holder x.mid first)) (ne_eqb p first (λ z. other (sym z))) ∙ kept_first.0,
+          ap (λ b. cond b (Some q) (holder x.mid p)) (eq-eqb p p refl),
+          λ n ne ne' is. lacks_on n x.mid x.saw (has.1 n ne) (sym (ap (λ b. cond b (Some q) (holder x.mid n)) (ne_eqb p n (λ z. ne' (sym z)))) ∙ is),
+        )
+
+    pub first_after : IsSamePipe v w first
+    first_after = ap (λ (j : List Line). flow (events_of j) first) (ap (λ (z : View). z.seen) x.is) ∙ kept_first.1
 
   -- who had one alone, and gave it back, has none
   pub bare_after : HasAlone v.seen p q → Extends v (Free q p) (Busy q) w → (n : ℕ) → holder w.seen n ≢ Some q
   bare_after has x n is = let seen : w.seen ≡ Free q p ∷ x.mid = ap (λ (z : View). z.seen) x.is in let is' : holder (Free q p ∷ x.mid) n ≡ Some q = sym (ap (λ (j : List Line). holder j n) seen) ∙ is in
       dite (ℕ_discrete n p)
       (λ one. (let z = sym (ap (λ (m : ℕ). holder (Free q p ∷ x.mid) m) one) ∙ is' in let y = sym (ap (λ b. cond b None (holder x.mid p)) (eq-eqb p p refl)) ∙ z in absurd (cc)))
-      (λ ne. (let was : holder x.mid n ≡ Some q = sym (ap (λ b. cond b None (holder x.mid n)) (ne_eqb p n (λ z. ne (sym z)))) ∙ is' in
-      still_lacks v.role q n acts x.saw.later v.seen x.saw.none (has.1 n ne) (sym (ap (λ (j : List Line). holder j n) x.saw.is) ∙ was)))
+      (λ ne. lacks_on n x.mid x.saw (has.1 n ne) (sym (ap (λ b. cond b None (holder x.mid n)) (ne_eqb p n (λ z. ne (sym z)))) ∙ is'))
 
-  -- who has one alone, and replies, has it still, and it is what the reply makes of it
-  module _ (role : Role) (res : Rattle.std.proofs.Common.ℤ) (data' : List ℕ) (there : is_pipe v.layout.caps p ≡ true) (has : HasAlone v.seen p q) (x : Extends v (Did (Reply q res data')) role w) where
+  -- who had two, and gave one back, has the other alone, as it was
+  module _ (kept : ℕ) (there : is_pipe v.layout.caps kept ≡ true) (has : HasBoth v.seen p kept q) (x : Extends v (Free q p) (Busy q) w) where
+    kept_other : (holder x.mid kept ≡ Some q) × (flow (events_of x.mid) kept ≡ flow (events_of v.seen) kept)
+    kept_other = keeps_on kept x.mid x.saw x.orderly.1 there has.2
+
+    pub alone_freed : HasAlone w.seen kept q
+    alone_freed = let seen : w.seen ≡ Free q p ∷ x.mid = ap (λ (z : View). z.seen) x.is in
+        subst (λ (j : List Line). HasAlone j kept q) (sym seen) (
+          ap (λ b. cond b None (holder x.mid kept)) (ne_eqb p kept has.0) ∙ kept_other.0,
+          λ n ne is. dite (ℕ_discrete n p)
+              (λ one. (let z = sym (ap (λ (m : ℕ). holder (Free q p ∷ x.mid) m) one) ∙ is in let y = sym (ap (λ b. cond b None (holder x.mid p)) (eq-eqb p p refl)) ∙ z in absurd (cc)))
+              (λ other. lacks_on n x.mid x.saw (has.3 n other ne) (sym (ap (λ b. cond b None (holder x.mid n)) (ne_eqb p n (λ z. other (sym z)))) ∙ is)),
+        )
+
+    pub other_freed : IsSamePipe v w kept
+    other_freed = ap (λ (j : List Line). flow (events_of j) kept) (ap (λ (z : View). z.seen) x.is) ∙ kept_other.1
+
+  -- who replies has its pipes still, and each is what the reply makes of it
+  module _ (role : Role) (res : Rattle.std.proofs.Common.ℤ) (data' : List ℕ) (there : is_pipe v.layout.caps p ≡ true) (x : Extends v (Did (Reply q res data')) role w) where
     abbrev S : Setup
     S = setup_of v.layout
 
@@ -262,17 +423,28 @@ module _ (v w : View) (q : Req) (p : ℕ) (busy : v.role ≡ Busy q) where
     seen_is : w.seen ≡ Did e ∷ x.mid
     seen_is = ap (λ (z : View). z.seen) x.is
 
-    kept : (holder x.mid p ≡ Some q) × (flow (events_of x.mid) p ≡ flow (events_of v.seen) p)
-    kept = let k = still_has v.layout v.role q p acts there (flow (events_of v.seen) p) x.saw.later v.seen (subst (Orderly v.layout) x.saw.is x.orderly.1) x.saw.none (has.0, refl) in
-        subst (λ (j : List Line). (holder j p ≡ Some q) × (flow (events_of j) p ≡ flow (events_of v.seen) p)) (sym x.saw.is) k
+    kept : holder v.seen p ≡ Some q → (holder x.mid p ≡ Some q) × (flow (events_of x.mid) p ≡ flow (events_of v.seen) p)
+    kept = keeps_on p x.mid x.saw x.orderly.1 there
 
-    pub alone_replied : HasAlone w.seen p q
-    alone_replied = subst (λ (j : List Line). HasAlone j p q) (sym seen_is) (kept.0, λ n ne is. still_lacks v.role q n acts x.saw.later v.seen x.saw.none (has.1 n ne) (sym (ap (λ (j : List Line). holder j n) x.saw.is) ∙ is))
+    pub alone_replied : HasAlone v.seen p q → HasAlone w.seen p q
+    alone_replied has = subst (λ (j : List Line). HasAlone j p q) (sym seen_is) ((kept has.0).0, λ n ne is. lacks_on n x.mid x.saw (has.1 n ne) is)
 
-    pub flow_replied : (d : Entry) (y : Submission) → IsPlaced (events_of v.seen) q d → submission (events_of v.seen) q ≡ Some y → flow (events_of w.seen) p ≡ flows_as (Some d) (submission (events_of v.seen) q) res p (flow (events_of v.seen) p)
-    flow_replied d y is given =
+    pub both_replied : (n : ℕ) → is_pipe v.layout.caps n ≡ true → HasBoth v.seen p n q → HasBoth w.seen p n q
+    both_replied n there' has = subst (λ (j : List Line). HasBoth j p n q) (sym seen_is) (has.0, (kept has.1).0, (keeps_on n x.mid x.saw x.orderly.1 there' has.2).0, λ m ne ne' is. lacks_on m x.mid x.saw (has.3 m ne ne') is)
+
+    flow_replied : holder v.seen p ≡ Some q → (d : Entry) (y : Submission) → IsPlaced (events_of v.seen) q d → submission (events_of v.seen) q ≡ Some y → OpAnswers v.layout.caps (events_of v.seen) q d.op res data'
+        → ((n : ℕ) → is_pipe v.layout.caps n ≡ true → uses_at d.op n ≡ true → holder v.seen n ≡ Some q)
+        → flow (events_of w.seen) p ≡ flows_as (Some d) (submission (events_of v.seen) q) (contents (events_of v.seen)) res p (flow (events_of v.seen) p)
+    flow_replied has d y is given answers held =
         let legal : Legal S (events_of (x.saw.later ++ v.seen)) = subst (λ (j : List Line). Legal S (events_of j)) x.saw.is x.legal.1 in
         let born : q.k < submits (events_of v.seen) q.ring = submitted_in S v.seen q y (legal_before S x.saw.later v.seen legal) given in
         let is' : IsPlaced (events_of x.mid) q d = subst (λ (j : List Line). IsPlaced (events_of j) q d) (sym x.saw.is) (lasts S (λ h. IsPlaced h q d) q (placed_lasts S q d) x.saw.later v.seen legal born is) in
         let given' : submission (events_of x.mid) q ≡ Some y = subst (λ (j : List Line). submission (events_of j) q ≡ Some y) (sym x.saw.is) (lasts S (λ h. submission h q ≡ Some y) q (submission_lasts S q y) x.saw.later v.seen legal born given) in
-        ap (λ (j : List Line). flow (events_of j) p) seen_is ∙ (λ i. flows_as (is' i) ((given' ∙ sym given) i) res p (kept.1 i))
+        ap (λ (j : List Line). flow (events_of j) p) seen_is ∙ (λ i. flows_as (is' i) ((given' ∙ sym given) i) (contents (events_of x.mid)) res p ((kept has).1 i))
+        ∙ flows_as_by v.layout.caps (events_of v.seen) q (contents (events_of x.mid)) (contents (events_of v.seen)) res data' d (submission (events_of v.seen) q) p (flow (events_of v.seen) p) answers
+        (λ n there' u. ap (λ (z : Flow). content z) (keeps_on n x.mid x.saw x.orderly.1 there' (held n there' u)).1)
+
+    pub pipe_replied : (hand : List (ℕ × Option Thing)) → holder v.seen p ≡ Some q → (d : Entry) (y : Submission) → IsPlaced (events_of v.seen) q d → submission (events_of v.seen) q ≡ Some y → OpAnswers v.layout.caps (events_of v.seen) q d.op res data'
+        → ((n : ℕ) → is_pipe v.layout.caps n ≡ true → uses_at d.op n ≡ true → holder v.seen n ≡ Some q)
+        → HasPipeAfter (v, hand) p q d res → HasPipe (w, rest hand) p (rest (rest hand))
+    pipe_replied hand has d y is given answers held a = (a.0, a.1, subst (λ (z : List ℕ × Flow). PipeIs z.0 p (Some (Piped a.0)) z.1) (λ i. (sym (ap (λ (z : View). z.layout.caps) x.is) i, sym (flow_replied has d y is given answers held) i)) a.2)

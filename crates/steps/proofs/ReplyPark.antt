@@ -12,7 +12,7 @@ use Rattle.history.specs.declared.event.Event.TheVariants.{Park, Reply}
 use Rattle.history.specs.History.{by_reply, waits, runs, replied, phase, submission, submits, hit, nothing, IsReplied}
 use Rattle.history.specs.Chains.{IsPlaced}
 use Rattle.history.specs.Legal.{Legal}
-use Rattle.history.proofs.Requests.{same_itself}
+use Rattle.history.proofs.Requests.{same_itself, same_true}
 use Rattle.steps.specs.declared.line.Line.{Line}
 use Rattle.steps.specs.declared.line.Line.TheVariants.{Did}
 use Rattle.steps.specs.declared.parcel.Parcel.{Parcel}
@@ -25,12 +25,13 @@ use Rattle.atomic_table.specs.Table.{State}
 use Rattle.history.specs.Legal.{Setup}
 use Rattle.history.specs.Pipes.{flow}
 use Rattle.history.specs.Answers.{is_pipe, OpAnswers}
+use Rattle.history.specs.Users.{uses_at, uses_at_in}
 use Rattle.steps.specs.Cells.{setup_of}
 use Rattle.steps.specs.Plays.{Seated}
 use Rattle.steps.specs.declared.view.Role.TheVariants.{Idle, Busy, Leaving}
-use Rattle.steps.specs.Journal.{events_of, lent, holder, uses, touches}
+use Rattle.steps.specs.Journal.{events_of, lent, holder}
 use Rattle.steps.specs.Cells.{IsCell, request_at, IsParcel, claim_at, slot_at, word_of, reply_bits, cause_bits}
-use Rattle.steps.specs.Rule.{workers, stands_for, apart, owns, Ruled, Extends}
+use Rattle.steps.specs.Rule.{holders, stands_for, apart, owns, Ruled, Extends}
 use Rattle.steps.specs.Plays.{MayReply, sure, replied_with, parked}
 use Rattle.steps.proofs.CellNumbers.{other_cell, other_age, one_word, one_result}
 use Rattle.steps.proofs.CancelsKept.{hit_now, cancel_now}
@@ -70,9 +71,9 @@ module _ (slots id : ℕ) (me : Seated) where
     gone = gone_own v.role (Leaving q) l own (λ a g. leaving_apart q a (subst (λ (z : Role). apart z a ≡ true) busy g));
     has = (busy_now slots id me s r at q busy).0;
     lends = λ c is. inr (sym (quiet c) ∙ is, λ z. absurd (let y = sym busy ∙ z in cc));
-    keeps = λ p c is own. subst (λ (z : Role). stands_for z (workers c) ≡ true) busy own;
+    keeps = λ p c is own. subst (λ (z : Role). stands_for z (holders c p) ≡ true) busy own;
     busy = λ c is. absurd (cc);
-    leaving = λ c is. (let same' : q ≡ c = cc in subst (λ (z : Req). IsReplied (phase (events_of (l ∷ r.past)) z)) same' over);
+    leaving = λ c is. subst (λ (z : Req). IsReplied (phase (events_of (l ∷ r.past)) z)) (sym (same_true c q is)) over;
     running = λ c is. inr (ran S l r.past c legal calm is, λ z. (let same' : q ≡ c = (let y = sym busy ∙ z in cc) in absurd (subst IsReplied (ap (phase (events_of (l ∷ r.past))) same' ∙ is) over)));
   }
 
@@ -100,15 +101,15 @@ module _ (slots id : ℕ) (me : Seated) where
       entry_now s r at = lasts_now slots id me s r at (λ h. IsPlaced h q e) q (placed_lasts S q e) (running_now s r at).0 may.placed_is
 
       -- the pipes that the entry names are as the seat left them
-      has_pipe : (s : St) (r : Ruled L s) → There slots id me s → (n : ℕ) → is_pipe L.caps n ≡ true → uses e.op n ≡ true → (holder r.past n ≡ Some q) × (flow (events_of r.past) n ≡ flow (events_of v.seen) n)
-      has_pipe s r at n there u = has_now slots id me s r at q n (subst (λ (z : Role). stands_for z (workers q) ≡ true) (sym busy) (same_itself q)) there (may.has n there u)
+      has_pipe : (s : St) (r : Ruled L s) → There slots id me s → (n : ℕ) → is_pipe L.caps n ≡ true → uses_at e.op n ≡ true → (holder r.past n ≡ Some q) × (flow (events_of r.past) n ≡ flow (events_of v.seen) n)
+      has_pipe s r at n there u = has_now slots id me s r at q n (subst (λ (z : Role). stands_for z (holders q n) ≡ true) (sym busy) (same_itself q)) there (may.has n there u)
 
       answer_now : (s : St) (r : Ruled L s) → There slots id me s → OpAnswers L.caps (events_of r.past) q e.op res data'
       answer_now s r at = answer_stays L.caps (events_of v.seen) q (events_of r.past) e.op res data' (cancel_now slots id me q busy res s r at) (λ n there u. (has_pipe s r at n there u).1) may.answers
 
       calm : (s : St) (r : Ruled L s) → There slots id me s → Calm L r.past (Did (Reply q res data'))
       calm s r at = let k = entry_now s r at in let a = answer_now s r at in record {
-        fair = λ n there t. (has_pipe s r at n there (sym (ap (λ o. touches o n) k) ∙ t)).0;
+        fair = λ n there t. (has_pipe s r at n there (sym (ap (λ o. uses_at_in o n) k) ∙ t)).0;
         live = r.live;
         clock = refl;
         pipes = λ n. (refl, λ none'. reply_leaves L.caps (events_of r.past) q e n res data' k a (λ there u. (let z = sym none' ∙ (has_pipe s r at n there u).0 in cc)) (flow (events_of r.past) n));

@@ -17,13 +17,13 @@ use Rattle.steps.specs.declared.parcel.Thing.{Thing}
 use Rattle.steps.specs.declared.view.Heard.{Heard}
 use Rattle.steps.specs.declared.view.Layout.{Layout}
 use Rattle.steps.specs.declared.view.Role.{Role}
-use Rattle.steps.specs.declared.view.Role.TheVariants.{Busy, Leaving, Lending}
+use Rattle.steps.specs.declared.view.Role.TheVariants.{Busy, Lending}
 use Rattle.steps.specs.declared.view.Step.{Step}
 use Rattle.steps.specs.declared.view.View.{View}
 use Rattle.steps.specs.Fairness.{Fair}
 use Rattle.steps.specs.Journal.{events_of, lent, noted, holder}
 use Rattle.steps.specs.Cells.{setup_of, IsCell, CellOk, PipeOk, Home, claim_at, note_at, pipe_at, slot_at, slots_of, words_of}
-use Rattle.steps.specs.Rule.{workers, stands_for, owns, apart, IsHeard, AllBegin, AllSaw, IsGone, SeatOk, parts_of, IsRunBy, IsHeldBy, IsLentBy, Knows, Ruled, seeing}
+use Rattle.steps.specs.Rule.{holders, stands_for, owns, apart, is_leaving, IsHeard, AllBegin, AllSaw, IsGone, SeatOk, parts_of, IsRunBy, IsHeldBy, IsLentBy, Knows, Ruled, seeing}
 use Rattle.steps.proofs.Roles.{apart_sym, others_own}
 use Rattle.steps.proofs.JournalGrowth.{replied_later}
 use Rattle.steps.proofs.Frames.{Quiet, cell_stays, pipe_stays}
@@ -63,10 +63,10 @@ run_set vs id v w q there same by = dite (ℕ_discrete by.0 id)
     (id, w, at_now vs id v w there, same (ap (λ (z : View). z.role) (sym one) ∙ by.3)))
     (λ n. (by.0, by.1, set_else vs id by.0 w n ∙ by.2, by.3))
 
-pub held_set : (vs : List View) (id : ℕ) (v w : View) (q : Req) → get_elem? vs id ≡ some v → (stands_for v.role (workers q) ≡ true → stands_for w.role (workers q) ≡ true) → IsHeldBy vs q → IsHeldBy (set vs id w) q
-held_set vs id v w q there same by = dite (ℕ_discrete by.0 id)
+pub held_set : (vs : List View) (id : ℕ) (v w : View) (q : Req) (p : ℕ) → get_elem? vs id ≡ some v → (stands_for v.role (holders q p) ≡ true → stands_for w.role (holders q p) ≡ true) → IsHeldBy vs q p → IsHeldBy (set vs id w) q p
+held_set vs id v w q p there same by = dite (ℕ_discrete by.0 id)
     (λ e. let at : get_elem? vs id ≡ some by.1 = subst (λ (z : ℕ). get_elem? vs z ≡ some by.1) e by.2 in let one : by.1 ≡ v = some-injective by.1 v (sym at ∙ there) in
-    (id, w, at_now vs id v w there, same (subst (λ (z : View). stands_for z.role (workers q) ≡ true) one by.3)))
+    (id, w, at_now vs id v w there, same (subst (λ (z : View). stands_for z.role (holders q p) ≡ true) one by.3)))
     (λ n. (by.0, by.1, set_else vs id by.0 w n ∙ by.2, by.3))
 
 pub lent_set : (vs : List View) (id : ℕ) (v w : View) (q : Req) → get_elem? vs id ≡ some v → (v.role ≡ Lending q → w.role ≡ Lending q) → IsLentBy vs q → IsLentBy (set vs id w) q
@@ -94,10 +94,10 @@ pub record Calm (L : Layout) (past : List Line) (l : Line) : Type 0 where
 
 -- what the seat's new role owes: it keeps its pipes, runs only what runs, and leaves only what was answered
 pub record Turns (past : List Line) (l : Line) (v : View) (role : Role) : Type 0 where
-  pub keeps : (p : ℕ) (q : Req) → holder past p ≡ Some q → stands_for v.role (workers q) ≡ true → stands_for role (workers q) ≡ true
+  pub keeps : (p : ℕ) (q : Req) → holder past p ≡ Some q → stands_for v.role (holders q p) ≡ true → stands_for role (holders q p) ≡ true
   pub has : 0 < v.parts
   pub busy : (q : Req) → role ≡ Busy q → phase (events_of (l ∷ past)) q ≡ runs
-  pub leaving : (q : Req) → role ≡ Leaving q → IsReplied (phase (events_of (l ∷ past)) q)
+  pub leaving : (q : Req) → is_leaving role q ≡ true → IsReplied (phase (events_of (l ∷ past)) q)
   pub lends : (q : Req) → lent (l ∷ past) q ≡ true → (role ≡ Lending q) ⊎ ((lent past q ≡ true) × (v.role ≡ Lending q → role ≡ Lending q))
   pub gone : LeavesGone v.role l role
   pub running : (q : Req) → phase (events_of (l ∷ past)) q ≡ runs → (role ≡ Busy q) ⊎ ((phase (events_of past) q ≡ runs) × (v.role ≡ Busy q → role ≡ Busy q))
@@ -119,11 +119,11 @@ module _ (L : Layout) where
     lending = s.lending;
   }
 
-  pub seat_sees : (j : List Line) (t : List Step) (v : View) (role : Role) → v.layout ≡ L → ((q : Req) → role ≡ Busy q → (0 < v.parts) × (phase (events_of j) q ≡ runs)) → ((q : Req) → role ≡ Leaving q → (0 < v.parts) × IsReplied (phase (events_of j) q)) → ((q : Req) → role ≡ Lending q → 0 < v.parts) → SeatOk L j (seeing v role j t)
+  pub seat_sees : (j : List Line) (t : List Step) (v : View) (role : Role) → v.layout ≡ L → ((q : Req) → role ≡ Busy q → (0 < v.parts) × (phase (events_of j) q ≡ runs)) → ((q : Req) → is_leaving role q ≡ true → (0 < v.parts) × IsReplied (phase (events_of j) q)) → ((q : Req) → role ≡ Lending q → 0 < v.parts) → SeatOk L j (seeing v role j t)
   seat_sees j t v role layout busy leaving lending = record { layout = λ _. layout; saw = record { later = []; is = refl; none = tt }; heard = λ x h. absurd h; busy = busy; leaving = leaving; lending = lending }
 
   -- what a seat that leaves its request is known to have
-  pub left_now : (s : St) (r : Ruled L s) (i : ℕ) (u : View) → get_elem? s.views i ≡ some u → (q : Req) → u.role ≡ Leaving q → (0 < u.parts) × IsReplied (phase (events_of r.past) q)
+  pub left_now : (s : St) (r : Ruled L s) (i : ℕ) (u : View) → get_elem? s.views i ≡ some u → (q : Req) → is_leaving u.role q ≡ true → (0 < u.parts) × IsReplied (phase (events_of r.past) q)
   left_now s r i u at q is = let seat = r.seats i u at in let l = seat.leaving q is in
       (l.0, subst (λ z. IsReplied (phase (events_of z) q)) (sym seat.saw.is) (replied_later (setup_of L) seat.saw.later u.seen q (subst (λ z. Legal (setup_of L) (events_of z)) seat.saw.is r.legal) l.1))
 
@@ -183,7 +183,7 @@ module _ (L : Layout) where
     gone = gone_set s.views id v (seeing v role (l ∷ r.past) t) there r.gone (λ y h. absurd h) (λ a g. (turns.gone a g).1);
     run = λ q is. ⊎_elim (λ (mine : role ≡ Busy q). (id, seeing v role (l ∷ r.past) t, at_now s.views id v (seeing v role (l ∷ r.past) t) there, mine))
         (λ (k : (phase (events_of r.past) q ≡ runs) × (v.role ≡ Busy q → role ≡ Busy q)). run_set s.views id v (seeing v role (l ∷ r.past) t) q there k.1 (r.run q k.0)) (turns.running q is);
-    held_by = λ p q is. (let old : holder r.past p ≡ Some q = sym (calm.pipes p).0 ∙ is in held_set s.views id v (seeing v role (l ∷ r.past) t) q there (turns.keeps p q old) (r.held_by p q old));
+    held_by = λ p q is. (let old : holder r.past p ≡ Some q = sym (calm.pipes p).0 ∙ is in held_set s.views id v (seeing v role (l ∷ r.past) t) q p there (turns.keeps p q old) (r.held_by p q old));
     lent_by = λ q is. ⊎_elim (λ (mine : role ≡ Lending q). (id, seeing v role (l ∷ r.past) t, at_now s.views id v (seeing v role (l ∷ r.past) t) there, mine))
         (λ (k : (lent r.past q ≡ true) × (v.role ≡ Lending q → role ≡ Lending q)). lent_set s.views id v (seeing v role (l ∷ r.past) t) q there k.1 (r.lent_by q k.0)) (turns.lends q is);
     parts = (let p = parts_set s.views id v (seeing v role (l ∷ r.past) t) there in let old = r.parts in omega arith);
@@ -215,7 +215,7 @@ module _ (L : Layout) where
       → length homes' ≡ length s.homes → ((y : ℕ) → get_elem? homes' (slot_at y) ≡ get_elem? s.homes (slot_at y))
       → ((p : ℕ) → p < 64 → PipeOk L.caps (l ∷ r.past) p (get_or words' (pipe_at p) 0) (get_elem? homes' p))
       → ((q : Req) → phase (events_of (l ∷ r.past)) q ≡ runs → IsRunBy (set s.views id w) q)
-      → ((p : ℕ) (q : Req) → holder (l ∷ r.past) p ≡ Some q → IsHeldBy (set s.views id w) q)
+      → ((p : ℕ) (q : Req) → holder (l ∷ r.past) p ≡ Some q → IsHeldBy (set s.views id w) q p)
       → ((q : Req) → lent (l ∷ r.past) q ≡ true → IsLentBy (set s.views id w) q)
       → IsKnown (set s.views id w) (events_of (l ∷ r.past))
       → Ruled L record { words = words'; homes = homes'; views = set s.views id w }
@@ -266,7 +266,7 @@ module _ (L : Layout) where
     roles = roles_set s.views id (seeing v v.role r.past t) r.roles (λ l u other there. r.roles id l v u at there (λ e. other (sym e)));
     gone = gone_set s.views id v (seeing v v.role r.past t) at r.gone (λ y h. absurd h) (λ a g. g.0);
     run = λ q is. run_set s.views id v (seeing v v.role r.past t) q at (λ z. z) (r.run q is);
-    held_by = λ p q is. held_set s.views id v (seeing v v.role r.past t) q at (λ z. z) (r.held_by p q is);
+    held_by = λ p q is. held_set s.views id v (seeing v v.role r.past t) q p at (λ z. z) (r.held_by p q is);
     lent_by = λ q is. lent_set s.views id v (seeing v v.role r.past t) q at (λ z. z) (r.lent_by q is);
     parts = (let p = parts_set s.views id v (seeing v v.role r.past t) at in let old = r.parts in omega arith);
     newest = known_set s.views id v (seeing v v.role r.past t) (events_of r.past) at (λ has _. (has, inl refl)) r.newest;

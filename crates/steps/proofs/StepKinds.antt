@@ -23,13 +23,13 @@ use Rattle.steps.specs.declared.parcel.Thing.{Thing}
 use Rattle.steps.specs.declared.parcel.Thing.TheVariants.{Full}
 use Rattle.steps.specs.declared.view.Layout.{Layout}
 use Rattle.steps.specs.declared.view.Role.{Role}
-use Rattle.steps.specs.declared.view.Role.TheVariants.{Idle, Busy, Leaving, Spent}
+use Rattle.steps.specs.declared.view.Role.TheVariants.{Idle, Busy, Spent}
 use Rattle.steps.specs.declared.view.Step.{Step}
 use Rattle.steps.specs.declared.view.View.{View}
 use Rattle.steps.specs.Fairness.{Fair, Orderly, IsFree}
 use Rattle.steps.specs.Journal.{events_of, freed, lent, noted, holder}
 use Rattle.steps.specs.Cells.{setup_of, IsCell, ring_of, request_at, CellOk, Ages, claim_at, note_at, slot_at, word_of}
-use Rattle.steps.specs.Rule.{workers, rings, stands_for, owns, NoneOf, Vacant, Ruled, seeing, IsStep, Extends}
+use Rattle.steps.specs.Rule.{workers, holders, rings, stands_for, is_leaving, owns, NoneOf, Vacant, Ruled, seeing, IsStep, Extends}
 use Rattle.steps.specs.Plays.{Seated, At, is_idle, looked, noticed, tried, tried_idle, sure}
 use Rattle.steps.proofs.CellNumbers.{one_word}
 use Rattle.steps.proofs.Roles.{idle_apart, same_sym, worker_is}
@@ -138,7 +138,7 @@ module _ (slots id : ℕ) (me : Seated) where
     busy_now q is = let b = (r.seats id v at).busy q is in
         (b.0, subst (λ z. phase (events_of z) q ≡ runs) (sym past_is) (still_runs S q later v.seen legal_now live_now (subst (λ (z : Role). NoneOf z later) is none_now) b.1))
 
-    pub lacks_now : (q : Req) (p : ℕ) → stands_for v.role (workers q) ≡ true → holder v.seen p ≢ Some q → holder r.past p ≢ Some q
+    pub lacks_now : (q : Req) (p : ℕ) → stands_for v.role (holders q p) ≡ true → holder v.seen p ≢ Some q → holder r.past p ≢ Some q
     lacks_now q p mine n = λ is. still_lacks v.role q p mine later v.seen none_now n (ap (λ z. holder z p) (sym past_is) ∙ is)
 
     -- the notes of its own cells are as it left them
@@ -182,8 +182,8 @@ module _ (slots id : ℕ) (me : Seated) where
     gone = gone_own v.role Idle l own (λ a _. idle_apart a);
     has = (busy_now s r at q busy).0;
     lends = λ c is. Rattle.std.proofs.Common.inr (sym (quiet c) ∙ is, λ z. absurd (let y = sym busy ∙ z in cc));
-    keeps = λ p c is own. absurd (let same' : q ≡ c = same_true q c (same_sym q c ∙ subst (λ (z : Role). stands_for z (workers c) ≡ true) busy own) in
-        lacks_now s r at q p (subst (λ (z : Role). stands_for z (workers q) ≡ true) (sym busy) (same_itself q)) (bare p) (is ∙ ap Some (sym same')));
+    keeps = λ p c is own. absurd (let same' : q ≡ c = same_true q c (same_sym q c ∙ subst (λ (z : Role). stands_for z (holders c p) ≡ true) busy own) in
+        lacks_now s r at q p (subst (λ (z : Role). stands_for z (holders q p) ≡ true) (sym busy) (same_itself q)) (bare p) (is ∙ ap Some (sym same')));
     busy = λ c is. absurd (cc);
     leaving = λ c is. absurd (cc);
     running = λ c is. Rattle.std.proofs.Common.inr (ran S l r.past c legal calm is, λ z. (let same' : q ≡ c = cc in absurd (over (subst (λ (k : Req). phase (events_of (l ∷ r.past)) k ≡ runs) (sym same') is))));
@@ -194,7 +194,7 @@ module _ (slots id : ℕ) (me : Seated) where
   no_worker s r q idle open' i u at own = ⊎_elim
       (λ (b : u.role ≡ Busy q). idle (let seat = r.seats i u at in let pi = seat.saw.is in subst (λ z. phase (events_of z) q ≡ runs) (sym pi)
       (still_runs S q seat.saw.later u.seen (subst (λ z. Legal S (events_of z)) pi r.legal) (subst (λ z. was_shut (events_of z) ≡ false) pi r.live) (subst (λ (z : Role). NoneOf z seat.saw.later) b seat.saw.none) (seat.busy q b).1)))
-      (λ (b : u.role ≡ Leaving q). open' (left_now L s r i u at q b).1) (worker_is u.role q own)
+      (λ (b : is_leaving u.role q ≡ true). open' (left_now L s r i u at q b).1) (worker_is u.role q own)
 
   pub looks_on : (x a b : ℕ) (said : _) (s : St) (r : Ruled L s) → There s → Does L s (claim_at x) (get_or s.words (claim_at x) 0) (looked (step slots (claim_at x) a b said) me (get_or s.words (claim_at x) 0))
   looks_on x a b said s r at = (

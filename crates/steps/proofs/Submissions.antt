@@ -1,13 +1,16 @@
--- What a Submit says of its own request: the entry before it, and that its buffer fits.
-use Rattle.std.proofs.Common.{◌≡◌, ℕ, ◌-◌, ◌==◌, Bool, true, false, cond, List, [], ◌∷◌, Some, None, sym, ap, ◌∙◌, subst, ⊎_elim, arith, true≢false, eq-eqb}
+-- What a Submit says of its own request: the entry before it, that its buffer fits, and what a TIMEOUT is placed as.
+use Rattle.std.proofs.Common.{◌≡◌, ℕ, ◌-◌, ◌==◌, ◌&&◌, not, Bool, true, false, cond, List, [], ◌∷◌, Option, Some, None, sym, ap, ◌∙◌, subst, ⊎_elim, arith, true≢false, eq-eqb}
+use Rattle.entry.specs.declared.op.Op.{Op}
+use Rattle.entry.specs.declared.op.Op.TheVariants.{Invalid}
 use Rattle.entry.specs.Entry.{Entry}
 use Rattle.history.specs.declared.req.Req.{Req}
 use Rattle.history.specs.declared.event.Event.{Event}
 use Rattle.history.specs.declared.event.Event.TheVariants.{Submit}
 use Rattle.history.specs.History.{Submission, submission, same}
-use Rattle.history.specs.Chains.{before_in, previous}
-use Rattle.history.specs.Legal.{Setup, Legal, Fits}
+use Rattle.history.specs.Chains.{before_in, previous, hosts, placed_behind, is_timeout, is_link_timeout}
+use Rattle.history.specs.Legal.{Setup, Legal, Fits, count_of}
 use Rattle.history.proofs.Requests.{bool_cases, same_false}
+use Rattle.steps.specs.Notes.{count_in}
 
 -- its own Submit leaves what stands before a request
 pub before_own : (h : List Event) (q : Req) (e : Entry) (bytes : List ℕ) (last : Bool) → before_in (Submit q e bytes last ∷ h) q ≡ before_in h q
@@ -24,3 +27,17 @@ fits_is s (Submit r e bytes last ∷ h) q x l is = let y : Submission = record {
     (λ (w : same r q ≡ true). let z : Some y ≡ Some x = sym (ap (λ b. cond b (Some y) (submission h q)) w) ∙ is in let same' : y ≡ x = cc in subst (λ (k : Submission). Fits k.entry k.bytes) same' l.0.1.2)
     (λ (w : same r q ≡ false). fits_is s h q x l.1 (sym (ap (λ b. cond b (Some y) (submission h q)) w) ∙ is)) (bool_cases (same r q))
 fits_is s (e ∷ h) q x l is = fits_is s h q x l.1 is
+
+-- what is placed as a TIMEOUT was handed in so
+pub placed_timeout : (before : Option Submission) (e : Entry) → is_timeout (placed_behind before e).op ≡ true → placed_behind before e ≡ e
+placed_timeout before e t = ⊎_elim
+    (λ (w : (is_link_timeout e.op && not (hosts before)) ≡ true). absurd (true≢false (sym t ∙ ap (λ (b : Bool). is_timeout (cond b (record e { op = Invalid }) e).op) w)))
+    (λ (w : (is_link_timeout e.op && not (hosts before)) ≡ false). ap (λ (b : Bool). cond b (record e { op = Invalid }) e) w)
+    (bool_cases (is_link_timeout e.op && not (hosts before)))
+
+-- what is noted of a TIMEOUT is its count, and of no other entry is there one
+pub count_is : (op : Op) (n : ℕ) → count_in op ≡ Some n → is_timeout op ≡ true → n ≡ count_of op
+count_is op n is t = let z = sym is ∙ ap (λ (b : Bool). cond b (Some (count_of op)) None) t in cc
+
+pub no_count : (op : Op) → count_in op ≡ None → is_timeout op ≡ true → ⊥
+no_count op is t = let z = sym is ∙ ap (λ (b : Bool). cond b (Some (count_of op)) None) t in cc

@@ -12,8 +12,8 @@ use Rattle.entry.specs.Entry.{Entry, fails}
 use Rattle.history.specs.declared.req.Req.{Req}
 use Rattle.history.specs.declared.event.Event.TheVariants.{Submit, Reap}
 use Rattle.history.specs.History.{Cause, Submission, replied, reaped, after_reap, same, phase, submission, submits}
-use Rattle.history.specs.Chains.{IsPlaced, before_in, placed_behind, placed_from}
-use Rattle.history.specs.Legal.{Legal, Fits}
+use Rattle.history.specs.Chains.{IsPlaced, before_in, placed_behind, placed_from, is_timeout}
+use Rattle.history.specs.Legal.{Legal, Fits, count_of}
 use Rattle.history.proofs.Requests.{same_itself, same_false}
 use Rattle.steps.specs.declared.line.Line.{Line}
 use Rattle.steps.specs.declared.line.Line.TheVariants.{Did}
@@ -28,7 +28,7 @@ use Rattle.history.specs.Legal.{Setup}
 use Rattle.steps.specs.Cells.{setup_of}
 use Rattle.steps.specs.Plays.{Seated}
 use Rattle.steps.specs.declared.view.Role.TheVariants.{Submitter, Lending}
-use Rattle.steps.specs.Fairness.{Fair}
+use Rattle.steps.specs.Fairness.{Fair, IsCountNoted}
 use Rattle.steps.specs.Notes.{facts_of}
 use Rattle.steps.specs.Journal.{events_of, lent, noted}
 use Rattle.steps.specs.Cells.{IsCell, ring_of, request_at, claim_at, facts_at, user_at, slot_at, word_of, reply_bits, cause_bits}
@@ -39,7 +39,7 @@ use Rattle.steps.proofs.Roles.{as_lending}
 use Rattle.steps.proofs.JournalGrowth.{about, begins, lent_stays, counted_in, placed_lasts, phase_stays}
 use Rattle.steps.proofs.Frames.{ages_stay}
 use Rattle.steps.proofs.ClaimWords.{done_word, cause_fits}
-use Rattle.steps.proofs.Submissions.{before_own}
+use Rattle.steps.proofs.Submissions.{before_own, placed_timeout}
 use Rattle.steps.proofs.RuleKept.{Turns, gone_own, adds_claim, owned}
 use Rattle.steps.proofs.StepKinds.{in_hand, same_parcel, now_is, tick, with_line, Does, There, seen_legal, lasts_now, submits_now, lent_now, before_now, replied_now, noted_now, free_now, vacant_now, extends, sures, Out, home_again}
 use Rattle.steps.proofs.LoadReleaseBegin.{quiet_line, dec_req}
@@ -73,7 +73,7 @@ module _ (slots id : ℕ) (me : Seated) where
     lends_here = ap (λ (z : Role). stands_for z (rings (ring_of K x))) mine ∙ eq-eqb (ring_of K x) (ring_of K x) refl
 
     back_turns : (s : St) (r : Ruled L s) (l : Line) → owns (Lending q) l ≡ true → begins l ≡ false → Legal S (events_of (l ∷ r.past)) → ((c : Req) → lent (l ∷ r.past) c ≡ cond (same q c) false (lent r.past c)) → Turns r.past l v back
-    back_turns s r l own calm legal gives' = turns_by slots id me s r l back (gone_own v.role back l (subst (λ (z : Role). owns z l ≡ true) (sym mine) own) (λ a g. as_lending q a ∙ subst (λ (z : Role). apart z a ≡ true) mine g)) calm legal has (λ c. ap (λ (z : Role). stands_for z (workers c)) mine) (λ c e. cc) (λ c e. cc)
+    back_turns s r l own calm legal gives' = turns_by slots id me s r l back (gone_own v.role back l (subst (λ (z : Role). owns z l ≡ true) (sym mine) own) (λ a g. as_lending q a ∙ subst (λ (z : Role). apart z a ≡ true) mine g)) calm legal has (λ c. ap (λ (z : Role). stands_for z (workers c)) mine) (λ c e. cc) (λ c. refl)
         (λ c is. dec_req q c (λ same'. absurd (true≢false (sym is ∙ (gives' c ∙ ap (λ (b : Bool). cond b false (lent r.past c)) (subst (λ (z : Req). same q z ≡ true) same' (same_itself q))))))
         (λ ne. inr (sym (gives' c ∙ ap (λ (b : Bool). cond b false (lent r.past c)) (same_false q c ne)) ∙ is, λ z. absurd (ne (let y = sym mine ∙ z in cc)))))
 
@@ -81,15 +81,16 @@ module _ (slots id : ℕ) (me : Seated) where
     back_apart s r at l own i u other there = let o = owned L s r id v l at (subst (λ (z : Role). owns z l ≡ true) (sym mine) own) i u other there in (o.0, as_lending q u.role ∙ subst (λ (z : Role). apart z u.role ≡ true) mine o.1)
 
     -- SUBMIT
-    submit_does : (old new : ℕ) (p : Parcel) → g < 16777216 → new ≡ word_of Held 0 g 0 → Vacant K v.seen x g → (request_at K x g).k ≡ submits (events_of v.seen) (ring_of K x) → Fits p.sqe p.buffer.items → noted v.seen (facts_at x) ≡ facts_of g (placed_behind (before_in (events_of v.seen) (request_at K x g)) p.sqe) p.last → noted v.seen (user_at x) ≡ p.sqe.user_data → Out slots id me x (Some (Full p))
+    submit_does : (old new : ℕ) (p : Parcel) → g < 16777216 → new ≡ word_of Held 0 g 0 → Vacant K v.seen x g → (request_at K x g).k ≡ submits (events_of v.seen) (ring_of K x) → Fits p.sqe p.buffer.items → noted v.seen (facts_at x) ≡ facts_of g (placed_behind (before_in (events_of v.seen) (request_at K x g)) p.sqe) p.last → noted v.seen (user_at x) ≡ p.sqe.user_data → IsCountNoted v.seen x p.sqe → Out slots id me x (Some (Full p))
         → (s : St) (r : Ruled L s) → There slots id me s → (get_or s.words (claim_at x) 0 ≡ word_of Empty 0 g 0) × Does slots id me L s (claim_at x) new (submitted (step slots (claim_at x) old new none) me x q)
-    submit_does old new p f is_new free next fits facts user out s r at =
+    submit_does old new p f is_new free next fits facts user count out s r at =
         let l : Line = Did (Submit q p.sqe p.buffer.items p.last) in let now = vacant_now slots id me s r at x g inside f lends_here free in
         let legal : Legal S (events_of (l ∷ r.past)) = ((r.live, (ring_in K x inside, next ∙ sym (submits_now slots id me s r at (ring_of K x) lends_here), fits)), r.legal) in
         let given : submission (events_of (l ∷ r.past)) q ≡ Some (record { entry = p.sqe; bytes = p.buffer.items; last = p.last }) = ap (λ b. cond b (Some (record { entry = p.sqe; bytes = p.buffer.items; last = p.last })) (submission (events_of r.past) q)) (same_itself q) in
         let before = before_now slots id me s r at q lends_here in let d : Entry = placed_behind (before_in (events_of v.seen) q) p.sqe in
         let placed_is : IsPlaced (events_of (l ∷ r.past)) q d = ap (placed_from (before_in (events_of (l ∷ r.past)) q)) given ∙ ap (λ (b : Option Submission). Some (placed_behind b p.sqe)) (before_own (events_of r.past) q p.sqe p.buffer.items p.last ∙ before) in
-        let fair : Fair L r.past l = (free_now slots id me s r at x g free, (x, g, d, (inside, refl), placed_is, noted_now slots id me s r at x 0 (omega arith) inside lends_here ∙ facts, noted_now slots id me s r at x 1 (omega arith) inside lends_here ∙ user)) in (
+        let counted : IsCountNoted r.past x d = λ t. (let same' = placed_timeout (before_in (events_of v.seen) q) p.sqe t in noted_now slots id me s r at x 2 (omega arith) inside lends_here ∙ (count (ap (λ (z : Entry). is_timeout z.op) (sym same') ∙ t) ∙ ap (λ (z : Entry). count_of z.op) (sym same'))) in
+        let fair : Fair L r.past l = (free_now slots id me s r at x g free, (x, g, d, (inside, refl), placed_is, noted_now slots id me s r at x 0 (omega arith) inside lends_here ∙ facts, noted_now slots id me s r at x 1 (omega arith) inside lends_here ∙ user, counted)) in (
           now.0,
           (
             with_line slots id me (claim_at x) s r.past l back,
@@ -112,10 +113,10 @@ module _ (slots id : ℕ) (me : Seated) where
           ),
         )
 
-    pub submit_allows : (M : Layout) (old new : ℕ) (p : Parcel) → g < 16777216 → old ≡ word_of Empty 0 g 0 → new ≡ word_of Held 0 g 0 → Vacant K v.seen x g → (request_at K x g).k ≡ submits (events_of v.seen) (ring_of K x) → Fits p.sqe p.buffer.items → noted v.seen (facts_at x) ≡ facts_of g (placed_behind (before_in (events_of v.seen) (request_at K x g)) p.sqe) p.last → noted v.seen (user_at x) ≡ p.sqe.user_data → Out slots id me x (Some (Full p))
+    pub submit_allows : (M : Layout) (old new : ℕ) (p : Parcel) → g < 16777216 → old ≡ word_of Empty 0 g 0 → new ≡ word_of Held 0 g 0 → Vacant K v.seen x g → (request_at K x g).k ≡ submits (events_of v.seen) (ring_of K x) → Fits p.sqe p.buffer.items → noted v.seen (facts_at x) ≡ facts_of g (placed_behind (before_in (events_of v.seen) (request_at K x g)) p.sqe) p.last → noted v.seen (user_at x) ≡ p.sqe.user_data → IsCountNoted v.seen x p.sqe → Out slots id me x (Some (Full p))
         → Allows (Ruled M) slots id me (claim_at x) (λ n. either (eqb n old) new n) (sure Empty submitted (step slots (claim_at x) old new none) me)
-    submit_allows M old new p f is_old is_new free next fits facts user out =
-        sures slots id me M Empty submitted x 0 g 0 old new (λ z. (let y = sym mine ∙ z in cc)) (omega arith) f (omega arith) is_old (submit_does old new p f is_new free next fits facts user out)
+    submit_allows M old new p f is_old is_new free next fits facts user count out =
+        sures slots id me M Empty submitted x 0 g 0 old new (λ z. (let y = sym mine ∙ z in cc)) (omega arith) f (omega arith) is_old (submit_does old new p f is_new free next fits facts user count out)
 
     -- REAP
     reap_does : (b old new : ℕ) (c : Cause) (res : ℤ) (e : Entry) → suc g < 16777216 → IsPlaced (events_of v.seen) q e → new ≡ word_of Empty 0 (suc g) 0 → phase (events_of v.seen) q ≡ replied c res → lent v.seen q ≡ true → reply_bits res b → Out slots id me x None

@@ -1,18 +1,19 @@
 -- The poller's steps on the clock and on timers.
-use Rattle.std.proofs.Common.{◌≡◌, ◌≢◌, ◌⊎◌, ⊎_elim, inl, inr, ℕ, ◌+◌, ◌<◌, ◌≤◌, Bool, true, false, cond, ℤ, negsuc, Option, Some, List, ◌∷◌, get_or, sym, refl, ap, ◌∙◌, subst, arith, eqb, true≢false, get_or-set_same, get_or-set_other}
+use Rattle.std.proofs.Common.{◌≡◌, ◌≢◌, ◌⊎◌, ⊎_elim, inl, inr, ℕ, ◌+◌, ◌<◌, ◌≤◌, Bool, true, false, cond, ℤ, pos, negsuc, Option, Some, List, ◌∷◌, get_or, sym, refl, ap, ◌∙◌, subst, arith, eqb, true≢false, get_or-set_same, get_or-set_other}
 use mathlib.Core.Option.{none}
 use lib.Seq.{set-get_or}
 use prog.Atomic.{either}
 use Rattle.atomic_table.specs.Table.{State, step, keeps, Allows}
 use Rattle.claim.specs.declared.tag.Tag.TheVariants.{Held, Running, Armed, Done}
 use Rattle.entry.specs.declared.op.Op.{Op}
-use Rattle.entry.specs.declared.op.Op.TheVariants.{LinkTimeout}
+use Rattle.entry.specs.declared.op.Op.TheVariants.{Timeout, LinkTimeout}
 use Rattle.entry.specs.Entry.{Entry, fails, fails_op}
 use Rattle.history.specs.declared.req.Req.{Req}
-use Rattle.history.specs.declared.event.Event.TheVariants.{Tick, Arm, Expire, Fire, FireMiss, Settle}
-use Rattle.history.specs.History.{by_expire, by_fire, by_settle, armed, replied, phase, fired, clock_of, submits, IsReplied}
+use Rattle.history.specs.declared.event.Event.TheVariants.{Tick, Arm, Expire, Count, Fire, FireMiss, Settle}
+use Rattle.history.specs.History.{by_expire, by_count, by_fire, by_settle, armed, replied, phase, fired, clock_of, submits, later_replies, IsReplied}
 use Rattle.history.specs.Chains.{IsPlaced, IsLinkTimeout, IsTarget, Open, is_timeout, is_link_timeout}
-use Rattle.history.specs.Legal.{Setup, Legal, ticks_of}
+use Rattle.history.specs.Legal.{Setup, Legal, ticks_of, count_of}
+use Rattle.history.proofs.LaterReplies.{count_timeout}
 use Rattle.history.proofs.Requests.{same_itself}
 use Rattle.steps.specs.declared.line.Line.{Line}
 use Rattle.steps.specs.declared.line.Line.TheVariants.{Did}
@@ -23,9 +24,9 @@ use Rattle.steps.specs.declared.view.View.{View}
 use Rattle.steps.specs.Journal.{events_of}
 use Rattle.steps.specs.Cells.{setup_of, IsCell, ring_of, request_at, claim_at, word_of, reply_bits, cause_bits}
 use Rattle.steps.specs.Rule.{pollers, stands_for, Ruled, Extends}
-use Rattle.steps.specs.Plays.{Seated, IsIdleWord, next_of, tried, tried_idle, armed_for, expired, settled, fired_at, fired_late, clock_set}
+use Rattle.steps.specs.Plays.{Seated, IsIdleWord, next_of, tried, tried_idle, armed_for, expired, counted, settled, fired_at, fired_late, clock_set}
 use Rattle.steps.proofs.CellNumbers.{other_cell, other_age, one_word}
-use Rattle.steps.proofs.JournalGrowth.{placed_lasts, open_lasts, replied_later, counted_in, legal_before}
+use Rattle.steps.proofs.JournalGrowth.{placed_lasts, open_lasts, replies_last, replied_later, counted_in, legal_before}
 use Rattle.steps.proofs.Frames.{ages_stay}
 use Rattle.steps.proofs.ClaimWords.{says_of}
 use Rattle.steps.proofs.RuleKept.{adds_claim, owned}
@@ -38,6 +39,11 @@ use Rattle.steps.proofs.LoadReleaseBegin.{quiet_line}
 no_failure : (o : Op) (res : ℤ) → is_link_timeout o ≡ true → fails_op o res ≡ false
 no_failure (LinkTimeout n) res is = refl
 no_failure o res is = absurd (true≢false (sym is))
+
+-- nor is 0 of a TIMEOUT
+zero_holds : (o : Op) → is_timeout o ≡ true → fails_op o (pos 0) ≡ false
+zero_holds (Timeout ticks etime_success count) is = refl
+zero_holds o is = absurd (true≢false (sym is))
 
 module _ (slots id : ℕ) (me : Seated) where
   abbrev v : View
@@ -121,6 +127,16 @@ module _ (slots id : ℕ) (me : Seated) where
       expire_allows M old new d b e live small bits is_old is_new due placed_is kind = tries slots id me M Armed expired x g d old new live inside f small is_old
           (answers_does slots id me (Expire q) mine (λ _ _ _. has) x g b e by_expire (negsuc 61) expire_ends inside f bits Armed d refl small new is_new
           (λ s r at said. (let e_now = placed_now q e s r at born placed_is in let c = clock_now s r at in (((d, said.1, omega arith), (e, e_now, kind)), refl, e_now))))
+
+      -- COUNT
+      count_ends : Ends (Count q) q
+      count_ends = record { plain = record { open' = refl; live' = λ b. refl; flow' = λ h p. refl; lent' = λ j r. refl; fair' = λ M j. tt; begins' = refl }; concerns' = λ r. refl; answers' = same_itself q; data' = refl; clock' = λ m. refl }
+
+      pub count_allows : (M : Layout) (old new d b : ℕ) (e : Entry) → v.role ≢ Spent → d < 4294967296 → reply_bits (pos 0) b → old ≡ word_of Armed 0 g d → new ≡ word_of Done (cause_bits by_count false) g b → IsPlaced (events_of v.seen) q e → 0 < count_of e.op → count_of e.op ≤ later_replies (events_of v.seen) q
+          → Allows (Ruled M) slots id me (claim_at x) (λ n. either (eqb n old) new n) (tried Armed counted (step slots (claim_at x) old new none) me)
+      count_allows M old new d b e live small bits is_old is_new placed_is counts enough = tries slots id me M Armed counted x g d old new live inside f small is_old
+          (answers_does slots id me (Count q) mine (λ _ _ _. has) x g b e by_count (pos 0) count_ends inside f bits Armed d refl small new (is_new ∙ ap (λ z. word_of Done (cause_bits by_count z) g b) (sym (zero_holds e.op (count_timeout e.op counts))))
+          (λ s r at said. (let e_now = placed_now q e s r at born placed_is in (record { is_armed = (d, said.1); entry = e; as_placed = e_now; counts = counts; enough = lasts_now slots id me s r at (λ h. count_of e.op ≤ later_replies h q) q (replies_last S q (count_of e.op)) born enough }, refl, e_now))))
 
       -- SETTLE
       settle_ends : Ends (Settle q) q

@@ -9,7 +9,7 @@ use Rattle.claim.specs.declared.tag.Tag.TheVariants.{Empty, Held, Ready, Running
 use Rattle.claim.specs.Claim.{packed}
 use Rattle.entry.specs.Entry.{Entry, fails}
 use Rattle.history.specs.declared.req.Req.{Req}
-use Rattle.history.specs.History.{Cause, by_reply, by_take, by_expire, by_fire, by_settle, by_sever, by_cut, submission, unborn, waits, runs, armed, replied, reaped, phase, data_of}
+use Rattle.history.specs.History.{Cause, by_reply, by_take, by_expire, by_count, by_fire, by_settle, by_sever, by_cut, submission, unborn, waits, runs, armed, replied, reaped, phase, data_of}
 use Rattle.history.specs.Chains.{is_timer, IsPlaced, Open}
 use Rattle.history.specs.Pipes.{Flow, flow, content, untouched}
 use Rattle.history.specs.Legal.{Setup, IsOf}
@@ -38,6 +38,10 @@ facts_at x = note_at x 0
 -- its user_data stands here from before its Submit on
 abbrev pub user_at : ℕ → ℕ
 user_at x = note_at x 1
+
+-- and the count of a TIMEOUT here. No other entry's is stored
+abbrev pub count_at : ℕ → ℕ
+count_at x = note_at x 2
 
 abbrev pub pipe_at : ℕ → ℕ
 pipe_at p = p + 1
@@ -85,7 +89,7 @@ abbrev pub reply_bits : ℤ → ℕ → Type 0
 reply_bits (pos n) b = (n < 2147483648) × (b ≡ n)
 reply_bits (negsuc n) b = (n < 2147483648) × (b + n + 1 ≡ 4294967296)
 
--- how a claim word names the event that answered: bit 3 says that the reply is a failure
+-- how a claim word names the event that answered: bit 3 says that the reply is a failure. No word names a Cut, which comes after the last step
 abbrev pub cause_number : Cause → ℕ
 cause_number by_reply = 1
 cause_number by_take = 2
@@ -93,7 +97,8 @@ cause_number by_expire = 3
 cause_number by_fire = 4
 cause_number by_settle = 5
 cause_number by_sever = 6
-cause_number by_cut = 7
+cause_number by_count = 7
+cause_number by_cut = 0
 
 abbrev pub cause_bits : Cause → Bool → ℕ
 cause_bits c fails' = cause_number c + cond fails' 8 0

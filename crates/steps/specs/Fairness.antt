@@ -5,14 +5,15 @@ use Rattle.history.specs.declared.req.Req.{Req}
 use Rattle.history.specs.declared.event.Event.{Event}
 use Rattle.history.specs.declared.event.Event.TheVariants.{Submit, Park, Reply, Reap}
 use Rattle.history.specs.History.{Cause, Phase, unborn, waits, replied, reaped, Submission, submission, phase, reply, hit, nothing}
-use Rattle.history.specs.Chains.{placed, Open, is_timer, IsPlaced, IsChainDone}
+use Rattle.history.specs.Chains.{placed, Open, is_timer, is_timeout, IsPlaced, IsChainDone}
 use Rattle.history.specs.Answers.{is_pipe}
-use Rattle.history.specs.Legal.{IsOf}
+use Rattle.history.specs.Users.{uses_at_in}
+use Rattle.history.specs.Legal.{IsOf, count_of}
 use Rattle.steps.specs.declared.line.Line.{Line}
 use Rattle.steps.specs.declared.line.Line.TheVariants.{Did, Freed, Lent, Noted, Hold, Free}
 use Rattle.steps.specs.declared.view.Layout.{Layout}
-use Rattle.steps.specs.Journal.{events_of, freed, lent, noted, holder, touches}
-use Rattle.steps.specs.Cells.{IsCell, cells_in, request_at, facts_at, user_at}
+use Rattle.steps.specs.Journal.{events_of, freed, lent, noted, holder}
+use Rattle.steps.specs.Cells.{IsCell, cells_in, request_at, note_at, facts_at, user_at, count_at}
 use Rattle.steps.specs.Notes.{facts_of, outcome_of}
 
 abbrev pub IsReaped : Phase → Type 0
@@ -27,15 +28,20 @@ IsFree K h r = (q : Req) → q.ring ≡ r.ring → q.k + cells_in K r.ring ≡ r
 abbrev pub IsIn : List ℕ → Req → ℕ → ℕ → Type 0
 IsIn K r x g = IsCell K x × (request_at K x g ≡ r)
 
+-- the count of a TIMEOUT is noted
+abbrev pub IsCountNoted : List Line → ℕ → Entry → Type 0
+IsCountNoted j x d = is_timeout d.op ≡ true → noted j (count_at x) ≡ count_of d.op
+
 -- the notes of the request's cell are those of its entry, as it is placed
 abbrev pub AreNoted : List ℕ → List Line → Req → Entry → List ℕ → Bool → Type 0
-AreNoted K j r e bytes last = (x : ℕ) × (g : ℕ) × (d : Entry) × IsIn K r x g × IsPlaced (Submit r e bytes last ∷ events_of j) r d × (noted j (facts_at x) ≡ facts_of g d last) × (noted j (user_at x) ≡ e.user_data)
+AreNoted K j r e bytes last = (x : ℕ) × (g : ℕ) × (d : Entry) × IsIn K r x g × IsPlaced (Submit r e bytes last ∷ events_of j) r d × (noted j (facts_at x) ≡ facts_of g d last) × (noted j (user_at x) ≡ e.user_data) × IsCountNoted j x d
 
--- what the notes of the cell x say of its request of generation g, which was handed in as y and is placed as d: its facts, or, once its slot is out for the Reap, its facts with the outcome; and its user_data
+-- what the notes of the cell x say of its request of generation g, which was handed in as y and is placed as d: its facts, or, once its slot is out for the Reap, its facts with the outcome; its user_data; and the count of a TIMEOUT
 pub record NotesSay (K : List ℕ) (j : List Line) (x g : ℕ) (y : Submission) (d : Entry) : Type 0 where
   pub facts : lent j (request_at K x g) ≡ false → noted j (facts_at x) ≡ facts_of g d y.last
   pub outcome : (c : Cause) (res : ℤ) → phase (events_of j) (request_at K x g) ≡ replied c res → lent j (request_at K x g) ≡ true → noted j (facts_at x) ≡ outcome_of (facts_of g d y.last) (fails d res)
   pub user_data : noted j (user_at x) ≡ y.entry.user_data
+  pub count : IsCountNoted j x d
 
 -- the same of the request of the cell that was submitted and not reaped
 abbrev pub NotesTell : List ℕ → List Line → ℕ → Type 0
@@ -59,12 +65,12 @@ IsFactsNote K j r word value _ = ⊥
 -- only who has a pipe of the board changes it or gives it back, and nobody takes it from him; only what waits, is open and is a worker's to run is moved to Ready, and once; a cell goes on only when it is free, and its notes go on with it; a request is reaped by who has its slot; a cancel that took its target, or found it running, is not put back
 abbrev pub Fair : Layout → List Line → Line → Type 0
 Fair L j (Did (Submit r e bytes last)) = IsFree L.cells (events_of j) r × AreNoted L.cells j r e bytes last
-Fair L j (Did (Reply r res data')) = (p : ℕ) → is_pipe L.caps p ≡ true → touches (placed (events_of j) r) p ≡ true → holder j p ≡ Some r
+Fair L j (Did (Reply r res data')) = (p : ℕ) → is_pipe L.caps p ≡ true → uses_at_in (placed (events_of j) r) p ≡ true → holder j p ≡ Some r
 Fair L j (Did (Park r)) = hit (events_of j) r ≡ nothing
 Fair L j (Did (Reap r)) = lent j r ≡ true
 Fair L j (Freed r) = (phase (events_of j) r ≡ waits) × Open (events_of j) r × IsOf (events_of j) r is_timer false × (freed j r ≡ false)
 Fair L j (Lent r word value) = IsFactsNote L.cells j r word value (phase (events_of j) r)
-Fair L j (Noted r word value) = (x : ℕ) × (g : ℕ) × IsIn L.cells r x g × (word ≡ user_at x) × (phase (events_of j) r ≡ unborn) × IsFree L.cells (events_of j) r
+Fair L j (Noted r word value) = (x : ℕ) × (g : ℕ) × (i : ℕ) × IsIn L.cells r x g × ((0 < i) × (i < 3)) × (word ≡ note_at x i) × (phase (events_of j) r ≡ unborn) × IsFree L.cells (events_of j) r
 Fair L j (Hold r p) = holder j p ≡ None
 Fair L j (Free r p) = holder j p ≡ Some r
 Fair L j _ = Unit {0}

@@ -1,13 +1,9 @@
 -- The journal: the history's events, newest first, and between them what seats do without an event. Who was moved to Ready, which slot or pipe is out with whom, and what stands in a note word, is read off it.
 use Rattle.std.specs.Prelude.{ℕ, ◌==◌, Bool, true, false, cond, List, [], ◌∷◌, Option, Some, None}
-use Rattle.entry.specs.declared.op.Op.{Op}
-use Rattle.entry.specs.declared.op.Op.TheVariants.{Close, Read, Write, PollAdd}
-use Rattle.entry.specs.Entry.{Entry}
 use Rattle.history.specs.declared.req.Req.{Req}
 use Rattle.history.specs.declared.event.Event.{Event}
 use Rattle.history.specs.declared.event.Event.TheVariants.{Submit, Reap}
 use Rattle.history.specs.History.{same}
-use Rattle.history.specs.Pipes.{End, no_end, read_end, write_end, end_of}
 use Rattle.steps.specs.declared.line.Line.{Line}
 use Rattle.steps.specs.declared.line.Line.TheVariants.{Did, Freed, Lent, Noted, Hold, Free}
 
@@ -59,20 +55,3 @@ holds _ p o = o
 abbrev pub holder : List Line → ℕ → Option Req
 holder [] p = None
 holder (l ∷ j) p = holds l p (holder j p)
-
-abbrev pub is_end_of : End → ℕ → Bool
-is_end_of no_end p = false
-is_end_of (read_end n) p = n == p
-is_end_of (write_end n) p = n == p
-
-abbrev pub uses : Op → ℕ → Bool
-uses (Read fd offset len) p = is_end_of (end_of fd) p
-uses (Write fd offset len) p = is_end_of (end_of fd) p
-uses (Close fd) p = is_end_of (end_of fd) p
-uses (PollAdd fd mask) p = is_end_of (end_of fd) p
-uses _ p = false
-
--- the request is answered from the pipe p
-abbrev pub touches : Option Entry → ℕ → Bool
-touches None p = false
-touches (Some e) p = uses e.op p

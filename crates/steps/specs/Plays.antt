@@ -7,11 +7,12 @@ use Rattle.claim.specs.declared.tag.Tag.{Tag}
 use Rattle.claim.specs.declared.tag.Tag.TheVariants.{Held, Ready, Running, Armed, Done}
 use Rattle.entry.specs.Entry.{Entry}
 use Rattle.history.specs.declared.req.Req.{Req}
-use Rattle.history.specs.declared.event.Event.TheVariants.{Submit, Begin, Park, Reply, Take, Miss, Tick, Arm, Expire, Fire, FireMiss, Settle, Sever, Reap}
+use Rattle.history.specs.declared.event.Event.TheVariants.{Submit, Begin, Park, Reply, Take, Miss, Tick, Arm, Expire, Count, Fire, FireMiss, Settle, Sever, Reap}
 use Rattle.history.specs.History.{Cause, phase, replied, data_of, submission}
 use Rattle.history.specs.Chains.{IsPlaced}
-use Rattle.history.specs.Pipes.{flow, flows_as}
+use Rattle.history.specs.Pipes.{contents, flow, flows_as}
 use Rattle.history.specs.Answers.{OpAnswers, is_pipe}
+use Rattle.history.specs.Users.{uses_at}
 use Rattle.pipe.specs.Pipe.{Conduit}
 use Rattle.steps.specs.declared.line.Line.{Line}
 use Rattle.steps.specs.declared.line.Line.TheVariants.{Did, Freed, Lent, Noted, Hold, Free}
@@ -19,11 +20,11 @@ use Rattle.steps.specs.declared.parcel.Parcel.{Parcel}
 use Rattle.steps.specs.declared.parcel.Thing.{Thing}
 use Rattle.steps.specs.declared.parcel.Thing.TheVariants.{Full, Piped}
 use Rattle.steps.specs.declared.view.Role.{Role}
-use Rattle.steps.specs.declared.view.Role.TheVariants.{Submitter, Lending, Idle, Busy, Leaving}
+use Rattle.steps.specs.declared.view.Role.TheVariants.{Submitter, Lending, Idle, Busy, Leaving, Parting}
 use Rattle.steps.specs.declared.view.View.{View}
-use Rattle.steps.specs.Journal.{events_of, noted, holder, uses}
-use Rattle.steps.specs.Cells.{IsCell, request_at, word_of, claim_at, note_at, facts_at, user_at, pipe_at, slot_at, reply_bits, IsParcel, PipeIs}
-use Rattle.steps.specs.Rule.{Looks, Extends, Shown, Vacant, IsStep, leaves}
+use Rattle.steps.specs.Journal.{events_of, noted, holder}
+use Rattle.steps.specs.Cells.{IsCell, request_at, word_of, claim_at, note_at, facts_at, pipe_at, slot_at, reply_bits, IsParcel, PipeIs}
+use Rattle.steps.specs.Rule.{Looks, Extends, Shown, Vacant, IsStep, leaves, leaves_one}
 
 abbrev pub Seated : Type 0
 Seated = Me (Option Thing) View
@@ -79,6 +80,9 @@ armed_for st m x r m' = (g d : ℕ) → g < 16777216 → d < 4294967296 → st.s
 abbrev pub expired : At → Seated → ℕ → Req → Seated → Type 0
 expired st m x r m' = Extends m.0 (Did (Expire r)) m.0.role m'.0 × (m'.1 ≡ m.1)
 
+abbrev pub counted : At → Seated → ℕ → Req → Seated → Type 0
+counted st m x r m' = Extends m.0 (Did (Count r)) m.0.role m'.0 × (m'.1 ≡ m.1)
+
 abbrev pub settled : At → Seated → ℕ → Req → Seated → Type 0
 settled st m x r m' = Extends m.0 (Did (Settle r)) m.0.role m'.0 × (m'.1 ≡ m.1)
 
@@ -129,9 +133,9 @@ reaps st m x r m' = Extends m.0 (Did (Reap r)) (Submitter r.ring) m'.0 × (m'.1 
 abbrev pub opened : At → Seated → ℕ → Seated → Type 0
 opened st m n m' = (x g : ℕ) → st.word ≡ facts_at x → IsCell m.0.layout.cells x → Vacant m.0.layout.cells m.0.seen x g → (Extends m.0 (Lent (request_at m.0.layout.cells x g) st.word st.first) (Lending (request_at m.0.layout.cells x g)) m'.0 × (m'.1 ≡ (slot_at x, None) ∷ m.1)) × ((found : ℕ) × IsStep st.word found m.0 m'.0)
 
--- of a store of the user_data before the Submit of generation g, by who has the slot
-abbrev pub noted_user : At → Seated → ℕ → Seated → Type 0
-noted_user st m n m' = (x g : ℕ) → st.word ≡ user_at x → IsCell m.0.layout.cells x → m.0.role ≡ Lending (request_at m.0.layout.cells x g) → (Extends m.0 (Noted (request_at m.0.layout.cells x g) st.word st.first) m.0.role m'.0 × (m'.1 ≡ m.1)) × ((found : ℕ) × IsStep st.word found m.0 m'.0)
+-- of a store of another note before the Submit, by who has the slot of the request's cell
+abbrev pub noted_more : At → Seated → ℕ → Seated → Type 0
+noted_more st m n m' = (r : Req) → m.0.role ≡ Lending r → (Extends m.0 (Noted r st.word st.first) m.0.role m'.0 × (m'.1 ≡ m.1)) × ((found : ℕ) × IsStep st.word found m.0 m'.0)
 
 -- of a store of the facts with the outcome before the Reap of generation g: the slot is taken, with the buffer and the data
 abbrev pub emptied : At → Seated → ℕ → Seated → Type 0
@@ -142,13 +146,25 @@ emptied st m n m' = (x g : ℕ) (c : Cause) (res : ℤ) → st.word ≡ facts_at
 abbrev pub HasAlone : List Line → ℕ → Req → Type 0
 HasAlone j p q = (holder j p ≡ Some q) × ((n : ℕ) → n ≢ p → holder j n ≢ Some q)
 
+-- the worker of q has the pipes p and n, and no other
+abbrev pub HasBoth : List Line → ℕ → ℕ → Req → Type 0
+HasBoth j p n q = (p ≢ n) × (holder j p ≡ Some q) × (holder j n ≡ Some q) × ((m : ℕ) → m ≢ p → m ≢ n → holder j m ≢ Some q)
+
+-- by what was seen the pipe is what it was
+abbrev pub IsSamePipe : View → View → ℕ → Type 0
+IsSamePipe v w p = flow (events_of w.seen) p ≡ flow (events_of v.seen) p
+
 -- the pipe lies in the seat's hand, as what it has seen tells
 abbrev pub HasPipe : Seated → ℕ → List (ℕ × Option Thing) → Type 0
 HasPipe m p others = (c : Conduit) × (m.1 ≡ (p, Some (Piped c)) ∷ others) × PipeIs m.0.layout.caps p (Some (Piped c)) (flow (events_of m.0.seen) p)
 
 -- the same, as the reply res to q, placed as e, will make it
 abbrev pub HasPipeAfter : Seated → ℕ → Req → Entry → ℤ → Type 0
-HasPipeAfter m p q e res = (c : Conduit) × (rest m.1 ≡ (p, Some (Piped c)) ∷ rest (rest m.1)) × PipeIs m.0.layout.caps p (Some (Piped c)) (flows_as (Some e) (submission (events_of m.0.seen) q) res p (flow (events_of m.0.seen) p))
+HasPipeAfter m p q e res = (c : Conduit) × (rest m.1 ≡ (p, Some (Piped c)) ∷ rest (rest m.1)) × PipeIs m.0.layout.caps p (Some (Piped c)) (flows_as (Some e) (submission (events_of m.0.seen) q) (contents (events_of m.0.seen)) res p (flow (events_of m.0.seen) p))
+
+-- the same of two pipes, of which n lies under p
+abbrev pub HasPipesAfter : Seated → ℕ → ℕ → Req → Entry → ℤ → Type 0
+HasPipesAfter m p n q e res = HasPipeAfter m p q e res × HasPipeAfter (m.0, rest m.1) n q e res
 
 -- the table has a clock
 abbrev pub FitsClock : TableId → Seat (Option Thing) View → Type 0
@@ -172,9 +188,17 @@ pipe_returned st m n m' = (p : ℕ) (q : Req) → st.word ≡ pipe_at p → m.0.
 abbrev pub pipe_left : At → Seated → ℕ → Seated → Type 0
 pipe_left st m n m' = (p : ℕ) (q : Req) → st.word ≡ pipe_at p → m.0.role ≡ Leaving q → holder m.0.seen p ≡ Some q → (found : ℕ) × (m'.0 ≡ leaves st.word found m.0) × (m'.1 ≡ rest m.1)
 
--- the seat may reply so to the request in the cell x: this is the answer, the data lie over the front of the buffer in hand, and it has the pipe that the entry names, if it is one of the board's
+-- the same by a worker that has two pipes, and keeps the other for its last step
+abbrev pub pipe_left_first : At → Seated → ℕ → Seated → Type 0
+pipe_left_first st m n m' = (p kept : ℕ) (q : Req) → st.word ≡ pipe_at p → m.0.role ≡ Leaving q → HasBoth m.0.seen p kept q → (found : ℕ) × (m'.0 ≡ leaves_one q kept st.word found m.0) × (m'.1 ≡ rest m.1)
+
+-- and of that other
+abbrev pub pipe_left_last : At → Seated → ℕ → Seated → Type 0
+pipe_left_last st m n m' = (p : ℕ) (q : Req) → st.word ≡ pipe_at p → m.0.role ≡ Parting q p → (found : ℕ) × (m'.0 ≡ leaves st.word found m.0) × (m'.1 ≡ rest m.1)
+
+-- the seat may reply so to the request in the cell x: this is the answer, the data lie over the front of the buffer in hand, and it has each pipe that the entry names, if it is one of the board's
 pub record MayReply (m : Seated) (x : ℕ) (q : Req) (e : Entry) (res : ℤ) (data' : List ℕ) : Type 0 where
   pub placed_is : IsPlaced (events_of m.0.seen) q e
   pub answers : OpAnswers m.0.layout.caps (events_of m.0.seen) q e.op res data'
-  pub has : (p : ℕ) → is_pipe m.0.layout.caps p ≡ true → uses e.op p ≡ true → holder m.0.seen p ≡ Some q
+  pub has : (p : ℕ) → is_pipe m.0.layout.caps p ≡ true → uses_at e.op p ≡ true → holder m.0.seen p ≡ Some q
   pub parcel : Hands m x q data' (rest m.1)

@@ -1,5 +1,5 @@
 -- The rule: one legal history that agrees with all words, and of which each seat has seen a beginning that lacks none of the seat's own lines.
-use Rattle.std.specs.Prelude.{◌≡◌, ◌≢◌, ℕ, suc, ◌-◌, ◌+◌, ◌<◌, ◌≤◌, ◌⊎◌, Bool, true, false, not, ◌==◌, nat_le, nat_lt, ℤ, List, [], ◌∷◌, ◌++◌, length, slice_index, Option, Some}
+use Rattle.std.specs.Prelude.{◌≡◌, ◌≢◌, ℕ, suc, ◌-◌, ◌+◌, ◌<◌, ◌≤◌, ◌⊎◌, Bool, true, false, not, ◌==◌, ◌&&◌, nat_le, nat_lt, ℤ, List, [], ◌∷◌, ◌++◌, length, slice_index, Option, Some}
 use mathlib.Core.Option.{some}
 use lib.ListN.{get_elem?}
 use Rattle.atomic_table.specs.Table.{State}
@@ -19,7 +19,7 @@ use Rattle.steps.specs.declared.parcel.Thing.{Thing}
 use Rattle.steps.specs.declared.view.Heard.{Heard}
 use Rattle.steps.specs.declared.view.Layout.{Layout}
 use Rattle.steps.specs.declared.view.Role.{Role}
-use Rattle.steps.specs.declared.view.Role.TheVariants.{Poller, Submitter, Lending, Idle, Busy, Leaving, Spent}
+use Rattle.steps.specs.declared.view.Role.TheVariants.{Poller, Submitter, Lending, Idle, Busy, Leaving, Parting, Spent}
 use Rattle.steps.specs.declared.view.Step.{Step}
 use Rattle.steps.specs.declared.view.View.{View}
 use Rattle.steps.specs.Fairness.{Orderly, IsFree}
@@ -27,12 +27,13 @@ use Rattle.steps.specs.Notes.{outcome_of}
 use Rattle.steps.specs.Journal.{events_of, lent, noted, holder}
 use Rattle.steps.specs.Cells.{setup_of, IsCell, ring_of, request_at, note_at, facts_at, claim_at, pipe_at, slot_at, CellOk, PipeOk, Home, word_of, reply_bits, cause_bits, slots_of, words_of}
 
--- whose a line is: a seat of no other kind makes it
+-- whose a line is: a seat of no other kind makes it. What a worker does with a pipe is the line of who may have that pipe for its request
 pub data Owner : Type 0 where
   nobody : Owner
   pollers : Owner
   rings : ℕ → Owner
   workers : Req → Owner
+  holders : Req → ℕ → Owner
 
 abbrev pub owner : Line → Owner
 owner (Did (Submit r e bytes last)) = rings r.ring
@@ -46,8 +47,8 @@ owner (Did e) = pollers
 owner (Freed r) = pollers
 owner (Lent r word value) = rings r.ring
 owner (Noted r word value) = rings r.ring
-owner (Hold r p) = workers r
-owner (Free r p) = workers r
+owner (Hold r p) = holders r p
+owner (Free r p) = holders r p
 
 -- from the ring n on the poller stands in for the submitters
 abbrev pub stands_for : Role → Owner → Bool
@@ -56,7 +57,11 @@ stands_for (Poller n) (rings i) = nat_le n i
 stands_for (Submitter l) (rings i) = l == i
 stands_for (Lending r) (rings i) = r.ring == i
 stands_for (Busy r) (workers q) = same q r
+stands_for (Busy r) (holders q p) = same q r
 stands_for (Leaving r) (workers q) = same q r
+stands_for (Leaving r) (holders q p) = same q r
+stands_for (Parting r n) (workers q) = same q r
+stands_for (Parting r n) (holders q p) = same q r && (n == p)
 stands_for _ _ = false
 
 abbrev pub owns : Role → Line → Bool
@@ -77,6 +82,11 @@ apart (Busy r) (Busy q) = not (same r q)
 apart (Busy r) (Leaving q) = not (same r q)
 apart (Leaving r) (Busy q) = not (same r q)
 apart (Leaving r) (Leaving q) = not (same r q)
+apart (Busy r) (Parting q p) = not (same r q)
+apart (Leaving r) (Parting q p) = not (same r q)
+apart (Parting r n) (Busy q) = not (same r q)
+apart (Parting r n) (Leaving q) = not (same r q)
+apart (Parting r n) (Parting q p) = not (same r q)
 apart _ _ = true
 
 abbrev pub NoneOf : Role → List Line → Type 0
@@ -108,12 +118,18 @@ AllSaw j xs = (x : Heard) → IsHeard x xs → Saw x.role x.seen j
 abbrev pub IsGone : Role → Role → Type 0
 IsGone gone role = (apart role gone ≡ true) × ((q : Req) → stands_for gone (workers q) ≡ false)
 
+-- the worker has answered the request, and still has a pipe
+abbrev pub is_leaving : Role → Req → Bool
+is_leaving (Leaving r) q = same q r
+is_leaving (Parting r p) q = same q r
+is_leaving _ q = false
+
 pub record SeatOk (L : Layout) (j : List Line) (v : View) : Type 0 where
   pub layout : v.role ≢ Spent → v.layout ≡ L
   pub saw : Saw v.role v.seen j
   pub heard : AllSaw j v.heard
   pub busy : (r : Req) → v.role ≡ Busy r → (0 < v.parts) × (phase (events_of v.seen) r ≡ runs)
-  pub leaving : (r : Req) → v.role ≡ Leaving r → (0 < v.parts) × IsReplied (phase (events_of v.seen) r)
+  pub leaving : (r : Req) → is_leaving v.role r ≡ true → (0 < v.parts) × IsReplied (phase (events_of v.seen) r)
   pub lending : (r : Req) → v.role ≡ Lending r → 0 < v.parts
 
 abbrev pub parts_of : List View → ℕ
@@ -124,9 +140,9 @@ parts_of (v ∷ vs) = v.parts + parts_of vs
 abbrev pub IsRunBy : List View → Req → Type 0
 IsRunBy vs q = (i : ℕ) × (v : View) × (get_elem? vs i ≡ some v) × (v.role ≡ Busy q)
 
--- some seat has what the request's worker took
-abbrev pub IsHeldBy : List View → Req → Type 0
-IsHeldBy vs q = (i : ℕ) × (v : View) × (get_elem? vs i ≡ some v) × (stands_for v.role (workers q) ≡ true)
+-- some seat has the pipe p, which the request's worker took
+abbrev pub IsHeldBy : List View → Req → ℕ → Type 0
+IsHeldBy vs q p = (i : ℕ) × (v : View) × (get_elem? vs i ≡ some v) × (stands_for v.role (holders q p) ≡ true)
 
 -- some seat has the slot of the request's cell
 abbrev pub IsLentBy : List View → Req → Type 0
@@ -157,7 +173,7 @@ pub record Ruled (L : Layout) (s : State (Option Thing) View) : Type 0 where
   pub roles : (i l : ℕ) (v w : View) → get_elem? s.views i ≡ some v → get_elem? s.views l ≡ some w → ¬ (i ≡ l) → apart v.role w.role ≡ true
   pub gone : (i l : ℕ) (v w : View) → get_elem? s.views i ≡ some v → get_elem? s.views l ≡ some w → (x : Heard) → IsHeard x v.heard → IsGone x.role w.role
   pub run : (q : Req) → phase (events_of past) q ≡ runs → IsRunBy s.views q
-  pub held_by : (p : ℕ) (q : Req) → holder past p ≡ Some q → IsHeldBy s.views q
+  pub held_by : (p : ℕ) (q : Req) → holder past p ≡ Some q → IsHeldBy s.views q p
   pub lent_by : (q : Req) → lent past q ≡ true → IsLentBy s.views q
   pub parts : parts_of s.views ≡ 9223372036854775808
   pub newest : (i : ℕ) × (v : View) × (get_elem? s.views i ≡ some v) × (0 < v.parts) × Knows v (events_of past)
@@ -179,6 +195,11 @@ IsTwoSteps first second v w = (mid : View) × ((n : ℕ) × IsStep first n v mid
 
 abbrev pub IsThreeSteps : ℕ → ℕ → ℕ → View → View → Type 0
 IsThreeSteps first second third v w = (mid : View) × ((n : ℕ) × IsStep first n v mid) × IsTwoSteps second third mid w
+
+-- the seat made a step more at each of these words, in order, and then one at the last
+abbrev pub AreSteps : List ℕ → ℕ → View → View → Type 0
+AreSteps [] last v w = (n : ℕ) × IsStep last n v w
+AreSteps (word ∷ words) last v w = (mid : View) × ((n : ℕ) × IsStep word n v mid) × AreSteps words last mid w
 
 -- the seat saw the journal so far, which has no further line of its own
 pub record Looks (v w : View) : Type 0 where
@@ -206,9 +227,14 @@ pub record Extends (v : View) (l : Line) (role : Role) (w : View) : Type 0 where
 abbrev pub ExtendsTwice : View → Line → Role → Line → Role → View → Type 0
 ExtendsTwice v k between l role w = (mid : View) × Extends v k between mid × Extends mid l role w
 
--- the seat added three lines, and others may stand between
-abbrev pub ExtendsThrice : View → Line → Role → Line → Role → Line → Role → View → Type 0
-ExtendsThrice v k first l second n role w = (mid : View) × Extends v k first mid × ExtendsTwice mid l second n role w
+-- the seat, which has the slot of r's cell, stored these notes of r, each a word and its value, and then added the line l; others may stand between
+abbrev pub ExtendsAfter : View → Req → List (ℕ × ℕ) → Line → Role → View → Type 0
+ExtendsAfter v r [] l role w = Extends v l role w
+ExtendsAfter v r (n ∷ notes) l role w = (mid : View) × Extends v (Noted r n.0 n.1) (Lending r) mid × ExtendsAfter mid r notes l role w
+
+-- before that it took the slot, with a note of the facts
+abbrev pub ExtendsNoted : View → Req → ℕ × ℕ → List (ℕ × ℕ) → Line → Role → View → Type 0
+ExtendsNoted v r facts notes l role w = (mid : View) × Extends v (Lent r facts.0 facts.1) (Lending r) mid × ExtendsAfter mid r notes l role w
 
 -- what a claim word tells
 abbrev pub Shown : List ℕ → List Line → ℕ → ℕ → Type 0
@@ -271,7 +297,11 @@ messenger v = record v { role = Idle; parts = 0; heard = []; steps = [] }
 abbrev pub hearing : View → View → View
 hearing v w = record v { parts = v.parts + w.parts; heard = record { role = w.role; seen = w.seen } ∷ (w.heard ++ v.heard) }
 
--- a worker that has replied gives its pipe back: it is idle, and has seen no more
+-- a worker that has replied gives one of its two pipes back: it still has the pipe p alone, and has seen no more
+abbrev pub leaves_one : Req → ℕ → ℕ → ℕ → View → View
+leaves_one r p word found v = record v { role = Parting r p; steps = record { word = word; found = found; seen = v.seen } ∷ v.steps }
+
+-- and gives back its pipe, or the last of them: it is idle, and has seen no more
 abbrev pub leaves : ℕ → ℕ → View → View
 leaves word found v = record v { role = Idle; steps = record { word = word; found = found; seen = v.seen } ∷ v.steps }
 

@@ -1,7 +1,7 @@
 //! The claim words that steps write and look for.
-ghost use Rattle.std.specs.Prelude.{◌≡◌, ◌≢◌, ◌⊎◌, ◌<◌, ℕ, List, negsuc, false, cond, IfSome, IfNone};
+ghost use Rattle.std.specs.Prelude.{◌≡◌, ◌≢◌, ◌⊎◌, ◌<◌, ℕ, List, pos, negsuc, false, cond, IfSome, IfNone};
 ghost use Rattle.claim.specs.declared.tag.Tag.TheVariants.{Empty, Held, Ready, Running as RunningTag, Armed, Done};
-ghost use Rattle.history.specs.History.{by_reply, by_take, by_expire, by_fire, by_settle, by_sever, phase, unborn, IsReplied};
+ghost use Rattle.history.specs.History.{by_reply, by_take, by_expire, by_count, by_fire, by_settle, by_sever, phase, unborn, IsReplied};
 ghost use Rattle.steps.specs.declared.claims.Standing.TheVariants.{Idle, Running, Over};
 ghost use Rattle.steps.specs.declared.line.Line.{Line};
 ghost use Rattle.steps.specs.Cells.{request_at, word_of, reply_bits, cause_bits};
@@ -87,6 +87,14 @@ pub(crate) fn expired(generation: u32, fails: bool) -> u64
     ensures { (b : ℕ) → reply_bits (negsuc 61) b → result ≡ word_of Done (cause_bits by_expire fails) generation b }
 {
     pack(ClaimWord::done(generation, Cause::Expire, fails, TIMED_OUT))
+}
+
+/// The TIMEOUT has counted enough completions.
+pub(crate) fn counted(generation: u32) -> u64
+    requires { generation < 16777216 }
+    ensures { (b : ℕ) → reply_bits (pos 0) b → result ≡ word_of Done (cause_bits by_count false) generation b }
+{
+    pack(ClaimWord::done(generation, Cause::Count, false, 0))
 }
 
 /// The request was ended by its LINK_TIMEOUT.

@@ -1,8 +1,8 @@
-//! The word of facts that a submitter notes of its request.
+//! What a submitter notes of its request: the word of facts, and the count of a TIMEOUT.
 ghost use Rattle.std.specs.Prelude.{◌≡◌, ℕ, ◌+◌, ◌*◌, ◌<◌, Option};
 ghost use Rattle.history.specs.History.{Submission};
 ghost use Rattle.history.specs.Chains.{hosts, is_link_timeout, placed_behind};
-ghost use Rattle.steps.specs.Notes.{etime_in, facts_of, row_number, ticks_in};
+ghost use Rattle.steps.specs.Notes.{count_in, etime_in, facts_of, row_number, ticks_in};
 
 use claim::{FactsWord, pack_facts};
 use entry::{Op, Sqe, by_opcode};
@@ -14,10 +14,10 @@ pub const TIMEOUT: u8 = 2;
 pub const LINK_TIMEOUT: u8 = 5;
 
 /// That of all Invalid entries.
-pub const INVALID: u8 = 9;
+pub const INVALID: u8 = 10;
 
 macro_rules! row_number {
-    (($op:expr) $($text:literal $name:ident { $($field:ident),* } = $code:tt: $fd:tt $off:tt $addr:tt $len:tt $word:tt $flags:tt $fails:tt;)*) => {
+    (($op:expr) $($text:literal $name:ident { $($field:ident),* } = $code:tt: $fd:tt $off:tt $addr:tt $len:tt $word:tt $splice_fd_in:tt $flags:tt $fails:tt;)*) => {
         match $op {
             $(Op::$name { .. } => number_of!($code),)*
             Op::Invalid => INVALID,
@@ -35,10 +35,11 @@ macro_rules! number_of {
     (19) => { 6 };
     (22) => { 7 };
     (23) => { 8 };
+    (30) => { 9 };
 }
 
 macro_rules! ticks_in {
-    (($op:expr) $($text:literal $name:ident { $($field:ident),* } = $code:literal: $fd:tt $off:tt [$($addr:tt)*] $len:tt $word:tt $flags:tt $fails:tt;)*) => {
+    (($op:expr) $($text:literal $name:ident { $($field:ident),* } = $code:literal: $fd:tt $off:tt [$($addr:tt)*] $len:tt $word:tt $splice_fd_in:tt $flags:tt $fails:tt;)*) => {
         match $op {
             $(Op::$name { $($field),* } => ticks_column!($($addr)*),)*
             Op::Invalid => 0,
@@ -48,12 +49,29 @@ macro_rules! ticks_in {
 
 macro_rules! ticks_column {
     (zero) => { 0 };
+    (current) => { 0 };
     (target $word:ident) => { 0 };
     (ticks $ticks:ident) => { $ticks };
 }
 
+macro_rules! count_in {
+    (($op:expr) $($text:literal $name:ident { $($field:ident),* } = $code:literal: $fd:tt [$($off:tt)*] $addr:tt $len:tt $word:tt $splice_fd_in:tt $flags:tt $fails:tt;)*) => {
+        match $op {
+            $(Op::$name { $($field),* } => count_column!($($off)*),)*
+            Op::Invalid => None,
+        }
+    };
+}
+
+macro_rules! count_column {
+    (zero) => { None };
+    (current) => { None };
+    (place $offset:ident) => { None };
+    (completions $count:ident) => { Some($count) };
+}
+
 macro_rules! etime_in {
-    (($op:expr) $($text:literal $name:ident { $($field:ident),* } = $code:tt: $fd:tt $off:tt $addr:tt $len:tt $word:tt $flags:tt [$($fails:tt)*];)*) => {
+    (($op:expr) $($text:literal $name:ident { $($field:ident),* } = $code:tt: $fd:tt $off:tt $addr:tt $len:tt $word:tt $splice_fd_in:tt $flags:tt [$($fails:tt)*];)*) => {
         match $op {
             $(Op::$name { $($field),* } => etime_column!($($fails)*),)*
             Op::Invalid => false,
@@ -83,6 +101,13 @@ fn ticks_in(sqe: &Sqe) -> u32
 {
     let _fits = sqe.row();
     by_opcode!(ticks_in!(sqe.op()))
+}
+
+/// The count of a TIMEOUT, 0 where it counts none.
+pub(crate) fn count_in(op: Op) -> Option<u32>
+    ensures { result ≡ count_in op }
+{
+    by_opcode!(count_in!(op))
 }
 
 /// Whether it is a TIMEOUT with ETIME_SUCCESS.

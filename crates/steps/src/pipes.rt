@@ -1,4 +1,4 @@
-//! The steps of a worker on a pipe: it takes the pipe, and gives it back, or replies and then gives it back.
+//! The steps of a worker on its pipes: it takes one, or two of them, and gives them back, or replies and then gives them back.
 ghost use Rattle.std.specs.Prelude.{◌≡◌, ◌≢◌, ℕ, ◌+◌, ◌<◌, true, List, length, Some};
 ghost use Rattle.atomic_table.specs.Table.{rest};
 ghost use Rattle.claim.specs.declared.tag.Tag.TheVariants.{Running};
@@ -6,12 +6,12 @@ ghost use Rattle.entry.specs.Entry.{Entry, fails as fails_with};
 ghost use Rattle.history.specs.declared.event.Event.TheVariants.{Reply};
 ghost use Rattle.history.specs.declared.req.Req.{Req};
 ghost use Rattle.steps.specs.declared.line.Line.TheVariants.{Did, Hold, Free};
-ghost use Rattle.steps.specs.declared.view.Role.TheVariants.{Idle, Busy, Leaving};
+ghost use Rattle.steps.specs.declared.view.Role.TheVariants.{Idle, Busy, Leaving, Parting};
 ghost use Rattle.steps.specs.declared.view.View.{View};
 ghost use Rattle.steps.specs.Journal.{holder};
 ghost use Rattle.steps.specs.Cells.{request_at, claim_at, pipe_at, word_of};
-ghost use Rattle.steps.specs.Rule.{Looks, Extends, IsStep, IsTwoSteps, Fits, IsSameSeat, leaves};
-ghost use Rattle.steps.specs.Plays.{HasAlone, HasPipe, HasPipeAfter, MayReply, FitsPipe};
+ghost use Rattle.steps.specs.Rule.{Looks, Extends, IsStep, IsTwoSteps, IsThreeSteps, Fits, IsSameSeat, leaves, leaves_one};
+ghost use Rattle.steps.specs.Plays.{HasAlone, HasBoth, HasPipe, HasPipeAfter, HasPipesAfter, IsSamePipe, MayReply, FitsPipe};
 
 use crate::layout::{claim_word, pipe_word};
 use crate::table::{TableSeat, Words};
@@ -23,6 +23,19 @@ const AT_HOME: u64 = 0;
 /// The word of a pipe that is out with a worker.
 const OUT: u64 = 1;
 
+/// Takes the pipe for the request that this seat runs. False where some worker has it.
+fn take(words: &Words, seat: &mut TableSeat, pipe: usize) -> bool
+    requires fits { FitsPipe words.now.table_id seat.old pipe }
+    requires busy { (q : Req) × (seat.old.me.0.role ≡ Busy q) }
+    ensures seat { IsSameSeat seat.old seat.new }
+    ensures holds { result ≡ true → (q : Req) → seat.old.me.0.role ≡ Busy q → Extends seat.old.me.0 (Hold q pipe) (Busy q) seat.new.me.0 × HasPipe seat.new.me pipe seat.old.me.1 }
+    ensures step { result ≡ true → IsStep (pipe_at pipe) 0 seat.old.me.0 seat.new.me.0 }
+    ensures looks { result ≢ true → Looks seat.old.me.0 seat.new.me.0 × (seat.new.me.1 ≡ seat.old.me.1) }
+    ensures missed { result ≢ true → (n : ℕ) × IsStep (pipe_at pipe) n seat.old.me.0 seat.new.me.0 × (n ≢ 0) × (other : Req) × (holder seat.new.me.0.seen pipe ≡ Some other) }
+{
+    words.compare_exchange::<plays::Hold>(seat, pipe_word(pipe), AT_HOME, OUT) == AT_HOME
+}
+
 /// Takes the pipe for the request that this seat runs. False where another worker has it.
 pub fn hold(words: &Words, seat: &mut TableSeat, pipe: usize) -> bool
     requires fits { FitsPipe words.now.table_id seat.old pipe }
@@ -33,10 +46,38 @@ pub fn hold(words: &Words, seat: &mut TableSeat, pipe: usize) -> bool
     ensures looks { result ≢ true → Looks seat.old.me.0 seat.new.me.0 × (seat.new.me.1 ≡ seat.old.me.1) }
     ensures missed { result ≢ true → (n : ℕ) × IsStep (pipe_at pipe) n seat.old.me.0 seat.new.me.0 × (n ≢ 0) × (other : Req) × (holder seat.new.me.0.seen pipe ≡ Some other) × (seat.new.me.0.role ≢ Busy other) }
 {
-    words.compare_exchange::<plays::Hold>(seat, pipe_word(pipe), AT_HOME, OUT) == AT_HOME
+    take(words, seat, pipe)
+}
+
+/// Takes a second pipe for the request that this seat runs, which has one already. False where another worker has it. The first
+/// one stays as it was.
+pub fn hold_second(words: &Words, seat: &mut TableSeat, second: usize) -> bool
+    requires fits { FitsPipe words.now.table_id seat.old second }
+    requires busy { (q : Req) × (first : ℕ) × (seat.old.me.0.role ≡ Busy q) × (first ≢ second) × (first < length seat.old.me.0.layout.caps) × HasAlone seat.old.me.0.seen first q }
+    ensures seat { IsSameSeat seat.old seat.new }
+    ensures holds { result ≡ true → (q : Req) (first : ℕ) → seat.old.me.0.role ≡ Busy q → HasAlone seat.old.me.0.seen first q → Extends seat.old.me.0 (Hold q second) (Busy q) seat.new.me.0 × HasBoth seat.new.me.0.seen first second q × HasPipe seat.new.me second seat.old.me.1 }
+    ensures step { result ≡ true → IsStep (pipe_at second) 0 seat.old.me.0 seat.new.me.0 }
+    ensures looks { result ≢ true → Looks seat.old.me.0 seat.new.me.0 × (seat.new.me.1 ≡ seat.old.me.1) }
+    ensures alone { result ≢ true → (q : Req) (first : ℕ) → seat.old.me.0.role ≡ Busy q → HasAlone seat.old.me.0.seen first q → HasAlone seat.new.me.0.seen first q }
+    ensures missed { result ≢ true → (n : ℕ) × IsStep (pipe_at second) n seat.old.me.0 seat.new.me.0 × (n ≢ 0) × (other : Req) × (holder seat.new.me.0.seen second ≡ Some other) × (seat.new.me.0.role ≢ Busy other) }
+    ensures same { (q : Req) (first : ℕ) → seat.old.me.0.role ≡ Busy q → HasAlone seat.old.me.0.seen first q → IsSamePipe seat.old.me.0 seat.new.me.0 first }
+{
+    take(words, seat, second)
 }
 
 /// Gives the pipe back, as it was taken, by a worker that has not replied.
+fn give_back(words: &Words, seat: &mut TableSeat, pipe: usize)
+    requires fits { FitsPipe words.now.table_id seat.old pipe }
+    requires busy { (q : Req) × (seat.old.me.0.role ≡ Busy q) × (holder seat.old.me.0.seen pipe ≡ Some q) }
+    requires pipe { HasPipe seat.old.me pipe (rest seat.old.me.1) }
+    ensures seat { IsSameSeat seat.old seat.new × (seat.new.me.1 ≡ rest seat.old.me.1) }
+    ensures frees { (q : Req) → seat.old.me.0.role ≡ Busy q → Extends seat.old.me.0 (Free q pipe) (Busy q) seat.new.me.0 }
+    ensures step { (found : ℕ) × IsStep (pipe_at pipe) found seat.old.me.0 seat.new.me.0 }
+{
+    words.store::<plays::Free>(seat, pipe_word(pipe), AT_HOME);
+}
+
+/// Gives the only pipe back, as it was taken, by a worker that has not replied.
 pub fn free(words: &Words, seat: &mut TableSeat, pipe: usize)
     requires fits { FitsPipe words.now.table_id seat.old pipe }
     requires busy { (q : Req) × (seat.old.me.0.role ≡ Busy q) × (0 < seat.old.me.0.parts) × HasAlone seat.old.me.0.seen pipe q }
@@ -45,10 +86,22 @@ pub fn free(words: &Words, seat: &mut TableSeat, pipe: usize)
     ensures frees { (q : Req) → seat.old.me.0.role ≡ Busy q → Extends seat.old.me.0 (Free q pipe) (Busy q) seat.new.me.0 × ((n : ℕ) → holder seat.new.me.0.seen n ≢ Some q) }
     ensures step { (found : ℕ) × IsStep (pipe_at pipe) found seat.old.me.0 seat.new.me.0 }
 {
-    words.store::<plays::Free>(seat, pipe_word(pipe), AT_HOME);
+    give_back(words, seat, pipe);
 }
 
-/// Replies to the request that this seat runs, whose pipe it has.
+/// Gives one of two pipes back, as it was taken, by a worker that has not replied. The other one stays as it was.
+pub fn free_one(words: &Words, seat: &mut TableSeat, one: usize)
+    requires fits { FitsPipe words.now.table_id seat.old one }
+    requires busy { (q : Req) × (kept : ℕ) × (seat.old.me.0.role ≡ Busy q) × (kept < length seat.old.me.0.layout.caps) × HasBoth seat.old.me.0.seen one kept q }
+    requires pipe { HasPipe seat.old.me one (rest seat.old.me.1) }
+    ensures seat { IsSameSeat seat.old seat.new × (seat.new.me.1 ≡ rest seat.old.me.1) }
+    ensures frees { (q : Req) (kept : ℕ) → seat.old.me.0.role ≡ Busy q → HasBoth seat.old.me.0.seen one kept q → Extends seat.old.me.0 (Free q one) (Busy q) seat.new.me.0 × HasAlone seat.new.me.0.seen kept q × IsSamePipe seat.old.me.0 seat.new.me.0 kept }
+    ensures step { (found : ℕ) × IsStep (pipe_at one) found seat.old.me.0 seat.new.me.0 }
+{
+    give_back(words, seat, one);
+}
+
+/// Replies to the request that this seat runs, whose pipe it has, or whose two pipes.
 fn reply_holding(
     words: &Words,
     seat: &mut TableSeat,
@@ -104,4 +157,65 @@ pub fn reply(
 {
     reply_holding(words, seat, cell, generation, fails, res);
     leave(words, seat, pipe);
+}
+
+/// Gives one of two pipes back, by a worker that has replied. It keeps the other one.
+fn leave_first(words: &Words, seat: &mut TableSeat, pipe: usize)
+    requires fits { FitsPipe words.now.table_id seat.old pipe }
+    requires leaving { (q : Req) × (kept : ℕ) × (seat.old.me.0.role ≡ Leaving q) × HasBoth seat.old.me.0.seen pipe kept q }
+    requires pipe { HasPipe seat.old.me pipe (rest seat.old.me.1) }
+    ensures seat { IsSameSeat seat.old seat.new × (seat.new.me.1 ≡ rest seat.old.me.1) }
+    ensures leaves { (q : Req) (kept : ℕ) → seat.old.me.0.role ≡ Leaving q → HasBoth seat.old.me.0.seen pipe kept q → (found : ℕ) × (seat.new.me.0 ≡ leaves_one q kept (pipe_at pipe) found seat.old.me.0) }
+{
+    words.store::<plays::LeaveFirst>(seat, pipe_word(pipe), AT_HOME);
+}
+
+/// Gives the last pipe back, by a worker that has replied and given the other one back.
+fn leave_last(words: &Words, seat: &mut TableSeat, pipe: usize)
+    requires fits { FitsPipe words.now.table_id seat.old pipe }
+    requires parting { (q : Req) × (seat.old.me.0.role ≡ Parting q pipe) × (holder seat.old.me.0.seen pipe ≡ Some q) }
+    requires pipe { HasPipe seat.old.me pipe (rest seat.old.me.1) }
+    ensures seat { IsSameSeat seat.old seat.new × (seat.new.me.1 ≡ rest seat.old.me.1) }
+    ensures leaves { (found : ℕ) × (seat.new.me.0 ≡ leaves (pipe_at pipe) found seat.old.me.0) }
+{
+    words.store::<plays::LeaveLast>(seat, pipe_word(pipe), AT_HOME);
+}
+
+/// Gives both pipes back, by a worker that has replied.
+fn leave_both(words: &Words, seat: &mut TableSeat, first: usize, second: usize)
+    requires fits { FitsPipe words.now.table_id seat.old first × FitsPipe words.now.table_id seat.old second }
+    requires leaving { (q : Req) × (seat.old.me.0.role ≡ Leaving q) × HasBoth seat.old.me.0.seen first second q }
+    requires pipes { HasPipe seat.old.me first (rest seat.old.me.1) × HasPipe (seat.old.me.0, rest seat.old.me.1) second (rest (rest seat.old.me.1)) }
+    ensures seat { IsSameSeat seat.old seat.new × (seat.new.me.1 ≡ rest (rest seat.old.me.1)) }
+    ensures leaves { (q : Req) → seat.old.me.0.role ≡ Leaving q → (found : ℕ) × (n : ℕ) × (seat.new.me.0 ≡ leaves (pipe_at second) n (leaves_one q second (pipe_at first) found seat.old.me.0)) }
+{
+    leave_first(words, seat, first);
+    leave_last(words, seat, second);
+}
+
+/// Replies to the request that this seat runs, and gives back its two pipes, which are already what the reply makes of them:
+/// `first`, which lies right below the parcel, and then `second`, which lies below that.
+pub fn reply_both(
+    words: &Words,
+    seat: &mut TableSeat,
+    cell: usize,
+    generation: u32,
+    fails: bool,
+    res: i32,
+    first: usize,
+    second: usize,
+)
+    requires fits { Fits words.now.table_id seat.old cell }
+    requires pipes_fit { FitsPipe words.now.table_id seat.old first × FitsPipe words.now.table_id seat.old second }
+    requires small { generation < 16777216 }
+    requires busy { seat.old.me.0.role ≡ Busy (request_at seat.old.me.0.layout.cells cell generation) }
+    requires both { HasBoth seat.old.me.0.seen first second (request_at seat.old.me.0.layout.cells cell generation) }
+    requires answer { (e : Entry) × (data' : List ℕ) × MayReply seat.old.me cell (request_at seat.old.me.0.layout.cells cell generation) e res data' × (fails ≡ fails_with e res) × HasPipesAfter seat.old.me first second (request_at seat.old.me.0.layout.cells cell generation) e res }
+    ensures seat { IsSameSeat seat.old seat.new × (seat.new.me.1 ≡ rest (rest (rest seat.old.me.1))) }
+    ensures ended { (seat.new.me.0.role ≡ Idle) × (seat.new.me.0.parts ≡ seat.old.me.0.parts) }
+    ensures replies { (e : Entry) (data' : List ℕ) → MayReply seat.old.me cell (request_at seat.old.me.0.layout.cells cell generation) e res data' → (mid : View) × Extends seat.old.me.0 (Did (Reply (request_at seat.old.me.0.layout.cells cell generation) res data')) (Leaving (request_at seat.old.me.0.layout.cells cell generation)) mid × (found : ℕ) × (n : ℕ) × (seat.new.me.0 ≡ leaves (pipe_at second) n (leaves_one (request_at seat.old.me.0.layout.cells cell generation) second (pipe_at first) found mid)) }
+    ensures steps { IsThreeSteps (claim_at cell) (pipe_at first) (pipe_at second) seat.old.me.0 seat.new.me.0 }
+{
+    reply_holding(words, seat, cell, generation, fails, res);
+    leave_both(words, seat, first, second);
 }

@@ -1,7 +1,7 @@
 //! What each kind of step tells its seat, as the table takes it.
 ghost use Rattle.claim.specs.declared.tag.Tag.TheVariants.{Empty, Held, Ready, Running, Armed, Done};
 ghost use Rattle.steps.specs.declared.view.Role.TheVariants.{Idle, Leaving};
-ghost use Rattle.steps.specs.Plays.{looked, tried, tried_idle, sure, released, severed, armed_for, expired, settled, fired_at, fired_late, taken, missed, clock_set, began, submitted, replied_with, parked, reaps, noticed, opened, noted_user, emptied, pipe_taken, pipe_returned, pipe_left};
+ghost use Rattle.steps.specs.Plays.{looked, tried, tried_idle, sure, released, severed, armed_for, expired, counted, settled, fired_at, fired_late, taken, missed, clock_set, began, submitted, replied_with, parked, reaps, noticed, opened, noted_more, emptied, pipe_taken, pipe_returned, pipe_left, pipe_left_first, pipe_left_last};
 ghost use Rattle.steps.specs.Rule.{without_next, without_one, next_submitter, idle_one, messenger, hearing, spent_view};
 
 use crate::parcel::Thing;
@@ -48,6 +48,12 @@ pub(crate) struct Expire;
 
 impl Play<Option<Thing>, View> for Expire {
     ghost then = { tried Armed expired };
+}
+
+pub(crate) struct Count;
+
+impl Play<Option<Thing>, View> for Count {
+    ghost then = { tried Armed counted };
 }
 
 pub(crate) struct Fire;
@@ -110,16 +116,28 @@ impl Play<Option<Thing>, View> for Leave {
     ghost then = { pipe_left };
 }
 
+pub(crate) struct LeaveFirst;
+
+impl Play<Option<Thing>, View> for LeaveFirst {
+    ghost then = { pipe_left_first };
+}
+
+pub(crate) struct LeaveLast;
+
+impl Play<Option<Thing>, View> for LeaveLast {
+    ghost then = { pipe_left_last };
+}
+
 pub(crate) struct OpenCell;
 
 impl Play<Option<Thing>, View> for OpenCell {
     ghost then = { opened };
 }
 
-pub(crate) struct NoteUserData;
+pub(crate) struct Note;
 
-impl Play<Option<Thing>, View> for NoteUserData {
-    ghost then = { noted_user };
+impl Play<Option<Thing>, View> for Note {
+    ghost then = { noted_more };
 }
 
 pub(crate) struct EmptyCell;

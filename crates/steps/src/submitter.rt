@@ -11,11 +11,12 @@ ghost use Rattle.steps.specs.declared.parcel.Parcel.{Parcel};
 ghost use Rattle.steps.specs.declared.parcel.Thing.TheVariants.{Full};
 ghost use Rattle.steps.specs.declared.view.Role.TheVariants.{Submitter, Lending};
 ghost use Rattle.steps.specs.Journal.{events_of, lent, noted};
-ghost use Rattle.steps.specs.Cells.{ring_of, request_at, claim_at, facts_at, user_at, slot_at, word_of, IsParcel};
-ghost use Rattle.steps.specs.Notes.{facts_of};
-ghost use Rattle.steps.specs.Rule.{Extends, ExtendsTwice, ExtendsThrice, IsStep, IsTwoSteps, IsThreeSteps, Vacant, Fits, IsSameSeat, IsDone, IsOutcome};
+ghost use Rattle.steps.specs.Cells.{ring_of, request_at, claim_at, note_at, facts_at, user_at, slot_at, word_of, IsParcel};
+ghost use Rattle.steps.specs.Fairness.{IsCountNoted};
+ghost use Rattle.steps.specs.Notes.{count_in, count_notes, facts_of, notes_of, words_in};
+ghost use Rattle.steps.specs.Rule.{Extends, ExtendsAfter, ExtendsNoted, ExtendsTwice, IsStep, AreSteps, IsTwoSteps, Vacant, Fits, IsSameSeat, IsDone, IsOutcome};
 
-use crate::facts::facts;
+use crate::facts::{count_in, facts};
 use crate::layout::{claim_word, note_word, slot};
 use crate::parcel::{Parcel, Thing, parcel_of};
 use crate::table::{TableSeat, Words};
@@ -26,6 +27,9 @@ const FACTS: usize = 0;
 
 /// The note word with its user_data.
 const USER_DATA: usize = 1;
+
+/// The note word with the count of a TIMEOUT.
+const COUNT: usize = 2;
 
 /// Notes the facts, takes the slot of a cell that is free, and puts the parcel there.
 fn fill(
@@ -54,17 +58,25 @@ fn fill(
     facts
 }
 
-/// Notes the user_data of the parcel in the slot.
-fn note_user_data(words: &Words, seat: &mut TableSeat, cell: usize, generation: u32, user_data: u64)
+/// Stores another note of the request whose slot is taken.
+fn note(
+    words: &Words,
+    seat: &mut TableSeat,
+    cell: usize,
+    generation: u32,
+    number: usize,
+    value: u64,
+)
     requires fits { Fits words.now.table_id seat.old cell }
     requires small { generation < 16777216 }
+    requires there { (0 < number) × (number < 3) }
     requires submitter { (seat.old.me.0.role ≡ Lending (request_at seat.old.me.0.layout.cells cell generation)) × (0 < seat.old.me.0.parts) }
     requires free { Vacant seat.old.me.0.layout.cells seat.old.me.0.seen cell generation }
     ensures seat { IsSameSeat seat.old seat.new × (seat.new.me.1 ≡ seat.old.me.1) }
-    ensures notes { Extends seat.old.me.0 (Noted (request_at seat.old.me.0.layout.cells cell generation) (user_at cell) user_data) seat.old.me.0.role seat.new.me.0 }
-    ensures step { (found : ℕ) × IsStep (user_at cell) found seat.old.me.0 seat.new.me.0 }
+    ensures notes { Extends seat.old.me.0 (Noted (request_at seat.old.me.0.layout.cells cell generation) (note_at cell number) value) seat.old.me.0.role seat.new.me.0 }
+    ensures step { (found : ℕ) × IsStep (note_at cell number) found seat.old.me.0 seat.new.me.0 }
 {
-    words.store::<plays::NoteUserData>(seat, note_word(cell, USER_DATA), user_data);
+    words.store::<plays::Note>(seat, note_word(cell, number), value);
 }
 
 /// Submits the parcel in the slot, whose notes are stored.
@@ -74,7 +86,7 @@ fn submit_filled(words: &Words, seat: &mut TableSeat, cell: usize, generation: u
     requires submitter { (seat.old.me.0.role ≡ Lending (request_at seat.old.me.0.layout.cells cell generation)) × (0 < seat.old.me.0.parts) }
     requires free { Vacant seat.old.me.0.layout.cells seat.old.me.0.seen cell generation }
     requires next { (request_at seat.old.me.0.layout.cells cell generation).k ≡ submits (events_of seat.old.me.0.seen) (ring_of seat.old.me.0.layout.cells cell) }
-    requires filled { (p : Parcel) × (seat.old.me.1 ≡ (slot_at cell, Some (Full p)) ∷ rest seat.old.me.1) × FitsEntry p.sqe p.buffer.items × (noted seat.old.me.0.seen (facts_at cell) ≡ facts_of generation (placed_behind (before_in (events_of seat.old.me.0.seen) (request_at seat.old.me.0.layout.cells cell generation)) p.sqe) p.last) × (noted seat.old.me.0.seen (user_at cell) ≡ p.sqe.user_data) }
+    requires filled { (p : Parcel) × (seat.old.me.1 ≡ (slot_at cell, Some (Full p)) ∷ rest seat.old.me.1) × FitsEntry p.sqe p.buffer.items × (noted seat.old.me.0.seen (facts_at cell) ≡ facts_of generation (placed_behind (before_in (events_of seat.old.me.0.seen) (request_at seat.old.me.0.layout.cells cell generation)) p.sqe) p.last) × (noted seat.old.me.0.seen (user_at cell) ≡ p.sqe.user_data) × IsCountNoted seat.old.me.0.seen cell p.sqe }
     ensures seat { IsSameSeat seat.old seat.new × (seat.new.me.1 ≡ rest seat.old.me.1) }
     ensures submits { (p : Parcel) → seat.old.me.1 ≡ (slot_at cell, Some (Full p)) ∷ rest seat.old.me.1 → Extends seat.old.me.0 (Did (Submit (request_at seat.old.me.0.layout.cells cell generation) p.sqe p.buffer.items p.last)) (Submitter (ring_of seat.old.me.0.layout.cells cell)) seat.new.me.0 }
     ensures step { IsStep (claim_at cell) (word_of Empty 0 generation 0) seat.old.me.0 seat.new.me.0 }
@@ -84,7 +96,47 @@ fn submit_filled(words: &Words, seat: &mut TableSeat, cell: usize, generation: u
     words.compare_exchange::<plays::Submit>(seat, claim_word(cell), empty, held);
 }
 
-/// Submits to a cell that is free: two notes, and the exchange of its claim word. `hosted` says whether a LINK_TIMEOUT may
+/// Notes the count of a TIMEOUT, and submits the parcel in the slot, whose other notes are stored.
+fn submit_counted(words: &Words, seat: &mut TableSeat, cell: usize, generation: u32, count: u32)
+    requires fits { Fits words.now.table_id seat.old cell }
+    requires small { generation < 16777216 }
+    requires submitter { (seat.old.me.0.role ≡ Lending (request_at seat.old.me.0.layout.cells cell generation)) × (0 < seat.old.me.0.parts) }
+    requires free { Vacant seat.old.me.0.layout.cells seat.old.me.0.seen cell generation }
+    requires next { (request_at seat.old.me.0.layout.cells cell generation).k ≡ submits (events_of seat.old.me.0.seen) (ring_of seat.old.me.0.layout.cells cell) }
+    requires filled { (p : Parcel) × (seat.old.me.1 ≡ (slot_at cell, Some (Full p)) ∷ rest seat.old.me.1) × FitsEntry p.sqe p.buffer.items × (noted seat.old.me.0.seen (facts_at cell) ≡ facts_of generation (placed_behind (before_in (events_of seat.old.me.0.seen) (request_at seat.old.me.0.layout.cells cell generation)) p.sqe) p.last) × (noted seat.old.me.0.seen (user_at cell) ≡ p.sqe.user_data) × (count_in p.sqe.op ≡ Some count) }
+    ensures seat { IsSameSeat seat.old seat.new × (seat.new.me.1 ≡ rest seat.old.me.1) }
+    ensures submits { (p : Parcel) → seat.old.me.1 ≡ (slot_at cell, Some (Full p)) ∷ rest seat.old.me.1 → ExtendsAfter seat.old.me.0 (request_at seat.old.me.0.layout.cells cell generation) (count_notes cell (Some count)) (Did (Submit (request_at seat.old.me.0.layout.cells cell generation) p.sqe p.buffer.items p.last)) (Submitter (ring_of seat.old.me.0.layout.cells cell)) seat.new.me.0 }
+    ensures steps { AreSteps (words_in (count_notes cell (Some count))) (claim_at cell) seat.old.me.0 seat.new.me.0 }
+{
+    note(words, seat, cell, generation, COUNT, u64::from(count));
+    submit_filled(words, seat, cell, generation);
+}
+
+/// Notes the count, if there is one, and submits the parcel in the slot, whose other notes are stored.
+fn submit_noted(
+    words: &Words,
+    seat: &mut TableSeat,
+    cell: usize,
+    generation: u32,
+    count: Option<u32>,
+)
+    requires fits { Fits words.now.table_id seat.old cell }
+    requires small { generation < 16777216 }
+    requires submitter { (seat.old.me.0.role ≡ Lending (request_at seat.old.me.0.layout.cells cell generation)) × (0 < seat.old.me.0.parts) }
+    requires free { Vacant seat.old.me.0.layout.cells seat.old.me.0.seen cell generation }
+    requires next { (request_at seat.old.me.0.layout.cells cell generation).k ≡ submits (events_of seat.old.me.0.seen) (ring_of seat.old.me.0.layout.cells cell) }
+    requires filled { (p : Parcel) × (seat.old.me.1 ≡ (slot_at cell, Some (Full p)) ∷ rest seat.old.me.1) × FitsEntry p.sqe p.buffer.items × (noted seat.old.me.0.seen (facts_at cell) ≡ facts_of generation (placed_behind (before_in (events_of seat.old.me.0.seen) (request_at seat.old.me.0.layout.cells cell generation)) p.sqe) p.last) × (noted seat.old.me.0.seen (user_at cell) ≡ p.sqe.user_data) × (count_in p.sqe.op ≡ count) }
+    ensures seat { IsSameSeat seat.old seat.new × (seat.new.me.1 ≡ rest seat.old.me.1) }
+    ensures submits { (p : Parcel) → seat.old.me.1 ≡ (slot_at cell, Some (Full p)) ∷ rest seat.old.me.1 → ExtendsAfter seat.old.me.0 (request_at seat.old.me.0.layout.cells cell generation) (count_notes cell count) (Did (Submit (request_at seat.old.me.0.layout.cells cell generation) p.sqe p.buffer.items p.last)) (Submitter (ring_of seat.old.me.0.layout.cells cell)) seat.new.me.0 }
+    ensures steps { AreSteps (words_in (count_notes cell count)) (claim_at cell) seat.old.me.0 seat.new.me.0 }
+{
+    match count {
+        Some(count) => submit_counted(words, seat, cell, generation, count),
+        None => submit_filled(words, seat, cell, generation),
+    }
+}
+
+/// Submits to a cell that is free: two notes, for a TIMEOUT a third, and the exchange of its claim word. `hosted` says whether a LINK_TIMEOUT may
 /// stand directly after the entry before it; one that may not is placed as Invalid. Gives the facts that were noted.
 pub fn submit(
     words: &Words,
@@ -104,13 +156,14 @@ pub fn submit(
     requires buffer { FitsEntry parcel.sqe parcel.buffer.items }
     ensures facts { result ≡ facts_of generation (placed_behind (before_in (events_of seat.old.me.0.seen) (request_at seat.old.me.0.layout.cells cell generation)) parcel.sqe) parcel.last }
     ensures seat { IsSameSeat seat.old seat.new × (seat.new.me.1 ≡ seat.old.me.1) }
-    ensures submits { ExtendsThrice seat.old.me.0 (Lent (request_at seat.old.me.0.layout.cells cell generation) (facts_at cell) result) (Lending (request_at seat.old.me.0.layout.cells cell generation)) (Noted (request_at seat.old.me.0.layout.cells cell generation) (user_at cell) parcel.sqe.user_data) (Lending (request_at seat.old.me.0.layout.cells cell generation)) (Did (Submit (request_at seat.old.me.0.layout.cells cell generation) parcel.sqe parcel.buffer.items parcel.last)) (Submitter (ring_of seat.old.me.0.layout.cells cell)) seat.new.me.0 }
-    ensures steps { IsThreeSteps (facts_at cell) (user_at cell) (claim_at cell) seat.old.me.0 seat.new.me.0 }
+    ensures submits { ExtendsNoted seat.old.me.0 (request_at seat.old.me.0.layout.cells cell generation) (facts_at cell, result) (notes_of cell parcel.sqe) (Did (Submit (request_at seat.old.me.0.layout.cells cell generation) parcel.sqe parcel.buffer.items parcel.last)) (Submitter (ring_of seat.old.me.0.layout.cells cell)) seat.new.me.0 }
+    ensures steps { AreSteps (facts_at cell ∷ words_in (notes_of cell parcel.sqe)) (claim_at cell) seat.old.me.0 seat.new.me.0 }
 {
     let user_data = parcel.sqe.user_data();
+    let count = count_in(parcel.sqe.op());
     let facts = fill(words, seat, cell, generation, parcel, hosted);
-    note_user_data(words, seat, cell, generation, user_data);
-    submit_filled(words, seat, cell, generation);
+    note(words, seat, cell, generation, USER_DATA, user_data);
+    submit_noted(words, seat, cell, generation, count);
     facts
 }
 

@@ -2,11 +2,11 @@
 ghost use Rattle.std.specs.Prelude.{◌≡◌, ◌≢◌, ◌⊎◌, ℕ, ◌+◌, ◌<◌, ◌≤◌, true, false, negsuc, Some};
 ghost use Rattle.claim.specs.declared.tag.Tag.TheVariants.{Held, Running, Armed};
 ghost use Rattle.entry.specs.Entry.{Entry, fails as fails_with};
-ghost use Rattle.history.specs.declared.event.Event.TheVariants.{Tick, Arm, Expire, Fire, FireMiss, Settle};
+ghost use Rattle.history.specs.declared.event.Event.TheVariants.{Tick, Arm, Expire, Count, Fire, FireMiss, Settle};
 ghost use Rattle.history.specs.declared.req.Req.{Req};
 ghost use Rattle.history.specs.Chains.{IsPlaced, IsLinkTimeout, IsTarget, Open, is_timeout};
-ghost use Rattle.history.specs.History.{IsReplied, armed, clock_of, fired, phase, submits};
-ghost use Rattle.history.specs.Legal.{ticks_of};
+ghost use Rattle.history.specs.History.{IsReplied, armed, clock_of, fired, later_replies, phase, submits};
+ghost use Rattle.history.specs.Legal.{count_of, ticks_of};
 ghost use Rattle.steps.specs.declared.line.Line.TheVariants.{Did};
 ghost use Rattle.steps.specs.declared.view.Role.TheVariants.{Poller};
 ghost use Rattle.steps.specs.Journal.{events_of};
@@ -74,6 +74,31 @@ pub fn expire(
     let armed = claims::armed(generation, deadline);
     let expired = claims::expired(generation, fails);
     words.compare_exchange::<plays::Expire>(seat, claim_word(cell), armed, expired) == armed
+}
+
+/// Answers a TIMEOUT that was armed with this deadline with 0, which is no failure: as many later requests of its ring have been
+/// answered as it counts. Else it reports what was found.
+pub fn count(
+    words: &Words,
+    seat: &mut TableSeat,
+    cell: usize,
+    generation: u32,
+    deadline: u32,
+) -> bool
+    requires fits { Fits words.now.table_id seat.old cell }
+    requires poller { ((n : ℕ) × (seat.old.me.0.role ≡ Poller n)) × (0 < seat.old.me.0.parts) }
+    requires small { generation < 16777216 }
+    requires submitted { (request_at seat.old.me.0.layout.cells cell generation).k < submits (events_of seat.old.me.0.seen) (ring_of seat.old.me.0.layout.cells cell) }
+    requires counted { (e : Entry) × IsPlaced (events_of seat.old.me.0.seen) (request_at seat.old.me.0.layout.cells cell generation) e × (0 < count_of e.op) × (count_of e.op ≤ later_replies (events_of seat.old.me.0.seen) (request_at seat.old.me.0.layout.cells cell generation)) }
+    ensures seat { IsSameSeat seat.old seat.new × (seat.new.me.1 ≡ seat.old.me.1) }
+    ensures counts { result ≡ true → Extends seat.old.me.0 (Did (Count (request_at seat.old.me.0.layout.cells cell generation))) seat.old.me.0.role seat.new.me.0 }
+    ensures step { result ≡ true → IsStep (claim_at cell) (word_of Armed 0 generation deadline) seat.old.me.0 seat.new.me.0 }
+    ensures looks { result ≢ true → Looks seat.old.me.0 seat.new.me.0 }
+    ensures missed { result ≢ true → (n : ℕ) × IsStep (claim_at cell) n seat.old.me.0 seat.new.me.0 × Shown seat.old.me.0.layout.cells seat.new.me.0.seen cell n × (n ≢ word_of Armed 0 generation deadline) }
+{
+    let armed = claims::armed(generation, deadline);
+    let counted = claims::counted(generation);
+    words.compare_exchange::<plays::Count>(seat, claim_word(cell), armed, counted) == armed
 }
 
 /// Answers a LINK_TIMEOUT that was armed with this deadline: with -62 (ETIME) where it ran out before its target replied, which

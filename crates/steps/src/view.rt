@@ -21,8 +21,10 @@ pub enum Role {
     Idle,
     /// The worker that runs the request.
     Busy(Req),
-    /// The worker that has answered the request, and still has its pipe.
+    /// The worker that has answered the request, and still has its pipe, or both of them.
     Leaving(Req),
+    /// The worker that has answered the request, and of its pipes still has this one alone.
+    Parting { req: Req, pipe: u64 },
     /// A seat that another one took in.
     Spent,
 }

@@ -12,9 +12,11 @@ pub fn built(words: &mut Words<'_>) -> Sqe {
         "close" => prep::close(words.number()),
         "poll_add" => prep::poll_add(words.number(), words.number()),
         "timeout" => prep::timeout(words.number(), words.number()),
+        "timeout_count" => prep::timeout_count(words.number(), words.number(), words.number()),
         "link_timeout" => prep::link_timeout(words.number()),
         "cancel" => prep::cancel(words.number()),
         "timeout_remove" => prep::timeout_remove(words.number()),
+        "splice" => prep::splice(words.number(), words.number(), words.number()),
         _ => words.bad(prep::nop()),
     }
 }

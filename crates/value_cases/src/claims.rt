@@ -46,6 +46,7 @@ fn cause_of(words: &mut Words<'_>) -> Cause {
         "fire" => Cause::Fire,
         "settle" => Cause::Settle,
         "sever" => Cause::Sever,
+        "count" => Cause::Count,
         _ => words.bad(Cause::Reply),
     }
 }

@@ -34,6 +34,7 @@ fn row_of(words: &mut Words<'_>) -> Row {
         addr: words.number(),
         len: words.number(),
         word: words.number(),
+        splice_fd_in: words.number(),
     }
 }
 

@@ -1,16 +1,17 @@
 //! What calls of the lower crates answer, case by case: reads cases from standard input, a line a case, and prints each
 //! with what was answered. DIGITS are hexadecimal, two a byte, and none at all for no bytes.
 //!
-//! - `sqe DIGITS`, `row OPCODE FD OFF ADDR LEN WORD FLAGS USER_DATA`, `build BUILDER ARGUMENT..`, and of the last entry
-//!   `with_flags FLAGS`, `with_user_data USER_DATA`: an entry; `fails RES`: whether this reply to the last one fails;
+//! - `sqe DIGITS`, `row OPCODE FD OFF ADDR LEN WORD SPLICE_FD_IN FLAGS USER_DATA`, `build BUILDER ARGUMENT..`, and of the
+//!   last entry `with_flags FLAGS`, `with_user_data USER_DATA`: an entry; `fails RES`: whether this reply to the last one fails;
 //! - `near DIGITS`: how many of the entries that differ in one bit are valid, Invalid, and neither;
-//! - `candidate OPCODE FD OFF ADDR LEN WORD`, `ticks TICKS`: an operation, the second a LINK_TIMEOUT; `is_written` with a
-//!   row and FLAGS: whether they are those of an entry; `constants`: flags and offsets;
+//! - `candidate OPCODE FD OFF ADDR LEN WORD SPLICE_FD_IN`, `ticks TICKS`: an operation, the second a LINK_TIMEOUT;
+//!   `is_written` with a row and FLAGS: whether they are those of an entry; `constants`: flags and offsets;
 //! - `cqe DIGITS`, `completion USER_DATA RES`: a completion;
 //! - `claim DIGITS`, `word TAG GENERATION ..`, where a Done word with a failure has the TAG `failed`: a claim word;
 //!   `tag NUMBER`, `cause NAME`: its parts;
 //! - `pipe CAPACITY`: a new pipe; of the last one `write DIGITS`, `read DIGITS` (into a buffer with these bytes),
-//!   `close END`, `poll END MASK`: what this call answers; `memory`: the error for want of memory.
+//!   `close END`, `poll END MASK`, `shut END`, and `splice LEN` to the one that was the last before it: what this call answers;
+//!   `swap`: these two pipes change places; `memory`: the error for want of memory.
 //!
 //! A line that begins with `#` tells what the cases below it show.
 #![tactic(auto)]
@@ -26,18 +27,17 @@ mod words;
 use cases::Words;
 use entries::{entry_of, told_of_part};
 use entry::{Sqe, fails};
-use pipe::Pipe;
-use pipes::told_of_pipe;
+use pipes::{Pipes, told_of_pipe};
 use std::alloc::{AllocError, AllocGlobal, Global};
 use std::io;
 use std::io::{Print, Read};
 use told::Told;
 
-/// What later lines speak of: the last entry and the last pipe.
+/// What later lines speak of: the last entry and the last two pipes.
 #[derive(Drop)]
 struct Kept {
     entry: Sqe,
-    pipe: Option<Pipe>,
+    pipes: Pipes,
 }
 
 /// What is told of a line.
@@ -59,8 +59,8 @@ fn told_of_words(
 ) -> Result<Told, AllocError> {
     let kind = words.word();
     match kind {
-        "pipe" | "write" | "read" | "close" | "poll" | "memory" => {
-            told_of_pipe(alloc, &mut kept.pipe, kind, words)
+        "pipe" | "write" | "read" | "splice" | "swap" | "close" | "shut" | "poll" | "memory" => {
+            told_of_pipe(alloc, &mut kept.pipes, kind, words)
         }
         "fails" => Ok(Told::Truth(fails(&kept.entry, words.number()))),
         _ => Ok(told_of_value(&mut kept.entry, kind, words)),
@@ -93,7 +93,7 @@ fn main(rt: HostRuntime) -> io::Result<()> {
     rt.reader().read_to_string(&mut lines)?;
     let mut kept = Kept {
         entry: prep::nop(),
-        pipe: None,
+        pipes: Pipes::none(),
     };
     for line in lines.as_str().split('\n') {
         if !line.is_empty() {

@@ -27,6 +27,8 @@ pub enum Told {
     Tag(Option<Tag>),
     /// A new pipe was made.
     Made,
+    /// The other pipe is the last one.
+    Swapped,
     Refused(PipeError),
     Moved(Ready<usize>),
     /// A read's answer, and its buffer.
@@ -40,6 +42,7 @@ impl Display for Told {
         match self {
             Told::BadLine => f.write_str("bad line"),
             Told::Made => f.write_str("made"),
+            Told::Swapped => f.write_str("swapped"),
             Told::Completion(None) | Told::Claim(None) => f.write_str("none"),
             Told::Entry(sqe) => show_entry(f, *sqe),
             Told::Truth(truth) => Display::fmt(truth, f),

@@ -1,8 +1,7 @@
 -- What a worker knows once its cancel's search is over, and what it replies.
 use Rattle.std.proofs.Common.{◌≡◌, ◌≢◌, ⊎_elim, inl, inr, ℕ, ◌+◌, ◌*◌, ◌-◌, ◌<◌, ◌≤◌, ◌==◌, Bool, true, false, cond, ℤ, List, [], ◌∷◌, Option, Some, sym, refl, ap, ◌∙◌, subst, arith}
 use Rattle.atomic_table.specs.Seated.{TableId}
-use Rattle.answers.specs.Answered.{IsPast}
-use Rattle.answers.specs.NamedEnds.{pipe_in}
+use Rattle.answers.specs.NamedEnds.{UsesNone}
 use Rattle.entry.specs.declared.op.Op.{Op}
 use Rattle.entry.specs.declared.op.Op.TheVariants.{AsyncCancel, TimeoutRemove}
 use Rattle.history.specs.declared.req.Req.{Req}
@@ -20,7 +19,7 @@ use Rattle.steps.specs.declared.view.Step.{Step}
 use Rattle.steps.specs.declared.view.View.{View}
 use Rattle.steps.specs.Cells.{IsCell, cells_in, claim_at, request_at}
 use Rattle.steps.specs.Journal.{events_of, holder}
-use Rattle.steps.specs.Rule.{Extends, IsStep, Looks, stands_for, workers}
+use Rattle.steps.specs.Rule.{Extends, IsStep, Looks, stands_for, holders}
 use Rattle.steps.proofs.CellNumbers.{located}
 use Rattle.steps.proofs.Frames.{still_lacks}
 use Rattle.steps.proofs.JournalGrowth.{submitted_in}
@@ -44,9 +43,9 @@ cancel_answers caps h r (AsyncCancel t) u res is a = (a, refl)
 cancel_answers caps h r (TimeoutRemove t) u res is a = (a, refl)
 cancel_answers caps h r op u res is a = absurd (let z = is in cc)
 
-pub cancel_past : (op : Op) (u : Wanted) (n : ℕ) → wanted_in op ≡ Some u → IsPast (pipe_in op) n
-cancel_past (AsyncCancel t) u n is = tt
-cancel_past (TimeoutRemove t) u n is = tt
+pub cancel_past : (op : Op) (u : Wanted) (n : ℕ) → wanted_in op ≡ Some u → UsesNone op n
+cancel_past (AsyncCancel t) u n is = λ q lt. refl
+cancel_past (TimeoutRemove t) u n is = λ q lt. refl
 cancel_past op u n is = absurd (let z = is in cc)
 
 -- ---- before the search
@@ -89,7 +88,7 @@ went_runs table v w x g r p pipes k d = ⊎_elim (λ (e : w ≡ v). subst (λ (z
 -- an event of its own, which is no Hold, leaves it without a pipe
 event_bare : (m w : View) (r : Req) (n : ℕ) (e : Event) → m.role ≡ Busy r → Extends m (Did e) (Busy r) w → holder m.seen n ≢ Some r → holder w.seen n ≢ Some r
 event_bare m w r n e busy x bare is =
-    still_lacks m.role r n (subst (λ (z : Role). stands_for z (workers r) ≡ true) (sym busy) (same_itself r)) x.saw.later m.seen x.saw.none bare
+    still_lacks m.role r n (subst (λ (z : Role). stands_for z (holders r n) ≡ true) (sym busy) (same_itself r)) x.saw.later m.seen x.saw.none bare
     (sym (ap (λ (j : List Line). holder j n) (ap (λ (z : View). z.seen) x.is ∙ ap (λ (j : List Line). Did e ∷ j) x.saw.is)) ∙ is)
 
 module _ (v w : View) (r : Req) (busy : v.role ≡ Busy r) where

@@ -134,7 +134,7 @@ module _ (table : TableId) (s : WorkerSeat) (c : Req) (w : Wanted) (x : Target) 
 -- -125 (ECANCELED) is a failure of any entry but a LINK_TIMEOUT
 pub canceled_fails : (o : Op) → is_link_timeout o ≡ false → fails_op o (negsuc 124) ≡ true
 canceled_fails (LinkTimeout n) is = absurd (true≢false is)
-canceled_fails (Timeout n e) is = ap not (and-false e)
+canceled_fails (Timeout n e count) is = ap not (and-false e)
 canceled_fails o is = refl
 
 pub match_fails : (h : List Event) (c q : Req) (m : Matches h c q) → true ≡ fails m.2 (negsuc 124)

@@ -1,13 +1,15 @@
 -- What the single steps of a run come to: which events the pass went on by, how many steps it took, and whose pass it stays.
-use Rattle.std.proofs.Common.{◌≡◌, ℕ, suc, ◌+◌, ◌*◌, ◌<◌, ◌≤◌, ◌&&◌, not, cond, Bool, true, false, ℤ, List, [], ◌∷◌, ◌++◌, length, slice_index, Option, Some, None, sym, refl, ap, ◌∙◌, subst, ⊎_elim, arith, true≢false, eqb-true, length-append}
-use Rattle.std.proofs.lemmas.Bool.Decides.{nat_tests}
+use Rattle.std.proofs.Common.{◌≡◌, ℕ, suc, ◌+◌, ◌*◌, ◌<◌, ◌≤◌, ◌&&◌, not, cond, Bool, true, false, ℤ, List, [], ◌∷◌, ◌++◌, length, slice_index, Option, Some, None, sym, refl, ap, ◌∙◌, subst, ⊎_elim, true≢false, ltb-true, eq-eqb, length-append}
+use Rattle.std.proofs.lemmas.Bool.{cases_eq}
 use Rattle.std.proofs.lemmas.List.{append_assoc}
 use Rattle.atomic_table.specs.Table.{rest, turned}
 use Rattle.atomic_table.specs.Seated.{TableId}
-use Rattle.answers.specs.Answered.{IsPipe, is_plain, IsPast}
-use Rattle.answers.specs.NamedEnds.{pipe_with, pipe_in}
+use Rattle.answers.specs.declared.named.NamedPipes.{NamedPipes}
+use Rattle.answers.specs.Answered.{IsPipe, is_plain}
+use Rattle.answers.specs.NamedEnds.{UsesNone, UsesOne, UsesBoth, JoinsPipes, AreNamed}
+use Rattle.answers.proofs.Naming.{only_joined, uses_joined}
 use Rattle.entry.specs.declared.op.Op.{Op}
-use Rattle.entry.specs.declared.op.Op.TheVariants.{Nop, Close, Read, Write, PollAdd, Timeout, LinkTimeout, AsyncCancel, TimeoutRemove, Invalid}
+use Rattle.entry.specs.declared.op.Op.TheVariants.{Nop, Close, Read, Write, Splice, PollAdd, Timeout, LinkTimeout, AsyncCancel, TimeoutRemove, Invalid}
 use Rattle.entry.specs.Entry.{Entry}
 use Rattle.history.specs.declared.req.Req.{Req}
 use Rattle.history.specs.declared.event.Event.{Event}
@@ -16,11 +18,12 @@ use Rattle.history.specs.Answers.{OpAnswers, is_pipe}
 use Rattle.history.specs.Chains.{IsPlaced, is_link_timeout, is_timer, hosts, before_in, placed_behind, placed_from}
 use Rattle.history.specs.History.{submission, Submission, hit, nothing, was_shut}
 use Rattle.history.specs.Legal.{Legal, Setup, FitsOp, IsOf as IsOfKind}
+use Rattle.history.specs.Users.{uses_at}
 use Rattle.history.proofs.Requests.{bool_cases}
-use Rattle.history.specs.Pipes.{flow, flows, flows_as, End, read_end, write_end, no_end, end_of}
+use Rattle.history.specs.Pipes.{Flow, contents, flow, offered, flows, flows_as}
 use Rattle.pipe.specs.Pipe.{Conduit}
 use Rattle.steps.specs.declared.line.Line.{Line}
-use Rattle.steps.specs.declared.line.Line.TheVariants.{Did}
+use Rattle.steps.specs.declared.line.Line.TheVariants.{Did, Hold}
 use Rattle.steps.specs.declared.parcel.Parcel.{Parcel}
 use Rattle.steps.specs.declared.parcel.Thing.{Thing}
 use Rattle.steps.specs.declared.parcel.Thing.TheVariants.{Full, Piped}
@@ -30,10 +33,10 @@ use Rattle.steps.specs.declared.view.Role.TheVariants.{Idle, Busy, Leaving}
 use Rattle.steps.specs.declared.view.Step.{Step}
 use Rattle.steps.specs.declared.view.View.{View}
 use Rattle.steps.specs.Fairness.{Orderly}
-use Rattle.steps.specs.Journal.{event_of, events_of, holder, is_end_of, uses}
-use Rattle.steps.specs.Cells.{setup_of, IsCell, cells_in, request_at, claim_at, slot_at, over, IsParcel, PipeIs}
-use Rattle.steps.specs.Plays.{Seated, MayReply}
-use Rattle.steps.specs.Rule.{NoneOf, owns, Begins, Looks, Extends, IsStep, leaves}
+use Rattle.steps.specs.Journal.{event_of, events_of, holder}
+use Rattle.steps.specs.Cells.{setup_of, IsCell, cells_in, request_at, claim_at, pipe_at, slot_at, over, IsParcel, PipeIs}
+use Rattle.steps.specs.Plays.{Seated, HasBoth, MayReply, IsSamePipe}
+use Rattle.steps.specs.Rule.{NoneOf, owns, Begins, Looks, Extends, IsStep, leaves, leaves_one}
 use Rattle.steps.proofs.JournalGrowth.{lasts, placed_lasts, submission_lasts, submitted_in}
 use Rattle.steps.proofs.CancelOnce.{IsEarly, unhit as not_hit}
 use Rattle.steps.proofs.OwnFacts.{same_hit}
@@ -44,7 +47,7 @@ use Rattle.work.specs.Passes.{Pass, Running, Took, RunsIt, IsGridOf, own_of}
 use Rattle.work.specs.Searches.{FewSteps, wanted_in}
 use Rattle.work.specs.declared.cancel.Wanted.{Wanted}
 use Rattle.work.specs.declared.run.Ran.{Ran}
-use Rattle.work.specs.WorkerRuns.{EndsBy, HasStepped, StepsBy, names, op_run, run_as, run_steps}
+use Rattle.work.specs.WorkerRuns.{EndsBy, FoundOut, HasStepped, MissedPipe, StepsAt, StepsBy, op_run, run_as}
 use Rattle.work.proofs.OwnEvents.{own_append, silent_line}
 use Rattle.work.proofs.PassesKept.{extended_of}
 
@@ -61,16 +64,17 @@ entry_run v r d p o k =
     let same' : o.0 ≡ placed_behind b p.sqe = (let z = sym o.1 ∙ is in cc) in
     is ∙ ap Some (run_op b p.sqe.op p.sqe (ap (λ (e : Entry). is_timer e.op) (sym same') ∙ o.2))
 
--- what names a pipe is run as it was handed in
-pub run_named : (op : Op) → pipe_in (op_run op) ≡ pipe_in op
-run_named (LinkTimeout ticks) = refl
-run_named op = refl
+-- what is answered from a pipe is run as it was handed in
+pub run_named : (op : Op) (n : ℕ) → uses_at (op_run op) n ≡ uses_at op n
+run_named (LinkTimeout ticks) n = refl
+run_named op n = refl
 
-pub run_piped : (e : Entry) (n : ℕ) → pipe_in e.op ≡ Some n → run_as e ≡ e
-run_piped e n is = by_op e.op is where
-  by_op : (op : Op) → pipe_in op ≡ Some n → (let z : Entry = record e { op = op_run op } in z) ≡ record e { op = op }
-  by_op (LinkTimeout ticks) u = absurd (let z = u in cc)
-  by_op op u = refl
+pub run_used : (op : Op) (n : ℕ) → uses_at op n ≡ true → op_run op ≡ op
+run_used (LinkTimeout ticks) n u = absurd (true≢false (sym u))
+run_used op n u = refl
+
+pub run_piped : (e : Entry) (n : ℕ) → uses_at e.op n ≡ true → run_as e ≡ e
+run_piped e n u = ap (λ (op : Op). (let z : Entry = record e { op = op } in z)) (run_used e.op n u)
 
 -- the worker of r went on by these events of its own, and has it still
 pub record Went (v m : View) (r : Req) (events : List Event) : Type 0 where
@@ -127,6 +131,20 @@ took_more u v w n word found t is = let last : Step = record { word = word; foun
 pub took_both : (u v w : View) (n m : ℕ) → Took u v n → Took v w m → Took u w (m + n)
 took_both u v w n m x y = (y.0 ++ x.0, length-append y.0 x.0 ∙ (λ i. y.1 i + x.1 i), y.2 ∙ (ap (λ (s : List Step). y.0 ++ s) x.2 ∙ sym (append_assoc y.0 x.0 u.steps)))
 
+-- a step that found a pipe out is one of the run's
+pub missed_out : (u v m w : View) (p : ℕ) (r : Req) (before after : ℕ) → Took u v before → MissedPipe v m p r → Took m w after → FoundOut u w r p
+missed_out u v m w p r before after first k t = let last : Step = record { word = pipe_at p; found = k.0; seen = m.seen } in record {
+  before = first.0;
+  step = last;
+  after = t.0;
+  steps = t.2 ∙ ap (λ (s : List Step). t.0 ++ s) (k.1 ∙ ap (λ (s : List Step). last ∷ s) first.2);
+  word_is = refl;
+  out = k.2;
+  other = k.3;
+  holds = k.4;
+  is_other = k.5;
+}
+
 -- a worker's pass stays one of the board's, whatever its role
 module _ (b : Facts) (p q : Pass) (r : Req) (o : IsOf b p) (same : q.table ≡ p.table) (busy : p.view.role ≡ Busy r) where
   pub worker_on : (l : Line) → Extends p.view l (Busy r) q.view → IsOf b q
@@ -135,17 +153,24 @@ module _ (b : Facts) (p q : Pass) (r : Req) (o : IsOf b p) (same : q.table ≡ p
   pub worker_idle : (l : Line) → Extends p.view l Idle q.view → IsOf b q
   worker_idle l x = extended_of b p q l Idle o (ap (share_of b) (sym busy)) same x
 
-pub worker_left : (b : Facts) (p q : Pass) (r : Req) (mid : View) (l : Line) (word found : ℕ) → IsOf b p → q.table ≡ p.table → p.view.role ≡ Busy r → Extends p.view l (Leaving r) mid → q.view ≡ leaves word found mid → IsOf b q
-worker_left b p q r mid l word found o same busy x is =
+-- also once it has replied and has given its pipes back
+worker_gone : (b : Facts) (p q : Pass) (r : Req) (mid : View) (l : Line) → IsOf b p → q.table ≡ p.table → p.view.role ≡ Busy r → Extends p.view l (Leaving r) mid → q.view.role ≡ Idle → q.view.layout ≡ mid.layout → q.view.parts ≡ mid.parts → q.view.seen ≡ mid.seen → q.view.heard ≡ mid.heard → IsOf b q
+worker_gone b p q r mid l o same busy x idle layout parts seen heard =
     let m : Pass = record { table = p.table; view = mid } in let k = extended_of b p m l (Leaving r) o (ap (share_of b) (sym busy)) refl x in record {
       table_is = same ∙ o.table_is;
-      layout_is = ap (λ (z : View). z.layout) is ∙ k.layout_is;
-      share_is = ap (λ (z : View). z.parts) is ∙ (k.share_is ∙ (ap (share_of b) (ap (λ (z : View). z.role) x.is) ∙ ap (share_of b) (sym (ap (λ (z : View). z.role) is))));
-      legal = subst (λ (j : List Line). Legal (setup_of b.layout) (events_of j)) (sym (ap (λ (z : View). z.seen) is)) k.legal;
-      live = ap (λ (j : List Line). was_shut (events_of j)) (ap (λ (z : View). z.seen) is) ∙ k.live;
-      orderly = subst (Orderly b.layout) (sym (ap (λ (z : View). z.seen) is)) k.orderly;
-      looked = ap (λ (z : View). z.heard) is ∙ k.looked;
+      layout_is = layout ∙ k.layout_is;
+      share_is = parts ∙ (k.share_is ∙ (ap (share_of b) (ap (λ (z : View). z.role) x.is) ∙ ap (share_of b) (sym idle)));
+      legal = subst (λ (j : List Line). Legal (setup_of b.layout) (events_of j)) (sym seen) k.legal;
+      live = ap (λ (j : List Line). was_shut (events_of j)) seen ∙ k.live;
+      orderly = subst (Orderly b.layout) (sym seen) k.orderly;
+      looked = heard ∙ k.looked;
     }
+
+pub worker_left : (b : Facts) (p q : Pass) (r : Req) (mid : View) (l : Line) (word found : ℕ) → IsOf b p → q.table ≡ p.table → p.view.role ≡ Busy r → Extends p.view l (Leaving r) mid → q.view ≡ leaves word found mid → IsOf b q
+worker_left b p q r mid l word found o same busy x is = worker_gone b p q r mid l o same busy x (ap (λ (z : View). z.role) is) (ap (λ (z : View). z.layout) is) (ap (λ (z : View). z.parts) is) (ap (λ (z : View). z.seen) is) (ap (λ (z : View). z.heard) is)
+
+pub worker_left_both : (b : Facts) (p q : Pass) (r : Req) (mid : View) (l : Line) (kept first found second last : ℕ) → IsOf b p → q.table ≡ p.table → p.view.role ≡ Busy r → Extends p.view l (Leaving r) mid → q.view ≡ leaves second last (leaves_one r kept first found mid) → IsOf b q
+worker_left_both b p q r mid l kept first found second last o same busy x is = worker_gone b p q r mid l o same busy x (ap (λ (z : View). z.role) is) (ap (λ (z : View). z.layout) is) (ap (λ (z : View). z.parts) is) (ap (λ (z : View). z.seen) is) (ap (λ (z : View). z.heard) is)
 
 -- what was seen before an own line is a beginning of what was seen after it
 pub begins_on : (v w : View) (l : Line) (role : Role) → Extends v l role w → Begins w.seen v.seen
@@ -153,13 +178,6 @@ begins_on v w l role x = (l ∷ x.saw.later, ap (λ (z : View). z.seen) x.is ∙
 
 pub begins_both : (a b c : List Line) → Begins b a → Begins c b → Begins c a
 begins_both a b c x y = (y.0 ++ x.0, y.1 ∙ (ap (λ (j : List Line). y.0 ++ j) x.1 ∙ sym (append_assoc y.0 x.0 a)))
-
-pub names_past : (caps : List ℕ) (o : Option ℕ) → IsPast o (length caps) → names caps o ≡ false
-names_past caps None past = refl
-names_past caps (Some n) past = (let le : length caps ≤ n = past in grind (arith, nat_tests))
-
-pub names_one : (caps : List ℕ) (o : Option ℕ) (n : ℕ) → o ≡ Some n → n < length caps → names caps o ≡ true
-names_one caps o n is lt = ap (names caps) is ∙ grind (arith, nat_tests)
 
 -- ---- who runs a request goes on to run it
 
@@ -203,12 +221,23 @@ module _ (table : TableId) (v w : View) (x g : ℕ) (r : Req) (p : Parcel) (pipe
   pub runs_entry : (e : Entry) → IsPlaced (events_of v.seen) r e → run_as p.sqe ≡ e
   runs_entry e is = let z = sym runs_placed ∙ is in cc
 
-  -- of an entry that names a pipe
-  pub piped_entry : (n : ℕ) → pipe_in p.sqe.op ≡ Some n → (e : Entry) → IsPlaced (events_of v.seen) r e → p.sqe ≡ e
+  -- of an entry that is answered from a pipe
+  pub piped_entry : (n : ℕ) → uses_at p.sqe.op n ≡ true → (e : Entry) → IsPlaced (events_of v.seen) r e → p.sqe ≡ e
   piped_entry n named e is = sym (run_piped p.sqe n named) ∙ runs_entry e is
 
-  pub named_by : (n m : ℕ) → ((e : Entry) → IsPlaced (events_of v.seen) r e → (pipe_in e.op ≡ Some n) × (n < m)) → (pipe_in p.sqe.op ≡ Some n) × (n < m)
-  named_by n m f = let z = f (run_as p.sqe) runs_placed in (sym (run_named p.sqe.op) ∙ z.0, z.1)
+  -- what is said of the entry as it is placed, of which it follows that it is answered from a pipe, is true of what was handed in
+  pub handed_by : (P : Op → Type 0) (n : ℕ) → ((op : Op) → P op → uses_at op n ≡ true) → ((e : Entry) → IsPlaced (events_of v.seen) r e → P e.op) → P p.sqe.op
+  handed_by P n used f = let z = f (run_as p.sqe) runs_placed in subst P (run_used p.sqe.op n (sym (run_named p.sqe.op n) ∙ used (op_run p.sqe.op) z)) z
+
+  pub one_handed : (n : ℕ) → ((e : Entry) → IsPlaced (events_of v.seen) r e → UsesOne e.op (length v.layout.caps) n) → UsesOne p.sqe.op (length v.layout.caps) n
+  one_handed n = handed_by (λ (o : Op). UsesOne o (length v.layout.caps) n) n (λ o u. u.used)
+
+  pub both_handed : (s t : ℕ) → ((e : Entry) → IsPlaced (events_of v.seen) r e → UsesBoth e.op (length v.layout.caps) s t) → UsesBoth p.sqe.op (length v.layout.caps) s t
+  both_handed s t = handed_by (λ (o : Op). UsesBoth o (length v.layout.caps) s t) s (λ o u. (uses_joined o s t u.joins).0)
+
+  -- and the other way round
+  pub placed_by : (P : Op → Type 0) (n : ℕ) → uses_at p.sqe.op n ≡ true → P p.sqe.op → (e : Entry) → IsPlaced (events_of v.seen) r e → P e.op
+  placed_by P n used x e is = subst (λ (d : Entry). P d.op) (piped_entry n used e is) x
 
   pub runs_fits : FitsOp p.sqe.op (length p.buffer.items)
   runs_fits = subst (λ (bytes : List ℕ). FitsOp p.sqe.op (length bytes)) (sym k.parcel.2) (fits_is (setup_of v.layout) (events_of v.seen) r _ k.legal k.parcel.1)
@@ -231,17 +260,24 @@ module _ (table : TableId) (v w : View) (x g : ℕ) (r : Req) (p : Parcel) (pipe
     legal = k.legal;
   }
 
-  -- what a contract may say of the pipe that the entry names
-  pub named_is : (n : ℕ) → pipe_in p.sqe.op ≡ Some n → n < pipes → (e : Entry) → IsPlaced (events_of v.seen) r e → (pipe_in e.op ≡ Some n) × (n < length v.layout.caps)
-  named_is n is lt e placed' = (ap (λ (d : Entry). pipe_in d.op) (sym (piped_entry n is e placed')) ∙ is, subst (λ (m : ℕ). n < m) (sym k.pipes_are.0) lt)
+  pub one_placed : (n : ℕ) → UsesOne p.sqe.op pipes n → (e : Entry) → IsPlaced (events_of v.seen) r e → UsesOne e.op (length v.layout.caps) n
+  one_placed n one = placed_by (λ (o : Op). UsesOne o (length v.layout.caps) n) n one.used (subst (λ (m : ℕ). UsesOne p.sqe.op m n) (sym k.pipes_are.0) one)
 
-  pub past_is : IsPast (pipe_in p.sqe.op) pipes → (e : Entry) → IsPlaced (events_of v.seen) r e → names v.layout.caps (pipe_in e.op) ≡ false
-  past_is past e placed' = names_past v.layout.caps (pipe_in e.op) (subst (λ (z : Option ℕ × ℕ). IsPast z.0 z.1) (λ i. ((sym (run_named p.sqe.op) ∙ ap (λ (d : Entry). pipe_in d.op) (runs_entry e placed')) i, sym k.pipes_are.0 i)) past)
+  pub both_placed : (s t : ℕ) → UsesBoth p.sqe.op pipes s t → (e : Entry) → IsPlaced (events_of v.seen) r e → UsesBoth e.op (length v.layout.caps) s t
+  both_placed s t both = placed_by (λ (o : Op). UsesBoth o (length v.layout.caps) s t) s (uses_joined p.sqe.op s t both.joins).0 (subst (λ (m : ℕ). UsesBoth p.sqe.op m s t) (sym k.pipes_are.0) both)
+
+  -- it is answered from no pipe, as it was handed in and as it is placed
+  pub past_is : UsesNone p.sqe.op pipes → (e : Entry) → IsPlaced (events_of v.seen) r e → UsesNone e.op (length v.layout.caps)
+  past_is past e placed' q lt = ap (λ (d : Entry). uses_at d.op q) (sym (runs_entry e placed')) ∙ (run_named p.sqe.op q ∙ past q (subst (λ (m : ℕ). q < m) k.pipes_are.0 lt))
 
   -- it is still placed so once others went on
   pub placed_on : (l : Line) (role : Role) → Extends v l role w → (e : Entry) → IsPlaced (events_of v.seen) r e → IsPlaced (events_of w.seen) r e
   placed_on l role x e is = let S : Setup = setup_of v.layout in let seen : w.seen ≡ (l ∷ x.saw.later) ++ v.seen = ap (λ (z : View). z.seen) x.is ∙ ap (λ (j : List Line). l ∷ j) x.saw.is in
       subst (λ (j : List Line). IsPlaced (events_of j) r e) (sym seen) (lasts S (λ h. IsPlaced h r e) r (placed_lasts S r e) (l ∷ x.saw.later) v.seen (subst (λ (j : List Line). Legal S (events_of (l ∷ j))) x.saw.is x.legal) (submitted_in S v.seen r _ k.legal k.parcel.1) is)
+
+  -- what is said of it stays true
+  pub named_on : (l : Line) (role : Role) → Extends v l role w → (P : Entry → Type 0) → ((e : Entry) → IsPlaced (events_of v.seen) r e → P e) → (e : Entry) → IsPlaced (events_of w.seen) r e → P e
+  named_on l role x P f e is = let same' : run_as p.sqe ≡ e = (let z = sym (placed_on l role x (run_as p.sqe) runs_placed) ∙ is in cc) in subst P same' (f (run_as p.sqe) runs_placed)
 
 -- who begins a request runs it
 pub runs_begun : (table : TableId) (v w : View) (x g : ℕ) (r : Req) (p : Parcel) (pipes : ℕ) → Extends v (Did (Begin r)) (Busy r) w → request_at v.layout.cells x g ≡ r → (x < 16384) × IsCell v.layout.cells x × (claim_at x + 7 < table.words) × (g < 16777216) → (length v.layout.caps ≡ pipes) × (pipes ≤ 64) → 0 < v.parts → IsParcel w.seen r [] p → RunsIt table w x g r p pipes
@@ -282,8 +318,9 @@ plain_run (Read fd offset len) t w = refl
 plain_run (Write fd offset len) t w = refl
 plain_run (Close fd) t w = refl
 plain_run (PollAdd fd mask) t w = refl
+plain_run (Splice fd_in fd_out len) t w = refl
 plain_run Invalid t w = refl
-plain_run (Timeout ticks etime_success) t w = absurd (true≢false t)
+plain_run (Timeout ticks etime_success count) t w = absurd (true≢false t)
 plain_run (LinkTimeout ticks) t w = absurd (true≢false t)
 plain_run (AsyncCancel u) t w = absurd (let z = w in cc)
 plain_run (TimeoutRemove u) t w = absurd (let z = w in cc)
@@ -293,31 +330,38 @@ pub wanted_run : (op : Op) → wanted_in (op_run op) ≡ wanted_in op
 wanted_run (LinkTimeout ticks) = refl
 wanted_run op = refl
 
-pub piped_plain : (op : Op) (n : ℕ) → pipe_in op ≡ Some n → wanted_in op ≡ None
-piped_plain (AsyncCancel u) n is = absurd (let z = is in cc)
-piped_plain (TimeoutRemove u) n is = absurd (let z = is in cc)
+pub piped_plain : (op : Op) (n : ℕ) → uses_at op n ≡ true → wanted_in op ≡ None
+piped_plain (AsyncCancel u) n is = absurd (true≢false (sym is))
+piped_plain (TimeoutRemove u) n is = absurd (true≢false (sym is))
 piped_plain op n is = refl
 
-pub steps_plain : (b : Running) (w : View) (e : Entry) (ran : Ran) → wanted_in e.op ≡ None → Took b.pass.view w (run_steps (names b.pass.view.layout.caps (pipe_in e.op)) ran) → HasStepped b w e ran
-steps_plain b w e ran is t = subst (λ (u : Option Wanted). StepsBy u b w e ran) (sym is) t
+pub steps_plain : (b : Running) (w : View) (e : Entry) (ran : Ran) → wanted_in e.op ≡ None → (named : NamedPipes) → AreNamed e.op (length b.pass.view.layout.caps) named → StepsAt named b.pass.view w b.req ran → HasStepped b w e ran
+steps_plain b w e ran is named are t = subst (λ (u : Option Wanted). StepsBy u b w e ran) (sym is) (named, are, t)
 
 pub steps_cancel : (b : Running) (w : View) (e : Entry) (ran : Ran) (u : Wanted) → wanted_in e.op ≡ Some u → FewSteps b.pass.view w 4 (5 * cells_in b.pass.view.layout.cells b.req.ring) → HasStepped b w e ran
 steps_cancel b w e ran u is f = subst (λ (z : Option Wanted). StepsBy z b w e ran) (sym is) f
 
-end_in_use : (z : End) (n : ℕ) → is_end_of z n ≡ true → pipe_with z ≡ Some n
-end_in_use (read_end m) n u = ap Some (eqb-true m n u)
-end_in_use (write_end m) n u = ap Some (eqb-true m n u)
-end_in_use no_end n u = absurd (true≢false (sym u))
+is_below : (caps : List ℕ) (n : ℕ) → is_pipe caps n ≡ true → n < length caps
+is_below caps n there = ltb-true n (length caps) there
 
-pub pipe_used : (op : Op) (n : ℕ) → uses op n ≡ true → pipe_in op ≡ Some n
-pipe_used (Read fd offset len) n u = end_in_use (end_of fd) n u
-pipe_used (Write fd offset len) n u = end_in_use (end_of fd) n u
-pipe_used (Close fd) n u = end_in_use (end_of fd) n u
-pipe_used (PollAdd fd mask) n u = end_in_use (end_of fd) n u
-pipe_used op n u = absurd (true≢false (sym u))
+-- ---- which pipes it has
 
-pub past_unused : (op : Op) (caps : List ℕ) (n : ℕ) → IsPast (pipe_in op) (length caps) → is_pipe caps n ≡ true → uses op n ≡ true → ⊥
-past_unused op caps n past there u = let le : length caps ≤ n = subst (λ (o : Option ℕ). IsPast o (length caps)) (pipe_used op n u) past in let lt : n < length caps = grind (arith, nat_tests) in omega arith
+pub held_now : (v w : View) (r : Req) (p : ℕ) (role : Role) → Extends v (Hold r p) role w → holder w.seen p ≡ Some r
+held_now v w r p role x = ap (λ (z : View). holder z.seen p) x.is ∙ ap (λ (b : Bool). cond b (Some r) (holder x.mid p)) (eq-eqb p p refl)
+
+-- of the pipes of a board it has those that the operation is answered from
+abbrev pub HasEach : List ℕ → List Line → Op → Req → Type 0
+HasEach caps j op r = (n : ℕ) → n < length caps → uses_at op n ≡ true → holder j n ≡ Some r
+
+pub has_one : (caps : List ℕ) (j : List Line) (op : Op) (r : Req) (p : ℕ) → UsesOne op (length caps) p → holder j p ≡ Some r → HasEach caps j op r
+has_one caps j op r p one has n lt u = ⊎_elim
+    (λ (e : n ≡ p). subst (λ (z : ℕ). holder j z ≡ Some r) (sym e) has)
+    (λ (ne : n ≡ p → ⊥). absurd (true≢false (sym u ∙ one.alone n lt ne))) (cases_eq n p)
+
+pub has_both : (caps : List ℕ) (j : List Line) (op : Op) (r : Req) (s t : ℕ) → JoinsPipes op s t → holder j s ≡ Some r → holder j t ≡ Some r → HasEach caps j op r
+has_both caps j op r s t joins first second n lt u = ⊎_elim
+    (λ (e : n ≡ s). subst (λ (z : ℕ). holder j z ≡ Some r) (sym e) first)
+    (λ (e : n ≡ t). subst (λ (z : ℕ). holder j z ≡ Some r) (sym e) second) (only_joined op s t n joins u)
 
 -- ---- when a worker may reply
 
@@ -326,7 +370,7 @@ module _ (table : TableId) (me : Seated) (x g : ℕ) (r : Req) (p : Parcel) (pip
   q = request_at me.0.layout.cells x g
 
   may_by : (c : Parcel) (e : Entry) (res : ℤ) (data' : List ℕ) → IsPlaced (events_of me.0.seen) r e → me.1 ≡ (slot_at x, Some (Full c)) ∷ rest me.1 → c.sqe ≡ p.sqe → c.last ≡ p.last → c.buffer.items ≡ over data' p.buffer.items
-      → OpAnswers me.0.layout.caps (events_of me.0.seen) r e.op res data' → ((n : ℕ) → is_pipe me.0.layout.caps n ≡ true → uses e.op n ≡ true → holder me.0.seen n ≡ Some r) → MayReply me x q e res data'
+      → OpAnswers me.0.layout.caps (events_of me.0.seen) r e.op res data' → ((n : ℕ) → is_pipe me.0.layout.caps n ≡ true → uses_at e.op n ≡ true → holder me.0.seen n ≡ Some r) → MayReply me x q e res data'
   may_by c e res data' placed_is out sqe last items answers has = subst (λ (z : Req). MayReply me x z e res data') (sym k.req_is) record {
     placed_is = placed_is;
     answers = answers;
@@ -334,21 +378,28 @@ module _ (table : TableId) (me : Seated) (x g : ℕ) (r : Req) (p : Parcel) (pip
     parcel = (c, out, (k.parcel.0, k.parcel.1 ∙ (λ i. Some (record { entry = sym sqe i; bytes = k.parcel.0; last = sym last i })), items ∙ ap (over data') k.parcel.2));
   }
 
-  -- a request that names no pipe of the board
-  pub plain_may : (res : ℤ) → me.1 ≡ (slot_at x, Some (Full p)) ∷ rest me.1 → IsPast (pipe_in (op_run p.sqe.op)) (length me.0.layout.caps) → OpAnswers me.0.layout.caps (events_of me.0.seen) r (op_run p.sqe.op) res [] → MayReply me x q (run_as p.sqe) res []
-  plain_may res out past answers = may_by p (run_as p.sqe) res [] (runs_placed table me.0 me.0 x g r p pipes k) out refl refl refl answers (λ n there u. absurd (past_unused (op_run p.sqe.op) me.0.layout.caps n past there u))
+  -- a request that is answered from no pipe of the board
+  pub plain_may : (res : ℤ) → me.1 ≡ (slot_at x, Some (Full p)) ∷ rest me.1 → UsesNone (op_run p.sqe.op) (length me.0.layout.caps) → OpAnswers me.0.layout.caps (events_of me.0.seen) r (op_run p.sqe.op) res [] → MayReply me x q (run_as p.sqe) res []
+  plain_may res out past answers = may_by p (run_as p.sqe) res [] (runs_placed table me.0 me.0 x g r p pipes k) out refl refl refl answers (λ n there u. absurd (true≢false (sym u ∙ past n (is_below me.0.layout.caps n there))))
 
-  -- a request whose pipe is in hand
+  -- a request that has its pipes in hand, of which the pipe n is one
   pub pipe_may : (c : Parcel) (n : ℕ) (res : ℤ) (data' : List ℕ) → me.1 ≡ (slot_at x, Some (Full c)) ∷ rest me.1 → c.sqe ≡ p.sqe → c.last ≡ p.last → c.buffer.items ≡ over data' p.buffer.items
-      → OpAnswers me.0.layout.caps (events_of me.0.seen) r p.sqe.op res data' → pipe_in p.sqe.op ≡ Some n → holder me.0.seen n ≡ Some r → MayReply me x q p.sqe res data'
-  pipe_may c n res data' out sqe last items answers named has = may_by c p.sqe res data' (subst (λ (e : Entry). IsPlaced (events_of me.0.seen) r e) (run_piped p.sqe n named) (runs_placed table me.0 me.0 x g r p pipes k)) out sqe last items answers
-      (λ m there u. (let one : n ≡ m = (let z = sym named ∙ pipe_used p.sqe.op m u in cc) in subst (λ (z : ℕ). holder me.0.seen z ≡ Some r) one has))
+      → OpAnswers me.0.layout.caps (events_of me.0.seen) r p.sqe.op res data' → uses_at p.sqe.op n ≡ true → HasEach me.0.layout.caps me.0.seen p.sqe.op r → MayReply me x q p.sqe res data'
+  pipe_may c n res data' out sqe last items answers used has = may_by c p.sqe res data' (subst (λ (e : Entry). IsPlaced (events_of me.0.seen) r e) (run_piped p.sqe n used) (runs_placed table me.0 me.0 x g r p pipes k)) out sqe last items answers
+      (λ m there u. has m (is_below me.0.layout.caps m there) u)
 
   -- the pipe in hand is what the reply makes of it
-  pub pipe_after : (n : ℕ) (c : Conduit) (res : ℤ) → IsPipe (slice_index me.0.layout.caps n) c (flows p.sqe.op p.buffer.items res n (flow (events_of me.0.seen) n)) → PipeIs me.0.layout.caps n (Some (Piped c)) (flows_as (Some p.sqe) (submission (events_of me.0.seen) q) res n (flow (events_of me.0.seen) n))
+  pub pipe_after : (n : ℕ) (c : Conduit) (res : ℤ) → IsPipe (slice_index me.0.layout.caps n) c (flows p.sqe.op (offered p.sqe.op (contents (events_of me.0.seen)) p.buffer.items) res n (flow (events_of me.0.seen) n)) → PipeIs me.0.layout.caps n (Some (Piped c)) (flows_as (Some p.sqe) (submission (events_of me.0.seen) q) (contents (events_of me.0.seen)) res n (flow (events_of me.0.seen) n))
   pipe_after n c res is =
       let given : submission (events_of me.0.seen) q ≡ Some (record { entry = p.sqe; bytes = p.buffer.items; last = p.last }) = subst (λ (z : Req). submission (events_of me.0.seen) z ≡ Some (record { entry = p.sqe; bytes = p.buffer.items; last = p.last })) (sym k.req_is) (k.parcel.1 ∙ (λ i. Some (record { entry = p.sqe; bytes = sym k.parcel.2 i; last = p.last }))) in
-      subst (λ (o : Option Submission). PipeIs me.0.layout.caps n (Some (Piped c)) (flows_as (Some p.sqe) o res n (flow (events_of me.0.seen) n))) (sym given) (is.cap_is, is.content_is, is.read_is, is.write_is)
+      subst (λ (o : Option Submission). PipeIs me.0.layout.caps n (Some (Piped c)) (flows_as (Some p.sqe) o (contents (events_of me.0.seen)) res n (flow (events_of me.0.seen) n))) (sym given) (is.cap_is, is.content_is, is.read_is, is.write_is)
+
+pub both_turned : (j : List Line) (p n : ℕ) (r : Req) → HasBoth j p n r → HasBoth j n p r
+both_turned j p n r both = (λ e. both.0 (sym e), both.2, both.1, λ m ne nk. both.3 m nk ne)
+
+-- a pipe that others left alone is still the one in hand
+pub pipe_still : (v w : View) (n : ℕ) (c : Conduit) → w.layout ≡ v.layout → IsSamePipe v w n → IsPipe (slice_index v.layout.caps n) c (flow (events_of v.seen) n) → IsPipe (slice_index w.layout.caps n) c (flow (events_of w.seen) n)
+pipe_still v w n c layout same' is = subst (λ (z : Layout × Flow). IsPipe (slice_index z.0.caps n) c z.1) (λ i. (sym layout i, sym same' i)) is
 
 -- what a worker has in hand once its pipe was put back, and then its parcel
 pub in_both_hands : (old a b c : Seated) (n s : ℕ) (x y : Option Thing) → old.1 ≡ (n, None) ∷ (s, None) ∷ [] → a ≡ (old.0, (n, x) ∷ rest old.1) → b ≡ (a.0, turned a.1) → c ≡ (b.0, (s, y) ∷ rest b.1) → c ≡ (old.0, (s, y) ∷ (n, x) ∷ [])
@@ -356,3 +407,13 @@ in_both_hands old a b c n s x y out ea eb ec =
     let first : a ≡ (old.0, (n, x) ∷ (s, None) ∷ []) = ea ∙ ap (λ (cs : List (ℕ × Option Thing)). (let m : Seated = (old.0, (n, x) ∷ rest cs) in m)) out in
     let second : b ≡ (old.0, (s, None) ∷ (n, x) ∷ []) = eb ∙ ap (λ (z : Seated). (let m : Seated = (z.0, turned z.1) in m)) first in
     ec ∙ ap (λ (z : Seated). (let m : Seated = (z.0, (s, y) ∷ rest z.1) in m)) second
+
+-- the same of two pipes, of which the upper one is put back first
+pub in_three_hands : (old a b c d e : Seated) (n m s : ℕ) (x y z : Option Thing) → old.1 ≡ (n, None) ∷ (m, None) ∷ (s, None) ∷ [] → a ≡ (old.0, (n, x) ∷ rest old.1) → b ≡ (a.0, turned a.1) → c ≡ (b.0, (m, y) ∷ rest b.1) → d ≡ (c.0, turned c.1) → e ≡ (d.0, (s, z) ∷ rest d.1)
+    → e ≡ (old.0, (s, z) ∷ (n, x) ∷ (m, y) ∷ [])
+in_three_hands old a b c d e n m s x y z out ea eb ec ed ee =
+    let first : a ≡ (old.0, (n, x) ∷ (m, None) ∷ (s, None) ∷ []) = ea ∙ ap (λ (cs : List (ℕ × Option Thing)). (let k : Seated = (old.0, (n, x) ∷ rest cs) in k)) out in
+    let second : b ≡ (old.0, (m, None) ∷ (s, None) ∷ (n, x) ∷ []) = eb ∙ ap (λ (k : Seated). (let l : Seated = (k.0, turned k.1) in l)) first in
+    let third : c ≡ (old.0, (m, y) ∷ (s, None) ∷ (n, x) ∷ []) = ec ∙ ap (λ (k : Seated). (let l : Seated = (k.0, (m, y) ∷ rest k.1) in l)) second in
+    let fourth : d ≡ (old.0, (s, None) ∷ (n, x) ∷ (m, y) ∷ []) = ed ∙ ap (λ (k : Seated). (let l : Seated = (k.0, turned k.1) in l)) third in
+    ee ∙ ap (λ (k : Seated). (let l : Seated = (k.0, (s, z) ∷ rest k.1) in l)) fourth

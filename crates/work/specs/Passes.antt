@@ -1,5 +1,5 @@
 -- What contracts see of a pass, and when it belongs to a board.
-use Rattle.std.specs.Prelude.{◌≡◌, ◌≢◌, ℕ, ◌+◌, ◌<◌, ◌≤◌, cond, false, List, [], ◌∷◌, ◌++◌, length, slice_index, Option, Some, None}
+use Rattle.std.specs.Prelude.{◌≡◌, ◌≢◌, ℕ, ◌+◌, ◌<◌, ◌≤◌, cond, true, false, List, [], ◌∷◌, ◌++◌, length, slice_index, Option, Some, None}
 use Rattle.atomic_table.specs.Seated.{TableId}
 use Rattle.atomic_table.specs.declared.shared.Seat.{Seat}
 use Rattle.history.specs.declared.req.Req.{Req}
@@ -8,8 +8,9 @@ use Rattle.history.specs.Chains.{is_timer}
 use Rattle.history.specs.History.{hit, nothing}
 use Rattle.history.specs.Pipes.{flow}
 use Rattle.pipe.specs.Pipe.{Conduit}
+use Rattle.history.specs.Users.{uses_at}
 use Rattle.answers.specs.Answered.{IsPipe}
-use Rattle.answers.specs.NamedEnds.{pipe_in}
+use Rattle.answers.specs.NamedEnds.{UsesBoth}
 use Rattle.steps.specs.declared.line.Line.{Line}
 use Rattle.steps.specs.declared.parcel.Parcel.{Parcel}
 use Rattle.steps.specs.declared.parcel.Thing.{Thing}
@@ -20,7 +21,7 @@ use Rattle.steps.specs.declared.view.View.{View}
 use Rattle.steps.specs.Fairness.{Orderly}
 use Rattle.steps.specs.Journal.{event_of, events_of, holder}
 use Rattle.steps.specs.Cells.{setup_of, IsCell, request_at, total, claim_at, slot_at, word_of, IsParcel, words_of}
-use Rattle.steps.specs.Plays.{HasAlone}
+use Rattle.steps.specs.Plays.{HasAlone, HasBoth}
 use Rattle.steps.specs.Rule.{owns, IsStep}
 use Rattle.history.specs.Legal.{Legal, IsOf}
 use Rattle.claim.specs.declared.tag.Tag.TheVariants.{Ready}
@@ -92,7 +93,7 @@ pub record IsBusySeat (table : TableId) (K : List ℕ) (s : Seat (Option Thing) 
   pub out : s.me.1 ≡ (slot_at x, None) ∷ []
   pub bare : (n : ℕ) → holder s.me.0.seen n ≢ Some r
 
--- the same with the pipe that the entry names in hand, as what was seen tells, and no other
+-- the same with a pipe in hand that the entry is answered from, as what was seen tells, and no other
 pub record IsHoldingSeat (table : TableId) (K : List ℕ) (s : Seat (Option Thing) View) (x g : ℕ) (r : Req) (p : Parcel) (pipes n : ℕ) (c : Conduit) : Type 0 where
   pub table_is : s.table_id ≡ table
   pub grid : IsGridOf table K s.me.0
@@ -100,7 +101,7 @@ pub record IsHoldingSeat (table : TableId) (K : List ℕ) (s : Seat (Option Thin
   pub unhit : hit (events_of s.me.0.seen) r ≡ nothing
   pub out : s.me.1 ≡ (n, None) ∷ (slot_at x, None) ∷ []
   pub alone : HasAlone s.me.0.seen n r
-  pub named : (pipe_in p.sqe.op ≡ Some n) × (n < pipes)
+  pub named : (uses_at p.sqe.op n ≡ true) × (n < pipes)
   pub pipe_is : IsPipe (slice_index s.me.0.layout.caps n) c (flow (events_of s.me.0.seen) n)
 
 -- a worker that runs a request and has this pipe of the board in hand, as contracts see it
@@ -108,6 +109,25 @@ pub record Holding : Type 0 where
   pub pass : Pass
   pub req : Req
   pub pipe : ℕ
+
+-- the same with both pipes in hand that the entry joins, and no other
+pub record IsJoiningSeat (table : TableId) (K : List ℕ) (s : Seat (Option Thing) View) (x g : ℕ) (r : Req) (p : Parcel) (pipes a b : ℕ) (c d : Conduit) : Type 0 where
+  pub table_is : s.table_id ≡ table
+  pub grid : IsGridOf table K s.me.0
+  pub runs : RunsIt table s.me.0 x g r p pipes
+  pub unhit : hit (events_of s.me.0.seen) r ≡ nothing
+  pub out : s.me.1 ≡ (b, None) ∷ (a, None) ∷ (slot_at x, None) ∷ []
+  pub both : HasBoth s.me.0.seen a b r
+  pub named : UsesBoth p.sqe.op pipes a b
+  pub source_is : IsPipe (slice_index s.me.0.layout.caps a) c (flow (events_of s.me.0.seen) a)
+  pub target_is : IsPipe (slice_index s.me.0.layout.caps b) d (flow (events_of s.me.0.seen) b)
+
+-- a worker that runs a request and has both of its pipes in hand, as contracts see it
+pub record Joining : Type 0 where
+  pub pass : Pass
+  pub req : Req
+  pub source : ℕ
+  pub target : ℕ
 
 -- the events of these lines that only a pass with this role can cause, the newest first
 abbrev pub own_of : Role → List Line → List Event

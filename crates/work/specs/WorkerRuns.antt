@@ -1,15 +1,18 @@
 -- What a run does.
-use Rattle.std.specs.Prelude.{◌≡◌, ◌≢◌, ◌⊎◌, ℕ, ◌*◌, ◌<◌, Bool, true, false, ℤ, pos, negsuc, List, [], ◌∷◌, ◌++◌, length, Option, Some, None}
+use Rattle.std.specs.Prelude.{◌≡◌, ◌≢◌, ◌⊎◌, ℕ, ◌*◌, ◌<◌, true, ℤ, pos, negsuc, List, [], ◌∷◌, ◌++◌, length, Option, Some, None}
 use Rattle.entry.specs.declared.op.Op.{Op}
 use Rattle.entry.specs.declared.op.Op.TheVariants.{LinkTimeout, Invalid}
 use Rattle.entry.specs.Entry.{Entry}
 use Rattle.history.specs.declared.req.Req.{Req}
 use Rattle.history.specs.declared.event.Event.{Event}
 use Rattle.history.specs.declared.event.Event.TheVariants.{Park, Reply, Take, Miss}
-use Rattle.history.specs.Answers.{OpAnswers, is_pipe}
+use Rattle.history.specs.Answers.{OpAnswers}
 use Rattle.history.specs.Chains.{IsPlaced}
+use Rattle.history.specs.Users.{uses_at}
 use Rattle.history.specs.Legal.{Legal}
-use Rattle.answers.specs.NamedEnds.{pipe_in}
+use Rattle.answers.specs.declared.named.NamedPipes.{NamedPipes}
+use Rattle.answers.specs.declared.named.NamedPipes.TheVariants.{Nothing, One, Both}
+use Rattle.answers.specs.NamedEnds.{AreNamed}
 use Rattle.steps.specs.declared.line.Line.{Line}
 use Rattle.steps.specs.declared.line.Line.TheVariants.{Did}
 use Rattle.steps.specs.declared.view.Role.TheVariants.{Idle, Busy}
@@ -54,12 +57,13 @@ Told NoneLeft res took = (res ≡ negsuc 1) × (took ≡ None)
 Told (Ended t) res took = (res ≡ pos 0) × (took ≡ Some t)
 Told Found res took = (res ≡ negsuc 113) × (took ≡ None)
 
--- in a legal history between what was seen before and after there was no answer
+-- in a legal history between what was seen before and after there was no answer, while the worker had each pipe that the entry is answered from
 pub record NoAnswer (v w : View) (r : Req) (e : Entry) : Type 0 where
   pub at : List Line
   pub after : Begins at v.seen
   pub before : Begins w.seen at
   pub legal : Legal (setup_of v.layout) (events_of at)
+  pub has : (p : ℕ) → p < length v.layout.caps → uses_at e.op p ≡ true → holder at p ≡ Some r
   pub none : (res : ℤ) (data' : List ℕ) → ¬ OpAnswers v.layout.caps (events_of at) r e.op res data'
 
 -- there is no answer in what was seen
@@ -72,39 +76,40 @@ MissedPipe v w p r = (n : ℕ) × IsStep (pipe_at p) n v w × (n ≢ 0) × (othe
 
 -- a step of the run found the pipe's word out, with another worker
 pub record FoundOut (v w : View) (r : Req) (p : ℕ) : Type 0 where
+  pub before : List Step
   pub step : Step
   pub after : List Step
-  pub steps : w.steps ≡ after ++ (step ∷ v.steps)
+  pub steps : w.steps ≡ after ++ (step ∷ (before ++ v.steps))
   pub word_is : step.word ≡ pipe_at p
   pub out : step.found ≢ 0
   pub other : Req
   pub holds : holder step.seen p ≡ Some other
   pub is_other : other ≢ r
 
+-- why a request was put back that is answered from the pipe p: there was no answer, or that pipe was out
 abbrev pub IsReason : View → View → Req → Entry → ℕ → Reason → Type 0
 IsReason v w r e p NotReady = NoAnswer v w r e
 IsReason v w r e p PipeBusy = FoundOut v w r p
 
--- the operation names a pipe among these
-abbrev pub names : List ℕ → Option ℕ → Bool
-names caps None = false
-names caps (Some p) = is_pipe caps p
-
--- a reply is the one that the completion reports, which has the entry's user_data. Before it a cancel may have taken its target, or found it running. What is parked names a pipe of the board
+-- a reply is the one that the completion reports, which has the entry's user_data. Before it a cancel may have taken its target, or found it running. What is parked is answered from a pipe of the board
 abbrev pub IsRun : Running → Pass → Ran → Type 0
 IsRun b w (Replied cqe took) = ((data' : List ℕ) × (own : List Event) × EndsBy b.pass.view w.view b.req own (Reply b.req cqe.res data') × IsCaught b.req took own) × ((e : Entry) → IsPlaced (seen_of b.pass) b.req e → cqe.user_data ≡ e.user_data)
-IsRun b w (Parked why) = EndsBy b.pass.view w.view b.req [] (Park b.req) × ((e : Entry) → IsPlaced (seen_of b.pass) b.req e → (p : ℕ) × (pipe_in e.op ≡ Some p) × (p < length b.pass.view.layout.caps) × IsReason b.pass.view w.view b.req e p why)
+IsRun b w (Parked why) = EndsBy b.pass.view w.view b.req [] (Park b.req) × ((e : Entry) → IsPlaced (seen_of b.pass) b.req e → (p : ℕ) × (p < length b.pass.view.layout.caps) × (uses_at e.op p ≡ true) × IsReason b.pass.view w.view b.req e p why)
 
--- how many steps a run takes that is no cancel's, by whether the entry names a pipe of the board
-abbrev pub run_steps : Bool → Ran → ℕ
-run_steps false (Replied cqe took) = 1
-run_steps true (Replied cqe took) = 3
-run_steps b (Parked NotReady) = 3
-run_steps b (Parked PipeBusy) = 2
+-- the steps of a run that is no cancel's, by the pipes of the board that its entry names. Of two the source is taken first
+abbrev pub StepsAt : NamedPipes → View → View → Req → Ran → Type 0
+StepsAt Nothing v w r (Replied cqe took) = Took v w 1
+StepsAt Nothing v w r (Parked why) = ⊥
+StepsAt (One p) v w r (Replied cqe took) = Took v w 3
+StepsAt (One p) v w r (Parked NotReady) = Took v w 3
+StepsAt (One p) v w r (Parked PipeBusy) = Took v w 2
+StepsAt (Both s t) v w r (Replied cqe took) = Took v w 5
+StepsAt (Both s t) v w r (Parked NotReady) = Took v w 5
+StepsAt (Both s t) v w r (Parked PipeBusy) = (Took v w 2 × FoundOut v w r s) ⊎ (Took v w 4 × FoundOut v w r t)
 
 abbrev pub StepsBy : Option Wanted → Running → View → Entry → Ran → Type 0
 StepsBy (Some u) b w e ran = FewSteps b.pass.view w 4 (5 * cells_in b.pass.view.layout.cells b.req.ring)
-StepsBy None b w e ran = Took b.pass.view w (run_steps (names b.pass.view.layout.caps (pipe_in e.op)) ran)
+StepsBy None b w e ran = (named : NamedPipes) × AreNamed e.op (length b.pass.view.layout.caps) named × StepsAt named b.pass.view w b.req ran
 
 -- the steps of a run: a cancel takes at most four at each claim word, and at most five for each cell of its ring in all
 abbrev pub HasStepped : Running → View → Entry → Ran → Type 0

@@ -1,12 +1,13 @@
 //! A worker that runs a request.
-ghost use Rattle.std.specs.Prelude.{◌≡◌, ℕ, ◌<◌, ◌≤◌, ◌*◌, [], ◌∷◌, List, Some, None, length, IfOk, IfErr, IfSome, IfNone};
+ghost use Rattle.std.specs.Prelude.{◌≡◌, ℕ, ◌<◌, ◌*◌, true, [], ◌∷◌, List, Some, None, length, IfOk, IfErr};
 ghost use Rattle.atomic_table.specs.Table.{rest};
 ghost use Rattle.entry.specs.Entry.{Entry};
 ghost use Rattle.history.specs.declared.event.Event.{Event};
 ghost use Rattle.history.specs.declared.event.Event.TheVariants.{Park, Reply};
 ghost use Rattle.history.specs.Chains.{IsPlaced};
-ghost use Rattle.answers.specs.Answered.{IsPast};
-ghost use Rattle.answers.specs.NamedEnds.{pipe_in};
+ghost use Rattle.history.specs.Users.{uses_at};
+ghost use Rattle.answers.specs.declared.named.NamedPipes.TheVariants.{One};
+ghost use Rattle.answers.specs.NamedEnds.{UsesNone, UsesOne};
 ghost use Rattle.steps.specs.declared.line.Line.TheVariants.{Did, Hold};
 ghost use Rattle.steps.specs.declared.parcel.Thing.TheVariants.{Full};
 ghost use Rattle.steps.specs.declared.view.Role.TheVariants.{Idle, Busy as RoleBusy};
@@ -21,7 +22,7 @@ use crate::holding::Holding;
 use crate::placed::{fails_placed, op_placed};
 use crate::run::{Parked, Ran};
 use crate::worker::Worker;
-use answers::{answer_without, pipe_of};
+use answers::{NamedPipes, answer_without, pipes_of};
 use entry::{Cqe, Sqe};
 use history::Req;
 use std::marker::Model;
@@ -48,22 +49,6 @@ impl<'a> Model for Busy<'a> {
     ghost view = { λ b. record { pass = pass_of b.seat; req = b.req } };
 
     ghost invariant = { λ b. IsBusySeat b.words.now.table_id b.grid.now b.seat b.cell b.generation b.req b.parcel b.pipes };
-}
-
-/// The pipe of the board that the entry names by its fd, of so many. None where it names none.
-fn named_pipe(sqe: &Sqe, pipes: usize) -> Option<usize>
-    requires few { pipes ≤ 64 }
-    ensures some { IfSome result (λ p. (pipe_in sqe.now.op ≡ Some p) × (p < pipes)) }
-    ensures none { IfNone result (IsPast (pipe_in sqe.now.op) pipes) }
-{
-    let Some(pipe) = pipe_of(sqe.op()) else {
-        return None;
-    };
-    if pipe < pipes as u64 {
-        Some(pipe as usize)
-    } else {
-        None
-    }
 }
 
 /// The reply of a cancel whose target was not found: -ENOENT.
@@ -98,7 +83,7 @@ pub(crate) fn put_back(words: &Words, seat: &mut TableSeat, cell: usize, parcel:
 impl<'a> Busy<'a> {
     ghost use Rattle.work.specs.Passes.{Took, seen_of};
     ghost use Rattle.work.specs.Searches.{FewSteps, wanted_in};
-    ghost use Rattle.work.specs.WorkerRuns.{EndsBy, HasStepped, IsCaught, IsRun, MissedPipe};
+    ghost use Rattle.work.specs.WorkerRuns.{EndsBy, HasStepped, StepsAt, IsCaught, IsRun, MissedPipe};
 
     /// Puts the request back to Ready.
     pub fn park(self) -> Worker
@@ -121,10 +106,10 @@ impl<'a> Busy<'a> {
         Worker::new(seat)
     }
 
-    /// Answers the request, which is no cancel and names no pipe of the board.
+    /// Answers the request, which is no cancel and is answered from no pipe of the board.
     fn answer(self) -> (Worker, Cqe)
         requires plain { (e : Entry) → IsPlaced (seen_of self.pass) self.req e → wanted_in e.op ≡ None }
-        requires past { (e : Entry) → IsPlaced (seen_of self.pass) self.req e → IsPast (pipe_in e.op) (length self.pass.view.layout.caps) }
+        requires past { (e : Entry) → IsPlaced (seen_of self.pass) self.req e → UsesNone e.op (length self.pass.view.layout.caps) }
         ensures table { result.0.table ≡ self.entry.pass.table }
         ensures step { (found : ℕ) × (word : ℕ) × IsStep word found self.entry.pass.view result.0.view }
         ensures replied { Extends self.entry.pass.view (Did (Reply self.entry.req result.1.res [])) Idle result.0.view }
@@ -151,9 +136,9 @@ impl<'a> Busy<'a> {
         (Worker::new(seat), cqe)
     }
 
-    /// Takes the pipe that the entry names, or comes back where another worker has it.
-    fn hold(self, pipe: usize) -> Result<Holding<'a>, Busy<'a>>
-        requires named { (e : Entry) → IsPlaced (seen_of self.pass) self.req e → (pipe_in e.op ≡ Some pipe) × (pipe < length self.pass.view.layout.caps) }
+    /// Takes a pipe that the entry is answered from, or comes back where another worker has it.
+    pub(crate) fn hold(self, pipe: usize) -> Result<Holding<'a>, Busy<'a>>
+        requires named { (e : Entry) → IsPlaced (seen_of self.pass) self.req e → (uses_at e.op pipe ≡ true) × (pipe < length self.pass.view.layout.caps) }
         ensures held { IfOk result (λ h. (h.req ≡ self.entry.req) × (h.pipe ≡ pipe) × (h.pass.table ≡ self.entry.pass.table) × IsStep (pipe_at pipe) 0 self.entry.pass.view h.pass.view × Extends self.entry.pass.view (Hold self.entry.req pipe) (RoleBusy self.entry.req) h.pass.view) }
         ensures busy { IfErr result (λ b. (b.req ≡ self.entry.req) × (b.pass.table ≡ self.entry.pass.table) × Looks self.entry.pass.view b.pass.view × MissedPipe self.entry.pass.view b.pass.view pipe self.entry.req) }
     {
@@ -226,7 +211,26 @@ impl<'a> Busy<'a> {
         (Worker::new(seat), cqe, took)
     }
 
-    /// Answers the request. Where there is no answer now, or another worker has the pipe, it puts the request back to
+    /// Answers the request, which is answered from one pipe of the board, or puts it back to Ready.
+    fn run_with(self, pipe: usize) -> (Worker, Ran)
+        requires named { (e : Entry) → IsPlaced (seen_of self.pass) self.req e → UsesOne e.op (length self.pass.view.layout.caps) pipe }
+        ensures worker { result.0.table ≡ self.entry.pass.table }
+        ensures kept { (b : Facts) → IsOf b self.entry.pass → IsOf b result.0 }
+        ensures steps { StepsAt (One pipe) self.entry.pass.view result.0.view self.entry.req result.1 }
+        ensures ran { IsRun self.entry result.0 result.1 }
+    {
+        prove!(pipe < self.pipes);
+        let holding = match self.hold(pipe) {
+            Ok(holding) => holding,
+            Err(busy) => return (busy.park(), Ran::Parked(Parked::PipeBusy)),
+        };
+        match holding.answer() {
+            Ok((worker, cqe)) => (worker, Ran::Replied { cqe, took: None }),
+            Err(busy) => (busy.park(), Ran::Parked(Parked::NotReady)),
+        }
+    }
+
+    /// Answers the request. Where there is no answer now, or another worker has a pipe of it, it puts the request back to
     /// Ready instead. A cancel takes at most four steps at each claim word, and at most five for each cell of its ring in all.
     pub fn run(self) -> (Worker, Ran)
         ensures worker { result.0.table ≡ self.entry.pass.table }
@@ -238,17 +242,15 @@ impl<'a> Busy<'a> {
             let (worker, cqe, took) = self.cancel(wanted);
             return (worker, Ran::Replied { cqe, took });
         }
-        let Some(pipe) = named_pipe(&self.parcel.sqe, self.pipes) else {
-            let (worker, cqe) = self.answer();
-            return (worker, Ran::Replied { cqe, took: None });
-        };
-        let holding = match self.hold(pipe) {
-            Ok(holding) => holding,
-            Err(busy) => return (busy.park(), Ran::Parked(Parked::PipeBusy)),
-        };
-        match holding.answer() {
-            Ok((worker, cqe)) => (worker, Ran::Replied { cqe, took: None }),
-            Err(busy) => (busy.park(), Ran::Parked(Parked::NotReady)),
+        match pipes_of(self.parcel.sqe.op(), self.pipes as u64) {
+            NamedPipes::Nothing => {
+                let (worker, cqe) = self.answer();
+                (worker, Ran::Replied { cqe, took: None })
+            }
+            NamedPipes::One(pipe) => self.run_with(pipe as usize),
+            NamedPipes::Both { source, target } => {
+                self.run_between(source as usize, target as usize)
+            }
         }
     }
 }

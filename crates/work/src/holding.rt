@@ -1,8 +1,9 @@
-//! A worker that runs a request and has its pipe in hand.
-ghost use Rattle.std.specs.Prelude.{◌≡◌, ℕ, List, Some, None, IfOk, IfErr};
+//! A worker that runs a request and has a pipe of it in hand.
+ghost use Rattle.std.specs.Prelude.{◌≡◌, ℕ, List, Some, None, length, IfOk, IfErr};
 ghost use Rattle.entry.specs.Entry.{Entry};
 ghost use Rattle.history.specs.declared.event.Event.TheVariants.{Reply};
 ghost use Rattle.history.specs.Chains.{IsPlaced};
+ghost use Rattle.answers.specs.NamedEnds.{UsesOne};
 ghost use Rattle.steps.specs.declared.line.Line.TheVariants.{Did, Free};
 ghost use Rattle.steps.specs.declared.view.Role.TheVariants.{Busy as RoleBusy, Leaving};
 ghost use Rattle.steps.specs.declared.view.View.{View};
@@ -19,7 +20,7 @@ use pipe::Pipe;
 use std::marker::Model;
 use steps::{Parcel, TableSeat, Thing, Words, pipes};
 
-/// A worker that runs a request, and has taken the pipe that its entry names.
+/// A worker that runs a request, and has taken a pipe that its entry is answered from.
 pub(crate) struct Holding<'a> {
     pub(crate) words: &'a Words,
     pub(crate) grid: &'a Grid,
@@ -49,6 +50,7 @@ impl<'a> Holding<'a> {
 
     /// Answers the request by its pipe, and gives the pipe back; or gives it back as it was, where there is no answer now.
     pub(crate) fn answer(self) -> Result<(Worker, Cqe), Busy<'a>>
+        requires named { (e : Entry) → IsPlaced (seen_of self.pass) self.req e → UsesOne e.op (length self.pass.view.layout.caps) self.pipe }
         ensures replied { IfOk result (λ t. (t.0.table ≡ self.entry.pass.table) × (data' : List ℕ) × (mid : View) × Extends self.entry.pass.view (Did (Reply self.entry.req t.1.res data')) (Leaving self.entry.req) mid × (found : ℕ) × (t.0.view ≡ leaves (pipe_at self.entry.pipe) found mid)) }
         ensures steps { IfOk result (λ t. (word : ℕ) × IsTwoSteps word (pipe_at self.entry.pipe) self.entry.pass.view t.0.view) }
         ensures user_data { IfOk result (λ t. (e : Entry) → IsPlaced (seen_of self.entry.pass) self.entry.req e → t.1.user_data ≡ e.user_data) }

@@ -5,6 +5,7 @@ pub mod busy;
 mod cancel;
 pub mod grid;
 mod holding;
+mod joining;
 pub mod pass;
 mod placed;
 pub mod run;

@@ -7,17 +7,17 @@ use history::Req;
 pub enum Ran {
     /// The request was answered, with this completion. Where it is a cancel that ended another one, `took` is that one.
     Replied { cqe: Cqe, took: Option<Req> },
-    /// The request was put back to Ready. Only READ, WRITE, CLOSE and POLL_ADD are, whose fd is an end of one of the
-    /// board's pipes.
+    /// The request was put back to Ready. Only READ, WRITE, CLOSE, POLL_ADD and SPLICE are, of which an fd is an end of one
+    /// of the board's pipes.
     Parked(Parked),
 }
 
 /// Why a request was put back.
 #[derive(Clone, Copy, PartialEq, Eq, Debug)]
 pub enum Parked {
-    /// There was no answer now: a READ of an empty pipe, a WRITE without room, a POLL_ADD without an event (read(2),
-    /// write(2), poll(2)).
+    /// There was no answer now: a READ of an empty pipe, a WRITE without room, a POLL_ADD without an event, a SPLICE without
+    /// bytes or without room (read(2), write(2), poll(2), splice(2)).
     NotReady,
-    /// Its pipe was out with another worker.
+    /// Its pipe, or one of its two pipes, was out with another worker.
     PipeBusy,
 }

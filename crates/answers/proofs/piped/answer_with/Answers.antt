@@ -1,6 +1,6 @@
 use Rattle.std.proofs.Common.{ℤ, w32, SFits, rules, subst}
 use Rattle.std.proofs.lemmas.Int.{to_z-of_z}
-use Rattle.entry.specs.declared.op.Op.TheVariants.{PollAdd, Close, Read, Write}
+use Rattle.entry.specs.declared.op.Op.TheVariants.{PollAdd, Close, Read, Write, Splice}
 use Rattle.answers.specs.Answered.{Answered}
 use Rattle.answers.proofs.piped.answer_with.Goals as goal
 
@@ -15,3 +15,6 @@ returns-in-Read c = rw c.in-Read.is (let f : SFits w32 c.in-Read.fd = search rul
 
 pub returns-in-Write : goal.returns-in-Write
 returns-in-Write c = rw c.in-Write.is (let f : SFits w32 c.in-Write.fd = search rules in subst (λ (fd : ℤ). Answered (Write fd c.in-Write.offset c.in-Write.len) c.write.result c.args.pipe.now c.write.new.pipe c.args.buffer.now c.args.buffer.now) (to_z-of_z w32 c.in-Write.fd f) (c.write.ensures c.in-Write.offset))
+
+pub returns-in-Splice : goal.returns-in-Splice
+returns-in-Splice c = rw c.in-Splice.is (subst (λ (fds : ℤ × ℤ). Answered (Splice fds.0 fds.1 c.in-Splice.len) c.splice_alone.result c.args.pipe.now c.args.pipe.now c.args.buffer.now c.args.buffer.now) (λ i. (to_z-of_z w32 c.in-Splice.fd_in (search rules) i, to_z-of_z w32 c.in-Splice.fd_out (search rules) i)) (c.splice_alone.ensures c.in-Splice.len))

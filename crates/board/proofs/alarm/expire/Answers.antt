@@ -19,9 +19,9 @@ use Rattle.board.proofs.Watching.{paid_add, paid_most, paid_one, seat_looked, wa
 use Rattle.board.proofs.alarm.expire.Goals as goal
 
 -- what is no TIMEOUT is a LINK_TIMEOUT
-linked_of : (a : Alarm) → ((f : _) → a ≡ Alone f → ⊥) → a ≡ Linked
+linked_of : (a : Alarm) → ((f : _) (n : _) → a ≡ Alone f n → ⊥) → a ≡ Linked
 linked_of Linked n = refl
-linked_of (Alone f) n = absurd (n f refl)
+linked_of (Alone f m) n = absurd (n f m refl)
 
 pub told-requires : goal.told-requires
 told-requires c = let e = c.look-word.ensures in found_word c.args.board.now (pass_of c.args.seat.now) (pass_of c.look-word.new.seat) c.args.spot.cell c.look-word.result c.requires.ours.ours e.seat.0.0 e.looks e.shown
@@ -68,7 +68,7 @@ run_out-requires-clause-timeout c = let b = c.args.board.now in let s = c.args.s
     let stands = c.told.ensures.stands s.me.0.layout.cells t.me.0.seen x e.shown in let at : request_at s.me.0.layout.cells x g ≡ c.args.req = ap (λ (L : Layout). request_at L.cells x g) r.ours.ours.layout_is ∙ r.at.at in
     let is : phase (events_of t.me.0.seen) c.args.req ≡ armed c.in-Armed.deadline = subst (λ (q : Req). phase (events_of t.me.0.seen) q ≡ armed c.in-Armed.deadline) at (subst (Stands t.me.0.seen (request_at s.me.0.layout.cells x g)) c.in-Armed.is stands) in
     let kept = (alarm_goes b (pass_of s) (pass_of t) [] w.goes (ap (λ (z : Role). stands_for z pollers) r.ours.seat.role) none tt c.args.req (Some c.args.alarm) refl r.knows c.in-Armed.deadline is).0 in
-    subst (λ (a : Alarm). IsKept (events_of t.me.0.seen) c.args.req (Some a)) c.in-Alone.is kept
+    let k = subst (λ (a : Alarm). IsKept (events_of t.me.0.seen) c.args.req (Some a)) c.in-Alone.is kept in (k.0, k.1, k.2.0, k.2.1)
 
 pub returns-clause-expires : goal.returns-clause-expires
 returns-clause-expires c = let b = c.args.board.now in let s = c.args.seat.now in let t = c.look-word.new.seat in let e = c.look-word.ensures in let r = c.requires in let x = c.args.spot.cell in let g = c.args.spot.generation in let w = watched_look b s t r.ours e.seat e.looks in

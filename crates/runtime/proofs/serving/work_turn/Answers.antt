@@ -27,11 +27,10 @@ returns-clause-turned g c =
       serves = inr (r, c.serve-worker.ensures.tried.1);
       outbox = c.serve-worker.ensures.tried.2;
       numbers = elim c.if-is_parked.branch [
-        | then-is_parked w ↦ let end = subst (λ (d : Desk). Shifts d [] [] c.retry-2.new.self) w.desk-is c.retry-2.ensures.shifts in
-            subst (λ (b : Bool). Shifts c.args.desk.now [] (cond b [] (r ∷ [])) c.retry-2.new.self) (sym w.if-is_parked.true)
-            (shifts_back _ _ r (shifts_then _ _ _ (r ∷ []) (r ∷ []) [] [] (shifts_then _ _ _ [] (r ∷ []) (r ∷ []) [] took w.keep.ensures) end))
-        | else-is_parked w ↦ let end = subst (λ (d : Desk). Shifts d [] [] c.retry-2.new.self) w.desk-is c.retry-2.ensures.shifts in
-            subst (λ (b : Bool). Shifts c.args.desk.now [] (cond b [] (r ∷ [])) c.retry-2.new.self) (sym w.if-is_parked.false)
-            (shifts_then _ _ _ [] (r ∷ []) [] [] took end)
+        | then-is_parked w ↦ subst (λ (d : Desk). Shifts c.args.desk.now [] (cond c.serve-worker.result.1 [] (r ∷ [])) d) (sym w.desk-is)
+            (subst (λ (b : Bool). Shifts c.args.desk.now [] (cond b [] (r ∷ [])) w.keep.new.self) (sym w.if-is_parked.true)
+            (shifts_back _ _ r (shifts_then _ _ _ [] (r ∷ []) (r ∷ []) [] took w.keep.ensures)))
+        | else-is_parked w ↦ subst (λ (d : Desk). Shifts c.args.desk.now [] (cond c.serve-worker.result.1 [] (r ∷ [])) d) (sym w.desk-is)
+            (subst (λ (b : Bool). Shifts c.args.desk.now [] (cond b [] (r ∷ [])) c.next.new.self) (sym w.if-is_parked.false) took)
       ];
     }

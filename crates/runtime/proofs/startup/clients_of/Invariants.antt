@@ -11,8 +11,8 @@ invariant-loop-submitter l = record {
   ringers : AreRingers (arc_value l.shared).bell 0 l.ringers.items;
   pairs : length l.ringers.items ≡ length l.submitters.items;
   clients : AreNewClients (arc_value l.shared).board (length l.submitters.items) (reverse l.clients.items);
-  count : length l.clients.items + length l.submitters.items ≡ length l.fn.submitters.items;
-  room : length l.fn.submitters.items ≤ vec_capacity l.clients;
+  count : length l.clients.items + length l.submitters.items ≡ length l.fn.parts.submitters.items;
+  room : length l.fn.parts.submitters.items ≤ vec_capacity l.clients;
 }
 
 abbrev pub decreases-loop-submitter : goal.decreases-loop-submitter

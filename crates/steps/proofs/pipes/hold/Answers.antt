@@ -1,40 +1,18 @@
-use Rattle.std.proofs.Common.{◌≡◌, ◌≢◌, ℕ, Some, sym, ap, ◌∙◌, subst, eqb-true, eq-eqb}
+use Rattle.std.proofs.Common.{◌≡◌, ◌≢◌, ℕ, Some, sym, ap, ◌∙◌, subst}
 use Rattle.history.specs.declared.req.Req.{Req}
-use Rattle.steps.specs.declared.line.Line.TheVariants.{Hold}
-use Rattle.steps.specs.declared.view.Role.{Role}
-use Rattle.steps.specs.declared.view.Role.TheVariants.{Busy}
 use Rattle.steps.specs.declared.view.View.{View}
 use Rattle.steps.specs.Journal.{holder}
-use Rattle.steps.specs.Rule.{Extends, IsStep}
-use Rattle.steps.proofs.PipeSteps.{hold_allows, alone_after, lacks_after}
+use Rattle.steps.proofs.PipeSteps.{one_worker, alone_after, lacks_after}
 use Rattle.steps.proofs.pipes.hold.Goals as goal
 
-one_worker : (a b : Req) → Busy a ≡ Busy b → a ≡ b
-one_worker a b e = cc
-
-pub compare_exchange-requires : goal.compare_exchange-requires
-compare_exchange-requires c = let f = c.requires.fits in let b = c.requires.busy in
-    rw c.pipe_word.ensures (f.0, f.3, hold_allows _ _ c.args.seat.now.me b.0 c.args.pipe b.1 f.1 _ f.2)
+pub take-requires-clause-busy : goal.take-requires-clause-busy
+take-requires-clause-busy c = let b = c.requires.busy in (b.0, b.1)
 
 pub returns-clause-holds : goal.returns-clause-holds
-returns-clause-holds c = let f = c.requires.fits in let b = c.requires.busy in let v = c.args.seat.now.me.0 in let w = c.compare_exchange.new.seat.me.0 in
-    λ e q is. let d = c.compare_exchange.ensures.2.0 (eqb-true _ _ e) c.args.pipe q c.pipe_word.ensures f.2 is in let who : b.0 ≡ q = (let z = sym b.1 ∙ is in cc) in
-    let x : Extends v (Hold q c.args.pipe) (Busy q) w = subst (λ (z : Role). Extends v (Hold q c.args.pipe) z w) is d.0 in
-    (x, alone_after v w q c.args.pipe is (subst (λ (z : Req). (n : ℕ) → holder v.seen n ≢ Some z) who b.2) x, d.1)
-
-pub returns-clause-step : goal.returns-clause-step
-returns-clause-step c = λ e. subst (λ (z : ℕ × ℕ). IsStep z.0 z.1 c.args.seat.now.me.0 c.compare_exchange.new.seat.me.0) (λ i. (c.pipe_word.ensures i, (eqb-true _ _ e) i)) c.compare_exchange.ensures.2.2
-
-pub returns-clause-looks : goal.returns-clause-looks
-returns-clause-looks c = λ ne. let m = c.compare_exchange.ensures.2.1 (λ hit. ne (eq-eqb _ _ hit)) in (m.0, m.1)
+returns-clause-holds c = let b = c.requires.busy in let v : View = c.args.seat.now.me.0 in let w : View = c.take.new.seat.me.0 in
+    λ e q is. let d = c.take.ensures.holds e q is in let who : b.0 ≡ q = one_worker b.0 q (sym b.1 ∙ is) in
+    (d.0, alone_after v w q c.args.pipe is (subst (λ (z : Req). (n : ℕ) → holder v.seen n ≢ Some z) who b.2) d.0, d.1)
 
 pub returns-clause-missed : goal.returns-clause-missed
-returns-clause-missed c = λ ne. let b = c.requires.busy in let v = c.args.seat.now.me.0 in let w = c.compare_exchange.new.seat.me.0 in let m = c.compare_exchange.ensures.2.1 (λ hit. ne (eq-eqb _ _ hit)) in
-    let o = m.2 c.args.pipe c.pipe_word.ensures in (
-      c.compare_exchange.result,
-      subst (λ (i : ℕ). IsStep i c.compare_exchange.result v w) c.pipe_word.ensures c.compare_exchange.ensures.2.2,
-      (λ hit. ne (eq-eqb _ _ hit)),
-      o.0,
-      o.1,
-      λ is. lacks_after v w b.0 c.args.pipe b.1 (b.2 c.args.pipe) m.0 (o.1 ∙ ap Some (one_worker o.0 b.0 (sym is ∙ (ap (λ (k : View). k.role) m.0.is ∙ b.1)))),
-    )
+returns-clause-missed c = λ ne. let b = c.requires.busy in let v : View = c.args.seat.now.me.0 in let w : View = c.take.new.seat.me.0 in let m = c.take.ensures.missed ne in let looked = (c.take.ensures.looks ne).0 in
+    (m.0, m.1, m.2, m.3, m.4, λ is. lacks_after v w b.0 c.args.pipe b.1 (b.2 c.args.pipe) looked (m.4 ∙ ap Some (one_worker m.3 b.0 (sym is ∙ (ap (λ (k : View). k.role) looked.is ∙ b.1)))))

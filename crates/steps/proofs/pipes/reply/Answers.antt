@@ -1,23 +1,21 @@
-use Rattle.std.proofs.Common.{◌≡◌, ℕ, ◌<◌, List, ◌∷◌, length, Option, Some, sym, ap, ◌∙◌, subst, ℤ, w32}
+use Rattle.std.proofs.Common.{◌≡◌, ℕ, ◌<◌, List, ◌∷◌, length, Option, sym, ap, ◌∙◌, subst, ℤ, w32}
 use Rattle.std.proofs.lemmas.Int.{to_z-of_z}
 use Rattle.std.proofs.lemmas.Bool.{lt-ltb}
 use Rattle.atomic_table.specs.Table.{rest}
 use Rattle.history.specs.declared.event.Event.TheVariants.{Reply}
 use Rattle.history.specs.declared.req.Req.{Req}
-use Rattle.history.specs.Pipes.{Flow}
 use Rattle.steps.specs.declared.line.Line.{Line}
 use Rattle.steps.specs.declared.line.Line.TheVariants.{Did}
 use Rattle.steps.specs.declared.parcel.Thing.{Thing}
-use Rattle.steps.specs.declared.parcel.Thing.TheVariants.{Piped}
 use Rattle.steps.specs.declared.view.Layout.{Layout}
 use Rattle.steps.specs.declared.view.Step.{Step}
 use Rattle.steps.specs.declared.view.View.{View}
 use Rattle.steps.specs.declared.view.Role.TheVariants.{Leaving}
-use Rattle.steps.specs.Cells.{request_at, pipe_at, PipeIs}
-use Rattle.steps.specs.Plays.{MayReply}
+use Rattle.steps.specs.Cells.{request_at, pipe_at}
+use Rattle.steps.specs.Plays.{HasPipe, MayReply}
 use Rattle.steps.specs.Rule.{Extends}
 use Rattle.steps.proofs.ViewsKept.{layout_after, role_after}
-use Rattle.steps.proofs.PipeSteps.{alone_replied, flow_replied}
+use Rattle.steps.proofs.PipeSteps.{alone_replied, pipe_replied}
 use Rattle.steps.proofs.pipes.reply.Goals as goal
 
 pub leave-requires : goal.leave-requires
@@ -26,14 +24,10 @@ leave-requires c =
     let q : Req = request_at v.layout.cells c.args.cell c.args.generation in let r = to_z-of_z w32 c.args.res c.ranges.res in
     let x : Extends v (Did (Reply q c.args.res a.1)) (Leaving q) w = subst (λ (z : ℤ). Extends v (Did (Reply q z a.1)) (Leaving q) w) r (c.reply_holding.ensures.replies a.0 a.1 (subst (λ (z : ℤ). MayReply c.args.seat.now.me c.args.cell q a.0 z a.1) (sym r) a.2)) in let there = lt-ltb p (length v.layout.caps) f.2 in
     let same : w.layout ≡ v.layout = layout_after v w (Did (Reply q c.args.res a.1)) (Leaving q) x in let given = a.2.parcel in
-    let flows = flow_replied v w q p c.requires.busy (Leaving q) c.args.res a.1 there c.requires.alone x a.0 _ a.2.placed_is given.2.1 in record {
+    let now = pipe_replied v w q p c.requires.busy (Leaving q) c.args.res a.1 there x c.args.seat.now.me.1 c.requires.alone.0 a.0 _ a.2.placed_is given.2.1 a.2.answers a.2.has a.4 in record {
       fits = (c.reply_holding.ensures.seat.0.0 ∙ f.0, f.1, subst (λ (z : Layout). p < length z.caps) (sym same) f.2, f.3);
-      leaving = (q, role_after v w (Did (Reply q c.args.res a.1)) (Leaving q) x, alone_replied v w q p c.requires.busy (Leaving q) c.args.res a.1 there c.requires.alone x);
-      pipe = (
-        a.4.0,
-        c.reply_holding.ensures.seat.1 ∙ (a.4.1 ∙ ap (λ (cs : List (ℕ × Option Thing)). (p, Some (Piped a.4.0)) ∷ rest cs) (sym c.reply_holding.ensures.seat.1)),
-        subst (λ (z : List ℕ × Flow). PipeIs z.0 p (Some (Piped a.4.0)) z.1) (λ i. (sym (ap (λ (z : Layout). z.caps) same) i, sym flows i)) a.4.2,
-      );
+      leaving = (q, role_after v w (Did (Reply q c.args.res a.1)) (Leaving q) x, alone_replied v w q p c.requires.busy (Leaving q) c.args.res a.1 there x c.requires.alone);
+      pipe = subst (λ (hand : List (ℕ × Option Thing)). HasPipe (w, hand) p (rest hand)) (sym c.reply_holding.ensures.seat.1) now;
     }
 
 pub returns : goal.returns

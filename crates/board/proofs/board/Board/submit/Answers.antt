@@ -11,6 +11,7 @@ use Rattle.work.proofs.GridRows.{counts_at}
 use Rattle.steps.specs.declared.view.Layout.{Layout}
 use Rattle.work.specs.Passes.{Pass, seen_of, Took}
 use Rattle.work.proofs.RunsKept.{took_both}
+use Rattle.board.specs.Batches.{steps_for}
 use Rattle.board.specs.Calls.{Goes, next_of}
 use Rattle.board.specs.Lanes.{nth, RefusesRoom}
 use Rattle.board.proofs.GoesLaws.{goes_then}
@@ -52,5 +53,5 @@ returns-clause-free c = let b : Facts = c.args.self.now in let p : Pass = c.args
 
 pub returns-clause-steps : goal.returns-clause-steps
 returns-clause-steps c = let b : Facts = c.args.self.now in let p : Pass = c.args.submitter.now in let m : Pass = c.room.new.self in let r = c.in_default.ensures in let go : Goes b p [] m = goes_watched b p m r.looks.0 c.requires r.table r.looks.2 in let ring = c.submit_next.result.ring in let old : p.view.role ≡ Submitter ring = sym go.role_is ∙ c.submit_next.ensures.role in
-    let grid : c.self.inside.grid ≡ b.layout.cells = ap (λ (z : Facts). z.layout.cells) c.self.view_is in let n : ℕ = r.looks.0 in let t = took_both p.view m.view c.submit_next.new.submitter.view n 3 (watched_took n p.view m.view r.looks.2) c.submit_next.ensures.steps in
-    (n, subst (λ (K : List ℕ). n ≤ cells_in K ring + 1) grid (r.looks.1 ring old), r.looks.3 ring old, subst (λ (k : ℕ). Took p.view c.submit_next.new.submitter.view k) (let e : 3 + n ≡ n + 3 = omega arith in e) t)
+    let grid : c.self.inside.grid ≡ b.layout.cells = ap (λ (z : Facts). z.layout.cells) c.self.view_is in let n : ℕ = r.looks.0 in let k : ℕ = steps_for c.args.sqe in let t = took_both p.view m.view c.submit_next.new.submitter.view n k (watched_took n p.view m.view r.looks.2) c.submit_next.ensures.steps in
+    (n, subst (λ (K : List ℕ). n ≤ cells_in K ring + 1) grid (r.looks.1 ring old), r.looks.3 ring old, subst (λ (k : ℕ). Took p.view c.submit_next.new.submitter.view k) (let e : k + n ≡ n + k = omega arith in e) t)

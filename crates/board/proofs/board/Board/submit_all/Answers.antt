@@ -1,8 +1,8 @@
-use Rattle.std.proofs.Common.{◌≡◌, ℕ, ◌+◌, ◌*◌, ◌==◌, reverse, sym, ap, ◌∙◌, subst}
+use Rattle.std.proofs.Common.{◌≡◌, ℕ, ◌+◌, ◌==◌, reverse, sym, ap, ◌∙◌, subst}
 use Rattle.std.proofs.lemmas.List.{length-reverse}
 use Rattle.history.specs.History.{submits}
 use Rattle.steps.specs.declared.view.Role.TheVariants.{Submitter}
-use Rattle.work.specs.Passes.{Pass, seen_of, Took}
+use Rattle.work.specs.Passes.{Pass, seen_of}
 use Rattle.board.specs.Batches.{Entries, is_empty, submits_of}
 use Rattle.board.specs.Calls.{Goes}
 use Rattle.board.specs.Lanes.{nth}
@@ -41,4 +41,4 @@ returns-clause-submitted c = λ ring role. let i = c.loop-sqe.invariant.0 in let
 pub returns-clause-steps : goal.returns-clause-steps
 returns-clause-steps c = let i = c.loop-sqe.invariant.0 in let p : Pass = c.args.submitter.now in let q : Pass = c.loop-sqe.submitter in
     let none = reverse_none c.loop-sqe.left.items (sym c.loop-sqe.left.ok.0 ∙ c.in_default.ensures.cases.0) in
-    subst (λ (n : ℕ). Took p.view q.view (3 * n)) (length-reverse c.args.left.items) (going_end c.args.self.now p q i (submits (seen_of p) i) (reverse c.args.left.items) (reverse c.loop-sqe.left.items) none c.loop-sqe.invariant.1).1
+    (going_end c.args.self.now p q i (submits (seen_of p) i) (reverse c.args.left.items) (reverse c.loop-sqe.left.items) none c.loop-sqe.invariant.1).1

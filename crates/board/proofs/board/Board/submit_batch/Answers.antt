@@ -1,5 +1,4 @@
-use Rattle.std.proofs.Common.{◌≡◌, ℕ, ◌+◌, ◌*◌, ◌/◌, ◌<◌, ◌≤◌, List, [], length, reverse, refl, sym, ap, ◌∙◌, subst, arith}
-use Rattle.std.proofs.lemmas.List.{length-reverse}
+use Rattle.std.proofs.Common.{◌≡◌, ℕ, ◌+◌, ◌/◌, ◌<◌, ◌≤◌, List, [], length, reverse, refl, sym, ap, ◌∙◌, subst, arith}
 use Rattle.history.specs.declared.req.Req.{Req}
 use Rattle.history.specs.History.{submits}
 use Rattle.steps.specs.declared.view.Role.TheVariants.{Submitter}
@@ -8,7 +7,7 @@ use Rattle.steps.specs.Fairness.{IsFree}
 use Rattle.work.specs.Board.{Facts}
 use Rattle.work.specs.Passes.{Pass, seen_of, Took}
 use Rattle.work.proofs.RunsKept.{took_both}
-use Rattle.board.specs.Batches.{Entries, AreFit, IsReady, submits_of}
+use Rattle.board.specs.Batches.{Entries, AreFit, IsReady, steps_in, submits_of}
 use Rattle.board.specs.Calls.{Goes}
 use Rattle.board.specs.Lanes.{nth, RefusesRoom}
 use Rattle.board.proofs.GoesLaws.{goes_then}
@@ -53,6 +52,6 @@ returns-clause-free c = λ i lt. let b : Facts = c.args.self.now in let p : Pass
     subst (λ (z : ℕ). IsFree b.layout.cells (seen_of c.submit_all.new.submitter) (nth ring (z + i))) (sym k) (free_then b m c.submit_all.new.submitter _ (nth ring (submits (seen_of p) ring + i)) s free)
 
 pub returns-clause-steps : goal.returns-clause-steps
-returns-clause-steps c = let b : Facts = c.args.self.now in let p : Pass = c.args.submitter.now in let m : Pass = c.room.new.self in let xs : Entries = c.args.batch.items in let r = c.in_default.ensures in let go : Goes b p [] m = goes_watched b p m r.looks.0 c.requires r.table r.looks.2 in let n = c.next_request-req.ensures in let ring = c.next_request-req.result.ring in let old : p.view.role ≡ Submitter ring = sym go.role_is ∙ n.role in let same : submits (seen_of m) ring ≡ submits (seen_of p) ring = watched_submits r.looks.0 p.view m.view ring old r.looks.2 in let grid : c.self.inside.grid ≡ b.layout.cells = ap (λ (z : Facts). z.layout.cells) c.self.view_is in let count : c.len.result ≡ length xs = c.len.ensures ∙ c.args.batch.ok.0 in let t : ℕ = r.looks.0 in let w = c.submit_all.new.submitter in let len : length c.reverse.new.self.items ≡ length xs = ap (λ (z : Entries). length z) c.reverse.ensures.items ∙ length-reverse xs in
-    let both = took_both p.view m.view w.view t (3 * length xs) (watched_took t p.view m.view r.looks.2) (subst (λ (z : ℕ). Took m.view w.view (3 * z)) len c.submit_all.ensures.steps) in let z : ℕ = 3 * length xs in
+returns-clause-steps c = let b : Facts = c.args.self.now in let p : Pass = c.args.submitter.now in let m : Pass = c.room.new.self in let xs : Entries = c.args.batch.items in let r = c.in_default.ensures in let go : Goes b p [] m = goes_watched b p m r.looks.0 c.requires r.table r.looks.2 in let n = c.next_request-req.ensures in let ring = c.next_request-req.result.ring in let old : p.view.role ≡ Submitter ring = sym go.role_is ∙ n.role in let same : submits (seen_of m) ring ≡ submits (seen_of p) ring = watched_submits r.looks.0 p.view m.view ring old r.looks.2 in let grid : c.self.inside.grid ≡ b.layout.cells = ap (λ (z : Facts). z.layout.cells) c.self.view_is in let count : c.len.result ≡ length xs = c.len.ensures ∙ c.args.batch.ok.0 in let t : ℕ = r.looks.0 in let w = c.submit_all.new.submitter in let back : reverse c.reverse.new.self.items ≡ xs = ap reverse c.reverse.ensures.items ∙ turned_back xs in
+    let both = took_both p.view m.view w.view t (steps_in xs) (watched_took t p.view m.view r.looks.2) (subst (λ (z : Entries). Took m.view w.view (steps_in z)) back c.submit_all.ensures.steps) in let z : ℕ = steps_in xs in
     (t, subst (λ (K : List ℕ). t ≤ cells_in K ring + 1) grid (r.looks.1 ring old), r.looks.3 ring old, subst (λ (k : ℕ). Took p.view w.view k) (let e : z + t ≡ t + z = omega arith in e) both)

@@ -1,20 +1,20 @@
 use Rattle.std.proofs.Common.{◌≡◌, ℕ, ◌/◌, ◌<◌, List, [], ◌∷◌, refl, sym, ap, ◌∙◌, subst}
 use Rattle.history.specs.declared.req.Req.{Req}
 use Rattle.history.specs.declared.event.Event.TheVariants.{Submit}
-use Rattle.steps.specs.declared.line.Line.TheVariants.{Did, Lent, Noted}
+use Rattle.steps.specs.declared.line.Line.TheVariants.{Did}
 use Rattle.steps.specs.declared.view.Layout.{Layout}
-use Rattle.steps.specs.declared.view.Role.TheVariants.{Submitter, Lending}
-use Rattle.steps.specs.Cells.{IsCell, request_at, cells_in, facts_at, user_at}
+use Rattle.steps.specs.declared.view.Role.TheVariants.{Submitter}
+use Rattle.steps.specs.Cells.{IsCell, request_at, cells_in, facts_at}
+use Rattle.steps.specs.Notes.{notes_of}
 use Rattle.steps.specs.Fairness.{IsFree}
-use Rattle.steps.specs.Rule.{ExtendsThrice}
+use Rattle.steps.specs.Rule.{ExtendsNoted}
 use Rattle.work.specs.Board.{Facts}
 use Rattle.work.specs.Passes.{seen_of}
 use Rattle.board.specs.Calls.{next_of, Goes}
-use Rattle.board.proofs.GoesLaws.{goes_thrice}
-use Rattle.board.proofs.PassFacts.{took_three}
+use Rattle.board.proofs.GoesLaws.{goes_noted}
 use Rattle.history.specs.History.{submits}
 use Rattle.board.specs.Lanes.{nth}
-use Rattle.board.proofs.BatchesKept.{thrice_next}
+use Rattle.board.proofs.BatchesKept.{noted_next, took_noted}
 use Rattle.board.proofs.SubmitterLooks.{generation_is}
 use Rattle.board.proofs.board.Board.submit_next.Goals as goal
 
@@ -39,15 +39,15 @@ returns-clause-submitted c = let b = c.args.self.now in let p = c.args.submitter
     let inside : IsCell b.layout.cells s.cell = subst (λ (K : List ℕ). IsCell K s.cell) grid c.in-Some.ensures.some.0 in
     let at : request_at b.layout.cells s.cell s.generation ≡ next_of p i = subst (λ (K : List ℕ). request_at K s.cell s.generation ≡ next_of p i) grid (c.in-Some.ensures.some.1 ∙ n.next) in
     let here : request_at p.view.layout.cells s.cell s.generation ≡ next_of p i = ap (λ (L : Layout). request_at L.cells s.cell s.generation) c.requires.of.layout_is ∙ at in let z = c.submit.ensures.submits in let d = c.args.parcel in
-    let own : Goes b p (Submit (next_of p i) d.sqe d.buffer.items d.last ∷ []) c.submit.new.self = goes_thrice b p c.submit.new.self (next_of p i) (Lent (next_of p i) (facts_at s.cell) z.0) (Noted (next_of p i) (user_at s.cell) d.sqe.user_data) (Submit (next_of p i) d.sqe d.buffer.items d.last) (λ h. refl) (λ h. refl) c.requires.of c.submit.ensures.table n.role refl
-    (subst (λ (r : Req). ExtendsThrice p.view (Lent r (facts_at s.cell) z.0) (Lending r) (Noted r (user_at s.cell) d.sqe.user_data) (Lending r) (Did (Submit r d.sqe d.buffer.items d.last)) (Submitter r.ring) c.submit.new.self.view) here z.1) in
+    let own : Goes b p (Submit (next_of p i) d.sqe d.buffer.items d.last ∷ []) c.submit.new.self = goes_noted b p c.submit.new.self (next_of p i) (facts_at s.cell, z.0) (notes_of s.cell d.sqe) (Submit (next_of p i) d.sqe d.buffer.items d.last) c.requires.of c.submit.ensures.table n.role refl
+    (subst (λ (r : Req). ExtendsNoted p.view r (facts_at s.cell, z.0) (notes_of s.cell d.sqe) (Did (Submit r d.sqe d.buffer.items d.last)) (Submitter r.ring) c.submit.new.self.view) here z.1) in
     λ ring role'. (let r = n.role in let same' : i ≡ ring = cc in (n.next ∙ ap (next_of p) same', subst (λ (r : Req). Goes b p (Submit r d.sqe d.buffer.items d.last ∷ []) c.submit.new.self) (sym n.next) own))
 
 pub returns-clause-steps : goal.returns-clause-steps
-returns-clause-steps c = let z = c.submit.ensures.steps in took_three c.args.submitter.now.view z.0 z.2.0 c.submit.new.self.view z.1.0 _ z.1.1 z.2.1.0 _ z.2.1.1 z.2.2.0 _ z.2.2.1
+returns-clause-steps c = took_noted c.in-Some.spot.cell c.args.parcel.sqe c.args.submitter.now.view c.submit.new.self.view c.submit.ensures.steps
 
 pub returns-clause-next : goal.returns-clause-next
 returns-clause-next c = λ ring role. let p = c.args.submitter.now in let o = c.in-Some.spot in let z = c.submit.ensures.submits in let n = c.next_request-req.ensures in let d = c.args.parcel in
     let b = c.args.self.now in let grid : c.self.inside.grid ≡ p.view.layout.cells = ap (λ (z : Facts). z.layout.cells) c.self.view_is ∙ ap (λ (L : Layout). L.cells) (sym c.requires.of.layout_is) in let same' : c.next_request-req.result.ring ≡ ring = (let r = n.role in cc) in
     let here : request_at p.view.layout.cells o.cell o.generation ≡ nth ring (submits (seen_of p) ring) = subst (λ (K : List ℕ). request_at K o.cell o.generation ≡ c.next_request-req.result) grid c.in-Some.ensures.some.1 ∙ (n.next ∙ ap (next_of p) same') in
-    thrice_next p.view c.submit.new.self.view ring (submits (seen_of p) ring) z.0 d.sqe.user_data o.cell (request_at p.view.layout.cells o.cell o.generation) d.sqe d.buffer.items d.last role here refl z.1
+    noted_next p.view c.submit.new.self.view ring (submits (seen_of p) ring) (facts_at o.cell, z.0) (notes_of o.cell d.sqe) (request_at p.view.layout.cells o.cell o.generation) d.sqe d.buffer.items d.last role here refl z.1

@@ -2,16 +2,17 @@ use Rattle.std.proofs.Common.{◌≡◌, ◌≤◌, ◌+◌, ℕ, ◌<◌, ◌�
 use Rattle.history.specs.declared.req.Req.{Req}
 use Rattle.history.specs.declared.event.Event.TheVariants.{Submit}
 use Rattle.history.specs.History.{submits}
-use Rattle.steps.specs.declared.line.Line.TheVariants.{Did, Lent, Noted}
-use Rattle.steps.specs.declared.view.Role.TheVariants.{Submitter, Lending}
+use Rattle.steps.specs.declared.line.Line.TheVariants.{Did}
+use Rattle.steps.specs.declared.view.Role.TheVariants.{Submitter}
 use Rattle.steps.specs.Fairness.{IsFree}
 use Rattle.steps.specs.Journal.{events_of}
-use Rattle.steps.specs.Cells.{request_at, cells_in, facts_at, user_at}
-use Rattle.steps.specs.Rule.{ExtendsThrice}
+use Rattle.steps.specs.Cells.{request_at, cells_in, facts_at}
+use Rattle.steps.specs.Notes.{notes_of}
+use Rattle.steps.specs.Rule.{ExtendsNoted}
 use Rattle.work.specs.Passes.{Pass, seen_of}
 use Rattle.board.specs.Lanes.{nth, KnowsChains}
 use Rattle.board.specs.Seats.{IsNextCell, IsSubmitterSeat}
-use Rattle.board.proofs.SubmitterSeats.{cell_here, seat_submitted, few_next}
+use Rattle.board.proofs.SubmitterSeats.{cell_here, notes_other, seat_submitted, few_next}
 use Rattle.board.proofs.LanesKept.{vacant_by}
 use Rattle.board.proofs.LaneSeats.{chains_after}
 use Rattle.board.proofs.submitter.Submitter.submit.Goals as goal
@@ -32,14 +33,14 @@ invariant_of-self c = let s = c.self.inside in let o = c.args.spot in let k = su
     let r : request_at K o.cell o.generation ≡ nth s.lane.ring s.lane.next = (λ i. record { ring = h.0 i; k = next i }) in
     let many : length s.lane.ages.items ≡ cells_in K s.lane.ring = c.self.invariant.0.many.0 in let b = c.go_on.new.self in
     let free = subst (λ (q : Pass). IsFree q.view.layout.cells (seen_of q) (request_at q.view.layout.cells o.cell o.generation)) (sym c.self.view_is) c.requires.free in
-    let chains : KnowsChains c.submit-facts.new.seat.me.0 s.lane.ring (s.lane.next + 1) b.done b.hosted = chains_after s.seat.me.0 c.submit-facts.new.seat.me.0 s.lane.ring s.lane.next s.lane.done s.lane.hosted (request_at K o.cell o.generation) p.sqe p.buffer.items p.last b.done b.hosted c.self.invariant.0.role r c.self.invariant.1 o.cell c.submit-facts.result p.sqe.user_data
+    let chains : KnowsChains c.submit-facts.new.seat.me.0 s.lane.ring (s.lane.next + 1) b.done b.hosted = chains_after s.seat.me.0 c.submit-facts.new.seat.me.0 s.lane.ring s.lane.next s.lane.done s.lane.hosted (request_at K o.cell o.generation) p.sqe p.buffer.items p.last b.done b.hosted c.self.invariant.0.role r c.self.invariant.1 (facts_at o.cell, c.submit-facts.result) (notes_of o.cell p.sqe)
     c.submit-facts.ensures.submits free (g.next.2 ∙ c.hosts-hosted.ensures p.buffer.items) (subst (λ (z : ℕ × ℕ). (b.done ≡ s.lane.done) ⊎ ((s.lane.done < b.done) × (b.done + z.0 ≡ z.1))) (λ i. (many i, g.next.1 i)) g.done) (subst (λ (z : ℕ × ℕ). z.1 ≤ b.done + z.0) (λ i. (many i, g.next.1 i)) g.near) in (
       subst (λ (z : ℕ × ℕ × List ℕ × List ℕ). IsSubmitterSeat c.submit-facts.new.seat z.0 z.1 z.2 z.3) (λ i. (sym g.next.0 i, sym g.next.1 i, sym (ap (λ v. v.items) g.cells.0) i, sym g.cells.1 i))
           (subst (λ (i : ℕ). IsSubmitterSeat c.submit-facts.new.seat s.lane.ring (s.lane.next + 1) s.lane.ages.items (set s.lane.facts.items i c.submit-facts.result)) (sym k.number_is)
-          (seat_submitted s.seat c.submit-facts.new.seat s.lane.ring s.lane.next s.lane.ages.items s.lane.facts.items c.self.invariant.0 o.cell o.generation c.submit-facts.result k.inside h.0 c.submit-facts.ensures.seat.1 p.sqe p.buffer.items p.last p.sqe.user_data c.submit-facts.ensures.submits f)),
+          (seat_submitted s.seat c.submit-facts.new.seat s.lane.ring s.lane.next s.lane.ages.items s.lane.facts.items c.self.invariant.0 o.cell o.generation c.submit-facts.result k.inside h.0 c.submit-facts.ensures.seat.1 p.sqe p.buffer.items p.last (notes_of o.cell p.sqe) (notes_other o.cell p.sqe) c.submit-facts.ensures.submits f)),
       subst (λ (z : ℕ × ℕ). KnowsChains c.submit-facts.new.seat.me.0 z.0 z.1 b.done b.hosted) (λ i. (sym g.next.0 i, sym g.next.1 i)) chains,
     )
 
 pub returns-clause-submits : goal.returns-clause-submits
 returns-clause-submits c = let o = c.args.spot in let p = c.args.parcel in let fact = c.submit-facts.result in
-    (fact, subst (λ (m : Pass). let r : Req = request_at m.view.layout.cells o.cell o.generation in ExtendsThrice m.view (Lent r (facts_at o.cell) fact) (Lending r) (Noted r (user_at o.cell) p.sqe.user_data) (Lending r) (Did (Submit r p.sqe p.buffer.items p.last)) (Submitter r.ring) c.submit-facts.new.seat.me.0) c.self.view_is c.submit-facts.ensures.submits)
+    (fact, subst (λ (m : Pass). let r : Req = request_at m.view.layout.cells o.cell o.generation in ExtendsNoted m.view r (facts_at o.cell, fact) (notes_of o.cell p.sqe) (Did (Submit r p.sqe p.buffer.items p.last)) (Submitter r.ring) c.submit-facts.new.seat.me.0) c.self.view_is c.submit-facts.ensures.submits)

@@ -1,8 +1,8 @@
 use Rattle.std.proofs.Common.{rules, ◌≡◌, ℕ, ◌<◌, true, ℤ, [], ◌∷◌, length, Some, None, sym, refl, ap, ◌∙◌, subst, to_z, of_z, w32}
 use Rattle.std.proofs.lemmas.Int.{to_z-of_z}
 use Rattle.atomic_table.specs.Table.{rest}
-use Rattle.answers.specs.Answered.{is_plain, IsPast}
-use Rattle.answers.specs.NamedEnds.{pipe_in}
+use Rattle.answers.specs.Answered.{is_plain}
+use Rattle.answers.specs.NamedEnds.{UsesNone}
 use Rattle.entry.specs.declared.op.Op.{Op}
 use Rattle.entry.specs.Entry.{Entry}
 use Rattle.history.specs.Answers.{OpAnswers}
@@ -31,7 +31,7 @@ answer_without-res-requires-clause-plain c = let b = c.self.inside in let i = c.
 
 pub reply-requires-clause-answer : goal.reply-requires-clause-answer
 reply-requires-clause-answer c = let b = c.self.inside in let i = c.self.invariant in let m = c.put_back.ensures.seat.2 in let table = b.words.now.table_id in
-    let past = subst (λ (k : Running). (e : Entry) → IsPlaced (seen_of k.pass) k.req e → IsPast (pipe_in e.op) (length k.pass.view.layout.caps)) (sym c.self.view_is) c.requires.past (run_as b.parcel.sqe) (runs_placed table b.seat.me.0 b.seat.me.0 b.cell b.generation b.req b.parcel b.pipes i.runs) in
+    let past = subst (λ (k : Running). (e : Entry) → IsPlaced (seen_of k.pass) k.req e → UsesNone e.op (length k.pass.view.layout.caps)) (sym c.self.view_is) c.requires.past (run_as b.parcel.sqe) (runs_placed table b.seat.me.0 b.seat.me.0 b.cell b.generation b.req b.parcel b.pipes i.runs) in
     let z : Seated = (b.seat.me.0, (slot_at b.cell, Some (Full b.parcel)) ∷ rest b.seat.me.1) in
     let rz = to_z-of_z w32 c.answer_without-res.result (search rules) in let answers = subst (λ (o : Op × ℤ). OpAnswers b.seat.me.0.layout.caps (events_of b.seat.me.0.seen) b.req o.0 o.1 []) (λ k. (c.op_placed.ensures k, sym rz k)) (c.answer_without-res.ensures b.seat.me.0.layout.caps (events_of b.seat.me.0.seen) b.req i.runs.pipes_are.0) in
     (run_as b.parcel.sqe, [], subst (λ (y : Seated). MayReply y b.cell (request_at y.0.layout.cells b.cell b.generation) (run_as b.parcel.sqe) (to_z w32 (of_z w32 c.answer_without-res.result)) []) (sym m) (plain_may table z b.cell b.generation b.req b.parcel b.pipes i.runs (to_z w32 (of_z w32 c.answer_without-res.result)) refl past answers), c.fails_placed-fails.ensures)
@@ -49,7 +49,7 @@ returns-clause-step c = let b = c.self.inside in let m = c.put_back.ensures.seat
 
 pub returns-clause-replied : goal.returns-clause-replied
 returns-clause-replied c = let b = c.self.inside in let i = c.self.invariant in let m = c.put_back.ensures.seat.2 in let table = b.words.now.table_id in
-    let past = subst (λ (k : Running). (e : Entry) → IsPlaced (seen_of k.pass) k.req e → IsPast (pipe_in e.op) (length k.pass.view.layout.caps)) (sym c.self.view_is) c.requires.past (run_as b.parcel.sqe) (runs_placed table b.seat.me.0 b.seat.me.0 b.cell b.generation b.req b.parcel b.pipes i.runs) in
+    let past = subst (λ (k : Running). (e : Entry) → IsPlaced (seen_of k.pass) k.req e → UsesNone e.op (length k.pass.view.layout.caps)) (sym c.self.view_is) c.requires.past (run_as b.parcel.sqe) (runs_placed table b.seat.me.0 b.seat.me.0 b.cell b.generation b.req b.parcel b.pipes i.runs) in
     let z : Seated = (b.seat.me.0, (slot_at b.cell, Some (Full b.parcel)) ∷ rest b.seat.me.1) in let res = to_z w32 (of_z w32 c.answer_without-res.result) in
     let rz = to_z-of_z w32 c.answer_without-res.result (search rules) in let answers = subst (λ (o : Op × ℤ). OpAnswers b.seat.me.0.layout.caps (events_of b.seat.me.0.seen) b.req o.0 o.1 []) (λ k. (c.op_placed.ensures k, sym rz k)) (c.answer_without-res.ensures b.seat.me.0.layout.caps (events_of b.seat.me.0.seen) b.req i.runs.pipes_are.0) in
     let may = subst (λ (y : Seated). MayReply y b.cell (request_at y.0.layout.cells b.cell b.generation) (run_as b.parcel.sqe) res []) (sym m) (plain_may table z b.cell b.generation b.req b.parcel b.pipes i.runs res refl past answers) in

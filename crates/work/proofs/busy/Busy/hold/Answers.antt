@@ -1,10 +1,11 @@
-use Rattle.std.proofs.Common.{◌≡◌, ℕ, ◌<◌, true≢false, List, ◌∷◌, length, slice_index, Option, Some, None, sym, refl, ap, ◌∙◌, subst, arith}
+use Rattle.std.proofs.Common.{◌≡◌, ℕ, ◌<◌, true, true≢false, List, ◌∷◌, length, slice_index, Option, Some, None, sym, refl, ap, ◌∙◌, subst, arith}
 use Rattle.atomic_table.specs.Table.{rest}
 use Rattle.answers.specs.Answered.{IsPipe}
-use Rattle.answers.specs.NamedEnds.{pipe_in}
+use Rattle.entry.specs.declared.op.Op.{Op}
 use Rattle.entry.specs.Entry.{Entry}
 use Rattle.history.specs.Chains.{IsPlaced}
 use Rattle.history.specs.Pipes.{flow}
+use Rattle.history.specs.Users.{uses_at}
 use Rattle.pipe.specs.Pipe.{Conduit}
 use Rattle.steps.specs.declared.line.Line.TheVariants.{Hold}
 use Rattle.steps.specs.declared.parcel.Thing.{Thing}
@@ -20,7 +21,7 @@ use Rattle.steps.proofs.ViewsKept.{layout_after}
 use Rattle.steps.proofs.PipeSteps.{lacks_after}
 use Rattle.work.specs.Passes.{Running, RunsIt, seen_of}
 use Rattle.work.specs.WorkerRuns.{MissedPipe}
-use Rattle.work.proofs.RunsKept.{runs_on, runs_look, named_by, grid_on, same_hit_looked, same_hit_silent}
+use Rattle.work.proofs.RunsKept.{runs_on, runs_look, handed_by, grid_on, same_hit_looked, same_hit_silent}
 use Rattle.work.proofs.busy.Busy.hold.Goals as goal
 
 same_conduit : (a b : Conduit) → ◌≡◌ {A = Option Thing} (Some (Piped a)) (Some (Piped b)) → a ≡ b
@@ -28,7 +29,7 @@ same_conduit a b e = cc
 
 pub hold-requires-clause-fits : goal.hold-requires-clause-fits
 hold-requires-clause-fits c = let b = c.self.inside in let i = c.self.invariant in let a = i.runs.pipes_are in let f = i.runs.fits in
-    let named = named_by b.words.now.table_id b.seat.me.0 b.seat.me.0 b.cell b.generation b.req b.parcel b.pipes i.runs c.args.pipe (length b.seat.me.0.layout.caps) (subst (λ (k : Running). (e : Entry) → IsPlaced (seen_of k.pass) k.req e → (pipe_in e.op ≡ Some c.args.pipe) × (c.args.pipe < length k.pass.view.layout.caps)) (sym c.self.view_is) c.requires.named) in
+    let named = handed_by b.words.now.table_id b.seat.me.0 b.seat.me.0 b.cell b.generation b.req b.parcel b.pipes i.runs (λ (o : Op). (uses_at o c.args.pipe ≡ true) × (c.args.pipe < length b.seat.me.0.layout.caps)) c.args.pipe (λ o u. u.0) (subst (λ (k : Running). (e : Entry) → IsPlaced (seen_of k.pass) k.req e → (uses_at e.op c.args.pipe ≡ true) × (c.args.pipe < length k.pass.view.layout.caps)) (sym c.self.view_is) c.requires.named) in
     (i.table_is, (let n = named.1 in omega arith), named.1, (let n = named.1 in omega arith))
 
 pub invariant_of-result : goal.invariant_of-result
@@ -55,7 +56,7 @@ pipe_of-requires c = let b = c.self.inside in let i = c.self.invariant in let h 
 
 pub invariant_of-result-2 : goal.invariant_of-result-2
 invariant_of-result-2 c = let b = c.self.inside in let i = c.self.invariant in let k = c.if-not-hold.ensures in let x = k.holds refl b.req i.runs.role in let h = x.2 in let m = c.exchange-thing.ensures.3 in let v : View = c.hold.new.seat.me.0 in
-    let named = named_by b.words.now.table_id b.seat.me.0 b.seat.me.0 b.cell b.generation b.req b.parcel b.pipes i.runs c.args.pipe (length b.seat.me.0.layout.caps) (subst (λ (k : Running). (e : Entry) → IsPlaced (seen_of k.pass) k.req e → (pipe_in e.op ≡ Some c.args.pipe) × (c.args.pipe < length k.pass.view.layout.caps)) (sym c.self.view_is) c.requires.named) in
+    let named = handed_by b.words.now.table_id b.seat.me.0 b.seat.me.0 b.cell b.generation b.req b.parcel b.pipes i.runs (λ (o : Op). (uses_at o c.args.pipe ≡ true) × (c.args.pipe < length b.seat.me.0.layout.caps)) c.args.pipe (λ o u. u.0) (subst (λ (k : Running). (e : Entry) → IsPlaced (seen_of k.pass) k.req e → (uses_at e.op c.args.pipe ≡ true) × (c.args.pipe < length k.pass.view.layout.caps)) (sym c.self.view_is) c.requires.named) in
     let same : h.0 ≡ c.pipe_of.result = same_conduit h.0 c.pipe_of.result (ap in_hand (sym h.1 ∙ c.exchange-thing.ensures.2) ∙ c.pipe_of.ensures.is) in
     let runs = runs_on b.words.now.table_id b.seat.me.0 v b.cell b.generation b.req b.parcel b.pipes i.runs (Hold b.req c.args.pipe) x.0 in record {
       table_is = c.exchange-thing.ensures.0 ∙ (k.seat.0 ∙ i.table_is);

@@ -1,0 +1,40 @@
+use Rattle.std.proofs.Common.{sym, ap, subst}
+use Rattle.history.specs.declared.req.Req.{Req}
+use Rattle.work.specs.Board.{Facts}
+use Rattle.work.specs.Passes.{pass_of}
+use Rattle.board.specs.declared.phase.Phase.{Phase as Standing}
+use Rattle.board.specs.Calls.{Stands}
+use Rattle.board.proofs.Countings.{tells_pending, tells_replied}
+use Rattle.board.proofs.PassFacts.{found_word, spot_of}
+use Rattle.board.proofs.Watching.{paid_one, watched_look}
+use Rattle.board.proofs.counting.has_replied.Goals as goal
+
+pub told-requires : goal.told-requires
+told-requires c = let e = c.look-word.ensures in found_word c.args.board.now (pass_of c.args.seat.now) (pass_of c.look-word.new.seat) c.in-Some.spot.cell c.look-word.result c.requires.ours.ours e.seat.0.0 e.looks e.shown
+
+pub returns-in-Unborn : goal.returns-in-Unborn
+returns-in-Unborn c = let b = c.args.board.now in let s = c.args.seat.now in let t = c.look-word.new.seat in let e = c.look-word.ensures in let x = c.in-Some.spot in
+    let at = spot_of b (pass_of s) c.board.inside.grid x.cell x.generation c.args.req c.requires.ours.ours (sym (ap (λ (z : Facts). z.layout.cells) c.board.view_is)) c.in-Some.ensures.some.1 in
+    let stands : Stands t.me.0.seen c.args.req c.told.result = subst (λ (r : Req). Stands t.me.0.seen r c.told.result) at (c.told.ensures.stands s.me.0.layout.cells t.me.0.seen x.cell e.shown) in record {
+      watched = watched_look b s t c.requires.ours e.seat e.looks;
+      told = subst (λ (z : Standing). Stands t.me.0.seen c.args.req z) c.in-Unborn.is stands;
+      steps = paid_one _ _ s.me.0 t.me.0 e.step;
+    }
+
+pub returns-in-Done : goal.returns-in-Done
+returns-in-Done c = let b = c.args.board.now in let s = c.args.seat.now in let t = c.look-word.new.seat in let e = c.look-word.ensures in let x = c.in-Some.spot in
+    let at = spot_of b (pass_of s) c.board.inside.grid x.cell x.generation c.args.req c.requires.ours.ours (sym (ap (λ (z : Facts). z.layout.cells) c.board.view_is)) c.in-Some.ensures.some.1 in
+    let stands : Stands t.me.0.seen c.args.req c.told.result = subst (λ (r : Req). Stands t.me.0.seen r c.told.result) at (c.told.ensures.stands s.me.0.layout.cells t.me.0.seen x.cell e.shown) in let w = watched_look b s t c.requires.ours e.seat e.looks in record {
+      watched = w;
+      told = tells_replied b t c.args.req w.goes.kept c.told.result stands c.in-Done.is;
+      steps = paid_one _ _ s.me.0 t.me.0 e.step;
+    }
+
+pub returns-in_default-told : goal.returns-in_default-told
+returns-in_default-told c = let b = c.args.board.now in let s = c.args.seat.now in let t = c.look-word.new.seat in let e = c.look-word.ensures in let x = c.in-Some.spot in
+    let at = spot_of b (pass_of s) c.board.inside.grid x.cell x.generation c.args.req c.requires.ours.ours (sym (ap (λ (z : Facts). z.layout.cells) c.board.view_is)) c.in-Some.ensures.some.1 in
+    let stands : Stands t.me.0.seen c.args.req c.told.result = subst (λ (r : Req). Stands t.me.0.seen r c.told.result) at (c.told.ensures.stands s.me.0.layout.cells t.me.0.seen x.cell e.shown) in let w = watched_look b s t c.requires.ours e.seat e.looks in record {
+      watched = w;
+      told = tells_pending b t c.args.req w.goes.kept c.told.result stands c.in_default-told.not-Unborn c.in_default-told.not-Done c.in_default-told.not-Gone;
+      steps = paid_one _ _ s.me.0 t.me.0 e.step;
+    }

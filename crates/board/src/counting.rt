@@ -1,0 +1,121 @@
+//! How the poller answers a TIMEOUT that counts completions: it looks which later requests of its ring have replied.
+ghost use Rattle.std.specs.Prelude.{◌≡◌, ℕ, ◌+◌, ◌-◌, ◌<◌, ◌≤◌, true, false, Some, length};
+ghost use Rattle.entry.specs.Entry.{Entry};
+ghost use Rattle.history.specs.Chains.{IsPlaced};
+ghost use Rattle.history.specs.History.{armed, later_replies, phase, submits};
+ghost use Rattle.history.specs.Legal.{count_of};
+ghost use Rattle.steps.specs.Cells.{cells_in};
+ghost use Rattle.steps.specs.Journal.{events_of};
+ghost use Rattle.work.specs.Passes.{pass_of};
+ghost use Rattle.board.specs.declared.poller.Counting.TheVariants.{Counted, NotArmed as NoneToCount};
+ghost use Rattle.board.specs.PollerRows.{IsAt, IsNumbered, IsOurs, Paid, Watched};
+ghost use Rattle.board.specs.PollerTimers.{KnowsAlarm};
+ghost use Rattle.board.specs.Seats.{IsPollerSeat};
+ghost use Rattle.board.specs.TimerCalls.{Counts, TellsReply};
+
+use crate::alarm::Alarm;
+use crate::board::Board;
+use crate::phase::{Phase, told};
+use crate::poller::Counting;
+use history::Req;
+use steps::{TableSeat, seat, timers};
+use work::Spot;
+
+/// Whether a request has replied. None where it wasn't submitted yet.
+fn has_replied(board: &Board, seat: &mut TableSeat, req: Req) -> Option<bool>
+    requires ours { IsOurs board.now seat.old }
+    requires there { req.ring < length board.now.layout.cells }
+    ensures watched { Watched board.now seat.old seat.new }
+    ensures told { TellsReply (events_of seat.new.me.0.seen) req result }
+    ensures steps { Paid seat.old.me.0 seat.new.me.0 0 1 }
+{
+    let Some(spot) = board.grid.locate(req) else {
+        unreachable!()
+    };
+    let word = seat::look(&board.table.shared, seat, spot.cell);
+    match told(word, spot.generation) {
+        Phase::Unborn => None,
+        Phase::Done(_) | Phase::Gone => Some(true),
+        _ => Some(false),
+    }
+}
+
+/// Whether so many later requests of its ring have replied. It looks at no more than may have been submitted while the request
+/// keeps its cell.
+fn has_counted(board: &Board, seat: &mut TableSeat, req: Req, count: u64) -> bool
+    requires ours { IsOurs board.now seat.old }
+    requires numbered { IsNumbered board.now.layout.cells req }
+    requires born { req.k < submits (events_of seat.old.me.0.seen) req.ring }
+    requires held { submits (events_of seat.old.me.0.seen) req.ring ≤ req.k + cells_in board.now.layout.cells req.ring }
+    ensures watched { Watched board.now seat.old seat.new }
+    ensures enough { result ≡ true → count ≤ later_replies (events_of seat.new.me.0.seen) req }
+    ensures fewer { result ≡ false → later_replies (events_of seat.old.me.0.seen) req < count }
+    ensures steps { Paid seat.old.me.0 seat.new.me.0 0 (cells_in board.now.layout.cells req.ring - 1) }
+{
+    let end = req.k + board.grid.cells_in(usize::from(req.ring));
+    let mut found = 0u64;
+    let mut k = req.k + 1;
+    while k < end && found < count {
+        let later = Req { ring: req.ring, k };
+        let Some(replied) = has_replied(board, seat, later) else {
+            return false;
+        };
+        found += u64::from(replied);
+        k += 1;
+    }
+    count <= found
+}
+
+/// Answers a TIMEOUT that may be armed with this deadline alone, and has counted enough completions. Whether it was armed.
+fn end_counted(board: &Board, seat: &mut TableSeat, spot: Spot, req: Req, deadline: u32) -> bool
+    requires ours { IsOurs board.now seat.old }
+    requires at { IsAt board.now.layout.cells spot.cell spot.generation req }
+    requires small { spot.generation < 16777216 }
+    requires armed { (d : ℕ) → phase (events_of seat.old.me.0.seen) req ≡ armed d → d ≡ deadline }
+    requires born { req.k < submits (events_of seat.old.me.0.seen) req.ring }
+    requires enough { (e : Entry) × IsPlaced (events_of seat.old.me.0.seen) req e × (0 < count_of e.op) × (count_of e.op ≤ later_replies (events_of seat.old.me.0.seen) req) }
+    ensures seat { IsPollerSeat seat.new }
+    ensures counted { result ≡ true → Counts board.now req (pass_of seat.old) (pass_of seat.new) Counted }
+    ensures missed { result ≡ false → Counts board.now req (pass_of seat.old) (pass_of seat.new) NoneToCount }
+    ensures steps { Paid seat.old.me.0 seat.new.me.0 0 1 }
+{
+    let _ = req;
+    let words = &board.table.shared;
+    timers::count(words, seat, spot.cell, spot.generation as u32, deadline)
+}
+
+/// Answers the request, if it is a TIMEOUT that is armed and has counted enough completions. `alarm` is what is kept of the
+/// cell's timer.
+pub(crate) fn count(
+    board: &Board,
+    seat: &mut TableSeat,
+    alarm: Alarm,
+    spot: Spot,
+    req: Req,
+) -> Counting
+    requires ours { IsOurs board.now seat.old }
+    requires at { IsAt board.now.layout.cells spot.cell spot.generation req }
+    requires knows { KnowsAlarm (events_of seat.old.me.0.seen) req (Some alarm) }
+    ensures seat { IsPollerSeat seat.new }
+    ensures counts { Counts board.now req (pass_of seat.old) (pass_of seat.new) result }
+    ensures steps { Paid seat.old.me.0 seat.new.me.0 0 (cells_in board.now.layout.cells req.ring + 1) }
+{
+    let word = seat::look(&board.table.shared, seat, spot.cell);
+    let Phase::Armed(deadline) = told(word, spot.generation) else {
+        return Counting::NotArmed;
+    };
+    let Alarm::Alone(_, count) = alarm else {
+        return Counting::NotCounted;
+    };
+    if count == 0 {
+        return Counting::NotCounted;
+    }
+    if !has_counted(board, seat, req, count) {
+        return Counting::Fewer;
+    }
+    if end_counted(board, seat, spot, req, deadline) {
+        Counting::Counted
+    } else {
+        Counting::NotArmed
+    }
+}

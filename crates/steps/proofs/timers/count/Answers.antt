@@ -1,0 +1,32 @@
+use Rattle.std.proofs.Common.{ℕ, ◌∙◌, eq-eqb, ◌≡◌, true, pos, sym, refl, subst, arith, eqb-true}
+use Rattle.steps.specs.Cells.{reply_bits}
+use Rattle.steps.specs.Rule.{pollers, stands_for, IsStep}
+use Rattle.steps.proofs.StepKinds.{either_way}
+use Rattle.steps.proofs.TimerSteps.{count_allows}
+use Rattle.steps.proofs.timers.count.Goals as goal
+
+pub compare_exchange-requires : goal.compare_exchange-requires
+compare_exchange-requires c = let f = c.requires.fits in let role = c.requires.poller.0.1 in let bits : reply_bits (pos 0) 0 = (omega arith, refl) in
+    rw c.claim_word.ensures (
+      f.0,
+      omega arith,
+      count_allows _ _ _ (subst (λ z. stands_for z pollers ≡ true) (sym role) refl) c.requires.poller.1 c.args.cell c.args.generation f.2 c.requires.small (λ q e. (let y = sym role in cc)) c.requires.submitted _ _ _ c.args.deadline 0 c.requires.counted.0 (λ e. (let y = sym role in cc)) (let r = c.ranges.deadline.fits in omega arith) bits c.armed-armed.ensures (c.counted-counted.ensures 0 bits) c.requires.counted.1 c.requires.counted.2 c.requires.counted.3,
+    )
+
+pub returns-clause-counts : goal.returns-clause-counts
+returns-clause-counts c = let f = c.requires.fits in let p = c.compare_exchange.ensures.2.0 in λ e. (p (eqb-true _ _ e) c.args.cell c.args.generation c.args.deadline c.claim_word.ensures f.2 c.requires.small (let r = c.ranges.deadline.fits in omega arith) c.armed-armed.ensures).0
+
+pub returns-clause-seat : goal.returns-clause-seat
+returns-clause-seat c = let f = c.requires.fits in let p = c.compare_exchange.ensures.2.0 in let m = c.compare_exchange.ensures.2.1 in (
+  (c.compare_exchange.ensures.0, c.compare_exchange.ensures.1),
+  either_way c.compare_exchange.result c.armed-armed.result _ (λ hit. (p hit c.args.cell c.args.generation c.args.deadline c.claim_word.ensures f.2 c.requires.small (let r = c.ranges.deadline.fits in omega arith) c.armed-armed.ensures).1) (λ miss. (m miss).1),
+)
+
+pub returns-clause-missed : goal.returns-clause-missed
+returns-clause-missed c = let f = c.requires.fits in λ ne. let m = c.compare_exchange.ensures.2.1 (λ hit. ne (eq-eqb _ _ hit)) in (c.compare_exchange.result, subst (λ (i : ℕ). IsStep i c.compare_exchange.result c.args.seat.now.me.0 c.compare_exchange.new.seat.me.0) c.claim_word.ensures m.3, m.2 c.args.cell c.claim_word.ensures f.2, λ e. ne (eq-eqb _ _ (e ∙ sym c.armed-armed.ensures)))
+
+pub returns-clause-step : goal.returns-clause-step
+returns-clause-step c = λ e. subst (λ (z : ℕ × ℕ). IsStep z.0 z.1 c.args.seat.now.me.0 c.compare_exchange.new.seat.me.0) (λ i. (c.claim_word.ensures i, (eqb-true _ _ e ∙ c.armed-armed.ensures) i)) c.compare_exchange.ensures.2.2
+
+pub returns-clause-looks : goal.returns-clause-looks
+returns-clause-looks c = λ ne. (c.compare_exchange.ensures.2.1 (λ hit. ne (eq-eqb _ _ hit))).0

@@ -1,0 +1,201 @@
+//! A worker that runs a SPLICE and has both of its pipes in hand.
+ghost use Rattle.std.specs.Prelude.{◌≡◌, ℕ, [], Some, None, length, IfOk, IfErr};
+ghost use Rattle.entry.specs.Entry.{Entry};
+ghost use Rattle.history.specs.declared.event.Event.TheVariants.{Reply};
+ghost use Rattle.history.specs.Chains.{IsPlaced};
+ghost use Rattle.answers.specs.declared.named.NamedPipes.TheVariants.{Both};
+ghost use Rattle.answers.specs.NamedEnds.{UsesBoth};
+ghost use Rattle.steps.specs.declared.line.Line.TheVariants.{Did, Hold, Free};
+ghost use Rattle.steps.specs.declared.view.Role.TheVariants.{Busy as RoleBusy, Leaving};
+ghost use Rattle.steps.specs.declared.view.View.{View};
+ghost use Rattle.steps.specs.Cells.{pipe_at};
+ghost use Rattle.steps.specs.Rule.{Looks, Extends, IsStep, IsThreeSteps, leaves, leaves_one};
+ghost use Rattle.steps.specs.Plays.{HasBoth};
+ghost use Rattle.work.specs.Board.{Facts, IsOf};
+
+use crate::busy::{Busy, put_back};
+use crate::grid::Grid;
+use crate::holding::Holding;
+use crate::run::{Parked, Ran};
+use crate::worker::Worker;
+use answers::answer_both;
+use entry::{Cqe, fails};
+use history::Req;
+use pipe::Pipe;
+use std::marker::Model;
+use steps::{Parcel, TableSeat, Thing, Words, parcel, pipes};
+
+/// A worker that runs a SPLICE, and has taken both pipes that its entry joins.
+pub(crate) struct Joining<'a> {
+    pub(crate) words: &'a Words,
+    pub(crate) grid: &'a Grid,
+    pub(crate) seat: TableSeat,
+    pub(crate) cell: usize,
+    pub(crate) generation: u32,
+    pub(crate) req: Req,
+    pub(crate) parcel: Parcel,
+    pub(crate) pipes: usize,
+    pub(crate) source: usize,
+    pub(crate) target: usize,
+    pub(crate) from: Pipe,
+    pub(crate) into: Pipe,
+}
+
+impl<'a> Model for Joining<'a> {
+    ghost use Rattle.work.specs.Passes.{Joining as Joined, pass_of, IsJoiningSeat};
+
+    ghost Value = { Joined };
+
+    ghost view = { λ k. record { pass = pass_of k.seat; req = k.req; source = k.source; target = k.target } };
+
+    ghost invariant = { λ k. IsJoiningSeat k.words.now.table_id k.grid.now k.seat k.cell k.generation k.req k.parcel k.pipes k.source k.target k.from k.into };
+}
+
+impl<'a> Holding<'a> {
+    ghost use Rattle.work.specs.Passes.{seen_of};
+    ghost use Rattle.work.specs.WorkerRuns.{MissedPipe};
+
+    /// Takes the target of a SPLICE, whose source it has; or gives the source back, where another worker has the target.
+    fn hold(self, target: usize) -> Result<Joining<'a>, Busy<'a>>
+        requires named { (e : Entry) → IsPlaced (seen_of self.pass) self.req e → UsesBoth e.op (length self.pass.view.layout.caps) self.pipe target }
+        ensures held { IfOk result (λ k. (k.req ≡ self.entry.req) × (k.source ≡ self.entry.pipe) × (k.target ≡ target) × (k.pass.table ≡ self.entry.pass.table) × IsStep (pipe_at target) 0 self.entry.pass.view k.pass.view × Extends self.entry.pass.view (Hold self.entry.req target) (RoleBusy self.entry.req) k.pass.view × HasBoth k.pass.view.seen self.entry.pipe target self.entry.req) }
+        ensures busy { IfErr result (λ b. (b.req ≡ self.entry.req) × (b.pass.table ≡ self.entry.pass.table) × (mid : View) × Looks self.entry.pass.view mid × MissedPipe self.entry.pass.view mid target self.entry.req × Extends mid (Free self.entry.req self.entry.pipe) (RoleBusy self.entry.req) b.pass.view × ((found : ℕ) × IsStep (pipe_at self.entry.pipe) found mid b.pass.view)) }
+    {
+        let Holding {
+            words,
+            grid,
+            mut seat,
+            cell,
+            generation,
+            req,
+            parcel,
+            pipes,
+            pipe,
+            conduit,
+        } = self;
+        if !pipes::hold_second(words, &mut seat, target) {
+            let None = words.exchange(&mut seat, pipe, Some(Thing::Piped(conduit))) else {
+                unreachable!()
+            };
+            pipes::free(words, &mut seat, pipe);
+            return Err(Busy {
+                words,
+                grid,
+                seat,
+                cell,
+                generation,
+                req,
+                parcel,
+                pipes,
+            });
+        }
+        let thing = words.exchange(&mut seat, target, None);
+        Ok(Joining {
+            words,
+            grid,
+            seat,
+            cell,
+            generation,
+            req,
+            parcel,
+            pipes,
+            source: pipe,
+            target,
+            from: conduit,
+            into: parcel::pipe_of(thing),
+        })
+    }
+}
+
+impl<'a> Joining<'a> {
+    ghost use Rattle.work.specs.Passes.{seen_of};
+    ghost use Rattle.work.specs.WorkerRuns.{Unanswered};
+
+    /// Answers the request by its pipes, and gives them back; or gives them back as they were, where there is no answer now.
+    fn answer(self) -> Result<(Worker, Cqe), Busy<'a>>
+        ensures replied { IfOk result (λ t. (t.0.table ≡ self.entry.pass.table) × (mid : View) × Extends self.entry.pass.view (Did (Reply self.entry.req t.1.res [])) (Leaving self.entry.req) mid × (found : ℕ) × (last : ℕ) × (t.0.view ≡ leaves (pipe_at self.entry.source) last (leaves_one self.entry.req self.entry.source (pipe_at self.entry.target) found mid))) }
+        ensures steps { IfOk result (λ t. (word : ℕ) × IsThreeSteps word (pipe_at self.entry.target) (pipe_at self.entry.source) self.entry.pass.view t.0.view) }
+        ensures user_data { IfOk result (λ t. (e : Entry) → IsPlaced (seen_of self.entry.pass) self.entry.req e → t.1.user_data ≡ e.user_data) }
+        ensures waits { IfErr result (λ b. (b.req ≡ self.entry.req) × (b.pass.table ≡ self.entry.pass.table) × (mid : View) × Extends self.entry.pass.view (Free self.entry.req self.entry.target) (RoleBusy self.entry.req) mid × Extends mid (Free self.entry.req self.entry.source) (RoleBusy self.entry.req) b.pass.view × ((found : ℕ) × IsStep (pipe_at self.entry.target) found self.entry.pass.view mid) × ((found : ℕ) × IsStep (pipe_at self.entry.source) found mid b.pass.view)) }
+        ensures unanswered { IfErr result (λ b. (e : Entry) → IsPlaced (seen_of self.entry.pass) self.entry.req e → Unanswered self.entry.pass.view self.entry.req e) }
+    {
+        let Joining {
+            words,
+            grid,
+            mut seat,
+            cell,
+            generation,
+            req,
+            parcel,
+            pipes,
+            source,
+            target,
+            mut from,
+            mut into,
+        } = self;
+        let answer = answer_both(parcel.sqe.op(), &mut from, &mut into);
+        let None = words.exchange(&mut seat, target, Some(Thing::Piped(into))) else {
+            unreachable!()
+        };
+        let Some(res) = answer else {
+            pipes::free_one(words, &mut seat, target);
+            let None = words.exchange(&mut seat, source, Some(Thing::Piped(from))) else {
+                unreachable!()
+            };
+            pipes::free(words, &mut seat, source);
+            return Err(Busy {
+                words,
+                grid,
+                seat,
+                cell,
+                generation,
+                req,
+                parcel,
+                pipes,
+            });
+        };
+        seat.turn();
+        let None = words.exchange(&mut seat, source, Some(Thing::Piped(from))) else {
+            unreachable!()
+        };
+        seat.turn();
+        let fails = fails(&parcel.sqe, res);
+        let cqe = Cqe {
+            user_data: parcel.sqe.user_data(),
+            res,
+        };
+        put_back(words, &mut seat, cell, parcel);
+        pipes::reply_both(
+            words, &mut seat, cell, generation, fails, res, target, source,
+        );
+        Ok((Worker::new(seat), cqe))
+    }
+}
+
+impl<'a> Busy<'a> {
+    ghost use Rattle.work.specs.Passes.{seen_of};
+    ghost use Rattle.work.specs.WorkerRuns.{StepsAt, IsRun};
+
+    /// Answers the request, which is answered from two pipes of the board, or puts it back to Ready.
+    pub(crate) fn run_between(self, source: usize, target: usize) -> (Worker, Ran)
+        requires named { (e : Entry) → IsPlaced (seen_of self.pass) self.req e → UsesBoth e.op (length self.pass.view.layout.caps) source target }
+        ensures worker { result.0.table ≡ self.entry.pass.table }
+        ensures kept { (b : Facts) → IsOf b self.entry.pass → IsOf b result.0 }
+        ensures steps { StepsAt (Both source target) self.entry.pass.view result.0.view self.entry.req result.1 }
+        ensures ran { IsRun self.entry result.0 result.1 }
+    {
+        prove!(source < self.pipes);
+        let holding = match self.hold(source) {
+            Ok(holding) => holding,
+            Err(busy) => return (busy.park(), Ran::Parked(Parked::PipeBusy)),
+        };
+        let joining = match holding.hold(target) {
+            Ok(joining) => joining,
+            Err(busy) => return (busy.park(), Ran::Parked(Parked::PipeBusy)),
+        };
+        match joining.answer() {
+            Ok((worker, cqe)) => (worker, Ran::Replied { cqe, took: None }),
+            Err(busy) => (busy.park(), Ran::Parked(Parked::NotReady)),
+        }
+    }
+}
