@@ -64,5 +64,5 @@ answers_off caps h r (PollAdd fd mask) y n = poll_off caps (flow h) (end_of fd) 
 answers_off caps h r (Splice fd_in fd_out len) y n = splice_off caps (flow h) (end_of fd_in) (end_of fd_out) len n
 answers_off caps h r (Timeout ticks etime_success count) y n = absurd (true≢false (sym y))
 answers_off caps h r (LinkTimeout ticks) y n = absurd (true≢false (sym y))
-answers_off caps h r (AsyncCancel user_data) y n = absurd (true≢false (sym y))
+answers_off caps h r (AsyncCancel user_data all) y n = absurd (true≢false (sym y))
 answers_off caps h r (TimeoutRemove user_data) y n = absurd (true≢false (sym y))

@@ -22,7 +22,7 @@ IsSound w = w.out ≤ length w.into
 
 -- neither a cancel nor a timer, whose answers are no pipe's
 abbrev pub is_plain : Op → Bool
-is_plain (AsyncCancel user_data) = false
+is_plain (AsyncCancel user_data all) = false
 is_plain (TimeoutRemove user_data) = false
 is_plain (Timeout ticks etime_success count) = false
 is_plain (LinkTimeout ticks) = false

@@ -23,7 +23,7 @@ macro_rules! named {
     ((pipe $kind:ident $fd:ident $($field:ident)*) ($op:ident, $pipes:ident)) => { one_of($op, $fd, $pipes) };
     ((plain $kind:ident) $args:tt) => { NamedPipes::Nothing };
     ((timer $kind:ident $ticks:ident) $args:tt) => { NamedPipes::Nothing };
-    ((cancel $kind:ident $target:ident) $args:tt) => { NamedPipes::Nothing };
+    ((cancel $kind:ident $($field:ident)*) $args:tt) => { NamedPipes::Nothing };
 }
 
 /// The pipes that the operation is answered from, among so many: those whose ends it names by its fds.

@@ -31,7 +31,7 @@ macro_rules! operation {
     (Nop () $pipe:expr, $buffer:expr) => { unreachable!() };
     (Timeout ($ticks:ident, $etime:ident, $count:ident) $pipe:expr, $buffer:expr) => { unreachable!() };
     (LinkTimeout ($ticks:ident) $pipe:expr, $buffer:expr) => { unreachable!() };
-    (AsyncCancel ($target:ident) $pipe:expr, $buffer:expr) => { unreachable!() };
+    (AsyncCancel ($target:ident, $all:ident) $pipe:expr, $buffer:expr) => { unreachable!() };
     (TimeoutRemove ($target:ident) $pipe:expr, $buffer:expr) => { unreachable!() };
 }
 

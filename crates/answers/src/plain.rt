@@ -14,7 +14,7 @@ macro_rules! plain {
     ((plain invalid) ()) => { -EINVAL };
     ((pipe $kind:ident $fd:ident $($field:ident)*) ()) => { -EBADF };
     ((timer $kind:ident $ticks:ident) ()) => { unreachable!() };
-    ((cancel $kind:ident $target:ident) ()) => { unreachable!() };
+    ((cancel $kind:ident $($field:ident)*) ()) => { unreachable!() };
 }
 
 /// An entry that no row of the table of opcodes fits, or a SPLICE between the ends of one pipe (errno(3), splice(2)).

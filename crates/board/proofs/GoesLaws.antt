@@ -3,12 +3,16 @@ use Rattle.std.proofs.Common.{◌≡◌, ◌==◌, ℕ, true, cond, List, [], �
 use Rattle.std.proofs.lemmas.List.{append_assoc}
 use Rattle.history.specs.declared.req.Req.{Req}
 use Rattle.history.specs.declared.event.Event.{Event}
+use Rattle.history.specs.History.{was_shut}
+use Rattle.history.specs.Legal.{Legal}
 use Rattle.history.proofs.Requests.{bool_cases}
 use Rattle.steps.specs.declared.line.Line.{Line}
 use Rattle.steps.specs.declared.line.Line.TheVariants.{Did, Freed, Lent, Noted}
 use Rattle.steps.specs.declared.view.Role.{Role}
 use Rattle.steps.specs.declared.view.Role.TheVariants.{Submitter, Lending}
 use Rattle.steps.specs.declared.view.View.{View}
+use Rattle.steps.specs.Cells.{setup_of}
+use Rattle.steps.specs.Fairness.{Orderly}
 use Rattle.steps.specs.Journal.{event_of, events_of}
 use Rattle.steps.specs.Rule.{Owner, nobody, pollers, rings, workers, holders, owner, stands_for, owns, NoneOf, Looks, Extends, ExtendsAfter, ExtendsNoted, ExtendsTwice}
 use Rattle.work.specs.Board.{Facts, IsOf, share_of}
@@ -28,9 +32,28 @@ goes_looked b p q o t x = record {
   last = tt;
 }
 
+-- a pass that knows what one of the board's own knows
+pub goes_same : (b : Facts) (p q : Pass) → IsOf b p → q.table ≡ p.table → q.view ≡ p.view → Goes b p [] q
+goes_same b p q o t v = record {
+  kept = record {
+    table_is = t ∙ o.table_is;
+    layout_is = ap (λ (z : View). z.layout) v ∙ o.layout_is;
+    share_is = subst (λ (z : View). z.parts ≡ share_of b z.role) (sym v) o.share_is;
+    legal = subst (λ (z : View). Legal (setup_of b.layout) (events_of z.seen)) (sym v) o.legal;
+    live = subst (λ (z : View). was_shut (events_of z.seen) ≡ false) (sym v) o.live;
+    orderly = subst (λ (z : View). Orderly b.layout z.seen) (sym v) o.orderly;
+    looked = ap (λ (z : View). z.heard) v ∙ o.looked;
+  };
+  role_is = ap (λ (z : View). z.role) v;
+  later = [];
+  seen_is = ap (λ (z : View). z.seen) v;
+  own = refl;
+  last = tt;
+}
+
 -- a pass that did nothing
 pub goes_still : (b : Facts) (p : Pass) → IsOf b p → Goes b p [] p
-goes_still b p o = record { kept = o; role_is = refl; later = []; seen_is = refl; own = refl; last = tt }
+goes_still b p o = goes_same b p p o refl refl
 
 pub event_before : (x : Line) (h g : List Event) → event_of x (h ++ g) ≡ event_of x h ++ g
 event_before (Did e) h g = refl
@@ -139,13 +162,13 @@ notes_end b p m q r e role mine t k x =
 -- a submitter that noted once, or twice, and then went on by one event of its own
 pub goes_twice : (b : Facts) (p q : Pass) (r : Req) (k : Line) (e : Event) → ((h : List Event) → event_of k h ≡ h) → IsOf b p → q.table ≡ p.table → p.view.role ≡ Submitter r.ring → owner (Did e) ≡ rings r.ring
     → ExtendsTwice p.view k (Lending r) (Did e) (Submitter r.ring) q.view → Goes b p (e ∷ []) q
-goes_twice b p q r k e silent o t role mine x = let m : Pass = record { table = p.table; view = x.0 } in notes_end b p m q r e role mine t (notes_first b p m r k silent o refl role x.1) x.2
+goes_twice b p q r k e silent o t role mine x = let m : Pass = record p { view = x.0 } in notes_end b p m q r e role mine t (notes_first b p m r k silent o refl role x.1) x.2
 
 -- a submitter that has noted for its request stores these notes as well, and then goes on by one event of its own
 notes_then : (b : Facts) (p m q : Pass) (r : Req) (notes : List (ℕ × ℕ)) (e : Event) → p.view.role ≡ Submitter r.ring → owner (Did e) ≡ rings r.ring → q.table ≡ m.table → Noting b p m r → ExtendsAfter m.view r notes (Did e) (Submitter r.ring) q.view → Goes b p (e ∷ []) q
 notes_then b p m q r [] e role mine t k x = notes_end b p m q r e role mine t k x
-notes_then b p m q r (n ∷ notes) e role mine t k x = let w : Pass = record { table = m.table; view = x.0 } in notes_then b p w q r notes e role mine t (notes_more b p m w r (Noted r n.0 n.1) (λ h. refl) refl k x.1) x.2
+notes_then b p m q r (n ∷ notes) e role mine t k x = let w : Pass = record m { view = x.0 } in notes_then b p w q r notes e role mine t (notes_more b p m w r (Noted r n.0 n.1) (λ h. refl) refl k x.1) x.2
 
 pub goes_noted : (b : Facts) (p q : Pass) (r : Req) (facts : ℕ × ℕ) (notes : List (ℕ × ℕ)) (e : Event) → IsOf b p → q.table ≡ p.table → p.view.role ≡ Submitter r.ring → owner (Did e) ≡ rings r.ring
     → ExtendsNoted p.view r facts notes (Did e) (Submitter r.ring) q.view → Goes b p (e ∷ []) q
-goes_noted b p q r facts notes e o t role mine x = let m : Pass = record { table = p.table; view = x.0 } in notes_then b p m q r notes e role mine t (notes_first b p m r (Lent r facts.0 facts.1) (λ h. refl) o refl role x.1) x.2
+goes_noted b p q r facts notes e o t role mine x = let m : Pass = record p { view = x.0 } in notes_then b p m q r notes e role mine t (notes_first b p m r (Lent r facts.0 facts.1) (λ h. refl) o refl role x.1) x.2

@@ -53,7 +53,7 @@ canceled (Splice fd_in fd_out len) = refl
 canceled Nop = refl
 canceled (PollAdd fd mask) = refl
 canceled (TimeoutRemove user_data) = refl
-canceled (AsyncCancel user_data) = refl
+canceled (AsyncCancel user_data all) = refl
 canceled (Close fd) = refl
 canceled Invalid = refl
 

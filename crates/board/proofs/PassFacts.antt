@@ -83,10 +83,10 @@ looks_told v m w none x =
     }
 
 -- and its journal begins with what the messenger brought
-pub begins_told : (p h q : Pass) (v : View) → h ≡ record { table = p.table; view = hearing p.view v } → Looks h.view q.view → Begins q.view.seen v.seen
+pub begins_told : (p h q : Pass) (v : View) → h ≡ record p { view = hearing p.view v } → Looks h.view q.view → Begins q.view.seen v.seen
 begins_told p h q v is x = let y = subst (λ (z : Pass). Looks z.view q.view) is x in let b = y.heard (record { role = v.role; seen = v.seen }) (inl refl) in (b.0, ap (λ (z : View). z.seen) y.is ∙ b.1)
 
-pub goes_told : (b : Facts) (p h q : Pass) (v : View) → IsOf b p → h ≡ record { table = p.table; view = hearing p.view v } → v.parts ≡ 0 → q.table ≡ h.table → Looks h.view q.view → Goes b p [] q
+pub goes_told : (b : Facts) (p h q : Pass) (v : View) → IsOf b p → h ≡ record p { view = hearing p.view v } → v.parts ≡ 0 → q.table ≡ h.table → Looks h.view q.view → Goes b p [] q
 goes_told b p h q v o is none t x = goes_looked b p q o (t ∙ ap (λ (z : Pass). z.table) is) (looks_told p.view v q.view none (subst (λ (z : Pass). Looks z.view q.view) is x))
 
 -- only the poller moves a request to Ready

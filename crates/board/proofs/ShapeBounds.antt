@@ -1,14 +1,14 @@
 -- The limits of a shape, ring by ring and pipe by pipe.
-use Rattle.std.proofs.Common.{◌≡◌, ℕ, ◌<◌, ◌≤◌, true, false, ◌&&◌, List, [], ◌∷◌, length, get_or, drop, ◌+◌, ◌*◌, zero, suc, sym, refl, ap, ◌∙◌, ⊎_elim, arith, true≢false, ltb-true, ltb-false, leb-true, nat_lt}
+use Rattle.std.proofs.Common.{◌≡◌, ℕ, ◌<◌, ◌≤◌, max, true, false, ◌&&◌, List, [], ◌∷◌, length, get_or, drop, ◌+◌, ◌*◌, zero, suc, sym, refl, ap, ◌∙◌, ⊎_elim, arith, true≢false, ltb-true, ltb-false, leb-true, nat_lt}
 use Rattle.std.specs.Int.{is_power_of_two}
 use Rattle.history.proofs.Requests.{bool_cases, and_left, and_right}
-use Rattle.steps.specs.Cells.{total}
+use Rattle.steps.specs.Cells.{cells_in, total}
 use Rattle.work.specs.Grid.{AreCells, AreCellCounts}
 use Rattle.std.proofs.lemmas.List.{at_drop_more}
 use Rattle.board.specs.declared.shape.RingShape.{RingShape}
 use Rattle.board.specs.declared.shape.Shape.{Shape}
 use Rattle.limits.specs.Limits.{is_capacity}
-use Rattle.board.specs.ShapeLimits.{is_ring, are_rings, are_capacities, is_shape, counts}
+use Rattle.board.specs.ShapeLimits.{is_ring, are_rings, are_capacities, is_shape, counts, widest}
 
 -- what is left to look at, one ring on
 pub good_ring : (l : List RingShape) (i : ℕ) (d : RingShape) → i < length l → is_ring (get_or l i d) ≡ true → are_rings (drop i l) ≡ are_rings (drop (i + 1) l)
@@ -59,3 +59,17 @@ shape_says s e =
       caps = caps_say s.pipes.items (and_right _ _ p);
       workers = leb-true s.workers 64 (and_right _ _ w);
     }
+
+-- no ring is wider than the widest
+pub none_wider : (K : List ℕ) (ring : ℕ) → cells_in K ring ≤ widest K
+none_wider [] ring = omega arith
+none_wider (n ∷ K) zero = omega arith
+none_wider (n ∷ K) (suc ring) = let e = none_wider K ring in omega arith
+
+pub widest_few : (K : List ℕ) → AreCellCounts K → widest K ≤ 1024
+widest_few [] k = omega arith
+widest_few (n ∷ K) k = let e = widest_few K k.2 in let few = k.1 in omega arith
+
+-- of what is left to look at, one ring on
+pub widest_at : (l : List RingShape) (i : ℕ) (d : RingShape) → i < length l → widest (counts (drop i l)) ≡ max (get_or l i d).cells (widest (counts (drop (i + 1) l)))
+widest_at l i d lt = at_drop_more (λ (rings : List RingShape). widest (counts rings)) l i d lt

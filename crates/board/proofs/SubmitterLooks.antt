@@ -8,7 +8,6 @@ use Rattle.history.proofs.Requests.{bool_cases}
 use Rattle.steps.specs.declared.line.Line.{Line}
 use Rattle.steps.specs.declared.view.Layout.{Layout}
 use Rattle.steps.specs.declared.view.Role.TheVariants.{Submitter}
-use Rattle.steps.specs.declared.view.View.{View}
 use Rattle.steps.specs.Fairness.{IsFree}
 use Rattle.steps.specs.Journal.{events_of}
 use Rattle.steps.specs.Cells.{setup_of, IsCell, ring_of, place_of, cells_in, request_at}
@@ -23,7 +22,7 @@ use Rattle.board.specs.declared.error.SubmitError.{SubmitError}
 use Rattle.board.specs.declared.error.SubmitError.TheVariants.{Full, Spent}
 use Rattle.board.specs.Lanes.{nth, RefusesRoom, Watched}
 use Rattle.board.specs.Refusals.{RefusesEntry}
-use Rattle.board.proofs.GoesLaws.{goes_still, goes_looked, goes_then}
+use Rattle.board.proofs.GoesLaws.{goes_same, goes_looked, goes_then}
 use Rattle.board.specs.Calls.{Goes, next_of}
 use Rattle.board.specs.Seats.{IsNextCell}
 
@@ -36,7 +35,7 @@ gen_small K x g inside le = ⊎_elim (λ w. ltb-true g 16777216 w)
 
 -- a request's number is that of its ring's next one
 pub next_cell : (b : Facts) (p : Pass) (ring cell number g : ℕ) → IsOf b p → p.view.role ≡ Submitter ring → IsCell b.layout.cells cell → number ≡ place_of b.layout.cells cell → request_at b.layout.cells cell g ≡ next_of p ring → IsNextCell p cell number g
-next_cell b p ring cell number g o role inside is at = subst (λ (L : Layout). IsNextCell (record { table = p.table; view = record p.view { layout = L } }) cell number g) (sym o.layout_is) record {
+next_cell b p ring cell number g o role inside is at = subst (λ (L : Layout). IsNextCell (record p { view = record p.view { layout = L } }) cell number g) (sym o.layout_is) record {
   inside = inside;
   number_is = is;
   mine = role ∙ ap Submitter (sym (ap (λ (r : Req). r.ring) at));
@@ -49,10 +48,8 @@ generation_is K x g inside = div-mul-add g (cells_in K (ring_of K x)) (place_of 
 
 -- a pass that looked any number of times
 pub goes_watched : (b : Facts) (p q : Pass) (n : ℕ) → IsOf b p → q.table ≡ p.table → Watched n p.view q.view → Goes b p [] q
-goes_watched b p q n o t w = subst (λ (z : Pass). Goes b p [] z) (let e : record { table = p.table; view = q.view } ≡ q = (λ i. record { table = sym t i; view = q.view }) in e) (by_count n q.view w) where
-  by_count : (n : ℕ) (v : View) → Watched n p.view v → Goes b p [] (record { table = p.table; view = v })
-  by_count zero v k = subst (λ (z : View). Goes b p [] (record { table = p.table; view = z })) (sym k) (goes_still b p o)
-  by_count (suc n) v k = let m : Pass = record { table = p.table; view = k.0 } in let g = by_count n k.0 k.1 in goes_then b p m (record { table = p.table; view = v }) [] g (goes_looked b m (record { table = p.table; view = v }) g.kept refl k.2)
+goes_watched b p q zero o t w = goes_same b p q o t w
+goes_watched b p q (suc n) o t w = let m : Pass = record p { view = w.0 } in let g = goes_watched b p m n o refl w.1 in goes_then b p m q [] g (goes_looked b m q g.kept t w.2)
 
 -- a cell that was free is free whatever the pass sees then
 pub free_then : (b : Facts) (p q : Pass) (es : List Event) (r : Req) → Goes b p es q → IsFree b.layout.cells (seen_of p) r → IsFree b.layout.cells (seen_of q) r

@@ -1,5 +1,5 @@
 -- The limits of a shape.
-use Rattle.std.specs.Prelude.{ℕ, ◌&&◌, nat_le, length, Bool, true, List, [], ◌∷◌}
+use Rattle.std.specs.Prelude.{ℕ, ◌&&◌, nat_le, max, length, Bool, true, List, [], ◌∷◌}
 use Rattle.limits.specs.declared.TheConstants.{PIPES, RINGS, WORKERS}
 use Rattle.limits.specs.Limits.{is_capacity, is_cells, is_posts}
 use Rattle.board.specs.declared.shape.RingShape.{RingShape}
@@ -28,3 +28,8 @@ is_shape s = (count_fits 1 RINGS (length s.rings.items) && are_rings s.rings.ite
 abbrev pub counts : List RingShape → List ℕ
 counts [] = []
 counts (r ∷ rings) = r.cells ∷ counts rings
+
+-- how many cells the widest ring has
+abbrev pub widest : List ℕ → ℕ
+widest [] = 0
+widest (n ∷ K) = max n (widest K)

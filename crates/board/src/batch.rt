@@ -14,7 +14,7 @@ macro_rules! fits_work {
     ((pipe poll $fd:ident $mask:ident) ($length:ident)) => { $length == 0 };
     ((pipe splice $fd_in:ident $fd_out:ident $len:ident) ($length:ident)) => { $length == 0 };
     ((timer $kind:ident $ticks:ident) ($length:ident)) => { $length == 0 };
-    ((cancel $kind:ident $target:ident) ($length:ident)) => { $length == 0 };
+    ((cancel $kind:ident $($field:ident)*) ($length:ident)) => { $length == 0 };
 }
 
 /// Whether a buffer of this length goes with the entry.

@@ -6,6 +6,7 @@ ghost use Rattle.history.specs.declared.event.Event.TheVariants.{Submit, Begin, 
 ghost use Rattle.history.specs.History.{same, phase, submits};
 ghost use Rattle.steps.specs.declared.line.Line.TheVariants.{Did};
 ghost use Rattle.steps.specs.declared.view.Role.TheVariants.{Poller as PollerRole, Submitter as SubmitterRole, Busy as BusyRole};
+ghost use Rattle.steps.specs.Cells.{cells_in};
 ghost use Rattle.steps.specs.Fairness.{IsFree, IsReaped};
 ghost use Rattle.steps.specs.Journal.{freed};
 ghost use Rattle.steps.specs.Rule.{Looks, Extends, Begins};
@@ -15,7 +16,7 @@ ghost use Rattle.work.specs.Passes.{seen_of, FoundNotReady, Took};
 ghost use Rattle.board.specs.declared.error.BoardError.TheVariants.{BadShape};
 ghost use Rattle.board.specs.Calls.{Goes, Finds, HasLooked, Stepped, FoundHeld, IsUnheld, MayStart, next_of};
 ghost use Rattle.board.specs.Headline.{IsCompletion, HasOnce};
-ghost use Rattle.board.specs.ShapeLimits.{counts, is_shape};
+ghost use Rattle.board.specs.ShapeLimits.{counts, is_shape, widest};
 ghost use Rattle.board.specs.New.{IsNew, AreSubmitters, AreWorkers, IsCutting};
 ghost use Rattle.board.specs.Refusals.{RefusesReap};
 ghost use Rattle.board.specs.PollerRows.{KnowsRows};
@@ -43,17 +44,19 @@ pub struct Board {
     pub(crate) grid: Grid,
     pub(crate) pipes: usize,
     pub(crate) workers: u32,
+    pub(crate) width: u32,
 }
 
 impl Model for Board {
     ghost use Rattle.std.specs.Prelude.{◌≡◌, length};
     ghost use Rattle.work.specs.Board.{Facts, IsBoard};
+    ghost use Rattle.board.specs.ShapeLimits.{widest};
 
     ghost Value = { Facts };
 
     ghost view = { λ b. record { table = b.table.shared.table_id; layout = record { cells = b.grid; caps = b.table.shared.key.caps.value.items }; workers = b.workers } };
 
-    ghost invariant = { λ b. IsBoard (record { table = b.table.shared.table_id; layout = record { cells = b.grid; caps = b.table.shared.key.caps.value.items }; workers = b.workers }) × (b.table.shared.key.cells.value.items ≡ b.grid) × (length b.table.shared.key.caps.value.items ≡ b.pipes) };
+    ghost invariant = { λ b. IsBoard (record { table = b.table.shared.table_id; layout = record { cells = b.grid; caps = b.table.shared.key.caps.value.items }; workers = b.workers }) × (b.table.shared.key.cells.value.items ≡ b.grid) × (length b.table.shared.key.caps.value.items ≡ b.pipes) × (b.width ≡ widest b.grid) };
 }
 
 /// The numbers of cells.
@@ -65,6 +68,17 @@ fn cells_of(alloc: Global, rings: &[RingShape]) -> Result<Vec<u64>, AllocError>
         cells.push(u64::from(ring.cells))?;
     }
     Ok(cells)
+}
+
+/// How many cells the widest ring has.
+fn widest_of(rings: &[RingShape]) -> u32
+    ensures { result ≡ widest (counts rings.now) }
+{
+    let mut most = 0u32;
+    for ring in rings {
+        most = most.max(ring.cells);
+    }
+    most
 }
 
 /// The submitters of all rings, whose seats leave the poller's.
@@ -92,24 +106,29 @@ fn cut_submitters(
     Ok(submitters)
 }
 
-/// So many workers, whose seats leave the poller's.
+/// So many workers, whose seats leave the poller's, with room for what each of them takes in a run: a cancel can take all other
+/// requests that its ring has cells for.
 fn cut_workers(
     alloc: Global,
     words: &Words,
     seat: &mut TableSeat,
     count: u32,
+    widest: u32,
 ) -> Result<Vec<Worker>, AllocError>
     requires seat { (n : ℕ) × IsCutting seat.old.me.0.layout words.now.table_id n 0 seat.old × (n ≤ 16) }
     requires count { count ≤ 64 }
+    requires widest { (ring : ℕ) → cells_in seat.old.me.0.layout.cells ring ≤ widest }
     requires words { 0 < words.now.table_id.words }
     ensures seat { IfOk result (λ v. (n : ℕ) → IsCutting seat.old.me.0.layout words.now.table_id n 0 seat.old → IsCutting seat.old.me.0.layout words.now.table_id n count seat.new) }
     ensures count { IfOk result (λ v. length v.items ≡ count) }
     ensures workers { IfOk result (λ v. (b : Facts) → b.table ≡ words.now.table_id → b.layout ≡ seat.old.me.0.layout → AreWorkers b v.items) }
 {
+    let others = widest.saturating_sub(1) as usize;
     let mut workers = Vec::new(alloc);
     for _ in 0..count {
+        let room = Vec::with_capacity(alloc, others)?;
         let cut = table::next_worker(words, seat);
-        workers.push(Worker::new(cut))?;
+        workers.push(Worker::new(cut, room))?;
     }
     Ok(workers)
 }
@@ -147,7 +166,8 @@ impl Board {
         let grid = Grid::new(alloc, cells.as_slice())?;
         let (table, mut seat) = table::set_up(alloc, &cells, &shape.pipes, grid.total())?;
         let submitters = cut_submitters(alloc, &table.shared, &mut seat, &grid)?;
-        let workers = cut_workers(alloc, &table.shared, &mut seat, shape.workers)?;
+        let widest = widest_of(shape.rings.as_slice());
+        let workers = cut_workers(alloc, &table.shared, &mut seat, shape.workers, widest)?;
         let rows = rows_of(alloc, &grid)?;
         let alarms = Vec::from_elem(alloc, Alarm::Linked, grid.total())?;
         let board = Board {
@@ -155,8 +175,17 @@ impl Board {
             grid,
             pipes: shape.pipes.len(),
             workers: shape.workers,
+            width: widest,
         };
         Ok((board, Poller::new(seat, rows, alarms), submitters, workers))
+    }
+
+    /// How many cells its widest ring has: no run answers more requests.
+    pub fn widest(&self) -> u32
+        ensures widest { result ≡ widest self.now.layout.cells }
+        ensures few { result ≤ 1024 }
+    {
+        self.width
     }
 
     /// Where the request stands.
@@ -164,6 +193,7 @@ impl Board {
         requires { IsOf self.now (P.knows pass.old) }
         ensures looks { Goes self.now (P.knows pass.old) [] (P.knows pass.new) }
         ensures finds { Finds self.now req result (P.knows pass.old) (P.knows pass.new) }
+        ensures took { (P.knows pass.new).took ≡ (P.knows pass.old).took }
     {
         let Some(spot) = self.grid.locate(req) else {
             return Phase::Unborn;
@@ -180,6 +210,7 @@ impl Board {
         ensures second { Goes self.now (Q.knows other.old) [] (Q.knows other.new) }
         ensures told { Begins (Q.knows other.new).view.seen (P.knows pass.new).view.seen }
         ensures looked { HasLooked (P.knows pass.old) (P.knows pass.new) × HasLooked (Q.knows other.old) (Q.knows other.new) }
+        ensures took { ((P.knows pass.new).took ≡ (P.knows pass.old).took) × ((Q.knows other.new).took ≡ (Q.knows other.old).took) }
     {
         let words = &self.table.shared;
         pass.load(words, 0);
@@ -194,6 +225,7 @@ impl Board {
         ensures steps { IfOk result (λ b. Took worker.view b.pass.view 1) }
         ensures begun { IfOk result (λ b. (b.req ≡ req) × IsOf self.now b.pass × Extends worker.view (Did (Begin req)) (BusyRole req) b.pass.view) }
         ensures refused { IfErr result (λ w. IsOf self.now w × ((w.view ≡ worker.view) ⊎ Looks worker.view w.view) × ((length self.now.layout.cells ≤ req.ring) ⊎ FoundNotReady self.now.layout.cells req worker.view w.view)) }
+        ensures took { IfErr result (λ w. w.took ≡ worker.took) }
     {
         worker.begin(&self.table.shared, &self.grid, self.pipes, req)
     }

@@ -203,6 +203,7 @@ impl Board {
             grid,
             pipes: _,
             workers: _,
+            width: _,
         } = self;
         let mut seat = poller.into_seat();
         hear_submitters(&table.shared, &mut seat, submitters);

@@ -24,7 +24,7 @@ pub(crate) enum Answer {
     Submitted(Req),
     NotSubmitted(SubmitError, Vec<u8>),
     NoBatch(SubmitError, Batch),
-    Ran(Cqe, Option<Req>),
+    Ran(Cqe, Vec<Req>),
     Parked(Parked),
     Reaped(Completion),
     NotReaped(ReapError),
@@ -42,6 +42,23 @@ impl fmt::Display for Named {
     fn fmt<W: fmt::Write>(&self, f: &mut fmt::Formatter<W>) -> fmt::Result {
         let Req { ring, k } = self.0;
         write!(f, "{ring}.{k}")
+    }
+}
+
+/// What a run ended besides its own request, in the order of the numbers. Nothing where that is nothing.
+#[derive(Clone, Copy)]
+struct Taken<'a>(&'a [Req]);
+
+impl fmt::Display for Taken<'_> {
+    fn fmt<W: fmt::Write>(&self, f: &mut fmt::Formatter<W>) -> fmt::Result {
+        if !self.0.is_empty() {
+            f.write_str(", took")?;
+        }
+        for req in self.0 {
+            let req = Named(*req);
+            write!(f, " {req}")?;
+        }
+        Ok(())
     }
 }
 
@@ -102,10 +119,9 @@ impl fmt::Display for Answer {
                 }
                 Ok(())
             }
-            Answer::Ran(cqe, None) => cqe.fmt(f),
-            Answer::Ran(cqe, Some(target)) => {
-                let target = Named(*target);
-                write!(f, "{cqe}, took {target}")
+            Answer::Ran(cqe, took) => {
+                let took = Taken(took);
+                write!(f, "{cqe}{took}")
             }
             Answer::Parked(why) => write!(f, "parked: {why:?}"),
             Answer::Reaped(completion) => Whole(completion).fmt(f),

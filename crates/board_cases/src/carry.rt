@@ -11,6 +11,7 @@ use crate::words::Name;
 use board::{Board, Busy, Pass, Poller, Ran, Submitter, Worker};
 use entry::Sqe;
 use history::Req;
+use std::alloc::{AllocError, Global};
 
 /// Takes the worker without a request from its place.
 fn take_idle(board: &Board, idle: &mut Vec<Option<Worker>>, number: usize) -> Option<Worker>
@@ -285,68 +286,87 @@ pub(crate) fn park(board: &Board, cast: &mut Cast<'_>, number: usize) -> Answer
 }
 
 /// The worker answers its request.
-fn run(board: &Board, cast: &mut Cast<'_>, number: usize) -> Answer
+fn run(
+    alloc: Global,
+    board: &Board,
+    cast: &mut Cast<'_>,
+    number: usize,
+) -> Result<Answer, AllocError>
     requires { IsCast board.now cast.old }
     ensures { IsCast board.now cast.new }
 {
     let Some(busy) = take_busy(board, &mut cast.busy, number) else {
-        return NO_PASS;
+        return Ok(NO_PASS);
     };
     let (worker, ran) = busy.run();
+    let took = Vec::from_slice(alloc, worker.took());
     put_idle(board, &mut cast.idle, number, worker);
     match ran {
-        Ran::Replied { cqe, took } => Answer::Ran(cqe, took),
-        Ran::Parked(why) => Answer::Parked(why),
+        Ran::Replied { cqe } => Ok(Answer::Ran(cqe, took?)),
+        Ran::Parked(why) => Ok(Answer::Parked(why)),
     }
 }
 
 /// Releases and begins a request, and the worker runs it. False where it can't be begun, or is parked.
-fn serve_one<'a>(board: &'a Board, cast: &mut Cast<'a>, number: usize, req: Req) -> bool
+fn serve_one<'a>(
+    alloc: Global,
+    board: &'a Board,
+    cast: &mut Cast<'a>,
+    number: usize,
+    req: Req,
+) -> Result<bool, AllocError>
     requires { IsCast board.now cast.old }
     ensures { IsCast board.now cast.new }
 {
     board.release(&mut cast.poller, req);
     begin(board, cast, number, req);
-    matches!(run(board, cast, number), Answer::Ran(..))
+    let answer = run(alloc, board, cast, number)?;
+    Ok(matches!(answer, Answer::Ran(..)))
 }
 
 /// Serves so many requests of a ring, from this one on, up to the first that can't be.
 fn serve<'a>(
+    alloc: Global,
     board: &'a Board,
     cast: &mut Cast<'a>,
     number: usize,
     first: Req,
     count: usize,
-) -> Answer
+) -> Result<Answer, AllocError>
     requires { IsCast board.now cast.old }
     ensures { IsCast board.now cast.new }
 {
     let mut req = first;
     for served in 0..count {
-        if !serve_one(board, cast, number, req) {
-            return Answer::Served(served);
+        if !serve_one(alloc, board, cast, number, req)? {
+            return Ok(Answer::Served(served));
         }
         req.k = req.k.wrapping_add(1);
     }
-    Answer::Served(count)
+    Ok(Answer::Served(count))
 }
 
 /// Makes a call.
-pub(crate) fn carry<'a>(board: &'a Board, cast: &mut Cast<'a>, call: Call) -> Answer
+pub(crate) fn carry<'a>(
+    alloc: Global,
+    board: &'a Board,
+    cast: &mut Cast<'a>,
+    call: Call,
+) -> Result<Answer, AllocError>
     requires { IsCast board.now cast.old }
     ensures { IsCast board.now cast.new }
 {
     match call {
-        Call::Look(name, req) => look(board, cast, name, req),
-        Call::Meet(first, second) => meet(board, cast, first, second),
-        Call::Begin(number, req) => begin(board, cast, number, req),
-        Call::Park(number) => park(board, cast, number),
-        Call::Run(number) => run(board, cast, number),
-        Call::Serve(number, first, count) => serve(board, cast, number, first, count),
+        Call::Look(name, req) => Ok(look(board, cast, name, req)),
+        Call::Meet(first, second) => Ok(meet(board, cast, first, second)),
+        Call::Begin(number, req) => Ok(begin(board, cast, number, req)),
+        Call::Park(number) => Ok(park(board, cast, number)),
+        Call::Run(number) => run(alloc, board, cast, number),
+        Call::Serve(number, first, count) => serve(alloc, board, cast, number, first, count),
         Call::Next(ring) | Call::Submit(ring, ..) | Call::Batch(ring, _) | Call::Reap(ring, _) => {
             match cast.submitters.get_mut(ring) {
-                Some(submitter) => carry_submitter(board, submitter, call),
-                None => NO_PASS,
+                Some(submitter) => Ok(carry_submitter(board, submitter, call)),
+                None => Ok(NO_PASS),
             }
         }
         Call::Release(_)
@@ -355,6 +375,6 @@ pub(crate) fn carry<'a>(board: &'a Board, cast: &mut Cast<'a>, call: Call) -> An
         | Call::Expire(_)
         | Call::Count(_)
         | Call::Fire(_)
-        | Call::Settle(_) => carry_poller(board, &mut cast.poller, call),
+        | Call::Settle(_) => Ok(carry_poller(board, &mut cast.poller, call)),
     }
 }

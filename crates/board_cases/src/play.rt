@@ -124,7 +124,7 @@ fn answer_of<'a>(
     ensures { IsCast board.now cast.new }
 {
     match call_of(alloc, line)? {
-        Some(call) => Ok(carry(board, cast, call)),
+        Some(call) => carry(alloc, board, cast, call),
         None => Ok(Answer::Said("bad line")),
     }
 }

@@ -171,6 +171,7 @@ fn entry_without_buffer(kind: &str, words: &mut Words<'_>) -> Sqe
         "timeout-count" => prep::timeout_count(words.number(), words.number(), 0),
         "link-timeout" => prep::link_timeout(words.number()),
         "cancel" => prep::cancel(words.number()),
+        "cancel-all" => prep::cancel_all(words.number()),
         "remove" => prep::timeout_remove(words.number()),
         _ => words.bad(prep::nop()),
     }

@@ -58,14 +58,14 @@ pub fn folded(alloc: Global, bytes: &mut [u8]) -> Result<String, AllocError> {
 /// How often a waiting line of a run is tried: without end to speak of.
 const TURNS: u32 = 10_000_000;
 
-/// The job of a kind of case. A run has two workers, or one, or eight. It tries each waiting line a thousand times, or once, or
-/// thirty thousand times, or without end to speak of.
+/// The job of a kind of case. A run has two workers, or one, or eight. It tries each waiting line ten thousand times, or once,
+/// or thirty thousand times, or without end to speak of.
 pub fn job_of(kind: &str) -> Job {
     match kind {
         "outcomes" => Job::Outcomes { stats: false },
         "stats" => Job::Outcomes { stats: true },
         "history" => Job::History,
-        "stuck" => run_of(2, 1000),
+        "stuck" => run_of(2, 10_000),
         "once" => run_of(2, 1),
         "drawn" => run_of(2, 30_000),
         "run-1" => run_of(1, TURNS),

@@ -12,7 +12,7 @@ use Rattle.entry.specs.declared.op.Offset.{Offset}
 use Rattle.entry.specs.declared.op.Offset.TheVariants.{Zero, Current}
 use Rattle.entry.specs.declared.row.Row.{Row}
 use Rattle.entry.specs.Entry.{Entry}
-use Rattle.entry.specs.Table.{allowed_flags, etime_word, fits, fits_op, is_i32, is_u64, is_valid, no_fd, place, row}
+use Rattle.entry.specs.Table.{all_word, allowed_flags, etime_word, fits, fits_op, is_i32, is_u64, is_valid, no_fd, place, row}
 use Rattle.entry.specs.Text.{Says, invalid_of, is_plain, layout, number_at, row_at, text}
 use Rattle.entry.proofs.NumberBytes.{IsBytes}
 use Rattle.entry.proofs.EntryBytes.{InTypes, Reads, Reads-layout, layout-injective, layout-row_at}
@@ -58,6 +58,10 @@ etime_word-lt : (b : Bool) → etime_word b < 2 ^ 32
 etime_word-lt true = lit< tt
 etime_word-lt false = lit< tt
 
+all_word-lt : (b : Bool) → all_word b < 2 ^ 32
+all_word-lt true = lit< tt
+all_word-lt false = lit< tt
+
 InTypes-op : (op : Op) (f u : ℕ) → IsTrue (fits_op op) → bit_and f (allowed_flags op) ≡ f → u < 2 ^ 64 → InTypes (row op) f u
 InTypes-op Nop f u ok flags ud =
     within (row Nop) f u 14 (lit< tt) (is_i32-fits no_fd refl) (lit< tt) (lit< tt) (lit< tt) (lit< tt) zero_fits flags (lit≤ tt) ud
@@ -72,8 +76,8 @@ InTypes-op (Timeout ticks success count) f u ok flags ud =
     within (row (Timeout ticks success count)) f u 14 (lit< tt) (is_i32-fits no_fd refl) few small (lit< tt) (etime_word-lt success) zero_fits flags (lit≤ tt) ud
 InTypes-op (TimeoutRemove target) f u ok flags ud =
     within (row (TimeoutRemove target)) f u 14 (lit< tt) (is_i32-fits no_fd refl) (lit< tt) (is_u64-lt target ok) (lit< tt) (lit< tt) zero_fits flags (lit≤ tt) ud
-InTypes-op (AsyncCancel target) f u ok flags ud =
-    within (row (AsyncCancel target)) f u 14 (lit< tt) (is_i32-fits no_fd refl) (lit< tt) (is_u64-lt target ok) (lit< tt) (lit< tt) zero_fits flags (lit≤ tt) ud
+InTypes-op (AsyncCancel target all) f u ok flags ud =
+    within (row (AsyncCancel target all)) f u 14 (lit< tt) (is_i32-fits no_fd refl) (lit< tt) (is_u64-lt target ok) (lit< tt) (all_word-lt all) zero_fits flags (lit≤ tt) ud
 InTypes-op (LinkTimeout ticks) f u ok flags ud =
     let small : ticks < 2 ^ 64 = omega (arith, ltb-true ticks _ ok) in
     within (row (LinkTimeout ticks)) f u 12 (lit< tt) (is_i32-fits no_fd refl) (lit< tt) small (lit< tt) (lit< tt) zero_fits flags (lit≤ tt) ud

@@ -21,13 +21,18 @@ abbrev pub etime_word : Bool → ℕ
 etime_word true = 32
 etime_word false = 0
 
+-- IORING_ASYNC_CANCEL_ALL is bit 0
+abbrev pub all_word : Bool → ℕ
+all_word true = 1
+all_word false = 0
+
 -- a row of the table for each operation, and what an Invalid entry is written as (this profile, after the opcodes of io_uring_enter(2))
 abbrev pub row : Op → Row
 row Nop = record { opcode = 0; fd = no_fd; off = 0; addr = 0; len = 0; word = 0; splice_fd_in = pos 0 }
 row (PollAdd fd mask) = record { opcode = 6; fd = fd; off = 0; addr = 0; len = 0; word = mask; splice_fd_in = pos 0 }
 row (Timeout ticks etime_success count) = record { opcode = 11; fd = no_fd; off = count; addr = ticks; len = 1; word = etime_word etime_success; splice_fd_in = pos 0 }
 row (TimeoutRemove target) = record { opcode = 12; fd = no_fd; off = 0; addr = target; len = 0; word = 0; splice_fd_in = pos 0 }
-row (AsyncCancel target) = record { opcode = 14; fd = no_fd; off = 0; addr = target; len = 0; word = 0; splice_fd_in = pos 0 }
+row (AsyncCancel target all) = record { opcode = 14; fd = no_fd; off = 0; addr = target; len = 0; word = all_word all; splice_fd_in = pos 0 }
 row (LinkTimeout ticks) = record { opcode = 15; fd = no_fd; off = 0; addr = ticks; len = 1; word = 0; splice_fd_in = pos 0 }
 row (Close fd) = record { opcode = 19; fd = fd; off = 0; addr = 0; len = 0; word = 0; splice_fd_in = pos 0 }
 row (Read fd offset len) = record { opcode = 22; fd = fd; off = place offset; addr = 0; len = len; word = 0; splice_fd_in = pos 0 }
@@ -49,7 +54,7 @@ abbrev pub fits_op : Op → Bool
 fits_op (PollAdd fd mask) = is_i32 fd && bit_and mask 29 == mask
 fits_op (Timeout ticks etime_success count) = nat_lt count 1024 && nat_lt ticks 2147483648
 fits_op (TimeoutRemove target) = is_u64 target
-fits_op (AsyncCancel target) = is_u64 target
+fits_op (AsyncCancel target all) = is_u64 target
 fits_op (LinkTimeout ticks) = nat_lt ticks 2147483648
 fits_op (Close fd) = is_i32 fd
 fits_op (Read fd offset len) = is_i32 fd && nat_lt len 2147483648

@@ -30,9 +30,11 @@ pub enum Op {
     TimeoutRemove {
         user_data: u64,
     },
-    /// Cancels the request whose user_data is `user_data`, unless that is a LINK_TIMEOUT.
+    /// Cancels the first request whose user_data is `user_data` and which is no LINK_TIMEOUT. With `all` it cancels each of
+    /// them, and replies how many it took.
     AsyncCancel {
         user_data: u64,
+        all: bool,
     },
     /// Cancels the entry before it in its chain once `ticks` have passed since it was armed.
     LinkTimeout {

@@ -30,6 +30,9 @@ pub const POLL_EVENTS: u32 = 1 | 4 | 8 | 16;
 /// The bit ETIME_SUCCESS of a TIMEOUT's flags word.
 const ETIME_SUCCESS: u32 = 32;
 
+/// The bit IORING_ASYNC_CANCEL_ALL of an ASYNC_CANCEL's flags word.
+pub const CANCEL_ALL: u32 = 1;
+
 /// The opcode that an Invalid entry is written with.
 const INVALID: u8 = 255;
 
@@ -59,6 +62,7 @@ macro_rules! column_of {
     (ticks $ticks:ident) => { u64::from($ticks) };
     (completions $count:ident) => { u64::from($count) };
     (etime $success:ident) => { if $success { ETIME_SUCCESS } else { 0 } };
+    (all $all:ident) => { if $all { CANCEL_ALL } else { 0 } };
     ($kind:ident $field:ident) => { $field };
 }
 
@@ -85,6 +89,7 @@ macro_rules! field_at {
     ($from:expr, ticks $ticks:ident) => { let $ticks = ($from % 0x8000_0000) as u32; };
     ($from:expr, completions $count:ident) => { let $count = ($from % 0x400) as u32; };
     ($from:expr, etime $success:ident) => { let $success = $from != 0; };
+    ($from:expr, all $all:ident) => { let $all = $from != 0; };
     ($from:expr, $kind:ident $field:ident) => { let $field = $from; };
 }
 

@@ -21,12 +21,20 @@ impl fmt::Display for Offset {
 }
 
 macro_rules! shown {
-    (($op:expr, $f:expr) $($text:literal $name:ident { $($field:ident),* } = $code:literal: $fd:tt $off:tt $addr:tt $len:tt $word:tt $splice_fd_in:tt $flags:tt $fails:tt;)*) => {
+    (($op:expr, $f:expr) $($text:literal $name:ident { $($field:ident),* } = $code:literal: $fd:tt $off:tt $addr:tt $len:tt [$($word:tt)*] $splice_fd_in:tt $flags:tt $fails:tt;)*) => {
         match $op {
-            $(Op::$name { $($field),* } => write!($f, $text),)*
+            $(Op::$name { $($field),* } => {
+                shown_column!($($word)*);
+                write!($f, $text)
+            })*
             Op::Invalid => write!($f, "INVALID"),
         }
     };
+}
+
+macro_rules! shown_column {
+    (all $all:ident) => { let $all = word($all, " all"); };
+    ($($other:tt)*) => {};
 }
 
 impl fmt::Display for Op {
@@ -41,7 +49,7 @@ impl fmt::Display for Op {
 #[derive(Clone, Copy)]
 struct Words(SqeFlags);
 
-/// The text where the flag is set.
+/// The text where it is set.
 fn word(is_set: bool, text: &'static str) -> &'static str
     ensures { result.now ≡ (if is_set then text.now else []) }
 {

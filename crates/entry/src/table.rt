@@ -34,7 +34,7 @@ macro_rules! by_opcode {
         $crate::by_opcode!($($then)* { "TIMEOUT_REMOVE target {user_data}" TimeoutRemove { user_data } = 12: [none] [zero] [target user_data] [zero] [zero] [zero] [drain] [negative] } (cancel timer user_data))
     };
     (@row AsyncCancel [$($then:tt)*]) => {
-        $crate::by_opcode!($($then)* { "ASYNC_CANCEL target {user_data}" AsyncCancel { user_data } = 14: [none] [zero] [target user_data] [zero] [zero] [zero] [drain] [negative] } (cancel any user_data))
+        $crate::by_opcode!($($then)* { "ASYNC_CANCEL target {user_data}{all}" AsyncCancel { user_data, all } = 14: [none] [zero] [target user_data] [zero] [all all] [zero] [drain] [negative] } (cancel any user_data all))
     };
     (@row LinkTimeout [$($then:tt)*]) => {
         $crate::by_opcode!($($then)* { "LINK_TIMEOUT ticks {ticks}" LinkTimeout { ticks } = 15: [none] [zero] [ticks ticks] [one] [zero] [zero] [no_drain] [never] } (timer linked ticks))

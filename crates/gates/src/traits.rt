@@ -10,7 +10,7 @@ macro_rules! is_linked_timer {
     ((timer alone $ticks:ident) ()) => { false };
     ((plain $kind:ident) ()) => { false };
     ((pipe $kind:ident $($field:ident)*) ()) => { false };
-    ((cancel $kind:ident $target:ident) ()) => { false };
+    ((cancel $kind:ident $($field:ident)*) ()) => { false };
 }
 
 macro_rules! is_invalid_entry {
@@ -18,7 +18,7 @@ macro_rules! is_invalid_entry {
     ((plain nothing) ()) => { false };
     ((timer $kind:ident $ticks:ident) ()) => { false };
     ((pipe $kind:ident $($field:ident)*) ()) => { false };
-    ((cancel $kind:ident $target:ident) ()) => { false };
+    ((cancel $kind:ident $($field:ident)*) ()) => { false };
 }
 
 /// What chains, drains and link timeouts hang on: what the entry is, and its flags (IOSQE_IO_DRAIN, IOSQE_IO_LINK and

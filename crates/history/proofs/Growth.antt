@@ -73,7 +73,7 @@ module _ (s : Setup) where
   changes (Begin r) h q n a w = let x = at_request h r q waits w a.0 in rw x tt
   changes (Park r) h q n a w = let x = at_request h r q runs w a in rw x tt
   changes (Reply r res data') h q n a w = let x = at_request h r q runs w a.0 in rw x tt
-  changes (Take c t) h q n a w = subst (λ (z : Req). MayChange (phase h z) (Take c t)) (same_true t q w) (idle_takes c t (phase h t) a.3)
+  changes (Take c t) h q n a w = subst (λ (z : Req). MayChange (phase h z) (Take c t)) (same_true t q w) (idle_takes c t (phase h t) a.2)
   changes (Miss c t) h q n a w = absurd (true≢false (sym w))
   changes (Tick m) h q n a w = absurd (true≢false (sym w))
   changes (Arm r d) h q n a w = let x = at_request h r q waits w a.0 in rw x tt

@@ -1,5 +1,6 @@
 pub mod Apart
 pub mod Alike
+pub mod Catches
 pub mod Contents
 pub mod Growth
 pub mod LaterReplies

@@ -1,11 +1,11 @@
 -- The table of answers: what each operation replies, and when it has no answer yet.
-use Rattle.std.specs.Prelude.{◌≡◌, ℕ, ◌+◌, ◌-◌, ◌<◌, ◌==◌, ◌&&◌, not, nat_lt, nat_le, min, take, length, slice_index, bit_and, bit_or, Bool, true, false, cond, ℤ, pos, negsuc, List, []}
+use Rattle.std.specs.Prelude.{◌≡◌, ◌⊎◌, ℕ, ◌+◌, ◌-◌, ◌<◌, ◌==◌, ◌&&◌, not, nat_lt, nat_le, min, take, length, slice_index, bit_and, bit_or, Bool, true, false, cond, ℤ, pos, negsuc, List, []}
 use Rattle.entry.specs.declared.op.Op.{Op}
 use Rattle.entry.specs.declared.op.Op.TheVariants.{Nop, PollAdd, Timeout, TimeoutRemove, AsyncCancel, LinkTimeout, Close, Read, Write, Splice, Invalid}
 use Rattle.entry.specs.Entry.{Entry}
 use Rattle.history.specs.declared.req.Req.{Req}
 use Rattle.history.specs.declared.event.Event.{Event}
-use Rattle.history.specs.History.{Hit, nothing, took, missed, hit, phase, IsReplied}
+use Rattle.history.specs.History.{Hit, nothing, took, missed, hit, tally, has_missed, phase, IsReplied}
 use Rattle.history.specs.Chains.{is_link_timeout, is_timeout, IsBefore, IsPlaced}
 use Rattle.history.specs.Pipes.{Flow, flow, content, End, no_end, read_end, write_end, end_of}
 
@@ -97,7 +97,7 @@ module _ (caps : List ℕ) (flow_at : ℕ → Flow) where
 
 -- the cancel asks for such an entry: io_uring_prep_cancel64(3) for any but a LINK_TIMEOUT, io_uring_prep_timeout_remove(3) for a TIMEOUT
 abbrev pub asks_for : Op → Entry → Bool
-asks_for (AsyncCancel user_data) e = (e.user_data == user_data) && not (is_link_timeout e.op)
+asks_for (AsyncCancel user_data all) e = (e.user_data == user_data) && not (is_link_timeout e.op)
 asks_for (TimeoutRemove user_data) e = (e.user_data == user_data) && is_timeout e.op
 asks_for _ e = false
 
@@ -111,15 +111,38 @@ pub record IsFirst (h : List Event) (c t : Req) : Type 0 where
   pub unanswered : ¬ IsReplied (phase h t)
   pub first : (q : Req) → Matches h c q → q.k < t.k → IsReplied (phase h q)
 
+-- it is a cancel of all its matches (IORING_ASYNC_CANCEL_ALL, io_uring_prep_cancel64(3))
+abbrev pub is_all : Op → Bool
+is_all (AsyncCancel user_data all) = all
+is_all _ = false
+
+-- where it is one of all, the cancel means each match once; else the first alone, and only as long as it has done nothing
+abbrev pub AimsAt : Bool → List Event → Req → Req → Type 0
+AimsAt true h c t = Matches h c t × (has_missed (hit h c) t.k ≡ false)
+AimsAt false h c t = (hit h c ≡ nothing) × IsFirst h c t
+
+-- the cancel c may take t, or find it running
+abbrev pub MayHit : List Event → Req → Req → Type 0
+MayHit h c t = (e : Entry) × IsPlaced h c e × AimsAt (is_all e.op) h c t
+
 -- every match has been answered
 abbrev pub NoneLeft : List Event → Req → Type 0
 NoneLeft h c = (q : Req) → Matches h c q → IsReplied (phase h q)
 
+-- every match has been answered, or was found running
+abbrev pub AllTried : List Event → Req → Hit → Type 0
+AllTried h c x = (q : Req) → Matches h c q → IsReplied (phase h q) ⊎ (has_missed x q.k ≡ true)
+
 -- 0 where it took its target, -114 (EALREADY) where that was found running, -2 (ENOENT) where there is none (io_uring_prep_cancel64(3))
 abbrev pub CancelAnswers : List Event → Req → Hit → ℤ → Type 0
-CancelAnswers h c (took t) res = res ≡ pos 0
-CancelAnswers h c (missed t) res = res ≡ negsuc 113
+CancelAnswers h c (took t x) res = res ≡ pos 0
+CancelAnswers h c (missed t x) res = res ≡ cond (nat_lt 0 (tally x)) (pos 0) (negsuc 113)
 CancelAnswers h c nothing res = (res ≡ negsuc 1) × NoneLeft h c
+
+-- of a cancel of all its matches: how many it took (that those alone count is this profile)
+abbrev pub CancelBy : Bool → List Event → Req → Hit → ℤ → Type 0
+CancelBy true h c x res = (res ≡ pos (tally x)) × AllTried h c x
+CancelBy false h c x res = CancelAnswers h c x res
 
 abbrev pub OpAnswers : List ℕ → List Event → Req → Op → ℤ → List ℕ → Type 0
 OpAnswers caps h r Nop res data' = now (pos 0) [] ≡ now res data'
@@ -129,7 +152,7 @@ OpAnswers caps h r (Write fd offset len) res data' = write_to caps (flow h) (end
 OpAnswers caps h r (Splice fd_in fd len) res data' = splice_of caps (flow h) (end_of fd_in) (end_of fd) len ≡ now res data'
 OpAnswers caps h r (Close fd) res data' = close_of caps (flow h) (end_of fd) ≡ now res data'
 OpAnswers caps h r (PollAdd fd mask) res data' = poll_of caps (flow h) (end_of fd) mask ≡ now res data'
-OpAnswers caps h r (AsyncCancel user_data) res data' = CancelAnswers h r (hit h r) res × (data' ≡ [])
+OpAnswers caps h r (AsyncCancel user_data all) res data' = CancelBy all h r (hit h r) res × (data' ≡ [])
 OpAnswers caps h r (TimeoutRemove user_data) res data' = CancelAnswers h r (hit h r) res × (data' ≡ [])
 OpAnswers caps h r (Timeout ticks etime_success count) res data' = ⊥
 OpAnswers caps h r (LinkTimeout ticks) res data' = ⊥

@@ -1,5 +1,5 @@
 -- A history: the list of the events so far, the newest first. What became of a request is read off the whole list.
-use Rattle.std.specs.Prelude.{ℕ, zero, suc, ◌+◌, ◌-◌, ◌==◌, ◌&&◌, Bool, true, false, cond, ℤ, pos, negsuc, List, [], ◌∷◌, Option, Some, None}
+use Rattle.std.specs.Prelude.{ℕ, zero, suc, ◌+◌, ◌-◌, ◌==◌, ◌&&◌, ◌||◌, Bool, true, false, cond, ℤ, pos, negsuc, List, [], ◌∷◌, Option, Some, None}
 use Rattle.entry.specs.Entry.{Entry}
 use Rattle.history.specs.declared.req.Req.{Req}
 use Rattle.history.specs.declared.event.Event.{Event}
@@ -25,11 +25,11 @@ pub data Phase : Type 0 where
   replied : Cause → ℤ → Phase
   reaped : Cause → ℤ → Phase
 
--- what a cancel did: nothing yet, it took a request, or it found one running
+-- what a cancel did, the newest first: it took a request, or it found one running
 pub data Hit : Type 0 where
   nothing : Hit
-  took : Req → Hit
-  missed : Req → Hit
+  took : Req → Hit → Hit
+  missed : Req → Hit → Hit
 
 -- an entry as it was handed in: with its buffer, and whether it ended its batch
 pub record Submission : Type 0 where
@@ -150,13 +150,25 @@ data_of [] q = []
 data_of (e ∷ h) q = cond (answers e q) (data_in e) (data_of h q)
 
 abbrev pub hits : Event → Req → Hit → Hit
-hits (Take c t) q x = cond (same c q) (took t) x
-hits (Miss c t) q x = cond (same c q) (missed t) x
+hits (Take c t) q x = cond (same c q) (took t x) x
+hits (Miss c t) q x = cond (same c q) (missed t x) x
 hits _ q x = x
 
 abbrev pub hit : List Event → Req → Hit
 hit [] q = nothing
 hit (e ∷ h) q = hits e q (hit h q)
+
+-- how many requests it took
+abbrev pub tally : Hit → ℕ
+tally nothing = 0
+tally (took t x) = suc (tally x)
+tally (missed t x) = tally x
+
+-- it found the request k of its ring running
+abbrev pub has_missed : Hit → ℕ → Bool
+has_missed nothing k = false
+has_missed (took t x) k = has_missed x k
+has_missed (missed t x) k = (t.k == k) || has_missed x k
 
 abbrev pub hands_in : Event → Req → Option Submission → Option Submission
 hands_in (Submit r e bytes last) q x = cond (same r q) (Some (record { entry = e; bytes = bytes; last = last })) x

@@ -6,9 +6,9 @@ use Rattle.entry.specs.Entry.{Entry}
 use Rattle.history.specs.declared.req.Req.{Req}
 use Rattle.history.specs.declared.event.Event.{Event}
 use Rattle.history.specs.declared.event.Event.TheVariants.{Submit, Begin, Park, Reply, Take, Miss, Tick, Arm, Expire, Count, Fire, FireMiss, Settle, Sever, Reap, Shut, Cut}
-use Rattle.history.specs.History.{Cause, phase, waits, runs, armed, replied, hit, nothing, fired, submits, clock_of, was_shut, later_replies, IsReplied, IsPending, IsIdle}
+use Rattle.history.specs.History.{Cause, phase, waits, runs, armed, replied, fired, submits, clock_of, was_shut, later_replies, IsReplied, IsPending, IsIdle}
 use Rattle.history.specs.Chains.{Open, Severed, IsPlaced, IsLinkTimeout, IsTarget, is_timer, is_timeout}
-use Rattle.history.specs.Answers.{Answers, IsFirst}
+use Rattle.history.specs.Answers.{Answers, MayHit}
 
 -- how many rings there are, and the capacities of the pipes in bytes
 pub record Setup : Type 0 where
@@ -58,8 +58,8 @@ MayCome s h (Submit r e bytes last) = (r.ring < s.rings) × (r.k ≡ submits h r
 MayCome s h (Begin r) = (phase h r ≡ waits) × Open h r × IsOf h r is_timer false
 MayCome s h (Park r) = phase h r ≡ runs
 MayCome s h (Reply r res data') = (phase h r ≡ runs) × Answers s.caps h r res data'
-MayCome s h (Take c t) = (phase h c ≡ runs) × (hit h c ≡ nothing) × IsFirst h c t × IsIdle (phase h t)
-MayCome s h (Miss c t) = (phase h c ≡ runs) × (hit h c ≡ nothing) × IsFirst h c t × (phase h t ≡ runs)
+MayCome s h (Take c t) = (phase h c ≡ runs) × MayHit h c t × IsIdle (phase h t)
+MayCome s h (Miss c t) = (phase h c ≡ runs) × MayHit h c t × (phase h t ≡ runs)
 MayCome s h (Tick n) = (clock_of h ≤ n) × (n ≤ 2147483647)
 MayCome s h (Arm r d) = (phase h r ≡ waits) × Open h r × (e : Entry) × (n : ℕ) × IsPlaced h r e × (ticks_of e.op ≡ Some n) × (d ≡ clock_of h + n)
 MayCome s h (Expire r) = IsDue h r × IsOf h r is_timeout true

@@ -216,7 +216,7 @@ impl Stage {
         let Some(worker) = self.worker.take() else {
             bail!("no worker")
         };
-        if outbox.room() < 2 {
+        if outbox.room() < self.board.widest() as usize {
             bail!("no room")
         }
         let (worker, turn) = work_turn(

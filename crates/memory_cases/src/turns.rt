@@ -126,7 +126,7 @@ fn work<R: Wait>(
     text: &mut String,
 ) -> Result<()> {
     for _turn in 0..count {
-        let mut outbox = Outbox::new(alloc, 2)?;
+        let mut outbox = outbox_of(alloc, stage)?;
         stage.work(rt, &mut outbox)?;
         note(text, &outbox)?;
     }

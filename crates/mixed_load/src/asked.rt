@@ -1,4 +1,5 @@
 //! What a request asks for, and which replies it may have.
+use crate::crowd::Crowd;
 use crate::ends::{self, CAPACITY};
 
 /// ENOENT, EBADF, EINVAL, EPIPE, ETIME, EALREADY and ECANCELED, as replies.
@@ -17,7 +18,7 @@ pub(crate) const ALREADY: i32 = -114;
 pub(crate) const CANCELED: i32 = -125;
 
 /// How many kinds of requests there are.
-pub(crate) const KINDS: usize = 11;
+pub(crate) const KINDS: usize = 12;
 
 /// The names of the kinds.
 pub(crate) const NAMES: [&str; KINDS] = [
@@ -32,6 +33,7 @@ pub(crate) const NAMES: [&str; KINDS] = [
     "ASYNC_CANCEL",
     "TIMEOUT_REMOVE",
     "SPLICE",
+    "ASYNC_CANCEL of all",
 ];
 
 /// What a request asks for, as far as its possible replies hang on it.
@@ -48,6 +50,7 @@ pub(crate) enum Asked {
     LinkTimeout,
     Cancel { target: u64 },
     Remove { target: u64 },
+    CancelAll { crowd: Crowd },
     Splice { fd_in: i32, fd_out: i32, len: u32 },
 }
 
@@ -126,6 +129,7 @@ impl Asked {
             Asked::LinkTimeout => res == TIMED_OUT,
             Asked::Cancel { .. } => res == 0 || res == NO_ENTRY || res == ALREADY,
             Asked::Remove { .. } => res == 0 || res == NO_ENTRY,
+            Asked::CancelAll { crowd } => 0 <= res && res <= as_reply(crowd.count),
             Asked::Splice { fd_in, fd_out, len } => may_splice(fd_in, fd_out, len, res),
         }
     }
@@ -166,10 +170,11 @@ impl Asked {
             Asked::Cancel { .. } => 8,
             Asked::Remove { .. } => 9,
             Asked::Splice { .. } => 10,
+            Asked::CancelAll { .. } => 11,
         }
     }
 
-    /// The number of the request that it is to cancel, and whether that has to be a TIMEOUT.
+    /// The number of the one request that it is to cancel, and whether that has to be a TIMEOUT.
     pub fn target(self) -> Option<(u64, bool)> {
         match self {
             Asked::Cancel { target } => Some((target, false)),

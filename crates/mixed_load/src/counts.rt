@@ -11,7 +11,7 @@ pub(crate) struct Counts {
     pub cut: u64,
     /// Replies of -125 (ECANCELED).
     pub canceled: u64,
-    /// Cancels that took a request, and that found one running.
+    /// Cancels that took a request, or more than one, and that found one running.
     pub took: u64,
     pub missed: u64,
     /// TIMEOUTs and LINK_TIMEOUTs that ran out.
@@ -51,12 +51,16 @@ impl Counts {
     /// Counts the reply to a request.
     pub fn replied(&mut self, asked: Asked, res: i32) {
         let is_taker = asked.target().is_some();
+        let is_of_all = matches!(asked, Asked::CancelAll { .. });
         let is_transfer = matches!(
             asked,
             Asked::Read { .. } | Asked::Write { .. } | Asked::Splice { .. }
         );
         add(&mut self.canceled, res == CANCELED);
-        add(&mut self.took, is_taker && res == 0);
+        add(
+            &mut self.took,
+            (is_taker && res == 0) || (is_of_all && 0 < res),
+        );
         add(&mut self.missed, is_taker && res == ALREADY);
         add(&mut self.timed_out, res == TIMED_OUT);
         add(&mut self.moved, is_transfer && 0 < res);

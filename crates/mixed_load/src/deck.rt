@@ -122,8 +122,8 @@ impl Deck {
         Ok(draft)
     }
 
-    /// Adds a cancel for each of the oldest requests that may wait, once the cancels before have replied. Where few cells may be left,
-    /// it adds one after each rest.
+    /// Adds a cancel for each of the oldest requests that may wait, and of all of a crowd, once the cancels before have replied. Where
+    /// few cells may be left, it adds one after each rest.
     fn settling(&mut self, mut draft: Draft) -> Result<Draft, AllocError> {
         let is_far = FAR <= self.pending.span();
         if self.pending.ending() > 0 || (is_far && !self.is_rested) {
@@ -136,8 +136,15 @@ impl Deck {
             let Some(target) = self.pending.next_waiting(from) else {
                 break;
             };
-            draft.add_cancel(&mut self.flow, target)?;
-            from = target.saturating_add(1);
+            let crowd = match self.pending.get(target) {
+                Some(record) => record.crowd,
+                None => None,
+            };
+            draft.add_cancel(&mut self.flow, target, crowd)?;
+            from = match crowd {
+                Some(crowd) => crowd.end(),
+                None => target.saturating_add(1),
+            };
         }
         Ok(draft)
     }
@@ -169,7 +176,7 @@ impl Deck {
             Some(record) => *record,
             None => return Err(Fault::Count),
         };
-        if completion.cqe.user_data != number {
+        if completion.cqe.user_data != record.user_data(number) {
             return Err(Fault::Count);
         }
         if !record.asked.may_reply(res, is_cut) {
@@ -257,8 +264,12 @@ impl Deck {
         }
     }
 
-    /// The request that a cancel with this reply has taken, or come too late for.
+    /// The request that a cancel with this reply has taken, or come too late for; of a crowd that a cancel took whole, the first.
     fn canceled(&self, number: u64, asked: Asked, res: i32) -> Option<u64> {
+        if let Asked::CancelAll { crowd } = asked {
+            let is_whole = i64::from(res) == i64::from(crowd.count);
+            return if is_whole { Some(crowd.first) } else { None };
+        }
         let (target, _) = asked.target()?;
         if (res == 0 || res == NO_ENTRY) && self.pending.is_match(number, asked) {
             Some(target)

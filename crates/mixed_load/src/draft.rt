@@ -1,5 +1,6 @@
 //! Batches of requests of all kinds, drawn at random.
 use crate::asked::Asked;
+use crate::crowd::Crowd;
 use crate::ends::{CAPACITY, PIPES, SHARED, SOURCE, TARGET, is_end, stream_of};
 use crate::flow::Flow;
 use crate::pending::Pending;
@@ -7,8 +8,8 @@ use crate::random::Random;
 use crate::record::{Fate, Record};
 use entry::Sqe;
 use prep::{
-    cancel, close, link_timeout, nop, poll_add, read, splice, timeout, timeout_remove, with_flags,
-    with_user_data, write,
+    cancel, cancel_all, close, link_timeout, nop, poll_add, read, splice, timeout, timeout_remove,
+    with_flags, with_user_data, write,
 };
 use std::alloc::{AllocError, Global};
 
@@ -42,7 +43,7 @@ const SHORT: u32 = 33;
 
 const LONG: u32 = 2 * CAPACITY;
 
-/// A batch as it is drawn: its entries, with the number of their request as user_data; what is known of each; the number of the next
+/// A batch as it is drawn: its entries, with the number of their request as user_data, or with that of their crowd; what is known of each; the number of the next
 /// one and of the first member of its chain; whether the next one is linked to one before it, whether that was handed in as a
 /// LINK_TIMEOUT, and whether an earlier member of the chain may wait.
 #[derive(Drop)]
@@ -107,7 +108,7 @@ impl Draft {
     ) -> Result<(), AllocError> {
         let record = self.placed(record, flags);
         let buffer = flow.buffer(self.alloc, self.next, &record, length)?;
-        let sqe = with_user_data(with_flags(sqe, flags), self.next);
+        let sqe = with_user_data(with_flags(sqe, flags), record.user_data(self.next));
         self.records.push(record)?;
         self.batch.push((sqe, buffer))?;
         flow.set_busy(record.asked, true);
@@ -255,6 +256,54 @@ impl Draft {
         self.add_plain(flow, sqe, flags, asked, Fate::Ends)
     }
 
+    /// Adds a member of a crowd: a READ of a pipe that all use, or a TIMEOUT that doesn't run out.
+    fn add_member(
+        &mut self,
+        random: &mut Random,
+        flow: &mut Flow,
+        crowd: Crowd,
+    ) -> Result<(), AllocError> {
+        let is_timeout = random.is_one_in(4);
+        let len = if is_timeout { 0 } else { length_of(random) };
+        let (sqe, asked) = if is_timeout {
+            let (is_late, is_success) = (true, false);
+            (
+                timeout(LATE, 0),
+                Asked::Timeout {
+                    is_late,
+                    is_success,
+                },
+            )
+        } else {
+            let fd = end_of(shared_pipe(random), false);
+            (read(fd, len, 0), Asked::Read { fd, len })
+        };
+        let mut record = Record::new(asked, Fate::Waits, 0);
+        record.crowd = Some(crowd);
+        self.add(flow, sqe, 0, record, len)
+    }
+
+    /// Adds a crowd of two to four requests that may wait, and now and then a cancel of all of them.
+    fn add_crowd(
+        &mut self,
+        random: &mut Random,
+        flow: &mut Flow,
+        flags: u8,
+    ) -> Result<(), AllocError> {
+        let crowd = Crowd {
+            first: self.next,
+            count: 2 + random.below(3),
+        };
+        for _member in 0..crowd.count {
+            self.add_member(random, flow, crowd)?;
+        }
+        if random.is_one_in(2) {
+            let sqe = cancel_all(crowd.user_data());
+            self.add_plain(flow, sqe, flags, Asked::CancelAll { crowd }, Fate::Ends)?;
+        }
+        Ok(())
+    }
+
     /// Adds an Invalid entry of one of four kinds, with a buffer now and then.
     fn add_invalid(
         &mut self,
@@ -306,7 +355,7 @@ impl Draft {
             0
         };
         let flags = link_of(random) | drain;
-        match random.below(36) {
+        match random.below(38) {
             0..10 => self.add_transfer(random, flow, flags),
             10..14 => self.add_timed(random, flow, flags & !DRAIN),
             14..16 => self.add_poll(random, flow, flags),
@@ -317,6 +366,7 @@ impl Draft {
             20..24 => self.add_taker(random, flow, pending, flags),
             24 => self.add_link_timeout(random, flow, flags),
             25..29 => self.add_splice(random, flow, flags),
+            29..31 => self.add_crowd(random, flow, flags),
             _ => self.add_quick(random, flow, flags),
         }
     }
@@ -331,10 +381,18 @@ impl Draft {
         self.add_quick(random, flow, flags)
     }
 
-    /// Adds a cancel of this request.
-    pub fn add_cancel(&mut self, flow: &mut Flow, target: u64) -> Result<(), AllocError> {
-        let asked = Asked::Cancel { target };
-        self.add_plain(flow, cancel(target), 0, asked, Fate::Ends)
+    /// Adds a cancel of this request, or of all of its crowd.
+    pub fn add_cancel(
+        &mut self,
+        flow: &mut Flow,
+        target: u64,
+        crowd: Option<Crowd>,
+    ) -> Result<(), AllocError> {
+        let (sqe, asked) = match crowd {
+            Some(crowd) => (cancel_all(crowd.user_data()), Asked::CancelAll { crowd }),
+            None => (cancel(target), Asked::Cancel { target }),
+        };
+        self.add_plain(flow, sqe, 0, asked, Fate::Ends)
     }
 }
 

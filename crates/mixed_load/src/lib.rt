@@ -6,6 +6,7 @@ mod asked;
 mod closing;
 mod counts;
 mod crew;
+mod crowd;
 mod deck;
 mod draft;
 mod ends;

@@ -87,7 +87,7 @@ impl Pending {
         }
     }
 
-    /// Whether a request that is to cancel another one may find it: it is an earlier one, and of the right kind.
+    /// Whether a request that is to cancel another one may find it: it is an earlier one of no crowd, and of the right kind.
     pub fn is_match(&self, number: u64, asked: Asked) -> bool {
         let Some((target, of_timeouts)) = asked.target() else {
             return false;
@@ -96,7 +96,8 @@ impl Pending {
             return false;
         };
         let is_timeout = matches!(record.asked, Asked::Timeout { .. });
-        target < number && !record.is_link_timeout() && (is_timeout || !of_timeouts)
+        let is_alone = record.crowd.is_none() && !record.is_link_timeout();
+        target < number && is_alone && (is_timeout || !of_timeouts)
     }
 
     /// Notes the next request.

@@ -1,5 +1,6 @@
 //! What is known of one request.
 use crate::asked::{Asked, CANCELED};
+use crate::crowd::Crowd;
 
 /// What ends a request.
 #[derive(Clone, Copy, PartialEq, Eq, Debug)]
@@ -35,8 +36,11 @@ pub(crate) struct Record {
     pub told: u64,
     /// Whether it must have replied.
     pub is_owed: bool,
-    /// How many cancels took it.
+    /// How many cancels of one request took it.
     pub takes: u32,
+    /// The crowd that it is of. At its first member, how many requests of it the cancels of all took.
+    pub crowd: Option<Crowd>,
+    pub ended: u32,
 }
 
 impl Record {
@@ -55,6 +59,16 @@ impl Record {
             told: u64::MAX,
             is_owed: false,
             takes: 0,
+            crowd: None,
+            ended: 0,
+        }
+    }
+
+    /// The user_data of the request with this number.
+    pub fn user_data(&self, number: u64) -> u64 {
+        match self.crowd {
+            Some(crowd) => crowd.user_data(),
+            None => number,
         }
     }
 

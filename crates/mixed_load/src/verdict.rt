@@ -1,5 +1,6 @@
 //! What must be true of all requests of one ring, once each has its reply.
 use crate::asked::{ALREADY, Asked, CANCELED, NO_ENTRY, TIMED_OUT};
+use crate::crowd::Crowd;
 use crate::fault::Fault;
 use crate::pending::Pending;
 use crate::record::Record;
@@ -65,18 +66,72 @@ fn has_timed_out(pending: &Pending, number: u64, record: &Record) -> bool {
     }
 }
 
-/// Counts the cancels that took a request, at what they took.
-fn mark(pending: &mut Pending) {
+/// Notes what a cancel with this reply took: at its target, or at the first member of its crowd.
+fn mark(pending: &mut Pending, asked: Asked, res: i32) {
+    if let Asked::CancelAll { crowd } = asked {
+        if let Some(record) = pending.get_mut(crowd.first) {
+            let count = u32::try_from(res).unwrap_or(0);
+            record.ended = record.ended.saturating_add(count);
+        }
+    }
+    if let (Some((target, _)), 0) = (asked.target(), res) {
+        if let Some(record) = pending.get_mut(target) {
+            record.takes = record.takes.saturating_add(1);
+        }
+    }
+}
+
+/// Notes what all cancels took.
+fn mark_all(pending: &mut Pending) {
     for number in 0..pending.submitted() {
-        let target = match pending.get(number) {
-            Some(record) if record.reply == Some(0) => record.asked.target(),
-            _ => None,
+        let (asked, reply) = match pending.get(number) {
+            Some(record) => (record.asked, record.reply),
+            None => (Asked::Nop, None),
         };
-        if let Some((target, _)) = target {
-            if let Some(record) = pending.get_mut(target) {
-                record.takes = record.takes.saturating_add(1);
+        if let Some(res) = reply {
+            mark(pending, asked, res);
+        }
+    }
+}
+
+/// How many members of a crowd have -125 (ECANCELED) and were not cut off, of those without a completion when the request with this
+/// number was submitted; and how many of these nothing severed.
+fn canceled_of(pending: &Pending, crowd: Crowd, number: u64) -> (u32, u32) {
+    let (mut all, mut alone) = (0u32, 0u32);
+    for member in crowd.first..crowd.end() {
+        let Some(record) = pending.get(member) else {
+            continue;
+        };
+        if record.was_canceled() && number < record.told {
+            all = all.saturating_add(1);
+            if !is_severed(pending, member, record) {
+                alone = alone.saturating_add(1);
             }
         }
+    }
+    (all, alone)
+}
+
+/// What must be true of a crowd: the cancels of all took, together, those of its members that were canceled and not severed, and
+/// nothing but canceled ones.
+fn crowd_is_right(pending: &Pending, crowd: Crowd, ended: u32) -> bool {
+    let (all, alone) = canceled_of(pending, crowd, crowd.first);
+    alone <= ended && ended <= all
+}
+
+/// What must be true of a cancel of all with this reply: it took no more than were canceled after it was submitted.
+fn cancel_of_all_is_right(pending: &Pending, number: u64, crowd: Crowd, res: i32) -> bool {
+    let (all, _) = canceled_of(pending, crowd, number);
+    i64::from(res) <= i64::from(all)
+}
+
+/// Whether cancels of all took members of the crowd that the request is of.
+fn is_of_ended_crowd(pending: &Pending, record: &Record) -> bool {
+    match record.crowd {
+        Some(crowd) => pending
+            .get(crowd.first)
+            .is_some_and(|first| 0 < first.ended),
+        None => false,
     }
 }
 
@@ -115,7 +170,21 @@ fn timer_is_right(pending: &Pending, number: u64, record: &Record) -> bool {
 
 /// Whether a request without a reply of its own has a reason for it: a cancel or its LINK_TIMEOUT took it, or it was severed.
 fn has_reason(pending: &Pending, number: u64, record: &Record, severed: bool) -> bool {
-    severed || record.takes == 1 || has_timed_out(pending, number, record)
+    let was_taken = record.takes == 1 || is_of_ended_crowd(pending, record);
+    severed || was_taken || has_timed_out(pending, number, record)
+}
+
+/// What must be true of the first member of a crowd, and of a cancel of all.
+fn judge_crowd(pending: &Pending, number: u64, record: &Record, res: i32) -> Result<(), Fault> {
+    if let Some(crowd) = record.crowd {
+        let is_right = crowd.first != number || crowd_is_right(pending, crowd, record.ended);
+        owed(is_right, Fault::Cancel)?;
+    }
+    if let Asked::CancelAll { crowd } = record.asked {
+        let is_right = res == CANCELED || cancel_of_all_is_right(pending, number, crowd, res);
+        owed(is_right, Fault::Cancel)?;
+    }
+    Ok(())
 }
 
 /// What must be true of one request, with what was cut before it.
@@ -134,6 +203,7 @@ fn judge(pending: &Pending, number: u64, record: &Record, cuts: Cuts) -> Result<
     owed(!record.is_drain || !cuts.any || !has_started, Fault::Order)?;
     owed(record.takes == 0 || record.was_canceled(), Fault::Cancel)?;
     owed(record.takes <= 1, Fault::Cancel)?;
+    judge_crowd(pending, number, record, res)?;
     if record.is_link_timeout() {
         let is_right = severed || timer_is_right(pending, number, record);
         return owed(is_right, Fault::Timer);
@@ -151,7 +221,7 @@ fn judge(pending: &Pending, number: u64, record: &Record, cuts: Cuts) -> Result<
 
 /// Looks at all requests of a ring, of which each has its reply. The first that is wrong, with what is wrong.
 pub(crate) fn first_wrong(pending: &mut Pending) -> Option<(u64, Fault)> {
-    mark(pending);
+    mark_all(pending);
     let none = Cuts {
         any: false,
         drain: false,

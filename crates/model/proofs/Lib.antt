@@ -2,6 +2,7 @@ pub mod NumberSearches
 pub mod NextEvents
 pub mod EmptyStates
 pub mod Cancels
+pub mod CatchReplies
 pub mod ChainWalks
 pub mod RunAgreement
 pub mod PipeEnds

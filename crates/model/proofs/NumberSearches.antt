@@ -8,6 +8,8 @@ use Rattle.model.specs.declared.request.Request.{Request}
 use Rattle.model.specs.declared.request.Stage.{Stage}
 use Rattle.model.specs.declared.request.Stage.TheVariants.{Waits, Runs, Armed, Replied, Reaped}
 use Rattle.model.specs.Seen.{is_pending}
+use Rattle.history.specs.State.{Catch}
+use Rattle.model.specs.Cancels.{untried}
 use Rattle.model.specs.Decides.{pending_of, any_below, lists, Listed, blocks, wanted, is_runs, runs_of, severed_in, chain_done, drains_of, held_back, clear_in}
 use Rattle.history.proofs.Requests.{bool_cases, and_left, and_right}
 
@@ -81,6 +83,9 @@ module _ (xs ys : List Request) (ms : List ℕ) (l : Listed xs ms) (v : xs ≡ y
 
   pub any_wanted : (op : Op) (k : ℕ) → list_any (λ m. nat_lt m k && wanted xs op m) ms ≡ any_below (wanted ys op) k
   any_wanted op k = any_listed_below (wanted xs op) ms k (λ m p. l m (and_left _ _ p)) ∙ ap (λ zs. any_below (wanted zs op) k) v
+
+  pub any_untried : (op : Op) (x : Catch) (k : ℕ) → list_any (λ m. nat_lt m k && untried xs op x m) ms ≡ any_below (untried ys op x) k
+  any_untried op x k = any_listed_below (untried xs op x) ms k (λ m p. l m (and_left _ _ (and_left (wanted xs op m) _ p))) ∙ ap (λ zs. any_below (untried zs op x) k) v
 
   pub any_runs : list_any (λ m. runs_of (slice_get xs m)) ms ≡ any_below (λ m. runs_of (slice_get ys m)) (length ys)
   any_runs =

@@ -3,11 +3,16 @@ use Rattle.std.proofs.Common.{◌≡◌, ℕ, zero, suc, ◌<◌, ◌==◌, ◌|
 use Prim.Native.Nat.compare
 use lib.Dec.{compare_is_eq}
 use Rattle.std.specs.List.{slice_get, filter}
+use Rattle.std.specs.Prelude.{OnOk, OnErr}
+use Rattle.std.specs.declared.result.Result.{Result}
+use Rattle.std.specs.declared.result.Result.TheVariants.{Ok, Err}
+use Rattle.std.proofs.lemmas.List.{set-get_or}
 use Rattle.std.proofs.lemmas.Option.{slice_get_read}
 use Rattle.model.specs.declared.request.Request.{Request}
+use Rattle.history.specs.State.{Catch}
 use Rattle.model.specs.Seen.{is_pending}
 use Rattle.model.specs.Decides.{pending_of, lists, Listed}
-use Rattle.model.specs.Moves.{put, put_at}
+use Rattle.model.specs.Moves.{put, put_at, put_found}
 use Rattle.history.proofs.Requests.{bool_cases, not_true}
 
 pub apart : (i j : ℕ) → ¬ (i ≡ j) → (i == j) ≡ false
@@ -86,6 +91,17 @@ others_left ms i k w l = lists_left (λ m. not (m == i)) ms k (not_true' (k == i
 -- a request was written
 pub written : (f : Request → Request) (xs ys : List Request) (k : ℕ) (d : Request) → xs ≡ ys → k < length xs → d ≡ get_or xs k d → set xs k (f d) ≡ put ys k f
 written f xs ys k d e lt v = sym (ap (put_at xs k f) (slice_get_read xs (length xs) k d refl lt v)) ∙ ap (λ zs. put zs k f) e
+
+-- what a cancel has done was written, or not
+pub found_written : {T E : Type 0} (answer : Result T E) (f : Catch → Catch) (xs ys : List Request) (k : ℕ) (d : Request) (n : Catch) → xs ≡ ys → k < length xs → d ≡ get_or xs k d
+    → OnOk answer (n ≡ f d.found) → OnOk answer (set xs k (record d { found = n }) ≡ put_found ys k f)
+found_written (Ok u) f xs ys k d n e lt v w = ap (λ (z : Catch). set xs k (record d { found = z })) w ∙ written (λ (z : Request). record z { found = f z.found }) xs ys k d e lt v
+found_written (Err u) f xs ys k d n e lt v w = tt
+
+pub found_unwritten : {T E : Type 0} (answer : Result T E) (xs ys : List Request) (k : ℕ) (d : Request) (n : Catch) → xs ≡ ys → d ≡ get_or xs k d
+    → OnErr answer (n ≡ d.found) → OnErr answer (set xs k (record d { found = n }) ≡ ys)
+found_unwritten (Ok u) xs ys k d n e v w = tt
+found_unwritten (Err u) xs ys k d n e v w = ap (λ (z : Catch). set xs k (record d { found = z })) w ∙ ap (set xs k) v ∙ set-get_or xs k d ∙ e
 
 pub Listed-stage : (xs : List Request) (ms ns : List ℕ) (k : ℕ) (y : Request) → k < length xs → Listed xs ms → ns ≡ filter (λ m. not (m == k)) ms → is_pending y.stage ≡ false → Listed (set xs k y) ns
 Listed-stage xs ms ns k y lt l e f = Listed-set xs ms ns k y lt l (λ i w j. rw e (others_left ms k i w j)) (λ p. absurd (true≢false (sym p ∙ f)))

@@ -1,5 +1,5 @@
 -- What the requests of a ring tell is what the history tells of them.
-use Rattle.std.proofs.Common.{◌≡◌, ℕ, ◌-◌, ◌<◌, ◌==◌, ◌&&◌, ◌||◌, not, Bool, true, false, cond, ℤ, List, length, get_or, Option, Some, None, refl, sym, ap, ◌∙◌, subst, ⊎_elim, true≢false, arith}
+use Rattle.std.proofs.Common.{◌≡◌, ℕ, ◌-◌, ◌<◌, ◌==◌, ◌&&◌, ◌||◌, not, Bool, true, false, cond, ℤ, List, length, get_or, Option, Some, None, inl, inr, refl, sym, ap, ◌∙◌, subst, ⊎_elim, true≢false, arith}
 use Rattle.std.specs.List.{slice_get}
 use Rattle.std.proofs.lemmas.Option.{slice_get_within, slice_get-get_or}
 use Rattle.entry.specs.Entry.{Entry, drains}
@@ -9,12 +9,15 @@ use Rattle.history.specs.declared.req.Req.{Req}
 use Rattle.history.specs.declared.event.Event.{Event}
 use Rattle.model.specs.declared.request.Request.{Request}
 use Rattle.model.specs.declared.request.Stage.{Stage}
-use Rattle.history.specs.History.{Phase, unborn, waits, runs, armed, replied, reaped, submission, phase, reply_in, reply, IsReplied}
+use Rattle.history.specs.History.{Phase, unborn, waits, runs, armed, replied, reaped, Hit, has_missed, submission, phase, reply_in, reply, IsReplied}
 use Rattle.history.specs.Chains.{joins, placed_behind, placed_from, placed, IsBefore, Severed, IsClear}
-use Rattle.history.specs.Answers.{asks_for, Matches, IsFirst, NoneLeft}
+use Rattle.history.specs.Answers.{asks_for, Matches, IsFirst, NoneLeft, AllTried}
+use Rattle.history.specs.State.{catch_in}
 use Rattle.model.specs.Seen.{is_pending, reply_at, stage_of, Seen, seen, seen_of, handed_at, stage_at, handed_in, placed_in}
 use Rattle.model.specs.Decides.{reply_in_of, severed_in, pending_of, chain_done, any_below, drains_of, blocks, held_back, clear_in, asked_for, wanted}
+use Rattle.model.specs.Cancels.{is_escaped, untried}
 use Rattle.history.proofs.Requests.{bool_cases, not_true, and_left, and_right}
+use Rattle.history.proofs.Catches.{missed_in}
 use Rattle.model.proofs.NumberSearches.{any_at, any_found}
 use Rattle.model.proofs.ChainWalks.{severed_by, severed_from, done_by, done_from, severs_at_by, severs_at_from}
 
@@ -62,6 +65,10 @@ answered_by runs i = absurd i
 answered_by (armed d) i = absurd i
 answered_by (replied c res) i = refl
 answered_by (reaped c res) i = refl
+
+not_false : (b : Bool) → not b ≡ false → b ≡ true
+not_false true e = refl
+not_false false e = absurd (true≢false e)
 
 -- the entry that is placed has the flags of the one that was handed in
 drains_placed : (b : Bool) (e d : Entry) → Some (cond b (record e { op = Invalid }) e) ≡ Some d → drains d ≡ drains e
@@ -180,7 +187,7 @@ module _ (h : List Event) (i : ℕ) (xs : List Request) (reads : (k : ℕ) → s
 
   -- what a cancel means
   module _ (k : ℕ) (x : Request) (is : slice_get xs k ≡ Some x) (d : Entry) (p : placed_in xs k ≡ Some d) where
-    matched : (m : ℕ) → m < k → asked_for d.op (placed_in xs m) ≡ true → Matches h (at k) (at m)
+    pub matched : (m : ℕ) → m < k → asked_for d.op (placed_in xs m) ≡ true → Matches h (at k) (at m)
     matched m lt a = let e = asked_some d.op (placed_in xs m) a in ((refl, lt), d, e.0, placed_is k ∙ p, placed_is m ∙ e.1, e.2)
 
     was_matched : (q : Req) → Matches h (at k) q → asked_for d.op (placed_in xs q.k) ≡ true
@@ -195,6 +202,14 @@ module _ (h : List Event) (i : ℕ) (xs : List Request) (reads : (k : ℕ) → s
         let a = was_matched q m in let y = kept_before k q.k x is m.0.1 in
         let no : pending_of (slice_get xs q.k) ≡ false = not_true _ (λ u. true≢false (sym (ap (λ b. b && asked_for d.op (placed_in xs q.k)) u ∙ a) ∙ w)) in
         subst (λ (z : Req). IsReplied (phase h z)) (sym (here q k m.0)) (is_answered q.k y.0 y.1 no)
+
+    -- a match that was not answered is wanted
+    pub wanted_from : (q : Req) → Matches h (at k) q → ¬ IsReplied (phase h q) → wanted xs d.op q.k ≡ true
+    wanted_from q m n =
+        let e = here q k m.0 in let a = was_matched q m in let y = kept_before k q.k x is m.0.1 in
+        let alive : pending_of (slice_get xs q.k) ≡ true = ⊎_elim (λ (w : pending_of (slice_get xs q.k) ≡ true). w)
+        (λ (w : pending_of (slice_get xs q.k) ≡ false). absurd (n (subst (λ (z : Req). IsReplied (phase h z)) (sym e) (is_answered q.k y.0 y.1 w)))) (bool_cases (pending_of (slice_get xs q.k))) in
+        ap (λ b. b && asked_for d.op (placed_in xs q.k)) alive ∙ a
 
     none_below : (n : ℕ) → any_below (wanted xs d.op) n ≡ false → (m : ℕ) → m < n → wanted xs d.op m ≡ false
     none_below n b m lt = not_true _ (λ u. true≢false (sym (any_at (wanted xs d.op) n m lt u) ∙ b))
@@ -213,15 +228,32 @@ module _ (h : List Event) (i : ℕ) (xs : List Request) (reads : (k : ℕ) → s
     was_none_left n = not_true _ (λ u. (let f = any_found (wanted xs d.op) k u in
         true≢false (sym (and_left _ _ f.2) ∙ was_answered f.0 (n (at f.0) (matched f.0 f.1 (and_right _ _ f.2))))))
 
+    -- what a cancel of all has tried
+    module _ (z : Hit) where
+      abbrev left : ℕ → Bool
+      left = untried xs d.op (catch_in z)
+
+      pub is_all_tried : any_below left k ≡ false → AllTried h (at k) z
+      is_all_tried b q m =
+          let lt : q.k < k = m.0.1 in
+          let no : left q.k ≡ false = not_true _ (λ u. true≢false (sym (any_at left k q.k lt u) ∙ b)) in ⊎_elim
+          (λ (w : wanted xs d.op q.k ≡ true). inr (sym (missed_in z q.k) ∙ not_false _ (sym (ap (λ b. b && not (is_escaped (catch_in z) q.k)) w) ∙ no)))
+          (λ (w : wanted xs d.op q.k ≡ false). inl (unwanted q m w))
+          (bool_cases (wanted xs d.op q.k))
+
+      pub was_all_tried : AllTried h (at k) z → any_below left k ≡ false
+      was_all_tried t = not_true _ (λ u. (let f = any_found left k u in let w = and_left (wanted xs d.op f.0) _ f.2 in
+          ⊎_elim
+          (λ (r : IsReplied (phase h (at f.0))). true≢false (sym (and_left _ _ w) ∙ was_answered f.0 r))
+          (λ (e : has_missed z f.0 ≡ true). true≢false (sym (and_right (wanted xs d.op f.0) _ f.2) ∙ ap not (missed_in z f.0 ∙ e)))
+          (t (at f.0) (matched f.0 f.1 (and_right _ _ w)))))
+
     pub was_first : (t : Req) → IsFirst h (at k) t → (t ≡ at t.k) × (t.k < k) × (wanted xs d.op t.k ≡ true) × (any_below (wanted xs d.op) t.k ≡ false)
     was_first t f =
-        let e = here t k f.matches.0 in let a = was_matched t f.matches in let y = kept_before k t.k x is f.matches.0.1 in
-        let alive : pending_of (slice_get xs t.k) ≡ true = ⊎_elim (λ (w : pending_of (slice_get xs t.k) ≡ true). w)
-        (λ (w : pending_of (slice_get xs t.k) ≡ false). absurd (f.unanswered (subst (λ (z : Req). IsReplied (phase h z)) (sym e) (is_answered t.k y.0 y.1 w)))) (bool_cases (pending_of (slice_get xs t.k))) in
         let lt : t.k < k = f.matches.0.1 in (
-          e,
+          here t k f.matches.0,
           lt,
-          ap (λ b. b && asked_for d.op (placed_in xs t.k)) alive ∙ a,
+          wanted_from t f.matches f.unanswered,
           not_true _ (λ u. (let g = any_found (wanted xs d.op) t.k u in let l : g.0 < k = omega (arith, g.1) in
               true≢false (sym (and_left _ _ g.2) ∙ was_answered g.0 (f.first (at g.0) (matched g.0 l (and_right _ _ g.2)) g.1)))),
         )

@@ -5,8 +5,8 @@ use Rattle.std.proofs.lemmas.Option.{slice_get_within}
 use Rattle.model.specs.declared.request.Request.{Request}
 use Rattle.model.specs.declared.request.Stage.{Stage}
 use Rattle.model.specs.declared.request.Stage.TheVariants.{Replied, Reaped}
-use Rattle.model.specs.declared.request.Found.{Found}
 use Rattle.std.proofs.Math.ListN.{length-set}
+use Rattle.history.specs.State.{Catch}
 use Rattle.model.specs.Seen.{stage_at}
 use Rattle.model.specs.Moves.{put, put_at, put_stage, put_found, put_fired, put_taken, put_reaped, taken_out, is_due}
 
@@ -28,7 +28,7 @@ put_length xs k f = put_at_length xs k f (slice_get xs k)
 pub fired_length : (xs : List Request) (k : ℕ) → length (put_fired xs k) ≡ length xs
 fired_length xs k = put_length xs k _
 
-pub found_length : (xs : List Request) (k : ℕ) (f : Found) → length (put_found xs k f) ≡ length xs
+pub found_length : (xs : List Request) (k : ℕ) (f : Catch → Catch) → length (put_found xs k f) ≡ length xs
 found_length xs k f = put_length xs k _
 
 reaped_at : (xs : List Request) (k : ℕ) (res : ℤ) (o : Option Request) → stage_at o ≡ Some (Replied res) → put_at xs k (λ x. record x { stage = Reaped res }) o ≡ put_at xs k (λ x. record x { stage = taken_out x.stage }) o

@@ -1,5 +1,8 @@
 -- What is kept goes on agreeing with the history when the requests of one ring are written.
 use Rattle.std.proofs.Common.{◌≡◌, ℕ, zero, suc, ◌<◌, ◌≤◌, ◌==◌, ◌≢◌, Bool, true, false, cond, List, [], ◌∷◌, length, get_or, set, Some, refl, sym, ap, ◌∙◌, subst, ⊎_elim, true≢false, eqb-true, eq-eqb, get_or-set_same, get_or-set_other, arith}
+use Rattle.std.specs.Prelude.{IfOk, OnErr}
+use Rattle.std.specs.declared.result.Result.{Result}
+use Rattle.std.specs.declared.result.Result.TheVariants.{Ok, Err}
 use Rattle.std.proofs.lemmas.List.{set-get_or}
 use Rattle.std.specs.List.{slice_get}
 use Rattle.std.proofs.Math.ListN.{length-set}
@@ -12,7 +15,7 @@ use Rattle.history.specs.Pipes.{flow}
 use Rattle.history.specs.Legal.{Setup, MayCome, Legal, shut_for}
 use Rattle.model.specs.Machine.{Machine, setup_of}
 use Rattle.model.specs.Seen.{Seen, seen, seen_of}
-use Rattle.model.specs.Agrees.{PipeIs, Agrees, Carries, Decided}
+use Rattle.model.specs.Agrees.{PipeIs, Agrees, Carries, MayFollow, Decided}
 use Rattle.model.specs.Moves.{put, put_at}
 use Rattle.history.proofs.Requests.{bool_cases}
 use Rattle.model.proofs.RequestLists.{slice_get-set}
@@ -104,9 +107,12 @@ get_or_same (r ∷ rs) (suc i) c d lt = get_or_same rs i c d (omega arith)
 pub row_of : (rings : List (List Request)) (i : ℕ) (r : List Request) → i < length rings → r ≡ get_or rings i r → r ≡ row rings i
 row_of rings i r lt e = e ∙ get_or_same rings i r [] lt
 
+unwritten : (m : Machine) (i : ℕ) (s : List Request) → s ≡ row m.rings i → put_row m i s ≡ m
+unwritten m i s e = ap (put_row m i) e ∙ ap (λ (z : List (List Request)). let n : Machine = record m { rings = z } in n) (set-get_or m.rings i [])
+
 after_row : (m : Machine) (i : ℕ) (r s : List Request) (b : Bool) (ys : List Request → List Request) → i < length m.rings → r ≡ row m.rings i → s ≡ cond b (ys r) r → put_row m i s ≡ cond b (put_row m i (ys (row m.rings i))) m
 after_row m i r s true ys lt e f = ap (put_row m i) (f ∙ ap ys e)
-after_row m i r s false ys lt e f = ap (put_row m i) (f ∙ e) ∙ ap (λ (z : List (List Request)). let n : Machine = record m { rings = z } in n) (set-get_or m.rings i [])
+after_row m i r s false ys lt e f = unwritten m i s (f ∙ e)
 
 abbrev pub IsDecided : Event → ℕ → (Machine → List Request → Bool) → (List Request → List Request) → Type 0
 IsDecided e i may ys = (m n : Machine) (b : Bool) → m.shut ≡ shut_for e → b ≡ may m (row m.rings i) → n ≡ cond b (put_row m i (ys (row m.rings i))) m → Decided b m e n
@@ -132,3 +138,26 @@ misses e i may ys dec m now v sh le never =
 -- a request is named by its ring and its number
 pub retarget : (E : Req → Event) (b : Bool) (m n : Machine) (i : ℕ) (t : Req) → i ≡ t.ring → Decided b m (E (record { ring = i; k = t.k })) n → Decided b m (E t) n
 retarget E b m n i t e d = subst (λ (z : Req). Decided b m (E z) n) (λ j. record { ring = e j; k = t.k }) d
+
+-- the same, where memory may be wanting
+module _ {E : Type 0} where
+  pub meets_if : (answer : Result Bool E) (e : Event) (i : ℕ) (may : Machine → List Request → Bool) (ys : List Request → List Request) → IsDecided e i may ys
+      → (m now : Machine) → m ≡ now → (r s : List Request) → now.shut ≡ shut_for e → i < length m.rings → r ≡ get_or m.rings i r → IfOk answer (λ b. b ≡ may m r) → IfOk answer (λ b. s ≡ cond b (ys r) r)
+      → IfOk answer (λ b. Decided b now e (put_row m i s))
+  meets_if (Ok b) e i may ys dec m now v r s sh lt is x y = meets e i may ys dec m now v r s b sh lt is x y
+  meets_if (Err z) e i may ys dec m now v r s sh lt is x y = tt
+
+  pub follows_if : (answer : Result Bool E) (e : Event) (i : ℕ) (may : Machine → List Request → Bool) → ((m : Machine) → may m (row m.rings i) ≡ true → MayFollow m e)
+      → (m now : Machine) → m ≡ now → (r : List Request) → i < length m.rings → r ≡ get_or m.rings i r → OnErr answer (may m r ≡ true) → OnErr answer (MayFollow now e)
+  follows_if (Ok b) e i may f m now v r lt is x = tt
+  follows_if (Err z) e i may f m now v r lt is x = subst (λ (z : Machine). MayFollow z e) v (f m (sym (ap (may m) (row_of m.rings i r lt is)) ∙ x))
+
+  pub same_if : (answer : Result Bool E) (m now : Machine) → m ≡ now → (i : ℕ) (r s : List Request) → i < length m.rings → r ≡ get_or m.rings i r → OnErr answer (s ≡ r) → OnErr answer (put_row m i s ≡ now)
+  same_if (Ok b) m now v i r s lt is x = tt
+  same_if (Err z) m now v i r s lt is x = unwritten m i s (x ∙ row_of m.rings i r lt is) ∙ v
+
+  pub retarget_if : (answer : Result Bool E) (F : Req → Event) (m n : Machine) (i : ℕ) (t : Req) → i ≡ t.ring → IfOk answer (λ b. Decided b m (F (record { ring = i; k = t.k })) n) → IfOk answer (λ b. Decided b m (F t) n)
+  retarget_if answer F m n i t e d = subst (λ (z : Req). IfOk answer (λ b. Decided b m (F z) n)) (λ j. record { ring = e j; k = t.k }) d
+
+  pub refollow_if : (answer : Result Bool E) (F : Req → Event) (m : Machine) (i : ℕ) (t : Req) → i ≡ t.ring → OnErr answer (MayFollow m (F (record { ring = i; k = t.k }))) → OnErr answer (MayFollow m (F t))
+  refollow_if answer F m i t e d = subst (λ (z : Req). OnErr answer (MayFollow m (F z))) (λ j. record { ring = e j; k = t.k }) d

@@ -120,6 +120,9 @@ some_pending (Some x) e = (x, refl)
 pub waits_unreplied : (p : Phase) → p ≡ waits → ¬ IsReplied p
 waits_unreplied p e r = subst IsReplied e r
 
+pub runs_unreplied : (p : Phase) → p ≡ runs → ¬ IsReplied p
+runs_unreplied p e r = subst IsReplied e r
+
 pending_unreplied : (p : Phase) → IsPending p → ¬ IsReplied p
 pending_unreplied waits i r = r
 pending_unreplied runs i r = r

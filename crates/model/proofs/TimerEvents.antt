@@ -14,8 +14,9 @@ use Rattle.model.specs.declared.request.Stage.TheVariants.{Armed, Replied}
 use Rattle.history.specs.History.{by_settle, Phase, unborn, waits, runs, armed, replied, reaped, submission, phase, hit, fired, data_of, clock_of, IsReplied, IsIdle}
 use Rattle.history.specs.Chains.{placed, placed_from, is_timeout, is_link_timeout, IsTarget}
 use Rattle.history.specs.Legal.{MayCome, ticks_of, IsDue}
+use Rattle.history.specs.State.{catch_in}
 use Rattle.model.specs.Machine.{Machine, setup_of}
-use Rattle.model.specs.Seen.{Seen, seen, seen_of, stage_of, stage_at, found_of, placed_in, handed_at}
+use Rattle.model.specs.Seen.{Seen, seen, seen_of, stage_of, stage_at, placed_in, handed_at}
 use Rattle.model.specs.Agrees.{Agrees, Decided}
 use Rattle.model.specs.Moves.{put, put_at, put_stage, put_fired, put_settled, is_waits, is_running, is_due, is_armed, is_idle, is_answered, placed_as, open_in, fired_of, falls_due, arms, may_arm, may_expire, runs_out, may_fire, may_fire_miss, may_settle, cancelled, timed_out}
 use Rattle.history.proofs.Requests.{bool_cases, not_true, and_left, and_right}
@@ -205,7 +206,7 @@ module _ (m : Machine) (h : List Event) (a : Agrees h m) (i : ℕ) where
 
   -- between the two writes of a Fire
   abbrev half : ℕ → ℕ → Seen
-  half l j = record { handed = submission h (at j); stage = stage_of (phase h (at j)); found = found_of (hit h (at j)); fired = cond (l == j) true (fired h (at j)); taken = data_of h (at j) }
+  half l j = record { handed = submission h (at j); stage = stage_of (phase h (at j)); found = catch_in (hit h (at j)); fired = cond (l == j) true (fired h (at j)); taken = data_of h (at j) }
 
   half_is : (l : ℕ) (x : Request) → slice_get xs l ≡ Some x → (j : ℕ) → half l j ≡ seen_of (slice_get (put_fired xs l) j)
   half_is l x is = let e = here_is m h a i l x is in put_own m h a i (half l) xs l (λ z. record z { fired = true }) x is

@@ -9,9 +9,9 @@ use Rattle.history.specs.declared.event.Event.TheVariants.{Tick, Shut, Submit}
 use Rattle.model.specs.declared.request.Request.{Request}
 use Rattle.model.specs.declared.request.Stage.{Stage}
 use Rattle.model.specs.declared.request.Stage.TheVariants.{Waits, Runs, Armed, Replied, Reaped}
-use Rattle.model.specs.declared.request.Found.TheVariants.{Nothing}
 use Rattle.history.specs.History.{phase, submits, adds_to}
 use Rattle.history.specs.Legal.{Setup, MayCome, Legal, Fits}
+use Rattle.history.specs.State.{Catch, none_yet}
 use Rattle.model.specs.Machine.{Machine, setup_of}
 use Rattle.model.specs.Seen.{seen, seen_of, stage_of, stage_at}
 use Rattle.model.specs.Decides.{runs_of, is_runs}
@@ -162,14 +162,14 @@ pub submit_refuses : (m : Machine) (q : Req) (e : Entry) (bytes : List ℕ) (las
 submit_refuses m q e bytes last out = (refl, λ h a c. out c.0 (c.1 ∙ a.counts q.ring) c.2)
 
 -- as the code meets it: the bytes are a copy, and no data have come
-pub submit_meets : (m now : Machine) → m ≡ now → (q : Req) (e : Entry) (bs : List ℕ) (last : Bool) (r s : List Request) (cs ts : List ℕ) → now.shut ≡ false → q.ring < length m.rings → r ≡ get_or m.rings q.ring r → q.k ≡ length r
-    → Fits e bs → cs ≡ bs → ts ≡ [] → s ≡ r ++ record { sqe = e; bytes = cs; last = last; stage = Waits; found = Nothing; fired = false; taken = ts } ∷ [] → Carries now (Submit q e bs last) (put_row m q.ring s)
-submit_meets m now v q e bs last r s cs ts sh lt is k f c t after =
+pub submit_meets : (m now : Machine) → m ≡ now → (q : Req) (e : Entry) (bs : List ℕ) (last : Bool) (r s : List Request) (f : Catch) (cs ts : List ℕ) → now.shut ≡ false → q.ring < length m.rings → r ≡ get_or m.rings q.ring r → q.k ≡ length r
+    → Fits e bs → f ≡ none_yet → cs ≡ bs → ts ≡ [] → s ≡ r ++ record { sqe = e; bytes = cs; last = last; stage = Waits; found = f; fired = false; taken = ts } ∷ [] → Carries now (Submit q e bs last) (put_row m q.ring s)
+submit_meets m now v q e bs last r s f cs ts sh lt is k fits none c t after =
     let one : r ≡ row m.rings q.ring = row_of m.rings q.ring r lt is in let k' : length (row m.rings q.ring) ≡ q.k = sym (ap length one) ∙ sym k in
-    let x : record { sqe = e; bytes = cs; last = last; stage = Waits; found = Nothing; fired = false; taken = ts } ≡ born e bs last = λ j. record { sqe = e; bytes = c j; last = last; stage = Waits; found = Nothing; fired = false; taken = t j } in
-    let n : s ≡ row m.rings q.ring ++ born e bs last ∷ [] = after ∙ ap (λ zs. zs ++ record { sqe = e; bytes = cs; last = last; stage = Waits; found = Nothing; fired = false; taken = ts } ∷ []) one ∙ ap (λ z. row m.rings q.ring ++ z ∷ []) x in
+    let x : record { sqe = e; bytes = cs; last = last; stage = Waits; found = f; fired = false; taken = ts } ≡ born e bs last = λ j. record { sqe = e; bytes = c j; last = last; stage = Waits; found = none j; fired = false; taken = t j } in
+    let n : s ≡ row m.rings q.ring ++ born e bs last ∷ [] = after ∙ ap (λ zs. zs ++ record { sqe = e; bytes = cs; last = last; stage = Waits; found = f; fired = false; taken = ts } ∷ []) one ∙ ap (λ z. row m.rings q.ring ++ z ∷ []) x in
     let name : record { ring = q.ring; k = length (row m.rings q.ring) } ≡ q = λ j. record { ring = q.ring; k = k' j } in
     subst (λ (z : Machine). Carries z (Submit q e bs last) (put_row m q.ring s)) v
     (subst (λ (z : List Request). Carries m (Submit q e bs last) (put_row m q.ring z)) (sym n)
     (subst (λ (z : Req). Carries m (Submit z e bs last) (put_row m q.ring (row m.rings q.ring ++ born e bs last ∷ []))) name
-    (submit_carries m q.ring e bs last (ap (λ (z : Machine). z.shut) v ∙ sh) lt f)))
+    (submit_carries m q.ring e bs last (ap (λ (z : Machine). z.shut) v ∙ sh) lt fits)))

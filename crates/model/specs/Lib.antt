@@ -1,5 +1,6 @@
 pub mod Agrees
 pub mod Asked
+pub mod Cancels
 pub mod Content
 pub mod Decides
 pub mod Fresh

@@ -6,12 +6,11 @@ use Rattle.entry.specs.declared.op.Op.{Op}
 use Rattle.model.specs.declared.request.Request.{Request}
 use Rattle.model.specs.declared.request.Stage.{Stage}
 use Rattle.model.specs.declared.request.Stage.TheVariants.{Waits, Runs, Armed, Replied, Reaped}
-use Rattle.model.specs.declared.request.Found.{Found}
-use Rattle.model.specs.declared.request.Found.TheVariants.{Nothing}
 use Rattle.history.specs.Chains.{is_timer, is_timeout, is_link_timeout, is_link_timeout_in}
 use Rattle.history.specs.Legal.{ticks_of, count_of}
+use Rattle.history.specs.State.{Catch, none_yet}
 use Rattle.model.specs.Seen.{is_pending, stage_at, placed_in}
-use Rattle.model.specs.Decides.{runs_of, pending_of, severed_in, clear_in, any_below, wanted}
+use Rattle.model.specs.Decides.{runs_of, pending_of, severed_in, clear_in, any_below}
 
 abbrev pub put_at : List Request → ℕ → (Request → Request) → Option Request → List Request
 put_at xs k f None = xs
@@ -24,8 +23,8 @@ put xs k f = put_at xs k f (slice_get xs k)
 abbrev pub put_stage : List Request → ℕ → Stage → List Request
 put_stage xs k s = put xs k (λ x. record x { stage = s })
 
-abbrev pub put_found : List Request → ℕ → Found → List Request
-put_found xs k f = put xs k (λ x. record x { found = f })
+abbrev pub put_found : List Request → ℕ → (Catch → Catch) → List Request
+put_found xs k f = put xs k (λ x. record x { found = f x.found })
 
 abbrev pub put_fired : List Request → ℕ → List Request
 put_fired xs k = put xs k (λ x. record x { fired = true })
@@ -81,14 +80,6 @@ is_answered (Some s) = not (is_pending s)
 abbrev pub fired_of : Option Request → Bool
 fired_of None = false
 fired_of (Some x) = x.fired
-
-abbrev pub is_nothing : Found → Bool
-is_nothing Nothing = true
-is_nothing _ = false
-
-abbrev pub seeks : Option Request → Bool
-seeks None = false
-seeks (Some x) = is_nothing x.found
 
 -- -125, -62 and 0
 abbrev pub cancelled : Stage
@@ -166,25 +157,10 @@ may_settle xs l = (is_armed (stage_at (slice_get xs l)) && placed_as is_link_tim
 abbrev pub put_settled : List Request → ℕ → List Request
 put_settled xs l = put xs l (λ x. record x { stage = cond x.fired timed_out cancelled })
 
--- the first request that a cancel of this operation means
-abbrev pub is_first_wanted : List Request → Option Entry → ℕ → Bool
-is_first_wanted xs None t = false
-is_first_wanted xs (Some d) t = wanted xs d.op t && not (any_below (wanted xs d.op) t)
-
--- the cancel c comes upon t
-abbrev pub comes_upon : List Request → ℕ → ℕ → Bool
-comes_upon xs c t = (is_running (stage_at (slice_get xs c)) && seeks (slice_get xs c)) && (nat_lt t c && is_first_wanted xs (placed_in xs c) t)
-
-abbrev pub may_take : List Request → ℕ → ℕ → Bool
-may_take xs c t = comes_upon xs c t && is_idle (stage_at (slice_get xs t))
-
-abbrev pub may_miss : List Request → ℕ → ℕ → Bool
-may_miss xs c t = comes_upon xs c t && is_running (stage_at (slice_get xs t))
-
 -- some request of the ring runs
 abbrev pub runs_in : List Request → Bool
 runs_in xs = any_below (λ m. runs_of (slice_get xs m)) (length xs)
 
 -- a request as it is handed in
 abbrev pub born : Entry → List ℕ → Bool → Request
-born e bytes last = record { sqe = e; bytes = bytes; last = last; stage = Waits; found = Nothing; fired = false; taken = [] }
+born e bytes last = record { sqe = e; bytes = bytes; last = last; stage = Waits; found = none_yet; fired = false; taken = [] }

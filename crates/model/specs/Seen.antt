@@ -6,11 +6,10 @@ use Rattle.history.specs.declared.req.Req.{Req}
 use Rattle.history.specs.declared.event.Event.{Event}
 use Rattle.model.specs.declared.request.Stage.{Stage}
 use Rattle.model.specs.declared.request.Stage.TheVariants.{Waits, Runs, Armed, Replied, Reaped}
-use Rattle.model.specs.declared.request.Found.{Found}
-use Rattle.model.specs.declared.request.Found.TheVariants.{Nothing, Took, Missed}
 use Rattle.model.specs.declared.request.Request.{Request}
-use Rattle.history.specs.History.{Phase, unborn, waits, runs, armed, replied, reaped, Hit, nothing, took, missed, Submission, submission, phase, hit, fired, data_of}
+use Rattle.history.specs.History.{Phase, unborn, waits, runs, armed, replied, reaped, Submission, submission, phase, hit, fired, data_of}
 use Rattle.history.specs.Chains.{placed_from}
+use Rattle.history.specs.State.{Catch, none_yet, catch_in}
 
 abbrev pub is_pending : Stage → Bool
 is_pending Waits = true
@@ -34,29 +33,24 @@ stage_of (armed d) = Some (Armed d)
 stage_of (replied c res) = Some (Replied res)
 stage_of (reaped c res) = Some (Reaped res)
 
-abbrev pub found_of : Hit → Found
-found_of nothing = Nothing
-found_of (took t) = Took
-found_of (missed t) = Missed
-
 -- what later events ask of a request
 pub record Seen : Type 0 where
   pub handed : Option Submission
   pub stage : Option Stage
-  pub found : Found
+  pub found : Catch
   pub fired : Bool
   pub taken : List ℕ
 
 -- as the history says
 abbrev pub seen : List Event → Req → Seen
-seen h q = record { handed = submission h q; stage = stage_of (phase h q); found = found_of (hit h q); fired = fired h q; taken = data_of h q }
+seen h q = record { handed = submission h q; stage = stage_of (phase h q); found = catch_in (hit h q); fired = fired h q; taken = data_of h q }
 
 abbrev pub handed_of : Request → Submission
 handed_of x = record { entry = x.sqe; bytes = x.bytes; last = x.last }
 
 -- as it is kept
 abbrev pub seen_of : Option Request → Seen
-seen_of None = record { handed = None; stage = None; found = Nothing; fired = false; taken = [] }
+seen_of None = record { handed = None; stage = None; found = none_yet; fired = false; taken = [] }
 seen_of (Some x) = record { handed = Some (handed_of x); stage = Some x.stage; found = x.found; fired = x.fired; taken = x.taken }
 
 abbrev pub handed_at : Option Request → Option Submission

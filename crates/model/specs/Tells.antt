@@ -38,7 +38,7 @@ module _ (caps : List ℕ) (flow_at : ℕ → Flow) where
   op_answer (Splice fd_in fd_out len) = splice_of caps flow_at (end_of fd_in) (end_of fd_out) len
   op_answer (Close fd) = close_of caps flow_at (end_of fd)
   op_answer (PollAdd fd mask) = poll_of caps flow_at (end_of fd) mask
-  op_answer (AsyncCancel user_data) = later
+  op_answer (AsyncCancel user_data all) = later
   op_answer (TimeoutRemove user_data) = later
   op_answer (Timeout ticks etime_success count) = later
   op_answer (LinkTimeout ticks) = later

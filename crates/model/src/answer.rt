@@ -47,7 +47,7 @@ macro_rules! answers_work {
     ((pipe close $fd:ident) ($pipes:ident, $res:ident, $bytes:ident)) => { answers_close($pipes, $fd, $res, $bytes) };
     ((pipe poll $fd:ident $mask:ident) ($pipes:ident, $res:ident, $bytes:ident)) => { answers_poll($pipes, $fd, $mask, $res, $bytes) };
     ((timer $kind:ident $ticks:ident) $args:tt) => { false };
-    ((cancel $kind:ident $target:ident) $args:tt) => { false };
+    ((cancel $kind:ident $($field:ident)*) $args:tt) => { false };
 }
 
 /// The reply answers this operation now.

@@ -148,7 +148,7 @@ macro_rules! work_now {
     ((pipe close $fd:ident) ($alloc:ident, $pipes:ident)) => { Ok(close_at($alloc, $pipes, $fd)) };
     ((pipe poll $fd:ident $mask:ident) ($alloc:ident, $pipes:ident)) => { Ok(poll_at($alloc, $pipes, $fd, $mask)) };
     ((timer $kind:ident $ticks:ident) $args:tt) => { Ok(None) };
-    ((cancel $kind:ident $target:ident) $args:tt) => { Ok(None) };
+    ((cancel $kind:ident $($field:ident)*) $args:tt) => { Ok(None) };
 }
 
 /// What this operation, which is no cancel, is answered now.

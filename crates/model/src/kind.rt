@@ -1,6 +1,7 @@
 //! What kind of work an operation asks for.
 ghost use Rattle.std.specs.Prelude.{◌≡◌};
 ghost use Rattle.history.specs.Chains.{is_link_timeout, is_timeout};
+ghost use Rattle.history.specs.Answers.{is_all};
 ghost use Rattle.history.specs.Legal.{ticks_of, count_of};
 ghost use Rattle.model.specs.Replies.{is_cancel};
 
@@ -11,7 +12,7 @@ macro_rules! is_linked_timer {
     ((timer alone $ticks:ident) ()) => { false };
     ((plain $kind:ident) ()) => { false };
     ((pipe $kind:ident $($field:ident)*) ()) => { false };
-    ((cancel $kind:ident $target:ident) ()) => { false };
+    ((cancel $kind:ident $($field:ident)*) ()) => { false };
 }
 
 macro_rules! is_lone_timer {
@@ -19,18 +20,18 @@ macro_rules! is_lone_timer {
     ((timer linked $ticks:ident) ()) => { false };
     ((plain $kind:ident) ()) => { false };
     ((pipe $kind:ident $($field:ident)*) ()) => { false };
-    ((cancel $kind:ident $target:ident) ()) => { false };
+    ((cancel $kind:ident $($field:ident)*) ()) => { false };
 }
 
 macro_rules! ticks_of_work {
     ((timer $kind:ident $ticks:ident) ()) => { Some($ticks) };
     ((plain $kind:ident) ()) => { None };
     ((pipe $kind:ident $($field:ident)*) ()) => { None };
-    ((cancel $kind:ident $target:ident) ()) => { None };
+    ((cancel $kind:ident $($field:ident)*) ()) => { None };
 }
 
 macro_rules! is_search {
-    ((cancel $kind:ident $target:ident) ()) => { true };
+    ((cancel $kind:ident $($field:ident)*) ()) => { true };
     ((plain $kind:ident) ()) => { false };
     ((pipe $kind:ident $($field:ident)*) ()) => { false };
     ((timer $kind:ident $ticks:ident) ()) => { false };
@@ -72,4 +73,14 @@ pub fn is_cancel(op: Op) -> bool
     ensures { result ≡ is_cancel op }
 {
     by_opcode!(op => is_search!())
+}
+
+/// It cancels each request that it means, and not the first alone.
+pub fn is_all(op: Op) -> bool
+    ensures { result ≡ is_all op }
+{
+    match op {
+        Op::AsyncCancel { all, .. } => all,
+        _ => false,
+    }
 }

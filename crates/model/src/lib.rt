@@ -9,6 +9,7 @@ mod chain;
 mod copy;
 mod errno;
 pub mod error;
+mod found;
 mod kind;
 mod moves;
 pub mod object;

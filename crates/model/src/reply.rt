@@ -6,15 +6,15 @@ ghost use Rattle.history.specs.declared.event.Event.TheVariants.{Reply};
 ghost use Rattle.history.specs.Pipes.{size};
 ghost use Rattle.model.specs.Reaches.{reached};
 ghost use Rattle.model.specs.Seen.{stage_at, placed_in, handed_in, with_op};
-ghost use Rattle.model.specs.Decides.{any_below, wanted};
 ghost use Rattle.model.specs.Moves.{is_running};
-ghost use Rattle.model.specs.Replies.{is_cancel, cancel_tells, found_in, op_replies, may_reply, put_reply, bytes_in, taken_from, put_into, shut_at, given_in, moved_over, moved};
+ghost use Rattle.model.specs.Tells.{tells};
+ghost use Rattle.model.specs.Cancels.{cancel_answer};
+ghost use Rattle.model.specs.Replies.{is_cancel, op_replies, may_reply, put_reply, bytes_in, taken_from, put_into, shut_at, given_in, moved_over, moved};
 
 use crate::answer::{Reached, answers, reach};
-use crate::errno::{ALREADY, NOT_FOUND};
 use crate::kind::is_cancel;
-use crate::pipe::{Pipe, tells_number};
-use crate::request::{Found, Stage};
+use crate::pipe::Pipe;
+use crate::request::Stage;
 use crate::ring::Ring;
 use crate::state::State;
 use entry::{Op, by_opcode};
@@ -29,16 +29,6 @@ impl Ring {
         match self.get(k) {
             Some(request) => request.bytes.as_slice(),
             None => &[],
-        }
-    }
-
-    /// What the cancel has done so far.
-    pub fn found(&self, k: u64) -> Found
-        ensures { result ≡ found_in (slice_get self.now k) }
-    {
-        match self.get(k) {
-            Some(request) => request.found,
-            None => Found::Nothing,
         }
     }
 
@@ -81,19 +71,20 @@ impl State {
     }
 }
 
-/// The cancel of this operation may be answered so.
+/// The cancel `k` of this operation may be answered so.
 fn cancel_tells(ring: &Ring, k: u64, op: Op, res: i32, taken: &[u8]) -> bool
-    ensures { result ≡ cancel_tells (found_in (slice_get ring.now k)) (any_below (wanted ring.now op) k) res taken.now }
+    requires { k < length ring.now }
+    ensures { result ≡ tells (cancel_answer ring.now k op) res taken.now }
 {
-    match ring.found(k) {
-        Found::Took => tells_number(0, res, taken),
-        Found::Missed => res == ALREADY && taken.is_empty(),
-        Found::Nothing => !ring.any_wanted(op, k) && res == NOT_FOUND && taken.is_empty(),
+    match ring.cancel_reply(k as usize, op) {
+        Some(told) => res == told && taken.is_empty(),
+        None => false,
     }
 }
 
 /// The running request `k` with this operation may be answered so.
 fn tells_op(ring: &Ring, pipes: &[Pipe], k: u64, op: Op, res: i32, taken: &[u8]) -> bool
+    requires { k < length ring.now }
     ensures { result ≡ op_replies pipes.now ring.now k res taken.now op }
 {
     if is_cancel(op) {
@@ -138,7 +129,7 @@ macro_rules! carry_work {
     ((pipe poll $fd:ident $mask:ident) $args:tt) => { () };
     ((plain $kind:ident) $args:tt) => { () };
     ((timer $kind:ident $ticks:ident) $args:tt) => { () };
-    ((cancel $kind:ident $target:ident) $args:tt) => { () };
+    ((cancel $kind:ident $($field:ident)*) $args:tt) => { () };
 }
 
 /// The reply to this operation moves bytes, or closes an end.

@@ -3,6 +3,7 @@ ghost use Rattle.std.specs.Prelude.{◌≡◌, Some};
 ghost use Rattle.history.specs.Chains.{joins, hosts};
 ghost use Rattle.model.specs.Seen.{handed_of, is_pending, reply_at};
 
+use crate::found::Found;
 use crate::kind::is_link_timeout;
 use crate::shared::Shared;
 use entry::Sqe;
@@ -21,16 +22,6 @@ pub enum Stage {
     Reaped(i32),
 }
 
-/// What a cancel has done so far.
-#[derive(Clone, Copy)]
-pub enum Found {
-    Nothing,
-    /// It ended its target.
-    Took,
-    /// It found its target running.
-    Missed,
-}
-
 #[derive(Drop)]
 pub struct Request {
     /// As it was handed in.
@@ -38,6 +29,7 @@ pub struct Request {
     pub bytes: Shared,
     pub last: bool,
     pub stage: Stage,
+    /// What it has done so far, where it is a cancel.
     pub found: Found,
     /// A timer that ran out in time.
     pub fired: bool,

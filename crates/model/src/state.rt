@@ -1,11 +1,12 @@
 //! What is kept of a run, and the events of its requests.
-ghost use Rattle.std.specs.Prelude.{◌≡◌, true, false};
-ghost use Rattle.model.specs.Agrees.{Decided};
+ghost use Rattle.std.specs.Prelude.{◌≡◌, true, false, IfOk, OnErr};
+ghost use Rattle.model.specs.Agrees.{Decided, MayFollow};
 ghost use Rattle.history.specs.declared.event.Event.TheVariants.{Begin, Park, Take, Miss, Arm, Expire, Count, Fire, FireMiss, Settle, Sever, Reap, Cut};
 
 use crate::pipe::Pipe;
 use crate::ring::Ring;
 use history::Req;
+use std::alloc::AllocError;
 use std::marker::Model;
 
 #[derive(Drop)]
@@ -24,7 +25,8 @@ impl Model for State {
     ghost view = { λ s. record { rings = s.rings.items; pipes = s.pipes.items; clock = s.clock; shut = s.shut } };
 }
 
-/// Each event is carried out where it may come, and then the answer is true. Else nothing changes.
+/// Each event is carried out where it may come, and then the answer is true. Else nothing changes. An error comes for an
+/// event that may come, and then nothing changes either.
 impl State {
     /// A worker takes the request up.
     pub fn begin(&mut self, req: Req) -> bool
@@ -159,25 +161,29 @@ impl State {
     }
 
     /// A cancel ends its target.
-    pub fn take(&mut self, cancel: Req, target: Req) -> bool
+    pub fn take(&mut self, cancel: Req, target: Req) -> Result<bool, AllocError>
         requires { self.old.shut ≡ false }
-        ensures { Decided result self.old (Take cancel target) self.new }
+        ensures decided { IfOk result (λ done. Decided done self.old (Take cancel target) self.new) }
+        ensures wanting { OnErr result (MayFollow self.old (Take cancel target)) }
+        ensures same { OnErr result (self.new ≡ self.old) }
     {
         let i = cancel.ring as usize;
         if i >= self.rings.len() || cancel.ring != target.ring {
-            return false;
+            return Ok(false);
         }
         self.rings[i].take(cancel.k, target.k)
     }
 
     /// A cancel finds its target running.
-    pub fn miss(&mut self, cancel: Req, target: Req) -> bool
+    pub fn miss(&mut self, cancel: Req, target: Req) -> Result<bool, AllocError>
         requires { self.old.shut ≡ false }
-        ensures { Decided result self.old (Miss cancel target) self.new }
+        ensures decided { IfOk result (λ done. Decided done self.old (Miss cancel target) self.new) }
+        ensures wanting { OnErr result (MayFollow self.old (Miss cancel target)) }
+        ensures same { OnErr result (self.new ≡ self.old) }
     {
         let i = cancel.ring as usize;
         if i >= self.rings.len() || cancel.ring != target.ring {
-            return false;
+            return Ok(false);
         }
         self.rings[i].miss(cancel.k, target.k)
     }

@@ -6,7 +6,8 @@ ghost use Rattle.history.specs.Legal.{FitsOp};
 ghost use Rattle.model.specs.Moves.{runs_in};
 ghost use Rattle.history.specs.declared.event.Event.TheVariants.{Submit, Tick, Shut};
 
-use crate::request::{Found, Request, Stage};
+use crate::found::Found;
+use crate::request::{Request, Stage};
 use crate::ring::Ring;
 use crate::shared::Shared;
 use crate::state::State;
@@ -66,7 +67,7 @@ impl State {
             bytes: Shared::copy(alloc, bytes.as_slice())?,
             last,
             stage: Stage::Waits,
-            found: Found::Nothing,
+            found: Found::none_yet(alloc),
             fired: false,
             taken: Bytes::empty(alloc),
         };
@@ -90,7 +91,7 @@ macro_rules! fits_work {
     ((plain nothing) ($len:ident)) => { $len == 0 };
     ((plain invalid) ($len:ident)) => { true };
     ((timer $kind:ident $ticks:ident) ($len:ident)) => { $len == 0 };
-    ((cancel $kind:ident $target:ident) ($len:ident)) => { $len == 0 };
+    ((cancel $kind:ident $($field:ident)*) ($len:ident)) => { $len == 0 };
 }
 
 /// A buffer of so many bytes fits the operation.

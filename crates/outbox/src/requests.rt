@@ -1,5 +1,5 @@
 //! The answered requests of an outbox, in the order in which they were put in.
-ghost use Rattle.std.specs.Prelude.{◌≡◌, ◌+◌, ◌<◌, ◌==◌, length, IfOk, slice_get};
+ghost use Rattle.std.specs.Prelude.{◌≡◌, ◌+◌, ◌<◌, ◌≤◌, ◌==◌, ◌++◌, length, IfOk, slice_get};
 ghost use Rattle.outbox.specs.Outbox.{empty, with_answered};
 
 use crate::error::Memory;
@@ -77,5 +77,15 @@ impl Outbox {
         ensures { self.new ≡ with_answered req self.old }
     {
         self.answered.push_back_reserved(req);
+    }
+
+    /// Puts requests in that were answered, in order, after all others.
+    pub fn put_all(&mut self, reqs: &[Req])
+        requires room { length self.old.answered + length reqs.now ≤ self.old.places }
+        ensures { self.new ≡ record self.old { answered = self.old.answered ++ reqs.now } }
+    {
+        for req in reqs {
+            self.put(*req);
+        }
     }
 }

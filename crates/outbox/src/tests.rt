@@ -14,9 +14,7 @@ fn requests_go_to_their_rings_in_order(rt: HostRuntime) -> Result<(), Fail> {
     assert_eq!(rt; outbox.first(), None);
     outbox.put(of(0, 0));
     outbox.put(of(1, 0));
-    outbox.put(of(0, 1));
-    outbox.put(of(1, 1));
-    outbox.put(of(0, 2));
+    outbox.put_all(&[of(0, 1), of(1, 1), of(0, 2)]);
     outbox.put(of(1, 2));
     assert!(rt; outbox.is_full());
     let mut zero = CompletionRing::new(rt.alloc(), 2)?;

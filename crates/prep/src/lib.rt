@@ -2,12 +2,13 @@
 //! the entry that its row of the table of opcodes stands for with these values: Invalid where the row doesn't allow them.
 #![tactic(auto)]
 
-ghost use Rattle.std.specs.Prelude.{◌≡◌, pos, negsuc};
+ghost use Rattle.std.specs.Prelude.{◌≡◌, pos, negsuc, true, false};
 ghost use Rattle.entry.specs.Table.{no_fd, row as table_row};
 ghost use Rattle.entry.specs.Text.{Says, layout};
 ghost use Rattle.prep.specs.Built.{IsOfRow, flagged, link_timeout_op, plain, poll_op, read_op, splice_op, timeout_count_op, timeout_op, write_op};
 
 use bitflags::Flags;
+use entry::row::CANCEL_ALL;
 use entry::{Op, Row, Sqe, by_opcode};
 
 /// A row with the given values in its free places. Where five are given, as to io_uring_prep_rw, splice_fd_in is 0.
@@ -107,11 +108,18 @@ pub fn link_timeout(ticks: u64) -> Sqe
     entry_of(by_opcode!(LinkTimeout: filled!(-1, 0, ticks, 1, 0)))
 }
 
-/// io_uring_prep_cancel64(3): cancels the request with this user_data.
+/// io_uring_prep_cancel64(3): cancels the first request with this user_data.
 pub fn cancel(user_data: u64) -> Sqe
-    ensures { result ≡ plain (Op.AsyncCancel user_data) }
+    ensures { result ≡ plain (Op.AsyncCancel user_data false) }
 {
     entry_of(by_opcode!(AsyncCancel: filled!(-1, 0, user_data, 0, 0)))
+}
+
+/// io_uring_prep_cancel64(3) with IORING_ASYNC_CANCEL_ALL: cancels each request with this user_data.
+pub fn cancel_all(user_data: u64) -> Sqe
+    ensures { result ≡ plain (Op.AsyncCancel user_data true) }
+{
+    entry_of(by_opcode!(AsyncCancel: filled!(-1, 0, user_data, 0, CANCEL_ALL)))
 }
 
 /// io_uring_prep_timeout_remove(3): cancels the TIMEOUT with this user_data.

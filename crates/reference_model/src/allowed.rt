@@ -101,13 +101,6 @@ impl<'a> List<'a> {
         matches!(self.op(r), Some(Op::LinkTimeout { .. }))
     }
 
-    fn is_cancel(self, r: Req) -> bool {
-        matches!(
-            self.op(r),
-            Some(Op::AsyncCancel { .. } | Op::TimeoutRemove { .. })
-        )
-    }
-
     fn is_due(self, r: Req) -> bool {
         match self.armed(r) {
             Some(deadline) => deadline <= self.now(),
@@ -138,10 +131,10 @@ impl<'a> List<'a> {
             Event::Shut => !self.any_runs(),
             Event::Cut(_) => false,
             Event::Take { cancel, target } => {
-                self.has_found(*cancel, *target) && !self.runs(*target)
+                self.may_hit(*cancel, *target) && !self.runs(*target)
             }
             Event::Miss { cancel, target } => {
-                self.has_found(*cancel, *target) && self.runs(*target)
+                self.may_hit(*cancel, *target) && self.runs(*target)
             }
             Event::Fire { timer, target } => {
                 self.runs_out(*timer, *target) && !self.runs(*target)
@@ -186,13 +179,21 @@ impl<'a> List<'a> {
         false
     }
 
-    /// The cancel runs, has found nothing yet, and means this request, which has no answer.
-    fn has_found(self, c: Req, t: Req) -> bool {
-        self.runs(c)
-            && self.is_cancel(c)
-            && !self.has_taken(c)
-            && !self.has_missed(c)
-            && self.first(c) == Some(t)
+    /// The cancel runs and means this request, which has no answer. Where it cancels all, it means each match, and each of
+    /// them once. Else it means the first, and only as long as it has found nothing.
+    fn may_hit(self, c: Req, t: Req) -> bool {
+        if !self.runs(c) {
+            return false;
+        }
+        match self.op(c) {
+            Some(Op::AsyncCancel { all: true, .. }) => {
+                self.is_match(c, t) && self.reply(t).is_none() && !self.has_hit(c, t)
+            }
+            Some(Op::AsyncCancel { .. } | Op::TimeoutRemove { .. }) => {
+                !self.has_taken(c) && !self.has_missed(c) && self.first(c) == Some(t)
+            }
+            _ => false,
+        }
     }
 
     /// The LINK_TIMEOUT is due, has not run out before, and this is its target, which has no answer.

@@ -192,6 +192,7 @@ impl<'a> List<'a> {
         };
         match placed.op {
             Op::Read { fd, len, .. } => self.answers_read(self.end(fd), len as usize, res, data),
+            Op::AsyncCancel { all: true, .. } => data.is_empty() && self.answers_all(r, res),
             Op::AsyncCancel { .. } | Op::TimeoutRemove { .. } => {
                 data.is_empty() && self.answers_cancel(r, res)
             }
@@ -301,7 +302,7 @@ impl<'a> List<'a> {
     }
 
     /// The cancel means this request: an earlier one of its ring with the user_data that it names.
-    fn is_match(self, c: Req, t: Req) -> bool {
+    pub fn is_match(self, c: Req, t: Req) -> bool {
         let (Some(cancel), Some(placed)) = (self.placed(c), self.placed(t)) else {
             return false;
         };
@@ -309,7 +310,7 @@ impl<'a> List<'a> {
             return false;
         }
         match cancel.op {
-            Op::AsyncCancel { user_data } => {
+            Op::AsyncCancel { user_data, .. } => {
                 placed.user_data == user_data && !matches!(placed.op, Op::LinkTimeout { .. })
             }
             Op::TimeoutRemove { user_data } => {
@@ -350,6 +351,43 @@ impl<'a> List<'a> {
             }
         }
         false
+    }
+
+    /// The cancel ended this request, or found it running.
+    pub fn has_hit(self, c: Req, t: Req) -> bool {
+        for event in self.events {
+            if let Event::Take { cancel, target } | Event::Miss { cancel, target } = *event
+                && *cancel == c
+                && *target == t
+            {
+                return true;
+            }
+        }
+        false
+    }
+
+    /// How many requests the cancel ended.
+    fn takes(self, c: Req) -> u64 {
+        let mut takes = 0u64;
+        for event in self.events {
+            if let Event::Take { cancel, .. } = *event
+                && *cancel == c
+            {
+                takes = takes.wrapping_add(1);
+            }
+        }
+        takes
+    }
+
+    /// Each match has an answer or was found running, and the reply is how many the cancel ended.
+    fn answers_all(self, c: Req, res: i32) -> bool {
+        for k in 0..c.k {
+            let t = Req { ring: c.ring, k };
+            if self.is_match(c, t) && self.reply(t).is_none() && !self.has_hit(c, t) {
+                return false;
+            }
+        }
+        res >= 0 && u64::from(res.unsigned_abs()) == self.takes(c)
     }
 
     fn answers_cancel(self, c: Req, res: i32) -> bool {

@@ -12,7 +12,6 @@ use Rattle.work.specs.declared.run.Ran.TheVariants.{Replied, Parked}
 use Rattle.work.specs.WorkerRuns.{IsRun}
 use Rattle.ready.specs.Ready.{Moves}
 use Rattle.outbox.specs.Outbox.{Waiting}
-use Rattle.runtime.specs.Turns.{kept_in}
 
 -- a worker's desk: its pass of the ready queue, and the numbers that found no place there
 pub record Desk : Type 0 where
@@ -30,14 +29,14 @@ pub record Shifts (old : Desk) (given : List Req) (out : List Req) (new : Desk) 
   pub ready : new.ready ≡ record old.ready { put = old.ready.put ++ puts; taken = old.ready.taken ++ takes }
   pub numbers : (h : Req → ℕ) → sum_by h old.kept + (sum_by h takes + sum_by h given) ≡ sum_by h puts + (sum_by h new.kept + sum_by h out)
 
--- the requests that a run answered: the one that a cancel took, and then the one that it ran
-abbrev pub answered_in : Req → Ran → List Req
-answered_in r (Replied cqe took) = kept_in took ++ r ∷ []
-answered_in r (Parked why) = []
+-- the requests that a run answered, which left the worker so: those that a cancel took, and then the one that it ran
+abbrev pub answered_in : Req → Pass → Ran → List Req
+answered_in r q (Replied cqe) = q.took ++ r ∷ []
+answered_in r q (Parked why) = []
 
 -- the number that a run is done with: one that parked is not
 abbrev pub ended_in : Req → Ran → List Req
-ended_in r (Replied cqe took) = r ∷ []
+ended_in r (Replied cqe) = r ∷ []
 ended_in r (Parked why) = []
 
 -- the worker began the request and ran it
@@ -53,7 +52,7 @@ Refused b r p q = ((q.view ≡ p.view) ⊎ Looks p.view q.view) × ((length b.la
 
 -- what became of a worker that tried the request: the requests `rs` were answered, and it is done with the number `gone`
 abbrev pub Tried : Facts → Req → Pass → Pass → List Req → List Req → Type 0
-Tried b r p q rs gone = (Refused b r p q × (rs ≡ []) × (gone ≡ r ∷ [])) ⊎ ((ran : Ran) × Worked b r p q ran × (rs ≡ answered_in r ran) × (gone ≡ ended_in r ran))
+Tried b r p q rs gone = (Refused b r p q × (rs ≡ []) × (gone ≡ r ∷ [])) ⊎ ((ran : Ran) × Worked b r p q ran × (rs ≡ answered_in r q ran) × (gone ≡ ended_in r ran))
 
 -- what became of a worker in a turn: it had no request to try, or it tried one
 abbrev pub Serves : Facts → Pass → Pass → List Req → List Req → Type 0

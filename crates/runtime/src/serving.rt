@@ -1,5 +1,6 @@
 //! A worker's desk, and its turns.
 ghost use Rattle.std.specs.Prelude.{◌≡◌, ◌≤◌, ◌+◌, [], ◌∷◌, ◌++◌, List, cond, true, length, MatchOption};
+ghost use Rattle.board.specs.ShapeLimits.{widest};
 ghost use Rattle.history.specs.declared.req.Req.{Req};
 ghost use Rattle.ready.specs.Ready.{IsOf as IsOfQueue};
 ghost use Rattle.work.specs.Board.{IsOf};
@@ -122,7 +123,7 @@ fn serve<G: Turnstile>(
     req: Req,
 ) -> (Worker, bool)
     requires own { IsOf board.now worker }
-    requires room { length outbox.old.answered + 2 ≤ outbox.old.places }
+    requires room { length outbox.old.answered + widest board.now.layout.cells ≤ outbox.old.places }
     ensures own { IsOf board.now result.0 }
     ensures tried { (answered : List Req) × Tried board.now req worker result.0 answered (cond result.1 [] (req ∷ [])) × (outbox.new ≡ record outbox.old { answered = outbox.old.answered ++ answered }) }
 {
@@ -133,11 +134,8 @@ fn serve<G: Turnstile>(
     turnstile.pass(Point::Run, req);
     let (worker, ran) = busy.run();
     match ran {
-        Ran::Replied { cqe: _, took } => {
-            match took {
-                Some(target) => outbox.put(target),
-                None => {}
-            }
+        Ran::Replied { .. } => {
+            outbox.put_all(worker.took());
             outbox.put(req);
             (worker, false)
         }
@@ -149,7 +147,8 @@ fn serve<G: Turnstile>(
 }
 
 /// One turn of a worker: it takes a number from the ready queue, begins that request and runs it. What it answered is in the outbox,
-/// which has room for two. A number whose request isn't Ready any more is dropped. That of a request that parked goes back into the
+/// first what a cancel took, in the order of submission, and then the request that it ran. The outbox has room for as many as the
+/// board's widest ring has cells. A number whose request isn't Ready any more is dropped. That of a request that parked goes back into the
 /// queue in the next turn, so that what the worker does until then leaves the request to a cancel. The turn is `Idle` only where it
 /// found no number, and keeps none.
 pub fn work_turn<R: Wait, G: Turnstile>(
@@ -163,7 +162,7 @@ pub fn work_turn<R: Wait, G: Turnstile>(
 ) -> (Worker, Turn)
     requires worker { IsOf board.now worker }
     requires ready { IsOfQueue queue.now desk.old.ready }
-    requires outbox { length outbox.old.answered + 2 ≤ outbox.old.places }
+    requires outbox { length outbox.old.answered + widest board.now.layout.cells ≤ outbox.old.places }
     ensures turned { IsWorkTurn board.now desk.old desk.new worker result.0 outbox.old outbox.new }
     ensures ready { IsOfQueue queue.now desk.new.ready }
     ensures idle { result.1 ≡ Turn.Idle → (desk.new.kept ≡ []) × (outbox.new ≡ outbox.old) × (result.0 ≡ worker) }

@@ -425,7 +425,7 @@ impl Stage {
 
     /// One turn of the worker, and the requests that it answered.
     fn work<R: Wait>(&mut self, rt: &R) -> Result<(Turn, Vec<Req>), Fail> {
-        let mut outbox = Outbox::new(self.alloc, 2)?;
+        let mut outbox = Outbox::new(self.alloc, self.board.widest())?;
         let Some(worker) = self.worker.take() else {
             return Err(Fail::new("there is no worker"));
         };

@@ -8,7 +8,7 @@ ghost use Rattle.ready.specs.Ready.{IsOf as IsOfQueue};
 ghost use Rattle.ready.specs.Rule.{all_shares};
 ghost use Rattle.bell.specs.BellPasses.{IsSleeperOf};
 ghost use Rattle.board.specs.New.{AreSubmitters};
-ghost use Rattle.board.specs.ShapeLimits.{is_shape};
+ghost use Rattle.board.specs.ShapeLimits.{is_shape, widest};
 ghost use Rattle.runtime.specs.Clients.{AreClients, AreNewClients, IsStarted};
 ghost use Rattle.runtime.specs.Crews.{AreWorking, shares_of};
 ghost use Rattle.runtime.specs.Loops.{IsPolling, IsServing};
@@ -37,8 +37,8 @@ use std::sync::{Arc, Mutex, Wait};
 use std::thread;
 use std::thread::{PromisedHandle, Threads};
 
-/// How many answered requests a worker keeps before it posts them.
-const WORK_PLACES: u32 = 17;
+/// How many answered requests a worker keeps at most when it begins another one.
+const KEPT: u32 = 15;
 
 /// What the threads of a new runtime share, and all passes that go with it.
 #[derive(Drop)]
@@ -318,7 +318,8 @@ fn start_worker<
     ensures thread { IfOk result (λ t. (arc_value t.handle.promise.0.value ≡ arc_value shared.now) × (t.handle.promise.1.value.share ≡ ready.share)) }
     ensures refused { IfErr result (λ e. e ≢ BadShape) }
 {
-    let (Ok(theirs), Ok(outbox)) = (Arc::try_clone(shared), Outbox::new(alloc, WORK_PLACES)) else {
+    let places = shared.board.widest() + KEPT;
+    let (Ok(theirs), Ok(outbox)) = (Arc::try_clone(shared), Outbox::new(alloc, places)) else {
         return Err(StartError::Memory);
     };
     let promise = Ours(Snapshot::of(shared), Snapshot::of(&ready));
@@ -328,7 +329,7 @@ fn start_worker<
         promise,
         move || -> (Worker, ReadyPass)
             requires desk { IsServing (arc_value theirs) desk worker }
-            requires places { 2 ≤ outbox.places }
+            requires places { widest (arc_value theirs).board.layout.cells ≤ outbox.places }
             ensures { IsOf (arc_value theirs).board result.0 × IsOfQueue (arc_value theirs).queue result.1 × (result.1.share ≡ desk.ready.share) }
         { work(&rt, &theirs, desk, worker, &*turnstile, outbox) },
     ) {

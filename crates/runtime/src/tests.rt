@@ -1,7 +1,7 @@
 //! Turns one after another in one thread: what each comes to, and when there is nothing to do.
 use crate::stage::{Entry, play};
 use entry::Sqe;
-use prep::{cancel, link_timeout, nop, read, timeout, timeout_count, write};
+use prep::{cancel, cancel_all, link_timeout, nop, read, timeout, timeout_count, write};
 use std::test::Fail;
 
 /// IOSQE_IO_DRAIN, IOSQE_IO_LINK.
@@ -76,6 +76,23 @@ fn a_number_that_finds_no_place_is_served_later(rt: HostRuntime) -> Result<(), F
     assert_eq!(rt;
         told.as_str(),
         "0.0 moved moved moved+0.0+0.1 -125:50:51:52:53 0 0.2 moved 0.3 moved ready moved moved moved+0.2 idle moved idle moved+0.3 2:1:2 2:1:2 on"
+    );
+    Ok(())
+}
+
+/// Both READs park, and the cancel takes them in their order. Their numbers stay in the queue.
+#[test]
+fn a_cancel_of_all_puts_out_each_that_it_took(rt: HostRuntime) -> Result<(), Fail> {
+    let first = [
+        reads(3, 0, 21, 60),
+        reads(2, 0, 21, 70),
+        plain(cancel_all(21), 0, 22),
+    ];
+    let words = "f p w w w w w w p r0 r1 r2";
+    let told = play(&rt, rt.alloc(), &[4], 4, &first, &[], words, 0)?;
+    assert_eq!(rt;
+        told.as_str(),
+        "0.0 moved moved moved moved+0.0+0.1+0.2 moved moved idle idle -125:60:61:62 -125:70:71 2 on"
     );
     Ok(())
 }

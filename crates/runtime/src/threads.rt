@@ -4,6 +4,7 @@ ghost use Rattle.work.specs.Board.{IsOf};
 ghost use Rattle.work.specs.Passes.{seen_of};
 ghost use Rattle.ready.specs.Ready.{IsOf as IsOfQueue};
 ghost use Rattle.bell.specs.BellPasses.{HasLoaded};
+ghost use Rattle.board.specs.ShapeLimits.{widest};
 ghost use Rattle.outbox.specs.Outbox.{Waiting};
 ghost use Rattle.runtime.specs.Loops.{IsPolling, IsServing};
 ghost use Rattle.runtime.specs.PollTurns.{IsPollTurn};
@@ -142,13 +143,13 @@ fn work_round<R: Wait, G: Turnstile>(
     outbox: &mut Outbox,
 ) -> (Worker, bool)
     requires desk { IsServing shared.now desk.old worker }
-    requires places { 2 ≤ outbox.old.places }
+    requires places { widest shared.now.board.layout.cells ≤ outbox.old.places }
     ensures desk { IsServing shared.now desk.new result.0 }
     ensures turned { (o : Waiting) × ((o ≡ outbox.old) ⊎ (o ≡ record outbox.old { answered = [] })) × IsWorkTurn shared.now.board desk.old desk.new worker result.0 o outbox.new × (result.1 ≡ (length outbox.new.answered == length o.answered)) }
     ensures places { outbox.new.places ≡ outbox.old.places }
     ensures share { desk.new.ready.share ≡ desk.old.ready.share }
 {
-    if outbox.room() < 2 {
+    if outbox.room() < shared.board.widest() as usize {
         post_all(rt, shared.posts.as_slice(), turnstile, outbox);
     }
     let before = outbox.len();
@@ -165,8 +166,8 @@ fn work_round<R: Wait, G: Turnstile>(
     (worker, is_silent)
 }
 
-/// The thread of a worker. What it answered is posted at the first turn that answers nothing, or once the outbox is full. It ends
-/// after such a turn, once the workers are told to, and gives back its passes.
+/// The thread of a worker. What it answered is posted at the first turn that answers nothing, or once the outbox lacks room for
+/// another turn. It ends after a turn that answers nothing, once the workers are told to, and gives back its passes.
 pub(crate) fn work<R: Wait, G: Turnstile>(
     rt: &R,
     shared: &Shared,
@@ -176,7 +177,7 @@ pub(crate) fn work<R: Wait, G: Turnstile>(
     mut outbox: Outbox,
 ) -> (Worker, ReadyPass)
     requires desk { IsServing shared.now desk worker }
-    requires places { 2 ≤ outbox.places }
+    requires places { widest shared.now.board.layout.cells ≤ outbox.places }
     ensures own { IsOf shared.now.board result.0 }
     ensures ready { IsOfQueue shared.now.queue result.1 × (result.1.share ≡ desk.ready.share) }
 {

@@ -5,3 +5,4 @@ pub mod LinesStay
 pub mod CarriedLines
 pub mod HomesRead
 pub mod HomeEntries
+pub mod RowData

@@ -2,6 +2,5 @@ pub mod HandLists
 pub mod ClientCalls
 pub mod HandSteps
 pub mod ClockSteps
-pub mod RowData
 pub mod WholeTables
 pub mod RunSteps

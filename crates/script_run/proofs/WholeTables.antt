@@ -30,17 +30,18 @@ use Rattle.entry.specs.Entry.{Entry}
 use Rattle.script.specs.declared.script.Script.{Script}
 use Rattle.script.specs.Carried.{HasCarried, HasTimed, KeepsRing}
 use Rattle.script.specs.Homes.{home, AreHomes}
+use Rattle.script.specs.Rows.{data_count}
 use Rattle.script.specs.Tables.{setup_of, Keeps, row_of, IsTableOf}
 use Rattle.script.proofs.CarriedLines.{timed_on, ring_at_end, clock_at_end, all_keep, none_keeps}
 use Rattle.script.proofs.CountedLines.{acts_long}
 use Rattle.script.proofs.HomeEntries.{handed_home}
 use Rattle.script.proofs.HomesRead.{home_is}
+use Rattle.script.proofs.RowData.{data_long}
 use Rattle.script_run.specs.declared.hand.Hand.{Hand}
 use Rattle.script_run.specs.Hands.{client_of, taken_by, AreTaken, HandAt, IsCarried}
 use Rattle.script_run.specs.Played.{IsPlayed}
-use Rattle.script_run.specs.RunRows.{data_count, IsFound, IsRow, AreRows}
+use Rattle.script_run.specs.RunRows.{IsFound, IsRow, AreRows}
 use Rattle.script_run.proofs.HandLists.{get_map}
-use Rattle.script_run.proofs.RowData.{data_long}
 use Rattle.script_run.proofs.ClientCalls.{all_taken, carried_without, taken_by_line}
 
 none_some : {X : Type 0} → (x : X) → None ≡ Some x → ⊥

@@ -1,17 +1,11 @@
 -- Which row an entry has, by the completion of its request.
-use Rattle.std.specs.Prelude.{◌≡◌, ◌⊎◌, ℕ, ◌≤◌, Bool, ℤ, pos, List, length, take, slice_get, Option, Some}
+use Rattle.std.specs.Prelude.{◌≡◌, ◌⊎◌, ℕ, ◌≤◌, Bool, ℤ, List, length, take, slice_get, Option, Some}
 use Rattle.std.specs.Global.{Vec}
-use Rattle.entry.specs.declared.op.Op.{Op}
-use Rattle.entry.specs.declared.op.Op.TheVariants.{Read}
 use Rattle.history.specs.declared.req.Req.{Req}
 use Rattle.board.specs.declared.completion.Completion.{Completion}
 use Rattle.script.specs.declared.named.Named.{Named}
 use Rattle.script.specs.declared.script.Script.{Script}
-
--- how many bytes of data belong to this reply: as many as it says of a READ, and none of another entry
-abbrev pub data_count : Op → ℤ → ℕ
-data_count (Read fd offset len) (pos n) = n
-data_count _ _ = 0
+use Rattle.script.specs.Rows.{data_count}
 
 -- the request's completion, among those that were taken and those of the end
 abbrev pub IsFound : Req → List Completion → List (Completion × Bool) → Completion → Type 0

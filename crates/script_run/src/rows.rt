@@ -1,6 +1,7 @@
 //! The table of a run, from its completions.
 ghost use Rattle.std.specs.Prelude.{◌≡◌, length, IfOk, IfSome, OnSome};
-ghost use Rattle.script_run.specs.RunRows.{AreRows, IsFound, IsRow, IsRowOf, data_count};
+ghost use Rattle.script.specs.Rows.{data_count};
+ghost use Rattle.script_run.specs.RunRows.{AreRows, IsFound, IsRow, IsRowOf};
 
 use crate::fault::RunFault;
 use board::Completion;
@@ -103,7 +104,7 @@ macro_rules! data_work {
     ((pipe splice $fd_in:ident $fd_out:ident $len:ident) ($res:ident)) => { 0 };
     ((plain $kind:ident) ($res:ident)) => { 0 };
     ((timer $kind:ident $ticks:ident) ($res:ident)) => { 0 };
-    ((cancel $kind:ident $target:ident) ($res:ident)) => { 0 };
+    ((cancel $kind:ident $($field:ident)*) ($res:ident)) => { 0 };
 }
 
 /// How many bytes of data belong to the reply: as many as it says of a READ, and none of another entry.

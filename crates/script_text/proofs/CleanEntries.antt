@@ -23,7 +23,7 @@ use Rattle.script_text.specs.EntryLines.{Stated, argument_faults, count_of, decl
 use Rattle.script_text.specs.LineEntries.{line_buffer, line_entry}
 use Rattle.script_text.specs.LineFaults.{Standing, declare_faults, kind_faults}
 use Rattle.script_text.specs.Noted.{number_faults}
-use Rattle.script_text.specs.Options.{bit_if, flags_in, has_etime, has_option, option_faults}
+use Rattle.script_text.specs.Options.{bit_if, flags_in, has_all, has_etime, has_option, option_faults}
 use Rattle.script_text.specs.Scripts.{is_left, standing_in}
 use Rattle.script_text.specs.Sentences.{Sentence, first_of}
 use Rattle.script_text.specs.TextWords.{is_same, word_at}
@@ -77,7 +77,7 @@ raw_fits op.Nop e = refl
 raw_fits (op.PollAdd fd mask) e = refl
 raw_fits (op.Timeout ticks success count) e = refl
 raw_fits (op.TimeoutRemove target) e = refl
-raw_fits (op.AsyncCancel target) e = refl
+raw_fits (op.AsyncCancel target all) e = refl
 raw_fits (op.LinkTimeout ticks) e = refl
 raw_fits (op.Close fd) e = refl
 raw_fits (op.Read fd offset len) e = rw (e, length-replicate {A = ℕ} len 0) (and_from (len == len) (nat_le len BUFFER) (eq-eqb len len refl) (le-leb len BUFFER (ltb-false BUFFER len e)))
@@ -112,7 +112,7 @@ kind_fits p lines u Timeout words given number c =
     let bit = etime_bit (has_etime Timeout (options_of Timeout words)) in
     fits_none (timeout_count_op (ticks_in (word_at words 2)) count bit) (flags_in (options_of Timeout words)) (fits_timeout (ticks_in (word_at words 2)) count bit)
 kind_fits p lines u LinkTimeout words given number c = fits_none (link_timeout_op (ticks_in (word_at words 2))) (flags_in (options_of LinkTimeout words)) (fits_link_timeout (ticks_in (word_at words 2)))
-kind_fits p lines u Cancel words given number c = fits_none (op.AsyncCancel (target_in lines (word_at words 2))) (flags_in (options_of Cancel words)) refl
+kind_fits p lines u Cancel words given number c = fits_none (op.AsyncCancel (target_in lines (word_at words 2)) (has_all Cancel (options_of Cancel words))) (flags_in (options_of Cancel words)) refl
 kind_fits p lines u Remove words given number c = fits_none (op.TimeoutRemove (target_in lines (word_at words 2))) (flags_in (options_of Remove words)) refl
 kind_fits p lines u Splice words given number c =
     let len = splice_len_in (word_at words 4) in

@@ -17,4 +17,5 @@ pub mod Accepted
 pub mod RawEntries
 pub mod TableLines
 pub mod Histories
+pub mod CancelLines
 pub mod TimeoutLines

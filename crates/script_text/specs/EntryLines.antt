@@ -18,7 +18,7 @@ use Rattle.script_text.specs.declared.keyword.Kind.TheVariants.{Nop, Read, Write
 use Rattle.script_text.specs.declared.declared_line.Declared.{Declared}
 use Rattle.script_text.specs.Keywords.{arguments_of}
 use Rattle.script_text.specs.Noted.{fault_if, long_faults, long_or, number_faults, number_or}
-use Rattle.script_text.specs.Options.{flags_in, given_count, given_user_data, has_etime, is_user_data, option_faults, user_data_in}
+use Rattle.script_text.specs.Options.{flags_in, given_count, given_user_data, has_all, has_etime, is_user_data, option_faults, user_data_in}
 use Rattle.script_text.specs.TextWords.{is_same, word_at}
 
 -- ---- labels
@@ -139,7 +139,7 @@ op_of lines Poll words = poll_op (pos (fd_in (word_at words 2))) (mask_in (word_
 op_of lines Timeout words =
     timeout_count_op (ticks_in (word_at words 2)) (count_of (options_of Timeout words)) (etime_bit (has_etime Timeout (options_of Timeout words)))
 op_of lines LinkTimeout words = link_timeout_op (ticks_in (word_at words 2))
-op_of lines Cancel words = op.AsyncCancel (target_in lines (word_at words 2))
+op_of lines Cancel words = op.AsyncCancel (target_in lines (word_at words 2)) (has_all Cancel (options_of Cancel words))
 op_of lines Remove words = op.TimeoutRemove (target_in lines (word_at words 2))
 op_of lines Splice words = splice_op (pos (fd_in (word_at words 2))) (pos (fd_in (word_at words 3))) (splice_len_in (word_at words 4))
 op_of lines Raw words = op.Nop

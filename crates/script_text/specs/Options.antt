@@ -5,7 +5,7 @@ use Rattle.text.specs.Number.{number_in}
 use Rattle.script_text.specs.declared.fault.Fault.{Fault}
 use Rattle.script_text.specs.declared.fault.Fault.TheVariants.{UnknownWord, ExtraArgument, BadNumber}
 use Rattle.script_text.specs.declared.keyword.Kind.{Kind}
-use Rattle.script_text.specs.declared.keyword.Kind.TheVariants.{Timeout}
+use Rattle.script_text.specs.declared.keyword.Kind.TheVariants.{Timeout, Cancel}
 use Rattle.script_text.specs.Noted.{fault_if}
 use Rattle.script_text.specs.TextWords.{is_same}
 
@@ -37,9 +37,18 @@ abbrev pub is_timeout : Kind → Bool
 is_timeout Timeout = true
 is_timeout _ = false
 
+-- `all` is an option of `cancel` alone
+abbrev pub is_cancel : Kind → Bool
+is_cancel Cancel = true
+is_cancel _ = false
+
+-- an option of this kind of entry line alone
+abbrev pub is_own : Kind → List ℕ → Bool
+is_own kind word = (is_timeout kind && (is_same word (codes "etime-ok") || is_count word)) || (is_cancel kind && is_same word (codes "all"))
+
 -- the options of an entry line
 abbrev pub is_option : Kind → List ℕ → Bool
-is_option kind word = ((is_same word (codes "drain") || is_same word (codes "link")) || is_same word (codes "hard")) || ((is_timeout kind && (is_same word (codes "etime-ok") || is_count word)) || is_user_data word)
+is_option kind word = ((is_same word (codes "drain") || is_same word (codes "link")) || is_same word (codes "hard")) || (is_own kind word || is_user_data word)
 
 -- the option is among these, wherever it stands
 abbrev pub has_option : List ℕ → List (List ℕ) → Bool
@@ -55,10 +64,13 @@ has_user_data_twice options = nat_lt 1 (count_by is_user_data options)
 abbrev pub has_count_twice : List (List ℕ) → Bool
 has_count_twice options = nat_lt 1 (count_by is_count options)
 
+abbrev pub repeats_own : Kind → List (List ℕ) → Bool
+repeats_own kind options = (is_timeout kind && (has_twice (codes "etime-ok") options || has_count_twice options)) || (is_cancel kind && has_twice (codes "all") options)
+
 abbrev pub repeats : Kind → List (List ℕ) → Bool
 repeats kind options =
     ((has_twice (codes "drain") options || has_twice (codes "link") options) || has_twice (codes "hard") options)
-    || ((is_timeout kind && (has_twice (codes "etime-ok") options || has_count_twice options)) || has_user_data_twice options)
+    || (repeats_own kind options || has_user_data_twice options)
 
 -- the faults of options: one that isn't known, one that stands twice, and a number that is none
 abbrev pub option_faults : Kind → List (List ℕ) → List Fault
@@ -76,6 +88,9 @@ flags_in options = (bit_if (has_option (codes "drain") options) 2 + bit_if (has_
 
 abbrev pub has_etime : Kind → List (List ℕ) → Bool
 has_etime kind options = is_timeout kind && has_option (codes "etime-ok") options
+
+abbrev pub has_all : Kind → List (List ℕ) → Bool
+has_all kind options = is_cancel kind && has_option (codes "all") options
 
 -- the number of a word, if there is one
 abbrev pub number_of_word : (List ℕ → Option ℕ) → Option (List ℕ) → Option ℕ

@@ -1,9 +1,10 @@
 //! What an entry line asks for, and the faults of its words.
 ghost use Rattle.std.specs.Prelude.{◌≡◌, pos, IfOk};
+ghost use Rattle.entry.specs.declared.op.Op.TheVariants.{AsyncCancel};
 ghost use Rattle.prep.specs.Built.{plain};
 ghost use Rattle.text.specs.Number.{number_in};
 ghost use Rattle.script_text.specs.EntryLines.{all_stated, argument_faults, buffer_in, count_of, entry_faults, entry_of, etime_bit, fd_in, op_of, options_of, text_bytes, text_len};
-ghost use Rattle.script_text.specs.Options.{has_etime};
+ghost use Rattle.script_text.specs.Options.{has_all, has_etime};
 ghost use Rattle.script_text.specs.Kept.{KeepsFault};
 ghost use Rattle.script_text.specs.Noted.{long_or, number_or, with_faults};
 ghost use Rattle.script_text.specs.TextWords.{texts};
@@ -69,9 +70,21 @@ fn etime_bit(is_set: bool) -> u32
     if is_set { ETIME_SUCCESS } else { 0 }
 }
 
+/// The entry of a `cancel`.
+fn cancel_of(user_data: u64, all: bool) -> Sqe
+    ensures { result ≡ plain (AsyncCancel user_data all) }
+{
+    if all {
+        prep::cancel_all(user_data)
+    } else {
+        prep::cancel(user_data)
+    }
+}
+
 /// The entry of a line that is no `raw`, without flags and user_data.
 fn plain_entry<'a>(labels: &Labels<'a>, kind: Kind, words: &[&'a [u8]], options: Options) -> Sqe
     requires etime_ok { options.etime_ok ≡ has_etime kind (options_of kind (texts words.now)) }
+    requires all { options.all ≡ has_all kind (options_of kind (texts words.now)) }
     requires count { options.count ≡ count_of (options_of kind (texts words.now)) }
     ensures { result ≡ plain (op_of (all_stated labels.now.lines.items) kind (texts words.now)) }
 {
@@ -88,7 +101,7 @@ fn plain_entry<'a>(labels: &Labels<'a>, kind: Kind, words: &[&'a [u8]], options:
             prep::timeout_count(long_or(second), options.count, etime_bit(options.etime_ok))
         }
         Kind::LinkTimeout => prep::link_timeout(long_or(second)),
-        Kind::Cancel => prep::cancel(target_in(labels, second)),
+        Kind::Cancel => cancel_of(target_in(labels, second), options.all),
         Kind::Remove => prep::timeout_remove(target_in(labels, second)),
         Kind::Splice => prep::splice(fd_in(second), fd_in(third), number_or(fourth, 0, LENGTH)),
     }

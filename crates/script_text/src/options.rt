@@ -6,7 +6,7 @@ ghost use Rattle.script_text.specs.Kept.{KeepsFault};
 ghost use Rattle.script_text.specs.Keywords.{arguments_of};
 ghost use Rattle.script_text.specs.Noted.{with_faults};
 ghost use Rattle.script_text.specs.EntryLines.{count_of};
-ghost use Rattle.script_text.specs.Options.{bit_if, count_in, flags_in, given_count, given_user_data, has_count_twice, has_etime, has_option, has_twice, has_user_data_twice, is_bad_number, is_count, is_option, is_timeout, is_user_data, option_faults, repeats, user_data_in};
+ghost use Rattle.script_text.specs.Options.{bit_if, count_in, flags_in, given_count, given_user_data, has_all, has_count_twice, has_etime, has_option, has_twice, has_user_data_twice, is_bad_number, is_cancel, is_count, is_option, is_own, is_timeout, is_user_data, option_faults, repeats, repeats_own, user_data_in};
 ghost use Rattle.script_text.specs.TextWords.{texts};
 
 use crate::fault::Fault;
@@ -46,6 +46,8 @@ macro_rules! flag_bits {
 pub struct Options {
     pub flags: u8,
     pub etime_ok: bool,
+    /// Whether a `cancel` means each request that has its user_data.
+    pub all: bool,
     /// How many completions a `timeout` counts, and 0 where no option gives it.
     pub count: u64,
     pub user_data: Option<u64>,
@@ -56,12 +58,14 @@ impl Options {
     pub fn of(kind: Kind, options: &[&[u8]]) -> Options
         ensures flags { result.flags ≡ flags_in (texts options.now) }
         ensures etime_ok { result.etime_ok ≡ has_etime kind (texts options.now) }
+        ensures all { result.all ≡ has_all kind (texts options.now) }
         ensures count { result.count ≡ count_of (texts options.now) }
         ensures user_data { result.user_data ≡ given_user_data (texts options.now) }
     {
         Options {
             flags: flags_in(options),
             etime_ok: is_timeout(kind) && has_option(options, b"etime-ok"),
+            all: is_cancel(kind) && has_option(options, b"all"),
             count: given_count(options).unwrap_or(0),
             user_data: given_user_data(options),
         }
@@ -122,13 +126,27 @@ fn is_timeout(kind: Kind) -> bool
     matches!(kind, Kind::Timeout)
 }
 
+/// Whether `all` is an option of such a line.
+fn is_cancel(kind: Kind) -> bool
+    ensures { result ≡ is_cancel kind }
+{
+    matches!(kind, Kind::Cancel)
+}
+
+/// Whether a word is an option of such a line, and of no other kind.
+fn is_own(kind: Kind, word: &[u8]) -> bool
+    ensures { result ≡ is_own kind word.now }
+{
+    let is_timed = is_timeout(kind) && (is_same(word, b"etime-ok") || is_count(word));
+    is_timed || (is_cancel(kind) && is_same(word, b"all"))
+}
+
 /// Whether a word is an option of such a line.
 fn is_option(kind: Kind, word: &[u8]) -> bool
     ensures { result ≡ is_option kind word.now }
 {
     let is_flag = by_flag!(is_flag!(word));
-    let is_timed = is_timeout(kind) && (is_same(word, b"etime-ok") || is_count(word));
-    is_flag || (is_timed || is_user_data(word))
+    is_flag || (is_own(kind, word) || is_user_data(word))
 }
 
 fn has_unknown(kind: Kind, options: &[&[u8]]) -> bool
@@ -171,13 +189,20 @@ fn has_count_twice(options: &[&[u8]]) -> bool
     options.iter().filter(|option| is_count(option)).count() > 1
 }
 
+/// Whether an option of this kind of line alone stands twice.
+fn repeats_own(kind: Kind, options: &[&[u8]]) -> bool
+    ensures { result ≡ repeats_own kind (texts options.now) }
+{
+    let timed = is_timeout(kind) && (has_twice(options, b"etime-ok") || has_count_twice(options));
+    timed || (is_cancel(kind) && has_twice(options, b"all"))
+}
+
 /// Whether an option stands twice.
 fn repeats(kind: Kind, options: &[&[u8]]) -> bool
     ensures { result ≡ repeats kind (texts options.now) }
 {
     let flag = by_flag!(repeats_flag!(options));
-    let timed = is_timeout(kind) && (has_twice(options, b"etime-ok") || has_count_twice(options));
-    flag || (timed || has_user_data_twice(options))
+    flag || (repeats_own(kind, options) || has_user_data_twice(options))
 }
 
 fn bit_if(is_set: bool, bit: u8) -> u8

@@ -56,10 +56,10 @@ module _ (L : Layout) (r : Req) where
       (λ (w : same c r ≡ true). let run = runs_not (events_of j) c w legal.0.1.0 in ⊎_elim
       (λ (u : same t r ≡ true). absurd (late (Take c t) (events_of j) _ u refl (λ z. z) early))
       (λ (u : same t r ≡ false). absurd (subst IsEarly (unchanged (S L) (Take c t) (events_of j) r u ∙ run) early)) (bool_cases (same t r)))
-      (λ (n : same c r ≡ false). either_way (Take c t) (events_of j) _ (λ _. refl) (λ z. z) (ap (λ (b : Bool). cond b (took t) (hit (events_of j) r)) n) (unhit j legal.1 orderly.1) early) (bool_cases (same c r))
+      (λ (n : same c r ≡ false). either_way (Take c t) (events_of j) _ (λ _. refl) (λ z. z) (ap (λ (b : Bool). cond b (took t (hit (events_of j) r)) (hit (events_of j) r)) n) (unhit j legal.1 orderly.1) early) (bool_cases (same c r))
   unhit (Did (Miss c t) ∷ j) legal orderly early = ⊎_elim
       (λ (w : same c r ≡ true). absurd (subst IsEarly (runs_not (events_of j) c w legal.0.1.0) early))
-      (λ (n : same c r ≡ false). stays (Miss c t) (events_of j) refl (ap (λ (b : Bool). cond b (missed t) (hit (events_of j) r)) n) (unhit j legal.1 orderly.1) early) (bool_cases (same c r))
+      (λ (n : same c r ≡ false). stays (Miss c t) (events_of j) refl (ap (λ (b : Bool). cond b (missed t (hit (events_of j) r)) (hit (events_of j) r)) n) (unhit j legal.1 orderly.1) early) (bool_cases (same c r))
   unhit (Did (Arm q d) ∷ j) legal orderly early = either_way (Arm q d) (events_of j) _ (λ _. refl) (λ z. z) refl (unhit j legal.1 orderly.1) early
   unhit (Did (Expire q) ∷ j) legal orderly early = either_way (Expire q) (events_of j) _ (λ _. refl) (λ z. z) refl (unhit j legal.1 orderly.1) early
   unhit (Did (Count q) ∷ j) legal orderly early = either_way (Count q) (events_of j) _ (λ _. refl) (λ z. z) refl (unhit j legal.1 orderly.1) early

@@ -1,11 +1,11 @@
 -- What a worker knows of the cancel that it runs stays: what it did, which requests it is meant for, and so its answer.
-use Rattle.std.proofs.Common.{◌≡◌, ℕ, ◌<◌, ℤ, Option, List, sym, ap, ◌∙◌, subst}
+use Rattle.std.proofs.Common.{◌≡◌, ⊎_elim, inl, inr, ℕ, ◌<◌, Bool, true, false, ℤ, Option, List, sym, ap, ◌∙◌, subst}
 use Rattle.atomic_table.specs.Table.{State}
 use Rattle.history.specs.declared.req.Req.{Req}
 use Rattle.history.specs.declared.event.Event.{Event}
-use Rattle.history.specs.History.{Hit, nothing, took, missed, runs, hit, phase, submits, IsReplied}
+use Rattle.history.specs.History.{Hit, nothing, took, missed, has_missed, runs, hit, phase, submits, IsReplied}
 use Rattle.history.specs.Chains.{placed}
-use Rattle.history.specs.Answers.{Matches, NoneLeft, CancelAnswers}
+use Rattle.history.specs.Answers.{Matches, NoneLeft, CancelAnswers, CancelBy}
 use Rattle.history.specs.Legal.{Setup}
 use Rattle.steps.specs.declared.parcel.Thing.{Thing}
 use Rattle.steps.specs.declared.view.Layout.{Layout}
@@ -22,9 +22,14 @@ use Rattle.steps.proofs.OwnFacts.{same_hit}
 use Rattle.steps.proofs.StepKinds.{There, later, past_is, legal_now, none_now}
 
 answer_by : (h n : List Event) (c : Req) (res : ℤ) → (NoneLeft h c → NoneLeft n c) → (x : Hit) → CancelAnswers h c x res → CancelAnswers n c x res
-answer_by h n c res none (took t) a = a
-answer_by h n c res none (missed t) a = a
+answer_by h n c res none (took t x) a = a
+answer_by h n c res none (missed t x) a = a
 answer_by h n c res none nothing a = (a.0, none a.1)
+
+-- the same of a cancel of all its matches
+by_each : (h n : List Event) (c : Req) (res : ℤ) → ((q : Req) → Matches n c q → Matches h c q) → ((q : Req) → IsReplied (phase h q) → IsReplied (phase n q)) → (all : Bool) (x : Hit) → CancelBy all h c x res → CancelBy all n c x res
+by_each h n c res was done true x a = (a.0, λ q m. ⊎_elim (λ (d : IsReplied (phase h q)). inl (done q d)) (λ (w : has_missed x q.k ≡ true). inr w) (a.1 q (was q m)))
+by_each h n c res was done false x a = answer_by h n c res (λ none q m. done q (none q (was q m))) x a
 
 module _ (slots id : ℕ) (me : Seated) where
   abbrev v : View
@@ -46,7 +51,7 @@ module _ (slots id : ℕ) (me : Seated) where
     pub hit_now : (s : St) (r : Ruled L s) → There slots id me s → hit (events_of r.past) c ≡ hit (events_of v.seen) c
     hit_now s r at = ap (λ j. hit (events_of j) c) (past_is slots id me s r at) ∙ same_hit c (later slots id me s r at) v.seen (subst (λ (z : Role). NoneOf z (later slots id me s r at)) busy (none_now slots id me s r at))
 
-    c_born : (s : St) (r : Ruled L s) → There slots id me s → c.k < submits (events_of v.seen) c.ring
+    pub c_born : (s : St) (r : Ruled L s) → There slots id me s → c.k < submits (events_of v.seen) c.ring
     c_born s r at = counted_in S v.seen c runs (legal_before S (later slots id me s r at) v.seen (legal_now slots id me s r at)) ((r.seats id v at).busy c busy).1 (λ e. cc)
 
     -- it is meant for the same requests
@@ -60,5 +65,5 @@ module _ (slots id : ℕ) (me : Seated) where
     answered_now s r at t d = subst (λ j. IsReplied (phase (events_of j) t)) (sym (past_is slots id me s r at)) (replied_later S (later slots id me s r at) v.seen t (legal_now slots id me s r at) d)
 
     -- and has the same answer
-    pub cancel_now : (res : ℤ) (s : St) (r : Ruled L s) → There slots id me s → CancelAnswers (events_of v.seen) c (hit (events_of v.seen) c) res → CancelAnswers (events_of r.past) c (hit (events_of r.past) c) res
-    cancel_now res s r at a = subst (λ (x : Hit). CancelAnswers (events_of r.past) c x res) (sym (hit_now s r at)) (answer_by (events_of v.seen) (events_of r.past) c res (λ none t m. answered_now s r at t (none t (match_was s r at t m))) _ a)
+    pub cancel_now : (res : ℤ) (s : St) (r : Ruled L s) → There slots id me s → (all : Bool) → CancelBy all (events_of v.seen) c (hit (events_of v.seen) c) res → CancelBy all (events_of r.past) c (hit (events_of r.past) c) res
+    cancel_now res s r at all a = subst (λ (x : Hit). CancelBy all (events_of r.past) c x res) (sym (hit_now s r at)) (by_each (events_of v.seen) (events_of r.past) c res (λ t m. match_was s r at t m) (λ t d. answered_now s r at t d) all (hit (events_of v.seen) c) a)

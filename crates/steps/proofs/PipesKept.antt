@@ -10,7 +10,7 @@ use Rattle.history.specs.declared.event.Event.TheVariants.{Reply}
 use Rattle.history.specs.History.{Submission, submission, hit}
 use Rattle.history.specs.Chains.{placed, IsPlaced}
 use Rattle.history.specs.Pipes.{Flow, contents, flow, offered, flows, flows_as, moves, End, no_end, read_end, write_end, end_of, reads, writes, closes, is_zero}
-use Rattle.history.specs.Answers.{Answer, now, bad_end, is_pipe, answer_read, answer_write, answer_splice, answer_poll, read_events, write_events, read_from, write_to, splice_of, close_of, poll_of, CancelAnswers, OpAnswers}
+use Rattle.history.specs.Answers.{Answer, now, bad_end, is_pipe, answer_read, answer_write, answer_splice, answer_poll, read_events, write_events, read_from, write_to, splice_of, close_of, poll_of, CancelBy, OpAnswers}
 use Rattle.history.specs.Users.{is_at, uses_at, uses_at_in}
 use Rattle.history.proofs.Requests.{bool_cases}
 use Rattle.steps.specs.declared.line.Line.{Line}
@@ -191,7 +191,7 @@ module _ (caps : List ℕ) (f : ℕ → Flow) where
 
 module _ (caps : List ℕ) (h : List Event) (r : Req) where
   -- an answer stays where the pipes that the entry names are as they were, and that of a cancel does
-  pub answer_stays : (h' : List Event) (op : Op) (res : ℤ) (data' : List ℕ) → (CancelAnswers h r (hit h r) res → CancelAnswers h' r (hit h' r) res) → ((p : ℕ) → is_pipe caps p ≡ true → uses_at op p ≡ true → flow h' p ≡ flow h p) → OpAnswers caps h r op res data' → OpAnswers caps h' r op res data'
+  pub answer_stays : (h' : List Event) (op : Op) (res : ℤ) (data' : List ℕ) → ((all : Bool) → CancelBy all h r (hit h r) res → CancelBy all h' r (hit h' r) res) → ((p : ℕ) → is_pipe caps p ≡ true → uses_at op p ≡ true → flow h' p ≡ flow h p) → OpAnswers caps h r op res data' → OpAnswers caps h' r op res data'
   answer_stays h' Nop res d s k a = a
   answer_stays h' Invalid res d s k a = a
   answer_stays h' (Read fd offset len) res d s k a = read_same caps (flow h) (flow h') (end_of fd) len k ∙ a
@@ -200,8 +200,8 @@ module _ (caps : List ℕ) (h : List Event) (r : Req) where
   answer_stays h' (PollAdd fd mask) res d s k a = poll_same caps (flow h) (flow h') (end_of fd) mask k ∙ a
   answer_stays h' (Splice fd_in fd_out len) res d s k a = splice_same caps (flow h) (flow h') (end_of fd_in) (end_of fd_out) len
       (λ p t u. k p t (ap (λ (b : Bool). b || is_at (end_of fd_out) p) u)) (λ p t u. k p t (ap (λ (b : Bool). is_at (end_of fd_in) p || b) u ∙ or_true (is_at (end_of fd_in) p))) ∙ a
-  answer_stays h' (AsyncCancel u) res d s k a = (s a.0, a.1)
-  answer_stays h' (TimeoutRemove u) res d s k a = (s a.0, a.1)
+  answer_stays h' (AsyncCancel u all) res d s k a = (s all a.0, a.1)
+  answer_stays h' (TimeoutRemove u) res d s k a = (s false a.0, a.1)
   answer_stays h' op res d s k a = absurd a
 
   one_answer : (x : Answer) (res : ℤ) (c d : List ℕ) → x ≡ now res c → x ≡ now res d → c ≡ d
@@ -216,7 +216,7 @@ module _ (caps : List ℕ) (h : List Event) (r : Req) where
   one_data (Close fd) res c d a b = one_answer (close_of caps (flow h) (end_of fd)) res c d a b
   one_data (PollAdd fd mask) res c d a b = one_answer (poll_of caps (flow h) (end_of fd) mask) res c d a b
   one_data (Splice fd_in fd_out len) res c d a b = one_answer (splice_of caps (flow h) (end_of fd_in) (end_of fd_out) len) res c d a b
-  one_data (AsyncCancel u) res c d a b = a.1 ∙ sym b.1
+  one_data (AsyncCancel u all) res c d a b = a.1 ∙ sym b.1
   one_data (TimeoutRemove u) res c d a b = a.1 ∙ sym b.1
   one_data op res c d a b = absurd a
 

@@ -62,7 +62,7 @@ IsFactsNote K j r word value unborn = (x : ℕ) × (g : ℕ) × (n : ℕ) × IsI
 IsFactsNote K j r word value (replied c res) = (x : ℕ) × (g : ℕ) × (e : Entry) × IsIn K r x g × (g < 16777216) × (word ≡ facts_at x) × IsPlaced (events_of j) r e × (value ≡ outcome_of (noted j (facts_at x)) (fails e res))
 IsFactsNote K j r word value _ = ⊥
 
--- only who has a pipe of the board changes it or gives it back, and nobody takes it from him; only what waits, is open and is a worker's to run is moved to Ready, and once; a cell goes on only when it is free, and its notes go on with it; a request is reaped by who has its slot; a cancel that took its target, or found it running, is not put back
+-- only who has a pipe of the board changes it or gives it back, and nobody takes it from him; only what waits, is open and is a worker's to run is moved to Ready, and once; a cell goes on only when it is free, and its notes go on with it; a request is reaped by who has its slot; a cancel that took a request, or found one running, is not put back
 abbrev pub Fair : Layout → List Line → Line → Type 0
 Fair L j (Did (Submit r e bytes last)) = IsFree L.cells (events_of j) r × AreNoted L.cells j r e bytes last
 Fair L j (Did (Reply r res data')) = (p : ℕ) → is_pipe L.caps p ≡ true → uses_at_in (placed (events_of j) r) p ≡ true → holder j p ≡ Some r

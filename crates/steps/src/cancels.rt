@@ -4,9 +4,9 @@ ghost use Rattle.claim.specs.declared.tag.Tag.TheVariants.{Running};
 ghost use Rattle.entry.specs.Entry.{Entry, fails as fails_with};
 ghost use Rattle.history.specs.declared.event.Event.TheVariants.{Take, Miss};
 ghost use Rattle.history.specs.declared.req.Req.{Req};
-ghost use Rattle.history.specs.Answers.{IsFirst};
+ghost use Rattle.history.specs.Answers.{MayHit};
 ghost use Rattle.history.specs.Chains.{IsPlaced};
-ghost use Rattle.history.specs.History.{hit, nothing, submits};
+ghost use Rattle.history.specs.History.{submits};
 ghost use Rattle.steps.specs.declared.line.Line.TheVariants.{Did};
 ghost use Rattle.steps.specs.declared.view.Role.TheVariants.{Busy};
 ghost use Rattle.steps.specs.Journal.{events_of};
@@ -18,9 +18,9 @@ use crate::layout::claim_word;
 use crate::table::{TableSeat, Words};
 use crate::{claims, plays};
 
-/// The cancel that this seat runs ends the request, the first of its ring that it matches and that has no reply, with -125
-/// (ECANCELED) where its claim word is `found`, which says that it isn't running. `fails` says whether -125 is a failure of its
-/// entry. Gives the word that was there.
+/// The cancel that this seat runs ends the request with -125 (ECANCELED) where its claim word is `found`, which says that it isn't
+/// running. The request is the first of its ring that the cancel matches and that has no reply, or, of a cancel of all its matches,
+/// one that it hasn't found running. `fails` says whether -125 is a failure of the request's entry. Gives the word that was there.
 pub fn take(
     words: &Words,
     seat: &mut TableSeat,
@@ -32,7 +32,7 @@ pub fn take(
     requires fits { Fits words.now.table_id seat.old cell }
     requires small { generation < 16777216 }
     requires submitted { (request_at seat.old.me.0.layout.cells cell generation).k < submits (events_of seat.old.me.0.seen) (ring_of seat.old.me.0.layout.cells cell) }
-    requires cancel { (c : Req) × (seat.old.me.0.role ≡ Busy c) × (hit (events_of seat.old.me.0.seen) c ≡ nothing) × IsFirst (events_of seat.old.me.0.seen) c (request_at seat.old.me.0.layout.cells cell generation) }
+    requires cancel { (c : Req) × (seat.old.me.0.role ≡ Busy c) × MayHit (events_of seat.old.me.0.seen) c (request_at seat.old.me.0.layout.cells cell generation) }
     requires found { IsIdleWord generation found }
     requires fails { (e : Entry) × IsPlaced (events_of seat.old.me.0.seen) (request_at seat.old.me.0.layout.cells cell generation) e × (fails ≡ fails_with e (negsuc 124)) }
     ensures seat { IsSameSeat seat.old seat.new × (seat.new.me.1 ≡ seat.old.me.1) }

@@ -122,7 +122,7 @@ macro_rules! is_linked_timer {
     ((timer alone $ticks:ident) ()) => { false };
     ((plain $kind:ident) ()) => { false };
     ((pipe $kind:ident $($field:ident)*) ()) => { false };
-    ((cancel $kind:ident $target:ident) ()) => { false };
+    ((cancel $kind:ident $($field:ident)*) ()) => { false };
 }
 
 /// Whether it is a LINK_TIMEOUT.

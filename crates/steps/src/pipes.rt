@@ -151,7 +151,7 @@ pub fn reply(
     requires alone { HasAlone seat.old.me.0.seen pipe (request_at seat.old.me.0.layout.cells cell generation) }
     requires answer { (e : Entry) × (data' : List ℕ) × MayReply seat.old.me cell (request_at seat.old.me.0.layout.cells cell generation) e res data' × (fails ≡ fails_with e res) × HasPipeAfter seat.old.me pipe (request_at seat.old.me.0.layout.cells cell generation) e res }
     ensures seat { IsSameSeat seat.old seat.new × (seat.new.me.1 ≡ rest (rest seat.old.me.1)) }
-    ensures ended { (seat.new.me.0.role ≡ Idle) × (seat.new.me.0.parts ≡ seat.old.me.0.parts) }
+    ensures ended { (seat.new.me.0.role ≡ Idle) × (seat.new.me.0.parts ≡ seat.old.me.0.parts) × (seat.new.me.0.layout ≡ seat.old.me.0.layout) }
     ensures replies { (e : Entry) (data' : List ℕ) → MayReply seat.old.me cell (request_at seat.old.me.0.layout.cells cell generation) e res data' → (mid : View) × Extends seat.old.me.0 (Did (Reply (request_at seat.old.me.0.layout.cells cell generation) res data')) (Leaving (request_at seat.old.me.0.layout.cells cell generation)) mid × (found : ℕ) × (seat.new.me.0 ≡ leaves (pipe_at pipe) found mid) }
     ensures steps { IsTwoSteps (claim_at cell) (pipe_at pipe) seat.old.me.0 seat.new.me.0 }
 {
@@ -212,7 +212,7 @@ pub fn reply_both(
     requires both { HasBoth seat.old.me.0.seen first second (request_at seat.old.me.0.layout.cells cell generation) }
     requires answer { (e : Entry) × (data' : List ℕ) × MayReply seat.old.me cell (request_at seat.old.me.0.layout.cells cell generation) e res data' × (fails ≡ fails_with e res) × HasPipesAfter seat.old.me first second (request_at seat.old.me.0.layout.cells cell generation) e res }
     ensures seat { IsSameSeat seat.old seat.new × (seat.new.me.1 ≡ rest (rest (rest seat.old.me.1))) }
-    ensures ended { (seat.new.me.0.role ≡ Idle) × (seat.new.me.0.parts ≡ seat.old.me.0.parts) }
+    ensures ended { (seat.new.me.0.role ≡ Idle) × (seat.new.me.0.parts ≡ seat.old.me.0.parts) × (seat.new.me.0.layout ≡ seat.old.me.0.layout) }
     ensures replies { (e : Entry) (data' : List ℕ) → MayReply seat.old.me cell (request_at seat.old.me.0.layout.cells cell generation) e res data' → (mid : View) × Extends seat.old.me.0 (Did (Reply (request_at seat.old.me.0.layout.cells cell generation) res data')) (Leaving (request_at seat.old.me.0.layout.cells cell generation)) mid × (found : ℕ) × (n : ℕ) × (seat.new.me.0 ≡ leaves (pipe_at second) n (leaves_one (request_at seat.old.me.0.layout.cells cell generation) second (pipe_at first) found mid)) }
     ensures steps { IsThreeSteps (claim_at cell) (pipe_at first) (pipe_at second) seat.old.me.0 seat.new.me.0 }
 {

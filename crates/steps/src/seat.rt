@@ -117,7 +117,7 @@ pub fn reply(
     requires bare { (p : ℕ) → holder seat.old.me.0.seen p ≢ Some (request_at seat.old.me.0.layout.cells cell generation) }
     requires answer { (e : Entry) × (data' : List ℕ) × MayReply seat.old.me cell (request_at seat.old.me.0.layout.cells cell generation) e res data' × (fails ≡ fails_with e res) }
     ensures seat { IsSameSeat seat.old seat.new × (seat.new.me.1 ≡ rest seat.old.me.1) }
-    ensures ended { (seat.new.me.0.role ≡ Idle) × (seat.new.me.0.parts ≡ seat.old.me.0.parts) }
+    ensures ended { (seat.new.me.0.role ≡ Idle) × (seat.new.me.0.parts ≡ seat.old.me.0.parts) × (seat.new.me.0.layout ≡ seat.old.me.0.layout) }
     ensures replies { (e : Entry) (data' : List ℕ) → MayReply seat.old.me cell (request_at seat.old.me.0.layout.cells cell generation) e res data' → Extends seat.old.me.0 (Did (Reply (request_at seat.old.me.0.layout.cells cell generation) res data')) Idle seat.new.me.0 }
     ensures step { IsStep (claim_at cell) (word_of Running 0 generation 0) seat.old.me.0 seat.new.me.0 }
 {
@@ -126,7 +126,7 @@ pub fn reply(
     words.compare_exchange::<plays::Reply>(seat, claim_word(cell), running, done);
 }
 
-/// Puts the request that this seat runs back to Ready. It is no cancel that took its target, or found it running.
+/// Puts the request that this seat runs back to Ready. It is no cancel that took a request, or found one running.
 pub fn park(words: &Words, seat: &mut TableSeat, cell: usize, generation: u32)
     requires fits { Fits words.now.table_id seat.old cell }
     requires small { generation < 16777216 }

@@ -15,6 +15,7 @@ pub fn built(words: &mut Words<'_>) -> Sqe {
         "timeout_count" => prep::timeout_count(words.number(), words.number(), words.number()),
         "link_timeout" => prep::link_timeout(words.number()),
         "cancel" => prep::cancel(words.number()),
+        "cancel_all" => prep::cancel_all(words.number()),
         "timeout_remove" => prep::timeout_remove(words.number()),
         "splice" => prep::splice(words.number(), words.number(), words.number()),
         _ => words.bad(prep::nop()),

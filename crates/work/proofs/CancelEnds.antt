@@ -1,5 +1,5 @@
--- What a worker knows once its cancel's search is over, and what it replies.
-use Rattle.std.proofs.Common.{◌≡◌, ◌≢◌, ⊎_elim, inl, inr, ℕ, ◌+◌, ◌*◌, ◌-◌, ◌<◌, ◌≤◌, ◌==◌, Bool, true, false, cond, ℤ, List, [], ◌∷◌, Option, Some, sym, refl, ap, ◌∙◌, subst, arith}
+-- What a worker knows once its cancel has gone over the requests, and what it replies.
+use Rattle.std.proofs.Common.{◌≡◌, ◌≢◌, ⊎_elim, inl, ℕ, ◌+◌, ◌*◌, ◌-◌, ◌<◌, ◌≤◌, ◌==◌, Bool, true, false, cond, ℤ, pos, List, [], ◌∷◌, length, Option, Some, sym, refl, ap, ◌∙◌, subst, arith, true≢false}
 use Rattle.atomic_table.specs.Seated.{TableId}
 use Rattle.answers.specs.NamedEnds.{UsesNone}
 use Rattle.entry.specs.declared.op.Op.{Op}
@@ -7,54 +7,58 @@ use Rattle.entry.specs.declared.op.Op.TheVariants.{AsyncCancel, TimeoutRemove}
 use Rattle.history.specs.declared.req.Req.{Req}
 use Rattle.history.specs.declared.event.Event.{Event}
 use Rattle.history.specs.declared.event.Event.TheVariants.{Take, Miss}
-use Rattle.history.specs.Answers.{CancelAnswers, OpAnswers}
-use Rattle.history.specs.History.{Hit, hit, nothing, took, missed}
+use Rattle.history.specs.Answers.{CancelAnswers, CancelBy, OpAnswers}
+use Rattle.history.specs.History.{Hit, hit, hits, nothing, took, missed, same, tally}
 use Rattle.history.proofs.Requests.{same_itself}
 use Rattle.steps.specs.declared.line.Line.{Line}
 use Rattle.steps.specs.declared.line.Line.TheVariants.{Did}
 use Rattle.steps.specs.declared.parcel.Parcel.{Parcel}
+use Rattle.steps.specs.declared.parcel.Thing.{Thing}
+use Rattle.steps.specs.declared.parcel.Thing.TheVariants.{Full}
 use Rattle.steps.specs.declared.view.Role.{Role}
 use Rattle.steps.specs.declared.view.Role.TheVariants.{Busy}
 use Rattle.steps.specs.declared.view.Step.{Step}
 use Rattle.steps.specs.declared.view.View.{View}
-use Rattle.steps.specs.Cells.{IsCell, cells_in, claim_at, request_at}
+use Rattle.steps.specs.Cells.{IsCell, cells_in, claim_at, request_at, setup_of, slot_at}
 use Rattle.steps.specs.Journal.{events_of, holder}
+use Rattle.steps.specs.Plays.{MayReply}
 use Rattle.steps.specs.Rule.{Extends, IsStep, Looks, stands_for, holders}
 use Rattle.steps.proofs.CellNumbers.{located}
 use Rattle.steps.proofs.Frames.{still_lacks}
 use Rattle.steps.proofs.JournalGrowth.{submitted_in}
 use Rattle.steps.proofs.PipeSteps.{lacks_after}
-use Rattle.steps.proofs.ViewsKept.{layout_after}
-use Rattle.steps.specs.Cells.{setup_of}
+use Rattle.steps.proofs.ViewsKept.{layout_after, role_after}
 use Rattle.work.specs.declared.cancel.Searched.{Searched}
 use Rattle.work.specs.declared.cancel.Searched.TheVariants.{NoneLeft, Ended, Found}
 use Rattle.work.specs.declared.cancel.Wanted.{Wanted}
 use Rattle.work.specs.Board.{Facts, IsOf}
 use Rattle.work.specs.Passes.{Pass, RunsIt}
-use Rattle.work.specs.Searches.{WorkerSeat, Cancels, DidSearch, FewSteps, WentOn, steps_at, wanted_in}
-use Rattle.work.specs.WorkerRuns.{IsCaught, Told, run_as}
+use Rattle.work.specs.Searches.{WorkerSeat, Cancels, DidSearch, FewSteps, WentBy, WentOn, steps_at, wanted_in}
+use Rattle.work.specs.WorkerRuns.{AreHits, DidHunt, DidSweep, Told, op_run, run_as}
+use Rattle.work.proofs.CancelGrowth.{by_hit, by_role, did_hit, went_hit, went_role}
+use Rattle.work.proofs.CancelHits.{tally_taken}
+use Rattle.work.proofs.CancelSearch.{all_wanted}
 use Rattle.work.proofs.PassesKept.{looked_of}
-use Rattle.work.proofs.RunsKept.{Went, own_event, quiet_look, quiet_still, runs_look, runs_on, runs_placed, same_hit_looked, worker_on}
+use Rattle.work.proofs.RunsKept.{Went, own_event, plain_may, quiet_look, quiet_still, runs_look, runs_on, runs_placed, worker_on}
 
 -- ---- by the operation
 
-pub cancel_answers : (caps : List ℕ) (h : List Event) (r : Req) (op : Op) (u : Wanted) (res : ℤ) → wanted_in op ≡ Some u → CancelAnswers h r (hit h r) res → OpAnswers caps h r op res []
-cancel_answers caps h r (AsyncCancel t) u res is a = (a, refl)
-cancel_answers caps h r (TimeoutRemove t) u res is a = (a, refl)
+pub cancel_answers : (caps : List ℕ) (h : List Event) (r : Req) (op : Op) (u : Wanted) (res : ℤ) → wanted_in op ≡ Some u → CancelBy u.all h r (hit h r) res → OpAnswers caps h r op res []
+cancel_answers caps h r (AsyncCancel t all) u res is a = (subst (λ (b : Bool). CancelBy b h r (hit h r) res) (sym (all_wanted (AsyncCancel t all) u is)) a, refl)
+cancel_answers caps h r (TimeoutRemove t) u res is a = (subst (λ (b : Bool). CancelBy b h r (hit h r) res) (sym (all_wanted (TimeoutRemove t) u is)) a, refl)
 cancel_answers caps h r op u res is a = absurd (let z = is in cc)
 
 pub cancel_past : (op : Op) (u : Wanted) (n : ℕ) → wanted_in op ≡ Some u → UsesNone op n
-cancel_past (AsyncCancel t) u n is = λ q lt. refl
+cancel_past (AsyncCancel t all) u n is = λ q lt. refl
 cancel_past (TimeoutRemove t) u n is = λ q lt. refl
 cancel_past op u n is = absurd (let z = is in cc)
 
 -- ---- before the search
 
-pub cancels_run : (table : TableId) (s : WorkerSeat) (x g : ℕ) (r : Req) (p : Parcel) (pipes : ℕ) (u : Wanted) → RunsIt table s.me.0 x g r p pipes → s.table_id ≡ table → hit (events_of s.me.0.seen) r ≡ nothing → wanted_in (run_as p.sqe).op ≡ Some u → Cancels table s r u
-cancels_run table s x g r p pipes u k is unhit wants = record {
+pub cancels_run : (table : TableId) (s : WorkerSeat) (x g : ℕ) (r : Req) (p : Parcel) (pipes : ℕ) (u : Wanted) → RunsIt table s.me.0 x g r p pipes → s.table_id ≡ table → wanted_in (run_as p.sqe).op ≡ Some u → Cancels table s r u
+cancels_run table s x g r p pipes u k is wants = record {
   table_is = is;
   busy = k.role;
-  unhit = unhit;
   born = submitted_in (setup_of s.me.0.layout) s.me.0.seen r _ k.legal k.parcel.1;
   entry = run_as p.sqe;
   placed_is = runs_placed table s.me.0 s.me.0 x g r p pipes k;
@@ -65,22 +69,17 @@ cancels_run table s x g r p pipes u k is unhit wants = record {
 
 -- ---- after it
 
-went_hit : (v w : View) (r : Req) → v.role ≡ Busy r → WentOn v w → hit (events_of w.seen) r ≡ hit (events_of v.seen) r
-went_hit v w r busy d = ⊎_elim (λ (e : w ≡ v). ap (λ (z : View). hit (events_of z.seen) r) e) (λ (x : Looks v w). same_hit_looked v w r busy x) d
-
-went_went : (v w : View) (r : Req) → v.role ≡ Busy r → WentOn v w → Went v w r []
-went_went v w r busy d = ⊎_elim (λ (e : w ≡ v). subst (λ (z : View). Went v z r []) (sym e) (quiet_still v r busy)) (λ (x : Looks v w). quiet_look v v w r (quiet_still v r busy) x) d
+-- the worker of r went on by these events, and then it saw more
+went_more : (v n w : View) (r : Req) (events : List Event) → Went v n r events → WentOn n w → Went v w r events
+went_more v n w r events q d = ⊎_elim (λ (e : w ≡ n). subst (λ (z : View). Went v z r events) (sym e) q) (λ (x : Looks n w). quiet_look v n w r q x) d
 
 went_bare : (v w : View) (r : Req) (n : ℕ) → v.role ≡ Busy r → WentOn v w → holder v.seen n ≢ Some r → holder w.seen n ≢ Some r
 went_bare v w r n busy d bare = ⊎_elim (λ (e : w ≡ v). subst (λ (z : View). holder z.seen n ≢ Some r) (sym e) bare) (λ (x : Looks v w). lacks_after v w r n busy bare x) d
 
-went_of : (b : Facts) (p q : Pass) → IsOf b p → q.table ≡ p.table → WentOn p.view q.view → IsOf b q
-went_of b p q o same' d = ⊎_elim
-    (λ (e : q.view ≡ p.view). let one : q ≡ p = (λ i. record { table = same' i; view = e i }) in subst (IsOf b) (sym one) o)
+went_of : (b : Facts) (p q : Pass) → IsOf b p → q.table ≡ p.table → q.took ≡ p.took → WentOn p.view q.view → IsOf b q
+went_of b p q o same' lists d = ⊎_elim
+    (λ (e : q.view ≡ p.view). let one : q ≡ p = (λ i. record { table = same' i; view = e i; took = lists i }) in subst (IsOf b) (sym one) o)
     (λ (x : Looks p.view q.view). looked_of b p q o same' x) d
-
-went_role : (v w : View) (r : Req) → v.role ≡ Busy r → WentOn v w → w.role ≡ Busy r
-went_role v w r busy d = ⊎_elim (λ (e : w ≡ v). ap (λ (z : View). z.role) e ∙ busy) (λ (x : Looks v w). ap (λ (z : View). z.role) x.is ∙ busy) d
 
 went_runs : (table : TableId) (v w : View) (x g : ℕ) (r : Req) (p : Parcel) (pipes : ℕ) → RunsIt table v x g r p pipes → WentOn v w → RunsIt table w x g r p pipes
 went_runs table v w x g r p pipes k d = ⊎_elim (λ (e : w ≡ v). subst (λ (z : View). RunsIt table z x g r p pipes) (sym e) k) (λ (y : Looks v w). runs_look table v w x g r p pipes k y) d
@@ -91,47 +90,100 @@ event_bare m w r n e busy x bare is =
     still_lacks m.role r n (subst (λ (z : Role). stands_for z (holders r n) ≡ true) (sym busy) (same_itself r)) x.saw.later m.seen x.saw.none bare
     (sym (ap (λ (j : List Line). holder j n) (ap (λ (z : View). z.seen) x.is ∙ ap (λ (j : List Line). Did e ∷ j) x.saw.is)) ∙ is)
 
-module _ (v w : View) (r : Req) (busy : v.role ≡ Busy r) where
-  pub searched_runs : (q : Searched) → DidSearch v w r q → (table : TableId) (x g : ℕ) (p : Parcel) (pipes : ℕ) → RunsIt table v x g r p pipes → RunsIt table w x g r p pipes
-  searched_runs NoneLeft d table x g p pipes k = went_runs table v w x g r p pipes k d.0
-  searched_runs (Ended t) d table x g p pipes k = runs_on table d.0 w x g r p pipes (went_runs table v d.0 x g r p pipes k d.1) (Did (Take r t)) d.2
-  searched_runs Found d table x g p pipes k = runs_on table d.1 w x g r p pipes (went_runs table v d.1 x g r p pipes k d.2) (Did (Miss r d.0)) d.3
+went_layout : (v w : View) → WentOn v w → w.layout ≡ v.layout
+went_layout v w d = ⊎_elim (λ (e : w ≡ v). ap (λ (z : View). z.layout) e) (λ (x : Looks v w). ap (λ (z : View). z.layout) x.is) d
 
-  pub searched_bare : (q : Searched) → DidSearch v w r q → (n : ℕ) → holder v.seen n ≢ Some r → holder w.seen n ≢ Some r
-  searched_bare NoneLeft d n bare = went_bare v w r n busy d.0 bare
-  searched_bare (Ended t) d n bare = event_bare d.0 w r n (Take r t) (went_role v d.0 r busy d.1) d.2 (went_bare v d.0 r n busy d.1 bare)
-  searched_bare Found d n bare = event_bare d.1 w r n (Miss r d.0) (went_role v d.1 r busy d.2) d.3 (went_bare v d.1 r n busy d.2 bare)
+mine : (r c : Req) → c ≡ r → same c r ≡ true
+mine r c e = ap (λ (z : Req). same z r) e ∙ same_itself r
 
-  pub searched_layout : (q : Searched) → DidSearch v w r q → w.layout ≡ v.layout
-  searched_layout NoneLeft d = ⊎_elim (λ (e : w ≡ v). ap (λ (z : View). z.layout) e) (λ (x : Looks v w). ap (λ (z : View). z.layout) x.is) d.0
-  searched_layout (Ended t) d = layout_after d.0 w (Did (Take r t)) (Busy r) d.2 ∙ ⊎_elim (λ (e : d.0 ≡ v). ap (λ (z : View). z.layout) e) (λ (x : Looks v d.0). ap (λ (z : View). z.layout) x.is) d.1
-  searched_layout Found d = layout_after d.1 w (Did (Miss r d.0)) (Busy r) d.3 ∙ ⊎_elim (λ (e : d.1 ≡ v). ap (λ (z : View). z.layout) e) (λ (x : Looks v d.1). ap (λ (z : View). z.layout) x.is) d.2
+module _ (r : Req) where
+  pub by_layout : (v w : View) (own : List Event) → WentBy v w r own → w.layout ≡ v.layout
+  by_layout v w [] d = went_layout v w d
+  by_layout v w (e ∷ own) d = went_layout d.1 w d.4 ∙ (layout_after d.0 d.1 (Did e) (Busy r) d.3 ∙ by_layout v d.0 own d.2)
 
-  took_hit : (m : View) (t : Req) → Extends m (Did (Take r t)) (Busy r) w → hit (events_of w.seen) r ≡ took t
-  took_hit m t x = ap (λ (z : View). hit (events_of z.seen) r) x.is ∙ ap (λ (b : Bool). cond b (took t) (hit (events_of x.mid) r)) (same_itself r)
+  pub by_runs : (table : TableId) (v w : View) (own : List Event) (x g : ℕ) (p : Parcel) (pipes : ℕ) → RunsIt table v x g r p pipes → WentBy v w r own → RunsIt table w x g r p pipes
+  by_runs table v w [] x g p pipes k d = went_runs table v w x g r p pipes k d
+  by_runs table v w (e ∷ own) x g p pipes k d = went_runs table d.1 w x g r p pipes (runs_on table d.0 d.1 x g r p pipes (by_runs table v d.0 own x g p pipes k d.2) (Did e) d.3) d.4
 
-  missed_hit : (m : View) (t : Req) → Extends m (Did (Miss r t)) (Busy r) w → hit (events_of w.seen) r ≡ missed t
-  missed_hit m t x = ap (λ (z : View). hit (events_of z.seen) r) x.is ∙ ap (λ (b : Bool). cond b (missed t) (hit (events_of x.mid) r)) (same_itself r)
+  pub by_bare : (v w : View) (own : List Event) (n : ℕ) → v.role ≡ Busy r → WentBy v w r own → holder v.seen n ≢ Some r → holder w.seen n ≢ Some r
+  by_bare v w [] n busy d bare = went_bare v w r n busy d bare
+  by_bare v w (e ∷ own) n busy d bare = let role = by_role r v d.0 own busy d.2 in
+      went_bare d.1 w r n (role_after d.0 d.1 (Did e) (Busy r) d.3) d.4 (event_bare d.0 d.1 r n e role d.3 (by_bare v d.0 own n busy d.2 bare))
 
-  -- the reply is the one of the history
-  pub searched_answers : (q : Searched) (res : ℤ) (which : Option Req) → DidSearch v w r q → Told q res which → hit (events_of v.seen) r ≡ nothing → CancelAnswers (events_of w.seen) r (hit (events_of w.seen) r) res
-  searched_answers NoneLeft res which d t unhit = subst (λ (z : Hit). CancelAnswers (events_of w.seen) r z res) (sym (went_hit v w r busy d.0 ∙ unhit)) (t.0, d.1)
-  searched_answers (Ended o) res which d t unhit = subst (λ (z : Hit). CancelAnswers (events_of w.seen) r z res) (sym (took_hit d.0 o d.2)) t.0
-  searched_answers Found res which d t unhit = subst (λ (z : Hit). CancelAnswers (events_of w.seen) r z res) (sym (missed_hit d.1 d.0 d.3)) t.0
+  -- the pass stays the board's
+  pub by_of : (b : Facts) (table : TableId) (v w : View) (own : List Event) → v.role ≡ Busy r → WentBy v w r own → IsOf b (record { table = table; view = v; took = [] }) → IsOf b (record { table = table; view = w; took = [] })
+  by_of b table v w [] busy d o = went_of b (record { table = table; view = v; took = [] }) (record { table = table; view = w; took = [] }) o refl refl d
+  by_of b table v w (e ∷ own) busy d o =
+      let m : Pass = record { table = table; view = d.0; took = [] } in let n : Pass = record { table = table; view = d.1; took = [] } in
+      went_of b n (record { table = table; view = w; took = [] }) (worker_on b m n r (by_of b table v d.0 own busy d.2 o) refl (by_role r v d.0 own busy d.2) (Did e) d.3) refl refl d.4
 
-  -- what it did before it
-  pub searched_events : (q : Searched) (res : ℤ) (which : Option Req) → DidSearch v w r q → Told q res which → (own : List Event) × Went v w r own × IsCaught r which own
-  searched_events NoneLeft res which d t = ([], went_went v w r busy d.0, subst (λ (z : Option Req). IsCaught r z []) (sym t.1) (inl refl))
-  searched_events (Ended o) res which d t = (Take r o ∷ [], own_event v d.0 w r (went_went v d.0 r busy d.1) (Take r o) (same_itself r) d.2, subst (λ (z : Option Req). IsCaught r z (Take r o ∷ [])) (sym t.1) refl)
-  searched_events Found res which d t = (Miss r d.0 ∷ [], own_event v d.1 w r (went_went v d.1 r busy d.2) (Miss r d.0) (same_itself r) d.3, subst (λ (z : Option Req). IsCaught r z (Miss r d.0 ∷ [])) (sym t.1) (inr (d.0, refl)))
+  -- what it did before it replied
+  pub by_events : (v w : View) (own : List Event) (k : ℕ) → v.role ≡ Busy r → AreHits r k own → WentBy v w r own → Went v w r own
+  by_events v w [] k busy h d = went_more v v w r [] (quiet_still v r busy) d
+  by_events v w (Take c t ∷ own) k busy h d = went_more v d.1 w r (Take c t ∷ own) (own_event v d.0 d.1 r (by_events v d.0 own t.k busy h.2 d.2) (Take c t) (mine r c h.0) d.3) d.4
+  by_events v w (Miss c t ∷ own) k busy h d = went_more v d.1 w r (Miss c t ∷ own) (own_event v d.0 d.1 r (by_events v d.0 own t.k busy h.2 d.2) (Miss c t) (mine r c h.0) d.3) d.4
+  by_events v w (e ∷ own) k busy h d = absurd h
 
--- the pass stays the board's
-pub searched_of : (b : Facts) (table : TableId) (v w : View) (r : Req) (q : Searched) → v.role ≡ Busy r → DidSearch v w r q → IsOf b (record { table = table; view = v }) → IsOf b (record { table = table; view = w })
-searched_of b table v w r NoneLeft busy d o = went_of b (record { table = table; view = v }) (record { table = table; view = w }) o refl d.0
-searched_of b table v w r (Ended t) busy d o =
-    let m : Pass = record { table = table; view = d.0 } in worker_on b m (record { table = table; view = w }) r (went_of b (record { table = table; view = v }) m o refl d.1) refl (went_role v d.0 r busy d.1) (Did (Take r t)) d.2
-searched_of b table v w r Found busy d o =
-    let m : Pass = record { table = table; view = d.1 } in worker_on b m (record { table = table; view = w }) r (went_of b (record { table = table; view = v }) m o refl d.2) refl (went_role v d.1 r busy d.2) (Did (Miss r d.0)) d.3
+-- ---- the reply is the one of the history
+
+module _ (v w : View) (r : Req) (u : Wanted) (busy : v.role ≡ Busy r) (unhit : hit (events_of v.seen) r ≡ nothing) where
+  -- after a sweep: how many it took
+  pub hunt_swept : (list : List Req) → u.all ≡ true → DidSweep v w r list → DidHunt v w r u list (pos (length list))
+  hunt_swept list all d = record {
+    own = d.own;
+    went = d.went;
+    hits = d.hits;
+    took_is = d.took_is;
+    few = λ one. absurd (true≢false (sym all ∙ one));
+    answers = subst (λ (b : Bool). CancelBy b (events_of w.seen) r (hit (events_of w.seen) r) (pos (length list))) (sym all)
+        (ap (λ (n : ℕ). pos n) (ap (λ (l : List Req). length l) d.took_is ∙ (sym (tally_taken r r.k d.own d.hits) ∙ ap tally (sym (by_hit r v w d.own busy unhit d.went)))), d.tried);
+  }
+
+  one_by : (x : Hit) (res : ℤ) → u.all ≡ false → hit (events_of w.seen) r ≡ x → CancelAnswers (events_of w.seen) r x res → CancelBy u.all (events_of w.seen) r (hit (events_of w.seen) r) res
+  one_by x res one is a = subst (λ (z : Bool × Hit). CancelBy z.0 (events_of w.seen) r z.1 res) (λ i. (sym one i, sym is i)) a
+
+  hit_after : (m : View) (e : Event) → WentOn v m → Extends m (Did e) (Busy r) w → hit (events_of w.seen) r ≡ hits e r nothing
+  hit_after m e d x = did_hit m w r e (went_role v m r busy d) x ∙ ap (hits e r) (went_hit v m r busy d ∙ unhit)
+
+  -- after a search
+  pub hunt_searched : (q : Searched) (res : ℤ) (list : List Req) → u.all ≡ false → DidSearch v w r q → Told q res list → DidHunt v w r u list res
+  hunt_searched NoneLeft res list one d t = record {
+    own = [];
+    went = d.0;
+    hits = tt;
+    took_is = t.1;
+    few = λ _. omega arith;
+    answers = one_by nothing res one (went_hit v w r busy d.0 ∙ unhit) (t.0, d.1);
+  }
+  hunt_searched (Ended o) res list one d t = record {
+    own = Take r o ∷ [];
+    went = (d.2, w, d.3, d.4, inl refl);
+    hits = (refl, d.0, tt);
+    took_is = t.1;
+    few = λ _. omega arith;
+    answers = one_by (took o nothing) res one (hit_after d.2 (Take r o) d.3 d.4 ∙ ap (λ (b : Bool). cond b (took o nothing) nothing) (same_itself r)) t.0;
+  }
+  hunt_searched Found res list one d t = record {
+    own = Miss r d.0 ∷ [];
+    went = (d.2, w, d.3, d.4, inl refl);
+    hits = (refl, d.1, tt);
+    took_is = t.1;
+    few = λ _. omega arith;
+    answers = one_by (missed d.0 nothing) res one (hit_after d.2 (Miss r d.0) d.3 d.4 ∙ ap (λ (b : Bool). cond b (missed d.0 nothing) nothing) (same_itself r)) t.0;
+  }
+
+-- those that it took are fewer than the cells
+pub told_few : (v w : View) (r : Req) (q : Searched) (res : ℤ) (list : List Req) → 0 < cells_in v.layout.cells r.ring → DidSearch v w r q → Told q res list → length list < cells_in v.layout.cells r.ring
+told_few v w r NoneLeft res list some d t = subst (λ (l : List Req). length l < cells_in v.layout.cells r.ring) (sym t.1) some
+told_few v w r (Ended o) res list some d t = subst (λ (l : List Req). length l < cells_in v.layout.cells r.ring) (sym t.1) d.1
+told_few v w r Found res list some d t = subst (λ (l : List Req). length l < cells_in v.layout.cells r.ring) (sym t.1) some
+
+-- it may reply so
+pub may_hunt : (table : TableId) (v w : View) (hand : List (ℕ × Option Thing)) (x g : ℕ) (r : Req) (p : Parcel) (pipes : ℕ) (u : Wanted) (list : List Req) (res : ℤ) → RunsIt table v x g r p pipes → wanted_in (run_as p.sqe).op ≡ Some u → DidHunt v w r u list res
+    → MayReply (w, (slot_at x, Some (Full p)) ∷ hand) x (request_at w.layout.cells x g) (run_as p.sqe) res []
+may_hunt table v w hand x g r p pipes u list res k wants h =
+    plain_may table (w, (slot_at x, Some (Full p)) ∷ hand) x g r p pipes (by_runs r table v w h.own x g p pipes k h.went) res refl (cancel_past (op_run p.sqe.op) u (length w.layout.caps) wants)
+    (cancel_answers w.layout.caps (events_of w.seen) r (op_run p.sqe.op) u res wants h.answers)
 
 -- and one step more, for the reply
 one_more : (b : Bool) (n : ℕ) → n ≤ 3 → cond b 1 0 + n ≤ 4

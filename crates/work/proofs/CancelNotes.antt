@@ -30,7 +30,7 @@ abbrev pub asked : Wanted → Entry → Bool
 asked w e = (e.user_data == w.user_data) && is_kind w.timeout e.op
 
 asks_as : (o : Op) (w : Wanted) (e : Entry) → wanted_in o ≡ Some w → asks_for o e ≡ asked w e
-asks_as (AsyncCancel u) w e is = ap (λ (z : Wanted). asked z e) (wanted_of _ w is) where
+asks_as (AsyncCancel u all) w e is = ap (λ (z : Wanted). asked z e) (wanted_of _ w is) where
   wanted_of : (a b : Wanted) → Some a ≡ Some b → a ≡ b
   wanted_of a b e = cc
 asks_as (TimeoutRemove u) w e is = ap (λ (z : Wanted). asked z e) (wanted_of _ w is) where

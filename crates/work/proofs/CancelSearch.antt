@@ -1,5 +1,5 @@
 -- A worker that runs a cancel goes from one earlier request to the next: what it knows stays, and what it finds out.
-use Rattle.std.proofs.Common.{◌≡◌, ◌≢◌, ◌⊎◌, ⊎_elim, inl, inr, ℕ, ◌+◌, ◌<◌, ◌≤◌, ◌==◌, not, Bool, true, false, cond, negsuc, List, [], ◌∷◌, ◌++◌, sym, refl, ap, ◌∙◌, subst, arith, true≢false, eqb-true, length, length-append}
+use Rattle.std.proofs.Common.{◌≡◌, ◌≢◌, ◌⊎◌, ⊎_elim, inl, inr, ℕ, ◌+◌, ◌<◌, ◌≤◌, ◌==◌, not, Bool, true, false, cond, negsuc, List, [], ◌∷◌, ◌++◌, Some, sym, refl, ap, ◌∙◌, subst, arith, true≢false, eqb-true, length, length-append}
 use Rattle.std.proofs.Math.Bool.{and-false}
 use mathlib.Core.Logic.{dite}
 use native.Mathlib.Decide.{ℕ_discrete}
@@ -8,39 +8,36 @@ use Rattle.atomic_table.specs.Seated.{TableId}
 use Rattle.claim.specs.declared.tag.Tag.{Tag}
 use Rattle.claim.specs.declared.tag.Tag.TheVariants.{Held, Ready, Running, Armed}
 use Rattle.entry.specs.declared.op.Op.{Op}
-use Rattle.entry.specs.declared.op.Op.TheVariants.{Timeout, LinkTimeout}
+use Rattle.entry.specs.declared.op.Op.TheVariants.{AsyncCancel, Timeout, TimeoutRemove, LinkTimeout}
 use Rattle.entry.specs.Entry.{fails, fails_op}
 use Rattle.history.specs.declared.req.Req.{Req}
 use Rattle.history.specs.declared.event.Event.{Event}
-use Rattle.history.specs.History.{Phase, unborn, runs, hit, phase, submits, IsIdle, IsReplied}
-use Rattle.history.specs.Answers.{Matches, IsFirst}
-use Rattle.history.specs.Chains.{IsBefore, IsPlaced, is_link_timeout}
+use Rattle.history.specs.History.{Phase, unborn, runs, phase, submits, IsIdle, IsReplied}
+use Rattle.history.specs.Answers.{AimsAt, Matches, MayHit, is_all}
+use Rattle.history.specs.Chains.{IsBefore, is_link_timeout}
 use Rattle.history.specs.Legal.{Setup, Legal}
 use Rattle.history.proofs.Requests.{bool_cases}
 use Rattle.history.proofs.Growth.{born_once}
 use Rattle.steps.specs.declared.line.Line.{Line}
 use Rattle.steps.specs.declared.view.Layout.{Layout}
-use Rattle.steps.specs.declared.view.Role.{Role}
 use Rattle.steps.specs.declared.view.Role.TheVariants.{Busy}
 use Rattle.steps.specs.declared.view.Step.{Step}
 use Rattle.steps.specs.declared.view.View.{View}
-use Rattle.steps.specs.Fairness.{Orderly}
 use Rattle.steps.specs.Journal.{events_of}
 use Rattle.steps.specs.Cells.{IsCell, setup_of, request_at, word_of, claim_at, note_at}
 use Rattle.steps.specs.Plays.{IsIdleWord, is_idle}
-use Rattle.steps.specs.Rule.{IsStep, Looks, NoneOf, Shown}
+use Rattle.steps.specs.Rule.{IsStep, Looks, Shown}
 use Rattle.steps.proofs.ClaimWords.{says_of}
 use Rattle.steps.proofs.EndingIdle.{idle_says}
 use Rattle.steps.proofs.IdleWords.{ready_again, same_again}
-use Rattle.steps.proofs.JournalGrowth.{replied_later, submits_grow}
-use Rattle.steps.proofs.MatchesKept.{placed_on, match_on, match_off}
-use Rattle.steps.proofs.OwnFacts.{same_hit, never_asked}
+use Rattle.steps.proofs.OwnFacts.{never_asked}
 use Rattle.work.specs.declared.cancel.Wanted.{Wanted}
 use Rattle.work.specs.declared.cancel.Target.{Target}
 use Rattle.work.specs.declared.cancel.Tried.{Tried}
 use Rattle.work.specs.declared.cancel.Tried.TheVariants.{Passed, Took, Missed}
-use Rattle.work.specs.Searches.{DidTake, DidTry, WorkerSeat, Cancels, IsEarlier, ArePassed, IsMeant, WentOn, AreAt, StepsIn, steps_at, target_in}
-use Rattle.work.proofs.PassesKept.{looks_both}
+use Rattle.work.specs.Searches.{DidTake, DidTry, WorkerSeat, Cancels, IsEarlier, IsMeant, MayAim, AreAt, StepsIn, steps_at, target_in, wanted_in}
+use Rattle.work.proofs.CancelGrowth.{aim_on, cancels_grown, grown_look, meant_on, went_later}
+use Rattle.work.proofs.RunsKept.{same_hit_looked}
 
 -- a worker runs one request
 pub same_cancel : (table : TableId) (s : WorkerSeat) (c d : Req) (w u : Wanted) → Cancels table s c w → Cancels table s d u → c ≡ d
@@ -50,42 +47,8 @@ same_cancel table s c d w u a b = one c d (sym a.busy ∙ b.busy) where
 
 -- ---- what the worker knows stays while it looks
 
-module _ (v w : View) (c : Req) (busy : v.role ≡ Busy c) (x : Looks v w) where
-  abbrev S : Setup
-  S = setup_of v.layout
-
-  pub seen_now : w.seen ≡ x.saw.later ++ v.seen
-  seen_now = ap (λ (z : View). z.seen) x.is ∙ x.saw.is
-
-  pub legal_on : Legal S (events_of (x.saw.later ++ v.seen))
-  legal_on = subst (λ (j : List Line). Legal S (events_of j)) x.saw.is x.legal
-
-  pub replied_on : (q : Req) → IsReplied (phase (events_of v.seen) q) → IsReplied (phase (events_of w.seen) q)
-  replied_on q d = subst (λ (j : List Line). IsReplied (phase (events_of j) q)) (sym seen_now) (replied_later S x.saw.later v.seen q legal_on d)
-
-  pub born_on : (q : Req) → q.k < submits (events_of v.seen) q.ring → phase (events_of w.seen) q ≢ unborn
-  born_on q lt = subst (λ (j : List Line). phase (events_of j) q ≢ unborn) (sym seen_now) (born_once S (events_of (x.saw.later ++ v.seen)) q legal_on (let g = submits_grow S x.saw.later v.seen q.ring in omega arith))
-
-  module _ (born : c.k < submits (events_of v.seen) c.ring) where
-    pub passed_on : (k : ℕ) → ArePassed v c k → ArePassed w c k
-    passed_on k p t m lt = replied_on t (p t (match_off S x.saw.later v.seen legal_on c born t (subst (λ (j : List Line). Matches (events_of j) c t) seen_now m)) lt)
-
-    pub meant_on : (q : Req) → IsMeant v c q → IsMeant w c q
-    meant_on q m = ⊎_elim (λ (y : Matches (events_of v.seen) c q). inl (subst (λ (j : List Line). Matches (events_of j) c q) (sym seen_now) (match_on S x.saw.later v.seen legal_on c born q y))) (λ (d : IsReplied (phase (events_of v.seen) q)). inr (replied_on q d)) m
-
 pub cancels_looked : (table : TableId) (s t : WorkerSeat) (c : Req) (w : Wanted) → Cancels table s c w → Looks s.me.0 t.me.0 → t.table_id ≡ s.table_id → Cancels table t c w
-cancels_looked table s t c w k x same =
-    let v : View = s.me.0 in let seen = seen_now v t.me.0 c k.busy x in let legal = legal_on v t.me.0 c k.busy x in let layout : t.me.0.layout ≡ v.layout = ap (λ (z : View). z.layout) x.is in record {
-      table_is = same ∙ k.table_is;
-      busy = ap (λ (z : View). z.role) x.is ∙ k.busy;
-      unhit = ap (λ (j : List Line). hit (events_of j) c) seen ∙ (same_hit c x.saw.later v.seen (subst (λ (z : Role). NoneOf z x.saw.later) k.busy x.saw.none) ∙ k.unhit);
-      born = subst (λ (j : List Line). c.k < submits (events_of j) c.ring) (sym seen) (let g = submits_grow (setup_of v.layout) x.saw.later v.seen c.ring in let b = k.born in omega arith);
-      entry = k.entry;
-      placed_is = subst (λ (j : List Line). IsPlaced (events_of j) c k.entry) (sym seen) (placed_on (setup_of v.layout) x.saw.later v.seen legal c k.born ∙ k.placed_is);
-      asks = k.asks;
-      legal = subst (λ (z : Layout × List Line). Legal (setup_of z.0) (events_of z.1)) (λ i. (sym layout i, sym seen i)) legal;
-      orderly = subst (λ (z : Layout × List Line). Orderly z.0 z.1) (λ i. (sym layout i, sym seen i)) (subst (λ (j : List Line). Orderly v.layout j) x.saw.is x.orderly);
-    }
+cancels_looked table s t c w k x same = cancels_grown table s t c w k (grown_look s.me.0 t.me.0 c k.busy x) same
 
 pub target_looked : (s t : WorkerSeat) (x : Target) → Looks s.me.0 t.me.0 → target_in t x ≡ target_in s x
 target_looked s t x l = ap (λ (z : View). request_at z.layout.cells x.cell x.generation) l.is
@@ -97,37 +60,25 @@ earlier_looked table s t c x e l same = let layout : t.me.0.layout ≡ s.me.0.la
   before = subst (λ (q : Req). IsBefore q c) (sym (target_looked s t x l)) e.before;
 }
 
-pub passed_looked : (table : TableId) (s t : WorkerSeat) (c : Req) (w : Wanted) (x : Target) → Cancels table s c w → Looks s.me.0 t.me.0 → ArePassed s.me.0 c (target_in s x).k → ArePassed t.me.0 c (target_in t x).k
-passed_looked table s t c w x k l p = subst (λ (q : Req). ArePassed t.me.0 c q.k) (sym (target_looked s t x l)) (passed_on s.me.0 t.me.0 c k.busy l k.born (target_in s x).k p)
+pub aim_looked : (table : TableId) (s t : WorkerSeat) (c : Req) (w : Wanted) (x : Target) → Cancels table s c w → Looks s.me.0 t.me.0 → MayAim w.all s.me.0 c (target_in s x) → MayAim w.all t.me.0 c (target_in t x)
+aim_looked table s t c w x k l a =
+    subst (λ (q : Req). MayAim w.all t.me.0 c q) (sym (target_looked s t x l)) (aim_on s.me.0 t.me.0 c (grown_look s.me.0 t.me.0 c k.busy l) k.born w.all (target_in s x) (same_hit_looked s.me.0 t.me.0 c k.busy l) a)
 
 pub meant_looked : (table : TableId) (s t : WorkerSeat) (c : Req) (w : Wanted) (x : Target) → Cancels table s c w → Looks s.me.0 t.me.0 → IsMeant s.me.0 c (target_in s x) → IsMeant t.me.0 c (target_in t x)
-meant_looked table s t c w x k l m = subst (λ (q : Req). IsMeant t.me.0 c q) (sym (target_looked s t x l)) (meant_on s.me.0 t.me.0 c k.busy l k.born (target_in s x) m)
+meant_looked table s t c w x k l m = subst (λ (q : Req). IsMeant t.me.0 c q) (sym (target_looked s t x l)) (meant_on s.me.0 t.me.0 c (grown_look s.me.0 t.me.0 c k.busy l) k.born (target_in s x) m)
 
 -- ---- what a worker did after it saw more
-
-pub went_later : (u v w : View) → Looks u v → WentOn v w → WentOn u w
-went_later u v w x d = inr (⊎_elim (λ (e : w ≡ v). subst (Looks u) (sym e) x) (λ (y : Looks v w). looks_both u v w x y) d)
 
 pub take_later : (u v w : View) (c q : Req) (t : Tried) → Looks u v → DidTake v w c q t → DidTake u w c q t
 take_later u v w c q Passed x d = (went_later u v w x d.0, d.1)
 take_later u v w c q Took x d = (d.0, went_later u v d.0 x d.1, d.2)
 take_later u v w c q Missed x d = (d.0, went_later u v d.0 x d.1, d.2)
 
--- all matches before the request q of the ring have replied, and so has q where it is one
-passed_next : (v : View) (c q : Req) → q.ring ≡ c.ring → ArePassed v c q.k → (Matches (events_of v.seen) c q → IsReplied (phase (events_of v.seen) q)) → ArePassed v c (q.k + 1)
-passed_next v c q ring p done t m lt = dite (ℕ_discrete t.k q.k)
-    (λ (e : t.k ≡ q.k). let same' : t ≡ q = (λ i. record { ring = (m.0.0 ∙ sym ring) i; k = e i }) in subst (λ (z : Req). IsReplied (phase (events_of v.seen) z)) (sym same') (done (subst (Matches (events_of v.seen) c) same' m)))
-    (λ (ne : t.k ≢ q.k). p t m (omega arith))
-
-module _ (table : TableId) (s : WorkerSeat) (c : Req) (w : Wanted) (x : Target) (k : Cancels table s c w) (e : IsEarlier table s c x) (p : ArePassed s.me.0 c (target_in s x).k) where
-  -- it isn't meant for the request
-  pub try_passed : (v : View) → Looks s.me.0 v → (Matches (events_of v.seen) c (target_in s x) → IsReplied (phase (events_of v.seen) (target_in s x))) → DidTry s.me.0 v c (target_in s x) Passed
-  try_passed v l done = (inr l, passed_next v c (target_in s x) e.before.0 (passed_on s.me.0 v c k.busy l k.born (target_in s x).k p) done)
-
-  pub try_taken : (v : View) (t : Tried) → DidTake s.me.0 v c (target_in s x) t → DidTry s.me.0 v c (target_in s x) t
-  try_taken v Passed d = (d.0, passed_next v c (target_in s x) e.before.0 (⊎_elim (λ (is : v ≡ s.me.0). subst (λ (z : View). ArePassed z c (target_in s x).k) (sym is) p) (λ (l : Looks s.me.0 v). passed_on s.me.0 v c k.busy l k.born (target_in s x).k p) d.0) (λ _. d.1))
-  try_taken v Took d = d
-  try_taken v Missed d = d
+-- what has replied needs no more
+pub try_taken : (v w : View) (c q : Req) (t : Tried) → DidTake v w c q t → DidTry v w c q t
+try_taken v w c q Passed d = (d.0, λ _. d.1)
+try_taken v w c q Took d = d
+try_taken v w c q Missed d = d
 
 -- ---- the exchange at the request that it is meant for
 
@@ -152,12 +103,26 @@ word_open K j x g found shown f is = ⊎_elim
       open_by (Rattle.history.specs.History.armed n) i d = d
       open_by p i d = i
 
-module _ (table : TableId) (s : WorkerSeat) (c : Req) (w : Wanted) (t : Target) (k : Cancels table s c w) (e : IsEarlier table s c t) (p : ArePassed s.me.0 c (target_in s t).k) (m : IsMeant s.me.0 c (target_in s t)) (open' : ¬ IsReplied (phase (events_of s.me.0.seen) (target_in s t))) where
+-- what it asks for tells whether it means all its matches
+pub all_wanted : (o : Op) (w : Wanted) → wanted_in o ≡ Some w → is_all o ≡ w.all
+all_wanted (AsyncCancel u all) w is = by (record { user_data = u; timeout = false; all = all }) w is where
+  by : (a b : Wanted) → Some a ≡ Some b → a.all ≡ b.all
+  by a b e = cc
+all_wanted (TimeoutRemove u) w is = by (record { user_data = u; timeout = true; all = false }) w is where
+  by : (a b : Wanted) → Some a ≡ Some b → a.all ≡ b.all
+  by a b e = cc
+all_wanted o w is = absurd (let z = is in cc)
+
+module _ (table : TableId) (s : WorkerSeat) (c : Req) (w : Wanted) (t : Target) (k : Cancels table s c w) (m : IsMeant s.me.0 c (target_in s t)) (open' : ¬ IsReplied (phase (events_of s.me.0.seen) (target_in s t))) where
   pub is_match : Matches (events_of s.me.0.seen) c (target_in s t)
   is_match = ⊎_elim (λ (y : Matches (events_of s.me.0.seen) c (target_in s t)). y) (λ d. absurd (open' d)) m
 
-  pub is_first : IsFirst (events_of s.me.0.seen) c (target_in s t)
-  is_first = record { matches = is_match; unanswered = open'; first = λ q y lt. p q y lt }
+  aims_by : (all : Bool) → MayAim all s.me.0 c (target_in s t) → AimsAt all (events_of s.me.0.seen) c (target_in s t)
+  aims_by true a = (is_match, a)
+  aims_by false a = (a.0, record { matches = is_match; unanswered = open'; first = λ q y lt. a.1 q y lt })
+
+  pub may_hit : MayAim w.all s.me.0 c (target_in s t) → MayHit (events_of s.me.0.seen) c (target_in s t)
+  may_hit a = (k.entry, k.placed_is, subst (λ (b : Bool). AimsAt b (events_of s.me.0.seen) c (target_in s t)) (sym (all_wanted k.entry.op w k.asks)) (aims_by w.all a))
 
 -- the target was submitted
 pub target_born : (table : TableId) (s : WorkerSeat) (c : Req) (w : Wanted) (t : Target) → Cancels table s c w → IsEarlier table s c t → ((target_in s t).k < submits (events_of s.me.0.seen) (target_in s t).ring) × (phase (events_of s.me.0.seen) (target_in s t) ≢ unborn)

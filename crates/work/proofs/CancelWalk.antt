@@ -1,56 +1,53 @@
--- A cancel goes over the earlier requests of its ring that can still have a cell: those before the next one have replied where they match, and each cell was visited once.
+-- A cancel goes over the earlier requests of its ring that can still have a cell, and visits each cell once. Its search for one target has come past those matches that have replied.
 use Rattle.std.proofs.Common.{◌≡◌, ◌≢◌, ◌⊎◌, ⊎_elim, inl, ℕ, ◌+◌, ◌*◌, ◌-◌, ◌<◌, ◌≤◌, ◌==◌, Bool, true, false, cond, true≢false, List, [], ◌∷◌, ◌++◌, length, length-append, sym, refl, ap, ◌∙◌, subst, arith, eqb-true}
 use mathlib.Core.Logic.{dite}
 use native.Mathlib.Decide.{ℕ_discrete}
 use Rattle.std.proofs.lemmas.List.{append_assoc}
 use Rattle.atomic_table.specs.Seated.{TableId}
 use Rattle.history.specs.declared.req.Req.{Req}
-use Rattle.history.specs.Answers.{NoneLeft}
-use Rattle.history.specs.Chains.{IsBefore, IsPlaced}
-use Rattle.history.specs.History.{hit, nothing, phase, submits, IsReplied}
-use Rattle.history.specs.Legal.{Legal}
+use Rattle.history.specs.Answers.{Matches, NoneLeft}
+use Rattle.history.specs.Chains.{IsBefore}
+use Rattle.history.specs.History.{hit, nothing, phase, IsReplied}
 use Rattle.history.proofs.Requests.{bool_cases}
 use Rattle.steps.specs.declared.view.Layout.{Layout}
-use Rattle.steps.specs.declared.view.Role.TheVariants.{Busy}
 use Rattle.steps.specs.declared.view.Step.{Step}
 use Rattle.steps.specs.declared.view.View.{View}
-use Rattle.steps.specs.Fairness.{IsReaped, Orderly}
+use Rattle.steps.specs.Fairness.{IsReaped}
 use Rattle.steps.specs.Journal.{events_of}
-use Rattle.steps.specs.Cells.{IsCell, cells_in, claim_at, facts_at, user_at, place_of, ring_of, request_at, setup_of, total}
-use Rattle.steps.specs.Rule.{Looks}
+use Rattle.steps.specs.Cells.{IsCell, cells_in, claim_at, facts_at, user_at, place_of, ring_of, request_at, total}
 use Rattle.steps.proofs.CellNumbers.{one_row}
 use Rattle.steps.proofs.MatchesKept.{gone_before}
 use Rattle.work.specs.declared.cancel.Target.{Target}
+use Rattle.work.specs.declared.cancel.Tried.TheVariants.{Passed}
 use Rattle.work.specs.declared.cancel.Wanted.{Wanted}
 use Rattle.work.specs.Passes.{IsGridOf}
-use Rattle.work.specs.Searches.{WorkerSeat, ArePassed, AreAt, Cancels, FewSteps, IsEarlier, StepsIn, WentOn, steps_at, target_in}
-use Rattle.work.proofs.CancelSearch.{cancels_looked, steps_both, went_later}
+use Rattle.work.specs.Searches.{WorkerSeat, ArePassed, AreAt, Cancels, DidTry, FewSteps, IsEarlier, MayAim, StepsIn, WentOn, steps_at, target_in}
+use Rattle.work.proofs.CancelGrowth.{Grown, cancels_grown, grown_went, passed_on, went_both, went_hit}
+use Rattle.work.proofs.CancelSearch.{steps_both}
 
 abbrev pub in_ring : ℕ → ℕ → Req
 in_ring ring k = record { ring = ring; k = k }
 
--- the search for c has come to the request k; of each cell of one from there on no claim word was visited
-pub record Searching (v w : View) (c : Req) (first k : ℕ) : Type 0 where
+-- the cancel c has come to the request k; of each cell of one from there on no claim word was visited
+pub record Walked (v w : View) (c : Req) (first k : ℕ) : Type 0 where
   pub low : first ≤ k
-  pub went : WentOn v w
-  pub passed : ArePassed w c k
   pub steps : List Step
   pub is : w.steps ≡ steps ++ v.steps
   pub few : (x : ℕ) → steps_at (claim_at x) steps ≤ 3
   pub most : length steps ≤ 5 * (k - first)
   pub left : (x g m : ℕ) → request_at v.layout.cells x g ≡ in_ring c.ring m → k ≤ m → m < c.k → steps_at (claim_at x) steps ≡ 0
 
+-- and so has its search for one target: it did nothing yet, and all matches before k have replied
+pub record Searching (v w : View) (c : Req) (first k : ℕ) : Type 0 where
+  pub walked : Walked v w c first k
+  pub went : WentOn v w
+  pub passed : ArePassed w c k
+
 -- ---- where it begins
 
-reaped_done : (p : Rattle.history.specs.History.Phase) → IsReaped p → IsReplied p
-reaped_done (Rattle.history.specs.History.reaped c res) r = tt
-reaped_done p r = absurd r
-
-pub searching_first : (table : TableId) (s : WorkerSeat) (c : Req) (u : Wanted) (first : ℕ) → Cancels table s c u → first ≡ c.k - (cells_in s.me.0.layout.cells c.ring - 1) → 0 < cells_in s.me.0.layout.cells c.ring → Searching s.me.0 s.me.0 c first first
-searching_first table s c u first k is some = record {
+pub walked_first : (v : View) (c : Req) (first : ℕ) → Walked v v c first first
+walked_first v c first = record {
   low = omega arith;
-  went = inl refl;
-  passed = λ t m lt. reaped_done _ (gone_before s.me.0.layout s.me.0.seen t c k.legal k.orderly k.born m.0.0 (let a : t.k < first = lt in omega arith));
   steps = [];
   is = refl;
   few = λ x. omega arith;
@@ -58,52 +55,44 @@ searching_first table s c u first k is some = record {
   left = λ x g m e le lt. refl;
 }
 
+reaped_done : (p : Rattle.history.specs.History.Phase) → IsReaped p → IsReplied p
+reaped_done (Rattle.history.specs.History.reaped c res) r = tt
+reaped_done p r = absurd r
+
+-- those that have no cell any more have replied
+pub passed_first : (table : TableId) (s : WorkerSeat) (c : Req) (u : Wanted) (first : ℕ) → Cancels table s c u → first ≡ c.k - (cells_in s.me.0.layout.cells c.ring - 1) → 0 < cells_in s.me.0.layout.cells c.ring → ArePassed s.me.0 c first
+passed_first table s c u first k is some = λ t m lt. reaped_done _ (gone_before s.me.0.layout s.me.0.seen t c k.legal k.orderly k.born m.0.0 (let a : t.k < first = lt in omega arith))
+
+pub searching_first : (table : TableId) (s : WorkerSeat) (c : Req) (u : Wanted) (first : ℕ) → Cancels table s c u → first ≡ c.k - (cells_in s.me.0.layout.cells c.ring - 1) → 0 < cells_in s.me.0.layout.cells c.ring → Searching s.me.0 s.me.0 c first first
+searching_first table s c u first k is some = record { walked = walked_first s.me.0 c first; went = inl refl; passed = passed_first table s c u first k is some }
+
 -- ---- what is known where it has come to
 
-went_layout : (v w : View) → WentOn v w → w.layout ≡ v.layout
-went_layout v w d = ⊎_elim (λ (e : w ≡ v). ap (λ (z : View). z.layout) e) (λ (x : Looks v w). ap (λ (z : View). z.layout) x.is) d
-
-pub went_both : (u v w : View) → WentOn u v → WentOn v w → WentOn u w
-went_both u v w a b = ⊎_elim (λ (e : v ≡ u). subst (λ (z : View). WentOn z w) e b) (λ (x : Looks u v). went_later u v w x b) a
-
-pub went_cancels : (table : TableId) (s t : WorkerSeat) (c : Req) (u : Wanted) → Cancels table s c u → WentOn s.me.0 t.me.0 → t.table_id ≡ s.table_id → Cancels table t c u
-went_cancels table s t c u k d same' = ⊎_elim
-    (λ (e : t.me.0 ≡ s.me.0). record {
-      table_is = same' ∙ k.table_is;
-      busy = subst (λ (z : View). z.role ≡ Busy c) (sym e) k.busy;
-      unhit = subst (λ (z : View). hit (events_of z.seen) c ≡ nothing) (sym e) k.unhit;
-      born = subst (λ (z : View). c.k < submits (events_of z.seen) c.ring) (sym e) k.born;
-      entry = k.entry;
-      placed_is = subst (λ (z : View). IsPlaced (events_of z.seen) c k.entry) (sym e) k.placed_is;
-      asks = k.asks;
-      legal = subst (λ (z : View). Legal (setup_of z.layout) (events_of z.seen)) (sym e) k.legal;
-      orderly = subst (λ (z : View). Orderly z.layout z.seen) (sym e) k.orderly;
-    })
-    (λ (x : Looks s.me.0 t.me.0). cancels_looked table s t c u k x same') d
-
-module _ (table : TableId) (K : List ℕ) (s t : WorkerSeat) (c : Req) (u : Wanted) (first k y h : ℕ) (known : Cancels table s c u) (grid : IsGridOf table K s.me.0) (now : Searching s.me.0 t.me.0 c first k) (same : t.table_id ≡ s.table_id) (lt : k < c.k)
-    (inside : IsCell K y) (at : request_at K y h ≡ in_ring c.ring k) (low : y < 16384) (small : h < 16777216) where
-  abbrev pub target_at : Target
-  target_at = record { cell = y; generation = h }
-
+module _ (table : TableId) (K : List ℕ) (s t : WorkerSeat) (c : Req) (u : Wanted) (k : ℕ) (x : Target) (known : Cancels table s c u) (grid : IsGridOf table K s.me.0) (grown : Grown s.me.0 t.me.0 c) (same : t.table_id ≡ s.table_id) (lt : k < c.k)
+    (fits : IsCell K x.cell × (x.cell < 16384) × (x.generation < 16777216)) (at : request_at K x.cell x.generation ≡ in_ring c.ring k) where
   cells_now : t.me.0.layout.cells ≡ K
-  cells_now = ap (λ (L : Layout). L.cells) (went_layout s.me.0 t.me.0 now.went) ∙ grid.cells_are
+  cells_now = ap (λ (L : Layout). L.cells) grown.layout_is ∙ grid.cells_are
 
-  pub target_now : target_in t target_at ≡ in_ring c.ring k
-  target_now = ap (λ (L : List ℕ). request_at L y h) cells_now ∙ at
+  pub target_now : target_in t x ≡ in_ring c.ring k
+  target_now = ap (λ (L : List ℕ). request_at L x.cell x.generation) cells_now ∙ at
 
   pub cancels_now : Cancels table t c u
-  cancels_now = went_cancels table s t c u known now.went same
+  cancels_now = cancels_grown table s t c u known grown same
 
-  pub earlier_now : IsEarlier table t c target_at
+  pub earlier_now : IsEarlier table t c x
   earlier_now = record {
-    fits = (same ∙ known.table_is, low, subst (λ (L : List ℕ). IsCell L y) (sym cells_now) inside, (let z : y < total K = inside in let w = grid.wide in omega arith));
-    small = small;
+    fits = (same ∙ known.table_is, fits.1, subst (λ (L : List ℕ). IsCell L x.cell) (sym cells_now) fits.0, (let z : x.cell < total K = fits.0 in let w = grid.wide in omega arith));
+    small = fits.2;
     before = subst (λ (q : Req). IsBefore q c) (sym target_now) (refl, lt);
   }
 
-  pub passed_now : ArePassed t.me.0 c (target_in t target_at).k
-  passed_now = subst (λ (q : Req). ArePassed t.me.0 c q.k) (sym target_now) now.passed
+module _ (table : TableId) (s t : WorkerSeat) (c : Req) (u : Wanted) (first k : ℕ) (known : Cancels table s c u) (now : Searching s.me.0 t.me.0 c first k) where
+  pub search_grown : Grown s.me.0 t.me.0 c
+  search_grown = grown_went s.me.0 t.me.0 c known.busy known.legal known.orderly now.went
+
+  -- the next request may be the first match that has no reply
+  pub search_aims : u.all ≡ false → hit (events_of s.me.0.seen) c ≡ nothing → (q : Req) → q ≡ in_ring c.ring k → MayAim u.all t.me.0 c q
+  search_aims one unhit q is = subst (λ (b : Bool). MayAim b t.me.0 c q) (sym one) (went_hit s.me.0 t.me.0 c known.busy now.went ∙ unhit, subst (λ (z : Req). ArePassed t.me.0 c z.k) (sym is) now.passed)
 
 -- ---- one request further
 
@@ -135,44 +124,56 @@ far_cell K x y g h ring k m at_x at_y lt near same' =
     let second : h * n + place_of K x ≡ m = ap (λ (q : Req). q.k) (subst (λ (z : ℕ). request_at K z h ≡ in_ring ring m) (sym same') at_y) in
     apart_by g h n (place_of K x) (m - k) (omega arith) (omega arith) (let d : ℕ = m - k in let d' : d + k ≡ m = omega arith in second ∙ (let a : ℕ = g * n + place_of K x in let a' : a ≡ k = first in let r : m ≡ a + d = omega arith in r))
 
-module _ (table : TableId) (K : List ℕ) (s t n : WorkerSeat) (c : Req) (u : Wanted) (first k y h : ℕ) (known : Cancels table s c u) (cells : s.me.0.layout.cells ≡ K) (now : Searching s.me.0 t.me.0 c first k)
-    (low : first ≤ k) (lt : k < c.k) (near : c.k ≤ first + (cells_in K c.ring - 1)) (some : 0 < cells_in K c.ring) (at : request_at K y h ≡ in_ring c.ring k) where
-  -- another request of the search has another cell
-  not_here : (x g m : ℕ) → request_at s.me.0.layout.cells x g ≡ in_ring c.ring m → k + 1 ≤ m → m < c.k → x ≢ y
-  not_here x g m e le less same' = far_cell K y x h g c.ring k m at (subst (λ (L : List ℕ). request_at L x g ≡ in_ring c.ring m) cells e) (omega arith) (omega arith) (sym same')
+module _ (K : List ℕ) (v t n : View) (c : Req) (first k y h : ℕ) (cells : v.layout.cells ≡ K) (now : Walked v t c first k)
+    (lt : k < c.k) (near : c.k ≤ first + (cells_in K c.ring - 1)) (some : 0 < cells_in K c.ring) (at : request_at K y h ≡ in_ring c.ring k) where
+  -- another request that it goes to has another cell
+  not_here : (x g m : ℕ) → request_at v.layout.cells x g ≡ in_ring c.ring m → k + 1 ≤ m → m < c.k → x ≢ y
+  not_here x g m e le less same' = (let low = now.low in far_cell K y x h g c.ring k m at (subst (λ (L : List ℕ). request_at L x g ≡ in_ring c.ring m) cells e) (omega arith) (omega arith) (sym same'))
 
-  few_more : (steps : StepsIn t.me.0 n.me.0 y 3 5) (x : ℕ) → steps_at (claim_at x) (steps.steps ++ now.steps) ≤ 3
+  few_more : (steps : StepsIn t n y 3 5) (x : ℕ) → steps_at (claim_at x) (steps.steps ++ now.steps) ≤ 3
   few_more steps x = dite (ℕ_discrete x y)
       (λ (e : x ≡ y). let old : steps_at (claim_at x) now.steps ≡ 0 = subst (λ (z : ℕ). steps_at (claim_at z) now.steps ≡ 0) (sym e) (now.left y h k (subst (λ (L : List ℕ). request_at L y h ≡ in_ring c.ring k) (sym cells) at) (omega arith) lt) in
       let i = steps_both (claim_at x) steps.steps now.steps in let p : steps_at (claim_at x) steps.steps ≤ 3 = subst (λ (z : ℕ). steps_at (claim_at z) steps.steps ≤ 3) (sym e) steps.few in omega arith)
       (λ (ne : x ≢ y). let i = steps_both (claim_at x) steps.steps now.steps in let z = elsewhere x y steps.steps ne steps.at in let q = now.few x in omega arith)
 
-  both_are : (steps : StepsIn t.me.0 n.me.0 y 3 5) → n.me.0.steps ≡ (steps.steps ++ now.steps) ++ s.me.0.steps
-  both_are steps = steps.is ∙ (ap (λ (l : List Step). steps.steps ++ l) now.is ∙ sym (append_assoc steps.steps now.steps s.me.0.steps))
+  both_are : (steps : StepsIn t n y 3 5) → n.steps ≡ (steps.steps ++ now.steps) ++ v.steps
+  both_are steps = steps.is ∙ (ap (λ (l : List Step). steps.steps ++ l) now.is ∙ sym (append_assoc steps.steps now.steps v.steps))
 
-  -- the steps where the search ends here
-  pub few_now : StepsIn t.me.0 n.me.0 y 3 5 → FewSteps s.me.0 n.me.0 3 (5 * (cells_in K c.ring - 1))
+  -- the steps where it ends here
+  pub few_now : StepsIn t n y 3 5 → FewSteps v n 3 (5 * (cells_in K c.ring - 1))
   few_now steps = record {
     steps = steps.steps ++ now.steps;
     is = both_are steps;
     few = λ x. few_more steps x;
-    most = (let i : length (steps.steps ++ now.steps) ≡ length steps.steps + length now.steps = length-append steps.steps now.steps in let p = steps.most in let q = now.most in omega arith);
+    most = (let i : length (steps.steps ++ now.steps) ≡ length steps.steps + length now.steps = length-append steps.steps now.steps in let p = steps.most in let q = now.most in let low = now.low in omega arith);
   }
 
-  pub searching_next : WentOn t.me.0 n.me.0 → ArePassed n.me.0 c (k + 1) → StepsIn t.me.0 n.me.0 y 3 5 → Searching s.me.0 n.me.0 c first (k + 1)
-  searching_next went passed steps = record {
+  pub walked_next : StepsIn t n y 3 5 → Walked v n c first (k + 1)
+  walked_next steps = record {
     low = (let z = now.low in omega arith);
-    went = went_both s.me.0 t.me.0 n.me.0 now.went went;
-    passed = passed;
     steps = steps.steps ++ now.steps;
     is = both_are steps;
     few = λ x. few_more steps x;
-    most = (let i : length (steps.steps ++ now.steps) ≡ length steps.steps + length now.steps = length-append steps.steps now.steps in let p = steps.most in let q = now.most in omega arith);
+    most = (let i : length (steps.steps ++ now.steps) ≡ length steps.steps + length now.steps = length-append steps.steps now.steps in let p = steps.most in let q = now.most in let low = now.low in omega arith);
     left = λ x g m e le less. (let i = steps_both (claim_at x) steps.steps now.steps in let a = elsewhere x y steps.steps (not_here x g m e le less) steps.at in let b = now.left x g m e (let z = le in omega arith) less in omega arith);
   }
 
--- all are passed
-pub few_all : (v w : View) (c : Req) (first n : ℕ) → c.k ≤ first + (n - 1) → Searching v w c first c.k → FewSteps v w 3 (5 * (n - 1))
+-- all matches before the request q of the ring have replied, and so has q where it is one
+passed_next : (v : View) (c q : Req) → q.ring ≡ c.ring → ArePassed v c q.k → (Matches (events_of v.seen) c q → IsReplied (phase (events_of v.seen) q)) → ArePassed v c (q.k + 1)
+passed_next v c q ring p done t m lt = dite (ℕ_discrete t.k q.k)
+    (λ (e : t.k ≡ q.k). let same' : t ≡ q = (λ i. record { ring = (m.0.0 ∙ sym ring) i; k = e i }) in subst (λ (z : Req). IsReplied (phase (events_of v.seen) z)) (sym same') (done (subst (Matches (events_of v.seen) c) same' m)))
+    (λ (ne : t.k ≢ q.k). p t m (omega arith))
+
+pub searching_next : (table : TableId) (s t : WorkerSeat) (n : View) (c : Req) (u : Wanted) (first k : ℕ) → Cancels table t c u → Searching s.me.0 t.me.0 c first k → Walked s.me.0 n c first (k + 1) → DidTry t.me.0 n c (in_ring c.ring k) Passed → Searching s.me.0 n c first (k + 1)
+searching_next table s t n c u first k known now walked d = record {
+  walked = walked;
+  went = went_both s.me.0 t.me.0 n now.went d.0;
+  passed = passed_next n c (in_ring c.ring k) refl (passed_on t.me.0 n c (grown_went t.me.0 n c known.busy known.legal known.orderly d.0) known.born k now.passed) d.1;
+}
+
+-- ---- where it ends
+
+pub few_all : (v w : View) (c : Req) (first n : ℕ) → c.k ≤ first + (n - 1) → Walked v w c first c.k → FewSteps v w 3 (5 * (n - 1))
 few_all v w c first n near now = record { steps = now.steps; is = now.is; few = now.few; most = (let q = now.most in omega arith) }
 
 pub none_left : (v w : View) (c : Req) (first : ℕ) → Searching v w c first c.k → NoneLeft (events_of w.seen) c

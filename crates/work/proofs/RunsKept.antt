@@ -1,5 +1,5 @@
 -- What the single steps of a run come to: which events the pass went on by, how many steps it took, and whose pass it stays.
-use Rattle.std.proofs.Common.{◌≡◌, ℕ, suc, ◌+◌, ◌*◌, ◌<◌, ◌≤◌, ◌&&◌, not, cond, Bool, true, false, ℤ, List, [], ◌∷◌, ◌++◌, length, slice_index, Option, Some, None, sym, refl, ap, ◌∙◌, subst, ⊎_elim, true≢false, ltb-true, eq-eqb, length-append}
+use Rattle.std.proofs.Common.{◌≡◌, ℕ, suc, ◌+◌, ◌*◌, ◌<◌, ◌≤◌, ◌&&◌, not, cond, Bool, true, false, ℤ, List, [], ◌∷◌, ◌++◌, length, slice_index, Option, Some, None, sym, refl, ap, ◌∙◌, subst, ⊎_elim, true≢false, ltb-true, eq-eqb, length-append, arith}
 use Rattle.std.proofs.lemmas.Bool.{cases_eq}
 use Rattle.std.proofs.lemmas.List.{append_assoc}
 use Rattle.atomic_table.specs.Table.{rest, turned}
@@ -13,7 +13,7 @@ use Rattle.entry.specs.declared.op.Op.TheVariants.{Nop, Close, Read, Write, Spli
 use Rattle.entry.specs.Entry.{Entry}
 use Rattle.history.specs.declared.req.Req.{Req}
 use Rattle.history.specs.declared.event.Event.{Event}
-use Rattle.history.specs.declared.event.Event.TheVariants.{Begin}
+use Rattle.history.specs.declared.event.Event.TheVariants.{Begin, Reply}
 use Rattle.history.specs.Answers.{OpAnswers, is_pipe}
 use Rattle.history.specs.Chains.{IsPlaced, is_link_timeout, is_timer, hosts, before_in, placed_behind, placed_from}
 use Rattle.history.specs.History.{submission, Submission, hit, nothing, was_shut}
@@ -43,11 +43,11 @@ use Rattle.steps.proofs.OwnFacts.{same_hit}
 use Rattle.steps.proofs.Submissions.{fits_is}
 use Rattle.steps.proofs.ViewsKept.{layout_after, role_after, parts_after, parcel_after}
 use Rattle.work.specs.Board.{Facts, IsOf, share_of}
-use Rattle.work.specs.Passes.{Pass, Running, Took, RunsIt, IsGridOf, own_of}
+use Rattle.work.specs.Passes.{Pass, Running, Took, HasRoom, IsSpare, RunsIt, IsGridOf, own_of}
 use Rattle.work.specs.Searches.{FewSteps, wanted_in}
 use Rattle.work.specs.declared.cancel.Wanted.{Wanted}
 use Rattle.work.specs.declared.run.Ran.{Ran}
-use Rattle.work.specs.WorkerRuns.{EndsBy, FoundOut, HasStepped, MissedPipe, StepsAt, StepsBy, op_run, run_as}
+use Rattle.work.specs.WorkerRuns.{AreFew, DidReply, EndsBy, FoundOut, HasStepped, MissedPipe, StepsAt, StepsBy, op_run, run_as}
 use Rattle.work.proofs.OwnEvents.{own_append, silent_line}
 use Rattle.work.proofs.PassesKept.{extended_of}
 
@@ -121,6 +121,14 @@ module _ (v m n : View) (r : Req) {events : List Event} (q : Went v m r events) 
     role_is = idle;
   }
 
+-- a run that is no cancel's did nothing before its reply
+few_none : (o : Option Wanted) → AreFew o []
+few_none (Some u) = λ _. omega arith
+few_none None = refl
+
+pub bare_reply : (b : Running) (w : Pass) (res : ℤ) (data' : List ℕ) → EndsBy b.pass.view w.view b.req [] (Reply b.req res data') → w.took ≡ [] → DidReply b w res
+bare_reply b w res d ends none' = record { data' = d; own = []; ends = ends; hits = tt; took_is = none'; few = λ e is. few_none (wanted_in e.op) }
+
 -- one step more
 pub took_none : (v : View) → Took v v 0
 took_none v = ([], refl, refl)
@@ -156,7 +164,7 @@ module _ (b : Facts) (p q : Pass) (r : Req) (o : IsOf b p) (same : q.table ≡ p
 -- also once it has replied and has given its pipes back
 worker_gone : (b : Facts) (p q : Pass) (r : Req) (mid : View) (l : Line) → IsOf b p → q.table ≡ p.table → p.view.role ≡ Busy r → Extends p.view l (Leaving r) mid → q.view.role ≡ Idle → q.view.layout ≡ mid.layout → q.view.parts ≡ mid.parts → q.view.seen ≡ mid.seen → q.view.heard ≡ mid.heard → IsOf b q
 worker_gone b p q r mid l o same busy x idle layout parts seen heard =
-    let m : Pass = record { table = p.table; view = mid } in let k = extended_of b p m l (Leaving r) o (ap (share_of b) (sym busy)) refl x in record {
+    let m : Pass = record { table = p.table; view = mid; took = [] } in let k = extended_of b p m l (Leaving r) o (ap (share_of b) (sym busy)) refl x in record {
       table_is = same ∙ o.table_is;
       layout_is = layout ∙ k.layout_is;
       share_is = parts ∙ (k.share_is ∙ (ap (share_of b) (ap (λ (z : View). z.role) x.is) ∙ ap (share_of b) (sym idle)));
@@ -310,6 +318,10 @@ module _ (v w : View) (r : Req) (busy : v.role ≡ Busy r) where
 pub grid_on : (table : TableId) (K : List ℕ) (v w : View) → w.layout ≡ v.layout → IsGridOf table K v → IsGridOf table K w
 grid_on table K v w same o = record { cells_are = ap (λ (L : Layout). L.cells) same ∙ o.cells_are; wide = o.wide }
 
+-- and so does the room of its list
+pub room_on : (table : TableId) (K : List ℕ) (v w : View) (list : List Req) (room : ℕ) → IsGridOf table K v → w.layout ≡ v.layout → IsSpare K list room → HasRoom w.layout.cells room
+room_on table K v w list room grid same spare = subst (λ (L : List ℕ). HasRoom L room) (sym (ap (λ (L : Layout). L.cells) same ∙ grid.cells_are)) spare.1
+
 -- ---- which pipe an operation names
 
 pub plain_run : (op : Op) → is_timer op ≡ false → wanted_in op ≡ None → is_plain op ≡ true
@@ -322,7 +334,7 @@ plain_run (Splice fd_in fd_out len) t w = refl
 plain_run Invalid t w = refl
 plain_run (Timeout ticks etime_success count) t w = absurd (true≢false t)
 plain_run (LinkTimeout ticks) t w = absurd (true≢false t)
-plain_run (AsyncCancel u) t w = absurd (let z = w in cc)
+plain_run (AsyncCancel u all) t w = absurd (let z = w in cc)
 plain_run (TimeoutRemove u) t w = absurd (let z = w in cc)
 
 -- what is placed is a cancel where what was handed in is one, and names no pipe then
@@ -331,7 +343,7 @@ wanted_run (LinkTimeout ticks) = refl
 wanted_run op = refl
 
 pub piped_plain : (op : Op) (n : ℕ) → uses_at op n ≡ true → wanted_in op ≡ None
-piped_plain (AsyncCancel u) n is = absurd (true≢false (sym is))
+piped_plain (AsyncCancel u all) n is = absurd (true≢false (sym is))
 piped_plain (TimeoutRemove u) n is = absurd (true≢false (sym is))
 piped_plain op n is = refl
 

@@ -1,5 +1,5 @@
 -- What contracts see of a pass, and when it belongs to a board.
-use Rattle.std.specs.Prelude.{◌≡◌, ◌≢◌, ℕ, ◌+◌, ◌<◌, ◌≤◌, cond, true, false, List, [], ◌∷◌, ◌++◌, length, slice_index, Option, Some, None}
+use Rattle.std.specs.Prelude.{◌≡◌, ◌≢◌, ℕ, suc, ◌+◌, ◌<◌, ◌≤◌, cond, true, false, List, [], ◌∷◌, ◌++◌, length, slice_index, Option, Some, None}
 use Rattle.atomic_table.specs.Seated.{TableId}
 use Rattle.atomic_table.specs.declared.shared.Seat.{Seat}
 use Rattle.history.specs.declared.req.Req.{Req}
@@ -20,23 +20,24 @@ use Rattle.steps.specs.declared.view.Step.{Step}
 use Rattle.steps.specs.declared.view.View.{View}
 use Rattle.steps.specs.Fairness.{Orderly}
 use Rattle.steps.specs.Journal.{event_of, events_of, holder}
-use Rattle.steps.specs.Cells.{setup_of, IsCell, request_at, total, claim_at, slot_at, word_of, IsParcel, words_of}
+use Rattle.steps.specs.Cells.{setup_of, IsCell, cells_in, request_at, total, claim_at, slot_at, word_of, IsParcel, words_of}
 use Rattle.steps.specs.Plays.{HasAlone, HasBoth}
 use Rattle.steps.specs.Rule.{owns, IsStep}
 use Rattle.history.specs.Legal.{Legal, IsOf}
 use Rattle.claim.specs.declared.tag.Tag.TheVariants.{Ready}
 
--- the table that a pass is of, and what it knows
+-- the table that a pass is of, what it knows, and, of a worker, which requests its last run took, in the order of their numbers
 pub record Pass : Type 0 where
   pub table : TableId
   pub view : View
+  pub took : List Req
 
 -- what the pass has seen of the history
 abbrev pub seen_of : Pass → List Event
 seen_of p = events_of p.view.seen
 
 abbrev pub pass_of : Seat (Option Thing) View → Pass
-pass_of s = record { table = s.table_id; view = s.me.0 }
+pass_of s = record { table = s.table_id; view = s.me.0; took = [] }
 
 -- the pass is of this table, whose rings have so many cells, and which has so many pipes
 pub record IsOn (table : TableId) (K : List ℕ) (pipes : ℕ) (p : Pass) : Type 0 where
@@ -51,6 +52,14 @@ pub record IsIdleSeat (s : Seat (Option Thing) View) : Type 0 where
   pub role : s.me.0.role ≡ Idle
   pub parts : 0 < s.me.0.parts
   pub bare : s.me.1 ≡ []
+
+-- there is room for all cells of a ring but one, whichever ring it is
+abbrev pub HasRoom : List ℕ → ℕ → Type 0
+HasRoom K room = (i : ℕ) → cells_in K i ≤ suc room
+
+-- a list of requests that is empty, and has that room
+abbrev pub IsSpare : List ℕ → List Req → ℕ → Type 0
+IsSpare K took room = (took ≡ []) × HasRoom K room
 
 -- a messenger's seat: it has no part, no work and no slot
 pub record IsMessengerSeat (s : Seat (Option Thing) View) : Type 0 where
@@ -84,21 +93,23 @@ pub record IsGridOf (table : TableId) (K : List ℕ) (v : View) : Type 0 where
   pub cells_are : v.layout.cells ≡ K
   pub wide : table.words ≡ words_of (total K)
 
--- its seat, with the parcel in hand, and no pipe; if it runs a cancel, that has neither taken a request nor found one running
-pub record IsBusySeat (table : TableId) (K : List ℕ) (s : Seat (Option Thing) View) (x g : ℕ) (r : Req) (p : Parcel) (pipes : ℕ) : Type 0 where
+-- its seat, with the parcel in hand, and no pipe; if it runs a cancel, that has neither taken a request nor found one running, and there is a list for those that it takes
+pub record IsBusySeat (table : TableId) (K : List ℕ) (s : Seat (Option Thing) View) (x g : ℕ) (r : Req) (p : Parcel) (pipes : ℕ) (took : List Req) (room : ℕ) : Type 0 where
   pub table_is : s.table_id ≡ table
   pub grid : IsGridOf table K s.me.0
   pub runs : RunsIt table s.me.0 x g r p pipes
   pub unhit : hit (events_of s.me.0.seen) r ≡ nothing
+  pub spare : IsSpare K took room
   pub out : s.me.1 ≡ (slot_at x, None) ∷ []
   pub bare : (n : ℕ) → holder s.me.0.seen n ≢ Some r
 
 -- the same with a pipe in hand that the entry is answered from, as what was seen tells, and no other
-pub record IsHoldingSeat (table : TableId) (K : List ℕ) (s : Seat (Option Thing) View) (x g : ℕ) (r : Req) (p : Parcel) (pipes n : ℕ) (c : Conduit) : Type 0 where
+pub record IsHoldingSeat (table : TableId) (K : List ℕ) (s : Seat (Option Thing) View) (x g : ℕ) (r : Req) (p : Parcel) (pipes n : ℕ) (c : Conduit) (took : List Req) (room : ℕ) : Type 0 where
   pub table_is : s.table_id ≡ table
   pub grid : IsGridOf table K s.me.0
   pub runs : RunsIt table s.me.0 x g r p pipes
   pub unhit : hit (events_of s.me.0.seen) r ≡ nothing
+  pub spare : IsSpare K took room
   pub out : s.me.1 ≡ (n, None) ∷ (slot_at x, None) ∷ []
   pub alone : HasAlone s.me.0.seen n r
   pub named : (uses_at p.sqe.op n ≡ true) × (n < pipes)
@@ -111,11 +122,12 @@ pub record Holding : Type 0 where
   pub pipe : ℕ
 
 -- the same with both pipes in hand that the entry joins, and no other
-pub record IsJoiningSeat (table : TableId) (K : List ℕ) (s : Seat (Option Thing) View) (x g : ℕ) (r : Req) (p : Parcel) (pipes a b : ℕ) (c d : Conduit) : Type 0 where
+pub record IsJoiningSeat (table : TableId) (K : List ℕ) (s : Seat (Option Thing) View) (x g : ℕ) (r : Req) (p : Parcel) (pipes a b : ℕ) (c d : Conduit) (took : List Req) (room : ℕ) : Type 0 where
   pub table_is : s.table_id ≡ table
   pub grid : IsGridOf table K s.me.0
   pub runs : RunsIt table s.me.0 x g r p pipes
   pub unhit : hit (events_of s.me.0.seen) r ≡ nothing
+  pub spare : IsSpare K took room
   pub out : s.me.1 ≡ (b, None) ∷ (a, None) ∷ (slot_at x, None) ∷ []
   pub both : HasBoth s.me.0.seen a b r
   pub named : UsesBoth p.sqe.op pipes a b

@@ -9,14 +9,15 @@ use Rattle.history.specs.declared.req.Req.{Req}
 use Rattle.history.specs.declared.event.Event.TheVariants.{Take, Miss}
 use Rattle.history.specs.Answers.{Matches, NoneLeft as NoMatchLeft}
 use Rattle.history.specs.Chains.{IsBefore, IsPlaced, is_link_timeout, is_timeout}
-use Rattle.history.specs.History.{hit, nothing, phase, submits, IsReplied}
+use Rattle.history.specs.declared.event.Event.{Event}
+use Rattle.history.specs.History.{hit, nothing, has_missed, phase, submits, IsReplied}
 use Rattle.history.specs.Legal.{Legal}
 use Rattle.steps.specs.declared.line.Line.TheVariants.{Did}
 use Rattle.steps.specs.declared.parcel.Thing.{Thing}
 use Rattle.steps.specs.declared.view.Role.TheVariants.{Busy}
 use Rattle.steps.specs.declared.view.Step.{Step}
 use Rattle.steps.specs.declared.view.View.{View}
-use Rattle.steps.specs.Cells.{setup_of, claim_at, facts_at, user_at, request_at}
+use Rattle.steps.specs.Cells.{setup_of, cells_in, claim_at, facts_at, user_at, request_at}
 use Rattle.steps.specs.Fairness.{Orderly}
 use Rattle.steps.specs.Journal.{events_of}
 use Rattle.steps.specs.Rule.{Extends, Fits, Looks}
@@ -29,8 +30,8 @@ use Rattle.work.specs.declared.cancel.Tried.TheVariants.{Passed, Took, Missed}
 
 -- what the operation asks for, if it is a cancel
 abbrev pub wanted_in : Op → Option Wanted
-wanted_in (AsyncCancel u) = Some (record { user_data = u; timeout = false })
-wanted_in (TimeoutRemove u) = Some (record { user_data = u; timeout = true })
+wanted_in (AsyncCancel u all) = Some (record { user_data = u; timeout = false; all = all })
+wanted_in (TimeoutRemove u) = Some (record { user_data = u; timeout = true; all = false })
 wanted_in _ = None
 
 -- the operations that a cancel may be meant for: TIMEOUTs alone, or any but a LINK_TIMEOUT
@@ -41,11 +42,10 @@ is_kind false op = not (is_link_timeout op)
 abbrev pub WorkerSeat : Type 0
 WorkerSeat = Seat (Option Thing) View
 
--- the seat's worker runs the cancel c, which asks for w and has done nothing yet
+-- the seat's worker runs the cancel c, which asks for w
 pub record Cancels (table : TableId) (s : WorkerSeat) (c : Req) (w : Wanted) : Type 0 where
   pub table_is : s.table_id ≡ table
   pub busy : s.me.0.role ≡ Busy c
-  pub unhit : hit (events_of s.me.0.seen) c ≡ nothing
   pub born : c.k < submits (events_of s.me.0.seen) c.ring
   pub entry : Entry
   pub placed_is : IsPlaced (events_of s.me.0.seen) c entry
@@ -66,6 +66,11 @@ pub record IsEarlier (table : TableId) (s : WorkerSeat) (c : Req) (t : Target) :
 abbrev pub ArePassed : View → Req → ℕ → Type 0
 ArePassed v c k = (t : Req) → Matches (events_of v.seen) c t → t.k < k → IsReplied (phase (events_of v.seen) t)
 
+-- by what the worker of c has seen it may end q or find it running, where q is a match without a reply: a cancel of one target has done nothing yet, and all matches before q have replied; one of all hasn't found q running
+abbrev pub MayAim : Bool → View → Req → Req → Type 0
+MayAim true v c q = has_missed (hit (events_of v.seen) c) q.k ≡ false
+MayAim false v c q = (hit (events_of v.seen) c ≡ nothing) × ArePassed v c q.k
+
 -- c is meant for q, or q has replied
 abbrev pub IsMeant : View → Req → Req → Type 0
 IsMeant v c q = Matches (events_of v.seen) c q ⊎ IsReplied (phase (events_of v.seen) q)
@@ -80,9 +85,9 @@ DidTake v w c q Passed = WentOn v w × IsReplied (phase (events_of w.seen) q)
 DidTake v w c q Took = (m : View) × WentOn v m × Extends m (Did (Take c q)) (Busy c) w
 DidTake v w c q Missed = (m : View) × WentOn v m × Extends m (Did (Miss c q)) (Busy c) w
 
--- the same of a request that the cancel may not be meant for: then all matches up to it have replied
+-- the same of a request that the cancel may not be meant for
 abbrev pub DidTry : View → View → Req → Req → Tried → Type 0
-DidTry v w c q Passed = WentOn v w × ArePassed w c (q.k + 1)
+DidTry v w c q Passed = WentOn v w × (Matches (events_of w.seen) c q → IsReplied (phase (events_of w.seen) q))
 DidTry v w c q t = DidTake v w c q t
 
 -- how many of the steps were at this word
@@ -103,11 +108,16 @@ pub record StepsIn (v w : View) (x n all : ℕ) : Type 0 where
   pub few : steps_at (claim_at x) steps ≤ n
   pub most : length steps ≤ all
 
--- what came of the search of the cancel c: all its matches have replied, or a Take, or a Miss
+-- what came of the search of the cancel c: all its matches have replied, or a Take, or a Miss, of an earlier request, which has another cell
 abbrev pub DidSearch : View → View → Req → Searched → Type 0
 DidSearch v w c NoneLeft = WentOn v w × NoMatchLeft (events_of w.seen) c
-DidSearch v w c (Ended t) = (m : View) × WentOn v m × Extends m (Did (Take c t)) (Busy c) w
-DidSearch v w c Found = (t : Req) × (m : View) × WentOn v m × Extends m (Did (Miss c t)) (Busy c) w
+DidSearch v w c (Ended t) = (t.k < c.k) × (1 < cells_in v.layout.cells c.ring) × (m : View) × WentOn v m × Extends m (Did (Take c t)) (Busy c) w
+DidSearch v w c Found = (t : Req) × (t.k < c.k) × (m : View) × WentOn v m × Extends m (Did (Miss c t)) (Busy c) w
+
+-- the worker of c went on, with these events of its own, the newest first
+abbrev pub WentBy : View → View → Req → List Event → Type 0
+WentBy v w c [] = WentOn v w
+WentBy v w c (e ∷ own) = (m : View) × (n : View) × WentBy v m c own × Extends m (Did e) (Busy c) n × WentOn n w
 
 -- at most n steps at each claim word, and at most so many in all
 pub record FewSteps (v w : View) (n all : ℕ) : Type 0 where

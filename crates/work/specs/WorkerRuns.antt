@@ -1,13 +1,14 @@
 -- What a run does.
-use Rattle.std.specs.Prelude.{◌≡◌, ◌≢◌, ◌⊎◌, ℕ, ◌*◌, ◌<◌, true, ℤ, pos, negsuc, List, [], ◌∷◌, ◌++◌, length, Option, Some, None}
+use Rattle.std.specs.Prelude.{◌≡◌, ◌≢◌, ◌⊎◌, ℕ, ◌*◌, ◌<◌, ◌≤◌, true, false, ℤ, pos, negsuc, List, [], ◌∷◌, ◌++◌, length, Option, Some, None}
 use Rattle.entry.specs.declared.op.Op.{Op}
 use Rattle.entry.specs.declared.op.Op.TheVariants.{LinkTimeout, Invalid}
 use Rattle.entry.specs.Entry.{Entry}
 use Rattle.history.specs.declared.req.Req.{Req}
 use Rattle.history.specs.declared.event.Event.{Event}
 use Rattle.history.specs.declared.event.Event.TheVariants.{Park, Reply, Take, Miss}
-use Rattle.history.specs.Answers.{OpAnswers}
+use Rattle.history.specs.Answers.{AllTried, CancelBy, OpAnswers}
 use Rattle.history.specs.Chains.{IsPlaced}
+use Rattle.history.specs.History.{hit}
 use Rattle.history.specs.Users.{uses_at}
 use Rattle.history.specs.Legal.{Legal}
 use Rattle.answers.specs.declared.named.NamedPipes.{NamedPipes}
@@ -29,7 +30,7 @@ use Rattle.work.specs.declared.cancel.Searched.{Searched}
 use Rattle.work.specs.declared.cancel.Searched.TheVariants.{NoneLeft, Ended, Found}
 use Rattle.work.specs.declared.cancel.Wanted.{Wanted}
 use Rattle.work.specs.Passes.{Pass, Running, Took, seen_of, own_of}
-use Rattle.work.specs.Searches.{FewSteps, wanted_in}
+use Rattle.work.specs.Searches.{FewSteps, WentBy, wanted_in}
 
 -- what a worker runs: of the LINK_TIMEOUTs those alone that have no target, and are placed as Invalid
 abbrev pub op_run : Op → Op
@@ -46,16 +47,46 @@ pub record EndsBy (v w : View) (r : Req) (first : List Event) (e : Event) : Type
   pub own : own_of (Busy r) later ≡ first
   pub role_is : w.role ≡ Idle
 
--- what the run of r did before its reply: where it is a cancel, it took the request that is told, or none, and may have found one running
-abbrev pub IsCaught : Req → Option Req → List Event → Type 0
-IsCaught r (Some t) own = own ≡ Take r t ∷ []
-IsCaught r None own = (own ≡ []) ⊎ ((t : Req) × (own ≡ Miss r t ∷ []))
+-- Takes and Misses of r alone, the newest first: each of a request with a number below k, and below those of the newer ones
+abbrev pub AreHits : Req → ℕ → List Event → Type 0
+AreHits r k [] = Unit {0}
+AreHits r k (Take c t ∷ own) = (c ≡ r) × (t.k < k) × AreHits r t.k own
+AreHits r k (Miss c t ∷ own) = (c ≡ r) × (t.k < k) × AreHits r t.k own
+AreHits r k (e ∷ own) = ⊥
 
--- the reply of a cancel, and the request that it ended, by what came of its search
-abbrev pub Told : Searched → ℤ → Option Req → Type 0
-Told NoneLeft res took = (res ≡ negsuc 1) × (took ≡ None)
-Told (Ended t) res took = (res ≡ pos 0) × (took ≡ Some t)
-Told Found res took = (res ≡ negsuc 113) × (took ≡ None)
+-- the requests that these events took, the oldest event first
+abbrev pub taken_in : List Event → List Req
+taken_in [] = []
+taken_in (Take c t ∷ own) = taken_in own ++ (t ∷ [])
+taken_in (e ∷ own) = taken_in own
+
+-- what is no cancel did none of these, and a cancel of one target at most one
+abbrev pub AreFew : Option Wanted → List Event → Type 0
+AreFew None own = own ≡ []
+AreFew (Some u) own = u.all ≡ false → length own ≤ 1
+
+-- the reply of a cancel of one target, and the requests that it took, by what came of its search
+abbrev pub Told : Searched → ℤ → List Req → Type 0
+Told NoneLeft res took = (res ≡ negsuc 1) × (took ≡ [])
+Told (Ended t) res took = (res ≡ pos 0) × (took ≡ t ∷ [])
+Told Found res took = (res ≡ negsuc 113) × (took ≡ [])
+
+-- the cancel c, of all its matches, took these: each match has replied, or was found running
+pub record DidSweep (v w : View) (c : Req) (took : List Req) : Type 0 where
+  pub own : List Event
+  pub went : WentBy v w c own
+  pub hits : AreHits c c.k own
+  pub took_is : took ≡ taken_in own
+  pub tried : AllTried (events_of w.seen) c (hit (events_of w.seen) c)
+
+-- the cancel c, which asks for u, took these, and may reply so
+pub record DidHunt (v w : View) (c : Req) (u : Wanted) (took : List Req) (res : ℤ) : Type 0 where
+  pub own : List Event
+  pub went : WentBy v w c own
+  pub hits : AreHits c c.k own
+  pub took_is : took ≡ taken_in own
+  pub few : AreFew (Some u) own
+  pub answers : CancelBy u.all (events_of w.seen) c (hit (events_of w.seen) c) res
 
 -- in a legal history between what was seen before and after there was no answer, while the worker had each pipe that the entry is answered from
 pub record NoAnswer (v w : View) (r : Req) (e : Entry) : Type 0 where
@@ -91,19 +122,28 @@ abbrev pub IsReason : View → View → Req → Entry → ℕ → Reason → Typ
 IsReason v w r e p NotReady = NoAnswer v w r e
 IsReason v w r e p PipeBusy = FoundOut v w r p
 
--- a reply is the one that the completion reports, which has the entry's user_data. Before it a cancel may have taken its target, or found it running. What is parked is answered from a pipe of the board
+-- the worker of b replied. Its own events before that are Takes and Misses of its request alone, and it lists which it took
+pub record DidReply (b : Running) (w : Pass) (res : ℤ) : Type 0 where
+  pub data' : List ℕ
+  pub own : List Event
+  pub ends : EndsBy b.pass.view w.view b.req own (Reply b.req res data')
+  pub hits : AreHits b.req b.req.k own
+  pub took_is : w.took ≡ taken_in own
+  pub few : (e : Entry) → IsPlaced (seen_of b.pass) b.req e → AreFew (wanted_in e.op) own
+
+-- a reply is the one that the completion reports, which has the entry's user_data. Before it a cancel may have taken what it is meant for, or found it running. What is parked is answered from a pipe of the board, and took nothing
 abbrev pub IsRun : Running → Pass → Ran → Type 0
-IsRun b w (Replied cqe took) = ((data' : List ℕ) × (own : List Event) × EndsBy b.pass.view w.view b.req own (Reply b.req cqe.res data') × IsCaught b.req took own) × ((e : Entry) → IsPlaced (seen_of b.pass) b.req e → cqe.user_data ≡ e.user_data)
-IsRun b w (Parked why) = EndsBy b.pass.view w.view b.req [] (Park b.req) × ((e : Entry) → IsPlaced (seen_of b.pass) b.req e → (p : ℕ) × (p < length b.pass.view.layout.caps) × (uses_at e.op p ≡ true) × IsReason b.pass.view w.view b.req e p why)
+IsRun b w (Replied cqe) = DidReply b w cqe.res × ((e : Entry) → IsPlaced (seen_of b.pass) b.req e → cqe.user_data ≡ e.user_data)
+IsRun b w (Parked why) = EndsBy b.pass.view w.view b.req [] (Park b.req) × (w.took ≡ []) × ((e : Entry) → IsPlaced (seen_of b.pass) b.req e → (p : ℕ) × (p < length b.pass.view.layout.caps) × (uses_at e.op p ≡ true) × IsReason b.pass.view w.view b.req e p why)
 
 -- the steps of a run that is no cancel's, by the pipes of the board that its entry names. Of two the source is taken first
 abbrev pub StepsAt : NamedPipes → View → View → Req → Ran → Type 0
-StepsAt Nothing v w r (Replied cqe took) = Took v w 1
+StepsAt Nothing v w r (Replied cqe) = Took v w 1
 StepsAt Nothing v w r (Parked why) = ⊥
-StepsAt (One p) v w r (Replied cqe took) = Took v w 3
+StepsAt (One p) v w r (Replied cqe) = Took v w 3
 StepsAt (One p) v w r (Parked NotReady) = Took v w 3
 StepsAt (One p) v w r (Parked PipeBusy) = Took v w 2
-StepsAt (Both s t) v w r (Replied cqe took) = Took v w 5
+StepsAt (Both s t) v w r (Replied cqe) = Took v w 5
 StepsAt (Both s t) v w r (Parked NotReady) = Took v w 5
 StepsAt (Both s t) v w r (Parked PipeBusy) = (Took v w 2 × FoundOut v w r s) ⊎ (Took v w 4 × FoundOut v w r t)
 

@@ -14,11 +14,11 @@ ghost use Rattle.steps.specs.declared.view.Role.TheVariants.{Idle, Busy as RoleB
 ghost use Rattle.steps.specs.Cells.{cells_in, pipe_at, slot_at};
 ghost use Rattle.steps.specs.Rule.{Looks, Extends, IsStep};
 ghost use Rattle.work.specs.Board.{Facts, IsOf};
-ghost use Rattle.work.specs.WorkerRuns.{Told};
 
-use crate::cancel::{self, Searched, Wanted, wanted_of};
+use crate::cancel::{Wanted, wanted_of};
 use crate::grid::Grid;
 use crate::holding::Holding;
+use crate::hunt::hunt;
 use crate::placed::{fails_placed, op_placed};
 use crate::run::{Parked, Ran};
 use crate::worker::Worker;
@@ -39,33 +39,18 @@ pub struct Busy<'a> {
     pub(crate) req: Req,
     pub(crate) parcel: Parcel,
     pub(crate) pipes: usize,
+    pub(crate) took: Vec<Req>,
 }
 
 impl<'a> Model for Busy<'a> {
+    ghost use Rattle.std.specs.Prelude.{vec_capacity};
     ghost use Rattle.work.specs.Passes.{Running, pass_of, IsBusySeat};
 
     ghost Value = { Running };
 
     ghost view = { λ b. record { pass = pass_of b.seat; req = b.req } };
 
-    ghost invariant = { λ b. IsBusySeat b.words.now.table_id b.grid.now b.seat b.cell b.generation b.req b.parcel b.pipes };
-}
-
-/// The reply of a cancel whose target was not found: -ENOENT.
-const NOT_FOUND: i32 = -2;
-
-/// That of one whose target runs: -EALREADY.
-const ALREADY: i32 = -114;
-
-/// The reply of a cancel, and the request that it ended (io_uring_prep_cancel64(3)).
-fn told(searched: Searched) -> (i32, Option<Req>)
-    ensures { Told searched result.0 result.1 }
-{
-    match searched {
-        Searched::NoneLeft => (NOT_FOUND, None),
-        Searched::Ended(target) => (0, Some(target)),
-        Searched::Found => (ALREADY, None),
-    }
+    ghost invariant = { λ b. IsBusySeat b.words.now.table_id b.grid.now b.seat b.cell b.generation b.req b.parcel b.pipes b.took.items (vec_capacity b.took) };
 }
 
 /// Puts the parcel back into the slot that the seat has.
@@ -83,11 +68,12 @@ pub(crate) fn put_back(words: &Words, seat: &mut TableSeat, cell: usize, parcel:
 impl<'a> Busy<'a> {
     ghost use Rattle.work.specs.Passes.{Took, seen_of};
     ghost use Rattle.work.specs.Searches.{FewSteps, wanted_in};
-    ghost use Rattle.work.specs.WorkerRuns.{EndsBy, HasStepped, StepsAt, IsCaught, IsRun, MissedPipe};
+    ghost use Rattle.work.specs.WorkerRuns.{AreFew, AreHits, EndsBy, HasStepped, StepsAt, IsRun, MissedPipe, taken_in};
 
     /// Puts the request back to Ready.
     pub fn park(self) -> Worker
         ensures kept { (b : Facts) → IsOf b self.entry.pass → IsOf b result }
+        ensures took { result.took ≡ [] }
         ensures steps { Took self.entry.pass.view result.view 1 }
         ensures parked { (result.table ≡ self.entry.pass.table) × Extends self.entry.pass.view (Did (Park self.entry.req)) Idle result.view }
     {
@@ -100,10 +86,11 @@ impl<'a> Busy<'a> {
             req: _,
             parcel,
             pipes: _,
+            took,
         } = self;
         put_back(words, &mut seat, cell, parcel);
         seat::park(words, &mut seat, cell, generation);
-        Worker::new(seat)
+        Worker::new(seat, took)
     }
 
     /// Answers the request, which is no cancel and is answered from no pipe of the board.
@@ -111,6 +98,7 @@ impl<'a> Busy<'a> {
         requires plain { (e : Entry) → IsPlaced (seen_of self.pass) self.req e → wanted_in e.op ≡ None }
         requires past { (e : Entry) → IsPlaced (seen_of self.pass) self.req e → UsesNone e.op (length self.pass.view.layout.caps) }
         ensures table { result.0.table ≡ self.entry.pass.table }
+        ensures took { result.0.took ≡ [] }
         ensures step { (found : ℕ) × (word : ℕ) × IsStep word found self.entry.pass.view result.0.view }
         ensures replied { Extends self.entry.pass.view (Did (Reply self.entry.req result.1.res [])) Idle result.0.view }
         ensures user_data { (e : Entry) → IsPlaced (seen_of self.entry.pass) self.entry.req e → result.1.user_data ≡ e.user_data }
@@ -124,6 +112,7 @@ impl<'a> Busy<'a> {
             req: _,
             parcel,
             pipes,
+            took,
         } = self;
         let res = answer_without(op_placed(&parcel.sqe), pipes as u64);
         let fails = fails_placed(&parcel.sqe, res);
@@ -133,7 +122,7 @@ impl<'a> Busy<'a> {
         };
         put_back(words, &mut seat, cell, parcel);
         seat::reply(words, &mut seat, cell, generation, fails, res);
-        (Worker::new(seat), cqe)
+        (Worker::new(seat, took), cqe)
     }
 
     /// Takes a pipe that the entry is answered from, or comes back where another worker has it.
@@ -151,6 +140,7 @@ impl<'a> Busy<'a> {
             req,
             parcel,
             pipes,
+            took,
         } = self;
         if !pipes::hold(words, &mut seat, pipe) {
             return Err(Busy {
@@ -162,6 +152,7 @@ impl<'a> Busy<'a> {
                 req,
                 parcel,
                 pipes,
+                took,
             });
         }
         let thing = words.exchange(&mut seat, pipe, None);
@@ -174,17 +165,19 @@ impl<'a> Busy<'a> {
             req,
             parcel,
             pipes,
+            took,
             pipe,
             conduit: parcel::pipe_of(thing),
         })
     }
 
-    /// Answers the request, which is a cancel: it searches for the first request that it is meant for and that has no reply.
-    /// Gives that one too where it was ended.
-    fn cancel(self, wanted: Wanted) -> (Worker, Cqe, Option<Req>)
+    /// Answers the request, which is a cancel: it ends the first request that it is meant for and that has no reply, or all such
+    /// requests. The worker lists them.
+    fn cancel(self, wanted: Wanted) -> (Worker, Cqe)
         requires wanted { (e : Entry) → IsPlaced (seen_of self.pass) self.req e → wanted_in e.op ≡ Some wanted }
         ensures table { result.0.table ≡ self.entry.pass.table }
-        ensures ended { (own : List Event) × EndsBy self.entry.pass.view result.0.view self.entry.req own (Reply self.entry.req result.1.res []) × IsCaught self.entry.req result.2 own }
+        ensures ended { (own : List Event) × EndsBy self.entry.pass.view result.0.view self.entry.req own (Reply self.entry.req result.1.res []) × AreHits self.entry.req self.entry.req.k own × (result.0.took ≡ taken_in own) × AreFew (Some wanted) own }
+        ensures few { length result.0.took < cells_in self.entry.pass.view.layout.cells self.entry.req.ring }
         ensures kept { (b : Facts) → IsOf b self.entry.pass → IsOf b result.0 }
         ensures user_data { (e : Entry) → IsPlaced (seen_of self.entry.pass) self.entry.req e → result.1.user_data ≡ e.user_data }
         ensures steps { FewSteps self.entry.pass.view result.0.view 4 (5 * cells_in self.entry.pass.view.layout.cells self.entry.req.ring) }
@@ -198,9 +191,9 @@ impl<'a> Busy<'a> {
             req,
             parcel,
             pipes: _,
+            mut took,
         } = self;
-        let searched = cancel::search(words, &mut seat, grid, req, wanted);
-        let (res, took) = told(searched);
+        let res = hunt(words, &mut seat, grid, req, wanted, &mut took);
         let fails = fails_placed(&parcel.sqe, res);
         let cqe = Cqe {
             user_data: parcel.sqe.user_data(),
@@ -208,7 +201,7 @@ impl<'a> Busy<'a> {
         };
         put_back(words, &mut seat, cell, parcel);
         seat::reply(words, &mut seat, cell, generation, fails, res);
-        (Worker::new(seat), cqe, took)
+        (Worker::after(seat, took), cqe)
     }
 
     /// Answers the request, which is answered from one pipe of the board, or puts it back to Ready.
@@ -216,6 +209,7 @@ impl<'a> Busy<'a> {
         requires named { (e : Entry) → IsPlaced (seen_of self.pass) self.req e → UsesOne e.op (length self.pass.view.layout.caps) pipe }
         ensures worker { result.0.table ≡ self.entry.pass.table }
         ensures kept { (b : Facts) → IsOf b self.entry.pass → IsOf b result.0 }
+        ensures took { result.0.took ≡ [] }
         ensures steps { StepsAt (One pipe) self.entry.pass.view result.0.view self.entry.req result.1 }
         ensures ran { IsRun self.entry result.0 result.1 }
     {
@@ -225,7 +219,7 @@ impl<'a> Busy<'a> {
             Err(busy) => return (busy.park(), Ran::Parked(Parked::PipeBusy)),
         };
         match holding.answer() {
-            Ok((worker, cqe)) => (worker, Ran::Replied { cqe, took: None }),
+            Ok((worker, cqe)) => (worker, Ran::Replied { cqe }),
             Err(busy) => (busy.park(), Ran::Parked(Parked::NotReady)),
         }
     }
@@ -235,17 +229,18 @@ impl<'a> Busy<'a> {
     pub fn run(self) -> (Worker, Ran)
         ensures worker { result.0.table ≡ self.entry.pass.table }
         ensures kept { (b : Facts) → IsOf b self.entry.pass → IsOf b result.0 }
+        ensures few { length result.0.took < cells_in self.entry.pass.view.layout.cells self.entry.req.ring }
         ensures steps { (e : Entry) → IsPlaced (seen_of self.entry.pass) self.entry.req e → HasStepped self.entry result.0.view e result.1 }
         ensures ran { IsRun self.entry result.0 result.1 }
     {
         if let Some(wanted) = wanted_of(self.parcel.sqe.op()) {
-            let (worker, cqe, took) = self.cancel(wanted);
-            return (worker, Ran::Replied { cqe, took });
+            let (worker, cqe) = self.cancel(wanted);
+            return (worker, Ran::Replied { cqe });
         }
         match pipes_of(self.parcel.sqe.op(), self.pipes as u64) {
             NamedPipes::Nothing => {
                 let (worker, cqe) = self.answer();
-                (worker, Ran::Replied { cqe, took: None })
+                (worker, Ran::Replied { cqe })
             }
             NamedPipes::One(pipe) => self.run_with(pipe as usize),
             NamedPipes::Both { source, target } => {

@@ -1,10 +1,10 @@
 //! The search of a cancel among the earlier requests of its ring.
-ghost use Rattle.std.specs.Prelude.{◌≡◌, ◌≢◌, ◌⊎◌, ℕ, ◌<◌, ◌≤◌, ◌+◌, ◌*◌, ◌-◌, true, List, IfOk, IfErr, IfSome, IfNone};
+ghost use Rattle.std.specs.Prelude.{◌≡◌, ◌≢◌, ◌⊎◌, ℕ, ◌<◌, ◌≤◌, ◌+◌, ◌*◌, ◌-◌, true, false, List, IfOk, IfErr, IfSome, IfNone};
 ghost use Rattle.claim.specs.declared.tag.Tag.TheVariants.{Held, Ready, Running};
 ghost use Rattle.entry.specs.declared.op.Op.{Op as OpOf};
 ghost use Rattle.history.specs.declared.req.Req.{Req as Request};
 ghost use Rattle.history.specs.Answers.{Matches};
-ghost use Rattle.history.specs.History.{IsReplied, phase, unborn};
+ghost use Rattle.history.specs.History.{IsReplied, hit, nothing, phase, unborn};
 ghost use Rattle.steps.specs.Cells.{IsCell, cells_in, request_at, word_of};
 ghost use Rattle.steps.specs.Journal.{events_of};
 ghost use Rattle.steps.specs.Notes.{row_number};
@@ -13,7 +13,7 @@ ghost use Rattle.steps.specs.Plays.{IsIdleWord};
 ghost use Rattle.steps.specs.Rule.{IsSameSeat, Looks, Shown};
 ghost use Rattle.work.specs.declared.cancel.Wanted.{Wanted as WantedOf};
 ghost use Rattle.work.specs.Passes.{IsGridOf};
-ghost use Rattle.work.specs.Searches.{ArePassed, Cancels, DidSearch, DidTake, DidTry, FewSteps, IsEarlier, IsMeant, StepsIn, is_kind, target_in, wanted_in};
+ghost use Rattle.work.specs.Searches.{Cancels, DidSearch, DidTake, DidTry, FewSteps, IsEarlier, IsMeant, MayAim, StepsIn, is_kind, target_in, wanted_in};
 
 use crate::grid::Grid;
 use claim::unpack_facts;
@@ -23,11 +23,13 @@ use steps::claims::{Standing, looked_for, stands_at};
 use steps::facts::{LINK_TIMEOUT, TIMEOUT};
 use steps::{TableSeat, Words, cancels, seat};
 
-/// What a cancel asks for: the user_data of its target, and whether that has to be a TIMEOUT.
+/// What a cancel asks for: the user_data of what it is meant for, whether that has to be a TIMEOUT, and whether it means all
+/// such requests (IORING_ASYNC_CANCEL_ALL).
 #[derive(Clone, Copy, PartialEq, Eq, Debug)]
 pub(crate) struct Wanted {
     pub user_data: u64,
     pub timeout: bool,
+    pub all: bool,
 }
 
 /// What came of one request.
@@ -60,8 +62,8 @@ pub(crate) struct Target {
 }
 
 macro_rules! wanted {
-    ((cancel timer $target:ident) ()) => { Some(Wanted { user_data: $target, timeout: true }) };
-    ((cancel any $target:ident) ()) => { Some(Wanted { user_data: $target, timeout: false }) };
+    ((cancel timer $target:ident) ()) => { Some(Wanted { user_data: $target, timeout: true, all: false }) };
+    ((cancel any $target:ident $all:ident) ()) => { Some(Wanted { user_data: $target, timeout: false, all: $all }) };
     ((timer $kind:ident $ticks:ident) ()) => { None };
     ((plain $kind:ident) ()) => { None };
     ((pipe $kind:ident $($field:ident)*) ()) => { None };
@@ -105,7 +107,7 @@ fn may_match(words: &Words, seat: &mut TableSeat, target: Target, wanted: Wanted
 /// Ends the request where it still stands as its claim word was found, or finds it running or over. Else gives the word that
 /// is there now.
 fn attempt(words: &Words, seat: &mut TableSeat, target: Target, found: u64) -> Result<Tried, u64>
-    requires cancels { (c : Request) × (w : WantedOf) × Cancels words.now.table_id seat.old c w × IsEarlier words.now.table_id seat.old c target × ArePassed seat.old.me.0 c (target_in seat.old target).k × IsMeant seat.old.me.0 c (target_in seat.old target) }
+    requires cancels { (c : Request) × (w : WantedOf) × Cancels words.now.table_id seat.old c w × IsEarlier words.now.table_id seat.old c target × MayAim w.all seat.old.me.0 c (target_in seat.old target) × IsMeant seat.old.me.0 c (target_in seat.old target) }
     requires shown { Shown seat.old.me.0.layout.cells seat.old.me.0.seen target.cell found }
     ensures seat { IsSameSeat seat.old seat.new × (seat.new.me.1 ≡ seat.old.me.1) }
     ensures tried { IfOk result (λ t. (c : Request) (w : WantedOf) → Cancels words.now.table_id seat.old c w → DidTake seat.old.me.0 seat.new.me.0 c (target_in seat.old target) t) }
@@ -129,7 +131,7 @@ fn attempt(words: &Words, seat: &mut TableSeat, target: Target, found: u64) -> R
 
 /// Ends the request, or finds it running or over.
 fn take(words: &Words, seat: &mut TableSeat, target: Target) -> Tried
-    requires cancels { (c : Request) × (w : WantedOf) × Cancels words.now.table_id seat.old c w × IsEarlier words.now.table_id seat.old c target × ArePassed seat.old.me.0 c (target_in seat.old target).k × IsMeant seat.old.me.0 c (target_in seat.old target) }
+    requires cancels { (c : Request) × (w : WantedOf) × Cancels words.now.table_id seat.old c w × IsEarlier words.now.table_id seat.old c target × MayAim w.all seat.old.me.0 c (target_in seat.old target) × IsMeant seat.old.me.0 c (target_in seat.old target) }
     ensures seat { IsSameSeat seat.old seat.new × (seat.new.me.1 ≡ seat.old.me.1) }
     ensures tried { (c : Request) (w : WantedOf) → Cancels words.now.table_id seat.old c w → DidTake seat.old.me.0 seat.new.me.0 c (target_in seat.old target) result }
     ensures steps { StepsIn seat.old.me.0 seat.new.me.0 target.cell 3 3 }
@@ -145,9 +147,9 @@ fn take(words: &Words, seat: &mut TableSeat, target: Target) -> Tried
     }
 }
 
-/// Tries a request before which all matches have replied.
+/// Tries a request: it ends it where the cancel is meant for it and it isn't running.
 pub(crate) fn try_one(words: &Words, seat: &mut TableSeat, target: Target, wanted: Wanted) -> Tried
-    requires cancels { (c : Request) × Cancels words.now.table_id seat.old c wanted × IsEarlier words.now.table_id seat.old c target × ArePassed seat.old.me.0 c (target_in seat.old target).k }
+    requires cancels { (c : Request) × Cancels words.now.table_id seat.old c wanted × IsEarlier words.now.table_id seat.old c target × MayAim wanted.all seat.old.me.0 c (target_in seat.old target) }
     ensures seat { IsSameSeat seat.old seat.new × (seat.new.me.1 ≡ seat.old.me.1) }
     ensures tried { (c : Request) → Cancels words.now.table_id seat.old c wanted → DidTry seat.old.me.0 seat.new.me.0 c (target_in seat.old target) result }
     ensures steps { StepsIn seat.old.me.0 seat.new.me.0 target.cell 3 5 }
@@ -156,6 +158,31 @@ pub(crate) fn try_one(words: &Words, seat: &mut TableSeat, target: Target, wante
         take(words, seat, target)
     } else {
         Tried::Passed
+    }
+}
+
+/// The number of the oldest request of the ring that can still have a cell.
+pub(crate) fn oldest(grid: &Grid, req: Req) -> u64
+    ensures first { result ≡ req.k - (cells_in grid.now req.ring - 1) }
+    ensures few { req.k < result + 1024 }
+{
+    let others = grid.others_in(usize::from(req.ring));
+    req.k.saturating_sub(others)
+}
+
+/// Where an earlier request of the ring lies.
+pub(crate) fn earlier(grid: &Grid, req: Req, k: u64) -> Target
+    requires cell { (x : ℕ) × (g : ℕ) × (g < 16777216) × IsCell grid.now x × (request_at grid.now x g ≡ req) }
+    requires before { k < req.k }
+    ensures cell { IsCell grid.now result.cell × (result.cell < 16384) × (result.generation < 16777216) }
+    ensures at { request_at grid.now result.cell result.generation ≡ record { ring = req.ring; k = k } }
+{
+    let Some(spot) = grid.locate(Req { ring: req.ring, k }) else {
+        unreachable!()
+    };
+    Target {
+        cell: spot.cell,
+        generation: spot.generation as u32,
     }
 }
 
@@ -168,28 +195,19 @@ pub(crate) fn search(
     req: Req,
     wanted: Wanted,
 ) -> Searched
-    requires cancels { Cancels words.now.table_id seat.old req wanted }
+    requires cancels { Cancels words.now.table_id seat.old req wanted × (wanted.all ≡ false) × (hit (events_of seat.old.me.0.seen) req ≡ nothing) }
     requires grid { IsGridOf words.now.table_id grid.now seat.old.me.0 }
     requires cell { (x : ℕ) × (g : ℕ) × (g < 16777216) × IsCell grid.now x × (request_at grid.now x g ≡ req) }
     ensures seat { IsSameSeat seat.old seat.new × (seat.new.me.1 ≡ seat.old.me.1) }
     ensures searched { DidSearch seat.old.me.0 seat.new.me.0 req result }
     ensures steps { FewSteps seat.old.me.0 seat.new.me.0 3 (5 * (cells_in grid.now req.ring - 1)) }
 {
-    let ring = usize::from(req.ring);
-    let others = grid.cells_in(ring).saturating_sub(1);
-    let first = req.k.saturating_sub(others);
+    let first = oldest(grid, req);
     for k in first..req.k {
-        let earlier = Req { ring: req.ring, k };
-        let Some(spot) = grid.locate(earlier) else {
-            unreachable!()
-        };
-        let target = Target {
-            cell: spot.cell,
-            generation: spot.generation as u32,
-        };
+        let target = earlier(grid, req, k);
         match try_one(words, seat, target, wanted) {
             Tried::Passed => {}
-            Tried::Took => return Searched::Ended(earlier),
+            Tried::Took => return Searched::Ended(Req { ring: req.ring, k }),
             Tried::Missed => return Searched::Found,
         }
     }

@@ -1,5 +1,5 @@
 //! Where the requests of the rings lie among the cells of the table.
-ghost use Rattle.std.specs.Prelude.{◌≡◌, ◌/◌, ◌%◌, ◌<◌, ◌≤◌, length, IfOk, IfSome, IfNone};
+ghost use Rattle.std.specs.Prelude.{◌≡◌, ◌-◌, ◌/◌, ◌%◌, ◌<◌, ◌≤◌, length, IfOk, IfSome, IfNone};
 ghost use Rattle.steps.specs.Cells.{IsCell, cells_in, place_of, request_at, total};
 
 use history::Req;
@@ -87,6 +87,17 @@ impl Grid {
             Some(row) => row.cells,
             None => 0,
         }
+    }
+
+    /// How many cells the ring has beside any one of them.
+    pub(crate) fn others_in(&self, ring: usize) -> u64
+        ensures others { result ≡ cells_in self.now ring - 1 }
+        ensures few { result < 1024 }
+    {
+        let Some(row) = self.rows.get(ring) else {
+            return 0;
+        };
+        row.cells - 1
     }
 
     /// How many cells all rings have.

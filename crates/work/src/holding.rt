@@ -1,5 +1,5 @@
 //! A worker that runs a request and has a pipe of it in hand.
-ghost use Rattle.std.specs.Prelude.{◌≡◌, ℕ, List, Some, None, length, IfOk, IfErr};
+ghost use Rattle.std.specs.Prelude.{◌≡◌, ℕ, [], List, Some, None, length, IfOk, IfErr};
 ghost use Rattle.entry.specs.Entry.{Entry};
 ghost use Rattle.history.specs.declared.event.Event.TheVariants.{Reply};
 ghost use Rattle.history.specs.Chains.{IsPlaced};
@@ -30,18 +30,20 @@ pub(crate) struct Holding<'a> {
     pub(crate) req: Req,
     pub(crate) parcel: Parcel,
     pub(crate) pipes: usize,
+    pub(crate) took: Vec<Req>,
     pub(crate) pipe: usize,
     pub(crate) conduit: Pipe,
 }
 
 impl<'a> Model for Holding<'a> {
+    ghost use Rattle.std.specs.Prelude.{vec_capacity};
     ghost use Rattle.work.specs.Passes.{Holding as Held, pass_of, IsHoldingSeat};
 
     ghost Value = { Held };
 
     ghost view = { λ h. record { pass = pass_of h.seat; req = h.req; pipe = h.pipe } };
 
-    ghost invariant = { λ h. IsHoldingSeat h.words.now.table_id h.grid.now h.seat h.cell h.generation h.req h.parcel h.pipes h.pipe h.conduit };
+    ghost invariant = { λ h. IsHoldingSeat h.words.now.table_id h.grid.now h.seat h.cell h.generation h.req h.parcel h.pipes h.pipe h.conduit h.took.items (vec_capacity h.took) };
 }
 
 impl<'a> Holding<'a> {
@@ -52,6 +54,7 @@ impl<'a> Holding<'a> {
     pub(crate) fn answer(self) -> Result<(Worker, Cqe), Busy<'a>>
         requires named { (e : Entry) → IsPlaced (seen_of self.pass) self.req e → UsesOne e.op (length self.pass.view.layout.caps) self.pipe }
         ensures replied { IfOk result (λ t. (t.0.table ≡ self.entry.pass.table) × (data' : List ℕ) × (mid : View) × Extends self.entry.pass.view (Did (Reply self.entry.req t.1.res data')) (Leaving self.entry.req) mid × (found : ℕ) × (t.0.view ≡ leaves (pipe_at self.entry.pipe) found mid)) }
+        ensures took { IfOk result (λ t. t.0.took ≡ []) }
         ensures steps { IfOk result (λ t. (word : ℕ) × IsTwoSteps word (pipe_at self.entry.pipe) self.entry.pass.view t.0.view) }
         ensures user_data { IfOk result (λ t. (e : Entry) → IsPlaced (seen_of self.entry.pass) self.entry.req e → t.1.user_data ≡ e.user_data) }
         ensures waits { IfErr result (λ b. (b.req ≡ self.entry.req) × (b.pass.table ≡ self.entry.pass.table) × Extends self.entry.pass.view (Free self.entry.req self.entry.pipe) (RoleBusy self.entry.req) b.pass.view × ((found : ℕ) × IsStep (pipe_at self.entry.pipe) found self.entry.pass.view b.pass.view)) }
@@ -66,6 +69,7 @@ impl<'a> Holding<'a> {
             req,
             mut parcel,
             pipes,
+            took,
             pipe,
             mut conduit,
         } = self;
@@ -84,6 +88,7 @@ impl<'a> Holding<'a> {
                 req,
                 parcel,
                 pipes,
+                took,
             });
         };
         seat.turn();
@@ -94,6 +99,6 @@ impl<'a> Holding<'a> {
         };
         put_back(words, &mut seat, cell, parcel);
         pipes::reply(words, &mut seat, cell, generation, fails, res, pipe);
-        Ok((Worker::new(seat), cqe))
+        Ok((Worker::new(seat, took), cqe))
     }
 }

@@ -35,6 +35,7 @@ pub(crate) struct Joining<'a> {
     pub(crate) req: Req,
     pub(crate) parcel: Parcel,
     pub(crate) pipes: usize,
+    pub(crate) took: Vec<Req>,
     pub(crate) source: usize,
     pub(crate) target: usize,
     pub(crate) from: Pipe,
@@ -42,13 +43,14 @@ pub(crate) struct Joining<'a> {
 }
 
 impl<'a> Model for Joining<'a> {
+    ghost use Rattle.std.specs.Prelude.{vec_capacity};
     ghost use Rattle.work.specs.Passes.{Joining as Joined, pass_of, IsJoiningSeat};
 
     ghost Value = { Joined };
 
     ghost view = { λ k. record { pass = pass_of k.seat; req = k.req; source = k.source; target = k.target } };
 
-    ghost invariant = { λ k. IsJoiningSeat k.words.now.table_id k.grid.now k.seat k.cell k.generation k.req k.parcel k.pipes k.source k.target k.from k.into };
+    ghost invariant = { λ k. IsJoiningSeat k.words.now.table_id k.grid.now k.seat k.cell k.generation k.req k.parcel k.pipes k.source k.target k.from k.into k.took.items (vec_capacity k.took) };
 }
 
 impl<'a> Holding<'a> {
@@ -70,6 +72,7 @@ impl<'a> Holding<'a> {
             req,
             parcel,
             pipes,
+            took,
             pipe,
             conduit,
         } = self;
@@ -87,6 +90,7 @@ impl<'a> Holding<'a> {
                 req,
                 parcel,
                 pipes,
+                took,
             });
         }
         let thing = words.exchange(&mut seat, target, None);
@@ -99,6 +103,7 @@ impl<'a> Holding<'a> {
             req,
             parcel,
             pipes,
+            took,
             source: pipe,
             target,
             from: conduit,
@@ -114,6 +119,7 @@ impl<'a> Joining<'a> {
     /// Answers the request by its pipes, and gives them back; or gives them back as they were, where there is no answer now.
     fn answer(self) -> Result<(Worker, Cqe), Busy<'a>>
         ensures replied { IfOk result (λ t. (t.0.table ≡ self.entry.pass.table) × (mid : View) × Extends self.entry.pass.view (Did (Reply self.entry.req t.1.res [])) (Leaving self.entry.req) mid × (found : ℕ) × (last : ℕ) × (t.0.view ≡ leaves (pipe_at self.entry.source) last (leaves_one self.entry.req self.entry.source (pipe_at self.entry.target) found mid))) }
+        ensures took { IfOk result (λ t. t.0.took ≡ []) }
         ensures steps { IfOk result (λ t. (word : ℕ) × IsThreeSteps word (pipe_at self.entry.target) (pipe_at self.entry.source) self.entry.pass.view t.0.view) }
         ensures user_data { IfOk result (λ t. (e : Entry) → IsPlaced (seen_of self.entry.pass) self.entry.req e → t.1.user_data ≡ e.user_data) }
         ensures waits { IfErr result (λ b. (b.req ≡ self.entry.req) × (b.pass.table ≡ self.entry.pass.table) × (mid : View) × Extends self.entry.pass.view (Free self.entry.req self.entry.target) (RoleBusy self.entry.req) mid × Extends mid (Free self.entry.req self.entry.source) (RoleBusy self.entry.req) b.pass.view × ((found : ℕ) × IsStep (pipe_at self.entry.target) found self.entry.pass.view mid) × ((found : ℕ) × IsStep (pipe_at self.entry.source) found mid b.pass.view)) }
@@ -128,6 +134,7 @@ impl<'a> Joining<'a> {
             req,
             parcel,
             pipes,
+            took,
             source,
             target,
             mut from,
@@ -152,6 +159,7 @@ impl<'a> Joining<'a> {
                 req,
                 parcel,
                 pipes,
+                took,
             });
         };
         seat.turn();
@@ -168,7 +176,7 @@ impl<'a> Joining<'a> {
         pipes::reply_both(
             words, &mut seat, cell, generation, fails, res, target, source,
         );
-        Ok((Worker::new(seat), cqe))
+        Ok((Worker::new(seat, took), cqe))
     }
 }
 
@@ -181,6 +189,7 @@ impl<'a> Busy<'a> {
         requires named { (e : Entry) → IsPlaced (seen_of self.pass) self.req e → UsesBoth e.op (length self.pass.view.layout.caps) source target }
         ensures worker { result.0.table ≡ self.entry.pass.table }
         ensures kept { (b : Facts) → IsOf b self.entry.pass → IsOf b result.0 }
+        ensures took { result.0.took ≡ [] }
         ensures steps { StepsAt (Both source target) self.entry.pass.view result.0.view self.entry.req result.1 }
         ensures ran { IsRun self.entry result.0 result.1 }
     {
@@ -194,7 +203,7 @@ impl<'a> Busy<'a> {
             Err(busy) => return (busy.park(), Ran::Parked(Parked::PipeBusy)),
         };
         match joining.answer() {
-            Ok((worker, cqe)) => (worker, Ran::Replied { cqe, took: None }),
+            Ok((worker, cqe)) => (worker, Ran::Replied { cqe }),
             Err(busy) => (busy.park(), Ran::Parked(Parked::NotReady)),
         }
     }

@@ -5,10 +5,12 @@ pub mod busy;
 mod cancel;
 pub mod grid;
 mod holding;
+mod hunt;
 mod joining;
 pub mod pass;
 mod placed;
 pub mod run;
+mod sweep;
 pub mod worker;
 
 pub use busy::Busy;

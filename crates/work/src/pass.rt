@@ -1,5 +1,5 @@
 //! What every pass can do: it looks, tells what it has seen, and hears what another one has seen.
-ghost use Rattle.std.specs.Prelude.{◌≡◌};
+ghost use Rattle.std.specs.Prelude.{◌≡◌, []};
 ghost use Rattle.work.specs.Passes.{Pass as Knowledge, CanReach};
 ghost use Rattle.steps.specs.Cells.{claim_at};
 ghost use Rattle.steps.specs.Rule.{Looks, Shown, IsStep, messenger, hearing};
@@ -52,6 +52,7 @@ pub trait Pass {
     fn load(&mut self, words: &Words, cell: usize) -> u64
         requires { CanReach words.now.table_id (knows self.old) cell }
         ensures table { (knows self.new).table ≡ (knows self.old).table }
+        ensures took { (knows self.new).took ≡ (knows self.old).took }
         ensures looks { Looks (knows self.old).view (knows self.new).view }
         ensures shown { Shown (knows self.old).view.layout.cells (knows self.new).view.seen cell result }
         ensures step { IsStep (claim_at cell) result (knows self.old).view (knows self.new).view };
@@ -60,11 +61,11 @@ pub trait Pass {
     fn tell(&mut self, words: &Words) -> Messenger
         requires { CanReach words.now.table_id (knows self.old) 0 }
         ensures same { knows self.new ≡ knows self.old }
-        ensures told { result ≡ record { table = (knows self.old).table; view = messenger (knows self.old).view } };
+        ensures told { result ≡ record { table = (knows self.old).table; view = messenger (knows self.old).view; took = [] } };
 
     /// Hears the messenger. What it carries stands in what this pass has seen from its next look on.
     fn hear(&mut self, words: &Words, messenger: Messenger)
         requires reach { CanReach words.now.table_id (knows self.old) 0 }
         requires messenger { messenger.table ≡ words.now.table_id }
-        ensures heard { knows self.new ≡ record { table = (knows self.old).table; view = hearing (knows self.old).view messenger.view } };
+        ensures heard { knows self.new ≡ record { table = (knows self.old).table; view = hearing (knows self.old).view messenger.view; took = (knows self.old).took } };
 }

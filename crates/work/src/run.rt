@@ -1,12 +1,11 @@
 //! What a run ends with.
 use entry::Cqe;
-use history::Req;
 
 /// What a run ended with.
 #[derive(Drop)]
 pub enum Ran {
-    /// The request was answered, with this completion. Where it is a cancel that ended another one, `took` is that one.
-    Replied { cqe: Cqe, took: Option<Req> },
+    /// The request was answered, with this completion.
+    Replied { cqe: Cqe },
     /// The request was put back to Ready. Only READ, WRITE, CLOSE, POLL_ADD and SPLICE are, of which an fd is an end of one
     /// of the board's pipes.
     Parked(Parked),

@@ -1,5 +1,5 @@
 //! A worker's pass.
-ghost use Rattle.std.specs.Prelude.{◌≡◌, ◌≤◌, ◌⊎◌, length, IfOk, IfErr};
+ghost use Rattle.std.specs.Prelude.{◌≡◌, ◌≤◌, ◌⊎◌, length, vec_capacity, IfOk, IfErr};
 ghost use Rattle.history.specs.declared.event.Event.TheVariants.{Begin};
 ghost use Rattle.steps.specs.declared.line.Line.TheVariants.{Did};
 ghost use Rattle.steps.specs.declared.view.Role.TheVariants.{Busy as RoleBusy};
@@ -16,39 +16,61 @@ use steps::layout::slot;
 use steps::parcel::parcel_of;
 use steps::{TableSeat, Words, seat, table};
 
-/// A worker without a request. Contracts see its table and what it knows.
+/// A worker without a request. Contracts see its table, what it knows, and which requests its last run ended.
 #[derive(Drop)]
 pub struct Worker {
     seat: TableSeat,
+    took: Vec<Req>,
 }
 
 impl Model for Worker {
-    ghost use Rattle.work.specs.Passes.{Pass, pass_of, IsIdleSeat};
+    ghost use Rattle.std.specs.Prelude.{vec_capacity};
+    ghost use Rattle.work.specs.Passes.{Pass, HasRoom, IsIdleSeat};
 
     ghost Value = { Pass };
 
-    ghost view = { λ w. pass_of w.seat };
+    ghost view = { λ w. record { table = w.seat.table_id; view = w.seat.me.0; took = w.took.items } };
 
-    ghost invariant = { λ w. IsIdleSeat w.seat };
+    ghost invariant = { λ w. IsIdleSeat w.seat × HasRoom w.seat.me.0.layout.cells (vec_capacity w.took) };
 }
 
 impl Worker {
-    ghost use Rattle.work.specs.Passes.{pass_of, IsIdleSeat};
+    ghost use Rattle.work.specs.Passes.{pass_of, HasRoom, IsIdleSeat};
 
-    /// The pass of an idle seat.
-    pub fn new(seat: TableSeat) -> Worker
-        requires { IsIdleSeat seat }
+    /// The pass of an idle seat. The list is emptied, and is for the requests that a run of it ends: it has room for all cells of
+    /// a ring but one.
+    pub fn new(seat: TableSeat, mut room: Vec<Req>) -> Worker
+        requires seat { IsIdleSeat seat }
+        requires room { HasRoom seat.me.0.layout.cells (vec_capacity room) }
         ensures { result ≡ pass_of seat }
     {
-        Self { seat }
+        room.clear();
+        Self { seat, took: room }
+    }
+
+    /// The same after a run that ended these requests.
+    pub(crate) fn after(seat: TableSeat, took: Vec<Req>) -> Worker
+        requires seat { IsIdleSeat seat }
+        requires room { HasRoom seat.me.0.layout.cells (vec_capacity took) }
+        ensures { result ≡ record (pass_of seat) { took = took.items } }
+    {
+        Self { seat, took }
+    }
+
+    /// The requests that its last run ended, in the order of their numbers: none where that was no cancel's. A request that it
+    /// begins empties the list.
+    pub fn took(&self) -> &[Req]
+        ensures { result.now ≡ self.now.took }
+    {
+        self.took.as_slice()
     }
 
     /// Its seat.
     pub fn into_seat(self) -> TableSeat
         ensures seat { IsIdleSeat result }
-        ensures value { pass_of result ≡ self }
+        ensures value { record (pass_of result) { took = self.took } ≡ self }
     {
-        let Worker { seat } = self;
+        let Worker { seat, took: _ } = self;
         seat
     }
 }
@@ -84,20 +106,22 @@ impl Worker {
         ensures begun { IfOk result (λ b. (b.req ≡ req) × (b.pass.table ≡ self.table) × Extends self.view (Did (Begin req)) (RoleBusy req) b.pass.view) }
         ensures kept { (b : Facts) → IsOf b self → IfOk result (λ busy. IsOf b busy.pass) × IfErr result (λ w. IsOf b w) }
         ensures steps { IfOk result (λ b. Took self.view b.pass.view 1) }
+        ensures took { IfErr result (λ w. w.took ≡ self.took) }
         ensures refused { IfErr result (λ w. (w.table ≡ self.table) × ((w.view ≡ self.view) ⊎ Looks self.view w.view) × ((length grid.now ≤ req.ring) ⊎ FoundNotReady grid.now req self.view w.view)) }
     {
-        let Worker { mut seat } = self;
+        let Worker { mut seat, mut took } = self;
         let Some(spot) = grid.locate(req) else {
-            return Err(Worker { seat });
+            return Err(Worker { seat, took });
         };
         if spot.generation >= u64::from(GENERATIONS) {
             seat::look(words, &mut seat, spot.cell);
-            return Err(Worker { seat });
+            return Err(Worker { seat, took });
         }
         let generation = spot.generation as u32;
         if !seat::begin(words, &mut seat, spot.cell, generation) {
-            return Err(Worker { seat });
+            return Err(Worker { seat, took });
         }
+        took.clear();
         let thing = words.exchange(&mut seat, slot(spot.cell), None);
         Ok(Busy {
             words,
@@ -108,6 +132,7 @@ impl Worker {
             req,
             parcel: parcel_of(thing),
             pipes,
+            took,
         })
     }
 }

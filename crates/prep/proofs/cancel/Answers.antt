@@ -1,4 +1,4 @@
-use Rattle.std.proofs.Common.{refl}
+use Rattle.std.proofs.Common.{false, refl}
 use Rattle.std.proofs.lemmas.Bool.{lt-ltb}
 use Rattle.entry.specs.declared.op.Op.TheVariants.{AsyncCancel}
 use Rattle.prep.specs.Built.{plain}
@@ -7,5 +7,5 @@ use Rattle.prep.proofs.cancel.Goals as goal
 
 pub returns : goal.returns
 returns c =
-    let op = AsyncCancel c.args.user_data in
+    let op = AsyncCancel c.args.user_data false in
     c.entry_of.ensures.again (plain op) (plain-fits op (lt-ltb c.args.user_data 18446744073709551616 c.ranges.user_data.fits)) refl refl refl

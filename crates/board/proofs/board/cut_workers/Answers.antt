@@ -1,5 +1,10 @@
-use Rattle.std.proofs.Common.{◌≡◌, ◌<◌, ◌+◌, ℕ, length, List, [], ◌∷◌, ◌++◌, sym, ap, ◌∙◌, subst, arith}
+use Rattle.std.proofs.Common.{◌≡◌, ◌<◌, ◌≤◌, ◌+◌, ℕ, suc, vec_capacity, Option, length, List, [], ◌∷◌, ◌++◌, sym, ap, ◌∙◌, subst, arith}
 use Rattle.std.proofs.lemmas.List.{length-append}
+use Rattle.atomic_table.specs.Table.{Me}
+use Rattle.steps.specs.declared.parcel.Thing.{Thing}
+use Rattle.steps.specs.declared.view.Layout.{Layout}
+use Rattle.steps.specs.declared.view.View.{View}
+use Rattle.steps.specs.Cells.{cells_in}
 use Rattle.work.specs.Passes.{Pass, pass_of}
 use Rattle.board.specs.New.{AreWorkers, IsCutting}
 use Rattle.board.proofs.NewPasses.{workers_more, cut_worker, worker_fresh}
@@ -27,3 +32,11 @@ loop-preserved c =
 
 pub returns-clause-seat : goal.returns-clause-seat
 returns-clause-seat c = λ n k. (let a = c.loop-test.false in let b = c.loop.auto.counter-end in subst (λ (z : ℕ). IsCutting c.args.seat.now.me.0.layout c.args.words.now.table_id n z c.loop.seat) (omega arith) (c.loop.invariant.0 n k))
+
+pub new-requires-clause-room : goal.new-requires-clause-room
+new-requires-clause-room c ring =
+    let r = c.requires.seat in let k = c.loop.invariant.0 r.0 r.1 in
+    let cells : c.next_worker-cut.result.me.0.layout.cells ≡ c.args.seat.now.me.0.layout.cells = ap (λ (m : Me (Option Thing) View). m.0.layout.cells) c.next_worker-cut.ensures.worker.1 ∙ ap (λ (L : Layout). L.cells) k.layout_is in
+    let wide : cells_in c.args.seat.now.me.0.layout.cells ring ≤ c.args.widest = c.requires.widest ring in
+    let room = c.in_ok-room.ensures in
+    subst (λ (K : List ℕ). cells_in K ring ≤ suc (vec_capacity c.in_ok-room.room)) (sym cells) (omega arith)

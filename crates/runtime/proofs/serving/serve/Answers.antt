@@ -1,31 +1,50 @@
-use Rattle.std.proofs.Common.{◌≡◌, refl, sym, ap, ◌∙◌, inl, inr, List, [], ◌∷◌, ◌++◌, Option}
-use Rattle.std.proofs.lemmas.List.{append_assoc, append-nil}
+use Rattle.std.proofs.Common.{◌≡◌, ℕ, ◌+◌, ◌<◌, ◌≤◌, refl, sym, ap, ◌∙◌, subst, inl, inr, List, [], ◌∷◌, ◌++◌, length, arith}
+use Rattle.std.proofs.lemmas.List.{append_assoc, append-nil, length-append}
+use Rattle.board.specs.ShapeLimits.{widest}
+use Rattle.board.proofs.ShapeBounds.{none_wider}
+use Rattle.steps.specs.Cells.{cells_in}
+use Rattle.steps.specs.declared.view.Layout.{Layout}
+use Rattle.work.specs.Board.{Facts, IsOf}
 use Rattle.history.specs.declared.req.Req.{Req}
-use Rattle.outbox.specs.Outbox.{with_answered}
-use Rattle.runtime.specs.Turns.{kept_in}
+use Rattle.outbox.specs.Outbox.{Waiting, with_answered}
+use Rattle.work.specs.Passes.{Pass}
 use Rattle.runtime.specs.WorkTurns.{answered_in, ended_in}
 use Rattle.runtime.proofs.serving.serve.Goals as goal
-use Rattle.runtime.proofs.serving.serve.Goals.{in-Some, in-None}
+
+-- a run takes fewer requests than the widest ring has cells
+taken_few : (b : Facts) (p : Pass) (ring n : ℕ) → IsOf b p → n < cells_in p.view.layout.cells ring → n < widest b.layout.cells
+taken_few b p ring n of lt =
+    let here : n < cells_in b.layout.cells ring = subst (λ (L : Layout). n < cells_in L.cells ring) of.layout_is lt in
+    let most : cells_in b.layout.cells ring ≤ widest b.layout.cells = none_wider b.layout.cells ring in omega arith
+
+pub put_all-requires : goal.put_all-requires
+put_all-requires g c =
+    let few = taken_few c.args.board.now c.in-Ok.busy.pass c.in-Ok.busy.req.ring (length c.run-worker.result.0.took) c.in-Ok.ensures.begun.1 c.run-worker.ensures.few in
+    let long : length c.took.result.now ≡ length c.run-worker.result.0.took = ap (λ (l : List Req). length l) c.took.ensures in let room = c.requires.room in record { room = omega arith }
+
+pub put-requires : goal.put-requires
+put-requires g c =
+    let few = taken_few c.args.board.now c.in-Ok.busy.pass c.in-Ok.busy.req.ring (length c.run-worker.result.0.took) c.in-Ok.ensures.begun.1 c.run-worker.ensures.few in
+    let o = c.args.outbox.now in
+    let long : length c.put_all.new.self.answered ≡ length o.answered + length c.run-worker.result.0.took = ap (λ (w : Waiting). length w.answered) c.put_all.ensures ∙ (length-append o.answered c.took.result.now ∙ ap (λ (l : List Req). length o.answered + length l) c.took.ensures) in
+    let places : c.put_all.new.self.places ≡ o.places = ap (λ (w : Waiting). w.places) c.put_all.ensures in let room = c.requires.room in record { room = omega arith }
 
 pub returns-in-Err-clause-tried : goal.returns-in-Err-clause-tried
 returns-in-Err-clause-tried g c = ([], inl ((c.in-Err.ensures.refused.1, c.in-Err.ensures.refused.2), refl, refl), ap (λ (l : List Req). record c.args.outbox.now { answered = l }) (sym (append-nil c.args.outbox.now.answered)))
 
-pub returns-after-took-clause-tried : goal.returns-after-took-clause-tried
-returns-after-took-clause-tried g c =
-    let o = c.args.outbox.now in let r = c.args.req in let took = c.in-Replied.took in
-    let first : c.match-took.outbox ≡ record o { answered = o.answered ++ kept_in took } = elim c.match-took.branch [
-      | in-Some w ↦ w.outbox-is ∙ (w.put.ensures ∙ ap (λ (t : Option Req). record o { answered = o.answered ++ kept_in t }) (sym w.in-Some.is))
-      | in-None w ↦ w.outbox-is ∙ (ap (λ (l : List Req). record o { answered = l }) (sym (append-nil o.answered)) ∙ ap (λ (t : Option Req). record o { answered = o.answered ++ kept_in t }) (sym w.in-None.is))
-    ] in (
-      answered_in r c.run-worker.result.1,
+pub returns-in-Replied-clause-tried : goal.returns-in-Replied-clause-tried
+returns-in-Replied-clause-tried g c =
+    let o = c.args.outbox.now in let r = c.args.req in let q : Pass = c.run-worker.result.0 in
+    let first : c.put_all.new.self ≡ record o { answered = o.answered ++ q.took } = c.put_all.ensures ∙ ap (λ (l : List Req). record o { answered = o.answered ++ l }) c.took.ensures in (
+      answered_in r q c.run-worker.result.1,
       inr (c.run-worker.result.1, record { busy = c.in-Ok.busy; of = (c.in-Ok.ensures.begun.0, c.in-Ok.ensures.begun.1); begun = c.in-Ok.ensures.begun.2; run = c.run-worker.ensures.ran }, refl, sym (ap (ended_in r) c.in-Replied.is)),
-      c.put-in-Replied.ensures ∙ (ap (with_answered r) first ∙ ap (λ (l : List Req). record o { answered = l }) (append_assoc o.answered (kept_in took) (r ∷ []) ∙ ap (λ (z : List Req). o.answered ++ z) (sym (ap (answered_in r) c.in-Replied.is)))),
+      c.put.ensures ∙ (ap (with_answered r) first ∙ ap (λ (l : List Req). record o { answered = l }) (append_assoc o.answered q.took (r ∷ []) ∙ ap (λ (z : List Req). o.answered ++ z) (sym (ap (answered_in r q) c.in-Replied.is)))),
     )
 
 pub returns-in-Parked-clause-tried : goal.returns-in-Parked-clause-tried
 returns-in-Parked-clause-tried g c =
     let o = c.args.outbox.now in let r = c.args.req in (
       [],
-      inr (c.run-worker.result.1, record { busy = c.in-Ok.busy; of = (c.in-Ok.ensures.begun.0, c.in-Ok.ensures.begun.1); begun = c.in-Ok.ensures.begun.2; run = c.run-worker.ensures.ran }, sym (ap (answered_in r) c.in-Parked.is), sym (ap (ended_in r) c.in-Parked.is)),
+      inr (c.run-worker.result.1, record { busy = c.in-Ok.busy; of = (c.in-Ok.ensures.begun.0, c.in-Ok.ensures.begun.1); begun = c.in-Ok.ensures.begun.2; run = c.run-worker.ensures.ran }, sym (ap (answered_in r c.run-worker.result.0) c.in-Parked.is), sym (ap (ended_in r) c.in-Parked.is)),
       ap (λ (l : List Req). record o { answered = l }) (sym (append-nil o.answered)),
     )

@@ -1,10 +1,11 @@
 use Rattle.std.proofs.Common.{◌≡◌, ◌≤◌}
+use Rattle.board.specs.ShapeLimits.{widest}
 use Rattle.runtime.specs.Loops.{IsServing}
 use Rattle.runtime.proofs.threads.work.Given as goal
 
 abbrev pub invariant-loop : goal.invariant-loop
 invariant-loop g l = record {
   desk : IsServing l.shared l.desk l.worker;
-  places : 2 ≤ l.outbox.places;
+  places : widest l.shared.board.layout.cells ≤ l.outbox.places;
   share : l.desk.ready.share ≡ l.fn.desk.ready.share;
 }

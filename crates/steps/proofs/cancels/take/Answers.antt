@@ -12,7 +12,7 @@ compare_exchange-requires c = let f = c.requires.fits in let k = c.requires.canc
     rw c.claim_word.ensures (
       f.0,
       omega arith,
-      take_allows _ _ _ c.args.cell c.args.generation f.2 c.requires.small k.0 k.1 k.2 k.3 _ _ _ 4294967171 c.requires.fails.0 c.requires.submitted bits c.requires.found (c.taken-taken.ensures 4294967171 bits ∙ ap (λ b. word_of Done (cause_bits by_take b) c.args.generation 4294967171) c.requires.fails.2) c.requires.fails.1,
+      take_allows _ _ _ c.args.cell c.args.generation f.2 c.requires.small k.0 k.1 k.2 _ _ _ 4294967171 c.requires.fails.0 c.requires.submitted bits c.requires.found (c.taken-taken.ensures 4294967171 bits ∙ ap (λ b. word_of Done (cause_bits by_take b) c.args.generation 4294967171) c.requires.fails.2) c.requires.fails.1,
     )
 
 pub returns-clause-seat : goal.returns-clause-seat

@@ -33,7 +33,7 @@ leave-requires c =
 pub returns : goal.returns
 returns c = let v : View = c.args.seat.now.me.0 in let w : View = c.reply_holding.new.seat.me.0 in let q : Req = request_at v.layout.cells c.args.cell c.args.generation in let r = to_z-of_z w32 c.args.res c.ranges.res in let l = c.leave.ensures.leaves in record {
   seat = ((c.leave.ensures.seat.0.0 ∙ c.reply_holding.ensures.seat.0.0, c.leave.ensures.seat.0.1 ∙ c.reply_holding.ensures.seat.0.1), c.leave.ensures.seat.1 ∙ ap rest c.reply_holding.ensures.seat.1);
-  ended = (let a = c.requires.answer in let x = c.reply_holding.ensures.replies a.0 a.1 (subst (λ (z : ℤ). MayReply c.args.seat.now.me c.args.cell q a.0 z a.1) (sym r) a.2) in (ap (λ (z : View). z.role) l.1, ap (λ (z : View). z.parts) l.1 ∙ ap (λ (z : View). z.parts) x.is));
+  ended = (let a = c.requires.answer in let x = c.reply_holding.ensures.replies a.0 a.1 (subst (λ (z : ℤ). MayReply c.args.seat.now.me c.args.cell q a.0 z a.1) (sym r) a.2) in (ap (λ (z : View). z.role) l.1, ap (λ (z : View). z.parts) l.1 ∙ ap (λ (z : View). z.parts) x.is, ap (λ (z : View). z.layout) l.1 ∙ ap (λ (z : View). z.layout) x.is));
   replies = λ e data' m. (w, subst (λ (z : ℤ). Extends v (Did (Reply q z data')) (Leaving q) w) r (c.reply_holding.ensures.replies e data' (subst (λ (z : ℤ). MayReply c.args.seat.now.me c.args.cell q e z data') (sym r) m)), l.0, l.1);
   steps = (w, (_, c.reply_holding.ensures.step), (l.0, ap (λ (z : View). z.steps) l.1 ∙ ap (λ (j : List Line). (let last : Step = record { word = pipe_at c.args.pipe; found = l.0; seen = j } in last) ∷ w.steps) (sym (ap (λ (z : View). z.seen) l.1))));
 }

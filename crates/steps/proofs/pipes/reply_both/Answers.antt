@@ -36,7 +36,7 @@ returns c = let a = c.requires.answer in let v : View = c.args.seat.now.me.0 in 
     let e = c.reply_holding.ensures in let k = c.leave_both.ensures in
     let x = e.replies a.0 a.1 (subst (λ (z : ℤ). MayReply c.args.seat.now.me c.args.cell q a.0 z a.1) (sym r) a.2) in let l = k.leaves q (ap (λ (z : View). z.role) x.is) in let mid : View = leaves_one q c.args.second (pipe_at c.args.first) l.0 w in record {
       seat = ((k.seat.0.0 ∙ e.seat.0.0, k.seat.0.1 ∙ e.seat.0.1), k.seat.1 ∙ ap (λ (hand : List (ℕ × Option Thing)). rest (rest hand)) e.seat.1);
-      ended = (ap (λ (z : View). z.role) l.2, ap (λ (z : View). z.parts) l.2 ∙ ap (λ (z : View). z.parts) x.is);
+      ended = (ap (λ (z : View). z.role) l.2, ap (λ (z : View). z.parts) l.2 ∙ ap (λ (z : View). z.parts) x.is, ap (λ (z : View). z.layout) l.2 ∙ ap (λ (z : View). z.layout) x.is);
       replies = λ d data' m. (w, subst (λ (z : ℤ). Extends v (Did (Reply q z data')) (Leaving q) w) r (e.replies d data' (subst (λ (z : ℤ). MayReply c.args.seat.now.me c.args.cell q d z data') (sym r) m)), l.0, l.1, l.2);
       steps = (w, (_, e.step), (mid, (l.0, refl), (l.1, subst (λ (z : View). IsStep (pipe_at c.args.second) l.1 mid z) (sym l.2) refl)));
     }

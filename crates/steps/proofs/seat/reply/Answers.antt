@@ -24,4 +24,4 @@ compare_exchange-requires c = let f = c.requires.fits in let a = c.requires.answ
 pub returns : goal.returns
 returns c = let f = c.requires.fits in let a = c.requires.answer in let res = c.args.res in let b = of_z w32 res in let bits = bits_are res b c.ranges.res refl in let bits' : reply_bits (to_z w32 b) b = subst (λ (z : ℤ). reply_bits z b) (sym (to_z-of_z w32 res c.ranges.res)) bits in
     let d = λ (e : Entry) (data' : List ℕ) (m : MayReply c.args.seat.now.me c.args.cell (request_at c.args.seat.now.me.0.layout.cells c.args.cell c.args.generation) e c.args.res data'). c.compare_exchange.ensures.2.1 c.args.cell 0 c.args.generation 0 c.claim_word.ensures f.2 (omega arith) c.requires.small (omega arith) c.running-running.ensures c.args.generation (cause_bits by_reply c.args.fails) b res e data' c.requires.small (cause_fits by_reply c.args.fails) (bits_fit res b bits) bits (c.done-done.ensures b bits') m.placed_is m.answers in
-    record { seat = ((c.compare_exchange.ensures.0, c.compare_exchange.ensures.1), (d a.0 a.1 a.2).1); ended = (let x = (d a.0 a.1 a.2).0 in (ap (λ (z : View). z.role) x.is, ap (λ (z : View). z.parts) x.is)); replies = λ e data' m. (d e data' m).0; step = subst (λ (z : ℕ × ℕ). IsStep z.0 z.1 c.args.seat.now.me.0 c.compare_exchange.new.seat.me.0) (λ i. (c.claim_word.ensures i, (c.compare_exchange.ensures.2.0 ∙ c.running-running.ensures) i)) c.compare_exchange.ensures.2.2 }
+    record { seat = ((c.compare_exchange.ensures.0, c.compare_exchange.ensures.1), (d a.0 a.1 a.2).1); ended = (let x = (d a.0 a.1 a.2).0 in (ap (λ (z : View). z.role) x.is, ap (λ (z : View). z.parts) x.is, ap (λ (z : View). z.layout) x.is)); replies = λ e data' m. (d e data' m).0; step = subst (λ (z : ℕ × ℕ). IsStep z.0 z.1 c.args.seat.now.me.0 c.compare_exchange.new.seat.me.0) (λ i. (c.claim_word.ensures i, (c.compare_exchange.ensures.2.0 ∙ c.running-running.ensures) i)) c.compare_exchange.ensures.2.2 }

@@ -2,13 +2,13 @@ use Rattle.std.proofs.Common.{◌∙◌, subst, arith}
 use Rattle.history.specs.declared.req.Req.{Req}
 use Rattle.steps.specs.Rule.{Looks}
 use Rattle.work.specs.Searches.{DidTake, target_in}
-use Rattle.work.proofs.CancelSearch.{cancels_looked, earlier_looked, passed_looked, meant_looked, stepped_both, stepped_claim, stepped_less, take_later, target_looked}
+use Rattle.work.proofs.CancelSearch.{aim_looked, cancels_looked, earlier_looked, meant_looked, stepped_both, stepped_claim, stepped_less, take_later, target_looked}
 use Rattle.work.proofs.PassesKept.{looks_both}
 use Rattle.work.proofs.cancel.take.Goals as goal
 
 pub attempt-requires-clause-cancels : goal.attempt-requires-clause-cancels
 attempt-requires-clause-cancels c = let s = c.args.seat.now in let f = c.look-first.new.seat in let r = c.requires.cancels in let table = c.args.words.now.table_id in let x : Looks s.me.0 f.me.0 = c.look-first.ensures.looks in let same = c.look-first.ensures.seat.0.0 in
-    (r.0, r.1, cancels_looked table s f r.0 r.1 r.2 x same, earlier_looked table s f r.0 c.args.target r.3 x same, passed_looked table s f r.0 r.1 c.args.target r.2 x r.4, meant_looked table s f r.0 r.1 c.args.target r.2 x r.5)
+    (r.0, r.1, cancels_looked table s f r.0 r.1 r.2 x same, earlier_looked table s f r.0 c.args.target r.3 x same, aim_looked table s f r.0 r.1 c.args.target r.2 x r.4, meant_looked table s f r.0 r.1 c.args.target r.2 x r.5)
 
 pub returns-in-Ok-clause-tried : goal.returns-in-Ok-clause-tried
 returns-in-Ok-clause-tried c = let s = c.args.seat.now in let f = c.look-first.new.seat in let table = c.args.words.now.table_id in let x : Looks s.me.0 f.me.0 = c.look-first.ensures.looks in λ d w k.
@@ -26,7 +26,7 @@ attempt-requires-2-clause-cancels c = let s = c.args.seat.now in let f = c.look-
       r.1,
       cancels_looked table f g r.0 r.1 k y one,
       earlier_looked table f g r.0 c.args.target (earlier_looked table s f r.0 c.args.target r.3 x same) y one,
-      passed_looked table f g r.0 r.1 c.args.target k y (passed_looked table s f r.0 r.1 c.args.target r.2 x r.4),
+      aim_looked table f g r.0 r.1 c.args.target k y (aim_looked table s f r.0 r.1 c.args.target r.2 x r.4),
       meant_looked table f g r.0 r.1 c.args.target k y (meant_looked table s f r.0 r.1 c.args.target r.2 x r.5),
     )
 

@@ -44,3 +44,9 @@ pub returns-clause-told : goal.returns-clause-told
 returns-clause-told g c = let p = g.Q.Pass.knows c.args.other.now in let m = c.tell-messenger.result in let q = g.Q.Pass.knows c.load-2.new.self in
     let seen : m.view.seen ≡ (g.P.Pass.knows c.tell-messenger.new.self).view.seen = ap (λ (z : Pass). z.view.seen) c.tell-messenger.ensures.told ∙ ap (λ (z : Pass). z.view.seen) (sym c.tell-messenger.ensures.same) in
     subst (Begins q.view.seen) seen (begins_told p (g.Q.Pass.knows c.hear.new.self) q m.view c.hear.ensures.heard c.load-2.ensures.looks)
+
+pub returns-clause-took : goal.returns-clause-took
+returns-clause-took g c = (
+  ap (λ (z : Pass). z.took) c.tell-messenger.ensures.same ∙ c.load.ensures.took,
+  c.load-2.ensures.took ∙ ap (λ (z : Pass). z.took) c.hear.ensures.heard,
+)

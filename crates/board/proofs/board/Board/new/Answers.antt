@@ -4,15 +4,16 @@ use Rattle.steps.specs.declared.parcel.Thing.{Thing}
 use Rattle.steps.specs.declared.view.View.{View}
 use Rattle.steps.specs.declared.view.Layout.{Layout}
 use Rattle.steps.specs.declared.view.Role.TheVariants.{Poller}
-use Rattle.steps.specs.Cells.{total, words_of}
+use Rattle.steps.specs.Cells.{cells_in, total, words_of}
 use Rattle.work.specs.Grid.{AreCells, AreCellCounts}
 use Rattle.work.specs.Board.{Facts}
 use Rattle.work.specs.Passes.{Pass, pass_of}
-use Rattle.board.specs.ShapeLimits.{counts}
+use Rattle.board.specs.declared.shape.RingShape.{RingShape}
+use Rattle.board.specs.ShapeLimits.{counts, widest}
 use Rattle.board.specs.New.{IsCutting, IsFresh}
 use Rattle.board.specs.PollerRows.{KnowsRows}
 use Rattle.steps.specs.declared.line.Line.{Line}
-use Rattle.board.proofs.ShapeBounds.{shape_says}
+use Rattle.board.proofs.ShapeBounds.{none_wider, shape_says}
 use Rattle.board.proofs.NewPasses.{cut_all, poller_fresh}
 use Rattle.board.proofs.board.Board.new.Goals as goal
 
@@ -49,6 +50,7 @@ invariant_of-board c = let s = shape_says c.args.shape.now (sym c.if-not-is_shap
       },
       e.2 ∙ (items ∙ sym grid),
       ap (λ (caps : List ℕ). length caps) e.3 ∙ (sym c.args.shape.now.pipes.ok.0 ∙ sym c.len.ensures),
+      c.widest_of-widest.ensures ∙ (ap (λ (rings : List RingShape). widest (counts rings)) c.as_slice-3.ensures.value ∙ ap widest (sym grid)),
     )
 
 pub new-requires-2-clause-seat : goal.new-requires-2-clause-seat
@@ -108,3 +110,12 @@ new-requires-2-clause-alarms c = let e = c.in_ok-table.ensures in
     let k = cut_all c.in_ok-table.seat.me.0.layout c.in_ok-table.table.shared.table_id (length c.in_ok-grid.grid) c.args.shape.now.workers c.cut_submitters.new.seat c.cut_workers.new.seat c.in_ok-submitters.ensures.seat c.in_ok-workers.ensures.seat in
     let cells : c.in_ok-grid.grid ≡ c.cut_workers.new.seat.me.0.layout.cells = grid ∙ (sym first ∙ sym (ap (λ (L : Layout). L.cells) k.layout_is)) in
     (k.seen, sym c.in_ok-alarms.alarms.ok.0 ∙ c.in_ok-alarms.ensures.len ∙ (c.total-2.ensures ∙ ap total cells))
+
+pub cut_workers-requires-clause-widest : goal.cut_workers-requires-clause-widest
+cut_workers-requires-clause-widest c ring =
+    let L : Layout = c.in_ok-table.seat.me.0.layout in
+    let items : c.in_ok-cells.cells.items ≡ counts c.args.shape.now.rings.items = c.in_ok-cells.ensures ∙ ap counts c.as_slice.ensures.value in
+    let first : L.cells ≡ counts c.args.shape.now.rings.items = ap (λ (m : Me (Option Thing) View). m.0.layout.cells) c.in_ok-table.ensures.1 ∙ items in
+    let cells : c.cut_submitters.new.seat.me.0.layout.cells ≡ counts c.args.shape.now.rings.items = ap (λ (z : Layout). z.cells) c.in_ok-submitters.ensures.seat.layout_is ∙ first in
+    let wide : c.widest_of-widest.result ≡ widest (counts c.args.shape.now.rings.items) = c.widest_of-widest.ensures ∙ ap (λ (rings : List RingShape). widest (counts rings)) c.as_slice-3.ensures.value in
+    subst (λ (K : List ℕ). cells_in K ring ≤ c.widest_of-widest.result) (sym cells) (subst (λ (n : ℕ). cells_in (counts c.args.shape.now.rings.items) ring ≤ n) (sym wide) (none_wider (counts c.args.shape.now.rings.items) ring))

@@ -1,4 +1,4 @@
-use Rattle.std.proofs.Common.{[], All, List, sum_by, sym, ap, ◌∙◌, subst, arith}
+use Rattle.std.proofs.Common.{All, List, sum_by, sym, ap, ◌∙◌, subst, arith}
 use Rattle.std.proofs.lemmas.List.Elements.{All-push}
 use Rattle.std.proofs.lemmas.List.Sums.{sum_by_push}
 use Rattle.ready.specs.Ready.{Moves, IsOf as IsOfQueue}

@@ -1,5 +1,6 @@
 use Rattle.std.proofs.Common.{rules, ◌≡◌, ℕ, ◌<◌, true, ℤ, [], ◌∷◌, length, Some, None, sym, refl, ap, ◌∙◌, subst, to_z, of_z, w32}
 use Rattle.std.proofs.lemmas.Int.{to_z-of_z}
+use Rattle.std.specs.Prelude.{vec_capacity}
 use Rattle.atomic_table.specs.Table.{rest}
 use Rattle.answers.specs.Answered.{is_plain}
 use Rattle.answers.specs.NamedEnds.{UsesNone}
@@ -21,7 +22,7 @@ use Rattle.steps.specs.Rule.{Extends, IsStep}
 use Rattle.work.specs.Passes.{Pass, Running, seen_of}
 use Rattle.work.specs.Searches.{wanted_in}
 use Rattle.work.specs.WorkerRuns.{op_run, run_as}
-use Rattle.work.proofs.RunsKept.{runs_placed, runs_entry, runs_kind, plain_run, plain_may}
+use Rattle.work.proofs.RunsKept.{room_on, runs_placed, runs_entry, runs_kind, plain_run, plain_may}
 use Rattle.work.proofs.busy.Busy.answer.Goals as goal
 
 pub answer_without-res-requires-clause-plain : goal.answer_without-res-requires-clause-plain
@@ -36,12 +37,16 @@ reply-requires-clause-answer c = let b = c.self.inside in let i = c.self.invaria
     let rz = to_z-of_z w32 c.answer_without-res.result (search rules) in let answers = subst (λ (o : Op × ℤ). OpAnswers b.seat.me.0.layout.caps (events_of b.seat.me.0.seen) b.req o.0 o.1 []) (λ k. (c.op_placed.ensures k, sym rz k)) (c.answer_without-res.ensures b.seat.me.0.layout.caps (events_of b.seat.me.0.seen) b.req i.runs.pipes_are.0) in
     (run_as b.parcel.sqe, [], subst (λ (y : Seated). MayReply y b.cell (request_at y.0.layout.cells b.cell b.generation) (run_as b.parcel.sqe) (to_z w32 (of_z w32 c.answer_without-res.result)) []) (sym m) (plain_may table z b.cell b.generation b.req b.parcel b.pipes i.runs (to_z w32 (of_z w32 c.answer_without-res.result)) refl past answers), c.fails_placed-fails.ensures)
 
-pub new-requires : goal.new-requires
-new-requires c = let i = c.self.invariant in let m = c.put_back.ensures.seat.2 in record {
+pub new-requires-clause-seat : goal.new-requires-clause-seat
+new-requires-clause-seat c = let i = c.self.invariant in let m = c.put_back.ensures.seat.2 in record {
   role = c.reply.ensures.ended.0;
   parts = subst (λ (n : ℕ). 0 < n) (sym (c.reply.ensures.ended.1 ∙ ap (λ (z : Seated). z.0.parts) m)) i.runs.parts;
   bare = c.reply.ensures.seat.1 ∙ (ap (λ (z : Seated). rest z.1) m ∙ ap rest i.out);
 }
+
+pub new-requires-clause-room : goal.new-requires-clause-room
+new-requires-clause-room c = let b = c.self.inside in let i = c.self.invariant in let m = c.put_back.ensures.seat.2 in
+    room_on b.words.now.table_id b.grid.now b.seat.me.0 c.reply.new.seat.me.0 b.took.items (vec_capacity b.took) i.grid (c.reply.ensures.ended.2 ∙ ap (λ (z : Seated). z.0.layout) m) i.spare
 
 pub returns-clause-step : goal.returns-clause-step
 returns-clause-step c = let b = c.self.inside in let m = c.put_back.ensures.seat.2 in

@@ -37,6 +37,7 @@ invariant_of-result c = let b = c.self.inside in let i = c.self.invariant in let
   table_is = k.seat.0 ∙ i.table_is;
   grid = grid_on b.words.now.table_id b.grid.now b.seat.me.0 c.hold.new.seat.me.0 (ap (λ (z : View). z.layout) x.0.is) i.grid;
   unhit = same_hit_looked b.seat.me.0 c.hold.new.seat.me.0 b.req i.runs.role x.0 ∙ i.unhit;
+  spare = i.spare;
   runs = runs_look b.words.now.table_id b.seat.me.0 c.hold.new.seat.me.0 b.cell b.generation b.req b.parcel b.pipes i.runs x.0;
   out = x.1 ∙ i.out;
   bare = λ n. lacks_after b.seat.me.0 c.hold.new.seat.me.0 b.req n i.runs.role (i.bare n) x.0;
@@ -62,6 +63,7 @@ invariant_of-result-2 c = let b = c.self.inside in let i = c.self.invariant in l
       table_is = c.exchange-thing.ensures.0 ∙ (k.seat.0 ∙ i.table_is);
       grid = grid_on b.words.now.table_id b.grid.now b.seat.me.0 c.exchange-thing.new.seat.me.0 (ap (λ (z : Seated). z.0.layout) m ∙ layout_after b.seat.me.0 v (Hold b.req c.args.pipe) (RoleBusy b.req) x.0) i.grid;
       unhit = ap (λ (z : Seated). hit (events_of z.0.seen) b.req) m ∙ (same_hit_silent b.seat.me.0 v b.req i.runs.role (Hold b.req c.args.pipe) (RoleBusy b.req) (λ j. refl) x.0 ∙ i.unhit);
+      spare = i.spare;
       runs = subst (λ (z : Seated). RunsIt b.words.now.table_id z.0 b.cell b.generation b.req b.parcel b.pipes) (sym m) runs;
       out = ap (λ (z : Seated). z.1) m ∙ ap (λ (cs : List (ℕ × Option Thing)). (c.args.pipe, None) ∷ cs) (ap rest h.1 ∙ i.out);
       alone = subst (λ (z : Seated). HasAlone z.0.seen c.args.pipe b.req) (sym m) x.1;

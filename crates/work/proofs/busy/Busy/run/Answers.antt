@@ -1,4 +1,4 @@
-use Rattle.std.proofs.Common.{◌≡◌, [], length, Option, Some, None, inl, sym, refl, ap, ◌∙◌, subst}
+use Rattle.std.proofs.Common.{◌≡◌, ◌<◌, List, [], length, Option, Some, None, sym, refl, ap, ◌∙◌, subst}
 use Rattle.answers.specs.declared.named.NamedPipes.TheVariants.{Nothing, One, Both}
 use Rattle.answers.specs.NamedEnds.{UsesNone, UsesOne, UsesBoth}
 use Rattle.entry.specs.declared.op.Op.{Op}
@@ -9,13 +9,15 @@ use Rattle.history.specs.Chains.{IsPlaced}
 use Rattle.steps.specs.declared.line.Line.TheVariants.{Did}
 use Rattle.steps.specs.declared.view.Role.TheVariants.{Idle, Busy}
 use Rattle.steps.specs.declared.view.View.{View}
+use Rattle.steps.specs.Cells.{cells_in}
 use Rattle.steps.proofs.ViewsKept.{role_after}
 use Rattle.work.specs.declared.run.Ran.TheVariants.{Replied}
 use Rattle.work.specs.Passes.{Running, seen_of}
 use Rattle.work.specs.declared.cancel.Wanted.{Wanted}
 use Rattle.work.specs.Searches.{wanted_in}
 use Rattle.work.specs.WorkerRuns.{run_as}
-use Rattle.work.proofs.RunsKept.{runs_entry, steps_plain, wanted_run, quiet_still, ends_by, took_none, took_more, past_is, one_placed, both_placed}
+use Rattle.work.proofs.CancelEnds.{ring_cells}
+use Rattle.work.proofs.RunsKept.{bare_reply, runs_entry, steps_plain, wanted_run, quiet_still, ends_by, took_none, took_more, past_is, one_placed, both_placed}
 use Rattle.work.proofs.busy.Busy.run.Goals as goal
 
 -- the table has no word for it
@@ -39,11 +41,11 @@ returns-in-Nothing-clause-steps c = let b = c.self.inside in let i = c.self.inva
     let past = subst Past c.self.view_is (past_is b.words.now.table_id b.seat.me.0 b.seat.me.0 b.cell b.generation b.req b.parcel b.pipes i.runs (subst (λ (o : Op). UsesNone o b.pipes) c.op-2.ensures c.in-Nothing.ensures)) in
     let plain : wanted_in b.parcel.sqe.op ≡ None = ap wanted_in (sym c.op.ensures) ∙ (sym c.wanted_of.ensures ∙ none_of c.wanted_of.result c.in_default.not-Some) in
     let entry = subst (λ (k : Running). (e : Entry) → IsPlaced (seen_of k.pass) k.req e → run_as b.parcel.sqe ≡ e) c.self.view_is (runs_entry b.words.now.table_id b.seat.me.0 b.seat.me.0 b.cell b.generation b.req b.parcel b.pipes i.runs) in
-    λ e is. steps_plain c.args.self w e (Replied c.answer-worker.result.1 None) (ap (λ (d : Entry). wanted_in d.op) (sym (entry e is)) ∙ (wanted_run b.parcel.sqe.op ∙ plain)) Nothing (past e is) (took_more v v w 0 s.1 s.0 (took_none v) s.2)
+    λ e is. steps_plain c.args.self w e (Replied c.answer-worker.result.1) (ap (λ (d : Entry). wanted_in d.op) (sym (entry e is)) ∙ (wanted_run b.parcel.sqe.op ∙ plain)) Nothing (past e is) (took_more v v w 0 s.1 s.0 (took_none v) s.2)
 
 pub returns-in-Nothing-clause-ran : goal.returns-in-Nothing-clause-ran
 returns-in-Nothing-clause-ran c = let b = c.self.inside in let i = c.self.invariant in let v : View = c.args.self.pass.view in let r : Req = c.args.self.req in let w : View = c.answer-worker.result.0.view in let busy = subst (λ (k : Running). k.pass.view.role ≡ Busy k.req) c.self.view_is i.runs.role in let x = c.answer-worker.ensures.replied in let e = Reply r c.answer-worker.result.1.res [] in
-    (([], [], ends_by v v w r (quiet_still v r busy) w e Idle x refl (role_after v w (Did e) Idle x), inl refl), c.answer-worker.ensures.user_data)
+    (bare_reply c.args.self c.answer-worker.result.0 c.answer-worker.result.1.res [] (ends_by v v w r (quiet_still v r busy) w e Idle x refl (role_after v w (Did e) Idle x)) c.answer-worker.ensures.took, c.answer-worker.ensures.user_data)
 
 pub returns-in-One-clause-steps : goal.returns-in-One-clause-steps
 returns-in-One-clause-steps c = let b = c.self.inside in let i = c.self.invariant in
@@ -58,3 +60,19 @@ returns-in-Both-clause-steps c = let b = c.self.inside in let i = c.self.invaria
     let plain : wanted_in b.parcel.sqe.op ≡ None = ap wanted_in (sym c.op.ensures) ∙ (sym c.wanted_of.ensures ∙ none_of c.wanted_of.result c.in_default.not-Some) in
     let entry = subst (λ (k : Running). (e : Entry) → IsPlaced (seen_of k.pass) k.req e → run_as b.parcel.sqe ≡ e) c.self.view_is (runs_entry b.words.now.table_id b.seat.me.0 b.seat.me.0 b.cell b.generation b.req b.parcel b.pipes i.runs) in
     λ e is. steps_plain c.args.self c.run_between.result.0.view e c.run_between.result.1 (ap (λ (d : Entry). wanted_in d.op) (sym (entry e is)) ∙ (wanted_run b.parcel.sqe.op ∙ plain)) (Both c.in-Both.source c.in-Both.target) (both e is) c.run_between.ensures.steps
+
+-- no cancel took any, and the ring of its request has cells
+abbrev Few : Running → List Req → Type 0
+Few k list = length list < cells_in k.pass.view.layout.cells k.req.ring
+
+few_of : (k : Running) (list : List Req) → list ≡ [] → Few k [] → Few k list
+few_of k list none' few = subst (λ (l : List Req). Few k l) (sym none') few
+
+pub returns-in-Nothing-clause-few : goal.returns-in-Nothing-clause-few
+returns-in-Nothing-clause-few c = let b = c.self.inside in let i = c.self.invariant in few_of c.args.self c.answer-worker.result.0.took c.answer-worker.ensures.took (subst (λ (k : Running). Few k []) c.self.view_is (ring_cells b.seat.me.0.layout.cells b.cell b.generation b.req i.runs.fits.1 i.runs.req_is))
+
+pub returns-in-One-clause-few : goal.returns-in-One-clause-few
+returns-in-One-clause-few c = let b = c.self.inside in let i = c.self.invariant in few_of c.args.self c.run_with.result.0.took c.run_with.ensures.took (subst (λ (k : Running). Few k []) c.self.view_is (ring_cells b.seat.me.0.layout.cells b.cell b.generation b.req i.runs.fits.1 i.runs.req_is))
+
+pub returns-in-Both-clause-few : goal.returns-in-Both-clause-few
+returns-in-Both-clause-few c = let b = c.self.inside in let i = c.self.invariant in few_of c.args.self c.run_between.result.0.took c.run_between.ensures.took (subst (λ (k : Running). Few k []) c.self.view_is (ring_cells b.seat.me.0.layout.cells b.cell b.generation b.req i.runs.fits.1 i.runs.req_is))

@@ -1,4 +1,4 @@
-use Rattle.std.proofs.Common.{◌≡◌, ℕ, ◌<◌, List, [], length, inl, sym, refl, ap, ◌∙◌, subst, arith}
+use Rattle.std.proofs.Common.{◌≡◌, ℕ, ◌<◌, List, length, sym, refl, ap, ◌∙◌, subst, arith}
 use Rattle.answers.specs.NamedEnds.{UsesOne}
 use Rattle.entry.specs.Entry.{Entry}
 use Rattle.history.specs.declared.event.Event.TheVariants.{Reply, Park}
@@ -17,7 +17,7 @@ use Rattle.steps.specs.Rule.{Extends}
 use Rattle.steps.proofs.ViewsKept.{layout_after, role_after}
 use Rattle.work.specs.Passes.{Pass, Running, seen_of}
 use Rattle.work.specs.WorkerRuns.{NoAnswer, Unanswered}
-use Rattle.work.proofs.RunsKept.{one_handed, named_on, quiet_still, quiet_look, quiet_line, ends_by, took_none, took_more, took_both, missed_out, worker_on, worker_left, begins_on, begins_both, placed_on, has_one, held_now}
+use Rattle.work.proofs.RunsKept.{bare_reply, one_handed, named_on, quiet_still, quiet_look, quiet_line, ends_by, took_none, took_more, took_both, missed_out, worker_on, worker_left, begins_on, begins_both, placed_on, has_one, held_now}
 use Rattle.work.proofs.busy.Busy.run_with.Goals as goal
 
 pub prove-unreachable-requires : goal.prove-unreachable-requires
@@ -42,7 +42,7 @@ pub returns-in-Err-clause-ran : goal.returns-in-Err-clause-ran
 returns-in-Err-clause-ran c = let b = c.self.inside in let i = c.self.invariant in let v : View = c.args.self.pass.view in let r : Req = c.args.self.req in let m : View = c.in-Err.busy.pass.view in let w : View = c.park.result.view in let busy = subst (λ (k : Running). k.pass.view.role ≡ Busy k.req) c.self.view_is i.runs.role in let h = c.in-Err.ensures.busy in let k = h.3 in let t = c.park.ensures.steps in
     let x = subst (λ (q : Req). Extends m (Did (Park q)) Idle w) h.0 c.park.ensures.parked.1 in
     let out = missed_out v v m w c.args.pipe r 0 1 (took_none v) k t in
-    (ends_by v m w r (quiet_look v v m r (quiet_still v r busy) h.2) w (Park r) Idle x refl (role_after m w (Did (Park r)) Idle x), λ e is. (let one = c.requires.named e is in (c.args.pipe, one.there, one.used, out)))
+    (ends_by v m w r (quiet_look v v m r (quiet_still v r busy) h.2) w (Park r) Idle x refl (role_after m w (Did (Park r)) Idle x), c.park.ensures.took, λ e is. (let one = c.requires.named e is in (c.args.pipe, one.there, one.used, out)))
 
 pub returns-in-Ok-answer-clause-kept : goal.returns-in-Ok-answer-clause-kept
 returns-in-Ok-answer-clause-kept c = let b = c.self.inside in let i = c.self.invariant in let v : View = c.args.self.pass.view in let r : Req = c.args.self.req in let busy = subst (λ (k : Running). k.pass.view.role ≡ Busy k.req) c.self.view_is i.runs.role in let h = c.in-Ok.ensures.held in let a = c.in-Ok-answer.ensures.replied in let p : Pass = c.in-Ok.holding.pass in
@@ -58,7 +58,7 @@ returns-in-Ok-answer-clause-ran c = let b = c.self.inside in let i = c.self.inva
     let x = subst (λ (q : Req). Extends m (Did (Reply q c.in-Ok-answer.cqe.res a.1)) (Leaving q) a.2) h.0 a.3 in
     let user = subst (λ (q : Req). (e : Entry) → IsPlaced (events_of m.seen) q e → c.in-Ok-answer.cqe.user_data ≡ e.user_data) h.0 c.in-Ok-answer.ensures.user_data in
     let on = subst (λ (k : Running). Extends k.pass.view (Hold k.req c.args.pipe) (Busy k.req) m → (e : Entry) → IsPlaced (events_of k.pass.view.seen) k.req e → IsPlaced (events_of m.seen) k.req e) c.self.view_is (λ y. placed_on b.words.now.table_id b.seat.me.0 m b.cell b.generation b.req b.parcel b.pipes i.runs (Hold b.req c.args.pipe) (Busy b.req) y) h.4 in
-    ((a.1, [], ends_by v m a.2 r (quiet_line v v m r (quiet_still v r busy) (Hold r c.args.pipe) (λ j. refl) h.4) w (Reply r c.in-Ok-answer.cqe.res a.1) (Leaving r) x (ap (λ (z : View). z.seen) a.5) (ap (λ (z : View). z.role) a.5), inl refl), λ e is. user e (on e is))
+    (bare_reply c.args.self c.in-Ok-answer.worker c.in-Ok-answer.cqe.res a.1 (ends_by v m a.2 r (quiet_line v v m r (quiet_still v r busy) (Hold r c.args.pipe) (λ j. refl) h.4) w (Reply r c.in-Ok-answer.cqe.res a.1) (Leaving r) x (ap (λ (z : View). z.seen) a.5) (ap (λ (z : View). z.role) a.5)) c.in-Ok-answer.ensures.took, λ e is. user e (on e is))
 
 pub returns-in-Err-answer-clause-steps : goal.returns-in-Err-answer-clause-steps
 returns-in-Err-answer-clause-steps c = let b = c.self.inside in let i = c.self.invariant in let v : View = c.args.self.pass.view in let m : View = c.in-Ok.holding.pass.view in let n : View = c.in-Err-answer.busy.pass.view in let w : View = c.park-in-Err-answer.result.view in let h = c.in-Ok.ensures.held in let s = c.in-Err-answer.ensures.waits.3 in
@@ -80,4 +80,4 @@ returns-in-Err-answer-clause-ran c = let b = c.self.inside in let i = c.self.inv
       has = has_one v.layout.caps m.seen e.op r c.args.pipe (c.requires.named e is) (held_now v m r c.args.pipe (Busy r) h.4);
       none = λ res d k. none e (on e is) res d (subst (λ (L : Layout). OpAnswers L.caps (events_of m.seen) r e.op res d) (sym same) k);
     } in
-    (ends_by v n w r second w (Park r) Idle x refl (role_after n w (Did (Park r)) Idle x), λ e is. (let one = c.requires.named e is in (c.args.pipe, one.there, one.used, quiet e is)))
+    (ends_by v n w r second w (Park r) Idle x refl (role_after n w (Did (Park r)) Idle x), c.park-in-Err-answer.ensures.took, λ e is. (let one = c.requires.named e is in (c.args.pipe, one.there, one.used, quiet e is)))

@@ -2,6 +2,7 @@ use Rattle.std.specs.Vec.{with_items}
 use Rattle.std.proofs.lemmas.Int.{to_z-of_z}
 use Rattle.std.proofs.lemmas.List.{with_items_is, places}
 use Rattle.std.proofs.Common.{rules, ◌≡◌, ℕ, ◌<◌, ℤ, List, [], ◌∷◌, length, slice_index, Some, sym, refl, ap, ◌∙◌, subst, to_z, of_z, w32}
+use Rattle.std.specs.Prelude.{vec_capacity}
 use Rattle.atomic_table.specs.Table.{rest}
 use Rattle.answers.specs.Answered.{IsPipe}
 use Rattle.entry.specs.declared.op.Op.{Op}
@@ -25,7 +26,7 @@ use Rattle.steps.specs.Plays.{Seated, HasAlone, HasPipeAfter, MayReply}
 use Rattle.steps.proofs.ViewsKept.{layout_after}
 use Rattle.work.specs.Passes.{Pass, Holding, seen_of}
 use Rattle.work.specs.WorkerRuns.{Unanswered}
-use Rattle.work.proofs.RunsKept.{runs_on, grid_on, same_hit_silent, runs_same, piped_entry, one_handed, has_one, runs_fits, pipe_may, pipe_after, in_both_hands}
+use Rattle.work.proofs.RunsKept.{room_on, runs_on, grid_on, same_hit_silent, runs_same, piped_entry, one_handed, has_one, runs_fits, pipe_may, pipe_after, in_both_hands}
 use Rattle.steps.specs.Rule.{Extends, IsTwoSteps, leaves}
 use Rattle.answers.specs.NamedEnds.{UsesOne}
 use Rattle.work.proofs.holding.Holding.answer.Goals as goal
@@ -55,6 +56,7 @@ invariant_of-result c = let b = c.self.inside in let i = c.self.invariant in let
       table_is = c.free.ensures.seat.0.0 ∙ (c.exchange.ensures.0 ∙ i.table_is);
       grid = grid_on b.words.now.table_id b.grid.now b.seat.me.0 w (layout_after b.seat.me.0 w (Free b.req b.pipe) (RoleBusy b.req) x) i.grid;
       unhit = same_hit_silent b.seat.me.0 w b.req i.runs.role (Free b.req b.pipe) (RoleBusy b.req) (λ j. refl) x ∙ i.unhit;
+      spare = i.spare;
       runs = runs_same b.words.now.table_id w w b.cell b.generation b.req b.parcel b.pipes runs (let p : Parcel = record { sqe = b.parcel.sqe; buffer = with_items b.parcel.buffer c.answer_with-answer.new.buffer; last = b.parcel.last } in p) refl refl (with_items_is b.parcel.buffer c.answer_with-answer.new.buffer (search (rules, places)) ∙ (k.buffer ∙ c.as_mut_slice.ensures.value));
       out = c.free.ensures.seat.1 ∙ (ap (λ (z : Seated). rest z.1) m ∙ ap rest i.out);
       bare = frees.1;
@@ -82,12 +84,16 @@ reply-requires-clause-answer c = let b = c.self.inside in let i = c.self.invaria
       (c.answer_with-answer.new.pipe, refl, pipe_after b.words.now.table_id z b.cell b.generation b.req b.parcel b.pipes i.runs b.pipe c.answer_with-answer.new.pipe res made),
     )
 
-pub new-requires : goal.new-requires
-new-requires c = let b = c.self.inside in let i = c.self.invariant in let m = in_both_hands b.seat.me c.exchange.new.seat.me c.turn.new.self.me c.put_back.new.seat.me b.pipe (slot_at b.cell) _ _ i.out c.exchange.ensures.3 c.turn.ensures.2 c.put_back.ensures.seat.2 in record {
+pub new-requires-clause-seat : goal.new-requires-clause-seat
+new-requires-clause-seat c = let b = c.self.inside in let i = c.self.invariant in let m = in_both_hands b.seat.me c.exchange.new.seat.me c.turn.new.self.me c.put_back.new.seat.me b.pipe (slot_at b.cell) _ _ i.out c.exchange.ensures.3 c.turn.ensures.2 c.put_back.ensures.seat.2 in record {
   role = c.reply.ensures.ended.0;
   parts = subst (λ (n : ℕ). 0 < n) (sym (c.reply.ensures.ended.1 ∙ ap (λ (z : Seated). z.0.parts) m)) i.runs.parts;
   bare = c.reply.ensures.seat.1 ∙ ap (λ (z : Seated). rest (rest z.1)) m;
 }
+
+pub new-requires-clause-room : goal.new-requires-clause-room
+new-requires-clause-room c = let b = c.self.inside in let i = c.self.invariant in let m = in_both_hands b.seat.me c.exchange.new.seat.me c.turn.new.self.me c.put_back.new.seat.me b.pipe (slot_at b.cell) _ _ i.out c.exchange.ensures.3 c.turn.ensures.2 c.put_back.ensures.seat.2 in
+    room_on b.words.now.table_id b.grid.now b.seat.me.0 c.reply.new.seat.me.0 b.took.items (vec_capacity b.took) i.grid (c.reply.ensures.ended.2 ∙ ap (λ (z : Seated). z.0.layout) m) i.spare
 
 pub returns-clause-replied : goal.returns-clause-replied
 returns-clause-replied c = let b = c.self.inside in let i = c.self.invariant in let one = one_handed b.words.now.table_id b.seat.me.0 b.seat.me.0 b.cell b.generation b.req b.parcel b.pipes i.runs b.pipe (subst Named (sym c.self.view_is) c.requires.named) in let k = c.in-Some.ensures b.seat.me.0.layout.caps (events_of b.seat.me.0.seen) b.req b.pipe (subst (λ (o : Op). UsesOne o (length b.seat.me.0.layout.caps) b.pipe) (sym c.op.ensures) one) i.pipe_is (sound (setup_of b.seat.me.0.layout) (events_of b.seat.me.0.seen) b.pipe i.runs.legal) in

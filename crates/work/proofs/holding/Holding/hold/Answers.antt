@@ -60,6 +60,7 @@ invariant_of-result c = let b = c.self.inside in let i = c.self.invariant in let
       table_is = c.free.ensures.seat.0.0 ∙ (c.exchange.ensures.0 ∙ (k.seat.0 ∙ i.table_is));
       grid = grid_on table b.grid.now v w (layout_after n w (Free b.req b.pipe) (RoleBusy b.req) y ∙ ap (λ (z : View). z.layout) x.0.is) i.grid;
       unhit = same_hit_silent n w b.req role (Free b.req b.pipe) (RoleBusy b.req) (λ j. refl) y ∙ (same_hit_looked v n b.req i.runs.role x.0 ∙ i.unhit);
+      spare = i.spare;
       runs = runs_on table n w b.cell b.generation b.req b.parcel b.pipes runs (Free b.req b.pipe) y;
       out = c.free.ensures.seat.1 ∙ (ap (λ (z : Seated). rest z.1) m ∙ ap rest (x.1 ∙ i.out));
       bare = frees.1;
@@ -89,6 +90,7 @@ invariant_of-result-2 c = let b = c.self.inside in let i = c.self.invariant in l
       table_is = c.exchange-thing.ensures.0 ∙ (k.seat.0 ∙ i.table_is);
       grid = grid_on table b.grid.now v c.exchange-thing.new.seat.me.0 (ap (λ (z : Seated). z.0.layout) m ∙ layout) i.grid;
       unhit = ap (λ (z : Seated). hit (events_of z.0.seen) b.req) m ∙ (same_hit_silent v w b.req i.runs.role (Hold b.req c.args.target) (RoleBusy b.req) (λ j. refl) x.0 ∙ i.unhit);
+      spare = i.spare;
       runs = subst (λ (z : Seated). RunsIt table z.0 b.cell b.generation b.req b.parcel b.pipes) (sym m) runs;
       out = ap (λ (z : Seated). z.1) m ∙ ap (λ (cs : List (ℕ × Option Thing)). (c.args.target, None) ∷ cs) (ap rest h.1 ∙ i.out);
       both = subst (λ (z : Seated). HasBoth z.0.seen b.pipe c.args.target b.req) (sym m) x.1;

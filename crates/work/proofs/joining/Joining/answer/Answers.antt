@@ -1,5 +1,6 @@
 use Rattle.std.proofs.lemmas.Int.{to_z-of_z}
 use Rattle.std.proofs.Common.{rules, ◌≡◌, ℕ, ◌<◌, ℤ, List, [], ◌∷◌, length, slice_index, Some, sym, refl, ap, ◌∙◌, subst, to_z, of_z, w32, arith}
+use Rattle.std.specs.Prelude.{vec_capacity}
 use Rattle.atomic_table.specs.Table.{rest}
 use Rattle.answers.specs.Answered.{IsPipe}
 use Rattle.answers.specs.NamedEnds.{UsesBoth}
@@ -25,7 +26,7 @@ use Rattle.steps.specs.Rule.{Extends, IsStep, IsThreeSteps, leaves, leaves_one}
 use Rattle.steps.proofs.ViewsKept.{layout_after, role_after, parts_after}
 use Rattle.work.specs.Passes.{Pass, Joining, seen_of}
 use Rattle.work.specs.WorkerRuns.{Unanswered}
-use Rattle.work.proofs.RunsKept.{runs_on, grid_on, same_hit_silent, piped_entry, has_both, pipe_may, pipe_after, pipe_still, both_turned, in_three_hands}
+use Rattle.work.proofs.RunsKept.{room_on, runs_on, grid_on, same_hit_silent, piped_entry, has_both, pipe_may, pipe_after, pipe_still, both_turned, in_three_hands}
 use Rattle.work.proofs.joining.Joining.answer.Goals as goal
 
 -- where there is no answer, the target is given back, and then the source, as they were taken
@@ -60,6 +61,7 @@ invariant_of-result c = let b = c.self.inside in let i = c.self.invariant in let
       table_is = c.free.ensures.seat.0.0 ∙ (c.exchange-in_default-answer.ensures.0 ∙ (c.free_one.ensures.seat.0.0 ∙ (c.exchange.ensures.0 ∙ i.table_is)));
       grid = grid_on table b.grid.now v w (layout_after n w (Free b.req b.source) (RoleBusy b.req) x ∙ layout) i.grid;
       unhit = same_hit_silent n w b.req role (Free b.req b.source) (RoleBusy b.req) (λ j. refl) x ∙ (same_hit_silent v n b.req i.runs.role (Free b.req b.target) (RoleBusy b.req) (λ j. refl) y ∙ i.unhit);
+      spare = i.spare;
       runs = runs_on table n w b.cell b.generation b.req b.parcel b.pipes runs (Free b.req b.source) x;
       out = c.free.ensures.seat.1 ∙ (ap (λ (z : Seated). rest z.1) l ∙ ap rest (c.free_one.ensures.seat.1 ∙ (ap (λ (z : Seated). rest z.1) m ∙ ap rest i.out)));
       bare = g.1;
@@ -97,12 +99,16 @@ reply_both-requires-clause-answer c = let b = c.self.inside in let i = c.self.in
       ((c.answer_both-answer.new.target, refl, made b.target c.answer_both-answer.new.target (k.target_is b.parcel.buffer.items)), (c.answer_both-answer.new.source, refl, made b.source c.answer_both-answer.new.source (k.source_is b.parcel.buffer.items))),
     )
 
-pub new-requires : goal.new-requires
-new-requires c = let b = c.self.inside in let i = c.self.invariant in let v : View = b.seat.me.0 in let table = b.words.now.table_id in let m = in_three_hands b.seat.me c.exchange.new.seat.me c.turn.new.self.me c.exchange-2.new.seat.me c.turn-2.new.self.me c.put_back.new.seat.me b.target b.source (slot_at b.cell) _ _ _ i.out c.exchange.ensures.3 c.turn.ensures.2 c.exchange-2.ensures.3 c.turn-2.ensures.2 c.put_back.ensures.seat.2 in record {
+pub new-requires-clause-seat : goal.new-requires-clause-seat
+new-requires-clause-seat c = let b = c.self.inside in let i = c.self.invariant in let v : View = b.seat.me.0 in let table = b.words.now.table_id in let m = in_three_hands b.seat.me c.exchange.new.seat.me c.turn.new.self.me c.exchange-2.new.seat.me c.turn-2.new.self.me c.put_back.new.seat.me b.target b.source (slot_at b.cell) _ _ _ i.out c.exchange.ensures.3 c.turn.ensures.2 c.exchange-2.ensures.3 c.turn-2.ensures.2 c.put_back.ensures.seat.2 in record {
   role = c.reply_both.ensures.ended.0;
   parts = subst (λ (n : ℕ). 0 < n) (sym (c.reply_both.ensures.ended.1 ∙ ap (λ (z : Seated). z.0.parts) m)) i.runs.parts;
   bare = c.reply_both.ensures.seat.1 ∙ ap (λ (z : Seated). rest (rest (rest z.1))) m;
 }
+
+pub new-requires-clause-room : goal.new-requires-clause-room
+new-requires-clause-room c = let b = c.self.inside in let i = c.self.invariant in let v : View = b.seat.me.0 in let table = b.words.now.table_id in let m = in_three_hands b.seat.me c.exchange.new.seat.me c.turn.new.self.me c.exchange-2.new.seat.me c.turn-2.new.self.me c.put_back.new.seat.me b.target b.source (slot_at b.cell) _ _ _ i.out c.exchange.ensures.3 c.turn.ensures.2 c.exchange-2.ensures.3 c.turn-2.ensures.2 c.put_back.ensures.seat.2 in
+    room_on b.words.now.table_id b.grid.now b.seat.me.0 c.reply_both.new.seat.me.0 b.took.items (vec_capacity b.took) i.grid (c.reply_both.ensures.ended.2 ∙ ap (λ (z : Seated). z.0.layout) m) i.spare
 
 pub returns-clause-replied : goal.returns-clause-replied
 returns-clause-replied c = let b = c.self.inside in let i = c.self.invariant in let v : View = b.seat.me.0 in let table = b.words.now.table_id in let ends = subst (λ (z : Op × ℕ). UsesBoth z.0 z.1 b.source b.target) (λ j. (sym c.op.ensures j, sym i.runs.pipes_are.0 j)) i.named in let k = c.in-Some.ensures v.layout.caps (events_of v.seen) b.req b.source b.target ends i.source_is (sound (setup_of v.layout) (events_of v.seen) b.source i.runs.legal) i.target_is (sound (setup_of v.layout) (events_of v.seen) b.target i.runs.legal) in let m = in_three_hands b.seat.me c.exchange.new.seat.me c.turn.new.self.me c.exchange-2.new.seat.me c.turn-2.new.self.me c.put_back.new.seat.me b.target b.source (slot_at b.cell) _ _ _ i.out c.exchange.ensures.3 c.turn.ensures.2 c.exchange-2.ensures.3 c.turn-2.ensures.2 c.put_back.ensures.seat.2 in

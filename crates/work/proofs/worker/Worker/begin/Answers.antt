@@ -14,7 +14,7 @@ use Rattle.steps.proofs.ViewsKept.{layout_after}
 use Rattle.steps.specs.Plays.{Seated}
 use Rattle.steps.specs.Rule.{Extends}
 use Rattle.steps.proofs.StepKinds.{in_hand}
-use Rattle.work.specs.Passes.{Pass, RunsIt}
+use Rattle.work.specs.Passes.{Pass, HasRoom, RunsIt}
 use Rattle.work.proofs.PassesKept.{took_one}
 use Rattle.work.proofs.RunsKept.{grid_on, runs_begun, unhit_begun}
 use Rattle.work.proofs.worker.Worker.begin.Goals as goal
@@ -43,11 +43,12 @@ invariant_of-result-2 c =
     let parcel : IsParcel c.begin.new.seat.me.0.seen c.args.req [] c.parcel_of.result = subst (λ (z : Req × Parcel). IsParcel c.begin.new.seat.me.0.seen z.0 [] z.1) (λ i. (at i, one i)) x.1.2 in
     let runs = runs_begun table s.me.0 c.begin.new.seat.me.0 spot.cell spot.generation c.args.req c.parcel_of.result c.args.pipes (subst (λ (q : Req). Extends s.me.0 (Did (Begin q)) (RoleBusy q) c.begin.new.seat.me.0) at x.0) at
     (c.in-Some.ensures.some.2, inside, (let n : spot.cell < total s.me.0.layout.cells = inside in omega arith), (let n = c.if-spot-from.false in omega arith))
-    (ap (λ (p : Pass). length p.view.layout.caps) c.self.view_is ∙ c.requires.on.pipes_are, c.requires.on.few) c.self.invariant.parts parcel in record {
+    (ap (λ (p : Pass). length p.view.layout.caps) c.self.view_is ∙ c.requires.on.pipes_are, c.requires.on.few) c.self.invariant.0.parts parcel in record {
       table_is = c.exchange-thing.ensures.0 ∙ (k.seat.0 ∙ (ap (λ (p : Pass). p.table) c.self.view_is ∙ c.requires.on.table_is));
       grid = grid_on table c.args.grid.now s.me.0 c.exchange-thing.new.seat.me.0 (ap (λ (z : Seated). z.0.layout) m ∙ layout_after s.me.0 c.begin.new.seat.me.0 _ _ x.0) record { cells_are = cells; wide = c.requires.on.wide };
       unhit = ap (λ (z : Seated). hit (events_of z.0.seen) c.args.req) m ∙ unhit_begun s.me.0 c.begin.new.seat.me.0 c.args.req (subst (λ (q : Req). Extends s.me.0 (Did (Begin q)) (RoleBusy q) c.begin.new.seat.me.0) at x.0);
+      spare = (c.clear.ensures.items, subst (λ (z : List ℕ × ℕ). HasRoom z.0 z.1) (λ i. (cells i, sym c.clear.ensures.capacity i)) c.self.invariant.1);
       runs = subst (λ (z : Seated). RunsIt table z.0 spot.cell spot.generation c.args.req c.parcel_of.result c.args.pipes) (sym m) runs;
-      out = ap (λ (z : Seated). z.1) m ∙ (ap (λ (n : ℕ). (n, None) ∷ rest c.begin.new.seat.me.1) c.slot.ensures ∙ ap (λ (cs : List (ℕ × Option Thing)). (slot_at spot.cell, None) ∷ cs) (ap rest x.1.1 ∙ c.self.invariant.bare));
+      out = ap (λ (z : Seated). z.1) m ∙ (ap (λ (n : ℕ). (n, None) ∷ rest c.begin.new.seat.me.1) c.slot.ensures ∙ ap (λ (cs : List (ℕ × Option Thing)). (slot_at spot.cell, None) ∷ cs) (ap rest x.1.1 ∙ c.self.invariant.0.bare));
       bare = λ n. (subst (λ (z : Seated × Req). holder z.0.0.seen n ≢ Some z.1) (λ i. (sym m i, at i)) (x.2 n));
     }

@@ -15,7 +15,7 @@ use Rattle.history.specs.Answers.{Answer, now, later, bad_end, answer_read, answ
 use Rattle.history.specs.Legal.{Setup, Legal}
 use Rattle.history.proofs.Requests.{bool_cases, same_true}
 use Rattle.history.proofs.Growth.{MayChange, may_change, changed, unchanged}
-use Rattle.script_run.specs.RunRows.{data_count}
+use Rattle.script.specs.Rows.{data_count}
 
 -- ---- what answers come with
 
@@ -123,7 +123,7 @@ answer_long caps h r (Write fd offset len) res data' a = writes_to caps (flow h)
 answer_long caps h r (Splice fd_in fd_out len) res data' a = splices_of caps (flow h) (end_of fd_in) (end_of fd_out) len res data' a
 answer_long caps h r (Close fd) res data' a = closes caps (flow h) (end_of fd) res data' a
 answer_long caps h r (PollAdd fd mask) res data' a = polls caps (flow h) (end_of fd) mask res data' a
-answer_long caps h r (AsyncCancel user_data) res data' a = ap length a.1
+answer_long caps h r (AsyncCancel user_data all) res data' a = ap length a.1
 answer_long caps h r (TimeoutRemove user_data) res data' a = ap length a.1
 answer_long caps h r (Timeout ticks etime_success count) res data' a = absurd a
 answer_long caps h r (LinkTimeout ticks) res data' a = absurd a
@@ -139,7 +139,7 @@ linked_none (Write fd offset len) res w = absurd (true≢false (sym w))
 linked_none (Splice fd_in fd_out len) res w = absurd (true≢false (sym w))
 linked_none (Close fd) res w = absurd (true≢false (sym w))
 linked_none (PollAdd fd mask) res w = absurd (true≢false (sym w))
-linked_none (AsyncCancel user_data) res w = absurd (true≢false (sym w))
+linked_none (AsyncCancel user_data all) res w = absurd (true≢false (sym w))
 linked_none (TimeoutRemove user_data) res w = absurd (true≢false (sym w))
 linked_none (Timeout ticks etime_success count) res w = absurd (true≢false (sym w))
 

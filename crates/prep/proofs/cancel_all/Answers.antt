@@ -1,0 +1,11 @@
+use Rattle.std.proofs.Common.{true, refl}
+use Rattle.std.proofs.lemmas.Bool.{lt-ltb}
+use Rattle.entry.specs.declared.op.Op.TheVariants.{AsyncCancel}
+use Rattle.prep.specs.Built.{plain}
+use Rattle.prep.proofs.Columns.{plain-fits}
+use Rattle.prep.proofs.cancel_all.Goals as goal
+
+pub returns : goal.returns
+returns c =
+    let op = AsyncCancel c.args.user_data true in
+    c.entry_of.ensures.again (plain op) (plain-fits op (lt-ltb c.args.user_data 18446744073709551616 c.ranges.user_data.fits)) refl refl refl

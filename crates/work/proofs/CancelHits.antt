@@ -1,0 +1,50 @@
+-- What the own events of a cancel's worker tell: which requests it took, how many, and which it found running.
+use Rattle.std.proofs.Common.{◌≡◌, ◌≢◌, ℕ, suc, ◌+◌, ◌≤◌, ◌==◌, ◌||◌, Bool, true, false, cond, List, [], ◌∷◌, ◌++◌, length, length-append, refl, ap, ◌∙◌, arith, ne_eqb}
+use Rattle.history.specs.declared.req.Req.{Req}
+use Rattle.history.specs.declared.event.Event.{Event}
+use Rattle.history.specs.declared.event.Event.TheVariants.{Take, Miss}
+use Rattle.history.specs.History.{Hit, took, missed, has_missed, hit, same, tally}
+use Rattle.history.proofs.Requests.{same_itself}
+use Rattle.work.specs.WorkerRuns.{AreHits, taken_in}
+
+same_as : (a b : Req) → a ≡ b → same a b ≡ true
+same_as a b e = ap (λ (z : Req). same z b) e ∙ same_itself b
+
+pub hits_below : (r : Req) (k m : ℕ) (own : List Event) → k ≤ m → AreHits r k own → AreHits r m own
+hits_below r k m [] le h = tt
+hits_below r k m (Take c t ∷ own) le h = (h.0, (let lt = h.1 in omega arith), h.2)
+hits_below r k m (Miss c t ∷ own) le h = (h.0, (let lt = h.1 in omega arith), h.2)
+hits_below r k m (e ∷ own) le h = h
+
+after_took : (b : Bool) (t : Req) (x : Hit) (m : ℕ) → has_missed (cond b (took t x) x) m ≡ has_missed x m
+after_took true t x m = refl
+after_took false t x m = refl
+
+after_missed : (b : Bool) (t : Req) (x : Hit) (m : ℕ) → t.k ≢ m → has_missed (cond b (missed t x) x) m ≡ has_missed x m
+after_missed true t x m ne = ap (λ (a : Bool). a || has_missed x m) (ne_eqb t.k m ne)
+after_missed false t x m ne = refl
+
+-- it found none running from the next number on
+pub none_missed : (r : Req) (k m : ℕ) (own : List Event) → AreHits r k own → k ≤ m → has_missed (hit own r) m ≡ false
+none_missed r k m [] h le = refl
+none_missed r k m (Take c t ∷ own) h le = after_took (same c r) t (hit own r) m ∙ none_missed r t.k m own h.2 (let lt = h.1 in omega arith)
+none_missed r k m (Miss c t ∷ own) h le = after_missed (same c r) t (hit own r) m (λ (e : t.k ≡ m). (let lt = h.1 in omega arith)) ∙ none_missed r t.k m own h.2 (let lt = h.1 in omega arith)
+none_missed r k m (e ∷ own) h le = absurd h
+
+pub tally_taken : (r : Req) (k : ℕ) (own : List Event) → AreHits r k own → tally (hit own r) ≡ length (taken_in own)
+tally_taken r k [] h = refl
+tally_taken r k (Take c t ∷ own) h = let i : tally (hit own r) ≡ length (taken_in own) = tally_taken r t.k own h.2 in let l : length (taken_in own ++ (t ∷ [])) ≡ length (taken_in own) + 1 = length-append (taken_in own) (t ∷ []) in
+    ap (λ (b : Bool). tally (cond b (took t (hit own r)) (hit own r))) (same_as c r h.0) ∙ (let z : suc (tally (hit own r)) ≡ length (taken_in own ++ (t ∷ [])) = omega arith in z)
+tally_taken r k (Miss c t ∷ own) h = ap (λ (b : Bool). tally (cond b (missed t (hit own r)) (hit own r))) (same_as c r h.0) ∙ tally_taken r t.k own h.2
+tally_taken r k (e ∷ own) h = absurd h
+
+-- what it found running it still found
+pub still_took : (b : Bool) (t : Req) (x : Hit) (m : ℕ) → has_missed x m ≡ true → has_missed (cond b (took t x) x) m ≡ true
+still_took b t x m is = after_took b t x m ∙ is
+
+pub still_missed : (b : Bool) (t : Req) (x : Hit) (m : ℕ) → has_missed x m ≡ true → has_missed (cond b (missed t x) x) m ≡ true
+still_missed true t x m is = by (t.k == m) is where
+  by : (a : Bool) → has_missed x m ≡ true → (a || has_missed x m) ≡ true
+  by true e = refl
+  by false e = e
+still_missed false t x m is = is

@@ -1,0 +1,12 @@
+use Rattle.std.proofs.Common.{pos, ◌<◌, List, [], ◌∷◌, ◌++◌, length, sym, refl, ap, ◌∙◌, subst}
+use Rattle.std.specs.Prelude.{vec_capacity}
+use Rattle.history.specs.declared.req.Req.{Req}
+use Rattle.work.specs.declared.cancel.Searched.{Searched}
+use Rattle.work.specs.WorkerRuns.{Told}
+use Rattle.work.proofs.hunt.told.Goals as goal
+
+pub note-requires : goal.note-requires
+note-requires c = record { room = subst (λ (l : List Req). length l < vec_capacity c.args.took.now) (sym c.requires.empty) (c.requires.room c.in-Ended.target c.in-Ended.is) }
+
+pub returns-in-Ended-clause-told : goal.returns-in-Ended-clause-told
+returns-in-Ended-clause-told c = subst (λ (q : Searched). Told q (pos 0) c.note.new.took.items) (sym c.in-Ended.is) (refl, c.note.ensures.items ∙ ap (λ (l : List Req). l ++ c.in-Ended.target ∷ []) c.requires.empty)

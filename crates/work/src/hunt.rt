@@ -1,0 +1,69 @@
+//! What a cancel ends, and what it replies.
+ghost use Rattle.std.specs.Prelude.{◌≡◌, ℕ, ◌<◌, ◌≤◌, ◌*◌, ◌-◌, [], List, length, vec_capacity};
+ghost use Rattle.history.specs.declared.req.Req.{Req as Request};
+ghost use Rattle.history.specs.History.{hit, nothing};
+ghost use Rattle.steps.specs.Cells.{IsCell, cells_in, request_at};
+ghost use Rattle.steps.specs.Journal.{events_of};
+ghost use Rattle.steps.specs.Rule.{IsSameSeat};
+ghost use Rattle.work.specs.declared.cancel.Searched.TheVariants.{Ended};
+ghost use Rattle.work.specs.Passes.{IsGridOf, IsSpare};
+ghost use Rattle.work.specs.Searches.{Cancels, FewSteps};
+ghost use Rattle.work.specs.WorkerRuns.{DidHunt, Told};
+
+use crate::cancel::{Searched, Wanted, search};
+use crate::grid::Grid;
+use crate::sweep::{note, sweep};
+use history::Req;
+use steps::{TableSeat, Words};
+
+/// The reply of a cancel whose target was not found: -ENOENT.
+const NOT_FOUND: i32 = -2;
+
+/// That of one whose target runs: -EALREADY.
+const ALREADY: i32 = -114;
+
+/// The reply of a cancel of one target, which it notes where it was ended (io_uring_prep_cancel64(3)).
+fn told(searched: Searched, took: &mut Vec<Req>) -> i32
+    requires empty { took.old.items ≡ [] }
+    requires room { (t : Request) → searched ≡ Ended t → 0 < vec_capacity took.old }
+    ensures told { Told searched result took.new.items }
+    ensures capacity { vec_capacity took.old ≤ vec_capacity took.new }
+{
+    match searched {
+        Searched::NoneLeft => NOT_FOUND,
+        Searched::Ended(target) => {
+            note(took, target);
+            0
+        }
+        Searched::Found => ALREADY,
+    }
+}
+
+/// Ends the first request that the cancel is meant for and that has no reply, or all such requests. Gives the cancel's reply, and
+/// notes which it ended.
+pub(crate) fn hunt(
+    words: &Words,
+    seat: &mut TableSeat,
+    grid: &Grid,
+    req: Req,
+    wanted: Wanted,
+    took: &mut Vec<Req>,
+) -> i32
+    requires cancels { Cancels words.now.table_id seat.old req wanted × (hit (events_of seat.old.me.0.seen) req ≡ nothing) }
+    requires grid { IsGridOf words.now.table_id grid.now seat.old.me.0 }
+    requires cell { (x : ℕ) × (g : ℕ) × (g < 16777216) × IsCell grid.now x × (request_at grid.now x g ≡ req) }
+    requires spare { IsSpare grid.now took.old.items (vec_capacity took.old) }
+    ensures seat { IsSameSeat seat.old seat.new × (seat.new.me.1 ≡ seat.old.me.1) }
+    ensures hunted { DidHunt seat.old.me.0 seat.new.me.0 req wanted took.new.items result }
+    ensures steps { FewSteps seat.old.me.0 seat.new.me.0 3 (5 * (cells_in grid.now req.ring - 1)) }
+    ensures capacity { vec_capacity took.old ≤ vec_capacity took.new }
+    ensures few { length took.new.items < cells_in grid.now req.ring }
+{
+    if wanted.all {
+        sweep(words, seat, grid, req, wanted, took);
+        took.len() as i32
+    } else {
+        let searched = search(words, seat, grid, req, wanted);
+        told(searched, took)
+    }
+}

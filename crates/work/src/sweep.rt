@@ -1,0 +1,55 @@
+//! The sweep of a cancel of all its matches over the earlier requests of its ring.
+ghost use Rattle.std.specs.Prelude.{◌≡◌, ℕ, ◌<◌, ◌≤◌, ◌*◌, ◌-◌, ◌++◌, [], ◌∷◌, true, List, length, vec_capacity};
+ghost use Rattle.history.specs.History.{hit, nothing};
+ghost use Rattle.steps.specs.Cells.{IsCell, cells_in, request_at};
+ghost use Rattle.steps.specs.Journal.{events_of};
+ghost use Rattle.steps.specs.Rule.{IsSameSeat};
+ghost use Rattle.work.specs.Passes.{IsGridOf, IsSpare};
+ghost use Rattle.work.specs.Searches.{Cancels, FewSteps};
+ghost use Rattle.work.specs.WorkerRuns.{DidSweep};
+
+use crate::cancel::{Tried, Wanted, earlier, oldest, try_one};
+use crate::grid::Grid;
+use history::Req;
+use steps::{TableSeat, Words};
+
+/// Adds a request to the list, which has room for it.
+pub(crate) fn note(took: &mut Vec<Req>, req: Req)
+    requires room { length took.old.items < vec_capacity took.old }
+    ensures items { took.new.items ≡ took.old.items ++ req ∷ [] }
+    ensures capacity { vec_capacity took.old ≤ vec_capacity took.new }
+{
+    let Ok(()) = took.push(req) else {
+        unreachable!()
+    };
+}
+
+/// Goes over the earlier requests of the ring that can still have a cell, in their order, and ends each that the cancel is meant
+/// for and that isn't running. Notes which it ended.
+pub(crate) fn sweep(
+    words: &Words,
+    seat: &mut TableSeat,
+    grid: &Grid,
+    req: Req,
+    wanted: Wanted,
+    took: &mut Vec<Req>,
+)
+    requires cancels { Cancels words.now.table_id seat.old req wanted × (wanted.all ≡ true) × (hit (events_of seat.old.me.0.seen) req ≡ nothing) }
+    requires grid { IsGridOf words.now.table_id grid.now seat.old.me.0 }
+    requires cell { (x : ℕ) × (g : ℕ) × (g < 16777216) × IsCell grid.now x × (request_at grid.now x g ≡ req) }
+    requires spare { IsSpare grid.now took.old.items (vec_capacity took.old) }
+    ensures seat { IsSameSeat seat.old seat.new × (seat.new.me.1 ≡ seat.old.me.1) }
+    ensures swept { DidSweep seat.old.me.0 seat.new.me.0 req took.new.items }
+    ensures steps { FewSteps seat.old.me.0 seat.new.me.0 3 (5 * (cells_in grid.now req.ring - 1)) }
+    ensures capacity { vec_capacity took.old ≤ vec_capacity took.new }
+    ensures few { (length took.new.items < cells_in grid.now req.ring) × (length took.new.items < 1024) }
+{
+    let first = oldest(grid, req);
+    for k in first..req.k {
+        let target = earlier(grid, req, k);
+        match try_one(words, seat, target, wanted) {
+            Tried::Took => note(took, Req { ring: req.ring, k }),
+            Tried::Passed | Tried::Missed => {}
+        }
+    }
+}
