@@ -4,7 +4,7 @@ use Rattle.history.specs.declared.req.Req.{Req}
 use Rattle.history.specs.History.{unborn, same, phase}
 use Rattle.history.proofs.Growth.{unborn_yet}
 use Rattle.history.proofs.Requests.{same_itself}
-use Rattle.history.proofs.Words.{no_ring}
+use Rattle.history.proofs.StateWords.{no_ring}
 use Rattle.steps.specs.declared.line.Line.{Line}
 use Rattle.steps.specs.declared.view.Layout.{Layout}
 use Rattle.steps.specs.declared.line.Line.TheVariants.{Did, Freed, Lent, Noted, Hold, Free}

@@ -7,11 +7,11 @@ use Rattle.history.specs.declared.req.Req.{Req}
 use Rattle.history.specs.declared.event.Event.{Event}
 use Rattle.history.specs.declared.event.Event.TheVariants.{Begin, Take, Miss, Tick, Arm, Expire, Count, Fire, FireMiss, Settle, Sever, Reap, Shut, Cut}
 use Rattle.history.specs.History.{Phase, unborn, waits, armed, replied, reaped, same, concerns, becomes, phase, fired, submits, clock_of, was_shut, IsIdle}
-use Rattle.history.specs.Answers.{AimsAt, Matches, is_all}
 use Rattle.history.specs.Chains.{IsPlaced, IsLinkTimeout, is_timer, is_link_timeout, before_in, placed_behind, placed_from}
 use Rattle.history.specs.Legal.{Setup, MayCome, shut_for, Legal, IsDue}
 use Rattle.history.proofs.Requests.{bool_cases, same_true}
 use Rattle.history.proofs.Growth.{MayChange, may_change, changed, unchanged, submission_some}
+use Rattle.history.proofs.Catches.{hit_matches}
 use Rattle.steps.specs.declared.line.Line.{Line}
 use Rattle.steps.specs.declared.line.Line.TheVariants.{Did}
 use Rattle.steps.specs.declared.view.Role.{Role}
@@ -47,18 +47,13 @@ pub timer_is : (o : Op) → is_link_timeout o ≡ true → is_timer o ≡ true
 timer_is (LinkTimeout n) e = refl
 timer_is o e = absurd (true≢false (sym e))
 
--- what a cancel aims at is a match of it
-aimed_match : (all : Bool) (h : List Event) (c t : Req) → AimsAt all h c t → Matches h c t
-aimed_match true h c t m = m.0
-aimed_match false h c t m = m.1.matches
-
 module _ (role : Role) (mine : stands_for role pollers ≡ true) (S : Setup) (q : Req) where
   link_ends : (p : Phase) → IsIdle p → (e : Event) (h : List Event) → MayCome S h e → IsLinkTimeout h q → MayChange p e → concerns e q ≡ true → shut_for e ≡ false → owns role (Did e) ≡ false → ⊥
   link_ends p i (Begin r) h may link m w o n =
       let k = may.2 in let one : r ≡ q = same_true r q w in let is : IsPlaced h q k.0 = subst (λ (z : Req). IsPlaced h z k.0) one k.1 in
       let same' : k.0 ≡ link.0 = (let z = sym is ∙ link.1 in cc) in true≢false (sym (timer_is k.0.op (ap (λ (z : Entry). is_link_timeout z.op) same' ∙ link.2)) ∙ k.2)
   link_ends p i (Take c t) h may link m w o n =
-      let x = aimed_match (is_all may.1.0.op) h c t may.1.2 in let one : t ≡ q = same_true t q w in let is : IsPlaced h q x.2 = subst (λ (z : Req). IsPlaced h z x.2) one x.4 in
+      let x = hit_matches h c t may.1 in let one : t ≡ q = same_true t q w in let is : IsPlaced h q x.2 = subst (λ (z : Req). IsPlaced h z x.2) one x.4 in
       let same' : x.2 ≡ link.0 = (let z = sym is ∙ link.1 in cc) in true≢false (sym x.5 ∙ never_asked x.1.op x.2 (ap (λ (z : Entry). is_link_timeout z.op) same' ∙ link.2))
   link_ends p i (Arm r d) h may link m w o n = true≢false (sym mine ∙ n)
   link_ends p i (Expire r) h may link m w o n = true≢false (sym mine ∙ n)

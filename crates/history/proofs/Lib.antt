@@ -9,4 +9,4 @@ pub mod Requests
 pub mod Futures
 pub mod Swaps
 pub mod Untaken
-pub mod Words
+pub mod StateWords

@@ -9,10 +9,11 @@ use Rattle.history.specs.declared.event.Event.{Event}
 use Rattle.history.specs.declared.event.Event.TheVariants.{Take, Miss, Tick, Expire, Count, Fire, FireMiss, Settle, Cut}
 use Rattle.history.specs.History.{took, missed, armed, concerns, phase, fired, hit, clock_of, was_shut}
 use Rattle.history.specs.Chains.{IsPlaced, IsLinkTimeout, is_link_timeout, is_timeout}
-use Rattle.history.specs.Answers.{asks_for, is_all, Matches, AimsAt}
+use Rattle.history.specs.Answers.{asks_for}
 use Rattle.history.specs.Legal.{Setup, MayCome, shut_for, Legal}
 use Rattle.history.proofs.Requests.{bool_cases, same_true}
 use Rattle.history.proofs.Growth.{MayChange, may_change, unchanged}
+use Rattle.history.proofs.Catches.{hit_matches}
 use Rattle.steps.specs.declared.line.Line.{Line}
 use Rattle.steps.specs.declared.line.Line.TheVariants.{Did}
 use Rattle.steps.specs.declared.view.Role.{Role}
@@ -30,11 +31,6 @@ pub never_asked : (o : Op) (e : Entry) → is_link_timeout e.op ≡ true → ask
 never_asked (AsyncCancel u all) e is = and_right (e.user_data == u) _ (ap not is)
 never_asked (TimeoutRemove u) e is = and_right (e.user_data == u) _ (one_kind e.op is)
 never_asked o e is = refl
-
--- a cancel aims at what it is meant for
-aimed_match : (h : List Event) (c t : Req) (all : Bool) → AimsAt all h c t → Matches h c t
-aimed_match h c t true a = a.0
-aimed_match h c t false a = a.1.matches
 
 module _ (role : Role) (mine : stands_for role pollers ≡ true) where
   clock_by : (l : Line) (j : List Line) → owns role l ≡ false → clock_of (events_of (l ∷ j)) ≡ clock_of (events_of j)
@@ -60,7 +56,7 @@ module _ (role : Role) (mine : stands_for role pollers ≡ true) where
     -- which events could end it
     armed_ends : (e : Event) (h : List Event) → MayCome S h e → IsLinkTimeout h q → MayChange (armed d) e → concerns e q ≡ true → shut_for e ≡ false → owns role (Did e) ≡ false → ⊥
     armed_ends (Take c t) h may link m w o n =
-        let x = aimed_match h c t (is_all may.1.0.op) may.1.2 in let one : t ≡ q = same_true t q w in let is : IsPlaced h q x.2 = subst (λ (z : Req). IsPlaced h z x.2) one x.4 in
+        let x = hit_matches h c t may.1 in let one : t ≡ q = same_true t q w in let is : IsPlaced h q x.2 = subst (λ (z : Req). IsPlaced h z x.2) one x.4 in
         let same' : x.2 ≡ link.0 = (let z = sym is ∙ link.1 in cc) in true≢false (sym x.5 ∙ never_asked x.1.op x.2 (ap (λ (z : Entry). is_link_timeout z.op) same' ∙ link.2))
     armed_ends (Expire r) h may link m w o n = true≢false (sym mine ∙ n)
     armed_ends (Count r) h may link m w o n = true≢false (sym mine ∙ n)

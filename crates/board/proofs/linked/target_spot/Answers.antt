@@ -3,7 +3,7 @@ use Rattle.history.specs.Chains.{previous}
 use Rattle.steps.specs.Cells.{request_at, setup_of}
 use Rattle.steps.proofs.CellNumbers.{age_small}
 use Rattle.work.specs.Board.{Facts}
-use Rattle.history.proofs.Words.{no_ring}
+use Rattle.history.proofs.StateWords.{no_ring}
 use Rattle.board.proofs.Settlings.{link_later}
 use Rattle.board.proofs.linked.target_spot.Goals as goal
 
