@@ -1,9 +1,9 @@
 //! Scripts carried out on a runtime: each ring's lines in a thread of its own, the clock's in the poller's.
 #![tactic(auto)]
 
+mod barrier;
 mod clock;
 pub mod fault;
-mod gate;
 mod hand;
 mod lines;
 mod parks;

@@ -56,7 +56,7 @@ pub(crate) fn carry_out<R: Wait>(rt: &R, stage: &Stage<'_>, mut hand: Hand) -> H
 {
     if let Err(halt) = carry_lines(rt, stage, &mut hand) {
         if halt.stops_all() {
-            stage.gate.stop();
+            stage.barrier.stop();
         }
         hand.halt = Some(halt);
     }
@@ -69,7 +69,7 @@ fn carry_lines<R: Wait>(rt: &R, stage: &Stage<'_>, hand: &mut Hand) -> Result<()
     ensures same { (hand.new.client.board ≡ hand.old.client.board) × (hand.new.client.ring ≡ hand.old.client.ring) }
     ensures carried { OnOk result (IsNewHand stage.now.script.now hand.old → IsCarried stage.now.script.now hand.new) }
 {
-    if !stage.gate.pass(rt) {
+    if !stage.barrier.wait(rt) {
         return Err(Halt::Thread);
     }
     let Some(lines) = stage.script.acts.get(usize::from(hand.client.ring())) else {
@@ -110,7 +110,7 @@ fn submit_line<R: Wait>(
     };
     let mut batch = batch_of(stage, places)?;
     for _try in 0..stage.turns {
-        if stage.gate.is_stopped() {
+        if stage.barrier.is_stopped() {
             return Err(Halt::Stopped);
         }
         batch = match hand.try_submit(batch) {
@@ -150,7 +150,7 @@ fn wait<R: Wait>(rt: &R, stage: &Stage<'_>, hand: &mut Hand, place: u32) -> Resu
         return Err(Halt::Refused);
     };
     for _try in 0..stage.turns {
-        if stage.gate.is_stopped() {
+        if stage.barrier.is_stopped() {
             return Err(Halt::Stopped);
         }
         hand.take_all(rt)?;

@@ -11,9 +11,9 @@ ghost use Rattle.script_run.specs.Hands.{AreNew, AllWent, client_of, taken_by};
 ghost use Rattle.script_run.specs.ClockLines.{AreClockLines, IsAlong};
 ghost use Rattle.script_run.specs.Played.{AreStarting, IsPlayed, IsStartedFor};
 
+use crate::barrier::Barrier;
 use crate::clock::{ClockLine, LineClock, lines_of};
 use crate::fault::RunFault;
-use crate::gate::Gate;
 use crate::hand::Hand;
 use crate::lines::Halt;
 use crate::parks::{Counted, Parks};
@@ -73,13 +73,13 @@ pub fn run_script<
         turns: 0,
     };
     let (runtime, clients) = start(*rt, alloc, &shape, IDLE, counted, clock)?;
-    let gate = Gate::new(script.rings.len() as u64);
+    let barrier = Barrier::new(script.rings.len() as u64);
     let stage = Stage {
         alloc,
         script,
         homes: homes.as_slice(),
         turns,
-        gate: &gate,
+        barrier: &barrier,
     };
     run_lines(rt, &stage, watch, runtime, clients, room, lines.as_slice())
 }

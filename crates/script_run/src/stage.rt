@@ -1,19 +1,19 @@
 //! What the threads of all rings share.
 ghost use Rattle.std.specs.Prelude.{◌≡◌, Some, IfSome, slice_get};
 
-use crate::gate::Gate;
+use crate::barrier::Barrier;
 use history::Req;
 use script::Script;
 use std::alloc::Global;
 
-/// Where memory comes from, the script, the request of each entry, how often a line is tried, and the gate.
+/// Where memory comes from, the script, the request of each entry, how often a line is tried, and the barrier.
 #[derive(Clone, Copy)]
 pub(crate) struct Stage<'a> {
     pub alloc: Global,
     pub script: &'a Script,
     pub homes: &'a [Option<Req>],
     pub turns: u32,
-    pub gate: &'a Gate,
+    pub barrier: &'a Barrier,
 }
 
 /// The request of the entry at a place.

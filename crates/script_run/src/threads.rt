@@ -3,7 +3,7 @@ ghost use Rattle.std.specs.Prelude.{◌≡◌, ◌≤◌, length, vec_capacity, 
 ghost use Rattle.script.specs.Homes.{AreHomes};
 ghost use Rattle.script_run.specs.Hands.{AllCarriedOut, CarriedOut};
 
-use crate::gate::Gate;
+use crate::barrier::Barrier;
 use crate::hand::Hand;
 use crate::lines::carry_out;
 use crate::stage::Stage;
@@ -32,7 +32,7 @@ fn carry_by<R: Wait>(
     script: &Script,
     homes: &[Option<Req>],
     turns: u32,
-    gate: &Gate,
+    barrier: &Barrier,
     hand: Hand,
 ) -> Hand
     requires { AreHomes script.now homes.now }
@@ -43,7 +43,7 @@ fn carry_by<R: Wait>(
         script,
         homes,
         turns,
-        gate,
+        barrier,
     };
     carry_out(rt, &stage, hand)
 }
@@ -65,7 +65,7 @@ fn start<'s, E, R: Threads + Wait + Sync>(
         script,
         homes,
         turns,
-        gate,
+        barrier,
     } = *stage;
     let promise = Carried(Snapshot::of(script), Snapshot::of(&hand));
     match scope.spawn_with(
@@ -73,11 +73,11 @@ fn start<'s, E, R: Threads + Wait + Sync>(
         move || -> Hand
             requires { AreHomes script.now homes.now }
             ensures { CarriedOut script.entry.now hand result }
-        { carry_by(rt, alloc, script, homes, turns, gate, hand) },
+        { carry_by(rt, alloc, script, homes, turns, barrier, hand) },
     ) {
         Ok(thread) => Ok(thread),
         Err(refused) => {
-            gate.stop();
+            barrier.stop();
             Err((refused.value)())
         }
     }
@@ -127,7 +127,7 @@ pub(crate) fn carry_all<R: Threads + Wait + Sync>(
         script,
         homes,
         turns,
-        gate,
+        barrier,
     } = *stage;
     thread::scope(
         thread::scope_env(),
@@ -142,7 +142,7 @@ pub(crate) fn carry_all<R: Threads + Wait + Sync>(
                 script,
                 homes,
                 turns,
-                gate,
+                barrier,
             };
             carry_from(scope, rt, &stage, hands)
         },

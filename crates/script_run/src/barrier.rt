@@ -5,23 +5,23 @@ use std::thread;
 
 /// How many rings a run has, the threads of how many have begun, and whether all are to stop.
 #[derive(Drop)]
-pub(crate) struct Gate {
+pub(crate) struct Barrier {
     rings: u64,
     begun: AtomicU64,
     is_stopped: AtomicBool,
 }
 
-impl Gate {
+impl Barrier {
     /// Of a run with so many rings.
-    pub fn new(rings: u64) -> Gate {
-        Gate {
+    pub fn new(rings: u64) -> Barrier {
+        Barrier {
             rings,
             begun: AtomicU64::new(0),
             is_stopped: AtomicBool::new(false),
         }
     }
 
-    /// Tells the threads of all rings to stop. Those that haven't passed the gate never do.
+    /// Tells the threads of all rings to stop. Those that haven't passed the barrier never do.
     pub fn stop(&self) {
         self.is_stopped.store(true, Ordering::SeqCst);
     }
@@ -32,7 +32,7 @@ impl Gate {
     }
 
     /// A thread has begun, and waits until all have. False where they are told to stop before that.
-    pub fn pass<R: Wait>(&self, rt: &R) -> bool {
+    pub fn wait<R: Wait>(&self, rt: &R) -> bool {
         if self.is_stopped() {
             return false;
         }
