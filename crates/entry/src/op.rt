@@ -20,18 +20,18 @@ pub enum Op {
         mask: u32,
     },
     /// Replies -62 (ETIME) once `ticks` have passed since it was armed. With `etime_success` that is no failure. Where `count`
-    /// isn't 0, it replies 0 once so many later requests of its ring have replied, if that comes first.
+    /// isn't 0, it may reply 0 once so many later requests of its ring have replied; -62 stays possible, too.
     Timeout {
         ticks: u32,
         etime_success: bool,
         count: u32,
     },
-    /// Cancels the TIMEOUT whose user_data is `user_data`.
+    /// Cancels the first earlier TIMEOUT of its ring that has this user_data and no reply.
     TimeoutRemove {
         user_data: u64,
     },
-    /// Cancels the first request whose user_data is `user_data` and which is no LINK_TIMEOUT. With `all` it cancels each of
-    /// them, and replies how many it took.
+    /// Cancels the first earlier request of its ring that has this user_data and no reply, and is no LINK_TIMEOUT, unless it runs.
+    /// With `all` it cancels each of them that doesn't run, and replies how many it took.
     AsyncCancel {
         user_data: u64,
         all: bool,
