@@ -1,4 +1,8 @@
 //! What an entry asks for: one arm for each opcode of the profile.
+ghost use Rattle.std.specs.Prelude.{◌≡◌};
+ghost use Rattle.entry.specs.Entry.{is_link_timeout};
+
+use crate::by_opcode;
 
 /// Where a READ or a WRITE is to begin. Both mean the same at a pipe, which has no place to seek to (pipe(7)).
 #[derive(Clone, Copy, PartialEq, Eq, Debug)]
@@ -64,4 +68,21 @@ pub enum Op {
     },
     /// An entry that is none of the profile's. It replies -22 (EINVAL).
     Invalid,
+}
+
+macro_rules! is_linked_timer {
+    ((timer linked $ticks:ident) ()) => { true };
+    ((timer alone $ticks:ident) ()) => { false };
+    ((plain $kind:ident) ()) => { false };
+    ((pipe $kind:ident $($field:ident)*) ()) => { false };
+    ((cancel $kind:ident $($field:ident)*) ()) => { false };
+}
+
+impl Op {
+    /// It cancels the entry before it in time.
+    pub fn is_link_timeout(self) -> bool
+        ensures { result ≡ is_link_timeout self }
+    {
+        by_opcode!(self => is_linked_timer!())
+    }
 }
