@@ -6,9 +6,17 @@ ghost use Rattle.answers.specs.Answered.{Answered, AnsweredBoth};
 
 use crate::named::are_of_one;
 use crate::plain::EINVAL;
-use entry::Op;
+use entry::{Op, by_opcode};
 use pipe::errno::EBADF;
 use pipe::{End, Pipe, Ready};
+
+macro_rules! spliced {
+    ((pipe splice $fd_in:ident $fd_out:ident $len:ident) ($op:ident, $source:ident, $target:ident)) => { splice($op, $fd_in, $fd_out, $len, $source, $target) };
+    ((pipe $kind:ident $($field:ident)*) $args:tt) => { unreachable!() };
+    ((plain $kind:ident) $args:tt) => { unreachable!() };
+    ((timer $kind:ident $ticks:ident) $args:tt) => { unreachable!() };
+    ((cancel $kind:ident $($field:ident)*) $args:tt) => { unreachable!() };
+}
 
 /// Answers a SPLICE from the two pipes of a board that its fds name (splice(2)). Gives the reply; or None, and changes
 /// nothing, where there is no answer now.
@@ -16,15 +24,21 @@ pub fn answer_both(op: Op, source: &mut Pipe, target: &mut Pipe) -> Option<i32>
     requires joins { (s : ℕ) × (t : ℕ) × JoinsPipes op s t }
     ensures { AnsweredBoth op result source.old source.new target.old target.new }
 {
-    let Op::Splice { fd_in, fd_out, len } = op else {
-        unreachable!()
-    };
-    splice(fd_in, fd_out, len, source, target)
+    by_opcode!(op => spliced!(op, source, target))
 }
 
-fn splice(fd_in: i32, fd_out: i32, len: u32, source: &mut Pipe, target: &mut Pipe) -> Option<i32>
-    ensures { AnsweredBoth (Op.Splice fd_in fd_out len) result source.old source.new target.old target.new }
+fn splice(
+    op: Op,
+    fd_in: i32,
+    fd_out: i32,
+    len: u32,
+    source: &mut Pipe,
+    target: &mut Pipe,
+) -> Option<i32>
+    requires is { op ≡ Op.Splice fd_in fd_out len }
+    ensures { AnsweredBoth op result source.old source.new target.old target.new }
 {
+    let _ = op;
     if !gives(fd_in, source) || !takes(fd_out, target) {
         return Some(-EBADF);
     }

@@ -28,9 +28,9 @@ pub enum Cause {
     Take,
     /// Its timer ran out.
     Expire,
-    /// The timer of a LINK_TIMEOUT took it.
+    /// Its LINK_TIMEOUT ended it.
     Fire,
-    /// It is a LINK_TIMEOUT, and its target was answered.
+    /// It is a LINK_TIMEOUT that ran out in time, or whose target was answered first.
     Settle,
     /// An earlier member of its chain failed.
     Sever,

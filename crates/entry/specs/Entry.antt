@@ -25,6 +25,11 @@ links_hard e = bit_and e.flags 8 == 8
 abbrev pub links : Entry → Bool
 links e = links_soft e || links_hard e
 
+-- it cancels the entry before it in time (io_uring_prep_link_timeout(3))
+abbrev pub is_link_timeout : Op → Bool
+is_link_timeout (LinkTimeout ticks) = true
+is_link_timeout _ = false
+
 abbrev pub is_negative : ℤ → Bool
 is_negative (pos n) = false
 is_negative (negsuc n) = true

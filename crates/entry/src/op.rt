@@ -1,4 +1,8 @@
 //! What an entry asks for: one arm for each opcode of the profile.
+ghost use Rattle.std.specs.Prelude.{◌≡◌};
+ghost use Rattle.entry.specs.Entry.{is_link_timeout};
+
+use crate::by_opcode;
 
 /// Where a READ or a WRITE is to begin. Both mean the same at a pipe, which has no place to seek to (pipe(7)).
 #[derive(Clone, Copy, PartialEq, Eq, Debug)]
@@ -20,18 +24,18 @@ pub enum Op {
         mask: u32,
     },
     /// Replies -62 (ETIME) once `ticks` have passed since it was armed. With `etime_success` that is no failure. Where `count`
-    /// isn't 0, it replies 0 once so many later requests of its ring have replied, if that comes first.
+    /// isn't 0, it may reply 0 once so many later requests of its ring have replied; -62 stays possible, too.
     Timeout {
         ticks: u32,
         etime_success: bool,
         count: u32,
     },
-    /// Cancels the TIMEOUT whose user_data is `user_data`.
+    /// Cancels the first earlier TIMEOUT of its ring that has this user_data and no reply.
     TimeoutRemove {
         user_data: u64,
     },
-    /// Cancels the first request whose user_data is `user_data` and which is no LINK_TIMEOUT. With `all` it cancels each of
-    /// them, and replies how many it took.
+    /// Cancels the first earlier request of its ring that has this user_data and no reply, and is no LINK_TIMEOUT, unless it runs.
+    /// With `all` it cancels each of them that doesn't run, and replies how many it took.
     AsyncCancel {
         user_data: u64,
         all: bool,
@@ -64,4 +68,21 @@ pub enum Op {
     },
     /// An entry that is none of the profile's. It replies -22 (EINVAL).
     Invalid,
+}
+
+macro_rules! is_linked_timer {
+    ((timer linked $ticks:ident) ()) => { true };
+    ((timer alone $ticks:ident) ()) => { false };
+    ((plain $kind:ident) ()) => { false };
+    ((pipe $kind:ident $($field:ident)*) ()) => { false };
+    ((cancel $kind:ident $($field:ident)*) ()) => { false };
+}
+
+impl Op {
+    /// It cancels the entry before it in time.
+    pub fn is_link_timeout(self) -> bool
+        ensures { result ≡ is_link_timeout self }
+    {
+        by_opcode!(self => is_linked_timer!())
+    }
 }

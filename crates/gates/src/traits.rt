@@ -1,17 +1,9 @@
 //! What a row looks at in an entry.
 ghost use Rattle.std.specs.Prelude.{◌≡◌};
-ghost use Rattle.history.specs.Chains.{is_link_timeout, is_invalid};
+ghost use Rattle.history.specs.Chains.{is_invalid};
 ghost use Rattle.gates.specs.Slots.{traits_of};
 
 use entry::{Op, Sqe, by_opcode};
-
-macro_rules! is_linked_timer {
-    ((timer linked $ticks:ident) ()) => { true };
-    ((timer alone $ticks:ident) ()) => { false };
-    ((plain $kind:ident) ()) => { false };
-    ((pipe $kind:ident $($field:ident)*) ()) => { false };
-    ((cancel $kind:ident $($field:ident)*) ()) => { false };
-}
 
 macro_rules! is_invalid_entry {
     ((plain invalid) ()) => { true };
@@ -41,19 +33,12 @@ impl Traits {
     {
         Traits {
             invalid: is_invalid(sqe.op()),
-            link_timeout: is_link_timeout(sqe.op()),
+            link_timeout: sqe.op().is_link_timeout(),
             drains: sqe.drains(),
             links_soft: sqe.links_soft(),
             links_hard: sqe.links_hard(),
         }
     }
-}
-
-/// It cancels the entry before it in time.
-fn is_link_timeout(op: Op) -> bool
-    ensures { result ≡ is_link_timeout op }
-{
-    by_opcode!(op => is_linked_timer!())
 }
 
 /// It is none of the profile's.

@@ -1,15 +1,12 @@
 -- Batches, chains and drains: which entries wait for which, which are severed, and when a request may start.
 use Rattle.std.specs.Prelude.{◌≡◌, ◌⊎◌, ℕ, suc, ◌-◌, ◌<◌, ◌≤◌, ◌==◌, ◌&&◌, ◌||◌, not, Bool, true, false, cond, ℤ, List, Option, Some, None}
 use Rattle.entry.specs.declared.op.Op.{Op}
-use Rattle.entry.specs.declared.op.Op.TheVariants.{Timeout, LinkTimeout, Invalid}
+use Rattle.entry.specs.declared.op.Op.TheVariants.{Timeout, Invalid}
 use Rattle.entry.specs.Entry.{Entry, links, links_hard, drains, fails}
+pub use Rattle.entry.specs.Entry.{is_link_timeout}
 use Rattle.history.specs.declared.req.Req.{Req}
 use Rattle.history.specs.declared.event.Event.{Event}
 use Rattle.history.specs.History.{Submission, submission, phase, reply, IsReplied}
-
-abbrev pub is_link_timeout : Op → Bool
-is_link_timeout (LinkTimeout ticks) = true
-is_link_timeout _ = false
 
 abbrev pub is_timeout : Op → Bool
 is_timeout (Timeout ticks etime_success count) = true

@@ -4,7 +4,6 @@ ghost use Rattle.entry.specs.Entry.{fails_op};
 ghost use Rattle.model.specs.Seen.{placed_in, handed_in, with_op};
 ghost use Rattle.model.specs.Decides.{severs_at, severed_in, chain_done};
 
-use crate::kind::is_link_timeout;
 use crate::request::Request;
 use entry::{Op, Sqe, fails};
 
@@ -26,7 +25,7 @@ pub fn placed_op(requests: &[Request], k: usize) -> Op
     ensures { placed_in requests.now k ≡ with_op (handed_in requests.now k) result }
 {
     let op = requests[k].sqe.op();
-    if is_link_timeout(op) && (k == 0 || !requests[k - 1].hosts()) {
+    if op.is_link_timeout() && (k == 0 || !requests[k - 1].hosts()) {
         Op::Invalid
     } else {
         op

@@ -1,19 +1,11 @@
 //! What kind of work an operation asks for.
 ghost use Rattle.std.specs.Prelude.{◌≡◌};
-ghost use Rattle.history.specs.Chains.{is_link_timeout, is_timeout};
+ghost use Rattle.history.specs.Chains.{is_timeout};
 ghost use Rattle.history.specs.Answers.{is_all};
 ghost use Rattle.history.specs.Legal.{ticks_of, count_of};
 ghost use Rattle.model.specs.Replies.{is_cancel};
 
 use entry::{Op, by_opcode};
-
-macro_rules! is_linked_timer {
-    ((timer linked $ticks:ident) ()) => { true };
-    ((timer alone $ticks:ident) ()) => { false };
-    ((plain $kind:ident) ()) => { false };
-    ((pipe $kind:ident $($field:ident)*) ()) => { false };
-    ((cancel $kind:ident $($field:ident)*) ()) => { false };
-}
 
 macro_rules! is_lone_timer {
     ((timer alone $ticks:ident) ()) => { true };
@@ -30,18 +22,36 @@ macro_rules! ticks_of_work {
     ((cancel $kind:ident $($field:ident)*) ()) => { None };
 }
 
-macro_rules! is_search {
-    ((cancel $kind:ident $($field:ident)*) ()) => { true };
+/// What each row counts, by what its `off` may be.
+macro_rules! count_of_row {
+    (($op:expr) $($text:literal $name:ident { $($field:ident),* } = $code:literal: $fd:tt [$($off:tt)*] $addr:tt $len:tt $word:tt $splice_fd_in:tt $flags:tt $fails:tt;)*) => {
+        match $op {
+            $(Op::$name { $($field),* } => count_column!($($off)*),)*
+            Op::Invalid => 0,
+        }
+    };
+}
+
+macro_rules! count_column {
+    (zero) => { 0 };
+    (current) => { 0 };
+    (place $offset:ident) => { 0 };
+    (completions $count:ident) => { $count };
+}
+
+macro_rules! goes_for_all {
+    ((cancel any $target:ident $all:ident) ()) => { $all };
+    ((cancel timer $target:ident) ()) => { false };
     ((plain $kind:ident) ()) => { false };
     ((pipe $kind:ident $($field:ident)*) ()) => { false };
     ((timer $kind:ident $ticks:ident) ()) => { false };
 }
 
-/// It cancels the entry before it in time.
-pub fn is_link_timeout(op: Op) -> bool
-    ensures { result ≡ is_link_timeout op }
-{
-    by_opcode!(op => is_linked_timer!())
+macro_rules! is_search {
+    ((cancel $kind:ident $($field:ident)*) ()) => { true };
+    ((plain $kind:ident) ()) => { false };
+    ((pipe $kind:ident $($field:ident)*) ()) => { false };
+    ((timer $kind:ident $ticks:ident) ()) => { false };
 }
 
 /// It is a timer of its own.
@@ -58,14 +68,11 @@ pub fn ticks_of(op: Op) -> Option<u32>
     by_opcode!(op => ticks_of_work!())
 }
 
-/// After how many completions a TIMEOUT is answered, 0 for none.
+/// After how many completions a TIMEOUT may be answered with 0; 0 for none.
 pub fn count_of(op: Op) -> u32
     ensures { result ≡ count_of op }
 {
-    match op {
-        Op::Timeout { count, .. } => count,
-        _ => 0,
-    }
+    by_opcode!(count_of_row!(op))
 }
 
 /// It looks for another request.
@@ -79,8 +86,5 @@ pub fn is_cancel(op: Op) -> bool
 pub fn is_all(op: Op) -> bool
     ensures { result ≡ is_all op }
 {
-    match op {
-        Op::AsyncCancel { all, .. } => all,
-        _ => false,
-    }
+    by_opcode!(op => goes_for_all!())
 }

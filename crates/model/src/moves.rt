@@ -5,7 +5,7 @@ ghost use Rattle.model.specs.Seen.{stage_at};
 ghost use Rattle.model.specs.Moves.{put_stage, put_reaped, may_begin, may_park, may_sever, may_reap, may_cut, open_in, cancelled};
 
 use crate::errno::CANCELLED;
-use crate::kind::{is_link_timeout, ticks_of};
+use crate::kind::ticks_of;
 use crate::request::Stage;
 use crate::ring::Ring;
 
@@ -22,7 +22,7 @@ impl Ring {
         requires { k < length self.now }
         ensures { result ≡ open_in self.now k }
     {
-        if is_link_timeout(self.op(k)) {
+        if self.op(k).is_link_timeout() {
             self.is_clear(k.saturating_sub(1))
         } else {
             self.is_clear(k)

@@ -4,7 +4,6 @@ ghost use Rattle.history.specs.Chains.{joins, hosts};
 ghost use Rattle.model.specs.Seen.{handed_of, is_pending, reply_at};
 
 use crate::found::Found;
-use crate::kind::is_link_timeout;
 use crate::shared::Shared;
 use entry::Sqe;
 use history::Bytes;
@@ -70,6 +69,6 @@ impl Request {
     pub fn hosts(&self) -> bool
         ensures { result ≡ hosts (Some (handed_of self.now)) }
     {
-        self.joins() && !is_link_timeout(self.sqe.op())
+        self.joins() && !self.sqe.op().is_link_timeout()
     }
 }

@@ -6,7 +6,7 @@ ghost use Rattle.model.specs.Moves.{put_stage, put_fired, put_settled, may_arm, 
 ghost use Rattle.model.specs.Seen.{stage_at};
 
 use crate::errno::{CANCELLED, TIMED_OUT};
-use crate::kind::{count_of, is_link_timeout, is_timeout, ticks_of};
+use crate::kind::{count_of, is_timeout, ticks_of};
 use crate::request::{Request, Stage};
 use crate::ring::Ring;
 
@@ -83,7 +83,7 @@ impl Ring {
         if !self.is_due(clock, timer) || self.has_fired(timer) {
             return false;
         }
-        is_link_timeout(self.op(timer as usize)) && target < timer && target + 1 == timer
+        self.op(timer as usize).is_link_timeout() && target < timer && target + 1 == timer
     }
 
     fn has_fired(&self, k: u64) -> bool
@@ -130,7 +130,7 @@ impl Ring {
         ensures after { self.new ≡ cond result (put_settled self.old k) self.old }
     {
         if !matches!(self.stage(k), Some(Stage::Armed(_)))
-            || !is_link_timeout(self.op(k as usize))
+            || !self.op(k as usize).is_link_timeout()
         {
             return false;
         }

@@ -91,8 +91,8 @@ pub fn timeout(ticks: u64, flags: u32) -> Sqe
     timeout_count(ticks, 0, flags)
 }
 
-/// io_uring_prep_timeout(3) with a count: it replies 0 once so many later requests of its ring have replied, if that comes
-/// first. `count` is at most 1023, and 0 counts nothing.
+/// io_uring_prep_timeout(3) with a count: it may reply 0 once so many later requests of its ring have replied, and -62 (ETIME)
+/// stays possible, too. `count` is at most 1023, and 0 counts nothing.
 pub fn timeout_count(ticks: u64, count: u64, flags: u32) -> Sqe
     ensures says { Says (layout (record { opcode = 11; fd = no_fd; off = count; addr = ticks; len = 1; word = flags; splice_fd_in = pos 0 }) 0 0) result }
     ensures entry { result ≡ plain (timeout_count_op ticks count flags) }
@@ -108,21 +108,22 @@ pub fn link_timeout(ticks: u64) -> Sqe
     entry_of(by_opcode!(LinkTimeout: filled!(-1, 0, ticks, 1, 0)))
 }
 
-/// io_uring_prep_cancel64(3): cancels the first request with this user_data.
+/// io_uring_prep_cancel64(3): cancels the first earlier request with this user_data that has no reply and is no LINK_TIMEOUT, unless
+/// it runs.
 pub fn cancel(user_data: u64) -> Sqe
     ensures { result ≡ plain (Op.AsyncCancel user_data false) }
 {
     entry_of(by_opcode!(AsyncCancel: filled!(-1, 0, user_data, 0, 0)))
 }
 
-/// io_uring_prep_cancel64(3) with IORING_ASYNC_CANCEL_ALL: cancels each request with this user_data.
+/// io_uring_prep_cancel64(3) with IORING_ASYNC_CANCEL_ALL: cancels each such request, but those that run.
 pub fn cancel_all(user_data: u64) -> Sqe
     ensures { result ≡ plain (Op.AsyncCancel user_data true) }
 {
     entry_of(by_opcode!(AsyncCancel: filled!(-1, 0, user_data, 0, CANCEL_ALL)))
 }
 
-/// io_uring_prep_timeout_remove(3): cancels the TIMEOUT with this user_data.
+/// io_uring_prep_timeout_remove(3): cancels the first earlier TIMEOUT with this user_data that has no reply.
 pub fn timeout_remove(user_data: u64) -> Sqe
     ensures { result ≡ plain (Op.TimeoutRemove user_data) }
 {

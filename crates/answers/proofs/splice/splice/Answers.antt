@@ -8,7 +8,7 @@ use Rattle.answers.proofs.Splicing.{both_does, splice_error}
 use Rattle.answers.proofs.splice.splice.Goals as goal
 
 pub returns-in-Now : goal.returns-in-Now
-returns-in-Now c = λ caps h r s t u source s_ok target t_ok.
+returns-in-Now c = rw c.requires.is λ caps h r s t u source s_ok target t_ok.
     let n : ℕ = c.in-Now.n in
     let a = c.in-Now.ensures in
     let small : to_z w32 n ≡ pos n = to_z_pos w32 n (omega (arith, a.count)) in
@@ -17,7 +17,7 @@ returns-in-Now c = λ caps h r s t u source s_ok target t_ok.
     rw small (both_does caps h r s t c.args.fd_in c.args.fd_out c.args.len c.args.source.now c.args.target.now u source s_ok target t_ok g k c.splice_to.new.self c.splice_to.new.target (Now n) a.answer a.left a.gone_in a.unchanged)
 
 pub returns-in-Fail : goal.returns-in-Fail
-returns-in-Fail c = λ caps h r s t u source s_ok target t_ok.
+returns-in-Fail c = rw c.requires.is λ caps h r s t u source s_ok target t_ok.
     let a = c.in-Fail.ensures in
     let g = subst (λ (z : ℤ). gives (end_of z) c.args.source.now ≡ true) (to_z-of_z w32 c.args.fd_in c.ranges.fd_in) (sym c.if-not-gives.ensures) in
     let k = subst (λ (z : ℤ). takes (end_of z) c.args.target.now ≡ true) (to_z-of_z w32 c.args.fd_out c.ranges.fd_out) (sym c.if-not-takes.ensures) in
