@@ -19,10 +19,10 @@ use Rattle.steps.specs.declared.view.View.{View}
 use Rattle.steps.specs.FactsTold.{TellsFacts}
 use Rattle.steps.specs.Journal.{events_of, freed}
 use Rattle.steps.specs.Cells.{IsCell, cells_in, request_at, claim_at}
-use Rattle.steps.specs.Rule.{Shown}
+use Rattle.steps.specs.Rule.{Begins, Shown}
 use Rattle.work.specs.Board.{Facts, IsOf}
 use Rattle.work.specs.Passes.{Pass, pass_of, seen_of}
-use Rattle.board.specs.Calls.{Goes, Stepped, FoundHeld, IsUnheld, MayStart}
+use Rattle.board.specs.Calls.{Goes, Stepped, FoundHeld, IsHeld, IsUnheld, MayStart}
 use Rattle.board.specs.Seats.{IsPollerSeat}
 use Rattle.board.specs.declared.trail.Outcome.{Outcome}
 use Rattle.board.specs.declared.trail.Outcome.TheVariants.{Pending, Replied, ChainDone}
@@ -127,6 +127,21 @@ pub record FoundPending (K : List ℕ) (r : Req) (p q : Pass) : Type 0 where
   pub steps : q.view.steps ≡ later ++ (record { word = claim_at cell; found = found; seen = seen } ∷ (others ++ p.view.steps))
   pub shown : Shown K seen cell found
   pub pending : ¬ IsReplied (phase (events_of seen) r)
+
+-- a step of this call, at the request's claim word, found it Held: by all that the pass had seen after that step it waited, and
+-- wasn't moved to Ready
+pub record WasHeld (K : List ℕ) (r : Req) (p q : Pass) : Type 0 where
+  pub cell : ℕ
+  pub gen : ℕ
+  pub found : ℕ
+  pub seen : List Line
+  pub later : List Step
+  pub others : List Step
+  pub cell_is : IsCell K cell × (request_at K cell gen ≡ r)
+  pub steps : q.view.steps ≡ later ++ (record { word = claim_at cell; found = found; seen = seen } ∷ (others ++ p.view.steps))
+  pub within : Begins seen p.view.seen × Begins q.view.seen seen
+  pub shown : Shown K seen cell found
+  pub held : IsHeld seen r
 
 -- each earlier member of r's chain has replied and not ended it; or one had no reply when this call looked, and those after it have
 -- replied and not ended it

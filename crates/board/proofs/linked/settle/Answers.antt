@@ -39,7 +39,9 @@ target_replied-requires-clause-linked c = let b = c.args.board.now in let s = c.
 
 pub returns-then-not-target_replied-clause-settles : goal.returns-then-not-target_replied-clause-settles
 returns-then-not-target_replied-clause-settles c = let b = c.args.board.now in let s = c.args.seat.now in let t = c.look-word.new.seat in let e = c.look-word.ensures in let r = c.requires in let q = c.args.req in let x = c.args.spot.cell in let g = c.args.spot.generation in let w = watched_look b s t r.ours e.seat e.looks in let u = c.target_replied.new.seat in let k = c.target_replied.ensures in
-    settles_after b q s t u 0 1 TargetOpen w (paid_one _ _ s.me.0 t.me.0 e.step) (settles_open b q t u k.watched (k.pending c.if-not-target_replied.true))
+    let d = c.in-Armed.deadline in let stands : Stands t.me.0.seen (request_at s.me.0.layout.cells x g) (Armed d) = subst (Stands t.me.0.seen (request_at s.me.0.layout.cells x g)) c.in-Armed.is (c.told.ensures.stands s.me.0.layout.cells t.me.0.seen x e.shown) in
+    let still = armed_on b t u q d k.watched (found_linked b s t q x g d c.args.alarm r.ours r.at w stands r.knows c.in-Linked.is) (found_phase b s t q x g d c.args.alarm r.ours r.at w stands r.knows) in
+    settles_after b q s t u 0 1 TargetOpen w (paid_one _ _ s.me.0 t.me.0 e.step) (settles_open b q t u k.watched (k.pending c.if-not-target_replied.true) (d, still))
 
 pub returns-then-not-target_replied-clause-steps : goal.returns-then-not-target_replied-clause-steps
 returns-then-not-target_replied-clause-steps c = let s = c.args.seat.now in let t = c.look-word.new.seat in let u = c.target_replied.new.seat in paid_most s.me.0 u.me.0 2 3 (paid_add s.me.0 t.me.0 u.me.0 1 1 (paid_one _ _ s.me.0 t.me.0 c.look-word.ensures.step) c.target_replied.ensures.steps) (omega arith)
