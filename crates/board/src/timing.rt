@@ -1,5 +1,5 @@
 //! What the poller does with the clock and with timers.
-ghost use Rattle.std.specs.Prelude.{◌≡◌, ◌⊎◌, ◌+◌, ◌*◌, ◌≤◌, ℕ, true, [], ◌∷◌, length, IfOk, IfErr};
+ghost use Rattle.std.specs.Prelude.{◌≡◌, ◌⊎◌, ◌+◌, ◌-◌, ◌*◌, ◌≤◌, ℕ, true, [], ◌∷◌, length, IfOk, IfErr};
 ghost use Rattle.history.specs.declared.event.Event.TheVariants.{Tick};
 ghost use Rattle.history.specs.declared.req.Req.{Req as Request};
 ghost use Rattle.history.specs.Chains.{IsLinkTimeout, IsTarget, is_timeout, previous};
@@ -15,7 +15,7 @@ ghost use Rattle.board.specs.declared.poller.Expiry.TheVariants.{Early, Expired,
 ghost use Rattle.board.specs.declared.poller.Firing.TheVariants.{Early as TooEarly, Missed, NotArmed as NoneToFire, TargetDone, Took as TookTarget};
 ghost use Rattle.board.specs.declared.poller.Settling.TheVariants.{NotArmed as NothingArmed, Settled, TargetOpen};
 ghost use Rattle.board.specs.Calls.{FoundHeld, Goes, IsUnheld, Stepped};
-ghost use Rattle.board.specs.PollerRows.{Paid};
+ghost use Rattle.board.specs.PollerRows.{Paid, Spends};
 ghost use Rattle.board.specs.PollerTimers.{IsPast};
 ghost use Rattle.board.specs.TimerCalls.{HasCounted, HasExpired, HasFewer, HasFired, HasSettled, IsArmed, IsArmedFor, IsEarly, IsNoneToExpire, IsNoneToSettle, IsNoTimer, IsShutTimer, IsTargetDone, IsTargetOpen, IsUnarmed, IsUncounted, WasClear, armed_by, counted_by, expired_by, fired_by, settled_by};
 
@@ -82,7 +82,7 @@ impl Board {
         ensures fewer { result ≡ Fewer → HasFewer (seen_of poller.old) req }
         ensures not_counted { result ≡ NotCounted → IsUncounted (seen_of poller.new) req × Stepped self.now.layout.cells req poller.old poller.new }
         ensures not_armed { result ≡ NoneToCount → IsUnarmed (seen_of poller.new) req × ((length self.now.layout.cells ≤ req.ring) ⊎ Stepped self.now.layout.cells req poller.old poller.new) }
-        ensures steps { Paid poller.old.view poller.new.view 0 (cells_in self.now.layout.cells req.ring + 1) }
+        ensures steps { Paid poller.old.view poller.new.view 0 (cells_in self.now.layout.cells req.ring + 1) × Spends self.now.layout.cells req poller.old.view poller.new.view 2 (cells_in self.now.layout.cells req.ring - 1) }
         ensures alone { (q : Request) → freed poller.new.view.seen q ≡ freed poller.old.view.seen q }
     {
         match self.grid.locate(req) {
