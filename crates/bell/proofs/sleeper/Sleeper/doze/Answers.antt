@@ -12,5 +12,5 @@ swap-requires-then-changed c =
     let o = c.requires.own in (
       c.read_all-changed.ensures.seat.0 ∙ (c.swap.ensures.0 ∙ (ap (λ (s : Sleeping). s.table) c.self.view_is ∙ o.0)),
       omega arith,
-      take_back_allows _ _ _ c.read_all-changed.new.seat.me (c.read_all-changed.ensures.seat.1.role ∙ (ap (λ (v : View). v.role) c.swap.ensures.2.0 ∙ c.self.invariant.role)),
+      take_back_allows _ _ _ c.read_all-changed.new.seat.me (c.read_all-changed.ensures.seat.1.role ∙ (ap (λ (v : View). v.role) c.swap.ensures.2.0.3 ∙ c.self.invariant.role)),
     )
