@@ -220,20 +220,27 @@ look_allows n slots id r me role = λ s k long at fits.
         ringers = λ i u p. ⊎_elim
             (λ (e : (i ≡ id) × (w ≡ u)). inr (r, subst (λ (z : View). z.role ≡ Ringer r) e.1 role, subst (λ (z : View). IsTold ws k.sleeper.rings h' r z) e.1 record { there = mine.there; tail_is = others r ∙ mine.tail_is; saw = saw_itself r h' }))
             (λ (e : (i ≢ id) × (get_elem? s.views i ≡ some u)). ⊎_elim (λ (z : i ≡ 0). inl z)
-            (λ (g : (q : ℕ) × (u.role ≡ Ringer q) × IsTold s.words k.sleeper.rings h q u). inr (g.0, g.1, record {
-              there = g.2.there;
-              tail_is = others g.0 ∙ g.2.tail_is;
-              saw = saw_cleared r h g.0 u.wakes (other_find r g.0 (λ same. e.0 (k.apart i id r u v e.1 at (subst (λ (z : ℕ). u.role ≡ Ringer z) (sym same) g.1) role))) g.2.saw;
-            })) (k.ringers i u e.1))
+            (λ (g : (q : ℕ) × (u.role ≡ Ringer q) × IsTold s.words k.sleeper.rings h q u). inr (
+              g.0,
+              g.1,
+              record {
+                there = g.2.there;
+                tail_is = others g.0 ∙ g.2.tail_is;
+                saw = saw_cleared r h g.0 u.wakes (other_find r g.0 (λ same. e.0 (k.apart i id r u v e.1 at (subst (λ (z : ℕ). u.role ≡ Ringer z) (sym same) g.1) role))) g.2.saw;
+              },
+            )) (k.ringers i u e.1))
             (at_set s.views id i w u p);
         apart = apart_stays s.views id v w at refl k.apart;
         awake = λ e. new;
-        sound = λ e. inr (new, ⊎_elim
-            (λ (stood : stands h ≡ true). (id, r, w, at_now s.views id v w at, role, refl, newest_cleared r h n k.sleeper.wakes stood k.since))
-            (λ (clear : stands h ≡ false). ⊎_elim
-            (λ (x : (slice_index s.words 0 ≡ 1) × ((q : ℕ) → q < k.sleeper.checked → IsHeeded s.words s.views k.sleeper q)). absurd (let z : bit (stands h) ≡ 0 = ap bit clear in let a = x.0 in let c = k.bit_is in omega (arith, z, a, c)))
-            (λ (x : (slice_index s.words 0 ≡ 0) × IsRung s.views h k.sleeper). subst (λ (z : List Change). IsRung (set s.views id w) z k.sleeper) (sym (kept_clear r h clear)) (rung_stays s.views id v w at refl h k.sleeper k.sleeper refl (λ _ _ _. kept_clear r h clear) x.1))
-            (k.sound e)) (bool_is (stands h)));
+        sound = λ e. inr (
+          new,
+          ⊎_elim
+              (λ (stood : stands h ≡ true). (id, r, w, at_now s.views id v w at, role, refl, newest_cleared r h n k.sleeper.wakes stood k.since))
+              (λ (clear : stands h ≡ false). ⊎_elim
+              (λ (x : (slice_index s.words 0 ≡ 1) × ((q : ℕ) → q < k.sleeper.checked → IsHeeded s.words s.views k.sleeper q)). absurd (let z : bit (stands h) ≡ 0 = ap bit clear in let a = x.0 in let c = k.bit_is in omega (arith, z, a, c)))
+              (λ (x : (slice_index s.words 0 ≡ 0) × IsRung s.views h k.sleeper). subst (λ (z : List Change). IsRung (set s.views id w) z k.sleeper) (sym (kept_clear r h clear)) (rung_stays s.views id v w at refl h k.sleeper k.sleeper refl (λ _ _ _. kept_clear r h clear) x.1))
+              (k.sound e)) (bool_is (stands h)),
+        );
       },
       λ q e. (let same : r ≡ q = same_ring r q (sym role ∙ e) in subst (λ (z : ℕ). ((g : List Change) × SawFinds z v.wakes g × (slice_index s.words 0 ≡ bit (stands g)) × (w ≡ looking z g v)) × (me.1 ≡ me.1)) same ((h, mine.saw, k.bit_is, refl), refl)),
     )

@@ -112,6 +112,10 @@ HasTakenBack old new = (h : List Change) × IsSince (length old.tails) h old.wak
 abbrev pub WasFound : Sleeping → Sleeping → Type 0
 WasFound old new = (r : ℕ) × (r < length old.tails) × (new.wakes ≡ Found r ∷ old.wakes)
 
--- the sleeper's view once it has found the bit clear
+-- the sleeper's view once it has taken the bit back
+abbrev pub HasGivenUp : View → View → Type 0
+HasGivenUp v w = (h : List Change) × IsSince (length v.tails) h v.wakes × (w ≡ waking (taken_back h) v)
+
+-- and once it has found the bit clear
 abbrev pub HasWoken : View → View → Type 0
 HasWoken v w = (h : List Change) × IsSince (length v.tails) h v.wakes × (stands h ≡ false) × (w ≡ waking h v)

@@ -1,6 +1,6 @@
 //! The one who dozes where no ring has anything new, and is woken.
 ghost use Rattle.std.specs.Prelude.{◌≡◌, ◌≢◌, ◌+◌, ◌≤◌, ◌<◌, true, false, length, slice_index};
-ghost use Rattle.bell.specs.BellPasses.{IsSleeperSeat, IsBell, HasAsked, HasReadOne, HasRead, HasLoaded, HasTakenBack, HasWoken, HaveRisen, WasFound};
+ghost use Rattle.bell.specs.BellPasses.{IsSleeperSeat, IsBell, HasAsked, HasGivenUp, HasReadOne, HasRead, HasLoaded, HasTakenBack, HasWoken, HaveRisen, WasFound};
 ghost use Rattle.bell.specs.Plays.{reading};
 ghost use Rattle.bell.specs.declared.view.Role.{Role};
 
@@ -83,6 +83,15 @@ fn read_all(words: &Words, seat: &mut Seat<u8, View>, tails: &mut Vec<u64>) -> b
     changed
 }
 
+/// Takes the wake bit back.
+fn take_back(words: &Words, seat: &mut Seat<u8, View>)
+    requires own { (seat.old.table_id ≡ words.now.table_id) × IsBell words.now.table_id words.now.key }
+    requires sleeper { seat.old.me.0.role ≡ Role.Sleeper }
+    ensures seat { (seat.new.table_id ≡ seat.old.table_id) × HasGivenUp seat.old.me.0 seat.new.me.0 }
+{
+    words.swap::<TakeBack>(seat, 0, 0);
+}
+
 /// Parks on the wake word until its bit is clear.
 fn wait_for_wake<R: Wait>(rt: &R, words: &Words, seat: &mut Seat<u8, View>)
     requires own { (seat.old.table_id ≡ words.now.table_id) × IsBell words.now.table_id words.now.key }
@@ -143,7 +152,7 @@ impl Sleeper {
         words.swap::<SetBit>(&mut self.seat, 0, 1);
         let changed = read_all(words, &mut self.seat, &mut self.tails);
         if changed {
-            words.swap::<TakeBack>(&mut self.seat, 0, 0);
+            take_back(words, &mut self.seat);
         }
         self.dozes = !changed;
         if changed { Nap::Work } else { Nap::Dozed }
