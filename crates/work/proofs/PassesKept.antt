@@ -66,5 +66,6 @@ looks_both u v w a b =
       live = b.live;
       orderly = subst (λ (L : Layout). Orderly L b.now) layout b.orderly;
       steps = b.steps;
+      made = b.made;
       is = b.is ∙ ap (λ (z : View). seeing z z.role b.now b.steps) a.is;
     }
