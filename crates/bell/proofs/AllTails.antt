@@ -13,6 +13,7 @@ pub record IsReading (v0 : View) (old : List ℕ) (k : ℕ) (v : View) (tails : 
   pub armed : v.armed ≡ v0.armed
   pub all : v0.checked ≡ 0 → v.checked ≡ k
   pub kept : v0.checked ≡ length old → v.checked ≡ length old
+  pub wakes_are : v.wakes ≡ v0.wakes
   pub long : length tails ≡ length old
   pub risen : (r : ℕ) → slice_index old r ≤ slice_index tails r
   pub later : (r : ℕ) → k ≤ r → slice_index tails r ≡ slice_index old r
@@ -29,7 +30,7 @@ loads_same (suc k) a b e =
     λ i. (record { ring = k; tail = top i }) ∷ rest i
 
 pub begins : (v : View) (tails : List ℕ) → v.tails ≡ tails → IsReading v tails 0 v tails false
-begins v tails e = record { role = refl; tails_are = e; armed = refl; all = λ z. z; kept = λ z. z; long = refl; risen = λ r. omega arith; later = λ r _. refl; same = λ _. refl; loads = refl; differs = λ e. absurd (true≢false (sym e)) }
+begins v tails e = record { role = refl; tails_are = e; armed = refl; all = λ z. z; kept = λ z. z; wakes_are = refl; long = refl; risen = λ r. omega arith; later = λ r _. refl; same = λ _. refl; loads = refl; differs = λ e. absurd (true≢false (sym e)) }
 
 next_checked : (b : Bool) (c k : ℕ) → (c == k) ≡ b → c ≡ k → cond b (k + 1) c ≡ k + 1
 next_checked b c k e f = ap (λ (z : Bool). cond z (k + 1) c) (sym e ∙ eq-eqb c k f)
@@ -61,6 +62,7 @@ goes_on v0 v w old tails new k b r l is one is_new is_old =
       armed = ap (λ (u : View). u.armed) one.1 ∙ is.armed;
       all = λ z. ap (λ (u : View). u.checked) one.1 ∙ next_checked (v.checked == k) v.checked k refl (is.all z);
       kept = λ z. ap (λ (u : View). u.checked) one.1 ∙ past_checked (v.checked == k) v.checked k (length old) refl (is.kept z) l;
+      wakes_are = ap (λ (u : View). u.wakes) one.1 ∙ is.wakes_are;
       long = subst (λ (z : List ℕ). length z ≡ length old) (sym one.2) (length-set tails k t ∙ is.long);
       risen = λ q. dite (ℕ_discrete q k) (λ e. (let a = is.risen q in let c = one.3 in subst (λ (x : ℕ). slice_index old x ≤ slice_index new x) (sym e) (let d = is.risen k in omega (arith, here)))) (λ d. (let a = is.risen q in let c = else' q d in omega arith));
       later = λ q h. else' q (λ e. absurd (omega arith)) ∙ is.later q (omega arith);
@@ -75,7 +77,7 @@ goes_on v0 v w old tails new k b r l is one is_new is_old =
 
 -- once all were read
 pub ends : (v0 v : View) (old tails : List ℕ) (b : Bool) → IsReading v0 old (length old) v tails b → HasRead v0 v tails
-ends v0 v old tails b is = record { role = is.role; tails_are = is.tails_are; armed = is.armed; all = λ z. is.all z ∙ sym is.long; kept = λ z. is.kept (z ∙ is.long) ∙ sym is.long; loads = subst (λ (k : ℕ). v.loads ≡ loads_of k tails ++ v0.loads) (sym is.long) is.loads }
+ends v0 v old tails b is = record { role = is.role; tails_are = is.tails_are; armed = is.armed; all = λ z. is.all z ∙ sym is.long; kept = λ z. is.kept (z ∙ is.long) ∙ sym is.long; wakes_are = is.wakes_are; loads = subst (λ (k : ℕ). v.loads ≡ loads_of k tails ++ v0.loads) (sym is.long) is.loads }
 
 pub ends_risen : (v0 v : View) (old tails : List ℕ) (k : ℕ) (b : Bool) → IsReading v0 old k v tails b → HaveRisen old tails
 ends_risen v0 v old tails k b is = (is.long, is.risen)

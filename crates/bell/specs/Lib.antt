@@ -1,3 +1,4 @@
+pub mod Wakes
 pub mod Plays
 pub mod Rule
 pub mod BellPasses

@@ -1,6 +1,6 @@
 //! The bell and its calls.
 ghost use Rattle.std.specs.Prelude.{◌≡◌, ◌≢◌, ◌↔◌, ◌⊎◌, ◌≤◌, ◌<◌, ◌∷◌, true, false, IfOk, IsErrOf};
-ghost use Rattle.bell.specs.BellPasses.{IsRingerOf, IsSleeperOf, HasLoaded, HaveRisen, IsNew};
+ghost use Rattle.bell.specs.BellPasses.{IsRingerOf, IsSleeperOf, HasAsked, HasLoaded, HasLooked, HasTakenBack, HaveRisen, IsNew, WasFound};
 
 use crate::error::BellError;
 use crate::law::Law;
@@ -58,7 +58,8 @@ impl Bell {
     pub fn publish(&self, ringer: &mut Ringer, tail: u64) -> MustWake
         requires own { IsRingerOf self.now ringer.old }
         requires rising { ringer.old.tail ≤ tail }
-        ensures { ringer.new ≡ record ringer.old { tail = tail; found = result.owed ∷ ringer.old.found } }
+        ensures pass { ringer.new ≡ record ringer.old { tail = tail; found = result.owed ∷ ringer.old.found; wakes = ringer.new.wakes } }
+        ensures wake { HasLooked ringer.old ringer.new result.owed }
     {
         ringer.publish(&self.table.shared, tail)
     }
@@ -74,7 +75,7 @@ impl Bell {
     /// Reads all tails.
     pub fn collect(&self, sleeper: &mut Sleeper)
         requires own { IsSleeperOf self.now sleeper.old }
-        ensures pass { (sleeper.new.table ≡ sleeper.old.table) × (sleeper.new.dozes ≡ sleeper.old.dozes) }
+        ensures pass { (sleeper.new.table ≡ sleeper.old.table) × (sleeper.new.dozes ≡ sleeper.old.dozes) × (sleeper.new.wakes ≡ sleeper.old.wakes) }
         ensures read { HasLoaded sleeper.old sleeper.new }
         ensures risen { HaveRisen sleeper.old.tails sleeper.new.tails }
     {
@@ -88,16 +89,21 @@ impl Bell {
         ensures table { sleeper.new.table ≡ sleeper.old.table }
         ensures dozed { result ≡ Nap.Dozed → (sleeper.new.dozes ≡ true) × (sleeper.new.tails ≡ sleeper.old.tails) }
         ensures work { result ≡ Nap.Work → (sleeper.new.dozes ≡ false) × (sleeper.new.tails ≢ sleeper.old.tails) }
+        ensures asked { result ≡ Nap.Dozed → HasAsked sleeper.old sleeper.new }
+        ensures took_back { result ≡ Nap.Work → HasTakenBack sleeper.old sleeper.new }
         ensures read { HasLoaded sleeper.old sleeper.new }
         ensures risen { HaveRisen sleeper.old.tails sleeper.new.tails }
     {
         sleeper.doze(&self.table.shared)
     }
 
-    /// Waits until the wake bit is clear: at once, but for a sleeper that dozed and wasn't woken. It parks, and burns no time.
+    /// Waits until the wake bit is clear: at once, but for a sleeper that dozed and wasn't woken. That one comes back only after a
+    /// ringer has found the bit set. It parks, and burns no time.
     pub fn sleep<R: Wait>(&self, rt: &R, sleeper: &mut Sleeper)
         requires own { IsSleeperOf self.now sleeper.old }
-        ensures { sleeper.new ≡ record sleeper.old { dozes = false } }
+        ensures pass { sleeper.new ≡ record sleeper.old { dozes = false; wakes = sleeper.new.wakes } }
+        ensures woken { sleeper.old.dozes ≡ true → WasFound sleeper.old sleeper.new }
+        ensures awake { sleeper.old.dozes ≡ false → sleeper.new.wakes ≡ sleeper.old.wakes }
     {
         sleeper.sleep(rt, &self.table.shared);
     }

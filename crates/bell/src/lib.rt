@@ -15,4 +15,4 @@ pub use error::BellError;
 pub use law::Law;
 pub use ringer::{MustWake, Ringer};
 pub use sleeper::{Nap, Sleeper};
-pub use view::{Load, Role, View};
+pub use view::{Change, Load, Role, View};

@@ -1,7 +1,7 @@
 //! The one who dozes where no ring has anything new, and is woken.
 ghost use Rattle.std.specs.Prelude.{◌≡◌, ◌≢◌, ◌+◌, ◌≤◌, ◌<◌, true, false, length, slice_index};
-ghost use Rattle.bell.specs.BellPasses.{IsSleeperSeat, IsBell, HasReadOne, HasRead, HasLoaded, HaveRisen};
-ghost use Rattle.bell.specs.Plays.{reading, waking};
+ghost use Rattle.bell.specs.BellPasses.{IsSleeperSeat, IsBell, HasAsked, HasGivenUp, HasReadOne, HasRead, HasLoaded, HasTakenBack, HasWoken, HaveRisen, WasFound};
+ghost use Rattle.bell.specs.Plays.{reading};
 ghost use Rattle.bell.specs.declared.view.Role.{Role};
 
 use crate::plays::{AskBit, LoadTail, SetBit, TakeBack};
@@ -11,7 +11,8 @@ use atomic_table::Seat;
 use std::marker::Model;
 use std::sync::Wait;
 
-/// The poller's pass of the bell. Contracts see the tails that it read last, and whether it sleeps soundly.
+/// The poller's pass of the bell. Contracts see the tails that it read last, whether it sleeps soundly, and what it has seen of the
+/// history of the wake word.
 #[derive(Drop)]
 pub struct Sleeper {
     seat: Seat<u8, View>,
@@ -24,7 +25,7 @@ impl Model for Sleeper {
 
     ghost Value = { Sleeping };
 
-    ghost view = { λ s. record { table = s.seat.table_id; tails = s.tails.items; loads = s.seat.me.0.loads; dozes = s.dozes } };
+    ghost view = { λ s. record { table = s.seat.table_id; tails = s.tails.items; loads = s.seat.me.0.loads; dozes = s.dozes; wakes = s.seat.me.0.wakes } };
 
     ghost invariant = { λ s. IsSleeperSeat s.seat s.tails.items s.dozes };
 }
@@ -82,11 +83,20 @@ fn read_all(words: &Words, seat: &mut Seat<u8, View>, tails: &mut Vec<u64>) -> b
     changed
 }
 
+/// Takes the wake bit back.
+fn take_back(words: &Words, seat: &mut Seat<u8, View>)
+    requires own { (seat.old.table_id ≡ words.now.table_id) × IsBell words.now.table_id words.now.key }
+    requires sleeper { seat.old.me.0.role ≡ Role.Sleeper }
+    ensures seat { (seat.new.table_id ≡ seat.old.table_id) × HasGivenUp seat.old.me.0 seat.new.me.0 }
+{
+    words.swap::<TakeBack>(seat, 0, 0);
+}
+
 /// Parks on the wake word until its bit is clear.
 fn wait_for_wake<R: Wait>(rt: &R, words: &Words, seat: &mut Seat<u8, View>)
     requires own { (seat.old.table_id ≡ words.now.table_id) × IsBell words.now.table_id words.now.key }
     requires sleeper { seat.old.me.0.role ≡ Role.Sleeper }
-    ensures seat { (seat.new.table_id ≡ seat.old.table_id) × (seat.new.me.0 ≡ waking seat.old.me.0) }
+    ensures seat { (seat.new.table_id ≡ seat.old.table_id) × HasWoken seat.old.me.0 seat.new.me.0 }
 {
     for _ in rt.forever() {
         if words.load::<AskBit>(seat, 0) == 0 {
@@ -101,7 +111,7 @@ impl Sleeper {
     /// The pass of the sleeper's seat.
     pub(crate) fn new(seat: Seat<u8, View>, tails: Vec<u64>) -> Sleeper
         requires { IsSleeperSeat seat tails.items false }
-        ensures { result ≡ record { table = seat.table_id; tails = tails.items; loads = seat.me.0.loads; dozes = false } }
+        ensures { result ≡ record { table = seat.table_id; tails = tails.items; loads = seat.me.0.loads; dozes = false; wakes = seat.me.0.wakes } }
     {
         Sleeper {
             seat,
@@ -121,7 +131,7 @@ impl Sleeper {
     /// Reads all tails.
     pub(crate) fn collect(&mut self, words: &Words)
         requires own { (self.old.table ≡ words.now.table_id) × IsBell words.now.table_id words.now.key }
-        ensures pass { (self.new.table ≡ self.old.table) × (self.new.dozes ≡ self.old.dozes) }
+        ensures pass { (self.new.table ≡ self.old.table) × (self.new.dozes ≡ self.old.dozes) × (self.new.wakes ≡ self.old.wakes) }
         ensures read { HasLoaded self.old self.new }
         ensures risen { HaveRisen self.old.tails self.new.tails }
     {
@@ -134,13 +144,15 @@ impl Sleeper {
         ensures table { self.new.table ≡ self.old.table }
         ensures dozed { result ≡ Nap.Dozed → (self.new.dozes ≡ true) × (self.new.tails ≡ self.old.tails) }
         ensures work { result ≡ Nap.Work → (self.new.dozes ≡ false) × (self.new.tails ≢ self.old.tails) }
+        ensures asked { result ≡ Nap.Dozed → HasAsked self.old self.new }
+        ensures took_back { result ≡ Nap.Work → HasTakenBack self.old self.new }
         ensures read { HasLoaded self.old self.new }
         ensures risen { HaveRisen self.old.tails self.new.tails }
     {
         words.swap::<SetBit>(&mut self.seat, 0, 1);
         let changed = read_all(words, &mut self.seat, &mut self.tails);
         if changed {
-            words.swap::<TakeBack>(&mut self.seat, 0, 0);
+            take_back(words, &mut self.seat);
         }
         self.dozes = !changed;
         if changed { Nap::Work } else { Nap::Dozed }
@@ -149,7 +161,9 @@ impl Sleeper {
     /// Waits until the wake bit is clear.
     pub(crate) fn sleep<R: Wait>(&mut self, rt: &R, words: &Words)
         requires own { (self.old.table ≡ words.now.table_id) × IsBell words.now.table_id words.now.key }
-        ensures { self.new ≡ record self.old { dozes = false } }
+        ensures pass { self.new ≡ record self.old { dozes = false; wakes = self.new.wakes } }
+        ensures woken { self.old.dozes ≡ true → WasFound self.old self.new }
+        ensures awake { self.old.dozes ≡ false → self.new.wakes ≡ self.old.wakes }
     {
         wait_for_wake(rt, words, &mut self.seat);
         self.dozes = false;

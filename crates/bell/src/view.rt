@@ -15,15 +15,23 @@ pub struct Load {
     pub tail: u64,
 }
 
-/// What a seat knows. The fields from `tail` to `found` are a ringer's, those from `rings` on the sleeper's.
+/// A change of the wake word.
+pub enum Change {
+    /// The sleeper set the bit.
+    Asked,
+    /// The ringer of this ring found the bit set, and cleared it.
+    Found(u64),
+    /// The sleeper took the bit back.
+    TookBack,
+}
+
+/// What a seat knows. The fields from `tail` to `found` are a ringer's, those from `rings` to `checked` the sleeper's.
 pub struct View {
     pub role: Role,
     /// The tail that it stored last.
     pub tail: u64,
     /// It has stored a tail, and has not looked at the wake word since.
     pub between: bool,
-    /// The number of the doze whose bit it found set last. Dozes count from 1.
-    pub rung: u64,
     /// Whether it found the bit set, look by look, the newest first.
     pub found: LinkedList<bool>,
     /// How many rings have a ringer.
@@ -32,10 +40,10 @@ pub struct View {
     pub tails: LinkedList<u64>,
     /// Its loads of tails, the newest first.
     pub loads: LinkedList<Load>,
-    /// How often it has set the bit.
-    pub doze: u64,
     /// It has set the bit, and has not woken since.
     pub armed: bool,
     /// How many tails it has read since it set the bit, from ring 0 on.
     pub checked: u64,
+    /// The changes of the wake word as far as it has seen them, the newest first.
+    pub wakes: LinkedList<Change>,
 }

@@ -34,7 +34,7 @@ use Rattle.board.specs.declared.phase.Phase.TheVariants.{Unborn, Held, Ready, Ru
 use Rattle.board.specs.declared.poller.Counting.{Counting}
 use Rattle.board.specs.declared.poller.Counting.TheVariants.{Counted, Fewer, NotCounted, NotArmed as NoneToCount}
 use Rattle.board.specs.Calls.{Stands}
-use Rattle.board.specs.PollerRows.{IsAt, IsOurs, Watched, Paid}
+use Rattle.board.specs.PollerRows.{IsAt, IsOurs, Watched, Paid, Spends, StepsTo}
 use Rattle.board.specs.PollerTimers.{IsKept, KnowsAlarm}
 use Rattle.board.specs.TimerCalls.{Counts, HasFewer, IsUncounted, TellsReply, counted_by}
 use Rattle.board.proofs.AlarmsSet.{reaped_armed}
@@ -44,7 +44,8 @@ use Rattle.board.proofs.Settlings.{replied_by}
 use Rattle.board.proofs.TimersHeld.{armed_before, freed_one, goes_one, none}
 use Rattle.board.proofs.TimersKept.{AllPass, is_calm, is_still}
 use Rattle.board.proofs.RowLaws.{submits_goes}
-use Rattle.board.proofs.Watching.{lasts_on, paid_add, paid_most, paid_none, replied_on, stepped_after, watched_none, watched_then}
+use Rattle.board.proofs.CountLooks.{spends_add, spends_most, spends_none, spends_other}
+use Rattle.board.proofs.Watching.{lasts_on, paid_add, paid_most, paid_none, paid_one, replied_on, stepped_after, watched_none, watched_then}
 
 abbrev TableSeat : Type 0
 TableSeat = Seat (Option Thing) View
@@ -104,6 +105,7 @@ pub record Tallied (b : Facts) (s t : TableSeat) (r : Req) (k found : ℕ) : Typ
   pub at_least : found ≤ replies_from (events_of t.me.0.seen) r.ring (suc r.k) (k - suc r.k)
   pub at_most : replies_from (events_of s.me.0.seen) r.ring (suc r.k) (k - suc r.k) ≤ found
   pub paid : Paid s.me.0 t.me.0 0 (k - suc r.k)
+  pub looks : Spends b.layout.cells r s.me.0 t.me.0 0 (k - suc r.k)
 
 -- so far it has made no step
 pub tally_start : (b : Facts) (s : TableSeat) (r : Req) (k : ℕ) → IsOurs b s → k ≡ r.k + 1 → 0 < cells_in b.layout.cells r.ring → r.k < submits (events_of s.me.0.seen) r.ring → Tallied b s s r k 0
@@ -115,6 +117,7 @@ tally_start b s r k o is some born = let zero' : k - suc r.k ≡ 0 = omega arith
   at_least = omega arith;
   at_most = subst (λ (n : ℕ). replies_from (events_of s.me.0.seen) r.ring (suc r.k) n ≤ 0) (sym zero') (omega arith);
   paid = subst (λ (n : ℕ). Paid s.me.0 s.me.0 0 n) (sym zero') (paid_none s.me.0 0);
+  looks = subst (λ (n : ℕ). Spends b.layout.cells r s.me.0 s.me.0 0 n) (sym zero') (spends_none b.layout.cells r s.me.0);
 }
 
 module _ (b : Facts) (s t u : TableSeat) (r : Req) (k found : ℕ) (x : Tallied b s t r k found) (w : Watched b t u) where
@@ -124,10 +127,17 @@ module _ (b : Facts) (s t u : TableSeat) (r : Req) (k found : ℕ) (x : Tallied 
   abbrev n : ℕ
   n = k - suc r.k
 
+  looks_more : StepsTo b.layout.cells here t.me.0 u.me.0 → k < r.k + cells_in b.layout.cells r.ring → Spends b.layout.cells r s.me.0 u.me.0 0 (n + 1)
+  looks_more step lt = spends_add b.layout.cells r s.me.0 t.me.0 u.me.0 0 n 0 1 x.looks (spends_other b.layout.cells r here t.me.0 u.me.0 refl x.low lt step)
+
+  -- and one that wasn't submitted yet
+  pub looks_all : StepsTo b.layout.cells here t.me.0 u.me.0 → k < r.k + cells_in b.layout.cells r.ring → Spends b.layout.cells r s.me.0 u.me.0 0 (cells_in b.layout.cells r.ring - 1)
+  looks_all step lt = let low = x.low in spends_most b.layout.cells r s.me.0 u.me.0 0 (n + 1) 0 (cells_in b.layout.cells r.ring - 1) (looks_more step lt) (omega arith) (omega arith)
+
   -- one more was looked at
-  pub tally_more : (replied' : Bool) → TellsReply (events_of u.me.0.seen) here (Some replied') → Paid t.me.0 u.me.0 0 1 → k < r.k + cells_in b.layout.cells r.ring → Tallied b s u r (k + 1) (found + flag replied')
-  tally_more replied' told paid lt =
-      let low = x.low in let all = watched_then b s t u x.watched w in let h = events_of s.me.0.seen in let g = events_of u.me.0.seen in let i = r.ring in let m = suc r.k in
+  pub tally_more : (replied' : Bool) → TellsReply (events_of u.me.0.seen) here (Some replied') → StepsTo b.layout.cells here t.me.0 u.me.0 → k < r.k + cells_in b.layout.cells r.ring → Tallied b s u r (k + 1) (found + flag replied')
+  tally_more replied' told step lt =
+      let paid = paid_one _ _ t.me.0 u.me.0 step.5 in let low = x.low in let all = watched_then b s t u x.watched w in let h = events_of s.me.0.seen in let g = events_of u.me.0.seen in let i = r.ring in let m = suc r.k in
       let next : (k + 1) - suc r.k ≡ suc n = omega arith in let at : suc r.k + n ≡ k = omega arith in
       let here_is : (f : List Event) → replies_from f i m (suc n) ≡ replies_from f i m n + flag (is_replied (phase f here)) = λ f. ap (λ (z : ℕ). replies_from f i m n + flag (is_replied (phase f (record { ring = i; k = z })))) at in
       let told' : flag (is_replied (phase g here)) ≡ flag replied' = ap flag told.1 in
@@ -141,6 +151,7 @@ module _ (b : Facts) (s t u : TableSeat) (r : Req) (k found : ℕ) (x : Tallied 
         at_least = subst (λ (z : ℕ). found + f ≤ replies_from g i m z) (sym next) (omega (arith, a, grown, new, told'));
         at_most = subst (λ (z : ℕ). replies_from h i m z ≤ found + f) (sym next) (omega (arith, c, was, old, told'));
         paid = subst (λ (z : ℕ). Paid s.me.0 u.me.0 0 z) (let z : n + 1 ≡ (k + 1) - suc r.k = omega arith in z) (paid_add s.me.0 t.me.0 u.me.0 n 1 x.paid paid);
+        looks = subst (λ (z : ℕ). Spends b.layout.cells r s.me.0 u.me.0 0 z) (let z : n + 1 ≡ (k + 1) - suc r.k = omega arith in z) (looks_more step lt);
       }
 
   -- the next wasn't submitted yet: nor were those after it
@@ -163,6 +174,9 @@ module _ (b : Facts) (s t : TableSeat) (r : Req) (k found count : ℕ) (x : Tall
 
   pub tally_steps : Paid s.me.0 t.me.0 0 (cells_in b.layout.cells r.ring - 1)
   tally_steps = let high = x.high in let low = x.low in paid_most s.me.0 t.me.0 (k - suc r.k) (cells_in b.layout.cells r.ring - 1) x.paid (omega arith)
+
+  pub tally_looks : Spends b.layout.cells r s.me.0 t.me.0 0 (cells_in b.layout.cells r.ring - 1)
+  tally_looks = let high = x.high in let low = x.low in spends_most b.layout.cells r s.me.0 t.me.0 0 (k - suc r.k) 0 (cells_in b.layout.cells r.ring - 1) x.looks (omega arith) (omega arith)
 
 -- an armed timer has its cell, so no request came to that after it
 pub held_bound : (b : Facts) (s : TableSeat) (r : Req) (x g d : ℕ) → IsOurs b s → IsAt b.layout.cells x g r → phase (events_of s.me.0.seen) r ≡ armed d → submits (events_of s.me.0.seen) r.ring ≤ r.k + cells_in b.layout.cells r.ring

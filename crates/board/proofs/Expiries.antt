@@ -5,7 +5,9 @@ use Rattle.claim.specs.declared.tag.Tag.{Tag}
 use Rattle.claim.specs.declared.tag.Tag.TheVariants.{Empty as EmptyTag, Held as HeldTag, Ready as ReadyTag, Running as RunningTag, Armed as ArmedTag, Done as DoneTag}
 use Rattle.history.specs.declared.req.Req.{Req}
 use Rattle.history.specs.declared.event.Event.TheVariants.{Expire}
+use Rattle.history.specs.Chains.{is_timeout}
 use Rattle.history.specs.History.{phase, armed, replied, by_expire, clock_of}
+use Rattle.history.specs.Legal.{IsOf as IsOfKind}
 use Rattle.history.proofs.Requests.{same_itself}
 use Rattle.steps.specs.declared.line.Line.{Line}
 use Rattle.steps.specs.declared.line.Line.TheVariants.{Did}
@@ -106,15 +108,15 @@ module _ (b : Facts) (s t : TableSeat) (r : Req) (x g : ℕ) (o : IsOurs b s) (a
     expires_linked k = record { goes = w.goes; tells = (inr (k.0, k.1, k.2), looked); others = w.freed_is }
 
     -- its deadline is to come
-    pub expires_early : (d : ℕ) → phase (events_of t.me.0.seen) r ≡ armed d → clock_of (events_of t.me.0.seen) < d → Expires b r (pass_of s) (pass_of t) Early
-    expires_early d is lt = record { goes = w.goes; tells = ((d, is, lt), looked); others = w.freed_is }
+    pub expires_early : (d : ℕ) → phase (events_of t.me.0.seen) r ≡ armed d → clock_of (events_of t.me.0.seen) < d → IsOfKind (events_of t.me.0.seen) r is_timeout true → Expires b r (pass_of s) (pass_of t) Early
+    expires_early d is lt kind = record { goes = w.goes; tells = ((d, is, lt), kind, looked); others = w.freed_is }
 
 -- a look before it
 pub expires_after : (b : Facts) (r : Req) (s t u : TableSeat) (n m : ℕ) (x : Expiry) → Watched b s t → Paid s.me.0 t.me.0 n m → Expires b r (pass_of t) (pass_of u) x → Expires b r (pass_of s) (pass_of u) x
 expires_after b r s t u n m x w p k = record { goes = goes_then b (pass_of s) (pass_of t) (pass_of u) _ w.goes k.goes; tells = tells_after x k.tells; others = λ i. k.others i ∙ w.freed_is i } where
   tells_after : (x : Expiry) → ExpiryTells b r (pass_of t) (pass_of u) x → ExpiryTells b r (pass_of s) (pass_of u) x
   tells_after Expired k = k
-  tells_after Early k = (k.0, stepped_after b.layout.cells r s t u b n m p k.1)
+  tells_after Early k = (k.0, k.1, stepped_after b.layout.cells r s t u b n m p k.2)
   tells_after NotArmed k = (k.0, stepped_after b.layout.cells r s t u b n m p k.1)
 
 -- it arms and fires no timer, and leaves the clock

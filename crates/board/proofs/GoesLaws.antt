@@ -14,7 +14,7 @@ use Rattle.steps.specs.declared.view.View.{View}
 use Rattle.steps.specs.Cells.{setup_of}
 use Rattle.steps.specs.Fairness.{Orderly}
 use Rattle.steps.specs.Journal.{event_of, events_of}
-use Rattle.steps.specs.Rule.{Owner, nobody, pollers, rings, workers, holders, owner, stands_for, owns, NoneOf, Looks, Extends, ExtendsAfter, ExtendsNoted, ExtendsTwice}
+use Rattle.steps.specs.Rule.{AreMade, Owner, nobody, pollers, rings, workers, holders, owner, stands_for, owns, NoneOf, Looks, Extends, ExtendsAfter, ExtendsNoted, ExtendsTwice}
 use Rattle.work.specs.Board.{Facts, IsOf, share_of}
 use Rattle.work.specs.Passes.{Pass, own_of}
 use Rattle.work.proofs.OwnEvents.{own_none, own_append, own_before, silent_own}
@@ -43,6 +43,7 @@ goes_same b p q o t v = record {
     live = subst (λ (z : View). was_shut (events_of z.seen) ≡ false) (sym v) o.live;
     orderly = subst (λ (z : View). Orderly b.layout z.seen) (sym v) o.orderly;
     looked = ap (λ (z : View). z.heard) v ∙ o.looked;
+    made = subst (λ (z : View). AreMade z.seen z.steps) (sym v) o.made;
   };
   role_is = ap (λ (z : View). z.role) v;
   later = [];

@@ -32,6 +32,7 @@ pub mod LastSteps
 pub mod RowsKept
 pub mod AlarmsSet
 pub mod Expiries
+pub mod CountLooks
 pub mod Countings
 pub mod Settlings
 pub mod Strikes

@@ -15,7 +15,7 @@ use Rattle.steps.specs.declared.view.View.{View}
 use Rattle.steps.specs.Fairness.{Orderly}
 use Rattle.steps.specs.Journal.{events_of, lent}
 use Rattle.steps.specs.Cells.{setup_of, cells_in}
-use Rattle.steps.specs.Rule.{IsSameSeat, without_next, without_one, next_submitter, idle_one, submitter_of, next_poller}
+use Rattle.steps.specs.Rule.{AreMade, IsSameSeat, without_next, without_one, next_submitter, idle_one, submitter_of, next_poller}
 use Rattle.work.specs.Board.{Facts, share_of}
 use Rattle.work.specs.Grid.{AreCellCounts}
 use Rattle.work.specs.Passes.{Pass, pass_of}
@@ -28,8 +28,8 @@ abbrev TableSeat : Type 0
 TableSeat = Seat (Option Thing) View
 
 -- a pass that has seen nothing is one of the board's own
-pub fresh : (b : Facts) (p : Pass) (role : Role) → p.table ≡ b.table → p.view.layout ≡ b.layout → p.view.role ≡ role → p.view.parts ≡ share_of b role → p.view.heard ≡ [] → p.view.seen ≡ [] → IsFresh b role p
-fresh b p role t l r n hd s = (
+pub fresh : (b : Facts) (p : Pass) (role : Role) → p.table ≡ b.table → p.view.layout ≡ b.layout → p.view.role ≡ role → p.view.parts ≡ share_of b role → p.view.heard ≡ [] → p.view.seen ≡ [] → p.view.steps ≡ [] → IsFresh b role p
+fresh b p role t l r n hd s st = (
   record {
     table_is = t;
     layout_is = l;
@@ -38,6 +38,7 @@ fresh b p role t l r n hd s = (
     live = ap (λ (j : List Line). was_shut (events_of j)) s;
     orderly = subst (Orderly b.layout) (sym s) tt;
     looked = hd;
+    made = subst (AreMade p.view.seen) (sym st) tt;
   },
   r,
   s,
@@ -62,6 +63,7 @@ module _ (L : Layout) (t : TableId) (n m : ℕ) (s s' w : TableSeat) (c : IsCutt
       parts = (let p = ap (λ (x : Me (Option Thing) View). x.0.parts) rest' in let q = c.parts in omega arith);
       seen = ap (λ (x : Me (Option Thing) View). x.0.seen) rest' ∙ c.seen;
       heard = ap (λ (x : Me (Option Thing) View). x.0.heard) rest' ∙ c.heard;
+      steps = ap (λ (x : Me (Option Thing) View). x.0.steps) rest' ∙ c.steps;
       bare = ap (λ (x : Me (Option Thing) View). x.1) rest' ∙ c.bare;
     }
 
@@ -92,7 +94,7 @@ module _ (L : Layout) (t : TableId) (n m : ℕ) (s s' w : TableSeat) (c : IsCutt
     }
 
     pub submitter_fresh : (b : Facts) → b.table ≡ t → b.layout ≡ L → IsFresh b (Submitter n) (pass_of w)
-    submitter_fresh b x y = fresh b (pass_of w) (Submitter n) (of ∙ (c.table_is ∙ sym x)) (layout ∙ sym y) role_is (ap (λ (z : Me (Option Thing) View). z.0.parts) cut) (ap (λ (z : Me (Option Thing) View). z.0.heard) cut) seen
+    submitter_fresh b x y = fresh b (pass_of w) (Submitter n) (of ∙ (c.table_is ∙ sym x)) (layout ∙ sym y) role_is (ap (λ (z : Me (Option Thing) View). z.0.parts) cut) (ap (λ (z : Me (Option Thing) View). z.0.heard) cut) seen (ap (λ (z : Me (Option Thing) View). z.0.steps) cut)
 
   -- a worker was cut
   module _ (rest' : s'.me ≡ (without_one s.me.0, s.me.1)) (cut : w.me ≡ (idle_one s.me.0, [])) (large : 1 < s.me.0.parts) where
@@ -104,11 +106,12 @@ module _ (L : Layout) (t : TableId) (n m : ℕ) (s s' w : TableSeat) (c : IsCutt
       parts = (let p = ap (λ (x : Me (Option Thing) View). x.0.parts) rest' in let q = c.parts in omega arith);
       seen = ap (λ (x : Me (Option Thing) View). x.0.seen) rest' ∙ c.seen;
       heard = ap (λ (x : Me (Option Thing) View). x.0.heard) rest' ∙ c.heard;
+      steps = ap (λ (x : Me (Option Thing) View). x.0.steps) rest' ∙ c.steps;
       bare = ap (λ (x : Me (Option Thing) View). x.1) rest' ∙ c.bare;
     }
 
     pub worker_fresh : (b : Facts) → b.table ≡ t → b.layout ≡ L → IsFresh b Idle (pass_of w)
-    worker_fresh b x y = fresh b (pass_of w) Idle (of ∙ (c.table_is ∙ sym x)) (ap (λ (z : Me (Option Thing) View). z.0.layout) cut ∙ (c.layout_is ∙ sym y)) (ap (λ (z : Me (Option Thing) View). z.0.role) cut) (ap (λ (z : Me (Option Thing) View). z.0.parts) cut) (ap (λ (z : Me (Option Thing) View). z.0.heard) cut) (ap (λ (z : Me (Option Thing) View). z.0.seen) cut ∙ c.seen)
+    worker_fresh b x y = fresh b (pass_of w) Idle (of ∙ (c.table_is ∙ sym x)) (ap (λ (z : Me (Option Thing) View). z.0.layout) cut ∙ (c.layout_is ∙ sym y)) (ap (λ (z : Me (Option Thing) View). z.0.role) cut) (ap (λ (z : Me (Option Thing) View). z.0.parts) cut) (ap (λ (z : Me (Option Thing) View). z.0.heard) cut) (ap (λ (z : Me (Option Thing) View). z.0.seen) cut ∙ c.seen) (ap (λ (z : Me (Option Thing) View). z.0.steps) cut)
 
 -- the poller's seat once all others were cut
 pub cut_all : (L : Layout) (t : TableId) (n m : ℕ) (s s' : TableSeat) → IsCutting L t n 0 s → ((i : ℕ) → IsCutting s.me.0.layout t i 0 s → IsCutting s.me.0.layout t i m s') → IsCutting L t n m s'
@@ -116,4 +119,4 @@ cut_all L t n m s s' k w = subst (λ (M : Layout). IsCutting M t n m s') k.layou
 
 -- and its pass
 pub poller_fresh : (b : Facts) (L : Layout) (t : TableId) (n : ℕ) (s : TableSeat) → IsCutting L t n b.workers s → b.table ≡ t → b.layout ≡ L → length b.layout.cells ≡ n → n ≤ 16 → b.workers ≤ 64 → IsFresh b (Poller n) (pass_of s)
-poller_fresh b L t n s k x y is few pool = fresh b (pass_of s) (Poller n) (k.table_is ∙ sym x) (k.layout_is ∙ sym y) k.role (let p = k.parts in omega arith) k.heard k.seen
+poller_fresh b L t n s k x y is few pool = fresh b (pass_of s) (Poller n) (k.table_is ∙ sym x) (k.layout_is ∙ sym y) k.role (let p = k.parts in omega arith) k.heard k.seen k.steps

@@ -79,6 +79,7 @@ looks_told v m w none x =
       live = x.live;
       orderly = x.orderly;
       steps = x.steps;
+      made = x.made;
       is = x.is ∙ (λ i. seeing (record v { parts = e i }) v.role x.now x.steps);
     }
 

@@ -29,7 +29,7 @@ use Rattle.board.specs.declared.poller.Settling.{Settling}
 use Rattle.board.specs.declared.poller.Settling.TheVariants.{Settled, TargetOpen, NotArmed as NothingArmed}
 use Rattle.board.specs.Calls.{Goes, Stands}
 use Rattle.board.specs.PollerRows.{IsAt, IsOurs, Watched, Paid}
-use Rattle.board.specs.TimerCalls.{IsTargetOpen, Settles, SettlingTells, settled_by}
+use Rattle.board.specs.TimerCalls.{IsArmed, IsTargetOpen, Settles, SettlingTells, settled_by}
 use Rattle.board.proofs.Expiries.{no_more_armed, stepped_by, unarmed}
 use Rattle.board.proofs.GoesLaws.{goes_then}
 use Rattle.board.proofs.TimersHeld.{freed_one, goes_one, none}
@@ -98,15 +98,15 @@ module _ (b : Facts) (s t : TableSeat) (r : Req) (x g : ℕ) (o : IsOurs b s) (a
     settles_alone k = record { goes = w.goes; tells = (inr k, stepped_by b s t r x g o a n step shown); others = w.freed_is }
 
 -- its target has no reply
-pub settles_open : (b : Facts) (r : Req) (s t : TableSeat) → Watched b s t → IsTargetOpen b.layout.cells r (pass_of s) (pass_of t) → Settles b r (pass_of s) (pass_of t) TargetOpen
-settles_open b r s t w k = record { goes = w.goes; tells = k; others = w.freed_is }
+pub settles_open : (b : Facts) (r : Req) (s t : TableSeat) → Watched b s t → IsTargetOpen b.layout.cells r (pass_of s) (pass_of t) → IsArmed (events_of t.me.0.seen) r → Settles b r (pass_of s) (pass_of t) TargetOpen
+settles_open b r s t w k is = record { goes = w.goes; tells = (k, is); others = w.freed_is }
 
 -- looks before it
 pub settles_after : (b : Facts) (r : Req) (s t u : TableSeat) (n m : ℕ) (x : Settling) → Watched b s t → Paid s.me.0 t.me.0 n m → Settles b r (pass_of t) (pass_of u) x → Settles b r (pass_of s) (pass_of u) x
 settles_after b r s t u n m x w p k = record { goes = goes_then b (pass_of s) (pass_of t) (pass_of u) _ w.goes k.goes; tells = tells_after x k.tells; others = λ i. k.others i ∙ w.freed_is i } where
   tells_after : (x : Settling) → SettlingTells b r (pass_of t) (pass_of u) x → SettlingTells b r (pass_of s) (pass_of u) x
   tells_after Settled k = k
-  tells_after TargetOpen k = (k.0, k.1, k.2, stepped_after b.layout.cells k.0 s t u b n m p k.3)
+  tells_after TargetOpen k = let o = k.0 in ((o.0, o.1, o.2, stepped_after b.layout.cells o.0 s t u b n m p o.3), k.1)
   tells_after NothingArmed k = (k.0, stepped_after b.layout.cells r s t u b n m p k.1)
 
 -- it arms and fires no timer, and leaves the clock

@@ -36,12 +36,13 @@ use Rattle.board.specs.declared.poller.Arming.TheVariants.{Armed, NotHeld, NotTi
 use Rattle.board.specs.declared.poller.Released.TheVariants.{NotHeld as Unreleased}
 use Rattle.board.specs.PollerRows.{IsAt, IsOurs, Watched, Paid, Decides}
 use Rattle.board.specs.PollerTimers.{IsAlarm, IsKept, IsTimerAs, looks_at, looks_for_count}
-use Rattle.board.specs.TimerCalls.{Arms, ArmTells, IsBarred}
+use Rattle.board.specs.Calls.{IsHeld, Stepped}
+use Rattle.board.specs.TimerCalls.{Arms, ArmTells, IsBarred, IsNoTimer, IsShutTimer}
 use Rattle.board.proofs.GoesLaws.{goes_then}
 use Rattle.board.proofs.TimersHeld.{goes_one, freed_one}
 use Rattle.board.proofs.TimersKept.{unfired_yet, timer_is as link_is}
 use Rattle.board.proofs.TimerFacts.{TellsAll, alive_facts}
-use Rattle.board.proofs.Watching.{watched_look, born_on, lasts_on, stepped_after, found_after, shut_after, paid_most}
+use Rattle.board.proofs.Watching.{watched_look, born_on, lasts_on, stepped_after, found_after, shut_after, held_after, held_before, was_held, watched_then, paid_most}
 
 abbrev TableSeat : Type 0
 TableSeat = Seat (Option Thing) View
@@ -69,11 +70,15 @@ module _ (b : Facts) (s t : TableSeat) (r : Req) (x g : ℕ) (o : IsOurs b s) (a
 pub arms_lost : (b : Facts) (r : Req) (p q : Pass) → Decides b r p q Unreleased → Arms b r p q NotHeld
 arms_lost b r p q d = record { goes = d.goes; tells = d.decided; others = λ i. d.others i (λ is. absurd (cc)) }
 
+-- more looks before one that barred it
+pub barred_after : (b : Facts) (r : Req) (s t u : TableSeat) (n m : ℕ) → Paid s.me.0 t.me.0 n m → IsBarred b.layout.cells r (pass_of t) (pass_of u) → IsBarred b.layout.cells r (pass_of s) (pass_of u)
+barred_after b r s t u n m p = Rattle.std.proofs.Common.⊎_elim (λ v. Rattle.std.proofs.Common.inl v) (λ v. Rattle.std.proofs.Common.inr (shut_after b r s t u n m p v))
+
 tells_after : (b : Facts) (r : Req) (s t u : TableSeat) (n m : ℕ) (x : Arming) → Watched b s t → Paid s.me.0 t.me.0 n m → ArmTells b r (pass_of t) (pass_of u) x → ArmTells b r (pass_of s) (pass_of u) x
 tells_after b r s t u n m (Armed d) w p k = let c = k.1 in (k.0, (c.0, (c.1.0 ++ w.goes.later, c.1.1 ∙ (ap (λ (j : List Line). c.1.0 ++ j) w.goes.seen_is ∙ sym (Rattle.std.proofs.lemmas.List.append_assoc c.1.0 w.goes.later s.me.0.seen))), c.2, c.3), found_after b.layout.cells r s t u b n m p k.2)
 tells_after b r s t u n m NotHeld w p k = (k.0, stepped_after b.layout.cells r s t u b n m p k.1)
-tells_after b r s t u n m NotTimer w p k = k
-tells_after b r s t u n m Shut w p k = (Rattle.std.proofs.Common.⊎_elim (λ v. Rattle.std.proofs.Common.inl v) (λ v. Rattle.std.proofs.Common.inr (shut_after b r s t u n m p v)) k.0, k.1)
+tells_after b r s t u n m NotTimer w p k = (k.0, stepped_after b.layout.cells r s t u b n m p k.1)
+tells_after b r s t u n m Shut w p k = record { barred = barred_after b r s t u n m p k.barred; timer = k.timer; held = held_after b r s t u n m w p k.held; unfreed = k.unfreed }
 
 -- looks before an arming
 pub arms_after : (b : Facts) (r : Req) (s t u : TableSeat) (n m : ℕ) (x : Arming) → Watched b s t → Paid s.me.0 t.me.0 n m → Arms b r (pass_of t) (pass_of u) x → Arms b r (pass_of s) (pass_of u) x
@@ -132,11 +137,21 @@ as_timer h r k is = (is.0, is.1, by_alarm is.0 k.alarm is.4) where
   by_alarm e (Alone f n) i = ap (λ b. b || is_link_timeout e.op) i.0
 
 -- answers that change nothing
-pub arms_shut : (b : Facts) (r : Req) (s t : TableSeat) → Watched b s t → IsBarred b.layout.cells r (pass_of s) (pass_of t) → IsOfKind (events_of t.me.0.seen) r is_timer true → Arms b r (pass_of s) (pass_of t) Shut
-arms_shut b r s t w i k = record { goes = w.goes; tells = (i, k); others = w.freed_is }
+pub arms_shut : (b : Facts) (r : Req) (s t : TableSeat) → Watched b s t → IsShutTimer b.layout.cells r (pass_of s) (pass_of t) → Arms b r (pass_of s) (pass_of t) Shut
+arms_shut b r s t w k = record { goes = w.goes; tells = k; others = w.freed_is }
 
-pub arms_other : (b : Facts) (r : Req) (s t : TableSeat) → Watched b s t → phase (events_of t.me.0.seen) r ≡ waits → IsOfKind (events_of t.me.0.seen) r is_timer false → Arms b r (pass_of s) (pass_of t) NotTimer
-arms_other b r s t w i k = record { goes = w.goes; tells = (i, k); others = w.freed_is }
+pub arms_other : (b : Facts) (r : Req) (s t : TableSeat) → Watched b s t → IsNoTimer t.me.0.seen r → Stepped b.layout.cells r (pass_of s) (pass_of t) → Arms b r (pass_of s) (pass_of t) NotTimer
+arms_other b r s t w k f = record { goes = w.goes; tells = (k, f); others = w.freed_is }
+
+-- the request was found Held, and then it was found to be severed, or shut out
+module _ (b : Facts) (r : Req) (s t u v : TableSeat) (n m n' m' : ℕ) (w : Watched b s t) (p : Paid s.me.0 t.me.0 n m) (y : Watched b t u) (q : Paid t.me.0 u.me.0 0 1) (held : IsHeld u.me.0.seen r) (step : Stepped b.layout.cells r (pass_of t) (pass_of u)) (z : Watched b u v) (q' : Paid u.me.0 v.me.0 n' m') where
+  pub arms_barred : IsBarred b.layout.cells r (pass_of u) (pass_of v) → IsOfKind (events_of v.me.0.seen) r is_timer true → Arms b r (pass_of s) (pass_of v) Shut
+  arms_barred i k = arms_after b r s t v n m Shut w p (arms_shut b r t v (watched_then b t u v y z) record {
+    barred = barred_after b r t u v 0 1 q i;
+    timer = k;
+    held = held_before b r t u v n' m' (was_held b.layout.cells r t u (y.goes.later, y.goes.seen_is) step held) z q';
+    unfreed = z.freed_is r ∙ held.1;
+  })
 
 -- ---- the count of a TIMEOUT
 

@@ -14,16 +14,16 @@ use Rattle.steps.specs.declared.view.Step.{Step}
 use Rattle.steps.specs.declared.view.View.{View}
 use Rattle.steps.specs.Cells.{setup_of}
 use Rattle.steps.specs.Journal.{events_of}
-use Rattle.steps.specs.Rule.{IsSameSeat, IsStep, Looks, Extends}
+use Rattle.steps.specs.Rule.{Begins, IsSameSeat, IsStep, Looks, Extends}
 use Rattle.steps.specs.Fairness.{IsReaped}
 use Rattle.steps.proofs.FreeCells.{reaped_later}
 use Rattle.steps.proofs.JournalGrowth.{Lasting, lasts, submits_grow, replied_later}
 use Rattle.history.specs.declared.event.Event.{Event}
 use Rattle.work.specs.Board.{Facts}
 use Rattle.work.specs.Passes.{pass_of}
-use Rattle.board.specs.Calls.{LastAt, Stepped, FoundHeld}
+use Rattle.board.specs.Calls.{LastAt, Stepped, FoundHeld, IsHeld}
 use Rattle.board.specs.Seats.{IsPollerSeat}
-use Rattle.board.specs.PollerRows.{IsOurs, Watched, Paid, TellsOutcome, FoundPending, Decided, Decides, IsBlocked, IsUnended, IsShutOut, Gated, Found}
+use Rattle.board.specs.PollerRows.{IsOurs, Watched, Paid, TellsOutcome, FoundPending, WasHeld, Decided, Decides, IsBlocked, IsUnended, IsShutOut, Gated, Found}
 use Rattle.board.specs.declared.trail.Outcome.TheVariants.{Pending}
 use Rattle.board.specs.declared.trail.Gating.{Gating}
 use Rattle.board.specs.declared.trail.Gating.TheVariants.{Severed as NowSevered, Open as NowOpen, Linked as NowLinked, Shut as NowShut, Lost as NowLost}
@@ -140,6 +140,45 @@ pending_after K r s t u n m p x = record {
   steps = x.steps ∙ ap (λ (l : List Step). x.later ++ (record { word = Rattle.steps.specs.Cells.claim_at x.cell; found = x.found; seen = x.seen } ∷ l)) (ap (λ (l : List Step). x.others ++ l) p.1 ∙ sym (append_assoc x.others p.0 s.me.0.steps));
   shown = x.shown;
   pending = x.pending;
+}
+
+-- a look that found the request Held
+pub was_held : (K : List ℕ) (r : Req) (s t : TableSeat) → Begins t.me.0.seen s.me.0.seen → Stepped K r (pass_of s) (pass_of t) → IsHeld t.me.0.seen r → WasHeld K r (pass_of s) (pass_of t)
+was_held K r s t on x held = record { cell = x.0; gen = x.1; found = x.2; seen = t.me.0.seen; later = []; others = x.3.others; cell_is = x.3.cell_is; steps = x.3.last; within = (on, ([], refl)); shown = x.4; held = held }
+
+begins_then : (j k l : List Line) → Begins k j → Begins l k → Begins l j
+begins_then j k l x y = (y.0 ++ x.0, y.1 ∙ (ap (λ (z : List Line). y.0 ++ z) x.1 ∙ sym (append_assoc y.0 x.0 j)))
+
+-- and looks after it
+pub held_before : (b : Facts) (r : Req) (s t u : TableSeat) (n m : ℕ) → WasHeld b.layout.cells r (pass_of s) (pass_of t) → Watched b t u → Paid t.me.0 u.me.0 n m → WasHeld b.layout.cells r (pass_of s) (pass_of u)
+held_before b r s t u n m x w p = record {
+  cell = x.cell;
+  gen = x.gen;
+  found = x.found;
+  seen = x.seen;
+  later = p.0 ++ x.later;
+  others = x.others;
+  cell_is = x.cell_is;
+  steps = p.1 ∙ (ap (λ (l : List Step). p.0 ++ l) x.steps ∙ sym (append_assoc p.0 x.later _));
+  within = (x.within.0, begins_then x.seen t.me.0.seen u.me.0.seen x.within.1 (w.goes.later, w.goes.seen_is));
+  shown = x.shown;
+  held = x.held;
+}
+
+-- and before it
+pub held_after : (b : Facts) (r : Req) (s t u : TableSeat) (n m : ℕ) → Watched b s t → Paid s.me.0 t.me.0 n m → WasHeld b.layout.cells r (pass_of t) (pass_of u) → WasHeld b.layout.cells r (pass_of s) (pass_of u)
+held_after b r s t u n m w p x = record {
+  cell = x.cell;
+  gen = x.gen;
+  found = x.found;
+  seen = x.seen;
+  later = x.later;
+  others = x.others ++ p.0;
+  cell_is = x.cell_is;
+  steps = x.steps ∙ ap (λ (l : List Step). x.later ++ (record { word = Rattle.steps.specs.Cells.claim_at x.cell; found = x.found; seen = x.seen } ∷ l)) (ap (λ (l : List Step). x.others ++ l) p.1 ∙ sym (append_assoc x.others p.0 s.me.0.steps));
+  within = (begins_then s.me.0.seen t.me.0.seen x.seen (w.goes.later, w.goes.seen_is) x.within.0, x.within.1);
+  shown = x.shown;
+  held = x.held;
 }
 
 pub blocked_after : (b : Facts) (r : Req) (s t u : TableSeat) (n m : ℕ) → Paid s.me.0 t.me.0 n m → IsBlocked b.layout.cells r (pass_of t) (pass_of u) → IsBlocked b.layout.cells r (pass_of s) (pass_of u)

@@ -48,10 +48,14 @@ Stepped K r p q = (cell : ℕ) × (gen : ℕ) × (found : ℕ) × LastAt K r p q
 abbrev pub FoundHeld : List ℕ → Req → Pass → Pass → Type 0
 FoundHeld K r p q = (cell : ℕ) × (gen : ℕ) × LastAt K r p q cell gen (word_of HeldTag 0 gen 0)
 
+-- the request waits, and was not moved to Ready
+abbrev pub IsHeld : List Line → Req → Type 0
+IsHeld j r = (phase (events_of j) r ≡ waits) × (freed j r ≡ false)
+
 -- the request stands so, as this journal tells
 abbrev pub Stands : List Line → Req → Standing → Type 0
 Stands j r Unborn = phase (events_of j) r ≡ unborn
-Stands j r Held = (phase (events_of j) r ≡ waits) × (freed j r ≡ false)
+Stands j r Held = IsHeld j r
 Stands j r Ready = (phase (events_of j) r ≡ waits) × (freed j r ≡ true)
 Stands j r Running = phase (events_of j) r ≡ runs
 Stands j r (Armed d) = phase (events_of j) r ≡ armed d

@@ -42,4 +42,5 @@ pub record IsCutting (L : Layout) (t : TableId) (n m : ℕ) (s : Seat (Option Th
   pub parts : s.me.0.parts + (n + m) ≡ 9223372036854775808
   pub seen : s.me.0.seen ≡ []
   pub heard : s.me.0.heard ≡ []
+  pub steps : s.me.0.steps ≡ []
   pub bare : s.me.1 ≡ []

@@ -1,5 +1,5 @@
 -- What the poller knows of the requests of each ring, and what it finds out for a release.
-use Rattle.std.specs.Prelude.{◌≡◌, ◌⊎◌, ℕ, suc, ◌+◌, ◌-◌, ◌*◌, ◌<◌, ◌≤◌, Bool, true, false, ℤ, negsuc, List, [], ◌∷◌, ◌++◌, length, slice_get, Option, Some, None}
+use Rattle.std.specs.Prelude.{◌≡◌, ◌⊎◌, ℕ, suc, ◌==◌, cond, ◌+◌, ◌-◌, ◌*◌, ◌<◌, ◌≤◌, Bool, true, false, ℤ, negsuc, List, [], ◌∷◌, ◌++◌, length, slice_get, Option, Some, None}
 use Rattle.atomic_table.specs.declared.shared.Seat.{Seat}
 use Rattle.claim.specs.Facts.{Facts as FactsParts}
 use Rattle.entry.specs.Entry.{Entry, fails}
@@ -19,10 +19,11 @@ use Rattle.steps.specs.declared.view.View.{View}
 use Rattle.steps.specs.FactsTold.{TellsFacts}
 use Rattle.steps.specs.Journal.{events_of, freed}
 use Rattle.steps.specs.Cells.{IsCell, cells_in, request_at, claim_at}
-use Rattle.steps.specs.Rule.{Shown}
+use Rattle.steps.specs.Rule.{Begins, IsStep, Shown}
 use Rattle.work.specs.Board.{Facts, IsOf}
 use Rattle.work.specs.Passes.{Pass, pass_of, seen_of}
-use Rattle.board.specs.Calls.{Goes, Stepped, FoundHeld, IsUnheld, MayStart}
+use Rattle.work.specs.Searches.{steps_at}
+use Rattle.board.specs.Calls.{Goes, Stepped, FoundHeld, IsHeld, IsUnheld, MayStart}
 use Rattle.board.specs.Seats.{IsPollerSeat}
 use Rattle.board.specs.declared.trail.Outcome.{Outcome}
 use Rattle.board.specs.declared.trail.Outcome.TheVariants.{Pending, Replied, ChainDone}
@@ -79,6 +80,22 @@ pub record Watched (b : Facts) (s t : Seat (Option Thing) View) : Type 0 where
 abbrev pub Paid : View → View → ℕ → ℕ → Type 0
 Paid v w after before = (steps : List Step) × (w.steps ≡ steps ++ v.steps) × (length steps + after ≤ before)
 
+-- how many of these steps were made at other words than this
+abbrev pub steps_elsewhere : ℕ → List Step → ℕ
+steps_elsewhere word [] = 0
+steps_elsewhere word (s ∷ l) = cond (s.word == word) 0 1 + steps_elsewhere word l
+
+-- of the steps that were made between the two views, so many at most were at the request's claim word, and so many at other words
+pub record Spends (K : List ℕ) (r : Req) (v w : View) (own others : ℕ) : Type 0 where
+  pub steps : List Step
+  pub is : w.steps ≡ steps ++ v.steps
+  pub at_own : (x g : ℕ) → IsCell K x → request_at K x g ≡ r → steps_at (claim_at x) steps ≤ own
+  pub at_others : (x g : ℕ) → IsCell K x → request_at K x g ≡ r → steps_elsewhere (claim_at x) steps ≤ others
+
+-- the one step that was made between them was at the request's claim word
+abbrev pub StepsTo : List ℕ → Req → View → View → Type 0
+StepsTo K r v w = (x : ℕ) × (g : ℕ) × (n : ℕ) × IsCell K x × (request_at K x g ≡ r) × IsStep (claim_at x) n v w
+
 -- how many steps it takes at most until the row has the first n requests, and has passed all that are pending in it
 abbrev pub owed : Kept → ℕ → ℕ
 owed r n = 4 * (n - added r) + 3 * waiting r
@@ -127,6 +144,21 @@ pub record FoundPending (K : List ℕ) (r : Req) (p q : Pass) : Type 0 where
   pub steps : q.view.steps ≡ later ++ (record { word = claim_at cell; found = found; seen = seen } ∷ (others ++ p.view.steps))
   pub shown : Shown K seen cell found
   pub pending : ¬ IsReplied (phase (events_of seen) r)
+
+-- a step of this call, at the request's claim word, found it Held: by all that the pass had seen after that step it waited, and
+-- wasn't moved to Ready
+pub record WasHeld (K : List ℕ) (r : Req) (p q : Pass) : Type 0 where
+  pub cell : ℕ
+  pub gen : ℕ
+  pub found : ℕ
+  pub seen : List Line
+  pub later : List Step
+  pub others : List Step
+  pub cell_is : IsCell K cell × (request_at K cell gen ≡ r)
+  pub steps : q.view.steps ≡ later ++ (record { word = claim_at cell; found = found; seen = seen } ∷ (others ++ p.view.steps))
+  pub within : Begins seen p.view.seen × Begins q.view.seen seen
+  pub shown : Shown K seen cell found
+  pub held : IsHeld seen r
 
 -- each earlier member of r's chain has replied and not ended it; or one had no reply when this call looked, and those after it have
 -- replied and not ended it

@@ -12,8 +12,8 @@ use Rattle.steps.specs.Journal.{events_of, freed}
 use Rattle.steps.specs.Rule.{Begins}
 use Rattle.work.specs.Board.{Facts}
 use Rattle.work.specs.Passes.{Pass, seen_of}
-use Rattle.board.specs.Calls.{Goes, Stepped, FoundHeld, IsUnheld}
-use Rattle.board.specs.PollerRows.{IsShutOut}
+use Rattle.board.specs.Calls.{Goes, Stepped, FoundHeld, IsHeld, IsUnheld}
+use Rattle.board.specs.PollerRows.{IsShutOut, WasHeld}
 use Rattle.board.specs.PollerTimers.{IsKept}
 use Rattle.board.specs.declared.alarm.Alarm.{Alarm}
 use Rattle.board.specs.declared.poller.Expiry.{Expiry}
@@ -46,16 +46,23 @@ WasClear r p q = (j : List Line) × Begins j p.view.seen × Begins q.view.seen j
 abbrev pub IsBarred : List ℕ → Req → Pass → Pass → Type 0
 IsBarred K r p q = Severed (seen_of q) r ⊎ IsShutOut K r p q
 
--- it waits, and is no timer
-abbrev pub IsNoTimer : List Event → Req → Type 0
-IsNoTimer h r = (phase h r ≡ waits) × IsOfKind h r is_timer false
+-- it waits for the poller, and is no timer
+abbrev pub IsNoTimer : List Line → Req → Type 0
+IsNoTimer j r = IsHeld j r × IsOfKind (events_of j) r is_timer false
+
+-- a timer that is severed, or waits for another. At a step of this call it waited for the poller, which hasn't moved it since
+pub record IsShutTimer (K : List ℕ) (r : Req) (p q : Pass) : Type 0 where
+  pub barred : IsBarred K r p q
+  pub timer : IsOfKind (seen_of q) r is_timer true
+  pub held : WasHeld K r p q
+  pub unfreed : freed q.view.seen r ≡ false
 
 -- what an arming says of the request, by its answer
 abbrev pub ArmTells : Facts → Req → Pass → Pass → Arming → Type 0
 ArmTells b r p q (Armed d) = IsArmedFor (seen_of q) r d × WasClear r p q × FoundHeld b.layout.cells r p q
 ArmTells b r p q NotHeld = IsUnheld q.view.seen r × Stepped b.layout.cells r p q
-ArmTells b r p q NotTimer = IsNoTimer (seen_of q) r
-ArmTells b r p q Shut = IsBarred b.layout.cells r p q × IsOfKind (seen_of q) r is_timer true
+ArmTells b r p q NotTimer = IsNoTimer q.view.seen r × Stepped b.layout.cells r p q
+ArmTells b r p q Shut = IsShutTimer b.layout.cells r p q
 
 -- what became of the pass that was to arm r
 pub record Arms (b : Facts) (r : Req) (p q : Pass) (x : Arming) : Type 0 where
@@ -78,6 +85,10 @@ expired_by _ r = []
 abbrev pub HasExpired : List Event → Req → Type 0
 HasExpired h r = phase h r ≡ replied by_expire (negsuc 61)
 
+-- it is armed
+abbrev pub IsArmed : List Event → Req → Type 0
+IsArmed h r = (d : ℕ) × (phase h r ≡ armed d)
+
 -- it is armed, and its deadline is after the clock's time
 abbrev pub IsEarly : List Event → Req → Type 0
 IsEarly h r = (d : ℕ) × (phase h r ≡ armed d) × (clock_of h < d)
@@ -89,7 +100,7 @@ IsNoneToExpire h r = ((d : ℕ) → phase h r ≢ armed d) ⊎ IsLinkTimeout h r
 -- what an expiry says of the request, by its answer
 abbrev pub ExpiryTells : Facts → Req → Pass → Pass → Expiry → Type 0
 ExpiryTells b r p q Expired = HasExpired (seen_of q) r
-ExpiryTells b r p q Early = IsEarly (seen_of q) r × Stepped b.layout.cells r p q
+ExpiryTells b r p q Early = IsEarly (seen_of q) r × IsOfKind (seen_of q) r is_timeout true × Stepped b.layout.cells r p q
 ExpiryTells b r p q NotArmed = IsNoneToExpire (seen_of q) r × Stepped b.layout.cells r p q
 
 -- what became of the pass that was to let r run out
@@ -110,7 +121,7 @@ HasCounted h r = phase h r ≡ replied by_count (pos 0)
 
 -- an armed TIMEOUT that counts completions, and so many later requests of its ring have not been answered
 pub record HasFewer (h : List Event) (r : Req) : Type 0 where
-  pub is_armed : (d : ℕ) × (phase h r ≡ armed d)
+  pub is_armed : IsArmed h r
   pub entry : Entry
   pub as_placed : IsPlaced h r entry
   pub counts : 0 < count_of entry.op
@@ -118,7 +129,7 @@ pub record HasFewer (h : List Event) (r : Req) : Type 0 where
 
 -- it is armed, and counts no completions
 abbrev pub IsUncounted : List Event → Req → Type 0
-IsUncounted h r = ((d : ℕ) × (phase h r ≡ armed d)) × ((e : Entry) × IsPlaced h r e × (count_of e.op ≡ 0))
+IsUncounted h r = IsArmed h r × ((e : Entry) × IsPlaced h r e × (count_of e.op ≡ 0))
 
 -- it isn't armed
 abbrev pub IsUnarmed : List Event → Req → Type 0
@@ -163,7 +174,7 @@ IsNoneToSettle h r = ((d : ℕ) → phase h r ≢ armed d) ⊎ IsOfKind h r is_t
 -- what a settling says of the request, by its answer
 abbrev pub SettlingTells : Facts → Req → Pass → Pass → Settling → Type 0
 SettlingTells b r p q Settled = HasSettled (seen_of q) r
-SettlingTells b r p q TargetOpen = IsTargetOpen b.layout.cells r p q
+SettlingTells b r p q TargetOpen = IsTargetOpen b.layout.cells r p q × IsArmed (seen_of q) r
 SettlingTells b r p q NothingArmed = IsNoneToSettle (seen_of q) r × Stepped b.layout.cells r p q
 
 -- what became of the pass that was to settle r

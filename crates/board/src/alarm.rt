@@ -180,10 +180,11 @@ pub(crate) fn arm(
     ensures knows { KnowsRow board.now.layout.cells seat.new.me.0.seen req.ring row.new }
     ensures steps { Paid seat.old.me.0 seat.new.me.0 0 (4 * submits (events_of seat.new.me.0.seen) req.ring + 5) }
 {
-    if !take_up(board, seat, row, spot, req) {
-        return Arming::NotHeld;
+    if take_up(board, seat, row, spot, req) {
+        arm_known(board, seat, row, clock, alarm, spot, req)
+    } else {
+        Arming::NotHeld
     }
-    arm_known(board, seat, row, clock, alarm, spot, req)
 }
 
 /// Answers a TIMEOUT that is armed with this deadline, which has come.

@@ -8,7 +8,7 @@ ghost use Rattle.steps.specs.Cells.{cells_in};
 ghost use Rattle.steps.specs.Journal.{events_of};
 ghost use Rattle.work.specs.Passes.{pass_of};
 ghost use Rattle.board.specs.declared.poller.Counting.TheVariants.{Counted, NotArmed as NoneToCount};
-ghost use Rattle.board.specs.PollerRows.{IsAt, IsNumbered, IsOurs, Paid, Watched};
+ghost use Rattle.board.specs.PollerRows.{IsAt, IsNumbered, IsOurs, Paid, Spends, StepsTo, Watched};
 ghost use Rattle.board.specs.PollerTimers.{KnowsAlarm};
 ghost use Rattle.board.specs.Seats.{IsPollerSeat};
 ghost use Rattle.board.specs.TimerCalls.{Counts, TellsReply};
@@ -27,7 +27,7 @@ fn has_replied(board: &Board, seat: &mut TableSeat, req: Req) -> Option<bool>
     requires there { req.ring < length board.now.layout.cells }
     ensures watched { Watched board.now seat.old seat.new }
     ensures told { TellsReply (events_of seat.new.me.0.seen) req result }
-    ensures steps { Paid seat.old.me.0 seat.new.me.0 0 1 }
+    ensures step { StepsTo board.now.layout.cells req seat.old.me.0 seat.new.me.0 }
 {
     let Some(spot) = board.grid.locate(req) else {
         unreachable!()
@@ -51,6 +51,7 @@ fn has_counted(board: &Board, seat: &mut TableSeat, req: Req, count: u64) -> boo
     ensures enough { result ≡ true → count ≤ later_replies (events_of seat.new.me.0.seen) req }
     ensures fewer { result ≡ false → later_replies (events_of seat.old.me.0.seen) req < count }
     ensures steps { Paid seat.old.me.0 seat.new.me.0 0 (cells_in board.now.layout.cells req.ring - 1) }
+    ensures looks { Spends board.now.layout.cells req seat.old.me.0 seat.new.me.0 0 (cells_in board.now.layout.cells req.ring - 1) }
 {
     let end = req.k + board.grid.cells_in(usize::from(req.ring));
     let mut found = 0u64;
@@ -78,6 +79,7 @@ fn end_counted(board: &Board, seat: &mut TableSeat, spot: Spot, req: Req, deadli
     ensures counted { result ≡ true → Counts board.now req (pass_of seat.old) (pass_of seat.new) Counted }
     ensures missed { result ≡ false → Counts board.now req (pass_of seat.old) (pass_of seat.new) NoneToCount }
     ensures steps { Paid seat.old.me.0 seat.new.me.0 0 1 }
+    ensures looks { Spends board.now.layout.cells req seat.old.me.0 seat.new.me.0 1 0 }
 {
     let _ = req;
     let words = &board.table.shared;
@@ -99,6 +101,7 @@ pub(crate) fn count(
     ensures seat { IsPollerSeat seat.new }
     ensures counts { Counts board.now req (pass_of seat.old) (pass_of seat.new) result }
     ensures steps { Paid seat.old.me.0 seat.new.me.0 0 (cells_in board.now.layout.cells req.ring + 1) }
+    ensures looks { Spends board.now.layout.cells req seat.old.me.0 seat.new.me.0 2 (cells_in board.now.layout.cells req.ring - 1) }
 {
     let word = seat::look(&board.table.shared, seat, spot.cell);
     let Phase::Armed(deadline) = told(word, spot.generation) else {

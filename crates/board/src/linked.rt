@@ -109,7 +109,7 @@ pub(crate) fn settle(
     ensures steps { Paid seat.old.me.0 seat.new.me.0 0 3 }
 {
     let word = seat::look(&board.table.shared, seat, spot.cell);
-    let Phase::Armed(deadline) = told(word, spot.generation) else {
+    let Phase::Armed(until) = told(word, spot.generation) else {
         return Settling::NotArmed;
     };
     let Alarm::Linked = alarm else {
@@ -118,7 +118,7 @@ pub(crate) fn settle(
     if !target_replied(board, seat, spot, req) {
         return Settling::TargetOpen;
     }
-    end_linked(board, seat, spot, req, deadline)
+    end_linked(board, seat, spot, req, until)
 }
 
 /// Ends the target of a LINK_TIMEOUT whose deadline has come, or finds it running, or with a reply.

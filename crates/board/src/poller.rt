@@ -1,5 +1,5 @@
 //! The poller's pass.
-ghost use Rattle.std.specs.Prelude.{◌≡◌, ◌+◌, ◌*◌, List, [], ◌∷◌, length, IfOk, IfErr};
+ghost use Rattle.std.specs.Prelude.{◌≡◌, ◌+◌, ◌-◌, ◌*◌, List, [], ◌∷◌, length, IfOk, IfErr};
 ghost use Rattle.history.specs.declared.event.Event.TheVariants.{Tick};
 ghost use Rattle.history.specs.declared.req.Req.{Req as Request};
 ghost use Rattle.history.specs.History.{submits};
@@ -12,7 +12,7 @@ ghost use Rattle.work.specs.Passes.{pass_of, seen_of, CanReach, Took};
 ghost use Rattle.board.specs.Calls.{Goes};
 ghost use Rattle.board.specs.PollerTimers.{IsPast};
 ghost use Rattle.board.specs.TimerCalls.{Arms, Counts, Expires, Fires, Settles};
-ghost use Rattle.board.specs.PollerRows.{Decides, IsAt, KnowsRows, Paid};
+ghost use Rattle.board.specs.PollerRows.{Decides, IsAt, KnowsRows, Paid, Spends};
 ghost use Rattle.board.specs.Seats.{IsPollerSeat};
 
 use crate::alarm::{self, Alarm};
@@ -208,6 +208,7 @@ impl Poller {
         requires at { IsAt board.now.layout.cells spot.cell spot.generation req }
         ensures counts { Counts board.now req self.old self.new result }
         ensures steps { Paid self.old.view self.new.view 0 (cells_in board.now.layout.cells req.ring + 1) }
+        ensures looks { Spends board.now.layout.cells req self.old.view self.new.view 2 (cells_in board.now.layout.cells req.ring - 1) }
     {
         let alarm = self.alarms[spot.cell];
         counting::count(board, &mut self.seat, alarm, spot, req)

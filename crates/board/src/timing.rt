@@ -1,8 +1,8 @@
 //! What the poller does with the clock and with timers.
-ghost use Rattle.std.specs.Prelude.{◌≡◌, ◌⊎◌, ◌+◌, ◌*◌, ◌≤◌, ℕ, true, [], ◌∷◌, length, IfOk, IfErr};
+ghost use Rattle.std.specs.Prelude.{◌≡◌, ◌⊎◌, ◌+◌, ◌-◌, ◌*◌, ◌≤◌, ℕ, true, [], ◌∷◌, length, IfOk, IfErr};
 ghost use Rattle.history.specs.declared.event.Event.TheVariants.{Tick};
 ghost use Rattle.history.specs.declared.req.Req.{Req as Request};
-ghost use Rattle.history.specs.Chains.{IsLinkTimeout, IsTarget, is_timer, previous};
+ghost use Rattle.history.specs.Chains.{IsLinkTimeout, IsTarget, is_timeout, previous};
 ghost use Rattle.history.specs.History.{submits};
 ghost use Rattle.history.specs.Legal.{IsOf as IsOfKind};
 ghost use Rattle.steps.specs.Cells.{cells_in};
@@ -15,9 +15,9 @@ ghost use Rattle.board.specs.declared.poller.Expiry.TheVariants.{Early, Expired,
 ghost use Rattle.board.specs.declared.poller.Firing.TheVariants.{Early as TooEarly, Missed, NotArmed as NoneToFire, TargetDone, Took as TookTarget};
 ghost use Rattle.board.specs.declared.poller.Settling.TheVariants.{NotArmed as NothingArmed, Settled, TargetOpen};
 ghost use Rattle.board.specs.Calls.{FoundHeld, Goes, IsUnheld, Stepped};
-ghost use Rattle.board.specs.PollerRows.{Paid};
+ghost use Rattle.board.specs.PollerRows.{Paid, Spends};
 ghost use Rattle.board.specs.PollerTimers.{IsPast};
-ghost use Rattle.board.specs.TimerCalls.{HasCounted, HasExpired, HasFewer, HasFired, HasSettled, IsArmedFor, IsBarred, IsEarly, IsNoneToExpire, IsNoneToSettle, IsNoTimer, IsTargetDone, IsTargetOpen, IsUnarmed, IsUncounted, WasClear, armed_by, counted_by, expired_by, fired_by, settled_by};
+ghost use Rattle.board.specs.TimerCalls.{HasCounted, HasExpired, HasFewer, HasFired, HasSettled, IsArmed, IsArmedFor, IsEarly, IsNoneToExpire, IsNoneToSettle, IsNoTimer, IsShutTimer, IsTargetDone, IsTargetOpen, IsUnarmed, IsUncounted, WasClear, armed_by, counted_by, expired_by, fired_by, settled_by};
 
 use crate::board::Board;
 use crate::error::ClockEnd;
@@ -45,8 +45,8 @@ impl Board {
         ensures armed { (d : ℕ) → result ≡ Armed d → IsArmedFor (seen_of poller.new) req d × FoundHeld self.now.layout.cells req poller.old poller.new }
         ensures clear { (d : ℕ) → result ≡ Armed d → WasClear req poller.old poller.new }
         ensures not_held { result ≡ NotHeld → IsUnheld poller.new.view.seen req × ((length self.now.layout.cells ≤ req.ring) ⊎ Stepped self.now.layout.cells req poller.old poller.new) }
-        ensures not_timer { result ≡ NotTimer → IsNoTimer (seen_of poller.new) req }
-        ensures shut { result ≡ Shut → IsBarred self.now.layout.cells req poller.old poller.new × IsOfKind (seen_of poller.new) req is_timer true }
+        ensures not_timer { result ≡ NotTimer → IsNoTimer poller.new.view.seen req × Stepped self.now.layout.cells req poller.old poller.new }
+        ensures shut { result ≡ Shut → IsShutTimer self.now.layout.cells req poller.old poller.new }
         ensures steps { Paid poller.old.view poller.new.view 0 (4 * submits (seen_of poller.new) req.ring + 5) }
         ensures alone { (q : Request) → freed poller.new.view.seen q ≡ freed poller.old.view.seen q }
     {
@@ -61,7 +61,7 @@ impl Board {
         requires { IsOf self.now poller.old }
         ensures goes { Goes self.now poller.old (expired_by result req) poller.new }
         ensures expired { result ≡ Expired → HasExpired (seen_of poller.new) req }
-        ensures early { result ≡ Early → IsEarly (seen_of poller.new) req × Stepped self.now.layout.cells req poller.old poller.new }
+        ensures early { result ≡ Early → IsEarly (seen_of poller.new) req × IsOfKind (seen_of poller.new) req is_timeout true × Stepped self.now.layout.cells req poller.old poller.new }
         ensures not_armed { result ≡ NotArmed → IsNoneToExpire (seen_of poller.new) req × ((length self.now.layout.cells ≤ req.ring) ⊎ Stepped self.now.layout.cells req poller.old poller.new) }
         ensures steps { Paid poller.old.view poller.new.view 0 2 }
         ensures alone { (q : Request) → freed poller.new.view.seen q ≡ freed poller.old.view.seen q }
@@ -82,7 +82,7 @@ impl Board {
         ensures fewer { result ≡ Fewer → HasFewer (seen_of poller.old) req }
         ensures not_counted { result ≡ NotCounted → IsUncounted (seen_of poller.new) req × Stepped self.now.layout.cells req poller.old poller.new }
         ensures not_armed { result ≡ NoneToCount → IsUnarmed (seen_of poller.new) req × ((length self.now.layout.cells ≤ req.ring) ⊎ Stepped self.now.layout.cells req poller.old poller.new) }
-        ensures steps { Paid poller.old.view poller.new.view 0 (cells_in self.now.layout.cells req.ring + 1) }
+        ensures steps { Paid poller.old.view poller.new.view 0 (cells_in self.now.layout.cells req.ring + 1) × Spends self.now.layout.cells req poller.old.view poller.new.view 2 (cells_in self.now.layout.cells req.ring - 1) }
         ensures alone { (q : Request) → freed poller.new.view.seen q ≡ freed poller.old.view.seen q }
     {
         match self.grid.locate(req) {
@@ -116,7 +116,7 @@ impl Board {
         requires { IsOf self.now poller.old }
         ensures goes { Goes self.now poller.old (settled_by result req) poller.new }
         ensures settled { result ≡ Settled → HasSettled (seen_of poller.new) req }
-        ensures target_open { result ≡ TargetOpen → IsTargetOpen self.now.layout.cells req poller.old poller.new }
+        ensures target_open { result ≡ TargetOpen → IsTargetOpen self.now.layout.cells req poller.old poller.new × IsArmed (seen_of poller.new) req }
         ensures not_armed { result ≡ NothingArmed → IsNoneToSettle (seen_of poller.new) req × ((length self.now.layout.cells ≤ req.ring) ⊎ Stepped self.now.layout.cells req poller.old poller.new) }
         ensures steps { Paid poller.old.view poller.new.view 0 3 }
         ensures alone { (q : Request) → freed poller.new.view.seen q ≡ freed poller.old.view.seen q }

@@ -8,9 +8,10 @@ ghost use Rattle.gates.specs.Slots.{Slot, traits_of};
 ghost use Rattle.history.specs.History.{submits, phase, waits, IsReplied};
 ghost use Rattle.history.specs.Chains.{Open, Severed, is_timeout};
 ghost use Rattle.history.specs.Legal.{IsOf as IsOfKind};
-ghost use Rattle.steps.specs.Journal.{events_of};
+ghost use Rattle.steps.specs.Journal.{events_of, freed};
 ghost use Rattle.steps.specs.Cells.{claim_at};
 ghost use Rattle.work.specs.Passes.{pass_of};
+ghost use Rattle.board.specs.Calls.{Stepped};
 ghost use Rattle.board.specs.PollerRows.{KnowsRow, Watches, IsNumbered, IsAt, IsOurs, Watched, Paid, owed, ToldFacts, TellsOutcome, looks_for, Decides, Passes, IsNextLook, Advances, Gates};
 ghost use Rattle.steps.specs.FactsTold.{AreFacts};
 ghost use Rattle.board.specs.Seats.{IsPollerSeat};
@@ -135,6 +136,7 @@ pub(crate) fn is_held(board: &Board, seat: &mut TableSeat, spot: Spot, req: Req)
     requires at { IsAt board.now.layout.cells spot.cell spot.generation req }
     ensures watched { Watched board.now seat.old seat.new }
     ensures held { result ≡ true → (phase (events_of seat.new.me.0.seen) req ≡ waits) × (spot.generation < 16777216) }
+    ensures unfreed { result ≡ true → (freed seat.new.me.0.seen req ≡ false) × Stepped board.now.layout.cells req (pass_of seat.old) (pass_of seat.new) }
     ensures lost { result ≡ false → Decides board.now req (pass_of seat.old) (pass_of seat.new) NotHeld }
     ensures steps { Paid seat.old.me.0 seat.new.me.0 0 1 }
 {

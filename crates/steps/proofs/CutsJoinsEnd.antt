@@ -143,7 +143,7 @@ module _ (L : Layout) where
     notes = λ x i h small. (let m = most in get_or-replicate words (note_at x i) 0 0 (omega arith));
     clock = get_or-replicate words 0 0 0 (omega arith);
     pipes = λ p h. (let o = pipes p h in (get_or-replicate words (pipe_at p) 0 0 (omega arith), o.0, home_of slots p o.0 o.1, o.2));
-    seats = λ i v at. subst (SeatOk L []) (alone (opening_view L) v i at).1 record { layout = λ _. refl; saw = record { later = []; is = refl; none = tt }; heard = λ x h. absurd h; busy = (λ q is. absurd (cc)); leaving = (λ q is. absurd (cc)); lending = (λ q is. absurd (cc)) };
+    seats = λ i v at. subst (SeatOk L []) (alone (opening_view L) v i at).1 record { layout = λ _. refl; saw = record { later = []; is = refl; none = tt }; made = tt; heard = λ x h. absurd h; busy = (λ q is. absurd (cc)); leaving = (λ q is. absurd (cc)); lending = (λ q is. absurd (cc)) };
     roles = λ i l v w p q n. absurd (n ((alone (opening_view L) v i p).0 ∙ sym (alone (opening_view L) w l q).0));
     gone = λ i l v w p q x h. absurd (subst (λ (z : View). IsHeard x z.heard) (sym (alone (opening_view L) v i p).1) h);
     run = λ q is. absurd (cc);
@@ -244,13 +244,13 @@ module _ (L : Layout) where
       let none : NoneOf (Poller n) seat.saw.later = subst (λ (z : Role). NoneOf z seat.saw.later) is seat.saw.none in
       rw (left, right) (split_ok s r id v (record v { role = Poller (suc n); parts = v.parts - 1 }) (record v { role = Submitter n; parts = 1; heard = []; steps = [] }) there (omega arith) (λ _. omega arith) (λ k. k)
       (λ q e. absurd (let y = sym is ∙ e in cc)) (λ q e. absurd (let y = sym is ∙ e in cc)) (λ q p e. absurd (true≢false (sym e ∙ ap (λ (z : Role). stands_for z (holders q p)) is)))
-      record { layout = λ _. layout; saw = record { later = seat.saw.later; is = seat.saw.is; none = none_of (Poller n) (Poller (suc n)) (next_left n) seat.saw.later none }; heard = seat.heard; busy = (λ q e. absurd (cc)); leaving = (λ q e. absurd (cc)); lending = (λ q e. absurd (cc)) }
-      record { layout = λ _. layout; saw = record { later = seat.saw.later; is = seat.saw.is; none = none_of (Poller n) (Submitter n) (next_right n) seat.saw.later none }; heard = λ x h. absurd h; busy = (λ q e. absurd (cc)); leaving = (λ q e. absurd (cc)); lending = (λ q e. absurd (cc)) }
+      record { layout = λ _. layout; saw = record { later = seat.saw.later; is = seat.saw.is; none = none_of (Poller n) (Poller (suc n)) (next_left n) seat.saw.later none }; made = seat.made; heard = seat.heard; busy = (λ q e. absurd (cc)); leaving = (λ q e. absurd (cc)); lending = (λ q e. absurd (cc)) }
+      record { layout = λ _. layout; saw = record { later = seat.saw.later; is = seat.saw.is; none = none_of (Poller n) (Submitter n) (next_right n) seat.saw.later none }; made = tt; heard = λ x h. absurd h; busy = (λ q e. absurd (cc)); leaving = (λ q e. absurd (cc)); lending = (λ q e. absurd (cc)) }
       (grind (arith, nat_tests)) refl refl (λ u h. next_apart n u (subst (λ (z : Role). apart z u ≡ true) is h)))
 
   -- an idle seat leaves any other
   idle_ok : (j : List Line) (v : View) (parts : ℕ) → v.layout ≡ L → Begins j v.seen → SeatOk L j (record v { role = Idle; parts = parts; heard = []; steps = [] })
-  idle_ok j v parts layout b = record { layout = λ _. layout; saw = record { later = b.0; is = b.1; none = idle_none b.0 }; heard = λ x h. absurd h; busy = (λ q e. absurd (cc)); leaving = (λ q e. absurd (cc)); lending = (λ q e. absurd (cc)) }
+  idle_ok j v parts layout b = record { layout = λ _. layout; saw = record { later = b.0; is = b.1; none = idle_none b.0 }; made = tt; heard = λ x h. absurd h; busy = (λ q e. absurd (cc)); leaving = (λ q e. absurd (cc)); lending = (λ q e. absurd (cc)) }
 
   apart_idle : (u : Role) → apart u Idle ≡ true
   apart_idle u = apart_sym Idle u (idle_apart u)
@@ -258,7 +258,7 @@ module _ (L : Layout) where
   pub cuts_idle : (id : ℕ) (v : View) → v.role ≢ Spent → 1 < v.parts → Splits (Ruled L) id v (without_one v) (idle_one v)
   cuts_idle id v live more s r there = let seat = r.seats id v there in
       split_ok s r id v (without_one v) (idle_one v) there (omega arith) (λ _. omega arith) (λ k. k) (λ q e. e) (λ q e. e) (λ q p e. e)
-      record { layout = seat.layout; saw = seat.saw; heard = seat.heard; busy = (λ q e. (omega arith, (seat.busy q e).1)); leaving = (λ q e. (omega arith, (seat.leaving q e).1)); lending = (λ q e. omega arith) }
+      record { layout = seat.layout; saw = seat.saw; made = seat.made; heard = seat.heard; busy = (λ q e. (omega arith, (seat.busy q e).1)); leaving = (λ q e. (omega arith, (seat.leaving q e).1)); lending = (λ q e. omega arith) }
       (idle_ok r.past v 1 (seat.layout live) (seat.saw.later, seat.saw.is)) (apart_idle v.role) refl refl (λ u h. (h, idle_apart u))
 
   -- a messenger leaves any other seat
@@ -267,7 +267,7 @@ module _ (L : Layout) where
       split_ok s r id v v (messenger v) there (omega arith) (λ h. h) (λ k. k) (λ q e. e) (λ q e. e) (λ q p e. e) seat (idle_ok r.past v 0 (seat.layout live) (seat.saw.later, seat.saw.is)) (apart_idle v.role) refl refl (λ u h. (h, idle_apart u))
 
   spent_ok : (j : List Line) → SeatOk L j spent_view
-  spent_ok j = record { layout = λ n. absurd (n refl); saw = record { later = j; is = sym (append-nil j); none = spent_none j }; heard = λ x h. absurd h; busy = (λ q e. absurd (cc)); leaving = (λ q e. absurd (cc)); lending = (λ q e. absurd (cc)) }
+  spent_ok j = record { layout = λ n. absurd (n refl); saw = record { later = j; is = sym (append-nil j); none = spent_none j }; made = tt; heard = λ x h. absurd h; busy = (λ q e. absurd (cc)); leaving = (λ q e. absurd (cc)); lending = (λ q e. absurd (cc)) }
 
   -- a seat takes in another, which has no work
   pub hears : (id other : ℕ) (v w : View) → v.role ≢ Spent → ((q : Req) → stands_for w.role (workers q) ≡ false) → ((q : Req) → w.role ≢ Lending q) → Joins (Ruled L) id v other w (hearing v w) spent_view
@@ -275,7 +275,7 @@ module _ (L : Layout) where
       let vs : List View = set s.views id (hearing v w) in
       let at_old : get_elem? s.views other ≡ some w = ⊎_elim (λ (t : (other ≡ id) × (hearing v w ≡ w)). absurd (ne t.0)) (λ (t : (other ≢ id) × (get_elem? s.views other ≡ some w)). t.1) (at_set s.views id other (hearing v w) w at) in
       let seat = r.seats id v there in let seat' = r.seats other w at_old in
-      let both : SeatOk L r.past (hearing v w) = record { layout = seat.layout; saw = seat.saw; heard = heard_both (λ (x : Heard). Saw x.role x.seen r.past) v w seat'.saw seat'.heard seat.heard; busy = (λ q e. (let b = seat.busy q e in (omega arith, b.1))); leaving = (λ q e. (let b = seat.leaving q e in (omega arith, b.1))); lending = (λ q e. (let b = seat.lending q e in omega arith)) } in
+      let both : SeatOk L r.past (hearing v w) = record { layout = seat.layout; saw = seat.saw; made = seat.made; heard = heard_both (λ (x : Heard). Saw x.role x.seen r.past) v w seat'.saw seat'.heard seat.heard; busy = (λ q e. (let b = seat.busy q e in (omega arith, b.1))); leaving = (λ q e. (let b = seat.leaving q e in (omega arith, b.1))); lending = (λ q e. (let b = seat.lending q e in omega arith)) } in
       let one : (i : ℕ) (u : View) → get_elem? vs i ≡ some u → SeatOk L r.past u = λ i u p. ⊎_elim (λ (t : (i ≡ id) × (hearing v w ≡ u)). subst (SeatOk L r.past) t.1 both) (λ (t : (i ≢ id) × (get_elem? s.views i ≡ some u)). r.seats i u t.1) (at_set s.views id i (hearing v w) u p) in
       let role_of : (i : ℕ) (u : View) → get_elem? vs i ≡ some u → (z : View) × (get_elem? s.views i ≡ some z) × (z.role ≡ u.role) = λ i u p. ⊎_elim
       (λ (t : (i ≡ id) × (hearing v w ≡ u)). (v, subst (λ (z : ℕ). get_elem? s.views z ≡ some v) (sym t.0) there, ap (λ (z : View). z.role) t.1))

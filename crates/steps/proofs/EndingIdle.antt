@@ -26,7 +26,7 @@ use Rattle.steps.proofs.CellNumbers.{other_cell, other_age, one_word, bits_fit}
 use Rattle.steps.proofs.JournalGrowth.{begins, phase_stays, counted_in, lasts_by, placed_lasts}
 use Rattle.steps.proofs.Frames.{ages_stay, keeps_stays, pipe_stays, done_keeps}
 use Rattle.steps.proofs.ClaimWords.{says_of, cause_fits}
-use Rattle.steps.proofs.RuleKept.{gone_same, adds_claim, adds_else, owned, seat_sees, run_set, held_set, lent_set, at_now, left_now}
+use Rattle.steps.proofs.RuleKept.{gone_same, adds_claim, adds_else, owned, seat_sees, run_set, held_set, lent_set, at_now, left_now, made_with}
 use Rattle.steps.proofs.StepKinds.{now_is, tick, with_line, Does, There, busy_now, extends, same_turns}
 use Rattle.steps.proofs.LoadReleaseBegin.{quiet_line}
 
@@ -114,7 +114,7 @@ module _ (slots id : ℕ) (me : Seated) where
             with_line slots id me (claim_at x) s r.past l v.role,
             keeps,
             tt,
-            adds_claim L s r id v v.role x new s.homes l (tick slots id me (claim_at x) s (l ∷ r.past)) inside refl (quiet_line L r.past l (ends.plain.fair' L r.past) live (ends.clock' _) (λ p. (refl, ends.plain.flow' (events_of r.past) p)))
+            adds_claim L s r id v v.role x new s.homes l (tick slots id me (claim_at x) s (l ∷ r.past)) ((claim_at x), get_or s.words (claim_at x) 0, refl) inside refl (quiet_line L r.past l (ends.plain.fair' L r.past) live (ends.clock' _) (λ p. (refl, ends.plain.flow' (events_of r.past) p)))
                 (same_turns slots id me s r at l own ends.plain.begins' legal (has s r at) (ends.plain.lent' r.past) (λ c busy. (let run = (busy_now slots id me s r at c busy).1 in phase_stays l r.past c (ends.concerns' c ∙ same_false q c (λ same'. idle_runs _ said.0 (ap (phase (events_of r.past)) same' ∙ run))) ∙ run))) legal at (owned L s r id v l at own)
                 (λ y h other k. ends.concerns' (request_at K y k) ∙ other_cell K x y g k inside h other) (λ w. refl) refl (λ y other. refl) record {
                   tag = Done;
@@ -126,7 +126,7 @@ module _ (slots id : ℕ) (me : Seated) where
                   says = (cause, res, e, done, bits, lasts_by S (λ h. IsPlaced h q e) q (placed_lasts S q e) l r.past legal born k.2, refl, λ _. done_keeps ev r.past q _ ends.answers' kept);
                   ages = ages_stay S l r.past legal K x g (λ n other. ends.concerns' (request_at K x n) ∙ other_age K x g n inside other) here.1;
                 },
-            (extends slots id me s r at l v.role legal live (ends.plain.fair' L r.past) (tick slots id me (claim_at x) s (l ∷ r.past)), refl),
+            (extends slots id me s r at l v.role legal live (ends.plain.fair' L r.past) (tick slots id me (claim_at x) s (l ∷ r.past)) ((claim_at x), get_or s.words (claim_at x) 0, refl), refl),
             refl,
           )
 
@@ -141,14 +141,14 @@ module _ (slots id : ℕ) (me : Seated) where
             keeps,
             tt,
             adds_else L s r id v w (set s.words i n) s.homes l (quiet.plain.fair' L r.past) legal live at
-                (seat_sees L (l ∷ r.past) t v v.role refl (λ q is. (let b = busy_now slots id me s r at q is in (b.0, stays q ∙ b.1))) (λ q is. (let b = left_now L s r id v at q is in (b.0, subst IsReplied (sym (stays q)) b.1))) (λ q is. has s r at)) refl (gone_same v.role l own) (λ y h. absurd h)
+                (seat_sees L (l ∷ r.past) t v v.role refl (λ q is. (let b = busy_now slots id me s r at q is in (b.0, stays q ∙ b.1))) (λ q is. (let b = left_now L s r id v at q is in (b.0, subst IsReplied (sym (stays q)) b.1))) (λ q is. has s r at) (made_with L s r id v l t at (i, get_or s.words i 0, refl))) refl (gone_same v.role l own) (λ y h. absurd h)
                 (owned L s r id v l at own) (λ y h k. quiet.concerns' (request_at K y k)) (length-set s.words i n) (λ y. words (claim_at y) (omega arith)) (λ y k h small. words (note_at y k) (omega arith) ∙ r.notes y k h small) clock refl (λ y. refl)
                 (λ p small. subst (λ (m : ℕ). PipeOk L.caps (l ∷ r.past) p m (get_elem? s.homes p)) (sym (words (pipe_at p) (omega arith))) (pipe_stays L.caps l r.past p _ _ refl (λ _. quiet.plain.flow' (events_of r.past) p) (r.pipes p small)))
                 (λ q is. run_set s.views id v w q at (λ z. z) (r.run q (sym (stays q) ∙ is)))
                 (λ p q is. held_set s.views id v w q p at (λ z. z) (r.held_by p q is))
                 (λ q is. lent_set s.views id v w q at (λ z. z) (r.lent_by q (sym (quiet.plain.lent' r.past q) ∙ is)))
                 (id, w, at_now s.views id v w at, has s r at, Rattle.std.proofs.Common.inl refl),
-            (extends slots id me s r at l v.role legal live (quiet.plain.fair' L r.past) t, refl),
+            (extends slots id me s r at l v.role legal live (quiet.plain.fair' L r.past) t (i, get_or s.words i 0, refl), refl),
             refl,
           )
 

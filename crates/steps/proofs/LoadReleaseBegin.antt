@@ -84,7 +84,7 @@ module _ (slots id : ℕ) (me : Seated) where
         with_line slots id me (claim_at x) s r.past l v.role,
         keeps,
         tt,
-        adds_claim L s r id v v.role x new s.homes l (tick slots id me (claim_at x) s (l ∷ r.past)) inside refl (quiet_line L r.past l (here.0.2, may'.0, may'.1, here.0.3) r.live refl (λ p. (refl, refl))) (same_turns slots id me s r at l mine refl r.legal has (λ _. refl) (λ q is. absurd (lazy q is))) r.legal at (owned L s r id v l at mine)
+        adds_claim L s r id v v.role x new s.homes l (tick slots id me (claim_at x) s (l ∷ r.past)) ((claim_at x), get_or s.words (claim_at x) 0, refl) inside refl (quiet_line L r.past l (here.0.2, may'.0, may'.1, here.0.3) r.live refl (λ p. (refl, refl))) (same_turns slots id me s r at l mine refl r.legal has (λ _. refl) (λ q is. absurd (lazy q is))) r.legal at (owned L s r id v l at mine)
             (λ y h other k. other_cell K x y g k inside h other) (λ w. refl) refl (λ y other. refl) record {
               tag = Ready;
               cause = 0;
@@ -95,7 +95,7 @@ module _ (slots id : ℕ) (me : Seated) where
               says = (refl, refl, here.0.2, ap (λ b. cond b true (freed r.past q)) (same_itself q), here.0.4, here.0.5, may');
               ages = ages_stay S l r.past r.legal K x g (λ n other. other_age K x g n inside other) here.1;
             },
-        (extends slots id me s r at l v.role r.legal r.live (here.0.2, may'.0, may'.1, here.0.3) (tick slots id me (claim_at x) s (l ∷ r.past)), refl),
+        (extends slots id me s r at l v.role r.legal r.live (here.0.2, may'.0, may'.1, here.0.3) (tick slots id me (claim_at x) s (l ∷ r.past)) ((claim_at x), get_or s.words (claim_at x) 0, refl), refl),
         refl,
       )
 
@@ -115,7 +115,7 @@ module _ (slots id : ℕ) (me : Seated) where
         with_line slots id me (claim_at x) s r.past l (Busy q),
         takes (slot_at x) (Some (Full parcel.0)),
         parcel.1,
-        adds_claim L s r id v (Busy q) x new (set s.homes (slot_at x) maybe.none) l (tick slots id me (claim_at x) s (l ∷ r.past)) inside refl (quiet_line L r.past l tt r.live refl (λ p. (refl, refl))) record {
+        adds_claim L s r id v (Busy q) x new (set s.homes (slot_at x) maybe.none) l (tick slots id me (claim_at x) s (l ∷ r.past)) ((claim_at x), get_or s.words (claim_at x) 0, refl) inside refl (quiet_line L r.past l tt r.live refl (λ p. (refl, refl))) record {
           keeps = (λ p c is own. absurd (true≢false (sym own ∙ ap (λ (z : Role). stands_for z (holders c p)) idle)));
           has = has;
           gone = (λ a g. (unowned a, busy_apart q a (λ c own. absurd (true≢false (sym own ∙ g.1 c)))));
@@ -134,7 +134,7 @@ module _ (slots id : ℕ) (me : Seated) where
               says = (refl, refl, running, here.0.3, here.0.4, may_stays S l r.past legal q (counted_in S r.past q waits r.legal waiting (λ e. cc)) here.0.6);
               ages = ages_stay S l r.past legal K x g (λ n other. other_age K x g n inside other) here.1;
             },
-        (extends slots id me s r at l (Busy q) legal r.live tt (tick slots id me (claim_at x) s (l ∷ r.past)), (parcel.0, refl, parcel.2), (λ n held'. (let by = r.held_by n q held' in free by.0 by.1 by.2 (works_for by.1.role q n by.3)))),
+        (extends slots id me s r at l (Busy q) legal r.live tt (tick slots id me (claim_at x) s (l ∷ r.past)) ((claim_at x), get_or s.words (claim_at x) 0, refl), (parcel.0, refl, parcel.2), (λ n held'. (let by = r.held_by n q held' in free by.0 by.1 by.2 (works_for by.1.role q n by.3)))),
         refl,
       )
 

@@ -94,7 +94,7 @@ module _ (slots id : ℕ) (me : Seated) where
         → CellOk K (Lent q (facts_at x) n ∷ r.past) x (get_or s.words (claim_at x) 0) (get_elem? (set s.homes (slot_at x) maybe.none) (slot_at x))
         → Ruled L (stepped s (facts_at x) n id me.1 (with_line slots id me (facts_at x) s r.past (Lent q (facts_at x) n) (Lending q)) (takes (slot_at x) y))
     lend_by n s r at fair y here cell = let w : ℕ = facts_at x in let l : Line = Lent q w n in
-        adds L s r id v (Lending q) x (set s.words w n) (set s.homes (slot_at x) maybe.none) l (tick slots id me w s (l ∷ r.past)) refl (quiet_line L r.past l fair r.live refl (λ p. (refl, refl))) (lend_turns s r w n) r.legal at
+        adds L s r id v (Lending q) x (set s.words w n) (set s.homes (slot_at x) maybe.none) l (tick slots id me w s (l ∷ r.past)) (w, get_or s.words w 0, refl) refl (quiet_line L r.past l fair r.live refl (λ p. (refl, refl))) (lend_turns s r w n) r.legal at
         (λ i u other there. (let o = owned L s r id v l at submits_here i u other there in (o.0, sym (as_lending q u.role) ∙ subst (λ (z : Role). apart z u.role ≡ true) mine o.1)))
         (λ y h other k. other_cell K x y g k inside h other) (length-set s.words w n) (λ y other. get_or-set_other s.words w (claim_at y) n 0 (omega arith)) (λ y h. get_or-set_other s.words w y n 0 (omega arith))
         (note_set s r x 0 n l inside (omega arith) (λ w. refl)) (length-set s.homes (slot_at x) maybe.none) (λ y other. set_else s.homes (slot_at x) y maybe.none other)
@@ -130,7 +130,7 @@ module _ (slots id : ℕ) (me : Seated) where
               let free'' : Vacant K v.seen x h = subst (λ (z : ℕ). Vacant K v.seen z h) (sym same') free' in
               let a : ¬ (g < h) = one_vacant g h (seen_legal slots id me s r at) free free'' in let b : ¬ (h < g) = one_vacant h g (seen_legal slots id me s r at) free'' free in let gen : g ≡ h = omega arith in (
                 subst (λ (z : ℕ × ℕ). Extends v (Lent (request_at K z.0 z.1) (facts_at x) n) (Lending (request_at K z.0 z.1)) (with_line slots id me (facts_at x) s r.past l (Lending q)) × ((slot_at x, None) ∷ me.1 ≡ (slot_at z.0, None) ∷ me.1)) (λ i. (same' i, gen i))
-                    (extends slots id me s r at l (Lending q) r.legal r.live fair (tick slots id me (facts_at x) s (l ∷ r.past)), refl),
+                    (extends slots id me s r at l (Lending q) r.legal r.live fair (tick slots id me (facts_at x) s (l ∷ r.past)) ((facts_at x), get_or s.words (facts_at x) 0, refl), refl),
                 (get_or s.words (facts_at x) 0, refl),
               )),
           refl,
@@ -164,7 +164,7 @@ module _ (slots id : ℕ) (me : Seated) where
               let word' = done_word K r.past x _ _ ok h c' res' other in
               let o = one_word Done Done _ g word.payload _ h word'.payload word.fits.0 word.fits.1 word.fits.2 word'.fits.0 word'.fits.1 word'.fits.2 (sym word.word_is ∙ word'.word_is) in (
                 subst (λ (z : ℕ × ℕ). Extends v (Lent (request_at K z.0 z.1) (facts_at x) n) (Lending (request_at K z.0 z.1)) (with_line slots id me (facts_at x) s r.past l (Lending q)) × Hands (with_line slots id me (facts_at x) s r.past l (Lending q), (slot_at x, Some (Full parcel.0)) ∷ me.1) z.0 (request_at K z.0 z.1) (data_of (events_of v.seen) (request_at K z.0 z.1)) me.1) (λ i. (same' i, o.2 i))
-                    (extends slots id me s r at l (Lending q) r.legal r.live fair (tick slots id me (facts_at x) s (l ∷ r.past)), (parcel.0, refl, subst (λ (z : List ℕ). IsParcel r.past q z parcel.0) (data_now slots id me s r at q c res submits_here done) parcel.2)),
+                    (extends slots id me s r at l (Lending q) r.legal r.live fair (tick slots id me (facts_at x) s (l ∷ r.past)) ((facts_at x), get_or s.words (facts_at x) 0, refl), (parcel.0, refl, subst (λ (z : List ℕ). IsParcel r.past q z parcel.0) (data_now slots id me s r at q c res submits_here done) parcel.2)),
                 (get_or s.words (facts_at x) 0, refl),
               )),
           refl,
@@ -189,13 +189,13 @@ module _ (slots id : ℕ) (me : Seated) where
           view,
           keeps,
           tt,
-          adds L s u id v v.role x (set s.words (note_at x i) n) s.homes l (tick slots id me (note_at x i) s (l ∷ u.past)) refl (quiet_line L u.past l fair u.live refl (λ p. (refl, refl)))
+          adds L s u id v v.role x (set s.words (note_at x i) n) s.homes l (tick slots id me (note_at x i) s (l ∷ u.past)) ((note_at x i), get_or s.words (note_at x i) 0, refl) refl (quiet_line L u.past l fair u.live refl (λ p. (refl, refl)))
               (same_turns slots id me s u at l lends_it refl u.legal has (λ _. refl) (λ c is. absurd (let y = sym mine ∙ is in cc))) u.legal at (owned L s u id v l at lends_it)
               (λ y h other k. refl) (length-set s.words (note_at x i) n) (λ y other. get_or-set_other s.words (note_at x i) (claim_at y) n 0 (omega arith)) (λ y h. get_or-set_other s.words (note_at x i) y n 0 (omega arith))
               (note_set s u x i n l inside (omega arith) (λ w. refl)) refl (λ y other. refl)
               (subst (λ (z : ℕ). CellOk K (l ∷ u.past) x z (get_elem? s.homes (slot_at x))) (sym (get_or-set_other s.words (note_at x i) (claim_at x) n 0 (omega arith))) (cell_stays S l u.past u.legal K x _ _ (λ _. refl) (u.cells x inside))),
           (λ c role'. let same' : r ≡ c = (let z = sym mine ∙ role' in cc) in (
-            (subst (λ (z : Req). Extends v (Noted z (note_at x i) n) v.role view) same' (extends slots id me s u at l v.role u.legal u.live fair (tick slots id me (note_at x i) s (l ∷ u.past))), refl),
+            (subst (λ (z : Req). Extends v (Noted z (note_at x i) n) v.role view) same' (extends slots id me s u at l v.role u.legal u.live fair (tick slots id me (note_at x i) s (l ∷ u.past)) ((note_at x i), get_or s.words (note_at x i) 0, refl)), refl),
             (get_or s.words (note_at x i) 0, refl),
           )),
           refl,

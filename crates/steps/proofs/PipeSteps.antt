@@ -43,7 +43,7 @@ use Rattle.steps.proofs.Roles.{same_sym, idle_hands, idle_apart, idle_owns, none
 use Rattle.steps.proofs.JournalGrowth.{about, lasts, legal_before, submitted_in, submission_lasts, placed_lasts}
 use Rattle.steps.proofs.Frames.{pipe_stays, still_lacks}
 use Rattle.steps.proofs.PipesKept.{still_has}
-use Rattle.steps.proofs.RuleKept.{LeavesGone, heard_more, heard_begin, gone_own, gone_same, at_now, run_set, held_set, lent_set, known_set, IsKnown, adds_else, owned, seat_sees, looks}
+use Rattle.steps.proofs.RuleKept.{IsTick, LeavesGone, heard_more, heard_begin, gone_own, gone_same, at_now, run_set, held_set, lent_set, known_set, IsKnown, adds_else, owned, seat_sees, looks, made_at, made_with}
 use Rattle.steps.proofs.StepKinds.{tick, Does, There, shaped, busy_now, lacks_now, extends}
 
 -- what stands at a pipe's word and in its slot
@@ -139,9 +139,9 @@ module _ (slots id : ℕ) (me : Seated) where
     mine = subst (λ (z : Role). stands_for z (holders q p) ≡ true) (sym busy) (same_itself q)
 
     -- a view that goes on as the worker of q
-    goes_on : (s : St) (r : Ruled L s) → There slots id me s → (l : Line) → events_of (l ∷ r.past) ≡ events_of r.past → (t : List Step) → SeatOk L (l ∷ r.past) (seeing v v.role (l ∷ r.past) t)
-    goes_on s r at l same t = seat_sees L (l ∷ r.past) t v v.role refl
-        (λ c is. (let b = busy_now slots id me s r at c is in (b.0, ap (λ h. phase h c) same ∙ b.1))) (λ c is. absurd (true≢false (sym is ∙ ap (λ (z : Role). is_leaving z c) busy))) (λ c is. absurd (let y = sym busy ∙ is in cc))
+    goes_on : (s : St) (r : Ruled L s) → There slots id me s → (l : Line) → events_of (l ∷ r.past) ≡ events_of r.past → (t : List Step) → IsTick v (l ∷ r.past) t → SeatOk L (l ∷ r.past) (seeing v v.role (l ∷ r.past) t)
+    goes_on s r at l same t tick = seat_sees L (l ∷ r.past) t v v.role refl
+        (λ c is. (let b = busy_now slots id me s r at c is in (b.0, ap (λ h. phase h c) same ∙ b.1))) (λ c is. absurd (true≢false (sym is ∙ ap (λ (z : Role). is_leaving z c) busy))) (λ c is. absurd (let y = sym busy ∙ is in cc)) (made_with L s r id v l t at tick)
 
     has_parts : (s : St) (r : Ruled L s) → There slots id me s → 0 < v.parts
     has_parts s r at = (busy_now slots id me s r at q busy).0
@@ -153,11 +153,11 @@ module _ (slots id : ℕ) (me : Seated) where
           w,
           takes p home.1,
           home.2,
-          pipe_line L s r id v w at p small l (λ j. refl) (λ j i. refl) (λ j c. refl) (λ c. refl) (held_else r.past q p) 1 maybe.none home.0 (goes_on s r at l refl t) refl (gone_same v.role l mine) (λ y k. absurd k) (owned L s r id v l at mine)
+          pipe_line L s r id v w at p small l (λ j. refl) (λ j i. refl) (λ j c. refl) (λ c. refl) (held_else r.past q p) 1 maybe.none home.0 (goes_on s r at l refl t (pipe_at p, get_or s.words (pipe_at p) 0, refl)) refl (gone_same v.role l mine) (λ y k. absurd k) (owned L s r id v l at mine)
               (subst (PipeSays L.caps (l ∷ r.past) p 1 (some maybe.none)) (sym (held_here r.past q p)) refl) (λ c is'. is') (λ c is'. is')
               (λ c is'. (let one : q ≡ c = (let z = sym (held_here r.past q p) ∙ is' in cc) in (id, w, at_now s.views id v w at, subst (λ (z : Req). stands_for v.role (holders z p) ≡ true) one mine))) (λ m c ne was own. own)
               (λ has k. (has, Rattle.std.proofs.Common.inl refl)),
-          (extends slots id me s r at l v.role r.legal r.live home.0 t, (c.0, ap (λ (o : Option Thing). (p, o) ∷ me.1) c.1, subst (λ (o : Option Thing). PipeIs L.caps p o (flow (events_of r.past) p)) c.1 home.3)),
+          (extends slots id me s r at l v.role r.legal r.live home.0 t (pipe_at p, get_or s.words (pipe_at p) 0, refl), (c.0, ap (λ (o : Option Thing). (p, o) ∷ me.1) c.1, subst (λ (o : Option Thing). PipeIs L.caps p o (flow (events_of r.past) p)) c.1 home.3)),
           refl,
         )
 
@@ -167,8 +167,8 @@ module _ (slots id : ℕ) (me : Seated) where
       seeing v v.role r.past t,
       keeps,
       tt,
-      looks L s r id v (pipe_at p) (get_or s.words (pipe_at p) 0) t at refl (busy_now slots id me s r at) (set-get_or s.words (pipe_at p) 0),
-      (let o = is_out L.caps r.past p _ _ (holder r.past p) (r.pipes p small) ne in (record { now = r.past; saw = seat.saw; heard = heard_begin r.past v.heard seat.heard; legal = r.legal; live = r.live; orderly = r.orderly; steps = t; is = refl }, refl, o.0, o.1)),
+      looks L s r id v (pipe_at p) (get_or s.words (pipe_at p) 0) t (pipe_at p, get_or s.words (pipe_at p) 0, refl) at refl (busy_now slots id me s r at) (set-get_or s.words (pipe_at p) 0),
+      (let o = is_out L.caps r.past p _ _ (holder r.past p) (r.pipes p small) ne in (record { now = r.past; saw = seat.saw; heard = heard_begin r.past v.heard seat.heard; legal = r.legal; live = r.live; orderly = r.orderly; steps = t; made = made_at L s r id v t at (pipe_at p, get_or s.words (pipe_at p) 0, refl); is = refl }, refl, o.0, o.1)),
       refl,
     )
 
@@ -206,11 +206,11 @@ module _ (slots id : ℕ) (me : Seated) where
             gives,
             tt,
             subst (λ (cs : List (ℕ × Option Thing)). Ruled L (stepped s (pipe_at p) 0 id cs w gives)) (sym out)
-                (pipe_line L s r id v w at p small l (λ j. refl) (λ j i. refl) (λ j c. refl) (λ c. refl) (freed_else r.past q p) 0 (some (Some (Piped c))) now'.0 (goes_on s r at l refl t) refl (gone_same v.role l mine) (λ y k. absurd k) (owned L s r id v l at mine)
+                (pipe_line L s r id v w at p small l (λ j. refl) (λ j i. refl) (λ j c. refl) (λ c. refl) (freed_else r.past q p) 0 (some (Some (Piped c))) now'.0 (goes_on s r at l refl t (pipe_at p, get_or s.words (pipe_at p) 0, refl)) refl (gone_same v.role l mine) (λ y k. absurd k) (owned L s r id v l at mine)
                 (subst (PipeSays L.caps (l ∷ r.past) p 0 (some (some (Some (Piped c))))) (sym none') (refl, Some (Piped c), refl, subst (PipeIs L.caps p (Some (Piped c))) (sym now'.1) good)) (λ c is'. is') (λ c is'. is')
                 (λ c is'. absurd (let z = sym none' ∙ is' in cc)) (λ m c ne was own. own) (λ has' k. (has', Rattle.std.proofs.Common.inl refl))),
             (λ n d here is has'. let one : p ≡ n = omega arith in let who : q ≡ d = (let z = sym busy ∙ is in cc) in
-                subst (λ (z : ℕ × Req). Extends v (Free z.1 z.0) v.role w × (rest me.1 ≡ rest me.1) × ((found : ℕ) × IsStep (pipe_at p) found v w)) (λ i. (one i, who i)) (extends slots id me s r at l v.role r.legal r.live now'.0 t, refl, (get_or s.words (pipe_at p) 0, refl))),
+                subst (λ (z : ℕ × Req). Extends v (Free z.1 z.0) v.role w × (rest me.1 ≡ rest me.1) × ((found : ℕ) × IsStep (pipe_at p) found v w)) (λ i. (one i, who i)) (extends slots id me s r at l v.role r.legal r.live now'.0 t (pipe_at p, get_or s.words (pipe_at p) 0, refl), refl, (get_or s.words (pipe_at p) 0, refl))),
             refl,
           )
 
@@ -239,6 +239,7 @@ module _ (slots id : ℕ) (me : Seated) where
     given_up_ok s r at = let l : Line = Free q p in let seat = r.seats id v at in record {
       layout = λ _. refl;
       saw = record { later = l ∷ seat.saw.later; is = ap (λ (j : List Line). l ∷ j) seat.saw.is; none = (k.off, none_of v.role next k.fewer seat.saw.later seat.saw.none) };
+      made = (([], refl), seat.made);
       heard = heard_more l r.past v.heard (λ y h. idle_hands y.role q p ((r.gone id id v v at at y h).1 q)) seat.heard;
       busy = λ d is. absurd ((k.over d).1 is);
       leaving = λ d is. seat.leaving d (k.still d is);

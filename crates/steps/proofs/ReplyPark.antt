@@ -129,7 +129,7 @@ module _ (slots id : ℕ) (me : Seated) where
               w,
               gives,
               tt,
-              home_again slots id me x new (Some (Full p)) s w out (adds_claim L s r id v (after q) x new (set s.homes (slot_at x) (some (Some (Full p)))) l (tick slots id me (claim_at x) s (l ∷ r.past)) inside refl (calm s r at)
+              home_again slots id me x new (Some (Full p)) s w out (adds_claim L s r id v (after q) x new (set s.homes (slot_at x) (some (Some (Full p)))) l (tick slots id me (claim_at x) s (l ∷ r.past)) ((claim_at x), get_or s.words (claim_at x) 0, refl) inside refl (calm s r at)
                   (ends s r at legal) legal at
                   (λ i u other there. (let o = owned L s r id v l at (own_line l (same_itself q)) i u other there in (o.0, spread u.role (subst (λ (z : Role). apart z u.role ≡ true) busy o.1))))
                   (λ y h other m. other_cell K x y g m inside h other) (λ w. refl) (length-set s.homes (slot_at x) (some (Some (Full p)))) (λ y other. set_else s.homes (slot_at x) y (some (Some (Full p))) other) record {
@@ -146,7 +146,7 @@ module _ (slots id : ℕ) (me : Seated) where
                   let same_res : res ≡ res' = one_result res res' b bits (subst (reply_bits res') (sym o.3) bits') in let same_entry : e ≡ e' = (let z = sym may.placed_is ∙ placed' in cc) in
                   let a : OpAnswers L.caps (events_of v.seen) q e.op res d = subst (λ (z : ℤ). OpAnswers L.caps (events_of v.seen) q e.op z d) (sym same_res) (subst (λ (z : Entry). OpAnswers L.caps (events_of v.seen) q z.op res' d) (sym same_entry) answer') in
                   let same_data : data' ≡ d = one_data L.caps (events_of v.seen) q e.op res data' d may.answers a in
-                  subst (λ (z : ℤ × List ℕ). Extends v (Did (Reply q z.0 z.1)) (after q) w × (rest me.1 ≡ rest me.1)) (λ i. (same_res i, same_data i)) (extends slots id me s r at l (after q) legal r.live (calm s r at).fair (tick slots id me (claim_at x) s (l ∷ r.past)), refl)),
+                  subst (λ (z : ℤ × List ℕ). Extends v (Did (Reply q z.0 z.1)) (after q) w × (rest me.1 ≡ rest me.1)) (λ i. (same_res i, same_data i)) (extends slots id me s r at l (after q) legal r.live (calm s r at).fair (tick slots id me (claim_at x) s (l ∷ r.past)) ((claim_at x), get_or s.words (claim_at x) 0, refl), refl)),
               refl,
             ),
           )
@@ -180,7 +180,7 @@ module _ (slots id : ℕ) (me : Seated) where
             with_line slots id me (claim_at x) s r.past l Idle,
             gives,
             tt,
-            home_again slots id me x new (Some (Full p)) s (with_line slots id me (claim_at x) s r.past l Idle) out (adds_claim L s r id v Idle x new (set s.homes (slot_at x) (some (Some (Full p)))) l (tick slots id me (claim_at x) s (l ∷ r.past)) inside refl (quiet_line L r.past l fair r.live refl (λ p. (refl, refl)))
+            home_again slots id me x new (Some (Full p)) s (with_line slots id me (claim_at x) s r.past l Idle) out (adds_claim L s r id v Idle x new (set s.homes (slot_at x) (some (Some (Full p)))) l (tick slots id me (claim_at x) s (l ∷ r.past)) ((claim_at x), get_or s.words (claim_at x) 0, refl) inside refl (quiet_line L r.past l fair r.live refl (λ p. (refl, refl)))
                 (ends_run slots id me s r at l q (own_line l (same_itself q)) refl legal busy (λ u. (let z = sym waiting ∙ u in cc)) bare (λ _. refl)) legal at
                 (λ i u other there. ((owned L s r id v l at (own_line l (same_itself q)) i u other there).0, idle_apart u.role))
                 (λ y h other k. other_cell K x y g k inside h other) (λ w. refl) (length-set s.homes (slot_at x) (some (Some (Full p)))) (λ y other. set_else s.homes (slot_at x) y (some (Some (Full p))) other) record {
@@ -193,7 +193,7 @@ module _ (slots id : ℕ) (me : Seated) where
                   says = (refl, refl, waiting, here.0.3, here.0.4, (p, set_here s.homes (slot_at x) (some (Some (Full p))) (r.deep x inside), subst (λ (d : List ℕ). IsParcel r.past q d p) none' (parcel_now s r at q data' p now.0 given)), may_stays S l r.past legal q (counted_in S r.past q runs r.legal running (λ e. cc)) here.0.5);
                   ages = ages_stay S l r.past legal K x g (λ n other. other_age K x g n inside other) here.1;
                 }),
-            (extends slots id me s r at l Idle legal r.live fair (tick slots id me (claim_at x) s (l ∷ r.past)), refl),
+            (extends slots id me s r at l Idle legal r.live fair (tick slots id me (claim_at x) s (l ∷ r.past)) ((claim_at x), get_or s.words (claim_at x) 0, refl), refl),
             refl,
           ),
         )

@@ -1,5 +1,6 @@
 -- A step of one seat keeps the rule where it is right for its own cell and its own view.
-use Rattle.std.proofs.Common.{◌≡◌, ℕ, zero, suc, ◌+◌, ◌<◌, ◌≤◌, ◌⊎◌, true, false, Option, Some, None, List, [], ◌∷◌, length, get_or, set, sym, refl, ap, ◌∙◌, subst, inl, ⊎_elim, arith, length-set, get_or-set_same, get_or-set_other}
+use Rattle.std.proofs.lemmas.List.{append_assoc}
+use Rattle.std.proofs.Common.{◌≡◌, ℕ, zero, suc, ◌+◌, ◌<◌, ◌≤◌, ◌⊎◌, true, false, Option, Some, None, List, [], ◌∷◌, ◌++◌, length, get_or, set, sym, refl, ap, ◌∙◌, subst, inl, ⊎_elim, arith, length-set, get_or-set_same, get_or-set_other}
 use mathlib.Core.Logic.{dite}
 use mathlib.Core.Option.{some, none, some-injective, some-ne-none}
 use mathlib.Core.Option as maybe
@@ -23,7 +24,7 @@ use Rattle.steps.specs.declared.view.View.{View}
 use Rattle.steps.specs.Fairness.{Fair}
 use Rattle.steps.specs.Journal.{events_of, lent, noted, holder}
 use Rattle.steps.specs.Cells.{setup_of, IsCell, CellOk, PipeOk, Home, claim_at, note_at, pipe_at, slot_at, slots_of, words_of}
-use Rattle.steps.specs.Rule.{holders, stands_for, owns, apart, is_leaving, IsHeard, AllBegin, AllSaw, IsGone, SeatOk, parts_of, IsRunBy, IsHeldBy, IsLentBy, Knows, Ruled, seeing}
+use Rattle.steps.specs.Rule.{holders, stands_for, owns, apart, is_leaving, Begins, AreMade, IsHeard, AllBegin, AllSaw, IsGone, SeatOk, parts_of, IsRunBy, IsHeldBy, IsLentBy, Knows, Ruled, seeing}
 use Rattle.steps.proofs.Roles.{apart_sym, others_own}
 use Rattle.steps.proofs.JournalGrowth.{replied_later}
 use Rattle.steps.proofs.Frames.{Quiet, cell_stays, pipe_stays}
@@ -102,6 +103,18 @@ pub record Turns (past : List Line) (l : Line) (v : View) (role : Role) : Type 0
   pub gone : LeavesGone v.role l role
   pub running : (q : Req) → phase (events_of (l ∷ past)) q ≡ runs → (role ≡ Busy q) ⊎ ((phase (events_of past) q ≡ runs) × (v.role ≡ Busy q → role ≡ Busy q))
 
+-- steps that were made at beginnings of a journal were made at beginnings of a longer one
+pub made_longer : (j seen : List Line) (l : List Step) → Begins j seen → AreMade seen l → AreMade j l
+made_longer j seen [] b m = tt
+made_longer j seen (s ∷ l) b m = ((b.0 ++ m.0.0, b.1 ∙ (ap (λ (z : List Line). b.0 ++ z) m.0.1 ∙ sym (append_assoc b.0 m.0.0 s.seen))), made_longer j seen l b m.1)
+
+-- the steps t of the view, with one more, after which it has seen j
+abbrev pub IsTick : View → List Line → List Step → Type 0
+IsTick v j t = (i : ℕ) × (n : ℕ) × (t ≡ record { word = i; found = n; seen = j } ∷ v.steps)
+
+pub tick_made : (v : View) (j : List Line) (t : List Step) → IsTick v j t → Begins j v.seen → AreMade v.seen v.steps → AreMade j t
+tick_made v j t k b m = subst (AreMade j) (sym k.2) (([], refl), made_longer j v.seen v.steps b m)
+
 module _ (L : Layout) where
   abbrev pub K : List ℕ
   K = L.cells
@@ -113,14 +126,22 @@ module _ (L : Layout) where
   seat_stays l j v n heard s = record {
     layout = s.layout;
     saw = record { later = l ∷ s.saw.later; is = ap (λ (z : List Line). l ∷ z) s.saw.is; none = (n, s.saw.none) };
+    made = s.made;
     heard = heard_more l j v.heard heard s.heard;
     busy = s.busy;
     leaving = s.leaving;
     lending = s.lending;
   }
 
-  pub seat_sees : (j : List Line) (t : List Step) (v : View) (role : Role) → v.layout ≡ L → ((q : Req) → role ≡ Busy q → (0 < v.parts) × (phase (events_of j) q ≡ runs)) → ((q : Req) → is_leaving role q ≡ true → (0 < v.parts) × IsReplied (phase (events_of j) q)) → ((q : Req) → role ≡ Lending q → 0 < v.parts) → SeatOk L j (seeing v role j t)
-  seat_sees j t v role layout busy leaving lending = record { layout = λ _. layout; saw = record { later = []; is = refl; none = tt }; heard = λ x h. absurd h; busy = busy; leaving = leaving; lending = lending }
+  pub seat_sees : (j : List Line) (t : List Step) (v : View) (role : Role) → v.layout ≡ L → ((q : Req) → role ≡ Busy q → (0 < v.parts) × (phase (events_of j) q ≡ runs)) → ((q : Req) → is_leaving role q ≡ true → (0 < v.parts) × IsReplied (phase (events_of j) q)) → ((q : Req) → role ≡ Lending q → 0 < v.parts) → AreMade j t → SeatOk L j (seeing v role j t)
+  seat_sees j t v role layout busy leaving lending made = record { layout = λ _. layout; saw = record { later = []; is = refl; none = tt }; made = made; heard = λ x h. absurd h; busy = busy; leaving = leaving; lending = lending }
+
+  -- a seat that makes one step, where it adds a line, and where it looks
+  pub made_with : (s : St) (r : Ruled L s) (id : ℕ) (v : View) (l : Line) (t : List Step) → get_elem? s.views id ≡ some v → IsTick v (l ∷ r.past) t → AreMade (l ∷ r.past) t
+  made_with s r id v l t at k = let seat = r.seats id v at in tick_made v (l ∷ r.past) t k (l ∷ seat.saw.later, ap (λ (z : List Line). l ∷ z) seat.saw.is) seat.made
+
+  pub made_at : (s : St) (r : Ruled L s) (id : ℕ) (v : View) (t : List Step) → get_elem? s.views id ≡ some v → IsTick v r.past t → AreMade r.past t
+  made_at s r id v t at k = let seat = r.seats id v at in tick_made v r.past t k (seat.saw.later, seat.saw.is) seat.made
 
   -- what a seat that leaves its request is known to have
   pub left_now : (s : St) (r : Ruled L s) (i : ℕ) (u : View) → get_elem? s.views i ≡ some u → (q : Req) → is_leaving u.role q ≡ true → (0 < u.parts) × IsReplied (phase (events_of r.past) q)
@@ -156,7 +177,7 @@ module _ (L : Layout) where
 
   -- one line more, about the cell x
   pub adds : (s : St) (r : Ruled L s) (id : ℕ) (v : View) (role : Role) (x : ℕ) (words' : List ℕ) (homes' : List (maybe.Option (Option Thing))) (l : Line) (t : List Step)
-      → v.layout ≡ L → Calm L r.past l → Turns r.past l v role → Legal (setup_of L) (events_of (l ∷ r.past)) → get_elem? s.views id ≡ some v
+      → IsTick v (l ∷ r.past) t → v.layout ≡ L → Calm L r.past l → Turns r.past l v role → Legal (setup_of L) (events_of (l ∷ r.past)) → get_elem? s.views id ≡ some v
       → ((i : ℕ) (u : View) → ¬ (i ≡ id) → get_elem? s.views i ≡ some u → (owns u.role l ≡ false) × (apart role u.role ≡ true))
       → ((y : ℕ) → IsCell K y → ¬ (y ≡ x) → Quiet K l y)
       → length words' ≡ length s.words → ((y : ℕ) → ¬ (y ≡ x) → get_or words' (claim_at y) 0 ≡ get_or s.words (claim_at y) 0) → ((y : ℕ) → y < words_of 0 → get_or words' y 0 ≡ get_or s.words y 0)
@@ -164,7 +185,7 @@ module _ (L : Layout) where
       → length homes' ≡ length s.homes → ((y : ℕ) → ¬ (y ≡ slot_at x) → get_elem? homes' y ≡ get_elem? s.homes y)
       → CellOk K (l ∷ r.past) x (get_or words' (claim_at x) 0) (get_elem? homes' (slot_at x))
       → Ruled L record { words = words'; homes = homes'; views = set s.views id (seeing v role (l ∷ r.past) t) }
-  adds s r id v role x words' homes' l t layout calm turns legal there others quiet wide words low notes deep slots own = record {
+  adds s r id v role x words' homes' l t tick layout calm turns legal there others quiet wide words low notes deep slots own = record {
     past = l ∷ r.past;
     legal = legal;
     live = calm.live;
@@ -178,7 +199,7 @@ module _ (L : Layout) where
     notes = notes;
     clock = low 0 (omega arith) ∙ (r.clock ∙ sym calm.clock);
     pipes = λ p h. subst (λ (z : ℕ × Home). PipeOk L.caps (l ∷ r.past) p z.0 z.1) (λ i. (sym (low (pipe_at p) (omega arith)) i, sym (slots p (omega arith)) i)) (pipe_stays L.caps l r.past p _ _ (calm.pipes p).0 (calm.pipes p).1 (r.pipes p h));
-    seats = seats_set s.views id (seeing v role (l ∷ r.past) t) (l ∷ r.past) (seat_sees (l ∷ r.past) t v role layout (λ q is. (turns.has, turns.busy q is)) (λ q is. (turns.has, turns.leaving q is)) (λ q is. turns.has)) (λ i u apart' at. seat_stays l r.past u (others i u apart' at).0 (λ y h. (turns.gone y.role (r.gone i id u v at there y h)).0) (r.seats i u at));
+    seats = seats_set s.views id (seeing v role (l ∷ r.past) t) (l ∷ r.past) (seat_sees (l ∷ r.past) t v role layout (λ q is. (turns.has, turns.busy q is)) (λ q is. (turns.has, turns.leaving q is)) (λ q is. turns.has) (made_with s r id v l t there tick)) (λ i u apart' at. seat_stays l r.past u (others i u apart' at).0 (λ y h. (turns.gone y.role (r.gone i id u v at there y h)).0) (r.seats i u at));
     roles = roles_set s.views id (seeing v role (l ∷ r.past) t) r.roles (λ i u apart' at. (others i u apart' at).1);
     gone = gone_set s.views id v (seeing v role (l ∷ r.past) t) there r.gone (λ y h. absurd h) (λ a g. (turns.gone a g).1);
     run = λ q is. ⊎_elim (λ (mine : role ≡ Busy q). (id, seeing v role (l ∷ r.past) t, at_now s.views id v (seeing v role (l ∷ r.past) t) there, mine))
@@ -192,14 +213,14 @@ module _ (L : Layout) where
 
   -- the same where the claim word of x becomes n
   pub adds_claim : (s : St) (r : Ruled L s) (id : ℕ) (v : View) (role : Role) (x n : ℕ) (homes' : List (maybe.Option (Option Thing))) (l : Line) (t : List Step)
-      → IsCell K x → v.layout ≡ L → Calm L r.past l → Turns r.past l v role → Legal (setup_of L) (events_of (l ∷ r.past)) → get_elem? s.views id ≡ some v
+      → IsTick v (l ∷ r.past) t → IsCell K x → v.layout ≡ L → Calm L r.past l → Turns r.past l v role → Legal (setup_of L) (events_of (l ∷ r.past)) → get_elem? s.views id ≡ some v
       → ((i : ℕ) (u : View) → ¬ (i ≡ id) → get_elem? s.views i ≡ some u → (owns u.role l ≡ false) × (apart role u.role ≡ true))
       → ((y : ℕ) → IsCell K y → ¬ (y ≡ x) → Quiet K l y) → ((w : ℕ) → noted (l ∷ r.past) w ≡ noted r.past w)
       → length homes' ≡ length s.homes → ((y : ℕ) → ¬ (y ≡ slot_at x) → get_elem? homes' y ≡ get_elem? s.homes y)
       → CellOk K (l ∷ r.past) x n (get_elem? homes' (slot_at x))
       → Ruled L record { words = set s.words (claim_at x) n; homes = homes'; views = set s.views id (seeing v role (l ∷ r.past) t) }
-  adds_claim s r id v role x n homes' l t inside layout calm turns legal there others quiet silent deep slots own =
-      adds s r id v role x (set s.words (claim_at x) n) homes' l t layout calm turns legal there others quiet (length-set s.words (claim_at x) n)
+  adds_claim s r id v role x n homes' l t tick inside layout calm turns legal there others quiet silent deep slots own =
+      adds s r id v role x (set s.words (claim_at x) n) homes' l t tick layout calm turns legal there others quiet (length-set s.words (claim_at x) n)
       (λ y other. get_or-set_other s.words (claim_at x) (claim_at y) n 0 (omega arith)) (λ y h. get_or-set_other s.words (claim_at x) y n 0 (omega arith))
       (λ y i h small. get_or-set_other s.words (claim_at x) (note_at y i) n 0 (omega arith) ∙ (r.notes y i h small ∙ sym (silent (note_at y i)))) deep slots
       (subst (λ (m : ℕ). CellOk K (l ∷ r.past) x m (get_elem? homes' (slot_at x))) (sym (get_or-set_same s.words (claim_at x) n 0 (let w = r.wide x inside in omega arith))) own)
@@ -247,10 +268,10 @@ module _ (L : Layout) where
   owned s r id v l at own i u other there = let a : apart v.role u.role ≡ true = r.roles id i v u at there (λ e. other (sym e)) in (others_own v.role u.role l a own, a)
 
   -- no line: no word changes
-  pub looks : (s : St) (r : Ruled L s) (id : ℕ) (v : View) (i n : ℕ) (t : List Step) → get_elem? s.views id ≡ some v → v.layout ≡ L
+  pub looks : (s : St) (r : Ruled L s) (id : ℕ) (v : View) (i n : ℕ) (t : List Step) → IsTick v r.past t → get_elem? s.views id ≡ some v → v.layout ≡ L
       → ((q : Req) → v.role ≡ Busy q → (0 < v.parts) × (phase (events_of r.past) q ≡ runs)) → set s.words i n ≡ s.words
       → Ruled L record { words = set s.words i n; homes = s.homes; views = set s.views id (seeing v v.role r.past t) }
-  looks s r id v i n t at layout busy same = record {
+  looks s r id v i n t tick at layout busy same = record {
     past = r.past;
     legal = r.legal;
     live = r.live;
@@ -262,7 +283,7 @@ module _ (L : Layout) where
     notes = λ y k h small. ap (λ z. get_or z (note_at y k) 0) same ∙ r.notes y k h small;
     clock = ap (λ z. get_or z 0 0) same ∙ r.clock;
     pipes = λ p h. subst (λ z. PipeOk L.caps r.past p (get_or z (pipe_at p) 0) (get_elem? s.homes p)) (sym same) (r.pipes p h);
-    seats = seats_set s.views id (seeing v v.role r.past t) r.past (seat_sees r.past t v v.role layout busy (left_now s r id v at) (r.seats id v at).lending) (λ l u _ there. r.seats l u there);
+    seats = seats_set s.views id (seeing v v.role r.past t) r.past (seat_sees r.past t v v.role layout busy (left_now s r id v at) (r.seats id v at).lending (made_at s r id v t at tick)) (λ l u _ there. r.seats l u there);
     roles = roles_set s.views id (seeing v v.role r.past t) r.roles (λ l u other there. r.roles id l v u at there (λ e. other (sym e)));
     gone = gone_set s.views id v (seeing v v.role r.past t) at r.gone (λ y h. absurd h) (λ a g. g.0);
     run = λ q is. run_set s.views id v (seeing v v.role r.past t) q at (λ z. z) (r.run q is);

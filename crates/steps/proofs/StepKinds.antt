@@ -37,7 +37,7 @@ use Rattle.steps.proofs.JournalGrowth.{begins, ran, replied_by, legal_before, st
 use Rattle.steps.proofs.Frames.{still_lacks}
 use Rattle.steps.proofs.FreeCells.{free_later, same_noted}
 use Rattle.steps.proofs.ClaimWords.{certain, empty_word, says_of}
-use Rattle.steps.proofs.RuleKept.{Turns, heard_begin, gone_own, gone_same, looks, left_now}
+use Rattle.steps.proofs.RuleKept.{IsTick, Turns, heard_begin, gone_own, gone_same, looks, left_now, made_at, made_with}
 
 abbrev pub in_hand : List (ℕ × Option Thing) → Option Thing
 in_hand [] = None
@@ -161,8 +161,8 @@ module _ (slots id : ℕ) (me : Seated) where
         let word = empty_word K r.past x _ _ (r.cells x inside) g new (λ n l. (let b = free.gone_by n l in (b.0, b.1, reaped_now (request_at K x n) b.0 b.1 b.2))) in
         let here = says_of K r.past x _ _ Empty 0 g 0 (r.cells x inside) word (omega arith) f (omega arith) in (word, new, here.0.4, here.1, here.0.3)
 
-  pub extends : (s : St) (r : Ruled L s) → There s → (l : Line) (role : Role) → Legal S (events_of (l ∷ r.past)) → was_shut (events_of (l ∷ r.past)) ≡ false → Fair L r.past l → (t : List Step) → Extends v l role (seeing v role (l ∷ r.past) t)
-  extends s r at l role legal live fair t = let seat = r.seats id v at in record { mid = r.past; saw = seat.saw; heard = heard_begin r.past v.heard seat.heard; legal = legal; live = live; orderly = (fair, r.orderly); steps = t; is = refl }
+  pub extends : (s : St) (r : Ruled L s) → There s → (l : Line) (role : Role) → Legal S (events_of (l ∷ r.past)) → was_shut (events_of (l ∷ r.past)) ≡ false → Fair L r.past l → (t : List Step) → IsTick v (l ∷ r.past) t → Extends v l role (seeing v role (l ∷ r.past) t)
+  extends s r at l role legal live fair t made = let seat = r.seats id v at in record { mid = r.past; saw = seat.saw; heard = heard_begin r.past v.heard seat.heard; legal = legal; live = live; orderly = (fair, r.orderly); steps = t; made = made_with L s r id v l t at made; is = refl }
 
   -- who keeps his role keeps what it owes
   pub same_turns : (s : St) (r : Ruled L s) → There s → (l : Line) → owns v.role l ≡ true → begins l ≡ false → Legal S (events_of (l ∷ r.past)) → 0 < v.parts → ((q : Req) → lent (l ∷ r.past) q ≡ lent r.past q) → ((q : Req) → v.role ≡ Busy q → phase (events_of (l ∷ r.past)) q ≡ runs) → Turns r.past l v v.role
@@ -201,9 +201,9 @@ module _ (slots id : ℕ) (me : Seated) where
     seeing v v.role r.past (tick (claim_at x) s r.past),
     keeps,
     tt,
-    looks L s r id v (claim_at x) (get_or s.words (claim_at x) 0) (tick (claim_at x) s r.past) at refl (busy_now s r at) (set-get_or s.words (claim_at x) 0),
+    looks L s r id v (claim_at x) (get_or s.words (claim_at x) 0) (tick (claim_at x) s r.past) ((claim_at x), get_or s.words (claim_at x) 0, refl) at refl (busy_now s r at) (set-get_or s.words (claim_at x) 0),
     (
-      (let seat = r.seats id v at in record { now = r.past; saw = seat.saw; heard = heard_begin r.past v.heard seat.heard; legal = r.legal; live = r.live; orderly = r.orderly; steps = tick (claim_at x) s r.past; is = refl }),
+      (let seat = r.seats id v at in record { now = r.past; saw = seat.saw; heard = heard_begin r.past v.heard seat.heard; legal = r.legal; live = r.live; orderly = r.orderly; steps = tick (claim_at x) s r.past; made = made_at L s r id v (tick (claim_at x) s r.past) at ((claim_at x), get_or s.words (claim_at x) 0, refl); is = refl }),
       refl,
       (λ y e inside. let q : y ≡ x = omega arith in (get_elem? s.homes (slot_at y), subst (λ (z : ℕ). CellOk K r.past y (get_or s.words (claim_at z) 0) (get_elem? s.homes (slot_at y))) q (r.cells y inside))),
       refl,
@@ -217,9 +217,9 @@ module _ (slots id : ℕ) (me : Seated) where
     seeing v v.role r.past (tick (note_at x i) s r.past),
     keeps,
     tt,
-    looks L s r id v (note_at x i) (get_or s.words (note_at x i) 0) (tick (note_at x i) s r.past) at refl (busy_now s r at) (set-get_or s.words (note_at x i) 0),
+    looks L s r id v (note_at x i) (get_or s.words (note_at x i) 0) (tick (note_at x i) s r.past) ((note_at x i), get_or s.words (note_at x i) 0, refl) at refl (busy_now s r at) (set-get_or s.words (note_at x i) 0),
     (
-      (let seat = r.seats id v at in record { now = r.past; saw = seat.saw; heard = heard_begin r.past v.heard seat.heard; legal = r.legal; live = r.live; orderly = r.orderly; steps = tick (note_at x i) s r.past; is = refl }),
+      (let seat = r.seats id v at in record { now = r.past; saw = seat.saw; heard = heard_begin r.past v.heard seat.heard; legal = r.legal; live = r.live; orderly = r.orderly; steps = tick (note_at x i) s r.past; made = made_at L s r id v (tick (note_at x i) s r.past) at ((note_at x i), get_or s.words (note_at x i) 0, refl); is = refl }),
       refl,
       (λ y k e inside' small'. ap (λ z. get_or s.words z 0) e ∙ (r.notes y k inside' small')),
       refl,

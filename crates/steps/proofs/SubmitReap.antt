@@ -96,7 +96,7 @@ module _ (slots id : ℕ) (me : Seated) where
             with_line slots id me (claim_at x) s r.past l back,
             gives,
             tt,
-            home_again slots id me x new (Some (Full p)) s (with_line slots id me (claim_at x) s r.past l back) out (adds_claim L s r id v back x new (set s.homes (slot_at x) (some (Some (Full p)))) l (tick slots id me (claim_at x) s (l ∷ r.past)) inside refl (quiet_line L r.past l fair r.live refl (λ p. (refl, refl)))
+            home_again slots id me x new (Some (Full p)) s (with_line slots id me (claim_at x) s r.past l back) out (adds_claim L s r id v back x new (set s.homes (slot_at x) (some (Some (Full p)))) l (tick slots id me (claim_at x) s (l ∷ r.past)) ((claim_at x), get_or s.words (claim_at x) 0, refl) inside refl (quiet_line L r.past l fair r.live refl (λ p. (refl, refl)))
                 (back_turns s r l (eq-eqb (ring_of K x) (ring_of K x) refl) refl legal (λ c. refl)) legal at (back_apart s r at l (eq-eqb (ring_of K x) (ring_of K x) refl))
                 (λ y h other k. other_cell K x y g k inside h other) (λ w. refl) (length-set s.homes (slot_at x) (some (Some (Full p)))) (λ y other. set_else s.homes (slot_at x) y (some (Some (Full p))) other) record {
                   tag = Held;
@@ -108,7 +108,7 @@ module _ (slots id : ℕ) (me : Seated) where
                   says = (refl, refl, now_is _ _ _ (same_itself q), now.4, ap (λ b. cond b false (lent r.past q)) (same_itself q), (p, set_here s.homes (slot_at x) (some (Some (Full p))) (r.deep x inside), (p.buffer.items, given, refl)));
                   ages = ages_stay S l r.past legal K x g (λ n other. other_age K x g n inside other) now.3;
                 }),
-            (λ p' out'. let same' : p ≡ p' = same_parcel p p' (ap in_hand (sym out ∙ out')) in subst (λ (z : Parcel). Extends v (Did (Submit q z.sqe z.buffer.items z.last)) back (with_line slots id me (claim_at x) s r.past l back) × (rest me.1 ≡ rest me.1)) same' (extends slots id me s r at l back legal r.live fair (tick slots id me (claim_at x) s (l ∷ r.past)), refl)),
+            (λ p' out'. let same' : p ≡ p' = same_parcel p p' (ap in_hand (sym out ∙ out')) in subst (λ (z : Parcel). Extends v (Did (Submit q z.sqe z.buffer.items z.last)) back (with_line slots id me (claim_at x) s r.past l back) × (rest me.1 ≡ rest me.1)) same' (extends slots id me s r at l back legal r.live fair (tick slots id me (claim_at x) s (l ∷ r.past)) ((claim_at x), get_or s.words (claim_at x) 0, refl), refl)),
             refl,
           ),
         )
@@ -135,7 +135,7 @@ module _ (slots id : ℕ) (me : Seated) where
             with_line slots id me (claim_at x) s r.past l back,
             gives,
             tt,
-            home_again slots id me x new None s (with_line slots id me (claim_at x) s r.past l back) out (adds_claim L s r id v back x new (set s.homes (slot_at x) (some None)) l (tick slots id me (claim_at x) s (l ∷ r.past)) inside refl (quiet_line L r.past l fair r.live refl (λ p. (refl, refl)))
+            home_again slots id me x new None s (with_line slots id me (claim_at x) s r.past l back) out (adds_claim L s r id v back x new (set s.homes (slot_at x) (some None)) l (tick slots id me (claim_at x) s (l ∷ r.past)) ((claim_at x), get_or s.words (claim_at x) 0, refl) inside refl (quiet_line L r.past l fair r.live refl (λ p. (refl, refl)))
                 (back_turns s r l (eq-eqb (ring_of K x) (ring_of K x) refl) refl legal (λ c. refl)) legal at (back_apart s r at l (eq-eqb (ring_of K x) (ring_of K x) refl))
                 (λ y h other k. other_cell K x y g k inside h other) (λ w. refl) (length-set s.homes (slot_at x) (some None)) (λ y other. set_else s.homes (slot_at x) y (some None) other) record {
                   tag = Empty;
@@ -154,7 +154,7 @@ module _ (slots id : ℕ) (me : Seated) where
                     unlent = λ n lt. lent_stays l r.past (request_at K x n) (other n (omega arith)) ∙ ages.unlent n (omega arith);
                   };
                 }),
-            (extends slots id me s r at l back legal r.live fair (tick slots id me (claim_at x) s (l ∷ r.past)), refl),
+            (extends slots id me s r at l back legal r.live fair (tick slots id me (claim_at x) s (l ∷ r.past)) ((claim_at x), get_or s.words (claim_at x) 0, refl), refl),
             refl,
           ),
         )

@@ -95,11 +95,11 @@ module _ (slots id : ℕ) (me : Seated) where
           let here = says_of K r.past x _ _ Held 0 g 0 (r.cells x inside) is (omega arith) f (omega arith) in
           let legal : Legal S (events_of (l ∷ r.past)) = ((r.live, (here.0.2, may', e, n, placed_now q e s r at born placed_is, ticks_is, due ∙ ap (λ c. c + n) (sym (clock_now s r at)))), r.legal) in
           let done : phase (events_of (l ∷ r.past)) q ≡ armed d = now_is _ _ _ (same_itself q) in
-          let ext = extends slots id me s r at l v.role legal r.live tt (tick slots id me (claim_at x) s (l ∷ r.past)) in (
+          let ext = extends slots id me s r at l v.role legal r.live tt (tick slots id me (claim_at x) s (l ∷ r.past)) ((claim_at x), get_or s.words (claim_at x) 0, refl) in (
             with_line slots id me (claim_at x) s r.past l v.role,
             keeps,
             tt,
-            adds_claim L s r id v v.role x new s.homes l (tick slots id me (claim_at x) s (l ∷ r.past)) inside refl (quiet_line L r.past l tt r.live refl (λ p. (refl, refl))) (same_turns slots id me s r at l mine refl legal has (λ _. refl) (λ c is. absurd (lazy c is))) legal at (owned L s r id v l at mine)
+            adds_claim L s r id v v.role x new s.homes l (tick slots id me (claim_at x) s (l ∷ r.past)) ((claim_at x), get_or s.words (claim_at x) 0, refl) inside refl (quiet_line L r.past l tt r.live refl (λ p. (refl, refl))) (same_turns slots id me s r at l mine refl legal has (λ _. refl) (λ c is. absurd (lazy c is))) legal at (owned L s r id v l at mine)
                 (λ y h other k. other_cell K x y g k inside h other) (λ w. refl) refl (λ y other. refl) record {
                   tag = Armed;
                   cause = 0;

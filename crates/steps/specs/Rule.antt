@@ -102,6 +102,11 @@ pub record Saw (role : Role) (seen j : List Line) : Type 0 where
 abbrev pub Begins : List Line → List Line → Type 0
 Begins j seen = (later : List Line) × (j ≡ later ++ seen)
 
+-- each of these steps was made at a beginning of this journal: the journal after it is one
+abbrev pub AreMade : List Line → List Step → Type 0
+AreMade seen [] = Unit {0}
+AreMade seen (s ∷ l) = Begins seen s.seen × AreMade seen l
+
 abbrev pub IsHeard : Heard → List Heard → Type 0
 IsHeard x [] = ⊥
 IsHeard x (y ∷ ys) = (y ≡ x) ⊎ IsHeard x ys
@@ -127,6 +132,7 @@ is_leaving _ q = false
 pub record SeatOk (L : Layout) (j : List Line) (v : View) : Type 0 where
   pub layout : v.role ≢ Spent → v.layout ≡ L
   pub saw : Saw v.role v.seen j
+  pub made : AreMade v.seen v.steps
   pub heard : AllSaw j v.heard
   pub busy : (r : Req) → v.role ≡ Busy r → (0 < v.parts) × (phase (events_of v.seen) r ≡ runs)
   pub leaving : (r : Req) → is_leaving v.role r ≡ true → (0 < v.parts) × IsReplied (phase (events_of v.seen) r)
@@ -210,6 +216,7 @@ pub record Looks (v w : View) : Type 0 where
   pub live : was_shut (events_of now) ≡ false
   pub orderly : Orderly v.layout now
   pub steps : List Step
+  pub made : AreMade now steps
   pub is : w ≡ seeing v v.role now steps
 
 -- the seat saw the journal so far, and added the line l to it
@@ -221,6 +228,7 @@ pub record Extends (v : View) (l : Line) (role : Role) (w : View) : Type 0 where
   pub live : was_shut (events_of (l ∷ mid)) ≡ false
   pub orderly : Orderly v.layout (l ∷ mid)
   pub steps : List Step
+  pub made : AreMade (l ∷ mid) steps
   pub is : w ≡ seeing v role (l ∷ mid) steps
 
 -- the seat added two lines, and others may stand between

@@ -11,7 +11,7 @@ use Rattle.steps.specs.declared.view.View.{View}
 use Rattle.steps.specs.Fairness.{Orderly}
 use Rattle.steps.specs.Journal.{events_of}
 use Rattle.steps.specs.Cells.{setup_of}
-use Rattle.steps.specs.Rule.{AllBegin, NoneOf, Looks, Extends, IsStep, seeing}
+use Rattle.steps.specs.Rule.{AllBegin, AreMade, NoneOf, Looks, Extends, IsStep, seeing}
 use Rattle.work.specs.Board.{Facts, IsOf, share_of}
 use Rattle.work.specs.Passes.{Pass, Took}
 
@@ -25,6 +25,7 @@ looked_of b p q o t x =
       live = subst (λ (j : List Line). was_shut (events_of j) ≡ false) (sym seen) x.live;
       orderly = subst (Orderly b.layout) (sym seen) (subst (λ (L : Layout). Orderly L x.now) o.layout_is x.orderly);
       looked = ap (λ (z : View). z.heard) x.is;
+      made = subst (λ (z : View). AreMade z.seen z.steps) (sym x.is) x.made;
     }
 
 pub extended_of : (b : Facts) (p q : Pass) (l : Line) (role : Role) → IsOf b p → share_of b role ≡ share_of b p.view.role → q.table ≡ p.table → Extends p.view l role q.view → IsOf b q
@@ -37,6 +38,7 @@ extended_of b p q l role o same t x =
       live = subst (λ (j : List Line). was_shut (events_of j) ≡ false) (sym seen) x.live;
       orderly = subst (Orderly b.layout) (sym seen) (subst (λ (L : Layout). Orderly L (l ∷ x.mid)) o.layout_is x.orderly);
       looked = ap (λ (z : View). z.heard) x.is;
+      made = subst (λ (z : View). AreMade z.seen z.steps) (sym x.is) x.made;
     }
 
 -- one step, with nothing before it
@@ -66,5 +68,6 @@ looks_both u v w a b =
       live = b.live;
       orderly = subst (λ (L : Layout). Orderly L b.now) layout b.orderly;
       steps = b.steps;
+      made = b.made;
       is = b.is ∙ ap (λ (z : View). seeing z z.role b.now b.steps) a.is;
     }

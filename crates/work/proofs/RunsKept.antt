@@ -36,7 +36,7 @@ use Rattle.steps.specs.Fairness.{Orderly}
 use Rattle.steps.specs.Journal.{event_of, events_of, holder}
 use Rattle.steps.specs.Cells.{setup_of, IsCell, cells_in, request_at, claim_at, pipe_at, slot_at, over, IsParcel, PipeIs}
 use Rattle.steps.specs.Plays.{Seated, HasBoth, MayReply, IsSamePipe}
-use Rattle.steps.specs.Rule.{NoneOf, owns, Begins, Looks, Extends, IsStep, leaves, leaves_one}
+use Rattle.steps.specs.Rule.{AreMade, NoneOf, owns, Begins, Looks, Extends, IsStep, leaves, leaves_one}
 use Rattle.steps.proofs.JournalGrowth.{lasts, placed_lasts, submission_lasts, submitted_in}
 use Rattle.steps.proofs.CancelOnce.{IsEarly, unhit as not_hit}
 use Rattle.steps.proofs.OwnFacts.{same_hit}
@@ -162,8 +162,8 @@ module _ (b : Facts) (p q : Pass) (r : Req) (o : IsOf b p) (same : q.table ≡ p
   worker_idle l x = extended_of b p q l Idle o (ap (share_of b) (sym busy)) same x
 
 -- also once it has replied and has given its pipes back
-worker_gone : (b : Facts) (p q : Pass) (r : Req) (mid : View) (l : Line) → IsOf b p → q.table ≡ p.table → p.view.role ≡ Busy r → Extends p.view l (Leaving r) mid → q.view.role ≡ Idle → q.view.layout ≡ mid.layout → q.view.parts ≡ mid.parts → q.view.seen ≡ mid.seen → q.view.heard ≡ mid.heard → IsOf b q
-worker_gone b p q r mid l o same busy x idle layout parts seen heard =
+worker_gone : (b : Facts) (p q : Pass) (r : Req) (mid : View) (l : Line) → IsOf b p → q.table ≡ p.table → p.view.role ≡ Busy r → Extends p.view l (Leaving r) mid → q.view.role ≡ Idle → q.view.layout ≡ mid.layout → q.view.parts ≡ mid.parts → q.view.seen ≡ mid.seen → q.view.heard ≡ mid.heard → (AreMade mid.seen mid.steps → AreMade q.view.seen q.view.steps) → IsOf b q
+worker_gone b p q r mid l o same busy x idle layout parts seen heard made =
     let m : Pass = record { table = p.table; view = mid; took = [] } in let k = extended_of b p m l (Leaving r) o (ap (share_of b) (sym busy)) refl x in record {
       table_is = same ∙ o.table_is;
       layout_is = layout ∙ k.layout_is;
@@ -172,13 +172,14 @@ worker_gone b p q r mid l o same busy x idle layout parts seen heard =
       live = ap (λ (j : List Line). was_shut (events_of j)) seen ∙ k.live;
       orderly = subst (Orderly b.layout) (sym seen) k.orderly;
       looked = heard ∙ k.looked;
+      made = made k.made;
     }
 
 pub worker_left : (b : Facts) (p q : Pass) (r : Req) (mid : View) (l : Line) (word found : ℕ) → IsOf b p → q.table ≡ p.table → p.view.role ≡ Busy r → Extends p.view l (Leaving r) mid → q.view ≡ leaves word found mid → IsOf b q
-worker_left b p q r mid l word found o same busy x is = worker_gone b p q r mid l o same busy x (ap (λ (z : View). z.role) is) (ap (λ (z : View). z.layout) is) (ap (λ (z : View). z.parts) is) (ap (λ (z : View). z.seen) is) (ap (λ (z : View). z.heard) is)
+worker_left b p q r mid l word found o same busy x is = worker_gone b p q r mid l o same busy x (ap (λ (z : View). z.role) is) (ap (λ (z : View). z.layout) is) (ap (λ (z : View). z.parts) is) (ap (λ (z : View). z.seen) is) (ap (λ (z : View). z.heard) is) (λ m. subst (λ (z : View). AreMade z.seen z.steps) (sym is) (([], refl), m))
 
 pub worker_left_both : (b : Facts) (p q : Pass) (r : Req) (mid : View) (l : Line) (kept first found second last : ℕ) → IsOf b p → q.table ≡ p.table → p.view.role ≡ Busy r → Extends p.view l (Leaving r) mid → q.view ≡ leaves second last (leaves_one r kept first found mid) → IsOf b q
-worker_left_both b p q r mid l kept first found second last o same busy x is = worker_gone b p q r mid l o same busy x (ap (λ (z : View). z.role) is) (ap (λ (z : View). z.layout) is) (ap (λ (z : View). z.parts) is) (ap (λ (z : View). z.seen) is) (ap (λ (z : View). z.heard) is)
+worker_left_both b p q r mid l kept first found second last o same busy x is = worker_gone b p q r mid l o same busy x (ap (λ (z : View). z.role) is) (ap (λ (z : View). z.layout) is) (ap (λ (z : View). z.parts) is) (ap (λ (z : View). z.seen) is) (ap (λ (z : View). z.heard) is) (λ m. subst (λ (z : View). AreMade z.seen z.steps) (sym is) (([], refl), (([], refl), m)))
 
 -- what was seen before an own line is a beginning of what was seen after it
 pub begins_on : (v w : View) (l : Line) (role : Role) → Extends v l role w → Begins w.seen v.seen

@@ -8,6 +8,7 @@ use Rattle.steps.specs.declared.view.Role.{Role}
 use Rattle.steps.specs.declared.view.Role.TheVariants.{Poller}
 use Rattle.steps.specs.Fairness.{Orderly}
 use Rattle.steps.specs.Cells.{setup_of, total, words_of}
+use Rattle.steps.specs.Rule.{AreMade}
 use Rattle.work.specs.Grid.{AreCells}
 use Rattle.work.specs.Passes.{Pass, seen_of}
 
@@ -29,7 +30,7 @@ abbrev pub share_of : Facts → Role → ℕ
 share_of b (Poller n) = 9223372036854775808 - (length b.layout.cells + b.workers)
 share_of b _ = 1
 
--- the pass is one of this board's own, and has looked at all that it was told
+-- the pass is one of this board's own, and has looked at all that it was told. Each step that it remembers was made at a beginning of what it has seen
 pub record IsOf (b : Facts) (p : Pass) : Type 0 where
   pub table_is : p.table ≡ b.table
   pub layout_is : p.view.layout ≡ b.layout
@@ -38,3 +39,4 @@ pub record IsOf (b : Facts) (p : Pass) : Type 0 where
   pub live : was_shut (seen_of p) ≡ false
   pub orderly : Orderly b.layout p.view.seen
   pub looked : p.view.heard ≡ []
+  pub made : AreMade p.view.seen p.view.steps

@@ -47,8 +47,10 @@ pub returns-then-clock-deadline-clause-expires : goal.returns-then-clock-deadlin
 returns-then-clock-deadline-clause-expires c = let b = c.args.board.now in let s = c.args.seat.now in let t = c.look-word.new.seat in let e = c.look-word.ensures in let r = c.requires in let x = c.args.spot.cell in let g = c.args.spot.generation in let w = watched_look b s t r.ours e.seat e.looks in
     let stands = c.told.ensures.stands s.me.0.layout.cells t.me.0.seen x e.shown in let at : request_at s.me.0.layout.cells x g ≡ c.args.req = ap (λ (L : Layout). request_at L.cells x g) r.ours.ours.layout_is ∙ r.at.at in
     let is : phase (events_of t.me.0.seen) c.args.req ≡ armed c.in-Armed.deadline = subst (λ (q : Req). phase (events_of t.me.0.seen) q ≡ armed c.in-Armed.deadline) at (subst (Stands t.me.0.seen (request_at s.me.0.layout.cells x g)) c.in-Armed.is stands) in
+    let kept = (alarm_goes b (pass_of s) (pass_of t) [] w.goes (ap (λ (z : Role). stands_for z pollers) r.ours.seat.role) none tt c.args.req (Some c.args.alarm) refl r.knows c.in-Armed.deadline is).0 in
+    let k = subst (λ (a : Alarm). IsKept (events_of t.me.0.seen) c.args.req (Some a)) c.in-Alone.is kept in
     let now = clock_watched b s t r.ours.seat w in let old = r.clock in let lt = c.if-clock-deadline.true in
-    expires_early b s t c.args.req x g r.ours r.at w c.look-word.result e.step e.shown c.in-Armed.deadline is (let z : clock_of (events_of t.me.0.seen) < c.in-Armed.deadline = omega arith in z)
+    expires_early b s t c.args.req x g r.ours r.at w c.look-word.result e.step e.shown c.in-Armed.deadline is (let z : clock_of (events_of t.me.0.seen) < c.in-Armed.deadline = omega arith in z) (k.0, k.1, k.2.0)
 
 pub returns-then-clock-deadline-clause-steps : goal.returns-then-clock-deadline-clause-steps
 returns-then-clock-deadline-clause-steps c = let s = c.args.seat.now in let t = c.look-word.new.seat in paid_most s.me.0 t.me.0 1 2 (paid_one _ _ s.me.0 t.me.0 c.look-word.ensures.step) (omega arith)

@@ -6,6 +6,7 @@ use Rattle.board.specs.declared.alarm.Alarm.{Alarm}
 use Rattle.board.specs.declared.phase.Phase.TheVariants.{Armed}
 use Rattle.board.specs.Calls.{IsPresent, Stands}
 use Rattle.board.specs.PollerTimers.{IsKept, KnowsAlarm}
+use Rattle.board.proofs.CountLooks.{spends_add, spends_most, spends_own}
 use Rattle.board.proofs.Countings.{counts_after, counts_fewer, counts_none, counts_unarmed, enough_on, fewer_before, held_bound, one_deadline, unarmed_after, uncounted_alone, uncounted_linked}
 use Rattle.board.proofs.PassFacts.{found_word}
 use Rattle.board.proofs.RowLaws.{numbered_at}
@@ -21,6 +22,7 @@ returns-in_default c = let b = c.args.board.now in let s = c.args.seat.now in le
   seat = seat_looked s t r.ours.seat e.seat.1 e.looks;
   counts = counts_unarmed b s t q x g r.ours r.at w c.look-word.result e.step e.shown c.told.result c.in_default.not-Armed (c.told.ensures.stands s.me.0.layout.cells t.me.0.seen x e.shown);
   steps = paid_most s.me.0 t.me.0 1 (cells_in b.layout.cells q.ring + 1) (paid_one _ _ s.me.0 t.me.0 e.step) (omega arith);
+  looks = let n : ℕ = cells_in b.layout.cells q.ring - 1 in spends_most b.layout.cells q s.me.0 t.me.0 1 0 2 n (spends_own b.layout.cells q x g _ s.me.0 t.me.0 r.at.inside.0 r.at.at e.step) (omega arith) (omega arith);
 }
 
 pub returns-in_default-alarm-clause-counts : goal.returns-in_default-alarm-clause-counts
@@ -87,3 +89,18 @@ returns-else-end_counted-clause-counts c = let b = c.args.board.now in let s = c
 pub returns-else-end_counted-clause-steps : goal.returns-else-end_counted-clause-steps
 returns-else-end_counted-clause-steps c = let b = c.args.board.now in let q = c.args.req in let r = c.requires in let x = c.args.spot.cell in let g = c.args.spot.generation in let small = c.told.ensures.present (subst IsPresent (sym c.in-Armed.is) tt) in let numbered = numbered_at b.layout.cells x g q r.at small in let f = numbered.few in let s = c.args.seat.now in let t = c.look-word.new.seat in let u = c.has_counted.new.seat in let v = c.end_counted.new.seat in let n : ℕ = cells_in b.layout.cells q.ring in
     paid_most s.me.0 v.me.0 ((1 + (n - 1)) + 1) (n + 1) (paid_add s.me.0 u.me.0 v.me.0 (1 + (n - 1)) 1 (paid_add s.me.0 t.me.0 u.me.0 1 (n - 1) (paid_one _ _ s.me.0 t.me.0 c.look-word.ensures.step) c.has_counted.ensures.steps) c.end_counted.ensures.steps) (omega arith)
+
+pub returns-in_default-alarm-clause-looks : goal.returns-in_default-alarm-clause-looks
+returns-in_default-alarm-clause-looks c = let b = c.args.board.now in let K = b.layout.cells in let q = c.args.req in let s = c.args.seat.now in let t = c.look-word.new.seat in let a = c.requires.at in let first = spends_own K q c.args.spot.cell c.args.spot.generation _ s.me.0 t.me.0 a.inside.0 a.at c.look-word.ensures.step in let n : ℕ = cells_in K q.ring - 1 in spends_most K q s.me.0 t.me.0 1 0 2 n first (omega arith) (omega arith)
+
+pub returns-then-count-eq0-clause-looks : goal.returns-then-count-eq0-clause-looks
+returns-then-count-eq0-clause-looks c = let b = c.args.board.now in let K = b.layout.cells in let q = c.args.req in let s = c.args.seat.now in let t = c.look-word.new.seat in let a = c.requires.at in let first = spends_own K q c.args.spot.cell c.args.spot.generation _ s.me.0 t.me.0 a.inside.0 a.at c.look-word.ensures.step in let n : ℕ = cells_in K q.ring - 1 in spends_most K q s.me.0 t.me.0 1 0 2 n first (omega arith) (omega arith)
+
+pub returns-then-not-has_counted-clause-looks : goal.returns-then-not-has_counted-clause-looks
+returns-then-not-has_counted-clause-looks c = let b = c.args.board.now in let K = b.layout.cells in let q = c.args.req in let s = c.args.seat.now in let t = c.look-word.new.seat in let a = c.requires.at in let first = spends_own K q c.args.spot.cell c.args.spot.generation _ s.me.0 t.me.0 a.inside.0 a.at c.look-word.ensures.step in let n : ℕ = cells_in K q.ring - 1 in let u = c.has_counted.new.seat in spends_most K q s.me.0 u.me.0 (1 + 0) (0 + n) 2 n (spends_add K q s.me.0 t.me.0 u.me.0 1 0 0 n first c.has_counted.ensures.looks) (omega arith) (omega arith)
+
+pub returns-then-end_counted-clause-looks : goal.returns-then-end_counted-clause-looks
+returns-then-end_counted-clause-looks c = let b = c.args.board.now in let K = b.layout.cells in let q = c.args.req in let s = c.args.seat.now in let t = c.look-word.new.seat in let a = c.requires.at in let first = spends_own K q c.args.spot.cell c.args.spot.generation _ s.me.0 t.me.0 a.inside.0 a.at c.look-word.ensures.step in let n : ℕ = cells_in K q.ring - 1 in let u = c.has_counted.new.seat in let v = c.end_counted.new.seat in spends_most K q s.me.0 v.me.0 ((1 + 0) + 1) ((0 + n) + 0) 2 n (spends_add K q s.me.0 u.me.0 v.me.0 (1 + 0) (0 + n) 1 0 (spends_add K q s.me.0 t.me.0 u.me.0 1 0 0 n first c.has_counted.ensures.looks) c.end_counted.ensures.looks) (omega arith) (omega arith)
+
+pub returns-else-end_counted-clause-looks : goal.returns-else-end_counted-clause-looks
+returns-else-end_counted-clause-looks c = let b = c.args.board.now in let K = b.layout.cells in let q = c.args.req in let s = c.args.seat.now in let t = c.look-word.new.seat in let a = c.requires.at in let first = spends_own K q c.args.spot.cell c.args.spot.generation _ s.me.0 t.me.0 a.inside.0 a.at c.look-word.ensures.step in let n : ℕ = cells_in K q.ring - 1 in let u = c.has_counted.new.seat in let v = c.end_counted.new.seat in spends_most K q s.me.0 v.me.0 ((1 + 0) + 1) ((0 + n) + 0) 2 n (spends_add K q s.me.0 u.me.0 v.me.0 (1 + 0) (0 + n) 1 0 (spends_add K q s.me.0 t.me.0 u.me.0 1 0 0 n first c.has_counted.ensures.looks) c.end_counted.ensures.looks) (omega arith) (omega arith)

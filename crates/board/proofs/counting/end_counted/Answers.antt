@@ -1,5 +1,6 @@
 use Rattle.std.proofs.Common.{◌≡◌, ◌≢◌, ⊎_elim, true, false, sym, ◌∙◌, true≢false}
 use Rattle.history.proofs.Requests.{bool_cases}
+use Rattle.board.proofs.CountLooks.{spends_own}
 use Rattle.board.proofs.Countings.{counts_missed, counts_now}
 use Rattle.board.proofs.Watching.{watched_look, paid_one}
 use Rattle.board.proofs.counting.end_counted.Goals as goal
@@ -15,4 +16,10 @@ pub returns-clause-steps : goal.returns-clause-steps
 returns-clause-steps c = let e = c.count.ensures in let v = c.args.seat.now.me.0 in let w = c.count.new.seat.me.0 in ⊎_elim
     (λ (y : c.count.result ≡ true). paid_one _ _ v w (e.step y))
     (λ (y : c.count.result ≡ false). let m = e.missed (λ z. true≢false (sym z ∙ y)) in paid_one _ _ v w m.1)
+    (bool_cases c.count.result)
+
+pub returns-clause-looks : goal.returns-clause-looks
+returns-clause-looks c = let e = c.count.ensures in let v = c.args.seat.now.me.0 in let w = c.count.new.seat.me.0 in let a = c.requires.at in let K = c.args.board.now.layout.cells in ⊎_elim
+    (λ (y : c.count.result ≡ true). spends_own K c.args.req c.args.spot.cell c.args.spot.generation _ v w a.inside.0 a.at (e.step y))
+    (λ (y : c.count.result ≡ false). let m = e.missed (λ z. true≢false (sym z ∙ y)) in spends_own K c.args.req c.args.spot.cell c.args.spot.generation m.0 v w a.inside.0 a.at m.1)
     (bool_cases c.count.result)

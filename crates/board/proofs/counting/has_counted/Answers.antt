@@ -4,9 +4,9 @@ use Rattle.steps.specs.Cells.{cells_in}
 use Rattle.work.specs.Board.{IsBoard}
 use Rattle.work.proofs.GridRows.{counts_at}
 use Rattle.board.specs.PollerRows.{Paid}
-use Rattle.board.proofs.Countings.{Tallied, byte_is, tally_all, tally_enough, tally_more, tally_unborn}
+use Rattle.board.proofs.Countings.{Tallied, byte_is, looks_all, tally_all, tally_enough, tally_looks, tally_more, tally_unborn}
 use Rattle.board.proofs.RowLaws.{small_number}
-use Rattle.board.proofs.Watching.{paid_add, paid_most, watched_then}
+use Rattle.board.proofs.Watching.{paid_add, paid_most, paid_one, watched_then}
 use Rattle.board.proofs.counting.has_counted.Goals as goal
 use Rattle.board.proofs.counting.has_counted.Goals.{then-loop-k-test+else-found-count, else-loop-k-test}
 
@@ -27,12 +27,16 @@ returns-in_default-clause-fewer c = λ _. tally_unborn c.args.board.now c.args.s
 
 pub returns-in_default-clause-steps : goal.returns-in_default-clause-steps
 returns-in_default-clause-steps c = let b = c.args.board.now in let q = c.args.req in let r = c.requires in let cells : c.cells_in.result ≡ cells_in b.layout.cells q.ring = c.cells_in.ensures ∙ (λ i. cells_in (c.board.view_is i).layout.cells (c.from.ensures i)) in let s = c.args.seat.now in let t = c.loop-k.seat in let u = c.has_replied.new.seat in let n : ℕ = c.loop-k.k - (q.k + 1) in let low = c.loop-k.invariant.low in let lt = c.loop-k-test.true in
-    paid_most s.me.0 u.me.0 (n + 1) (cells_in b.layout.cells q.ring - 1) (paid_add s.me.0 t.me.0 u.me.0 n 1 (subst (λ (m : ℕ). Paid s.me.0 t.me.0 0 m) (let e : c.loop-k.k - suc q.k ≡ n = omega arith in e) c.loop-k.invariant.paid) c.has_replied.ensures.steps) (omega arith)
+    paid_most s.me.0 u.me.0 (n + 1) (cells_in b.layout.cells q.ring - 1) (paid_add s.me.0 t.me.0 u.me.0 n 1 (subst (λ (m : ℕ). Paid s.me.0 t.me.0 0 m) (let e : c.loop-k.k - suc q.k ≡ n = omega arith in e) c.loop-k.invariant.paid) (paid_one _ _ t.me.0 u.me.0 c.has_replied.ensures.step.5)) (omega arith)
+
+pub returns-in_default-clause-looks : goal.returns-in_default-clause-looks
+returns-in_default-clause-looks c = let b = c.args.board.now in let q = c.args.req in let r = c.requires in let cells : c.cells_in.result ≡ cells_in b.layout.cells q.ring = c.cells_in.ensures ∙ (λ i. cells_in (c.board.view_is i).layout.cells (c.from.ensures i)) in let lt = c.loop-k-test.true in
+    looks_all b c.args.seat.now c.loop-k.seat c.has_replied.new.seat q c.loop-k.k c.loop-k.found c.loop-k.invariant c.has_replied.ensures.watched c.has_replied.ensures.step (let z : c.loop-k.k < q.k + cells_in b.layout.cells q.ring = omega arith in z)
 
 pub loop-k-preserved : goal.loop-k-preserved
 loop-k-preserved c = let b = c.args.board.now in let q = c.args.req in let r = c.requires in let cells : c.cells_in.result ≡ cells_in b.layout.cells q.ring = c.cells_in.ensures ∙ (λ i. cells_in (c.board.view_is i).layout.cells (c.from.ensures i)) in let lt = c.loop-k-test.true in
     subst (λ (m : ℕ). Tallied b c.args.seat.now c.has_replied.new.seat q (c.loop-k.k + 1) (c.loop-k.found + m)) (sym (c.from-found.ensures ∙ byte_is c.in-Some.replied))
-    (tally_more b c.args.seat.now c.loop-k.seat c.has_replied.new.seat q c.loop-k.k c.loop-k.found c.loop-k.invariant c.has_replied.ensures.watched c.in-Some.replied (c.in-Some.ensures.told) c.has_replied.ensures.steps (let z : c.loop-k.k < q.k + cells_in b.layout.cells q.ring = omega arith in z))
+    (tally_more b c.args.seat.now c.loop-k.seat c.has_replied.new.seat q c.loop-k.k c.loop-k.found c.loop-k.invariant c.has_replied.ensures.watched c.in-Some.replied (c.in-Some.ensures.told) c.has_replied.ensures.step (let z : c.loop-k.k < q.k + cells_in b.layout.cells q.ring = omega arith in z))
 
 pub returns-clause-enough : goal.returns-clause-enough
 returns-clause-enough c = λ is. tally_enough c.args.board.now c.args.seat.now c.loop-k.seat c.args.req c.loop-k.k c.loop-k.found c.args.count c.loop-k.invariant (leb-true c.args.count c.loop-k.found is)
@@ -43,3 +47,6 @@ returns-clause-fewer c = λ is. (let b = c.args.board.now in let q = c.args.req 
       | then-loop-k-test+else-found-count w ↦ absurd (let z = w.if-found-count.false in omega arith)
       | else-loop-k-test w ↦ let z = w.loop-k-test.false in omega arith
     ] in tally_all b c.args.seat.now c.loop-k.seat q c.loop-k.k c.loop-k.found c.args.count c.loop-k.invariant over r.held lt)
+
+pub returns-clause-looks : goal.returns-clause-looks
+returns-clause-looks c = tally_looks c.args.board.now c.args.seat.now c.loop-k.seat c.args.req c.loop-k.k c.loop-k.found c.args.count c.loop-k.invariant

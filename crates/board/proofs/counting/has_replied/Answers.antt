@@ -1,13 +1,21 @@
-use Rattle.std.proofs.Common.{sym, ap, subst}
+use Rattle.std.proofs.Common.{◌≡◌, ℕ, List, sym, ap, subst}
 use Rattle.history.specs.declared.req.Req.{Req}
+use Rattle.steps.specs.declared.view.View.{View}
+use Rattle.steps.specs.Cells.{IsCell, request_at, claim_at}
+use Rattle.steps.specs.Rule.{IsStep}
+use Rattle.board.specs.PollerRows.{StepsTo}
 use Rattle.work.specs.Board.{Facts}
 use Rattle.work.specs.Passes.{pass_of}
 use Rattle.board.specs.declared.phase.Phase.{Phase as Standing}
 use Rattle.board.specs.Calls.{Stands}
 use Rattle.board.proofs.Countings.{tells_pending, tells_replied}
 use Rattle.board.proofs.PassFacts.{found_word, spot_of}
-use Rattle.board.proofs.Watching.{paid_one, watched_look}
+use Rattle.board.proofs.Watching.{watched_look}
 use Rattle.board.proofs.counting.has_replied.Goals as goal
+
+-- the step was at the request's cell
+step_to : (K grid : List ℕ) (r : Req) (v w : View) (x g n : ℕ) → grid ≡ K → IsCell grid x → request_at grid x g ≡ r → IsStep (claim_at x) n v w → StepsTo K r v w
+step_to K grid r v w x g n is inside at step = (x, g, n, subst (λ (L : List ℕ). IsCell L x) is inside, subst (λ (L : List ℕ). request_at L x g ≡ r) is at, step)
 
 pub told-requires : goal.told-requires
 told-requires c = let e = c.look-word.ensures in found_word c.args.board.now (pass_of c.args.seat.now) (pass_of c.look-word.new.seat) c.in-Some.spot.cell c.look-word.result c.requires.ours.ours e.seat.0.0 e.looks e.shown
@@ -18,7 +26,7 @@ returns-in-Unborn c = let b = c.args.board.now in let s = c.args.seat.now in let
     let stands : Stands t.me.0.seen c.args.req c.told.result = subst (λ (r : Req). Stands t.me.0.seen r c.told.result) at (c.told.ensures.stands s.me.0.layout.cells t.me.0.seen x.cell e.shown) in record {
       watched = watched_look b s t c.requires.ours e.seat e.looks;
       told = subst (λ (z : Standing). Stands t.me.0.seen c.args.req z) c.in-Unborn.is stands;
-      steps = paid_one _ _ s.me.0 t.me.0 e.step;
+      step = step_to c.args.board.now.layout.cells c.board.inside.grid c.args.req s.me.0 t.me.0 x.cell x.generation c.look-word.result (ap (λ (z : Facts). z.layout.cells) c.board.view_is) c.in-Some.ensures.some.0 c.in-Some.ensures.some.1 e.step;
     }
 
 pub returns-in-Done : goal.returns-in-Done
@@ -27,7 +35,7 @@ returns-in-Done c = let b = c.args.board.now in let s = c.args.seat.now in let t
     let stands : Stands t.me.0.seen c.args.req c.told.result = subst (λ (r : Req). Stands t.me.0.seen r c.told.result) at (c.told.ensures.stands s.me.0.layout.cells t.me.0.seen x.cell e.shown) in let w = watched_look b s t c.requires.ours e.seat e.looks in record {
       watched = w;
       told = tells_replied b t c.args.req w.goes.kept c.told.result stands c.in-Done.is;
-      steps = paid_one _ _ s.me.0 t.me.0 e.step;
+      step = step_to c.args.board.now.layout.cells c.board.inside.grid c.args.req s.me.0 t.me.0 x.cell x.generation c.look-word.result (ap (λ (z : Facts). z.layout.cells) c.board.view_is) c.in-Some.ensures.some.0 c.in-Some.ensures.some.1 e.step;
     }
 
 pub returns-in_default-told : goal.returns-in_default-told
@@ -36,5 +44,5 @@ returns-in_default-told c = let b = c.args.board.now in let s = c.args.seat.now 
     let stands : Stands t.me.0.seen c.args.req c.told.result = subst (λ (r : Req). Stands t.me.0.seen r c.told.result) at (c.told.ensures.stands s.me.0.layout.cells t.me.0.seen x.cell e.shown) in let w = watched_look b s t c.requires.ours e.seat e.looks in record {
       watched = w;
       told = tells_pending b t c.args.req w.goes.kept c.told.result stands c.in_default-told.not-Unborn c.in_default-told.not-Done c.in_default-told.not-Gone;
-      steps = paid_one _ _ s.me.0 t.me.0 e.step;
+      step = step_to c.args.board.now.layout.cells c.board.inside.grid c.args.req s.me.0 t.me.0 x.cell x.generation c.look-word.result (ap (λ (z : Facts). z.layout.cells) c.board.view_is) c.in-Some.ensures.some.0 c.in-Some.ensures.some.1 e.step;
     }

@@ -28,7 +28,7 @@ split_seat-cut-requires c =
     let key : c.in_ok-table.table.shared.key ≡ c.args.rings = t.5 ∙ c.from-3.ensures in
     let rings : c.loop-ring.seat.me.0.rings ≡ c.loop-ring.ring = ap (λ (u : View). u.rings) v in
     let room : c.loop-ring.ring < c.args.rings = c.loop-ring-test.true in
-    (i.0 ∙ t.2, omega arith, cuts_ringer _ c.loop-ring.seat.id c.loop-ring.seat.me.0 (ap (λ (u : View). u.role) v) (omega arith) (ap (λ (u : View). u.armed) v))
+    (i.0 ∙ t.2, omega arith, cuts_ringer _ c.loop-ring.seat.id c.loop-ring.seat.me.0 (ap (λ (u : View). u.role) v) (omega arith) (ap (λ (u : View). u.armed) v) (ap (λ (u : View). u.wakes) v))
 
 -- a ringer more
 ringers_pushed : (table : TableId) (old new : List Ringing) (x : Ringing) (n : ℕ) → length old ≡ n → new ≡ old ++ x ∷ [] → x ≡ new_ringing table n → ((r : ℕ) → r < n → get_elem? old r ≡ some (new_ringing table r)) → (length new ≡ n + 1) × ((r : ℕ) → r < n + 1 → get_elem? new r ≡ some (new_ringing table r))
@@ -46,7 +46,8 @@ loop-ring-preserved c =
     let w : c.split_seat-cut.result.me.0 ≡ new_ringer c.loop-ring.seat.me.0 = ap (λ m. m.0) s.4 in
     let tail : c.split_seat-cut.result.me.0.tail ≡ 0 = ap (λ (u : View). u.tail) w in
     let found : c.split_seat-cut.result.me.0.found ≡ [] = ap (λ (u : View). u.found) w in
+    let wakes : c.split_seat-cut.result.me.0.wakes ≡ [] = ap (λ (u : View). u.wakes) w in
     let table : c.split_seat-cut.result.table_id ≡ c.in_ok-table.seat.table_id = s.3 ∙ i.0 in
-    let one : c.new.result ≡ new_ringing c.in_ok-table.seat.table_id c.loop-ring.ring = c.new.ensures ∙ (let e : (record { table = c.split_seat-cut.result.table_id; ring = c.loop-ring.ring; tail = c.split_seat-cut.result.me.0.tail; found = c.split_seat-cut.result.me.0.found }) ≡ new_ringing c.in_ok-table.seat.table_id c.loop-ring.ring = (λ k. record { table = table k; ring = c.loop-ring.ring; tail = tail k; found = found k }) in e) in
+    let one : c.new.result ≡ new_ringing c.in_ok-table.seat.table_id c.loop-ring.ring = c.new.ensures ∙ (let e : (record { table = c.split_seat-cut.result.table_id; ring = c.loop-ring.ring; tail = c.split_seat-cut.result.me.0.tail; found = c.split_seat-cut.result.me.0.found; wakes = c.split_seat-cut.result.me.0.wakes }) ≡ new_ringing c.in_ok-table.seat.table_id c.loop-ring.ring = (λ k. record { table = table k; ring = c.loop-ring.ring; tail = tail k; found = found k; wakes = wakes k }) in e) in
     let all = ringers_pushed c.in_ok-table.seat.table_id c.loop-ring.ringers.items c.push.new.self.items c.new.result c.loop-ring.ring i.2 c.in_ok-push.ensures.items one i.3 in
     (s.0 ∙ i.0, ap (λ m. m.0) s.2 ∙ ap with_ringer i.1, all.0, all.1)
