@@ -55,8 +55,8 @@ fn begin<R: Threads + Wait + Copy + Send + 'static>(
     rt: R,
     alloc: Global,
 ) -> Result<(Runtime<Ticking>, Client, Client)>
-    ensures zero { IfOk result (λ t. t.1.board ≡ t.0) }
-    ensures one { IfOk result (λ t. t.2.board ≡ t.0) }
+    ensures zero { IfOk result (λ t. t.1.board ≡ t.0.board) }
+    ensures one { IfOk result (λ t. t.2.board ≡ t.0.board) }
 {
     let shape = shape_of(alloc)?;
     let (runtime, mut clients) = start(rt, alloc, &shape, 64, Open, Ticking)?;
@@ -139,8 +139,8 @@ fn end<R: Threads + Wait>(
     zero: Client,
     one: Client,
 ) -> Result<usize>
-    requires zero { zero.board ≡ runtime }
-    requires one { one.board ≡ runtime }
+    requires zero { zero.board ≡ runtime.board }
+    requires one { one.board ≡ runtime.board }
 {
     let mut clients = Vec::new(alloc);
     clients.push(zero)?;

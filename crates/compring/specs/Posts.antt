@@ -4,8 +4,9 @@ use Rattle.history.specs.declared.req.Req.{Req}
 use Rattle.compring.specs.declared.ring.Place.{Place}
 use Rattle.compring.specs.declared.ring.Place.TheVariants.{Ring, Overflow}
 
--- the size of the ring, how many posts were taken, modulo 2^64, what waits in the ring and what waits in the overflow (io_uring(7), IORING_FEAT_NODROP)
+-- the number of the ring whose posts these are, the size of the ring, how many posts were taken, modulo 2^64, what waits in the ring and what waits in the overflow (io_uring(7), IORING_FEAT_NODROP)
 pub record Posts : Type 0 where
+  pub owner : ℕ
   pub size : ℕ
   pub taken : ℕ
   pub ring : List Req
@@ -28,9 +29,9 @@ pub record StandsFor (posts : List Req) (taken : ℕ) (p : Posts) : Type 0 where
   pub some : taken ≤ length posts
   pub number : p.taken ≡ taken % 18446744073709551616
 
--- a new ring
-abbrev pub new_posts : ℕ → Posts
-new_posts size = record { size = size; taken = 0; ring = []; overflow = [] }
+-- a new completion ring of this ring
+abbrev pub new_posts : ℕ → ℕ → Posts
+new_posts owner size = record { owner = owner; size = size; taken = 0; ring = []; overflow = [] }
 
 -- where the next post goes
 abbrev pub place_in : Posts → Place

@@ -19,9 +19,11 @@ pub enum Place {
     Overflow,
 }
 
-/// Posts in their order. Contracts see what waits in the ring and in its overflow, and the number of the next to be taken.
+/// Posts in their order. Contracts see whose they are, what waits in the ring and in its overflow, and the number of the next to be
+/// taken.
 #[derive(Drop)]
 pub struct CompletionRing {
+    owner: u16,
     size: usize,
     taken: u64,
     ring: VecDeque<Req>,
@@ -35,16 +37,25 @@ impl Model for CompletionRing {
 
     ghost Value = { Posts };
 
-    ghost view = { λ c. record { size = c.size; taken = c.taken; ring = c.ring.items; overflow = c.overflow.items } };
+    ghost view = { λ c. record { owner = c.owner; size = c.size; taken = c.taken; ring = c.ring.items; overflow = c.overflow.items } };
 
-    ghost invariant = { λ c. IsKept (record { size = c.size; taken = c.taken; ring = c.ring.items; overflow = c.overflow.items }) × (c.size ≤ deque_capacity c.ring) };
+    ghost invariant = { λ c. IsKept (record { owner = c.owner; size = c.size; taken = c.taken; ring = c.ring.items; overflow = c.overflow.items }) × (c.size ≤ deque_capacity c.ring) };
 }
 
 impl CompletionRing {
-    /// An empty ring for `size` posts. Its room is made here, once.
+    /// An empty ring for `size` posts of ring 0. Its room is made here, once.
     pub fn new(alloc: Global, size: u32) -> Result<CompletionRing, PostError>
         ensures bad_size { IsErrOf result PostError.BadSize ↔ ((size ≡ 0) ⊎ (2048 < size)) }
-        ensures empty { IfOk result (λ c. c ≡ new_posts size) }
+        ensures empty { IfOk result (λ c. c ≡ new_posts 0 size) }
+        ensures stands { IfOk result (λ c. StandsFor [] 0 c) }
+    {
+        CompletionRing::for_ring(alloc, size, 0)
+    }
+
+    /// An empty ring for `size` posts of the ring with the number `owner`. Its room is made here, once.
+    pub fn for_ring(alloc: Global, size: u32, owner: u16) -> Result<CompletionRing, PostError>
+        ensures bad_size { IsErrOf result PostError.BadSize ↔ ((size ≡ 0) ⊎ (2048 < size)) }
+        ensures empty { IfOk result (λ c. c ≡ new_posts owner size) }
         ensures stands { IfOk result (λ c. StandsFor [] 0 c) }
     {
         if size == 0 || size > POSTS {
@@ -53,11 +64,19 @@ impl CompletionRing {
         let size = size as usize;
         let ring = VecDeque::with_capacity(alloc, size)?;
         Ok(CompletionRing {
+            owner,
             size,
             taken: 0,
             ring,
             overflow: VecDeque::new(alloc),
         })
+    }
+
+    /// The number of the ring whose requests are posted here.
+    pub fn owner(&self) -> u16
+        ensures { result ≡ self.now.owner }
+    {
+        self.owner
     }
 
     /// Posts a request after all that wait: into the ring where that has room, else into the overflow. `Memory` comes only
@@ -66,6 +85,7 @@ impl CompletionRing {
         ensures place { IfOk result (λ place. place ≡ place_in self.old) }
         ensures posted { OnOk result (waiting self.new ≡ waiting self.old ++ req ∷ []) }
         ensures stands { OnOk result ((posts : List Req) (taken : ℕ) → StandsFor posts taken self.old → StandsFor (posts ++ req ∷ []) taken self.new) }
+        ensures owner { self.new.owner ≡ self.old.owner }
         ensures size { self.new.size ≡ self.old.size }
         ensures taken { self.new.taken ≡ self.old.taken }
         ensures memory { OnErr result ((length self.old.ring ≡ self.old.size) × IsErrOf result PostError.Memory) }
@@ -87,6 +107,7 @@ impl CompletionRing {
         ensures oldest { MatchOption result (waiting self.old ≡ []) (λ post. waiting self.old ≡ post.1 ∷ waiting self.new) }
         ensures number { MatchOption result (self.new ≡ self.old) (λ post. (post.0 ≡ self.old.taken) × (self.new.taken ≡ (self.old.taken + 1) % 2 ^ 64)) }
         ensures stands { (posts : List Req) (taken : ℕ) → StandsFor posts taken self.old → MatchOption result (length posts ≡ taken) (λ post. (slice_get posts taken ≡ Some post.1) × (post.0 ≡ taken % 2 ^ 64) × StandsFor posts (taken + 1) self.new) }
+        ensures owner { self.new.owner ≡ self.old.owner }
         ensures size { self.new.size ≡ self.old.size }
     {
         let req = self.ring.pop_front()?;

@@ -32,6 +32,13 @@ fn five_posts_come_out_in_order(rt: HostRuntime) -> Result<(), Fail> {
 }
 
 #[test]
+fn each_ring_has_its_own(rt: HostRuntime) -> Result<(), Fail> {
+    assert_eq!(rt; CompletionRing::new(rt.alloc(), 4)?.owner(), 0);
+    assert_eq!(rt; CompletionRing::for_ring(rt.alloc(), 4, 15)?.owner(), 15);
+    Ok(())
+}
+
+#[test]
 fn sizes_are_one_to_2048(rt: HostRuntime) -> Result<(), Fail> {
     assert!(rt; matches!(CompletionRing::new(rt.alloc(), 0), Err(PostError::BadSize)));
     assert!(rt;

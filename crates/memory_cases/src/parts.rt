@@ -1,5 +1,5 @@
 //! Pipes, rows, bells, outboxes, completion rings and timers.
-ghost use Rattle.std.specs.Prelude.{◌<◌, length};
+ghost use Rattle.std.specs.Prelude.{◌≡◌, ◌<◌, length, slice_get, IfSome};
 
 use crate::told::{Went, again, made, mark, tell};
 use anyhow::Result;
@@ -12,7 +12,9 @@ use pipe::{Pipe, PipeError, Ready};
 use std::alloc::Global;
 use wheel::{TimerSet, Timers};
 
-fn req(k: u64) -> Req {
+fn req(k: u64) -> Req
+    ensures { result ≡ record { ring = 0; k = k } }
+{
     Req { ring: 0, k }
 }
 
@@ -111,7 +113,8 @@ fn ring_post<R: Print>(rt: &R, alloc: Global) -> Result<()> {
 
 /// Delivers the first request of an outbox. Want of memory changes nothing.
 fn deliver_one(alloc: Global, outbox: &mut Outbox, ring: &mut CompletionRing) -> Result<Went>
-    requires { 0 < length outbox.old.answered }
+    requires some { 0 < length outbox.old.answered }
+    requires own { IfSome (slice_get outbox.old.answered 0) (λ r. r.ring ≡ ring.old.owner) }
 {
     mark(alloc);
     let first = deliver(outbox, ring);

@@ -22,7 +22,7 @@ fn started<R: Threads + Wait + Copy + Send + 'static>(
     alloc: Global,
     shape: &Shape,
 ) -> Result<(Runtime<NoClock>, Vec<Client>, Went)>
-    ensures { IfOk result (λ t. AreClients t.0 t.1.items) }
+    ensures { IfOk result (λ t. AreClients t.0.board t.1.items) }
 {
     mark(alloc);
     let first = start(rt, alloc, shape, IDLE, Open, NoClock);
@@ -39,8 +39,8 @@ fn started<R: Threads + Wait + Copy + Send + 'static>(
 
 /// Submits a READ that nothing answers, by the client of ring 0.
 fn submit(alloc: Global, runtime: &Runtime<NoClock>, clients: &mut Vec<Client>) -> Result<()>
-    requires { AreClients runtime.now clients.old.items }
-    ensures { AreClients runtime.now clients.new.items }
+    requires { AreClients runtime.now.board clients.old.items }
+    ensures { AreClients runtime.now.board clients.new.items }
 {
     let _ = runtime;
     let mut batch = Vec::new(alloc);
@@ -58,7 +58,7 @@ fn joined<R: Threads + Wait>(
     runtime: Runtime<NoClock>,
     clients: Vec<Client>,
 ) -> Result<(Report, Went)>
-    requires { AreClients runtime clients.items }
+    requires { AreClients runtime.board clients.items }
 {
     mark(alloc);
     let first = join_all(rt, alloc, runtime, clients);

@@ -71,9 +71,9 @@ impl Model for Crew {
 
     ghost Value = { Facts };
 
-    ghost view = { λ c. c.runtime };
+    ghost view = { λ c. c.runtime.board };
 
-    ghost invariant = { λ c. (c.zero.client.board ≡ c.runtime) × (c.one.client.board ≡ c.runtime) };
+    ghost invariant = { λ c. (c.zero.client.board ≡ c.runtime.board) × (c.one.client.board ≡ c.runtime.board) };
 }
 
 /// What became of all requests: what each client goes by, and a fault, if one came, with the request at which it was noticed.

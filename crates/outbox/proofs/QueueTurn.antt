@@ -36,6 +36,7 @@ pub posted_more : (rs : List Req) (r : Req) (p q s : Posts) → HasPosted rs p q
 posted_more rs r p q s a b = record {
   waits = b.waits ∙ ap (λ (z : List Req). z ++ r ∷ []) a.waits ∙ append_assoc (waiting p) rs (r ∷ []);
   stands = λ posts taken was. subst (λ (z : List Req). StandsFor z taken s) (append_assoc posts rs (r ∷ [])) (b.stands (posts ++ rs) taken (a.stands posts taken was));
+  owner = b.owner ∙ a.owner;
   size = b.size ∙ a.size;
   taken = b.taken ∙ a.taken;
 }

@@ -25,6 +25,7 @@ pub record IsOutbox (places : ℕ) (answered : List Req) (capacity : ℕ) : Type
 pub record HasPosted (rs : List Req) (p q : Posts) : Type 0 where
   pub waits : waiting q ≡ waiting p ++ rs
   pub stands : (posts : List Req) (taken : ℕ) → StandsFor posts taken p → StandsFor (posts ++ rs) taken q
+  pub owner : q.owner ≡ p.owner
   pub size : q.size ≡ p.size
   pub taken : q.taken ≡ p.taken
 

@@ -1,5 +1,5 @@
 //! Answered requests are posted to their completion rings.
-ghost use Rattle.std.specs.Prelude.{◌≡◌, ◌<◌, ℕ, length, take, drop, IfOk, OnOk, OnErr};
+ghost use Rattle.std.specs.Prelude.{◌≡◌, ◌<◌, ℕ, length, take, drop, slice_get, IfOk, IfSome, OnOk, OnErr};
 ghost use Rattle.compring.specs.Posts.{place_in};
 ghost use Rattle.outbox.specs.Outbox.{HasPosted, Delivers, of_ring, others};
 
@@ -7,10 +7,11 @@ use crate::error::Memory;
 use crate::requests::Outbox;
 use compring::{CompletionRing, Place};
 
-/// Posts the oldest request, and takes it out. The ring is that of the request that `first` tells, under its lock. `Memory`
-/// comes only where the ring is full, and changes nothing.
+/// Posts the oldest request, and takes it out. The completion ring is that of the request's own ring, which `first` tells. `Memory`
+/// comes only where it is full, and changes nothing.
 pub fn deliver(outbox: &mut Outbox, ring: &mut CompletionRing) -> Result<Place, Memory>
     requires some { 0 < length outbox.old.answered }
+    requires own { IfSome (slice_get outbox.old.answered 0) (λ r. r.ring ≡ ring.old.owner) }
     ensures place { IfOk result (λ place. place ≡ place_in ring.old) }
     ensures posted { OnOk result (HasPosted (take 1 outbox.old.answered) ring.old ring.new) }
     ensures rest { OnOk result (outbox.new ≡ record outbox.old { answered = drop 1 outbox.old.answered }) }
@@ -27,10 +28,11 @@ pub fn deliver(outbox: &mut Outbox, ring: &mut CompletionRing) -> Result<Place, 
     Ok(place)
 }
 
-/// Posts all requests of the ring with the number `of`, in order, and takes them out, so that its lock is taken once for all
-/// of them. The others stay, in order. `Memory` comes only where the ring is full: then those before the one that found no
-/// room were posted, and everything else stays.
+/// Posts all requests of the ring with the number `of` to the completion ring of that ring, in order, and takes them out, so that
+/// its lock is taken once for all of them. The others stay, in order. `Memory` comes only where it is full: then those before the
+/// one that found no room were posted, and everything else stays.
 pub fn deliver_all(outbox: &mut Outbox, of: u16, ring: &mut CompletionRing) -> Result<(), Memory>
+    requires own { ring.old.owner ≡ of }
     ensures posted { OnOk result (HasPosted (of_ring of outbox.old.answered) ring.old ring.new) }
     ensures rest { OnOk result (outbox.new ≡ record outbox.old { answered = others of outbox.old.answered }) }
     ensures memory { OnErr result ((i : ℕ) × (i < length outbox.old.answered) × Delivers of i outbox.old outbox.new ring.old ring.new) }

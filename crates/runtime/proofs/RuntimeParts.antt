@@ -1,11 +1,17 @@
 -- Passes and clients of a runtime, as they are taken out of their lists and put into them.
-use Rattle.std.proofs.Common.{◌≡◌, ℕ, zero, suc, ◌+◌, ◌<◌, List, [], ◌∷◌, ◌++◌, All, length, map, reverse, slice_get, get_or, drop, None, sym, refl, ap, ◌∙◌, subst, arith}
+use Rattle.std.proofs.Common.{◌≡◌, ℕ, zero, suc, ◌+◌, ◌<◌, List, [], ◌∷◌, ◌++◌, ◌⊎◌, All, length, map, reverse, slice_get, get_or, drop, None, Some, sym, refl, ap, ◌∙◌, subst, arith}
 use mathlib.Core.Option.{some}
 use lib.ListN.{get_elem?}
 use Rattle.std.proofs.lemmas.List.{append_assoc, map-append, reverse-append}
 use Rattle.std.proofs.lemmas.List.{length-map}
 use Rattle.std.proofs.lemmas.Option.{none-some}
+use Rattle.history.specs.declared.req.Req.{Req}
+use Rattle.history.specs.History.{submits}
 use Rattle.work.specs.Board.{Facts}
+use Rattle.work.specs.Passes.{seen_of}
+use Rattle.board.specs.declared.completion.Completion.{Completion}
+use Rattle.board.specs.declared.error.ReapError.{ReapError}
+use Rattle.board.specs.Refusals.{RefusesReap}
 use Rattle.steps.specs.declared.view.Role.{Role}
 use Rattle.steps.specs.declared.view.Role.TheVariants.{Submitter}
 use Rattle.board.specs.declared.shape.RingShape.{RingShape}
@@ -13,7 +19,8 @@ use Rattle.board.specs.ShapeLimits.{counts}
 use Rattle.board.proofs.TakenCells.{some_get}
 use Rattle.bell.specs.BellPasses.{Facts as Bell, IsNew, IsRingerOf, Ringing, Sleeping, new_ringing}
 use Rattle.runtime.specs.StartParts.{AreRingers, IsNewRinger}
-use Rattle.runtime.specs.Clients.{ClientFacts, AreClients, AreNewClients, IsNewClient, submitter_of, without_tail}
+use Rattle.runtime.specs.Clients.{ClientFacts, AreClients, AreNewClients, HasTaken, IsNewClient, submitter_of, without_tail}
+use Rattle.runtime.specs.Turns.{kept_in}
 
 -- a list without a first element
 pub none_first : {X : Type 0} (xs : List X) → slice_get xs 0 ≡ None → xs ≡ []
@@ -26,7 +33,7 @@ ringers_from b n [] each count = tt
 ringers_from b n (r ∷ rs) each count =
     let first : r ≡ new_ringing b.table (n + 0) = some_get (r ∷ rs) 0 (new_ringing b.table (n + 0)) r (each 0 (omega arith)) in
     let next : (k : ℕ) → k < length rs → get_elem? rs k ≡ some (new_ringing b.table (suc n + k)) = λ k lt. subst (λ (m : ℕ). get_elem? rs k ≡ some (new_ringing b.table m)) (omega arith) (each (suc k) (omega (arith, lt))) in
-    (subst (λ (x : Ringing). IsNewRinger b n x) (sym first) ((refl, omega (arith, count)), omega arith, refl), ringers_from b (suc n) rs next (omega (arith, count)))
+    (subst (λ (x : Ringing). IsNewRinger b n x) (sym first) ((refl, omega (arith, count)), omega arith, (refl, refl)), ringers_from b (suc n) rs next (omega (arith, count)))
 
 pub new_ringers : (rings : ℕ) (b : Bell) (rs : List Ringing) (s : Sleeping) → IsNew rings b rs s → AreRingers b 0 rs
 new_ringers rings b rs s new =
@@ -94,3 +101,41 @@ submitters_alone (c ∷ cs) = ap (λ ps. c.submitter ∷ ps) (submitters_alone c
 
 pub same_submitters : (xs ys : List ClientFacts) → map without_tail ys ≡ map without_tail xs → map submitter_of ys ≡ map submitter_of xs
 same_submitters xs ys e = sym (submitters_alone ys) ∙ (ap (λ cs. map submitter_of cs) e ∙ submitters_alone xs)
+
+-- a take that found no post, one that gave a completion, and one whose request could not be reaped
+pub took_none : (old new : ClientFacts) (found : List Req) → (old.posts ≡ []) ⊎ (found ≡ []) → old.posts ++ found ≡ new.posts → new.posts ≡ [] → HasTaken old new None
+took_none old new found only rest none = record {
+  found = found;
+  only = only;
+  first = None;
+  rest = rest;
+  none = λ e. none;
+  gives = λ x e. absurd (none-some x e);
+  refused = λ e r s. absurd (none-some r s);
+}
+
+some_is : {X : Type 0} (x y : X) → Some x ≡ Some y → x ≡ y
+some_is x y e = cc
+
+pub took_one : (old new : ClientFacts) (found : List Req) (r : Req) (x : Completion) → (old.posts ≡ []) ⊎ (found ≡ []) → old.posts ++ found ≡ r ∷ new.posts → x.req ≡ r → HasTaken old new (Some x)
+took_one old new found r x only rest is = record {
+  found = found;
+  only = only;
+  first = Some r;
+  rest = rest;
+  none = λ e. absurd (none-some r (sym e));
+  gives = λ y e. ap Some (sym is ∙ ap (λ (z : Completion). z.req) (some_is x y e));
+  refused = λ e s t. absurd (none-some x (sym e));
+}
+
+pub took_refused : (old new : ClientFacts) (found : List Req) (r : Req) (e : ReapError) → (old.posts ≡ []) ⊎ (found ≡ []) → old.posts ++ found ≡ r ∷ new.posts
+    → RefusesReap old.board.layout.cells r old.ring (submits (seen_of old.submitter) old.ring) old.submitter new.submitter e → HasTaken old new None
+took_refused old new found r e only rest why = record {
+  found = found;
+  only = only;
+  first = Some r;
+  rest = rest;
+  none = λ s. absurd (none-some r (sym s));
+  gives = λ x s. absurd (none-some x s);
+  refused = λ s t is. (e, subst (λ (z : Req). RefusesReap old.board.layout.cells z old.ring (submits (seen_of old.submitter) old.ring) old.submitter new.submitter e) (some_is r t is) why);
+}

@@ -6,7 +6,7 @@ use Rattle.std.proofs.Common.{Option, Some, None, ◌≤◌, length}
 use Rattle.history.specs.declared.req.Req.{Req}
 use Rattle.ready.specs.Ready.{Moves}
 use Rattle.runtime.specs.Turns.{HandedOver, kept_in}
-use Rattle.runtime.specs.WorkTurns.{Desk, Shifts}
+use Rattle.runtime.specs.WorkTurns.{Desk, PutsBack, Shifts}
 
 puts_then : (x y z : Moves) (ps ts qs us : List Req) → y ≡ record x { put = x.put ++ ps; taken = x.taken ++ ts } → z ≡ record y { put = y.put ++ qs; taken = y.taken ++ us } → z ≡ record x { put = x.put ++ (ps ++ qs); taken = x.taken ++ (ts ++ us) }
 puts_then x y z ps ts qs us a b = b ∙ (ap (λ (w : Moves). record w { put = w.put ++ qs; taken = w.taken ++ us }) a ∙ (λ i. record x { put = append_assoc x.put ps qs i; taken = append_assoc x.taken ts us i }))
@@ -94,3 +94,25 @@ spares p k o r some = shifts_out _ _ r refl (ap (λ (z : Option Req). kept_in k 
 -- a number that was given and given out again
 pub shifts_back : (d e : Desk) (r : Req) → Shifts d (r ∷ []) (r ∷ []) e → Shifts d [] [] e
 shifts_back d e r x = record { puts = x.puts; takes = x.takes; ready = x.ready; numbers = λ h. let a = x.numbers h in omega (arith, a, sum_by-cons h r []) }
+
+puts_twice : (x y z : Moves) (ps qs : List Req) → y ≡ record x { put = x.put ++ ps } → z ≡ record y { put = y.put ++ qs } → z ≡ record x { put = x.put ++ (ps ++ qs) }
+puts_twice x y z ps qs a b = b ∙ (ap (λ (w : Moves). record w { put = w.put ++ qs }) a ∙ ap (λ (l : List Req). record x { put = l }) (append_assoc x.put ps qs))
+
+-- numbers were put back, and then more of them
+pub put_twice : (d e f : Desk) → PutsBack d e → PutsBack e f → PutsBack d f
+put_twice d e f x y = record {
+  puts = x.puts ++ y.puts;
+  ready = puts_twice d.ready e.ready f.ready x.puts y.puts x.ready y.ready;
+  numbers = λ h. let a = x.numbers h in let b = y.numbers h in omega (arith, a, b, sum_by-append h x.puts y.puts);
+}
+
+-- both numbers were tried
+pub both_back : (p q r : Moves) (k l o m : Option Req) → HandedOver p (kept_in k) q (kept_in l) → HandedOver q (kept_in o) r (kept_in m) → PutsBack (record { ready = p; kept = kept_in k ++ kept_in o }) (record { ready = r; kept = kept_in l ++ kept_in m })
+both_back p q r k l o m x y = record {
+  puts = x.0 ++ y.0;
+  ready = puts_twice p q r x.0 y.0 x.1 y.1;
+  numbers = λ h.
+      let e : sum_by h (kept_in k) ≡ sum_by h (x.0 ++ kept_in l) = ap (sum_by h) x.2 in
+      let f : sum_by h (kept_in o) ≡ sum_by h (y.0 ++ kept_in m) = ap (sum_by h) y.2 in
+      omega (arith, e, f, sum_by-append h (kept_in k) (kept_in o), sum_by-append h (kept_in l) (kept_in m), sum_by-append h x.0 y.0, sum_by-append h x.0 (kept_in l), sum_by-append h y.0 (kept_in m));
+}

@@ -2,7 +2,7 @@
 use Rattle.std.specs.Prelude.{◌≡◌, ℕ, ◌+◌, ◌<◌, ◌≤◌, List, [], All, length, sum_by}
 use Rattle.history.specs.declared.event.Event.{Event}
 use Rattle.std.specs.Arc.{arc_value}
-use Rattle.work.specs.Board.{IsOf}
+use Rattle.work.specs.Board.{Facts, IsOf}
 use Rattle.work.specs.Passes.{Pass, seen_of}
 use Rattle.ready.specs.Ready.{Moves, IsOf as IsOfQueue}
 use Rattle.ready.specs.Rule.{all_shares}
@@ -11,6 +11,16 @@ use Rattle.runtime.specs.declared.shared.Shared.{Shared}
 use Rattle.runtime.specs.declared.started.PollThread.{PollThread}
 use Rattle.runtime.specs.declared.started.PollThread.TheVariants.{Runs, Ended}
 use Rattle.runtime.specs.declared.started.WorkThread.{WorkThread}
+
+-- a runtime: its board, and how many of its threads were not waited for yet
+pub record RuntimeFacts : Type 0 where
+  pub board : Facts
+  pub threads : ℕ
+
+-- whether the poller's thread was not waited for yet
+abbrev pub running_in : {C : Type 0} → PollThread C → ℕ
+running_in (Runs thread) = 1
+running_in (Ended poller ready clock) = 0
 
 -- the poller's passes, or those that its thread brings back, are of this board and queue, and the clock goes along with what it has seen
 abbrev pub IsPollThread : {C : Type 0} → (C → List Event → Type 0) → Shared → PollThread C → Type 0

@@ -7,3 +7,4 @@ pub mod Loops
 pub mod Crews
 pub mod StartParts
 pub mod Backlogs
+pub mod PostLocks

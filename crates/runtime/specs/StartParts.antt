@@ -9,7 +9,7 @@ use Rattle.runtime.specs.declared.startup.Parts.{Parts}
 
 -- the ringer of this bell and of the ring n, which has told no tail
 abbrev pub IsNewRinger : Bell → ℕ → Ringing → Type 0
-IsNewRinger b n r = IsRingerOf b r × (r.ring ≡ n) × (r.tail ≡ 0)
+IsNewRinger b n r = IsRingerOf b r × (r.ring ≡ n) × ((r.tail ≡ 0) × (r.found ≡ []))
 
 -- the ringers of the rings from the n-th on
 abbrev pub AreRingers : Bell → ℕ → List Ringing → Type 0
@@ -27,4 +27,4 @@ pub record IsParts (s : Shape) (p : Parts) : Type 0 where
   pub passes : All (λ q. IsOfQueue p.shared.queue q) p.workers.passes.items
   pub count : length p.workers.passes.items ≡ length p.workers.workers.items
   pub shares : p.poller.ready.share + sum_by (λ q. q.share) p.workers.passes.items ≡ all_shares
-  pub posts : length p.shared.posts.items ≡ length s.rings.items
+  pub posts : p.shared.posts ≡ length s.rings.items

@@ -66,3 +66,13 @@ pub record IsWorkTurn (b : Facts) (old new : Desk) (p q : Pass) (before after : 
   pub serves : Serves b p q answered gone
   pub outbox : after ≡ record before { answered = before.answered ++ answered }
   pub numbers : Shifts old [] gone new
+
+-- the desk put some of the numbers that it had kept into the ready queue, and keeps the others. It took none from there
+pub record PutsBack (old new : Desk) : Type 0 where
+  pub puts : List Req
+  pub ready : new.ready ≡ record old.ready { put = old.ready.put ++ puts }
+  pub numbers : (h : Req → ℕ) → sum_by h old.kept ≡ sum_by h puts + sum_by h new.kept
+
+-- a turn that found no number: none was taken from the ready queue, and each that was kept before is in the queue
+abbrev pub FoundNone : Desk → Desk → Type 0
+FoundNone old new = PutsBack old new × (new.kept ≡ [])

@@ -1,5 +1,5 @@
 //! The client of one ring.
-ghost use Rattle.std.specs.Prelude.{◌≡◌, ◌⊎◌, ◌+◌, ◌<◌, ◌≤◌, ℕ, [], ◌∷◌, ◌++◌, length, IfOk, IfErr, IfSome, MatchOption};
+ghost use Rattle.std.specs.Prelude.{◌≡◌, ◌+◌, ◌<◌, ◌≤◌, ℕ, suc, [], ◌∷◌, length, IfOk, IfErr, IfSome, MatchOption};
 ghost use Rattle.std.specs.Arc.{arc_value};
 ghost use Rattle.history.specs.declared.event.Event.TheVariants.{Reap};
 ghost use Rattle.history.specs.History.{phase, submits};
@@ -9,72 +9,38 @@ ghost use Rattle.steps.specs.Fairness.{IsFree, IsReaped};
 ghost use Rattle.work.specs.Board.{IsOf};
 ghost use Rattle.work.specs.Passes.{seen_of, Took};
 ghost use Rattle.bell.specs.BellPasses.{IsRingerOf};
-ghost use Rattle.compring.specs.Posts.{waiting};
 ghost use Rattle.board.specs.Batches.{steps_in, submits_of};
 ghost use Rattle.board.specs.Calls.{Goes, Finds, next_of};
 ghost use Rattle.board.specs.Headline.{IsCompletion, HasOnce};
 ghost use Rattle.board.specs.Lanes.{nth, LinkedAreReaped};
 ghost use Rattle.board.specs.Refusals.{RefusesBatch};
-ghost use Rattle.runtime.specs.Clients.{without_tail};
+ghost use Rattle.runtime.specs.Clients.{HasTaken, HasTold, without_tail};
 
+use crate::held::Held;
 use crate::releasing::END;
 use crate::shared::Shared;
-use crate::shelf::Shelf;
 use bell::Ringer;
 use board::{Completion, Phase, SubmitError, Submitter};
-use compring::CompletionRing;
 use entry::Sqe;
 use history::Req;
 use std::marker::Model;
-use std::sync::{Arc, Mutex, Wait};
-
-/// How many posts a client takes at once, at most.
-pub(crate) const MOST_TAKEN: usize = 64;
-
-/// Takes posts out of the completion ring, the oldest first, as long as there is one, and a place for it.
-fn gather(posts: &mut Shelf, ring: &mut CompletionRing)
-    ensures places { posts.new.places ≡ posts.old.places }
-    ensures gathered { posts.old.items ++ waiting ring.old ≡ posts.new.items ++ waiting ring.new }
-    ensures all { (waiting ring.new ≡ []) ⊎ (length posts.new.items ≡ posts.new.places) }
-{
-    while !posts.is_full() {
-        let Some((_number, req)) = ring.take() else {
-            return;
-        };
-        posts.put(req);
-    }
-}
-
-/// Takes the oldest post of a ring: of those that were taken, or else of the completion ring.
-fn next_post<R: Wait>(
-    rt: &R,
-    rings: &[Mutex<CompletionRing>],
-    ring: u16,
-    posts: &mut Shelf,
-) -> Option<Req> {
-    if posts.len() == 0 {
-        let ring = rings.get(usize::from(ring))?;
-        gather(posts, &mut *ring.lock(rt));
-    }
-    posts.take()
-}
+use std::sync::{Arc, Wait};
 
 /// Submits to one ring and takes its completions. No call but `take` waits, and `take` only for the lock of its ring's completions,
 /// which it takes once for all posts that wait, up to 64.
-/// Contracts see its board, its submitter's pass, its ring and the tail that it published last.
+/// Contracts see its board, its submitter's pass, its ring, the tail that it published last, how often it published one, and the posts
+/// that it holds.
 #[derive(Drop)]
 pub struct Client {
     shared: Arc<Shared>,
     submitter: Submitter,
     ringer: Ringer,
     tail: u64,
-    ring: u16,
-    /// The posts that were taken, and whose completions were not.
-    posts: Shelf,
+    held: Held,
 }
 
 impl Model for Client {
-    ghost use Rattle.std.specs.Prelude.{◌≡◌};
+    ghost use Rattle.std.specs.Prelude.{◌≡◌, length};
     ghost use Rattle.std.specs.Arc.{arc_value};
     ghost use Rattle.steps.specs.declared.view.Role.TheVariants.{Submitter as SubmitterRole};
     ghost use Rattle.bell.specs.BellPasses.{IsRingerOf};
@@ -83,35 +49,34 @@ impl Model for Client {
 
     ghost Value = { ClientFacts };
 
-    ghost view = { λ c. record { board = (arc_value c.shared).board; submitter = c.submitter; ring = c.ring; tail = c.tail } };
+    ghost view = { λ c. record { board = (arc_value c.shared).board; submitter = c.submitter; ring = c.held.ring; tail = c.tail; publishes = length c.ringer.found; posts = c.held.posts } };
 
-    ghost invariant = { λ c. IsOf (arc_value c.shared).board c.submitter × IsRingerOf (arc_value c.shared).bell c.ringer × (c.ringer.tail ≡ c.tail) × (c.submitter.view.role ≡ SubmitterRole c.ring) × (c.ringer.ring ≡ c.ring) };
+    ghost invariant = { λ c. IsOf (arc_value c.shared).board c.submitter × IsRingerOf (arc_value c.shared).bell c.ringer × (c.ringer.tail ≡ c.tail) × (c.submitter.view.role ≡ SubmitterRole c.held.ring) × (c.ringer.ring ≡ c.held.ring) };
 }
 
 impl Client {
-    /// The client of a ring that has submitted nothing yet, by the submitter and the ringer of that ring.
+    /// The client of a ring that has submitted nothing yet, by the submitter and the ringer of that ring, and the place for its posts.
     pub(crate) fn new(
         shared: Arc<Shared>,
         submitter: Submitter,
         ringer: Ringer,
-        posts: Shelf,
+        held: Held,
     ) -> Client
         requires submitter { IsOf (arc_value shared).board submitter }
-        requires ringer { IsRingerOf (arc_value shared).bell ringer × (ringer.tail ≡ 0) }
-        requires ring { submitter.view.role ≡ SubmitterRole ringer.ring }
+        requires ringer { IsRingerOf (arc_value shared).bell ringer × ((ringer.tail ≡ 0) × (ringer.found ≡ [])) }
+        requires ring { (submitter.view.role ≡ SubmitterRole held.ring) × (ringer.ring ≡ held.ring) }
         ensures board { result.board ≡ (arc_value shared).board }
         ensures submitter { result.submitter ≡ submitter }
-        ensures ring { submitter.view.role ≡ SubmitterRole result.ring }
-        ensures tail { result.tail ≡ 0 }
+        ensures ring { result.ring ≡ held.ring }
+        ensures tail { (result.tail ≡ 0) × (result.publishes ≡ 0) }
+        ensures posts { result.posts ≡ held.posts }
     {
-        let ring = submitter.ring();
         Client {
             shared,
             submitter,
             ringer,
             tail: 0,
-            ring,
-            posts,
+            held,
         }
     }
 
@@ -119,7 +84,7 @@ impl Client {
     pub fn ring(&self) -> u16
         ensures { result ≡ self.now.ring }
     {
-        self.ring
+        self.held.ring()
     }
 
     /// The request that it submits next.
@@ -135,9 +100,10 @@ impl Client {
         &mut self,
         batch: Vec<(Sqe, Vec<u8>)>,
     ) -> Result<Req, (SubmitError, Vec<(Sqe, Vec<u8>)>)>
-        ensures same { (self.new.board ≡ self.old.board) × (self.new.ring ≡ self.old.ring) }
+        ensures same { (self.new.board ≡ self.old.board) × (self.new.ring ≡ self.old.ring) × (self.new.posts ≡ self.old.posts) }
         ensures submitted { IfOk result (λ r. (r ≡ next_of self.old.submitter self.old.ring) × Goes self.old.board self.old.submitter (submits_of self.old.ring r.k batch.items) self.new.submitter) }
-        ensures told { IfOk result (λ r. submits (seen_of self.new.submitter) self.old.ring ≤ self.new.tail) }
+        ensures told { IfOk result (λ r. HasTold (submits (seen_of self.new.submitter) self.old.ring) self.old self.new) }
+        ensures untold { IfErr result (λ e. (self.new.tail ≡ self.old.tail) × (self.new.publishes ≡ self.old.publishes)) }
         ensures free { IfOk result (λ r. (i : ℕ) → i < length batch.items → IsFree self.old.board.layout.cells (seen_of self.new.submitter) (nth r.ring (r.k + i))) }
         ensures steps { IfOk result (λ r. (n : ℕ) × (n ≤ cells_in self.old.board.layout.cells r.ring + 1) × (LinkedAreReaped (seen_of self.old.submitter) r.ring → n ≡ 0) × Took self.old.submitter.view self.new.submitter.view (n + steps_in batch.items)) }
         ensures refused { IfErr result (λ e. Goes self.old.board self.old.submitter [] self.new.submitter × (e.1 ≡ batch)) }
@@ -154,7 +120,7 @@ impl Client {
 
     /// Where a request stands.
     pub fn look(&mut self, req: Req) -> Phase
-        ensures same { (self.new.board ≡ self.old.board) × (self.new.ring ≡ self.old.ring) × (self.new.tail ≡ self.old.tail) }
+        ensures same { (self.new.board ≡ self.old.board) × (self.new.ring ≡ self.old.ring) × (self.new.tail ≡ self.old.tail) × (self.new.publishes ≡ self.old.publishes) × (self.new.posts ≡ self.old.posts) }
         ensures looks { Goes self.old.board self.old.submitter [] self.new.submitter }
         ensures finds { Finds self.old.board req result self.old.submitter self.new.submitter }
     {
@@ -163,13 +129,13 @@ impl Client {
 
     /// Takes the oldest completion of its ring, if there is one (io_uring_peek_cqe(3)).
     pub fn take<R: Wait>(&mut self, rt: &R) -> Option<Completion>
-        ensures same { (self.new.board ≡ self.old.board) × (self.new.ring ≡ self.old.ring) × (self.new.tail ≡ self.old.tail) }
+        ensures same { (self.new.board ≡ self.old.board) × (self.new.ring ≡ self.old.ring) × (self.new.tail ≡ self.old.tail) × (self.new.publishes ≡ self.old.publishes) }
+        ensures taken { HasTaken self.old self.new result }
         ensures reaped { MatchOption result (Goes self.old.board self.old.submitter [] self.new.submitter) (λ x. Goes self.old.board self.old.submitter (Reap x.req ∷ []) self.new.submitter) }
         ensures completion { IfSome result (λ x. IsCompletion (seen_of self.new.submitter) x.req x × IsReaped (phase (seen_of self.new.submitter) x.req)) }
         ensures once { IfSome result (λ x. HasOnce (seen_of self.new.submitter) x.req) }
     {
-        let ring = self.ring;
-        let Some(req) = next_post(rt, self.shared.posts.as_slice(), ring, &mut self.posts) else {
+        let Some(req) = self.held.next(rt, &self.shared.posts) else {
             return None;
         };
         match self.shared.board.reap(&mut self.submitter, req) {
@@ -180,8 +146,8 @@ impl Client {
 
     /// Tells the poller how many requests were submitted, unless it was told a greater tail.
     fn tell(&mut self)
-        ensures same { (self.new.board ≡ self.old.board) × (self.new.ring ≡ self.old.ring) × (self.new.submitter ≡ self.old.submitter) }
-        ensures told { submits (seen_of self.old.submitter) self.old.ring ≤ self.new.tail }
+        ensures same { (self.new.board ≡ self.old.board) × (self.new.ring ≡ self.old.ring) × (self.new.submitter ≡ self.old.submitter) × (self.new.posts ≡ self.old.posts) }
+        ensures told { HasTold (submits (seen_of self.old.submitter) self.old.ring) self.old self.new }
     {
         let tail = self.submitter.next_request().k;
         if self.tail < tail {
@@ -192,7 +158,7 @@ impl Client {
     /// Tells the poller this tail, and wakes it where it sleeps.
     fn publish(&mut self, tail: u64)
         requires { self.old.tail ≤ tail }
-        ensures { self.new ≡ record self.old { tail = tail } }
+        ensures { self.new ≡ record self.old { tail = tail; publishes = suc self.old.publishes } }
     {
         let wake = self.shared.bell.publish(&mut self.ringer, tail);
         self.tail = tail;
@@ -204,7 +170,7 @@ impl Client {
         ensures same { without_tail self.new ≡ without_tail self.old }
         ensures told { self.old.ring ≡ 0 → self.new.tail ≡ 18446744073709551615 }
     {
-        if self.ring == 0 {
+        if self.held.ring() == 0 {
             self.publish(END);
         }
     }

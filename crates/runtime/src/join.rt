@@ -28,6 +28,19 @@ pub struct Unjoined<C: Clock> {
     pub clients: Vec<Client>,
 }
 
+impl<C: Clock> Unjoined<C> {
+    /// The runtime and its clients, and why it isn't ended.
+    fn new(error: JoinError, runtime: Runtime<C>, clients: Vec<Client>) -> Unjoined<C>
+        ensures { (result.error ≡ error) × (result.runtime ≡ runtime) × (result.clients ≡ clients) }
+    {
+        Unjoined {
+            error,
+            runtime,
+            clients,
+        }
+    }
+}
+
 impl<C: Clock + Drop> Unjoined<C> {
     /// Ends the threads after all, without a report, and tells why there is none: all threads are told to end, and it waits for them.
     /// It needs no memory. The poller is told by the client of ring 0, and where that one is missing this waits on.
@@ -110,20 +123,21 @@ fn end<R: Wait, C: Clock>(
 /// taken; those without a reply are cut off with -125 (ECANCELED).
 ///
 /// `Missing` comes only where a client is not among those handed in, and `Memory` where the report's room isn't found; both before
-/// anything is stopped. `Shared` comes where the board was not given up though all threads have ended. After each of them it may be
-/// called again.
+/// any thread is told to end. `Shared` comes where the board was not given up though all threads have ended. After each of them it may
+/// be called again.
 pub fn join_all<R: Threads + Wait, C: Clock + Drop>(
     rt: &R,
     alloc: Global,
     runtime: Runtime<C>,
     clients: Vec<Client>,
 ) -> Result<Report, Unjoined<C>>
-    requires own { AreClients runtime clients.items }
-    ensures report { IfOk result (λ r. (poller : Pass) × (workers : List Pass) × IsReport runtime (poller ∷ (map submitter_of clients.items ++ workers)) r) }
-    ensures complete { IfOk result (λ _. length clients.items ≡ length runtime.layout.cells) }
-    ensures missing { IfErr result (λ u. (u.error ≡ Missing) ↔ (length clients.items ≢ length runtime.layout.cells)) }
-    ensures back { IfErr result (λ u. (u.runtime ≡ runtime) × (map without_tail u.clients.items ≡ map without_tail clients.items)) }
-    ensures early { IfErr result (λ u. u.error ≢ JoinError.Shared → u.clients.items ≡ clients.items) }
+    requires own { AreClients runtime.board clients.items }
+    ensures report { IfOk result (λ r. (poller : Pass) × (workers : List Pass) × IsReport runtime.board (poller ∷ (map submitter_of clients.items ++ workers)) r) }
+    ensures complete { IfOk result (λ _. length clients.items ≡ length runtime.board.layout.cells) }
+    ensures missing { IfErr result (λ u. (u.error ≡ Missing) ↔ (length clients.items ≢ length runtime.board.layout.cells)) }
+    ensures back { IfErr result (λ u. (u.runtime.board ≡ runtime.board) × (map without_tail u.clients.items ≡ map without_tail clients.items)) }
+    ensures early { IfErr result (λ u. u.error ≢ JoinError.Shared → (u.runtime ≡ runtime) × (u.clients.items ≡ clients.items)) }
+    ensures late { IfErr result (λ u. u.error ≡ JoinError.Shared → u.runtime.threads ≡ 0) }
 {
     let (report, _clock) = join_with_clock(rt, alloc, runtime, clients)?;
     Ok(report)
@@ -136,39 +150,29 @@ pub fn join_with_clock<R: Threads + Wait, C: Clock>(
     runtime: Runtime<C>,
     clients: Vec<Client>,
 ) -> Result<(Report, C), Unjoined<C>>
-    requires own { AreClients runtime clients.items }
-    ensures report { IfOk result (λ r. (poller : Pass) × (workers : List Pass) × IsReport runtime (poller ∷ (map submitter_of clients.items ++ workers)) r.0 × C.follows r.1 (seen_of poller) × (poller.view.role ≡ PollerRole (length runtime.layout.cells))) }
-    ensures complete { IfOk result (λ _. length clients.items ≡ length runtime.layout.cells) }
-    ensures missing { IfErr result (λ u. (u.error ≡ Missing) ↔ (length clients.items ≢ length runtime.layout.cells)) }
-    ensures back { IfErr result (λ u. (u.runtime ≡ runtime) × (map without_tail u.clients.items ≡ map without_tail clients.items)) }
-    ensures early { IfErr result (λ u. u.error ≢ JoinError.Shared → u.clients.items ≡ clients.items) }
+    requires own { AreClients runtime.board clients.items }
+    ensures report { IfOk result (λ r. (poller : Pass) × (workers : List Pass) × IsReport runtime.board (poller ∷ (map submitter_of clients.items ++ workers)) r.0 × C.follows r.1 (seen_of poller) × (poller.view.role ≡ PollerRole (length runtime.board.layout.cells))) }
+    ensures complete { IfOk result (λ _. length clients.items ≡ length runtime.board.layout.cells) }
+    ensures missing { IfErr result (λ u. (u.error ≡ Missing) ↔ (length clients.items ≢ length runtime.board.layout.cells)) }
+    ensures back { IfErr result (λ u. (u.runtime.board ≡ runtime.board) × (map without_tail u.clients.items ≡ map without_tail clients.items)) }
+    ensures early { IfErr result (λ u. u.error ≢ JoinError.Shared → (u.runtime ≡ runtime) × (u.clients.items ≡ clients.items)) }
+    ensures late { IfErr result (λ u. u.error ≡ JoinError.Shared → u.runtime.threads ≡ 0) }
 {
     let mut clients = clients;
     if clients.len() != runtime.rings() {
-        return Err(Unjoined {
-            error: JoinError::Missing,
-            runtime,
-            clients,
-        });
+        return Err(Unjoined::new(JoinError::Missing, runtime, clients));
     }
     let (Ok(report), Ok(submitters)) = (
         runtime.make_room(alloc),
         Vec::with_capacity(alloc, clients.len()),
     ) else {
-        return Err(Unjoined {
-            error: JoinError::Memory,
-            runtime,
-            clients,
-        });
+        return Err(Unjoined::new(JoinError::Memory, runtime, clients));
     };
     tell_end(&mut clients);
     let stopped = runtime.stop(rt);
     if !stopped.is_shared_by(clients.len()) {
-        return Err(Unjoined {
-            error: JoinError::Shared,
-            runtime: stopped.resumed(),
-            clients,
-        });
+        let runtime = stopped.resumed();
+        return Err(Unjoined::new(JoinError::Shared, runtime, clients));
     }
     Ok(end(rt, stopped, clients, submitters, report))
 }

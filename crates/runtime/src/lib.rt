@@ -5,8 +5,10 @@ mod backlog;
 pub mod client;
 pub mod error;
 mod hands;
+mod held;
 pub mod join;
 mod lists;
+mod locks;
 #[cfg(test)]
 mod pair;
 pub mod poll;

@@ -36,9 +36,9 @@ impl<C: Clock> Model for Pair<C> {
 
     ghost Value = { Facts };
 
-    ghost view = { λ p. p.runtime };
+    ghost view = { λ p. p.runtime.board };
 
-    ghost invariant = { λ p. (p.zero.board ≡ p.runtime) × (p.one.board ≡ p.runtime) };
+    ghost invariant = { λ p. (p.zero.board ≡ p.runtime.board) × (p.one.board ≡ p.runtime.board) };
 }
 
 /// Two rings, one pipe of 16 bytes, and so many workers.

@@ -1,10 +1,10 @@
 //! The posts of what a thread's turns answered.
 ghost use Rattle.std.specs.Prelude.{◌≡◌, []};
 
-use compring::CompletionRing;
+use crate::locks::PostLocks;
 use controls::{Point, Turnstile};
 use outbox::{Outbox, deliver_all};
-use std::sync::{Mutex, Wait};
+use std::sync::Wait;
 use std::thread;
 
 /// Goes through the turnstile with each answered request, before any is posted.
@@ -16,11 +16,12 @@ fn pass_all<G: Turnstile>(turnstile: &G, outbox: &Outbox) {
     }
 }
 
-/// Posts all answered requests, and takes the lock of a ring once for all that are its own. A post for which no memory is found is
+/// Posts all answered requests, each to the completion ring of its own ring, and takes the lock of a ring once for all that are its own.
+/// A post for which no memory is found is
 /// tried again, until it is.
 pub(crate) fn post_all<R: Wait, G: Turnstile>(
     rt: &R,
-    posts: &[Mutex<CompletionRing>],
+    posts: &PostLocks,
     turnstile: &G,
     outbox: &mut Outbox,
 )
@@ -32,8 +33,8 @@ pub(crate) fn post_all<R: Wait, G: Turnstile>(
         let Some(req) = outbox.first() else {
             return;
         };
-        if let Some(ring) = posts.get(usize::from(req.ring)) {
-            if deliver_all(outbox, req.ring, &mut *ring.lock(rt)).is_ok() {
+        if let Some(mut ring) = posts.lock(rt, req.ring) {
+            if deliver_all(outbox, req.ring, &mut *ring).is_ok() {
                 continue;
             }
         }

@@ -4,7 +4,7 @@ ghost use Rattle.board.specs.ShapeLimits.{widest};
 ghost use Rattle.history.specs.declared.req.Req.{Req};
 ghost use Rattle.ready.specs.Ready.{IsOf as IsOfQueue};
 ghost use Rattle.work.specs.Board.{IsOf};
-ghost use Rattle.runtime.specs.WorkTurns.{IsWorkTurn, Shifts, Tried, new_desk};
+ghost use Rattle.runtime.specs.WorkTurns.{FoundNone, IsWorkTurn, PutsBack, Shifts, Tried, new_desk};
 
 use crate::hands::put_kept;
 use crate::turn::Turn;
@@ -54,17 +54,22 @@ impl WorkDesk {
         ready
     }
 
-    /// Whether it keeps no number.
-    fn is_free(&self) -> bool
-        ensures { result ≡ true → self.now.kept ≡ [] }
+    /// What a turn came to that found no number to run.
+    fn turn(&self) -> Turn
+        ensures { result ≡ Turn.Idle → self.now.kept ≡ [] }
     {
-        self.kept.is_none() && self.other.is_none()
+        if self.kept.is_none() && self.other.is_none() {
+            Turn::Idle
+        } else {
+            Turn::Moved
+        }
     }
 
     /// Tries once more to put the numbers that it keeps into the ready queue.
     fn retry<R: Wait>(&mut self, rt: &R, queue: &ReadyQueue)
         requires { IsOfQueue queue.now self.old.ready }
         ensures shifts { Shifts self.old [] [] self.new }
+        ensures back { PutsBack self.old self.new }
         ensures fewer { length self.new.kept ≤ length self.old.kept }
     {
         put_kept(rt, queue, &mut self.ready, &mut self.kept);
@@ -166,16 +171,12 @@ pub fn work_turn<R: Wait, G: Turnstile>(
     ensures turned { IsWorkTurn board.now desk.old desk.new worker result.0 outbox.old outbox.new }
     ensures ready { IsOfQueue queue.now desk.new.ready }
     ensures idle { result.1 ≡ Turn.Idle → (desk.new.kept ≡ []) × (outbox.new ≡ outbox.old) × (result.0 ≡ worker) }
+    ensures none { result.1 ≡ Turn.Idle → FoundNone desk.old desk.new }
 {
     desk.retry(rt, queue);
     let Some(req) = desk.next(rt, queue) else {
         desk.retry(rt, queue);
-        let turn = if desk.is_free() {
-            Turn::Idle
-        } else {
-            Turn::Moved
-        };
-        return (worker, turn);
+        return (worker, desk.turn());
     };
     turnstile.pass(Point::Begin, req);
     let (worker, is_parked) = serve(board, worker, turnstile, outbox, req);

@@ -1,9 +1,8 @@
 //! What the poller, the workers and the clients of a runtime share.
+use crate::locks::PostLocks;
 use bell::Bell;
 use board::Board;
-use compring::CompletionRing;
 use ready::ReadyQueue;
-use std::sync::Mutex;
 use std::sync::atomic::AtomicBool;
 
 /// The board, its doorbell and its ready queue; the completion ring of each ring, each under a lock of its own; and whether the
@@ -13,6 +12,6 @@ pub(crate) struct Shared {
     pub board: Board,
     pub bell: Bell,
     pub queue: ReadyQueue,
-    pub posts: Vec<Mutex<CompletionRing>>,
+    pub posts: PostLocks,
     pub is_over: AtomicBool,
 }

@@ -284,12 +284,12 @@ fn reap_by(board: &Board, caller: &mut Caller, req: Req) -> Result<(i32, Vec<u8>
 
 /// The requests of the outbox, in order, as they are posted.
 fn posts_of(alloc: Global, mut outbox: Outbox) -> Result<Vec<Req>, Fail> {
-    let mut ring = CompletionRing::new(alloc, 8)?;
     let mut requests = Vec::new(alloc);
     for _n in 0..8 {
-        if outbox.first().is_none() {
+        let Some(first) = outbox.first() else {
             break;
-        }
+        };
+        let mut ring = CompletionRing::for_ring(alloc, 1, first.ring)?;
         deliver(&mut outbox, &mut ring)?;
         if let Some((_number, req)) = ring.take() {
             requests.push(req)?;

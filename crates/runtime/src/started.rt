@@ -61,7 +61,7 @@ pub(crate) enum PollThread<C: Clock> {
 }
 
 /// A board's poller and workers, each in a thread of its own, and the clock that the poller asks. It is ended by `join_all`.
-/// Contracts see its board.
+/// Contracts see its board, and how many of its threads were not waited for yet.
 #[derive(Drop)]
 pub struct Runtime<C: Clock> {
     shared: Arc<Shared>,
@@ -74,14 +74,13 @@ pub struct Runtime<C: Clock> {
 }
 
 impl<C: Clock> Model for Runtime<C> {
-    ghost use Rattle.std.specs.Prelude.{vec_capacity};
+    ghost use Rattle.std.specs.Prelude.{◌+◌, length, vec_capacity};
     ghost use Rattle.std.specs.Arc.{arc_value};
-    ghost use Rattle.work.specs.Board.{Facts};
-    ghost use Rattle.runtime.specs.Crews.{HasPasses, HasThreads};
+    ghost use Rattle.runtime.specs.Crews.{HasPasses, HasThreads, RuntimeFacts, running_in};
 
-    ghost Value = { Facts };
+    ghost Value = { RuntimeFacts };
 
-    ghost view = { λ r. (arc_value r.shared).board };
+    ghost view = { λ r. record { board = (arc_value r.shared).board; threads = length r.workers.items + running_in r.poller } };
 
     ghost invariant = { λ r. HasThreads C.follows (arc_value r.shared) r.rings r.poller r.workers.items r.ended.items (vec_capacity r.ended) × HasPasses (arc_value r.shared) r.poller r.workers.items r.passes.items (vec_capacity r.passes) r.room };
 }
@@ -179,7 +178,8 @@ impl<C: Clock> Runtime<C> {
         requires places { (length passes.items ≡ 0) × (length workers.items < vec_capacity passes) }
         requires shares { poller.promise.1.value.share + shares_of workers.items ≡ all_shares }
         requires gather { IsRoom (arc_value shared).queue.places ((arc_value shared).board.workers + 1) room }
-        ensures { result ≡ (arc_value shared).board }
+        ensures board { result.board ≡ (arc_value shared).board }
+        ensures threads { result.threads ≡ length workers.items + 1 }
     {
         Runtime {
             shared,
@@ -194,21 +194,21 @@ impl<C: Clock> Runtime<C> {
 
     /// How many rings its board has.
     pub fn rings(&self) -> usize
-        ensures { result ≡ length self.now.layout.cells }
+        ensures { result ≡ length self.now.board.layout.cells }
     {
         self.rings
     }
 
     /// The room that the report of its board needs.
     pub(crate) fn make_room(&self, alloc: Global) -> Result<ReportRoom, AllocError>
-        ensures { IfOk result (λ r. r ≡ total self.now.layout.cells) }
+        ensures { IfOk result (λ r. r ≡ total self.now.board.layout.cells) }
     {
         self.shared.board.make_room(alloc)
     }
 
     /// Tells the workers to end, and waits for all threads. The poller was told by the client of ring 0.
     pub(crate) fn stop<R: Threads>(self, rt: &R) -> Stopped<C>
-        ensures { result.shared.board ≡ self }
+        ensures { result.shared.board ≡ self.board }
     {
         let Runtime {
             shared,
@@ -244,7 +244,8 @@ impl<C: Clock> Stopped<C> {
 
     /// The runtime, whose threads have ended.
     pub(crate) fn resumed(self) -> Runtime<C>
-        ensures { result ≡ self.shared.board }
+        ensures board { result.board ≡ self.shared.board }
+        ensures threads { result.threads ≡ 0 }
     {
         let Stopped {
             shared,

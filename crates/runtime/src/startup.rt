@@ -16,12 +16,13 @@ ghost use Rattle.runtime.specs.PollTurns.{IsNewDesk, IsPollers};
 ghost use Rattle.runtime.specs.StartParts.{AreRingers, IsParts};
 ghost use Rattle.runtime.specs.declared.error.StartError.TheVariants.{BadShape};
 
-use crate::client::{Client, MOST_TAKEN};
+use crate::client::Client;
 use crate::error::{Memory, StartError};
+use crate::held::Held;
+use crate::locks::{PostLock, PostLocks};
 use crate::poll::{PollDesk, places_of};
 use crate::serving::WorkDesk;
 use crate::shared::Shared;
-use crate::shelf::Shelf;
 use crate::started::{Ours, Runtime, WorkThread, tell_end};
 use crate::threads::{poll, work};
 use bell::{Bell, Ringer, Sleeper};
@@ -33,7 +34,7 @@ use ready::{GatherRoom, ReadyPass, ReadyQueue};
 use std::alloc::Global;
 use std::snapshot::Snapshot;
 use std::sync::atomic::{AtomicBool, Ordering};
-use std::sync::{Arc, Mutex, Wait};
+use std::sync::{Arc, Wait};
 use std::thread;
 use std::thread::{PromisedHandle, Threads};
 
@@ -87,19 +88,22 @@ struct Rooms {
     gather: GatherRoom,
 }
 
-/// The completion ring of each ring: of so many posts as it says, else of twice as many as it has cells.
-fn posts_of(alloc: Global, rings: &[RingShape]) -> Result<Vec<Mutex<CompletionRing>>, Memory>
-    ensures { IfOk result (λ v. length v.items ≡ length rings.now) }
+/// The completion ring of each ring, under its lock: of so many posts as it says, else of twice as many as it has cells.
+fn posts_of(alloc: Global, rings: &[RingShape]) -> Result<PostLocks, Memory>
+    requires { length rings.now ≤ 16 }
+    ensures { IfOk result (λ p. p ≡ length rings.now) }
 {
     let mut posts = Vec::with_capacity(alloc, rings.len())?;
+    let mut owner = 0u16;
     for ring in rings {
         let size = ring.posts.unwrap_or(ring.cells.saturating_mul(2));
-        let Ok(completions) = CompletionRing::new(alloc, size) else {
+        let Ok(completions) = CompletionRing::for_ring(alloc, size, owner) else {
             return Err(Memory);
         };
-        posts.push_reserved(Mutex::new(completions));
+        posts.push_reserved(PostLock::new(completions));
+        owner += 1;
     }
-    Ok(posts)
+    Ok(PostLocks::new(posts))
 }
 
 /// A new bell and its passes.
@@ -178,11 +182,6 @@ fn parts_of(alloc: Global, shape: &Shape) -> Result<Parts, StartError>
     })
 }
 
-/// Room for the posts that a client takes at once.
-fn shelf_of(alloc: Global) -> Result<Shelf, Memory> {
-    Ok(Shelf::new(alloc, MOST_TAKEN)?)
-}
-
 /// The clients of all rings, in order.
 fn clients_of(
     alloc: Global,
@@ -204,8 +203,8 @@ fn clients_of(
             unreachable!()
         };
         let theirs = Arc::try_clone(shared)?;
-        let posts = shelf_of(alloc)?;
-        clients.push_reserved(Client::new(theirs, submitter, ringer, posts));
+        let held = Held::empty(alloc, submitter.ring())?;
+        clients.push_reserved(Client::new(theirs, submitter, ringer, held));
     }
     clients.reverse();
     Ok(clients)
@@ -448,8 +447,9 @@ fn start_others<
     requires ended { (rooms.ended.items ≡ []) × (length parts.workers.items ≤ vec_capacity rooms.ended) }
     requires back { (rooms.passes.items ≡ []) × (length parts.workers.items < vec_capacity rooms.passes) }
     requires gather { IsRoom (arc_value stage.shared).queue.places (length parts.workers.items + 1) rooms.gather }
-    ensures started { IfOk result (λ t. (t.0 ≡ (arc_value stage.shared).board) × (t.1.items ≡ clients.items)) }
-    ensures own { IfOk result (λ t. AreClients t.0 t.1.items) }
+    ensures started { IfOk result (λ t. (t.0.board ≡ (arc_value stage.shared).board) × (t.1.items ≡ clients.items)) }
+    ensures threads { IfOk result (λ t. t.0.threads ≡ length parts.workers.items + 1) }
+    ensures own { IfOk result (λ t. AreClients t.0.board t.1.items) }
     ensures refused { IfErr result (λ e. e ≢ BadShape) }
 {
     let Stage { shared, turnstile } = stage;
@@ -497,8 +497,9 @@ fn start_threads<
 ) -> Result<(Runtime<C>, Vec<Client>), StartError>
     requires parts { IsParts shape.now parts }
     requires clock { C.follows clock [] }
-    ensures started { IfOk result (λ t. IsStarted shape.now t.0 t.1.items) }
-    ensures own { IfOk result (λ t. AreClients t.0 t.1.items) }
+    ensures started { IfOk result (λ t. IsStarted shape.now t.0.board t.1.items) }
+    ensures threads { IfOk result (λ t. t.0.threads ≡ shape.now.workers + 1) }
+    ensures own { IfOk result (λ t. AreClients t.0.board t.1.items) }
     ensures refused { IfErr result (λ e. e ≢ BadShape) }
 {
     let Parts {
@@ -542,8 +543,9 @@ pub fn start<
     clock: C,
 ) -> Result<(Runtime<C>, Vec<Client>), StartError>
     requires clock { C.follows clock [] }
-    ensures started { IfOk result (λ t. IsStarted shape.now t.0 t.1.items) }
-    ensures own { IfOk result (λ t. AreClients t.0 t.1.items) }
+    ensures started { IfOk result (λ t. IsStarted shape.now t.0.board t.1.items) }
+    ensures threads { IfOk result (λ t. t.0.threads ≡ shape.now.workers + 1) }
+    ensures own { IfOk result (λ t. AreClients t.0.board t.1.items) }
     ensures bad_shape { result ≡ Err BadShape → is_shape shape.now ≡ false }
     ensures refused { is_shape shape.now ≡ false → result ≡ Err BadShape }
 {

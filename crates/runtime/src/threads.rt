@@ -85,7 +85,7 @@ fn poll_round<R: Wait, G: Turnstile, C: Clock>(
         clock,
         outbox,
     );
-    post_all(rt, shared.posts.as_slice(), turnstile, outbox);
+    post_all(rt, &shared.posts, turnstile, outbox);
     match turn {
         Ok(turn) => turn,
         Err(_) => Turn::Moved,
@@ -150,7 +150,7 @@ fn work_round<R: Wait, G: Turnstile>(
     ensures share { desk.new.ready.share ≡ desk.old.ready.share }
 {
     if outbox.room() < shared.board.widest() as usize {
-        post_all(rt, shared.posts.as_slice(), turnstile, outbox);
+        post_all(rt, &shared.posts, turnstile, outbox);
     }
     let before = outbox.len();
     let (worker, _turn) = work_turn(
@@ -189,7 +189,7 @@ pub(crate) fn work<R: Wait, G: Turnstile>(
             silent = 0;
             continue;
         }
-        post_all(rt, shared.posts.as_slice(), turnstile, &mut outbox);
+        post_all(rt, &shared.posts, turnstile, &mut outbox);
         if shared.is_over.load(Ordering::SeqCst) {
             return (worker, desk.parts());
         }

@@ -35,9 +35,9 @@ impl Model for Fleet {
 
     ghost Value = { Facts };
 
-    ghost view = { λ f. f.runtime };
+    ghost view = { λ f. f.runtime.board };
 
-    ghost invariant = { λ f. (f.zero.client.board ≡ f.runtime) × IfSome f.one (λ l. l.client.board ≡ f.runtime) };
+    ghost invariant = { λ f. (f.zero.client.board ≡ f.runtime.board) × IfSome f.one (λ l. l.client.board ≡ f.runtime.board) };
 }
 
 /// The board of a setup.
@@ -63,9 +63,9 @@ fn generator_of(alloc: Global, client: Client, setup: &Setup) -> Result<Generato
 
 /// The last client of this runtime that is left.
 fn last_client(runtime: &Runtime<NoClock>, clients: &mut Vec<Client>) -> Option<Client>
-    requires { AreClients runtime.now clients.old.items }
-    ensures rest { AreClients runtime.now clients.new.items }
-    ensures client { IfSome result (λ c. c.board ≡ runtime.now) }
+    requires { AreClients runtime.now.board clients.old.items }
+    ensures rest { AreClients runtime.now.board clients.new.items }
+    ensures client { IfSome result (λ c. c.board ≡ runtime.now.board) }
 {
     let _ = runtime;
     clients.pop()
@@ -78,9 +78,9 @@ fn generators_of(
     mut clients: Vec<Client>,
     setup: &Setup,
 ) -> Result<(Generator, Option<Generator>), Fault>
-    requires { AreClients runtime.now clients.items }
-    ensures zero { IfOk result (λ t. t.0.client.board ≡ runtime.now) }
-    ensures one { IfOk result (λ t. IfSome t.1 (λ l. l.client.board ≡ runtime.now)) }
+    requires { AreClients runtime.now.board clients.items }
+    ensures zero { IfOk result (λ t. t.0.client.board ≡ runtime.now.board) }
+    ensures one { IfOk result (λ t. IfSome t.1 (λ l. l.client.board ≡ runtime.now.board)) }
 {
     let Some(last) = last_client(runtime, &mut clients) else {
         return Err(Fault::Start);

@@ -103,7 +103,7 @@ fn run_lines<R: Threads + Wait + Sync>(
     lines: &[ClockLine],
 ) -> Result<Table, RunFault>
     requires homes { AreHomes stage.now.script.now stage.now.homes.now }
-    requires started { IsStartedFor stage.now.script.now runtime clients.items }
+    requires started { IsStartedFor stage.now.script.now runtime.board clients.items }
     requires hands { (room.hands.items ≡ []) × (length clients.items ≤ vec_capacity room.hands) }
     requires clients { (room.clients.items ≡ []) × (length clients.items ≤ vec_capacity room.clients) }
     requires lines { AreClockLines stage.now.script.now stage.now.script.now.clock.items lines.now }
@@ -169,11 +169,11 @@ fn play<R: Threads + Wait + Sync>(
     lines: &[ClockLine],
 ) -> Result<(Vec<Completion>, Report), RunFault>
     requires homes { AreHomes stage.now.script.now stage.now.homes.now }
-    requires hands { AreStarting stage.now.script.now runtime hands.items }
+    requires hands { AreStarting stage.now.script.now runtime.board hands.items }
     requires room { length hands.items ≤ vec_capacity hands }
     requires clients { (clients.items ≡ []) × (length hands.items ≤ vec_capacity clients) }
     requires lines { AreClockLines stage.now.script.now stage.now.script.now.clock.items lines.now }
-    ensures { IfOk result (λ t. IsPlayed stage.now.script.now runtime t.0.items t.1) }
+    ensures { IfOk result (λ t. IsPlayed stage.now.script.now runtime.board t.0.items t.1) }
 {
     let mut hands = carry_all(rt, stage, hands);
     let halt = finish_lines(rt, &mut watch, &mut hands);
@@ -215,8 +215,8 @@ fn end<R: Threads + Wait>(
     runtime: Runtime<LineClock>,
     clients: Vec<Client>,
 ) -> Result<(Report, LineClock), RunFault>
-    requires { AreClients runtime clients.items }
-    ensures { IfOk result (λ t. (poller : Pass) × (workers : List Pass) × IsReport runtime (poller ∷ (map submitter_of clients.items ++ workers)) t.0 × IsAlong t.1.lines.items t.1.next (seen_of poller) × (poller.view.role ≡ Poller (length runtime.layout.cells))) }
+    requires { AreClients runtime.board clients.items }
+    ensures { IfOk result (λ t. (poller : Pass) × (workers : List Pass) × IsReport runtime.board (poller ∷ (map submitter_of clients.items ++ workers)) t.0 × IsAlong t.1.lines.items t.1.next (seen_of poller) × (poller.view.role ≡ Poller (length runtime.board.layout.cells))) }
 {
     match join_with_clock(rt, alloc, runtime, clients) {
         Ok(ended) => Ok(ended),

@@ -15,7 +15,7 @@ loop-n-preserved c =
     let same : c.outbox-in-loop-n.inside.answered.items ≡ c.loop-n.outbox.answered = ap (λ (o : Waiting). o.answered) c.outbox-in-loop-n.view_is in
     let places : c.outbox-in-loop-n.inside.places ≡ c.args.outbox.now.places = ap (λ (o : Waiting). o.places) c.outbox-in-loop-n.view_is ∙ i.places in
     elim c.if-req-of.branch [
-      | then-req-of+in-Ok w ↦ let one : HasPosted (c.in-Some.req ∷ []) c.loop-n.ring w.post.new.self = record { waits = w.in-Ok.ensures.posted; stands = w.in-Ok.ensures.stands; size = w.post.ensures.size; taken = w.post.ensures.taken } in
+      | then-req-of+in-Ok w ↦ let one : HasPosted (c.in-Some.req ∷ []) c.loop-n.ring w.post.new.self = record { waits = w.in-Ok.ensures.posted; stands = w.in-Ok.ensures.stands; owner = w.post.ensures.owner; size = w.post.ensures.size; taken = w.post.ensures.taken } in
           let s = after_post _ _ _ _ _ _ _ _ room i.now first w.if-req-of.true i.posted one in
           record {
             count = i.count;

@@ -9,7 +9,7 @@ use Rattle.runtime.proofs.join.join_with_clock.Goals as goal
 
 pub end-requires-clause-own : goal.end-requires-clause-own
 end-requires-clause-own g c =
-    subst (λ (b : Facts). AreClients b c.tell_end.new.clients.items) (sym c.stop-stopped.ensures) (same_board c.args.runtime c.args.clients.items c.tell_end.new.clients.items c.tell_end.ensures c.requires.own)
+    subst (λ (b : Facts). AreClients b c.tell_end.new.clients.items) (sym c.stop-stopped.ensures) (same_board c.args.runtime.board c.args.clients.items c.tell_end.new.clients.items c.tell_end.ensures c.requires.own)
 
 pub end-requires-clause-complete : goal.end-requires-clause-complete
 end-requires-clause-complete g c =

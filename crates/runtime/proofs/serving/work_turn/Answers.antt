@@ -1,8 +1,8 @@
 use Rattle.std.proofs.Common.{refl, sym, ap, subst, cond, Bool, List, inl, inr, [], ◌∷◌}
 use Rattle.std.proofs.lemmas.List.{append-nil}
 use Rattle.history.specs.declared.req.Req.{Req}
-use Rattle.runtime.specs.WorkTurns.{Desk, Shifts}
-use Rattle.runtime.proofs.ShiftLaws.{shifts_back, shifts_then}
+use Rattle.runtime.specs.WorkTurns.{Desk, PutsBack, Shifts}
+use Rattle.runtime.proofs.ShiftLaws.{put_twice, shifts_back, shifts_then}
 use Rattle.runtime.proofs.serving.work_turn.Goals as goal
 use Rattle.runtime.proofs.serving.work_turn.Goals.{then-is_parked, else-is_parked}
 
@@ -15,6 +15,10 @@ returns-in_default-clause-turned g c = record {
   outbox = ap (λ (l : List Req). record c.args.outbox.now { answered = l }) (sym (append-nil c.args.outbox.now.answered));
   numbers = shifts_then _ _ _ [] [] [] [] c.retry.ensures.shifts (subst (λ (d : Desk). Shifts d [] [] c.retry-in_default.new.self) c.in_default.ensures.shifts c.retry-in_default.ensures.shifts);
 }
+
+pub returns-in_default-clause-none : goal.returns-in_default-clause-none
+returns-in_default-clause-none g c = λ idle.
+    (put_twice _ _ _ c.retry.ensures.back (subst (λ (d : Desk). PutsBack d c.retry-in_default.new.self) c.in_default.ensures.shifts c.retry-in_default.ensures.back), c.turn.ensures idle)
 
 pub returns-clause-turned : goal.returns-clause-turned
 returns-clause-turned g c =

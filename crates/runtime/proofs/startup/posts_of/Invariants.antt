@@ -1,8 +1,11 @@
 use Rattle.std.proofs.Common.{◌≡◌, ◌≤◌, length, vec_capacity}
+use Rattle.runtime.specs.PostLocks.{AreNumbered}
 use Rattle.runtime.proofs.startup.posts_of.Given as goal
 
 abbrev pub invariant-loop-ring : goal.invariant-loop-ring
 invariant-loop-ring l = record {
+  owner : l.owner ≡ l.ring-index;
   count : length l.posts.items ≡ l.ring-index;
+  numbered : AreNumbered l.posts.items;
   room : length l.rings ≤ vec_capacity l.posts;
 }

@@ -10,11 +10,11 @@ use Rattle.script_run.proofs.WholeTables.{is_table}
 use Rattle.script_run.proofs.run.run_lines.Goals as goal
 
 pub play-requires-clause-hands : goal.play-requires-clause-hands
-play-requires-clause-hands g c κs inside = let s = c.requires.started in starts c.args.stage.now.script.now s.shape c.args.runtime c.hands_of-hands.result.items c.args.clients.items s.started c.hands_of-hands.ensures.clients c.hands_of-hands.ensures.new
+play-requires-clause-hands g c κs inside = let s = c.requires.started in starts c.args.stage.now.script.now s.shape c.args.runtime.board c.hands_of-hands.result.items c.args.clients.items s.started c.hands_of-hands.ensures.clients c.hands_of-hands.ensures.new
 
 pub returns : goal.returns
 returns g c =
-    let script = c.args.stage.now.script.now in let b = c.args.runtime in let homes = c.args.stage.now.homes.now in let s = c.requires.started in
+    let script = c.args.stage.now.script.now in let b = c.args.runtime.board in let homes = c.args.stage.now.homes.now in let s = c.requires.started in
     let taken : List Completion = c.as_slice.result.now in
     let left : List (Completion × Bool) = c.lines.result.now in
     let one : IsPlayed script b taken c.in_ok-taken.report = subst (λ (z : List Completion). IsPlayed script b z c.in_ok-taken.report) (sym c.as_slice.ensures.value) c.in_ok-taken.ensures in

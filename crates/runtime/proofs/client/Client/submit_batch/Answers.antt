@@ -23,4 +23,4 @@ returns-in-Err-clause-reason c =
     let role = c.self.invariant.3 in
     subst (λ (b : Facts). RefusesBatch b c.args.batch.items c.args.self.now.ring (next_of c.args.self.now.submitter c.args.self.now.ring).k c.args.self.now.submitter c.submit_batch.new.submitter c.in-Err.refused.0) board
     (subst (λ (d : ClientFacts). RefusesBatch c.deref.result.now.board c.args.batch.items d.ring (next_of d.submitter d.ring).k d.submitter c.submit_batch.new.submitter c.in-Err.refused.0) c.self.view_is
-    (c.in-Err.ensures.reason c.self.inside.ring role))
+    (c.in-Err.ensures.reason c.self.inside.held.ring role))
