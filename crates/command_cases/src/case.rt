@@ -58,8 +58,8 @@ pub fn folded(alloc: Global, bytes: &mut [u8]) -> Result<String, AllocError> {
 /// How often a waiting line of a run is tried: without end to speak of.
 const TURNS: u32 = 10_000_000;
 
-/// The job of a kind of case. A run has two workers, or one, or eight. It tries each waiting line ten thousand times, or once,
-/// or thirty thousand times, or without end to speak of.
+/// The job of a kind of case. A run has two workers, or one, or eight, or the most that there may be. It tries each waiting line
+/// ten thousand times, or once, or thirty thousand times, or without end to speak of.
 pub fn job_of(kind: &str) -> Job {
     match kind {
         "outcomes" => Job::Outcomes { stats: false },
@@ -70,6 +70,7 @@ pub fn job_of(kind: &str) -> Job {
         "drawn" => run_of(2, 30_000),
         "run-1" => run_of(1, TURNS),
         "run-8" => run_of(8, TURNS),
+        "run-64" => run_of(64, TURNS),
         _ => run_of(2, TURNS),
     }
 }
@@ -96,15 +97,38 @@ pub fn written<R: Threads + Wait + Copy + Send + Sync + 'static + Clock + AllocG
     Ok((status, out))
 }
 
+/// The status that a command of a kind ends with on the case's script, and what it writes.
+fn answered_as<R: Threads + Wait + Copy + Send + Sync + 'static + Clock + AllocGlobal>(
+    rt: &R,
+    kind: &str,
+    case: &Case<'_>,
+) -> Result<String, AllocError> {
+    let (status, mut out) = written(rt, &job_of(kind), case.text, case.second)?;
+    let text = folded(rt.alloc(), &mut out)?;
+    format!(in rt.alloc(); "{status} {text}")
+}
+
 /// The status that the case's command ends with, and what it writes.
 pub fn answered<R: Threads + Wait + Copy + Send + Sync + 'static + Clock + AllocGlobal>(
     rt: &R,
     case: &Case<'_>,
 ) -> Result<String, AllocError> {
-    let alloc = rt.alloc();
-    let (status, mut out) = written(rt, &job_of(case.kind), case.text, case.second)?;
-    let text = folded(alloc, &mut out)?;
-    format!(in alloc; "{status} {text}")
+    answered_as(rt, case.kind, case)
+}
+
+/// The same of a run with one worker, with two and with eight. Where they differ, all three.
+pub fn answered_by_each<R: Threads + Wait + Copy + Send + Sync + 'static + Clock + AllocGlobal>(
+    rt: &R,
+    case: &Case<'_>,
+) -> Result<String, AllocError> {
+    let one = answered_as(rt, "run-1", case)?;
+    let two = answered_as(rt, "run", case)?;
+    let eight = answered_as(rt, "run-8", case)?;
+    if one.as_str() == two.as_str() && two.as_str() == eight.as_str() {
+        Ok(two)
+    } else {
+        format!(in rt.alloc(); "{one} by one worker, {two} by two, {eight} by eight")
+    }
 }
 
 /// The same, but for the number at its end: how fast the machine was.

@@ -2,6 +2,7 @@
 //! input, and prints each that goes wrong and how many there were.
 #![tactic(auto)]
 
+mod brim;
 mod broken;
 mod case;
 mod drawn;
@@ -43,6 +44,8 @@ fn told<R: Threads + Wait + Copy + Send + Sync + 'static + Clock + Files + Input
         "problem" => problems::told(rt, case.text),
         "among" => case::is_among(rt, case),
         "stats" => case::surveyed(rt, case),
+        "runs" => case::answered_by_each(rt, case),
+        "pours" => brim::pours(rt, case.text),
         "listed" => case::prints_listed(rt, case),
         "writes" => broken::writes(rt, case.text, case.second),
         "reads" => broken::reads(rt, case.text, case.second),
