@@ -1,7 +1,7 @@
 -- What has gone out, step by step; and the same of readers of whose bytes nothing is known.
 use Rattle.std.proofs.Common.{◌≡◌, ◌↔◌, ℕ, ℤ, Bool, List, length, map, sym, subst, inl, inr, arith}
 use Rattle.std.proofs.Math.Seq.{take-length}
-use Rattle.std.specs.Prelude.{◌⊎◌, Option, None, Result, Ok, Err, IfErr, IfOk, OnErr, OnOk}
+use Rattle.std.specs.Prelude.{◌⊎◌, Option, None, Result, Ok, Err, IfOk}
 use Rattle.std.specs.Global.{Vec}
 use Rattle.std.specs.Io.KnownBytes.{Appends, Keeps}
 use Rattle.std.proofs.KnownBytes.{Appends-kept}

@@ -1,5 +1,5 @@
 -- What goes to standard error, part by part, and what is told of it.
-use Rattle.std.proofs.Common.{◌≡◌, ◌+◌, ◌<◌, ◌≤◌, ◌++◌, ℕ, zero, suc, codes, decimal, Bool, true, false, List, [], ◌∷◌, Some, None, Ok, Err, length, take, drop, get_or, refl, sym, subst, ap, ◌∙◌, append_assoc, append-nil, add-one, length-append, arith}
+use Rattle.std.proofs.Common.{◌≡◌, ◌+◌, ◌++◌, ℕ, Bool, true, false, List, [], ◌∷◌, Some, None, Ok, Err, length, take, sym, subst, ap, ◌∙◌, add-one, length-append, arith}
 use Rattle.std.proofs.lemmas.List.{take-append-le}
 use Rattle.std.specs.Prelude.{Option, Result, OnErr, OnOk, IfErr, IfOk}
 use Rattle.std.specs.Global.{Vec}
@@ -15,7 +15,7 @@ use Rattle.commands.specs.declared.job.Job.{Job}
 use Rattle.commands.specs.declared.job.Job.TheVariants.{Run, Outcomes, History}
 use Rattle.commands.specs.declared.problem.Problem.{Problem}
 use Rattle.commands.specs.Printed.{AppendsSome, IsOutcomesText, IsQuiet, Prints, Reads}
-use Rattle.commands.specs.Told.{stats_text, CountsFor, CountsIf, CountsOf, HasCounted, HasCounts, IsPlain, PutsCounts}
+use Rattle.commands.specs.Told.{CountsFor, CountsIf, CountsOf, HasCounted, HasCounts, IsPlain, PutsCounts}
 
 -- ---- known bytes
 

@@ -1,5 +1,5 @@
 -- What clap read of the words.
-use Rattle.std.proofs.Common.{◌≡◌, ◌<◌, ◌^◌, ℕ, List, Bool, true, false, Some, None, Ok, Err, ap, ◌∙◌, refl, sym, arith, true≢false}
+use Rattle.std.proofs.Common.{◌≡◌, ◌<◌, ◌^◌, ℕ, List, Some, None, Ok, Err, ap, ◌∙◌, refl, sym, arith, true≢false}
 use Rattle.std.specs.Prelude.{Option, Result, decimal, is_ok, option_map, unwrap_or}
 use Rattle.std.specs.Borrow.{Bor}
 use Rattle.std.specs.Str.Parse.{ParsesUnsigned}

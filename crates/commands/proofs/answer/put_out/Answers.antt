@@ -1,4 +1,4 @@
-use Rattle.commands.proofs.Printing.{some_begun, whole_begun}
+use Rattle.commands.proofs.Printing.{whole_begun}
 use Rattle.commands.proofs.answer.put_out.Goals as goal
 
 pub returns-in-Err-clause-begun : goal.returns-in-Err-clause-begun
