@@ -1,3 +1,5 @@
 mod Listings
 mod Printing
 mod Problems
+mod Telling
+mod Words

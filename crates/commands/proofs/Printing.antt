@@ -1,7 +1,7 @@
 -- What has gone out, step by step; and the same of readers of whose bytes nothing is known.
 use Rattle.std.proofs.Common.{◌≡◌, ◌↔◌, ℕ, ℤ, Bool, List, length, map, sym, subst, inl, inr, arith}
 use Rattle.std.proofs.Math.Seq.{take-length}
-use Rattle.std.specs.Prelude.{◌⊎◌, Option, None, Result, Ok, Err, IfErr, IfOk, OnErr, OnOk}
+use Rattle.std.specs.Prelude.{◌⊎◌, Option, None, Result, Ok, Err, IfOk}
 use Rattle.std.specs.Global.{Vec}
 use Rattle.std.specs.Io.KnownBytes.{Appends, Keeps}
 use Rattle.std.proofs.KnownBytes.{Appends-kept}
@@ -14,9 +14,6 @@ use Rattle.script_text.specs.Scripts.{SaysScript}
 use Rattle.streams.specs.Streams.{AppendsBeginning}
 use Rattle.commands.specs.declared.job.Job.{Job}
 use Rattle.commands.specs.declared.job.Job.TheVariants.{Run, Outcomes, History}
-use Rattle.commands.specs.declared.problem.Problem.{Problem}
-use Rattle.commands.specs.declared.problem.Problem.TheVariants.{Output}
-use Rattle.commands.specs.Status.{Ends}
 use Rattle.commands.specs.Printed.{counted_text, AppendsSome, AreAll, HasBegun, HasPrinted, IsHistoryFor, IsHistoryOfText, IsOutcomesText, IsRunText, Prints, PrintsOf, Reads}
 
 -- a write failed
@@ -27,19 +24,9 @@ some_begun a b text (count, less, went) = (count, omega arith, went)
 pub whole_begun : (a b c : Option (List ℕ)) (text : List ℕ) → Appends a b text → Keeps b c → AppendsSome a c text
 whole_begun a b c text went kept = (length text, omega arith, rw (take-length text) (Appends-kept a b c text went kept))
 
-pub put_printed : {A E : Type 0} (job : Job) (s t a b : Option (List ℕ)) (text now : List ℕ) (r : Result A E) → Prints job s t text → now ≡ text
-    → OnOk r (Appends a b now) → OnOk r (HasPrinted job s t a b)
-put_printed job s t a b text now (Ok x) prints is went = record { text = text; prints = prints; went = subst (Appends a b) is went }
-put_printed job s t a b text now (Err e) prints is went = tt
-
-pub put_ends : {A : Type 0} (job : Job) (s t a b : Option (List ℕ)) (text now : List ℕ) (r : Result A Problem) → Prints job s t text → now ≡ text
-    → IfErr r (λ p. p ≡ Output) → OnErr r (AppendsSome a b now) → IfErr r (Ends job s t a b)
-put_ends job s t a b text now (Ok x) prints is output begun = tt
-put_ends job s t a b text now (Err p) prints is output begun = rw output (record { text = text; prints = prints; went = subst (AppendsSome a b) is begun })
-
 -- ---- nothing known of the readers
 
-forget_reads : (s : Option (List ℕ)) (c : Script) → Reads s c → Reads None c
+pub forget_reads : (s : Option (List ℕ)) (c : Script) → Reads s c → Reads None c
 forget_reads s c reads = record { bytes = reads.bytes; all = tt; says = reads.says }
 
 forget_of : (job : Job) (c : Script) (t : Option (List ℕ)) (text : List ℕ) → PrintsOf job c t text → PrintsOf job c None text
@@ -53,7 +40,7 @@ forget_prints job s t text it = record { says = it.says; reads = forget_reads s 
 pub forget_printed : (job : Job) (s t a b : Option (List ℕ)) → HasPrinted job s t a b → HasPrinted job None None a b
 forget_printed job s t a b it = record { text = it.text; prints = forget_prints job s t it.text it.prints; went = it.went }
 
-forget_begun : (job : Job) (s t a b : Option (List ℕ)) → HasBegun job s t a b → HasBegun job None None a b
+pub forget_begun : (job : Job) (s t a b : Option (List ℕ)) → HasBegun job s t a b → HasBegun job None None a b
 forget_begun job s t a b it = record { text = it.text; prints = forget_prints job s t it.text it.prints; went = it.went }
 
 pub forget_unprinted : (job : Job) (s t a b : Option (List ℕ)) (told : Type 0) → Keeps a b ⊎ (told × HasBegun job s t a b) → Keeps a b ⊎ (told × HasBegun job None None a b)

@@ -1,3 +1,6 @@
+pub mod CommandLine
 pub mod Jobs
+pub mod Opened
 pub mod Printed
 pub mod Status
+pub mod Told

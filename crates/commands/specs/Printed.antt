@@ -32,10 +32,10 @@ tables_text c (rows ∷ others) = (table_text c.entries.items rows ++ codes "\n"
 abbrev pub counted_text : Script → List (List (ℤ × List ℕ)) → List ℕ
 counted_text c tables = tables_text c tables ++ (codes "tables " ++ (decimal (length tables) ++ codes "\n"))
 
--- `run`: a line for each entry of the script
+-- `run`: one of the script's tables
 pub record IsRunText (c : Script) (text : List ℕ) : Type 0 where
   pub rows : List (ℤ × List ℕ)
-  pub each : length rows ≡ length c.entries.items
+  pub is_table : IsTableOf c rows
   pub text_is : text ≡ table_text c.entries.items rows
 
 -- `outcomes`: just the tables of the script, each once and in order, and how many there are

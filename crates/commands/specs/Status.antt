@@ -1,6 +1,7 @@
 -- The problems that end a command, and the statuses that the program ends with.
 use Rattle.std.specs.Prelude.{◌≡◌, ◌⊎◌, ℕ, List, Option}
 use Rattle.std.specs.Io.KnownBytes.{Keeps}
+use Rattle.std.specs.String.{string_bytes}
 use Rattle.limits.specs.declared.TheConstants.{STATES}
 use Rattle.script.specs.declared.script.Script.{Script}
 use Rattle.script_text.specs.Scripts.{HasFirstFault}
@@ -14,6 +15,7 @@ use Rattle.explore.specs.declared.error.ExploreError.{ExploreError}
 use Rattle.explore.specs.declared.error.ExploreError.TheVariants.{TooMany, Memory as SearchMemory}
 use Rattle.script_run.specs.declared.fault.RunFault.{RunFault}
 use Rattle.script_run.specs.declared.fault.RunFault.TheVariants.{Stuck as StuckAt, Memory as RunMemory, Thread, Workers as NoSuchWorkers, Shared}
+use Rattle.script_run.specs.Stuck.{IsStuck}
 use Rattle.streams.specs.declared.fault.InputFault.{InputFault}
 use Rattle.streams.specs.declared.fault.InputFault.TheVariants.{Input as FailedRead, Memory as ReadMemory}
 use Rattle.commands.specs.declared.job.Job.{Job}
@@ -98,13 +100,23 @@ abbrev pub IsOfMemory : Problem → Type 0
 IsOfMemory OutOfMemory = Unit {0}
 IsOfMemory _ = ⊥
 
--- a problem of a run
-abbrev pub IsOfRun : Problem → Type 0
-IsOfRun (Stuck label) = Unit {0}
-IsOfRun Workers = Unit {0}
-IsOfRun BoardLeft = Unit {0}
-IsOfRun OutOfMemory = Unit {0}
-IsOfRun _ = ⊥
+-- a problem of a run of this script
+abbrev pub IsOfRun : Script → ℕ → ℕ → Problem → Type 0
+IsOfRun c workers turns (Stuck label) = IsStuck c workers turns (string_bytes label)
+IsOfRun c workers turns Workers = Unit {0}
+IsOfRun c workers turns BoardLeft = Unit {0}
+IsOfRun c workers turns OutOfMemory = Unit {0}
+IsOfRun c workers turns _ = ⊥
+
+-- a run of the script that was read is stuck with this label
+pub record IsStuckRun (script : Option (List ℕ)) (workers turns : ℕ) (label : List ℕ) : Type 0 where
+  pub says : Script
+  pub reads : Reads script says
+  pub stuck : IsStuck says workers turns label
+
+abbrev pub IsStuckOf : Job → Option (List ℕ) → List ℕ → Type 0
+IsStuckOf (Run workers turns) script label = IsStuckRun script workers turns label
+IsStuckOf _ script label = ⊥
 
 -- a problem of a search over this script
 abbrev pub IsOfSearch : Script → Problem → Type 0
@@ -123,7 +135,7 @@ IsOfHistory c bytes _ = ⊥
 abbrev pub Explains : Job → Option (List ℕ) → Option (List ℕ) → Problem → Type 0
 Explains job script table (Line fault) = IsFaultOf job script table fault
 Explains job script table TooManyStates = HasTooMany job script
-Explains job script table (Stuck label) = IsRun job
+Explains job script table (Stuck label) = IsStuckOf job script (string_bytes label)
 Explains job script table Workers = IsRun job
 Explains job script table BoardLeft = IsRun job
 Explains job script table Output = ⊥

@@ -1,14 +1,18 @@
 //! A command carried out.
-ghost use Rattle.std.specs.Prelude.{◌≡◌, ◌≢◌, ◌≤◌, ◌*◌, ◌/◌, ◌⊎◌, min, max, map, length, IfOk, OnOk, IfErr, OnErr};
+ghost use Rattle.std.specs.Prelude.{◌≡◌, ◌≢◌, ◌≤◌, ◌⊎◌, map, Some, IfOk, OnOk, IfErr, OnErr};
 ghost use Rattle.std.specs.Io.KnownBytes.{Appends, Keeps};
 ghost use Rattle.script.specs.Rows.{rows_of};
 ghost use Rattle.script_text.specs.declared.fault.ScriptFault.{ScriptFault};
+ghost use Rattle.explore.specs.Search.{HasStates};
 ghost use Rattle.commands.specs.declared.problem.Problem.{Problem};
 ghost use Rattle.commands.specs.Printed.{counted_text, AppendsSome, HasBegun, HasPrinted, IsHistoryOfText, IsOutcomesText, IsQuiet, IsRunText, Prints};
-ghost use Rattle.commands.specs.Status.{status_of, Ends, Explains, IsFaultOf, IsOfHistory, IsOfMemory, IsOfRun, IsOfSearch, IsRun};
+ghost use Rattle.commands.specs.Status.{Ends, Explains, IsFaultOf, IsOfHistory, IsOfMemory, IsOfRun, IsOfSearch, IsRun};
+ghost use Rattle.commands.specs.declared.told.Stats.{Stats};
+ghost use Rattle.commands.specs.Told.{CountsFor, CountsIf, HasCounted, HasTold, IsPlain};
 
 use crate::job::Job;
 use crate::problem::Problem;
+use crate::told::{Stats, put_stats, tell};
 use controls::Open;
 use explore::{Script, Table, find_history, outcomes, survey_script};
 use limits::STATES;
@@ -44,6 +48,10 @@ pub fn perform<
     ensures stuck { result ≡ 3 → IsRun job.now }
     // Where all went well, only statistics go to `err`.
     ensures quiet { result ≡ 0 → IsQuiet job.now → Keeps (E.contents err.old) (E.contents err.new) }
+    // With status 0, nothing else than the two numbers of `--stats` went to `err`, or a beginning of them; nothing where they aren't asked for.
+    ensures counted { result ≡ 0 → HasCounted job.now (S.remaining script.old) (E.contents err.old) (E.contents err.new) }
+    // With any other status, the line of one problem did, or a beginning of it. The problem explains what was read.
+    ensures told { result ≢ 0 → HasTold job.now (S.remaining script.old) (T.remaining table.old) (W.contents out.old) (W.contents out.new) (E.contents err.old) (E.contents err.new) result }
 {
     match carry_out(rt, alloc, job, script, table, out, err) {
         Ok(()) => 0,
@@ -51,16 +59,14 @@ pub fn perform<
     }
 }
 
-/// Says on `err` why there is no answer. What is told is the status.
-pub fn tell<E: Write>(problem: &Problem, err: &mut E) -> u8
-    ensures { result ≡ status_of problem.now }
-{
-    let _ = writeln!(err, "{problem}");
-    let _ = err.flush();
-    problem.status()
+/// The answer to a job: its text, and the statistics if they are asked for.
+#[derive(Drop)]
+struct FullAnswer {
+    text: Vec<u8>,
+    stats: Option<Stats>,
 }
 
-/// Makes the answer to a job, and writes it to `out`.
+/// Makes the answer to a job, and writes it to `out`, and then its statistics to `err`.
 fn carry_out<
     R: Threads + Wait + Copy + Send + Sync + 'static + Clock,
     S: Read,
@@ -78,10 +84,13 @@ fn carry_out<
 ) -> Result<(), Problem>
     ensures printed { OnOk result (HasPrinted job.now (S.remaining script.old) (T.remaining table.old) (W.contents out.old) (W.contents out.new)) }
     ensures ends { IfErr result (Ends job.now (S.remaining script.old) (T.remaining table.old) (W.contents out.old) (W.contents out.new)) }
-    ensures quiet { IsQuiet job.now → Keeps (E.contents err.old) (E.contents err.new) }
+    ensures counted { OnOk result (HasCounted job.now (S.remaining script.old) (E.contents err.old) (E.contents err.new)) }
+    ensures silent { OnErr result (Keeps (E.contents err.old) (E.contents err.new)) }
 {
-    let text = answer(rt, alloc, job, script, table, err)?;
-    put_out(&text, out)
+    let answer = answer(rt, alloc, job, script, table)?;
+    put_out(&answer.text, out)?;
+    put_stats(&answer.stats, err);
+    Ok(())
 }
 
 /// Writes a text out, and flushes. Where that fails, a beginning of the text went out, or all of it.
@@ -98,29 +107,37 @@ fn put_out<W: Write>(text: &[u8], out: &mut W) -> Result<(), Problem>
     }
 }
 
-/// The whole answer to a job. Statistics go to `err`.
-fn answer<R: Threads + Wait + Copy + Send + Sync + 'static + Clock, S: Read, T: Read, E: Write>(
+/// The whole answer to a job.
+fn answer<R: Threads + Wait + Copy + Send + Sync + 'static + Clock, S: Read, T: Read>(
     rt: &R,
     alloc: Global,
     job: &Job,
     script: &mut S,
     table: &mut T,
-    err: &mut E,
-) -> Result<Vec<u8>, Problem>
-    ensures prints { IfOk result (λ text. Prints job.now (S.remaining script.old) (T.remaining table.old) text.items) }
+) -> Result<FullAnswer, Problem>
+    ensures prints { IfOk result (λ answer. Prints job.now (S.remaining script.old) (T.remaining table.old) answer.text.items) }
+    ensures stats { IfOk result (λ answer. CountsFor job.now (S.remaining script.old) answer.stats) }
     ensures explains { IfErr result (Explains job.now (S.remaining script.old) (T.remaining table.old)) }
-    ensures quiet { IsQuiet job.now → Keeps (E.contents err.old) (E.contents err.new) }
 {
     let text = read_all(alloc, script)?;
     let script = read_script(alloc, &text)?;
     match *job {
-        Job::Run { workers, turns } => run_text(rt, alloc, &script, workers, turns),
-        Job::Outcomes { stats: false } => outcomes_text(alloc, &script),
-        Job::Outcomes { stats: true } => survey_text(rt, alloc, &script, err),
+        Job::Run { workers, turns } => plain(run_text(rt, alloc, &script, workers, turns)),
+        Job::Outcomes { stats } => list_text(rt, alloc, &script, stats),
         Job::History => {
             let table = read_all(alloc, table)?;
-            history_text(alloc, &script, &table)
+            plain(history_text(alloc, &script, &table))
         }
+    }
+}
+
+/// An answer without statistics.
+fn plain(text: Result<Vec<u8>, Problem>) -> Result<FullAnswer, Problem>
+    ensures { IsPlain text result }
+{
+    match text {
+        Ok(text) => Ok(FullAnswer { text, stats: None }),
+        Err(problem) => Err(problem),
     }
 }
 
@@ -133,10 +150,27 @@ fn run_text<R: Threads + Wait + Copy + Send + Sync + 'static>(
     turns: u32,
 ) -> Result<Vec<u8>, Problem>
     ensures prints { IfOk result (λ text. IsRunText script.now text.items) }
-    ensures explains { IfErr result IsOfRun }
+    ensures explains { IfErr result (IsOfRun script.now workers turns) }
 {
     let table = run_script(rt, alloc, script, workers, turns, Open)?;
     Ok(write_table(alloc, script, &table)?)
+}
+
+/// All tables of a script, and the statistics of the search if they are asked for.
+fn list_text<R: Clock>(
+    rt: &R,
+    alloc: Global,
+    script: &Script,
+    stats: bool,
+) -> Result<FullAnswer, Problem>
+    ensures prints { IfOk result (λ answer. IsOutcomesText script.now answer.text.items) }
+    ensures stats { IfOk result (λ answer. CountsIf script.now stats answer.stats) }
+    ensures explains { IfErr result (IsOfSearch script.now) }
+{
+    if stats {
+        return survey_text(rt, alloc, script);
+    }
+    plain(outcomes_text(alloc, script))
 }
 
 /// All tables of a script, each followed by an empty line, and how many there are.
@@ -148,25 +182,22 @@ fn outcomes_text(alloc: Global, script: &Script) -> Result<Vec<u8>, Problem>
     tables_text(alloc, script, &tables)
 }
 
-/// The same text. The number of states that the search met goes to `err`, and how many it met in a second.
-fn survey_text<R: Clock, E: Write>(
-    rt: &R,
-    alloc: Global,
-    script: &Script,
-    err: &mut E,
-) -> Result<Vec<u8>, Problem>
-    ensures prints { IfOk result (λ text. IsOutcomesText script.now text.items) }
+/// The same text, and how many states the search met, in how many nanoseconds.
+fn survey_text<R: Clock>(rt: &R, alloc: Global, script: &Script) -> Result<FullAnswer, Problem>
+    ensures prints { IfOk result (λ answer. IsOutcomesText script.now answer.text.items) }
+    ensures stats { IfOk result (λ answer. (stats : Stats) × (answer.stats ≡ Some stats) × HasStates script.now stats.states) }
     ensures explains { IfErr result (IsOfSearch script.now) }
 {
     let start = Instant::now(rt);
     let survey = survey_script(alloc, script, STATES)?;
-    let nanos = nanos_since(rt, start);
-    let states = survey.states;
-    let rate = rate_of(states as u64, nanos);
-    let _ = writeln!(err, "states {states}");
-    let _ = writeln!(err, "states a second {rate}");
-    let _ = err.flush();
-    tables_text(alloc, script, &survey.tables)
+    let stats = Stats {
+        states: survey.states,
+        nanos: nanos_since(rt, start),
+    };
+    Ok(FullAnswer {
+        text: tables_text(alloc, script, &survey.tables)?,
+        stats: Some(stats),
+    })
 }
 
 /// The nanoseconds since a time, 0 where the clock can't tell.
@@ -178,13 +209,6 @@ fn nanos_since<R: Clock>(rt: &R, start: io::Result<Instant>) -> u64 {
         },
         Err(_) => 0,
     }
-}
-
-/// How many in a second, where there were so many in these nanoseconds. No time counts as one nanosecond.
-pub fn rate_of(count: u64, nanos: u64) -> u64
-    ensures { result ≡ min (count * 1000000000) 18446744073709551615 / max nanos 1 }
-{
-    count.saturating_mul(1_000_000_000) / nanos.max(1)
 }
 
 /// These tables, each followed by an empty line, and how many there are.

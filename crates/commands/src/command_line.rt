@@ -1,4 +1,6 @@
 //! The command line, as clap reads it.
+ghost use Rattle.commands.specs.CommandLine.{file_rule, stats_rule, table_rule, turns_rule, workers_rule, IsRead};
+
 use clap::{Arg, ArgAction, Command, value_parser};
 use limits::WORKERS;
 use std::alloc::{AllocError, Global};
@@ -56,15 +58,12 @@ fn history<'a>(alloc: Global) -> Result<Command<'a>, AllocError> {
             "Example: with the line `a 0` in the file TABLE,\n  printf 'ring 4\\non 0\\nnop a\\nsubmit\\nwait a\\n' | ringrun history - TABLE\nprints\n  submit a\n  begin a\n  reply a 0\n  shut",
         )
         .arg(file(alloc))?
-        .arg(
-            Arg::new(alloc, "TABLE")
-                .required(true)
-                .action(ArgAction::Set)
-                .help("The file with the table"),
-        )
+        .arg(table(alloc))
 }
 
-fn workers<'a>(alloc: Global) -> Arg<'a> {
+fn workers<'a>(alloc: Global) -> Arg<'a>
+    ensures { IsRead result workers_rule }
+{
     Arg::new(alloc, "workers")
         .long("workers")
         .value_name("N")
@@ -73,7 +72,9 @@ fn workers<'a>(alloc: Global) -> Arg<'a> {
         .help("How many workers the board has, 1 to 64, each a thread")
 }
 
-fn turns<'a>(alloc: Global) -> Arg<'a> {
+fn turns<'a>(alloc: Global) -> Arg<'a>
+    ensures { IsRead result turns_rule }
+{
     Arg::new(alloc, "turns")
         .long("turns")
         .value_name("N")
@@ -82,16 +83,29 @@ fn turns<'a>(alloc: Global) -> Arg<'a> {
         .help("How often a line that waits is tried, 1 to 4294967295")
 }
 
-fn stats<'a>(alloc: Global) -> Arg<'a> {
+fn stats<'a>(alloc: Global) -> Arg<'a>
+    ensures { IsRead result stats_rule }
+{
     Arg::new(alloc, "stats")
         .long("stats")
         .action(ArgAction::SetTrue)
         .help("Prints the number of states met, and the states a second, to standard error")
 }
 
-fn file<'a>(alloc: Global) -> Arg<'a> {
+fn file<'a>(alloc: Global) -> Arg<'a>
+    ensures { IsRead result file_rule }
+{
     Arg::new(alloc, "FILE")
         .required(true)
         .action(ArgAction::Set)
         .help("The file with the script; - is standard input")
+}
+
+fn table<'a>(alloc: Global) -> Arg<'a>
+    ensures { IsRead result table_rule }
+{
+    Arg::new(alloc, "TABLE")
+        .required(true)
+        .action(ArgAction::Set)
+        .help("The file with the table")
 }

@@ -1,5 +1,7 @@
 //! What the words of the command line ask for.
 ghost use Rattle.std.specs.Prelude.{◌≤◌, IfOk};
+ghost use Rattle.clap.specs.Words.{found_of, rows_of};
+ghost use Rattle.commands.specs.CommandLine.{Asks, IsJobFor, IsNumber};
 ghost use Rattle.commands.specs.Jobs.{IsWithin};
 
 use crate::command_line::command;
@@ -29,20 +31,31 @@ pub struct Invocation<'a> {
 /// The invocation that the words of a command line make, the program's name first. The error is clap's text: help, the version,
 /// or what is wrong with the words.
 pub fn invocation_of<'a>(alloc: Global, words: &'a [&'a str]) -> Result<Invocation<'a>, Error>
-    ensures { IfOk result (λ invocation. IsWithin invocation.job) }
+    ensures within { IfOk result (λ invocation. IsWithin invocation.job) }
 {
     let matches = command(alloc)?.try_get_matches_from(words)?;
-    let (name, given) = matches.subcommand().unwrap_or(("run", &matches));
-    Ok(Invocation {
+    match matches.subcommand() {
+        Some((name, given)) => Ok(asked(name, given)),
+        None => Ok(asked("run", &matches)),
+    }
+}
+
+/// The invocation that the words of the command of this name ask for.
+fn asked<'a>(name: &str, given: &ArgMatches<'a>) -> Invocation<'a>
+    ensures within { IsWithin result.job }
+    ensures asks { Asks name.now (rows_of (found_of given.now)) result }
+{
+    Invocation {
         job: job_of(name, given),
         file: given.get_str("FILE").unwrap_or("-"),
         table: given.get_str("TABLE"),
-    })
+    }
 }
 
 /// The job that the words after a command's name ask for.
 fn job_of(name: &str, given: &ArgMatches<'_>) -> Job
-    ensures { IsWithin result }
+    ensures within { IsWithin result }
+    ensures job { IsJobFor name.now (rows_of (found_of given.now)) result }
 {
     match name {
         "outcomes" => Job::Outcomes {
@@ -60,10 +73,11 @@ fn job_of(name: &str, given: &ArgMatches<'_>) -> Job
 /// refused all others.
 fn number_of(given: &ArgMatches<'_>, word: &str, most: u32) -> u32
     requires { 1 ≤ most }
-    ensures { (1 ≤ result) × (result ≤ most) }
+    ensures within { (1 ≤ result) × (result ≤ most) }
+    ensures number { IsNumber word.now (rows_of (found_of given.now)) most result }
 {
     match given.get_one::<u32>(word) {
-        Some(number) if 1 <= number && number <= most => number,
-        _ => 1,
+        Some(number) => number.max(1).min(most),
+        None => 1,
     }
 }

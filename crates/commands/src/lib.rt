@@ -4,10 +4,13 @@
 mod answer;
 mod command_line;
 mod files;
+mod inputs;
 mod job;
 mod problem;
+mod told;
 
 pub use answer::perform;
 pub use files::serve;
+pub use inputs::Inputs;
 pub use job::{Invocation, Job, invocation_of};
 pub use problem::Problem;

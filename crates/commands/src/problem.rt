@@ -3,10 +3,13 @@ ghost use Rattle.std.specs.Prelude.{◌≡◌};
 ghost use Rattle.commands.specs.declared.problem.Problem.TheVariants.{Memory as OutOfMemory};
 ghost use Rattle.commands.specs.declared.problem.Problem.TheVariants.{Output as NotWritten};
 ghost use Rattle.commands.specs.Status.{of_input, of_script, of_search, of_run};
+ghost use Rattle.commands.specs.Told.{fault_words};
 
+use crate::told::Line;
 use explore::ExploreError;
+use itoa::Buffer;
 use script_run::RunFault;
-use script_text::{Memory, ScriptFault};
+use script_text::{Fault, Memory, ScriptFault};
 use std::alloc::{AllocError, AllocFailed};
 use std::fmt;
 use streams::{InputFault, OutputFault};
@@ -47,18 +50,62 @@ impl Problem {
     }
 }
 
+impl Problem {
+    ghost use Rattle.commands.specs.Told.{line_of, text_of};
+
+    /// The line that tells it. A number's digits stand in the buffer.
+    pub fn line<'a>(&'a self, digits: &'a mut Buffer) -> Line<'a>
+        ensures { text_of result ≡ line_of self.now }
+    {
+        match self {
+            Problem::Input => Line::of("fault: input", ""),
+            Problem::Output => Line::of("fault: output", ""),
+            Problem::Memory => Line::of("fault: memory", ""),
+            Problem::Shared => Line::of("fault: shared", ""),
+            Problem::Workers => Line::of("fault: workers", ""),
+            Problem::TooManyStates => Line::of("fault: too many states", ""),
+            Problem::Stuck(label) => Line::of("stuck ", label.as_str()),
+            Problem::Line(ScriptFault::Memory) => Line::of("fault: memory", ""),
+            Problem::Line(ScriptFault::Line { line, fault }) => Line {
+                lead: "line ",
+                name: digits.format(*line),
+                mark: ": ",
+                words: words_of(*fault),
+            },
+        }
+    }
+}
+
+/// The words that tell a fault of a line.
+fn words_of(fault: Fault) -> &'static str
+    ensures { result.now ≡ fault_words fault }
+{
+    match fault {
+        Fault::NotAscii => "not ascii",
+        Fault::UnknownWord => "unknown word",
+        Fault::OutOfPlace => "out of place",
+        Fault::MissingArgument => "missing argument",
+        Fault::ExtraArgument => "extra argument",
+        Fault::BadLabel => "bad label",
+        Fault::BadNumber => "bad number",
+        Fault::BadBytes => "bad bytes",
+        Fault::OutOfRange => "out of range",
+        Fault::DuplicateLabel => "duplicate label",
+        Fault::UnknownLabel => "unknown label",
+        Fault::UnsubmittedEntries => "unsubmitted entries",
+        Fault::BadTable => "bad table",
+    }
+}
+
+/// The line that tells it, without its line feed.
 impl fmt::Display for Problem {
     fn fmt<W: fmt::Write>(&self, f: &mut fmt::Formatter<W>) -> fmt::Result {
-        match self {
-            Problem::Input => write!(f, "fault: input"),
-            Problem::Output => write!(f, "fault: output"),
-            Problem::Memory => write!(f, "fault: memory"),
-            Problem::Shared => write!(f, "fault: shared"),
-            Problem::Workers => write!(f, "fault: workers"),
-            Problem::TooManyStates => write!(f, "fault: too many states"),
-            Problem::Stuck(label) => write!(f, "stuck {label}"),
-            Problem::Line(fault) => write!(f, "{fault}"),
-        }
+        let mut digits = Buffer::new();
+        let line = self.line(&mut digits);
+        f.write_str(line.lead)?;
+        f.write_str(line.name)?;
+        f.write_str(line.mark)?;
+        f.write_str(line.words)
     }
 }
 

@@ -1,10 +1,10 @@
 -- The clock of a script, line by line.
-use Rattle.std.proofs.Common.{◌≡◌, ◌⊎◌, ℕ, zero, suc, ◌+◌, ◌<◌, ◌≤◌, ◌&&◌, ◌||◌, nat_le, Bool, true, false, List, [], ◌∷◌, ◌++◌, Option, Some, None, length, take, drop, get_or, sym, refl, ap, ◌∙◌, subst, ⊎_elim, arith, true≢false}
+use Rattle.std.proofs.Common.{◌≡◌, ◌⊎◌, ℕ, zero, suc, ◌+◌, ◌<◌, ◌≤◌, ◌&&◌, ◌||◌, ◌^◌, nat_le, min, max, Bool, true, false, List, [], ◌∷◌, ◌++◌, Option, Some, None, length, take, drop, get_or, sym, refl, ap, ◌∙◌, subst, ⊎_elim, arith, true≢false}
 use Rattle.std.specs.Prelude.{slice_get}
 use Rattle.std.specs.List.{list_all}
 use Rattle.std.proofs.lemmas.List.{take-append-drop}
 use Rattle.std.proofs.lemmas.Option.{slice_get_within, get_or_from_slice_get}
-use Rattle.std.proofs.lemmas.Bool.{and_parts, leb-true}
+use Rattle.std.proofs.lemmas.Bool.{and_parts, leb-true, leb-false}
 use Rattle.history.specs.declared.req.Req.{Req}
 use Rattle.history.specs.declared.event.Event.{Event}
 use Rattle.history.specs.declared.event.Event.TheVariants as event
@@ -29,6 +29,7 @@ use Rattle.script.proofs.Items.{rest_at, front_at}
 use Rattle.script_run.specs.declared.clock.ClockLine.{ClockLine}
 use Rattle.script_run.specs.declared.clock.ClockLine.TheVariants.{Wait, Armed, Tick}
 use Rattle.script_run.specs.ClockStays.{timed_stays}
+use Rattle.script_run.specs.ClockTries.{IsUndone, WasTried, IsAtLine}
 use Rattle.script_run.specs.ClockLines.{IsClockLine, AreClockLines, IsTimed, IsAlong, has_reply, is_ready, line_at, asked_at, asked_of}
 
 pub timed_more : (c : Script) (lines : List ClockLine) (next : ℕ) (s : Setup) (more h : List Event) → Legal s (more ++ h) → ticked more ≡ 0 → IsTimed c lines next h → IsTimed c lines next (more ++ h)
@@ -39,7 +40,7 @@ none_some : {X : Type 0} → (x : X) → None ≡ Some x → ⊥
 none_some x e = cc
 
 -- the script's line at a place of the clock's
-act_at : (c : Script) (acts : List Act) (lines : List ClockLine) (n : ℕ) (l : ClockLine) → AreClockLines c acts lines → slice_get lines n ≡ Some l → (a : Act) × (slice_get acts n ≡ Some a) × IsClockLine c a l
+pub act_at : (c : Script) (acts : List Act) (lines : List ClockLine) (n : ℕ) (l : ClockLine) → AreClockLines c acts lines → slice_get lines n ≡ Some l → (a : Act) × (slice_get acts n ≡ Some a) × IsClockLine c a l
 act_at c [] [] zero l k e = absurd (none_some l e)
 act_at c [] [] (suc n) l k e = absurd (none_some l e)
 act_at c [] (x ∷ lines) n l k e = absurd k
@@ -54,12 +55,12 @@ same_count c (a ∷ acts) [] k = absurd k
 same_count c (a ∷ acts) (l ∷ lines) k = ap suc (same_count c acts lines k.1)
 
 -- the lines around one of them
-record Around (acts : List Act) (n : ℕ) (a : Act) : Type 0 where
-  rest : drop n acts ≡ a ∷ drop (n + 1) acts
-  front : take (n + 1) acts ≡ take n acts ++ a ∷ []
-  whole : acts ≡ take n acts ++ a ∷ drop (n + 1) acts
+pub record Around (acts : List Act) (n : ℕ) (a : Act) : Type 0 where
+  pub rest : drop n acts ≡ a ∷ drop (n + 1) acts
+  pub front : take (n + 1) acts ≡ take n acts ++ a ∷ []
+  pub whole : acts ≡ take n acts ++ a ∷ drop (n + 1) acts
 
-around : (acts : List Act) (n : ℕ) (a : Act) → slice_get acts n ≡ Some a → Around acts n a
+pub around : (acts : List Act) (n : ℕ) (a : Act) → slice_get acts n ≡ Some a → Around acts n a
 around acts n a e =
     let lt : n < length acts = slice_get_within acts n a e in
     let is : a ≡ get_or acts n a = sym (get_or_from_slice_get acts n a a e) in
@@ -82,7 +83,7 @@ replied_now h o r e w = ap (holds_for is_replied h) e ∙ w
 pub waited : (c : Script) (lines : List ClockLine) (next : ℕ) (r : Req) (p : ℕ) (h : List Event) → slice_get lines next ≡ Some (Wait r p) → is_replied (phase h r) ≡ true → IsTimed c lines next h → IsTimed c lines (next + 1) h
 waited c lines next r p h at w k = let x = act_at c c.clock.items lines next (Wait r p) k.lines_are at in by x.0 x.1 x.2 where
   by : (a : Act) → slice_get c.clock.items next ≡ Some a → IsClockLine c a (Wait r p) → IsTimed c lines (next + 1) h
-  by (act.Wait q) e i = passed c lines next (act.Wait q) h e refl (λ m left. refl) (ap (holds_for is_replied h) i ∙ w) k
+  by (act.Wait q) e i = passed c lines next (act.Wait q) h e refl (λ m left. refl) (ap (holds_for is_replied h) i.0 ∙ w) k
   by (act.Armed q) e i = absurd i
   by (act.Tick n) e i = absurd i
   by (act.Submit ps) e i = absurd i
@@ -90,7 +91,7 @@ waited c lines next r p h at w k = let x = act_at c c.clock.items lines next (Wa
 pub ready : (c : Script) (lines : List ClockLine) (next : ℕ) (r : Req) (p : ℕ) (h : List Event) → slice_get lines next ≡ Some (Armed r p) → holds_for (λ x. is_armed x || is_replied x) h (Some r) ≡ true → IsTimed c lines next h → IsTimed c lines (next + 1) h
 ready c lines next r p h at w k = let x = act_at c c.clock.items lines next (Armed r p) k.lines_are at in by x.0 x.1 x.2 where
   by : (a : Act) → slice_get c.clock.items next ≡ Some a → IsClockLine c a (Armed r p) → IsTimed c lines (next + 1) h
-  by (act.Armed q) e i = passed c lines next (act.Armed q) h e refl (λ m left. refl) (ap (holds_for (λ x. is_armed x || is_replied x) h) i ∙ w) k
+  by (act.Armed q) e i = passed c lines next (act.Armed q) h e refl (λ m left. refl) (ap (holds_for (λ x. is_armed x || is_replied x) h) i.0 ∙ w) k
   by (act.Wait q) e i = absurd i
   by (act.Tick n) e i = absurd i
   by (act.Submit ps) e i = absurd i
@@ -190,14 +191,14 @@ told_ready j r Running s w = absurd (true≢false (sym w))
 
 -- ---- what the clock makes of it
 
-line_there : (b : Bool) (lines : List ClockLine) (n : ℕ) (l : ClockLine) → line_at b lines n ≡ Some l → slice_get lines n ≡ Some l
+pub line_there : (b : Bool) (lines : List ClockLine) (n : ℕ) (l : ClockLine) → line_at b lines n ≡ Some l → slice_get lines n ≡ Some l
 line_there true lines n l e = absurd (none_some l e)
 line_there false lines n l e = e
 
 stays_at : (lines new : List ClockLine) (next next' : ℕ) (h : List Event) → new ≡ lines → next' ≡ next → IsAlong lines next h → IsAlong new next' h
 stays_at lines new next next' h same at k = subst (λ (z : List ClockLine × ℕ). IsAlong z.0 z.1 h) (λ i. (sym same i, sym at i)) k
 
-asked_is : (b : Bool) (lines : List ClockLine) (n : ℕ) (l : ClockLine) (phase' : Option Standing) (j : List Line) → line_at b lines n ≡ Some l → Asked j (asked_of (line_at b lines n)) phase' → Asked j (Some (asked_at l)) phase'
+pub asked_is : (b : Bool) (lines : List ClockLine) (n : ℕ) (l : ClockLine) (phase' : Option Standing) (j : List Line) → line_at b lines n ≡ Some l → Asked j (asked_of (line_at b lines n)) phase' → Asked j (Some (asked_at l)) phase'
 asked_is b lines n l phase' j e a = subst (λ (o : Option ClockLine). Asked j (asked_of o) phase') e a
 
 waits_for : (lines : List ClockLine) (next : ℕ) (r : Req) (p : ℕ) (phase' : Option Standing) (j : List Line) → slice_get lines next ≡ Some (Wait r p) → has_reply phase' ≡ true → Asked j (Some r) phase' → IsAlong lines next (events_of j) → IsAlong lines (next + 1) (events_of j)
@@ -233,3 +234,83 @@ lines_more c [] a [] l k i = (i, tt)
 lines_more c [] a (m ∷ lines) l k i = absurd k
 lines_more c (b ∷ acts) a [] l k i = absurd k
 lines_more c (b ∷ acts) a (m ∷ lines) l k i = (k.0, lines_more c acts a lines l k.1 i)
+
+-- ---- how often it was tried
+
+-- it was not what it was asked for
+told_unreplied : (j : List Line) (r : Req) (x : Standing) → Stands j r x → has_reply (Some x) ≡ false → is_replied (phase (events_of j) r) ≡ false
+told_unreplied j r Gone s w = absurd (true≢false w)
+told_unreplied j r (Done n) s w = absurd (true≢false w)
+told_unreplied j r Unborn s w = ap is_replied s
+told_unreplied j r Held s w = ap is_replied s.0
+told_unreplied j r Ready s w = ap is_replied s.0
+told_unreplied j r Running s w = ap is_replied s
+told_unreplied j r (Ringing d) s w = ap is_replied s
+
+told_unready : (j : List Line) (r : Req) (x : Standing) → Stands j r x → is_ready (Some x) ≡ false → (is_armed (phase (events_of j) r) || is_replied (phase (events_of j) r)) ≡ false
+told_unready j r Gone s w = absurd (true≢false w)
+told_unready j r (Done n) s w = absurd (true≢false w)
+told_unready j r (Ringing d) s w = absurd (true≢false w)
+told_unready j r Unborn s w = ap (λ x. is_armed x || is_replied x) s
+told_unready j r Held s w = ap (λ x. is_armed x || is_replied x) s.0
+told_unready j r Ready s w = ap (λ x. is_armed x || is_replied x) s.0
+told_unready j r Running s w = ap (λ x. is_armed x || is_replied x) s
+
+-- a clock that has a line is not stuck
+pub not_stuck : (b : Bool) (lines : List ClockLine) (n : ℕ) (l : ClockLine) → line_at b lines n ≡ Some l → b ≡ false
+not_stuck true lines n l e = absurd (none_some l e)
+not_stuck false lines n l e = refl
+
+-- it goes on to a line that was never tried
+pub at_next : (lines : List ClockLine) (next tries most : ℕ) (is_stuck : Bool) (h : List Event) → tries ≡ 0 → is_stuck ≡ false → IsAlong lines next h → IsAtLine lines next tries most is_stuck h
+at_next lines next tries most is_stuck h none goes along = record {
+  along = along;
+  tried = subst (λ (n : ℕ). WasTried (slice_get lines next) n h) (sym none) tt;
+  few = λ _. omega arith;
+  all = λ on. absurd (true≢false (sym on ∙ goes));
+}
+
+-- it tried its line once more
+pub tried_again : (lines : List ClockLine) (next tries tries' most : ℕ) (is_stuck is_stuck' : Bool) (h : List Event) → most < 2 ^ 32 → tries' ≡ min (tries + 1) 4294967295 → is_stuck' ≡ (nat_le most tries' || is_stuck) → is_stuck ≡ false
+    → IsUndone (slice_get lines next) h → IsAtLine lines next tries most is_stuck h → IsAtLine lines next tries' most is_stuck' h
+tried_again lines next tries tries' most is_stuck is_stuck' h small more told goes undone k =
+    let few : tries < max most 1 = k.few goes in
+    let one : tries' ≡ suc tries = omega arith in
+    let now : is_stuck' ≡ nat_le most tries' = told ∙ (ap (λ (b : Bool). nat_le most tries' || b) goes ∙ or_false (nat_le most tries')) in
+    record {
+      along = k.along;
+      tried = subst (λ (n : ℕ). WasTried (slice_get lines next) n h) (sym one) ([], h, refl, undone, k.tried);
+      few = λ off. (let above : tries' < most = leb-false most tries' (sym now ∙ off) in omega arith);
+      all = λ on. (let below : most ≤ tries' = leb-true most tries' (sym now ∙ on) in omega arith);
+    } where
+      or_false : (b : Bool) → (b || false) ≡ b
+      or_false true = refl
+      or_false false = refl
+
+-- the same clock, part by part
+pub at_same : (lines new : List ClockLine) (next next' tries tries' most most' : ℕ) (b b' : Bool) (h : List Event) → new ≡ lines → next' ≡ next → tries' ≡ tries → most' ≡ most → b' ≡ b → IsAtLine lines next tries most b h → IsAtLine new next' tries' most' b' h
+at_same lines new next next' tries tries' most most' b b' h same at count limit stuck k =
+    subst (λ (z : (List ClockLine × ℕ) × ((ℕ × ℕ) × Bool)). IsAtLine z.0.0 z.0.1 z.1.0.0 z.1.0.1 z.1.1 h) (λ i. ((sym same i, sym at i), ((sym count i, sym limit i), sym stuck i))) k
+
+-- what a turn makes of a line that waits: of these parts of the clock it is counted, or passed
+pub record Counted (lines new : List ClockLine) (next next' tries tries' most most' : ℕ) (b b' done : Bool) : Type 0 where
+  pub small : most < 2 ^ 32
+  pub lines_are : new ≡ lines
+  pub most_is : most' ≡ most
+  pub gone : done ≡ true → (next' ≡ next + 1) × (tries' ≡ 0) × (b' ≡ b)
+  pub still : done ≡ false → (next' ≡ next) × (tries' ≡ min (tries + 1) 4294967295) × (b' ≡ (nat_le most tries' || b))
+
+pub waits_still : (o : Option ClockLine) (r : Req) (p : ℕ) (phase' : Option Standing) (j : List Line) → o ≡ Some (Wait r p) → has_reply phase' ≡ false → Asked j (Some r) phase' → IsUndone o (events_of j)
+waits_still o r p None j at w a = absurd a
+waits_still o r p (Some x) j at w a = subst (λ (z : Option ClockLine). IsUndone z (events_of j)) (sym at) (told_unreplied j r x a w)
+
+pub arms_still : (o : Option ClockLine) (r : Req) (p : ℕ) (phase' : Option Standing) (j : List Line) → o ≡ Some (Armed r p) → is_ready phase' ≡ false → Asked j (Some r) phase' → IsUndone o (events_of j)
+arms_still o r p None j at w a = absurd a
+arms_still o r p (Some x) j at w a = subst (λ (z : Option ClockLine). IsUndone z (events_of j)) (sym at) (told_unready j r x a w)
+
+pub turn_counted : (lines new : List ClockLine) (next next' tries tries' most most' : ℕ) (b b' done : Bool) (h : List Event) → Counted lines new next next' tries tries' most most' b b' done → b ≡ false
+    → (done ≡ true → IsAlong new next' h) → (done ≡ false → IsUndone (slice_get lines next) h) → IsAtLine lines next tries most b h → IsAtLine new next' tries' most' b' h
+turn_counted lines new next next' tries tries' most most' b b' done h n goes passed' undone k = ⊎_elim
+    (λ (w : done ≡ true). at_next new next' tries' most' b' h (n.gone w).1 ((n.gone w).2 ∙ goes) (passed' w))
+    (λ (w : done ≡ false). at_same lines new next next' tries' tries' most most' b' b' h n.lines_are (n.still w).0 refl n.most_is refl (tried_again lines next tries tries' most b b' h n.small (n.still w).1 (n.still w).2 goes (undone w) k))
+    (bool_cases done)

@@ -6,7 +6,8 @@ use Rattle.board.specs.declared.completion.Completion.{Completion}
 use Rattle.runtime.specs.Clients.{ClientFacts}
 use Rattle.script_run.specs.declared.hand.Hand.{Hand}
 use Rattle.script.specs.declared.script.Script.{Script}
-use Rattle.script_run.specs.Hands.{client_of, taken_by, AllCarriedOut, CarriedOut}
+use Rattle.script_run.specs.Hands.{client_of, taken_by}
+use Rattle.script_run.specs.Tries.{AllCarriedOut, CarriedOut}
 
 from : {X : Type 0} → Option X → X → X
 from None d = d
@@ -45,13 +46,13 @@ get_map {A} {B} f (x ∷ xs) zero a b lt = refl
 get_map {A} {B} f (x ∷ xs) (suc k) a b lt = get_map f xs k a b (omega arith)
 
 -- one hand more whose lines were carried out
-carried_at : (c : Script) (xs ys : List Hand) (x y : Hand) → AllCarriedOut c xs ys → CarriedOut c x y → (k : ℕ) (d e : Hand) → k < length (xs ++ x ∷ []) → CarriedOut c (slice_index_or (xs ++ x ∷ []) k d) (slice_index_or (ys ++ y ∷ []) k e)
-carried_at c [] [] x y all one zero d e lt = one
-carried_at c [] [] x y all one (suc k) d e lt = absurd (omega (arith, lt))
-carried_at c [] (v ∷ ys) x y all one k d e lt = absurd (let same = all.0 in omega arith)
-carried_at c (u ∷ xs) [] x y all one k d e lt = absurd (let same = all.0 in omega arith)
-carried_at c (u ∷ xs) (v ∷ ys) x y all one zero d e lt = all.1 0 d e (omega arith)
-carried_at c (u ∷ xs) (v ∷ ys) x y all one (suc k) d e lt = carried_at c xs ys x y (let same = all.0 in omega arith, λ j a b l. all.1 (suc j) a b (omega (arith, l))) one k d e (omega (arith, lt))
+carried_at : (c : Script) (turns : ℕ) (xs ys : List Hand) (x y : Hand) → AllCarriedOut c turns xs ys → CarriedOut c turns x y → (k : ℕ) (d e : Hand) → k < length (xs ++ x ∷ []) → CarriedOut c turns (slice_index_or (xs ++ x ∷ []) k d) (slice_index_or (ys ++ y ∷ []) k e)
+carried_at c turns [] [] x y all one zero d e lt = one
+carried_at c turns [] [] x y all one (suc k) d e lt = absurd (omega (arith, lt))
+carried_at c turns [] (v ∷ ys) x y all one k d e lt = absurd (let same = all.0 in omega arith)
+carried_at c turns (u ∷ xs) [] x y all one k d e lt = absurd (let same = all.0 in omega arith)
+carried_at c turns (u ∷ xs) (v ∷ ys) x y all one zero d e lt = all.1 0 d e (omega arith)
+carried_at c turns (u ∷ xs) (v ∷ ys) x y all one (suc k) d e lt = carried_at c turns xs ys x y (let same = all.0 in omega arith, λ j a b l. all.1 (suc j) a b (omega (arith, l))) one k d e (omega (arith, lt))
 
-pub carried_more : (c : Script) (xs ys : List Hand) (x y : Hand) → AllCarriedOut c xs ys → CarriedOut c x y → AllCarriedOut c (xs ++ x ∷ []) (ys ++ y ∷ [])
-carried_more c xs ys x y all one = (let m = length-append xs (x ∷ []) in let n = length-append ys (y ∷ []) in let same = all.0 in omega arith, carried_at c xs ys x y all one)
+pub carried_more : (c : Script) (turns : ℕ) (xs ys : List Hand) (x y : Hand) → AllCarriedOut c turns xs ys → CarriedOut c turns x y → AllCarriedOut c turns (xs ++ x ∷ []) (ys ++ y ∷ [])
+carried_more c turns xs ys x y all one = (let m = length-append xs (x ∷ []) in let n = length-append ys (y ∷ []) in let same = all.0 in omega arith, carried_at c turns xs ys x y all one)

@@ -1,5 +1,5 @@
 -- What a hand's calls make of it.
-use Rattle.std.proofs.Common.{◌≡◌, ◌⊎◌, ℕ, zero, suc, ◌+◌, ◌<◌, ◌≤◌, true, List, [], ◌∷◌, ◌++◌, Some, length, take, drop, get_or, nat_lt, set, sym, refl, ap, ◌∙◌, subst, inl, inr, arith}
+use Rattle.std.proofs.Common.{◌≡◌, ◌⊎◌, ℕ, zero, suc, ◌+◌, ◌<◌, ◌≤◌, true, List, [], ◌∷◌, ◌++◌, Some, length, take, drop, get_or, nat_lt, set, sym, refl, ap, ◌∙◌, subst, arith}
 use Rattle.std.specs.Prelude.{slice_get}
 use Rattle.std.specs.Global.{Vec}
 use Rattle.std.proofs.Math.Seq.{take-length}
@@ -8,7 +8,7 @@ use Rattle.std.proofs.lemmas.Option.{slice_get_read}
 use Rattle.std.proofs.lemmas.Bool.Decides.{nat_tests}
 use mathlib.Core.Logic.{dite}
 use native.Mathlib.Decide.{ℕ_discrete}
-use Rattle.std.proofs.Common.{length-set, get_or-set_same, get_or-set_other}
+use Rattle.std.proofs.Common.{true≢false, add-one, Option, None, ⊎_elim, length-set, get_or-set_same, get_or-set_other}
 use Rattle.history.specs.declared.req.Req.{Req}
 use Rattle.history.specs.declared.event.Event.{Event}
 use Rattle.history.specs.declared.event.Event.TheVariants as event
@@ -36,7 +36,11 @@ use Rattle.script.specs.Tables.{is_done, is_replied, holds_for}
 use Rattle.script.proofs.CarriedLines.{line_handed, line_done}
 use Rattle.script.proofs.Items.{rest_at, front_at}
 use Rattle.script_run.specs.declared.hand.Hand.{Hand}
-use Rattle.script_run.specs.Hands.{seen_by, AreTaken, AreEntries, Stayed, HandAt, Went, HandedIn, Carries, IsThrough, AllWent}
+use Rattle.script_run.specs.ClockLines.{has_reply}
+use Rattle.script_run.specs.Tries.{IsInVain, TriedInVain, RanOut, IfStuck, IsFor, IsLowest, IsStuckLine}
+use Rattle.script_run.specs.declared.lines.Halt.{Halt}
+use Rattle.script_run.specs.declared.lines.Halt.TheVariants as halt
+use Rattle.script_run.specs.Hands.{seen_by, AreTaken, AreEntries, Stayed, HandAt, Went, HandedIn, Carries, IsCarried, IsThrough, AllWent}
 use Rattle.script_run.proofs.ClientCalls.{taken_by_line, taken_more, carried_by, batch_handed}
 
 -- a pass that went on has seen a legal history
@@ -151,14 +155,14 @@ carries_wait c p r old new is w i = record {
 
 -- ---- where a request stands that was found
 
-pub found_replied : (j : List Line) (r : Req) (x : Standing) → Stands j r x → (x ≡ Gone) ⊎ ((n : _) × (x ≡ Done n)) → IsReplied (phase (events_of j) r)
-found_replied j r Gone s e = subst IsReplied (sym s.2) tt
-found_replied j r (Done n) s e = subst IsReplied (sym s.1) tt
-found_replied j r Unborn s e = absurd (elim e [ inl x ↦ cc | inr x ↦ (let y = x.1 in cc) ])
-found_replied j r Held s e = absurd (elim e [ inl x ↦ cc | inr x ↦ (let y = x.1 in cc) ])
-found_replied j r Ready s e = absurd (elim e [ inl x ↦ cc | inr x ↦ (let y = x.1 in cc) ])
-found_replied j r Running s e = absurd (elim e [ inl x ↦ cc | inr x ↦ (let y = x.1 in cc) ])
-found_replied j r (Armed d) s e = absurd (elim e [ inl x ↦ cc | inr x ↦ (let y = x.1 in cc) ])
+pub reply_found : (j : List Line) (r : Req) (x : Standing) → Stands j r x → has_reply (Some x) ≡ true → IsReplied (phase (events_of j) r)
+reply_found j r Gone s w = subst IsReplied (sym s.2) tt
+reply_found j r (Done n) s w = subst IsReplied (sym s.1) tt
+reply_found j r Unborn s w = absurd (true≢false (sym w))
+reply_found j r Held s w = absurd (true≢false (sym w))
+reply_found j r Ready s w = absurd (true≢false (sym w))
+reply_found j r Running s w = absurd (true≢false (sym w))
+reply_found j r (Armed d) s w = absurd (true≢false (sym w))
 
 -- ---- all hands
 
@@ -168,7 +172,7 @@ same_at [] k d e lt = absurd (omega arith)
 same_at (x ∷ xs) zero d e lt = refl
 same_at (x ∷ xs) (suc k) d e lt = same_at xs k d e (omega arith)
 
-went_same : (x y : Hand) → y ≡ x → Went x y
+pub went_same : (x y : Hand) → y ≡ x → Went x y
 went_same x y is = subst (Went x) (sym is) (went_still x x refl refl refl)
 
 pub all_still : (xs : List Hand) → AllWent xs xs
@@ -224,3 +228,81 @@ all_carried c v xs i h here below above at k w same =
     let one : v ≡ w = cc in
     let whole : take i xs ≡ xs = ap (λ (n : ℕ). take n xs) (let z : i ≡ length xs = omega arith in z) ∙ take-length xs in
     subst (λ (z : Vec Act). HandAt c z.items 0 h) one (subst (λ (z : List Act). HandAt c z 0 h) (whole ∙ here) k)
+
+-- ---- a line that runs out of tries
+
+-- one try more, after which it took completions
+pub tried_first : (c : Script) (act : Act) (n : ℕ) (old mid last new : Hand) → TriedInVain c act n old mid → IsInVain c act mid last → Went last new → TriedInVain c act (n + 1) old new
+tried_first c act n old mid last new tries vain after = subst (λ (k : ℕ). TriedInVain c act k old new) (sym (add-one n)) (mid, tries, record { first = mid; last = last; before = went_same mid mid refl; tried = vain; after = after })
+
+-- one try more, before which it took completions
+pub tried_last : (c : Script) (act : Act) (n : ℕ) (old mid first new : Hand) → TriedInVain c act n old mid → Went mid first → IsInVain c act first new → TriedInVain c act (n + 1) old new
+tried_last c act n old mid first new tries before vain = subst (λ (k : ℕ). TriedInVain c act k old new) (sym (add-one n)) (mid, tries, record { first = first; last = new; before = before; tried = vain; after = went_same new new refl })
+
+pub ran_out : (c : Script) (act : Act) (turns tries p : ℕ) (old new : Hand) → tries ≤ turns → turns ≤ tries → IsFor act p → TriedInVain c act tries old new → RanOut c turns act p old new
+ran_out c act turns tries p old new below above is_for k = record { is_for = is_for; tried = subst (λ (n : ℕ). TriedInVain c act n old new) (let same : tries ≡ turns = omega arith in same) k }
+
+-- the line at a place of the ring's lines
+pub stuck_at : (c : Script) (turns p : ℕ) (v : Vec Act) (xs : List Act) (i : ℕ) (a : Act) (old new : Hand) → xs ≡ v.items → i < length xs → a ≡ get_or xs i a → slice_get c.acts.items old.client.ring ≡ Some v → new.client.ring ≡ old.client.ring
+    → HandAt c (take i xs) 0 old → RanOut c turns a p old new → IsStuckLine c turns p new
+stuck_at c turns p v xs i a old new same lt is at ring k out = record {
+  lines = v;
+  lines_are = ap (slice_get c.acts.items) ring ∙ at;
+  done = take i xs;
+  act = a;
+  left = drop (i + 1) xs;
+  split = sym same ∙ (sym (take-append-drop i xs) ∙ ap (λ (z : List Act). take i xs ++ z) (rest_at xs i a lt is));
+  from = old;
+  at = k;
+  to = new;
+  same = refl;
+  out = out;
+}
+
+-- the same hand, but for why it was stopped
+pub carried_as : (c : Script) (h new : Hand) → new.client ≡ h.client → new.taken ≡ h.taken → IsCarried c h → IsCarried c new
+carried_as c h new client taken k = record {
+  through = λ v at. (
+      let x = k.through v (ap (λ z. slice_get c.acts.items z.ring) (sym client) ∙ at) in
+      record { role = ap (λ z. z.submitter.view.role) client ∙ (x.role ∙ ap (λ z. Submitter z.ring) (sym client)); carried = subst (λ z. HasCarried c z.ring v.items 0 (seen_of z.submitter)) (sym client) x.carried });
+  taken = subst (λ z. AreTaken (seen_of z.submitter) new.taken.items) (sym client) (subst (λ (z : Vec Completion). AreTaken (seen_by h) z.items) (sym taken) k.taken);
+}
+
+pub stuck_as : (c : Script) (turns p : ℕ) (h new : Hand) → new.client ≡ h.client → IsStuckLine c turns p h → IsStuckLine c turns p new
+stuck_as c turns p h new client k = record {
+  lines = k.lines;
+  lines_are = ap (λ x. slice_get c.acts.items x.ring) client ∙ k.lines_are;
+  done = k.done;
+  act = k.act;
+  left = k.left;
+  split = k.split;
+  from = k.from;
+  at = k.at;
+  to = k.to;
+  same = client ∙ k.same;
+  out = k.out;
+}
+
+pub if_stuck : (P Q : ℕ → Type 0) (h : Halt) → ((p : ℕ) → P p → Q p) → IfStuck P h → IfStuck Q h
+if_stuck P Q (halt.Stuck p) f k = f p k
+if_stuck P Q halt.Refused f k = tt
+if_stuck P Q halt.Memory f k = tt
+if_stuck P Q halt.Thread f k = tt
+if_stuck P Q halt.Stopped f k = tt
+
+-- the halt that is told of one hand more
+pub halts_more : (hands : List Hand) (i : ℕ) (h : Hand) (old new : Option Halt) → i < length hands → h ≡ get_or hands i h
+    → (new ≡ None → (old ≡ None) × (h.halt ≡ None)) → ((p : ℕ) → new ≡ Some (halt.Stuck p) → (old ≡ Some (halt.Stuck p)) ⊎ ((old ≡ None) × (h.halt ≡ Some (halt.Stuck p))))
+    → (old ≡ None → (k : ℕ) (d : Hand) → k < i → (get_or hands k d).halt ≡ None) → ((p : ℕ) → old ≡ Some (halt.Stuck p) → IsLowest hands i p)
+    → (new ≡ None → (k : ℕ) (d : Hand) → k < i + 1 → (get_or hands k d).halt ≡ None) × ((p : ℕ) → new ≡ Some (halt.Stuck p) → IsLowest hands (i + 1) p)
+halts_more hands i h old new lt is told_none told_stuck none stuck = (
+  λ w k d in'. (let e = told_none w in dite (ℕ_discrete k i)
+      (λ same. ap (λ (z : ℕ). (get_or hands z d).halt) same ∙ (at d ∙ e.1))
+      (λ other. none e.0 k d (omega arith))),
+  λ p w. ⊎_elim
+      (λ (x : old ≡ Some (halt.Stuck p)). (let low = stuck p x in let below = low.below in record { ring = low.ring; below = omega arith; stuck = low.stuck; lower = low.lower }))
+      (λ (x : (old ≡ None) × (h.halt ≡ Some (halt.Stuck p))). record { ring = i; below = omega arith; stuck = λ d. at d ∙ x.1; lower = λ k d under. none x.0 k d under })
+      (told_stuck p w),
+) where
+  at : (d : Hand) → (get_or hands i d).halt ≡ h.halt
+  at d = ap (λ (z : Hand). z.halt) (same_at hands i h d lt ∙ sym is)

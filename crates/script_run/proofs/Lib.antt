@@ -1,6 +1,7 @@
-pub mod HandLists
+mod StuckRuns
 pub mod ClientCalls
-pub mod HandSteps
 pub mod ClockSteps
-pub mod WholeTables
+pub mod HandLists
+pub mod HandSteps
 pub mod RunSteps
+pub mod WholeTables

@@ -12,10 +12,10 @@ use Rattle.script.specs.Homes.{home}
 use Rattle.script_run.specs.declared.clock.ClockLine.{ClockLine}
 use Rattle.script_run.specs.declared.clock.ClockLine.TheVariants.{Wait, Armed, Tick}
 
--- the line is this one of the script, with the request of its entry
+-- the line is this one of the script, with the request and the place of its entry
 abbrev pub IsClockLine : Script → Act → ClockLine → Type 0
-IsClockLine c (act.Wait p) (Wait r q) = home c p ≡ Some r
-IsClockLine c (act.Armed p) (Armed r q) = home c p ≡ Some r
+IsClockLine c (act.Wait p) (Wait r q) = (home c p ≡ Some r) × (p ≡ q)
+IsClockLine c (act.Armed p) (Armed r q) = (home c p ≡ Some r) × (p ≡ q)
 IsClockLine c (act.Tick n) (Tick m) = n ≡ m
 IsClockLine c _ _ = ⊥
 

@@ -17,8 +17,6 @@ use Rattle.script.specs.declared.named.Named.{Named}
 use Rattle.script.specs.declared.script.Script.{Script}
 use Rattle.script.specs.Carried.{HasCarried}
 use Rattle.script_run.specs.declared.hand.Hand.{Hand}
-use Rattle.script_run.specs.declared.hand.Tried.{Tried}
-use Rattle.script_run.specs.declared.hand.Tried.TheVariants.{Submitted, Full, Refused}
 
 abbrev pub client_of : Hand → ClientFacts
 client_of h = h.client
@@ -62,12 +60,6 @@ pub record HandedIn (xs : Entries) (old new : Hand) : Type 0 where
   pub stayed : Stayed old new
   pub goes : Goes old.client.board old.client.submitter (submits_of old.client.ring (submits (seen_by old) old.client.ring) xs) new.client.submitter
 
--- what a try to submit these entries came to
-abbrev pub CameTo : Entries → Hand → Hand → Tried → Type 0
-CameTo xs old new Submitted = HandedIn xs old new
-CameTo xs old new (Full batch) = Went old new × (batch.items ≡ xs)
-CameTo xs old new Refused = Went old new
-
 -- the entry of the script at a place, with its buffer
 abbrev pub IsEntryAt : Script → ℕ → Entry × Vec ℕ → Type 0
 IsEntryAt c p x = (e : Named) × (slice_get c.entries.items p ≡ Some e) × (x.0 ≡ e.sqe) × (x.1.items ≡ e.buffer.items)
@@ -100,18 +92,9 @@ pub record IsCarried (c : Script) (h : Hand) : Type 0 where
   pub through : IsThrough c h
   pub taken : AreTaken (seen_by h) h.taken.items
 
--- its thread carried its lines out, unless it was stopped
-pub record CarriedOut (c : Script) (old new : Hand) : Type 0 where
-  pub board : new.client.board ≡ old.client.board
-  pub ring : new.client.ring ≡ old.client.ring
-  pub carried : IsNewHand c old → new.halt ≡ None → IsCarried c new
-
 -- place by place, each of these came of the one that stands there
 abbrev pub AllWent : List Hand → List Hand → Type 0
 AllWent xs ys = (length ys ≡ length xs) × ((k : ℕ) (d e : Hand) → k < length xs → Went (slice_index_or xs k d) (slice_index_or ys k e))
-
-abbrev pub AllCarriedOut : Script → List Hand → List Hand → Type 0
-AllCarriedOut c xs ys = (length ys ≡ length xs) × ((k : ℕ) (d e : Hand) → k < length xs → CarriedOut c (slice_index_or xs k d) (slice_index_or ys k e))
 
 -- all that they took
 abbrev pub taken_by : List Hand → List Completion

@@ -1,5 +1,9 @@
 pub mod ClockLines
 pub mod ClockStays
+pub mod ClockTries
+pub mod Faults
 pub mod Hands
 pub mod Played
 pub mod RunRows
+pub mod Stuck
+pub mod Tries

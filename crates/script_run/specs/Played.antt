@@ -13,12 +13,13 @@ use Rattle.script.specs.Carried.{HasTimed}
 use Rattle.script_run.specs.declared.hand.Hand.{Hand}
 use Rattle.script_run.specs.Hands.{client_of, taken_by, IsNewHand, IsCarried}
 
--- a new runtime of the shape that the script asks for
-pub record IsStartedFor (c : Script) (b : Facts) (clients : List ClientFacts) : Type 0 where
+-- a new runtime of the shape that the script asks for, with so many workers
+pub record IsStartedFor (c : Script) (workers : ℕ) (b : Facts) (clients : List ClientFacts) : Type 0 where
   pub shape : Shape
   pub started : IsStarted shape b clients
   pub rings : length shape.rings.items ≡ length c.rings.items
   pub pipes : shape.pipes.items ≡ c.pipes.items
+  pub pool : shape.workers ≡ workers
 
 -- the hands are of the board's rings, one of each, in order
 pub record AreInOrder (b : Facts) (hands : List Hand) : Type 0 where

@@ -1,7 +1,9 @@
 //! The clock's lines, carried out by the poller's thread: one try a turn.
-ghost use Rattle.std.specs.Prelude.{◌≡◌, ◌+◌, ◌<◌, ◌≤◌, [], IfOk, IfSome, IsTrue, length, true, false};
+ghost use Rattle.std.specs.Prelude.{◌≡◌, ◌+◌, ◌<◌, ◌≤◌, ◌^◌, ◌||◌, [], min, nat_le, IfOk, IfErr, IfSome, IsTrue, length, true, false};
 ghost use Rattle.script.specs.Homes.{AreHomes};
-ghost use Rattle.script_run.specs.ClockLines.{IsClockLine, AreClockLines, IsAlong, has_reply, is_ready, line_at};
+ghost use Rattle.script_run.specs.ClockLines.{IsClockLine, AreClockLines, has_reply, is_ready, line_at};
+ghost use Rattle.script_run.specs.ClockTries.{EndsAs, IsAtLine, IsOfPlace};
+ghost use Rattle.script_run.specs.Faults.{IsUnstuck};
 
 use crate::fault::RunFault;
 use crate::stage::home_of;
@@ -13,12 +15,11 @@ use std::alloc::{AllocError, Global};
 use std::sync::Arc;
 use std::sync::atomic::{AtomicU64, Ordering};
 
-/// How far a clock has come, as the other threads see it: how many lines are left, the place after that of the entry for which a
-/// line waited in vain, or 0, and how many turns the poller has made.
+/// How far a clock has come, as the other threads see it: how many lines are left that it may carry out, and how many turns the
+/// poller has made.
 #[derive(Drop)]
 pub(crate) struct Progress {
     left: AtomicU64,
-    stuck: AtomicU64,
     turns: AtomicU64,
 }
 
@@ -27,7 +28,6 @@ impl Progress {
     fn new(lines: u64) -> Progress {
         Progress {
             left: AtomicU64::new(lines),
-            stuck: AtomicU64::new(0),
             turns: AtomicU64::new(0),
         }
     }
@@ -35,12 +35,6 @@ impl Progress {
     /// Whether no line is left.
     pub fn is_over(&self) -> bool {
         self.left.load(Ordering::SeqCst) == 0
-    }
-
-    /// The place of the entry for which a line waited in vain.
-    pub fn stuck_at(&self) -> Option<u32> {
-        let place = self.stuck.load(Ordering::SeqCst).checked_sub(1)?;
-        u32::try_from(place).ok()
     }
 
     /// How many turns the poller has made.
@@ -56,6 +50,16 @@ pub(crate) enum ClockLine {
     Wait(Req, u32),
     Armed(Req, u32),
     Tick(u32),
+}
+
+/// What came of a clock that was to carry these lines out.
+pub(crate) enum Ended {
+    /// It has come to their end.
+    Through,
+    /// A line ran out of tries: the place of the entry that it waits for.
+    Stuck(u32),
+    /// Neither, or it had other lines, or another number of tries.
+    Other,
 }
 
 /// The lines of a script's clock, which of them is next, how often that was tried, how often it may be, and whether it was stopped.
@@ -90,7 +94,8 @@ pub(crate) fn lines_of(
     homes: &[Option<Req>],
 ) -> Result<Vec<ClockLine>, RunFault>
     requires { AreHomes script.now homes.now }
-    ensures { IfOk result (λ v. AreClockLines script.now script.now.clock.items v.items) }
+    ensures lines { IfOk result (λ v. AreClockLines script.now script.now.clock.items v.items) }
+    ensures unstuck { IfErr result IsUnstuck }
 {
     let mut lines = Vec::with_capacity(alloc, script.clock.len())?;
     for act in &script.clock {
@@ -115,6 +120,16 @@ fn are_same(lines: &[ClockLine], others: &[ClockLine]) -> bool
     }
 }
 
+/// The place of the entry that the line waits for, if it waits for one.
+fn place_of(line: &ClockLine) -> Option<u32>
+    ensures { IfSome result (IsOfPlace line.now) }
+{
+    match line {
+        ClockLine::Wait(_, place) | ClockLine::Armed(_, place) => Some(*place),
+        ClockLine::Tick(_) => None,
+    }
+}
+
 impl LineClock {
     /// A clock of these lines, before the first, and its progress.
     pub fn new(
@@ -122,7 +137,7 @@ impl LineClock {
         lines: Vec<ClockLine>,
         turns: u32,
     ) -> Result<(LineClock, Arc<Progress>), AllocError>
-        ensures { IfOk result (λ t. IsAlong t.0.lines.items t.0.next []) }
+        ensures { IfOk result (λ t. IsAtLine t.0.lines.items t.0.next t.0.tries t.0.most t.0.is_stuck []) }
     {
         let progress = Arc::new(alloc, Progress::new(lines.len() as u64))?;
         let theirs = Arc::try_clone(&progress)?;
@@ -147,55 +162,64 @@ impl LineClock {
         self.lines.get(self.next).copied()
     }
 
-    /// Whether these are its lines, and it has come to their end.
-    pub fn has_carried(&self, lines: &[ClockLine]) -> bool
-        ensures { IsTrue result → (self.now.lines.items ≡ lines.now) × (length lines.now ≤ self.now.next) }
+    /// What came of it, if these were its lines, and each was to be tried so often.
+    pub fn ended(&self, lines: &[ClockLine], turns: u32) -> Ended
+        ensures { EndsAs self.now.lines.items self.now.next self.now.most self.now.is_stuck lines.now turns result }
     {
-        are_same(self.lines.as_slice(), lines) && lines.len() <= self.next
+        if !are_same(self.lines.as_slice(), lines) || self.most != turns {
+            return Ended::Other;
+        }
+        let Some(line) = lines.get(self.next) else {
+            return Ended::Through;
+        };
+        match place_of(line) {
+            Some(place) if self.is_stuck => Ended::Stuck(place),
+            _ => Ended::Other,
+        }
     }
 
     /// Goes on to the line after this one.
     fn go_on(&mut self)
         requires { self.old.next < length self.old.lines.items }
-        ensures same { self.new.lines ≡ self.old.lines }
-        ensures next { self.new.next ≡ self.old.next + 1 }
+        ensures same { (self.new.lines ≡ self.old.lines) × (self.new.most ≡ self.old.most) × (self.new.is_stuck ≡ self.old.is_stuck) }
+        ensures next { (self.new.next ≡ self.old.next + 1) × (self.new.tries ≡ 0) }
     {
         self.next += 1;
         self.tries = 0;
         self.progress.left.fetch_sub(1, Ordering::SeqCst);
     }
 
-    /// Stops, and tells the place of the entry for which it waited.
-    fn stop(&mut self, place: u32)
-        ensures { (self.new.lines ≡ self.old.lines) × (self.new.next ≡ self.old.next) }
+    /// Stops before its next line.
+    fn stop(&mut self)
+        ensures same { (self.new.lines ≡ self.old.lines) × (self.new.next ≡ self.old.next) × (self.new.tries ≡ self.old.tries) × (self.new.most ≡ self.old.most) }
+        ensures stuck { self.new.is_stuck ≡ true }
     {
         self.is_stuck = true;
-        self.progress
-            .stuck
-            .store(u64::from(place).saturating_add(1), Ordering::SeqCst);
         self.progress.left.store(0, Ordering::SeqCst);
     }
 
     /// Goes on where the line is done. Else it counts a try that was in vain.
-    fn count(&mut self, place: u32, is_done: bool)
+    fn count(&mut self, is_done: bool)
         requires { self.old.next < length self.old.lines.items }
-        ensures same { self.new.lines ≡ self.old.lines }
-        ensures gone { is_done ≡ true → self.new.next ≡ self.old.next + 1 }
-        ensures still { is_done ≡ false → self.new.next ≡ self.old.next }
+        ensures small { self.old.most < 2 ^ 32 }
+        ensures same { (self.new.lines ≡ self.old.lines) × (self.new.most ≡ self.old.most) }
+        ensures gone { is_done ≡ true → (self.new.next ≡ self.old.next + 1) × (self.new.tries ≡ 0) × (self.new.is_stuck ≡ self.old.is_stuck) }
+        ensures still { is_done ≡ false → (self.new.next ≡ self.old.next) × (self.new.tries ≡ min (self.old.tries + 1) 4294967295) × (self.new.is_stuck ≡ (nat_le self.old.most self.new.tries || self.old.is_stuck)) }
     {
+        let most = self.most;
         if is_done {
             self.go_on();
             return;
         }
         self.tries = self.tries.saturating_add(1);
-        if self.most <= self.tries {
-            self.stop(place);
+        if most <= self.tries {
+            self.stop();
         }
     }
 }
 
 /// Whether the request that was asked for has its reply.
-fn has_reply(phase: Option<Phase>) -> bool
+pub(crate) fn has_reply(phase: Option<Phase>) -> bool
     ensures { result ≡ has_reply phase }
 {
     match phase {
@@ -215,14 +239,15 @@ fn is_ready(phase: Option<Phase>) -> bool
 }
 
 impl Clock for LineClock {
-    ghost use Rattle.script_run.specs.ClockLines.{IsAlong, line_at, asked_of};
-    ghost use Rattle.script_run.specs.ClockStays.{along_stays};
+    ghost use Rattle.script_run.specs.ClockLines.{line_at, asked_of};
+    ghost use Rattle.script_run.specs.ClockStays.{at_line_stays};
+    ghost use Rattle.script_run.specs.ClockTries.{IsAtLine};
 
     ghost asked = { λ c. asked_of (line_at c.is_stuck c.lines.items c.next) };
 
-    ghost follows = { λ c h. IsAlong c.lines.items c.next h };
+    ghost follows = { λ c h. IsAtLine c.lines.items c.next c.tries c.most c.is_stuck h };
 
-    ghost stays = { λ c s e h l none k. along_stays c.lines.items c.next s e h l none k };
+    ghost stays = { λ c s e h l none k. at_line_stays c.lines.items c.next c.tries c.most c.is_stuck s e h l none k };
 
     fn ask(&self) -> Option<Req> {
         match self.line()? {
@@ -234,12 +259,12 @@ impl Clock for LineClock {
     fn tell(&mut self, _now: u32, phase: Option<Phase>) -> Option<u32> {
         self.progress.turns.fetch_add(1, Ordering::SeqCst);
         match self.line()? {
-            ClockLine::Wait(_, place) => {
-                self.count(place, has_reply(phase));
+            ClockLine::Wait(_, _) => {
+                self.count(has_reply(phase));
                 None
             }
-            ClockLine::Armed(_, place) => {
-                self.count(place, is_ready(phase));
+            ClockLine::Armed(_, _) => {
+                self.count(is_ready(phase));
                 None
             }
             ClockLine::Tick(to) => {

@@ -45,6 +45,10 @@ impl<T: Drop> From<AllocFailed<T>> for RunFault {
 }
 
 impl From<StartError> for RunFault {
+    ghost use Rattle.script_run.specs.Faults.{IsUnstuck};
+
+    ghost from_gives = { λ _ fault. IsUnstuck fault };
+
     fn from(error: StartError) -> RunFault {
         match error {
             StartError::BadShape => RunFault::Workers,
@@ -55,6 +59,10 @@ impl From<StartError> for RunFault {
 }
 
 impl From<JoinError> for RunFault {
+    ghost use Rattle.script_run.specs.Faults.{IsUnstuck};
+
+    ghost from_gives = { λ _ fault. IsUnstuck fault };
+
     fn from(error: JoinError) -> RunFault {
         match error {
             JoinError::Memory => RunFault::Memory,

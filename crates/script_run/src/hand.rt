@@ -1,10 +1,12 @@
 //! The client of a ring with what it has taken of its completions.
-ghost use Rattle.std.specs.Prelude.{◌≡◌, [], None, IsTrue};
+ghost use Rattle.std.specs.Prelude.{◌≡◌, [], None, IsTrue, false};
 ghost use Rattle.history.specs.History.{phase, IsReplied};
-ghost use Rattle.script_run.specs.Hands.{Went, CameTo, seen_by};
+ghost use Rattle.script_run.specs.Hands.{Went, seen_by};
+ghost use Rattle.script_run.specs.Tries.{CameTo, LooksInVain};
 
+use crate::clock::has_reply;
 use crate::lines::Halt;
-use board::{Completion, Phase, SubmitError};
+use board::{Completion, SubmitError};
 use entry::Sqe;
 use history::Req;
 use runtime::Client;
@@ -82,7 +84,9 @@ impl Hand {
     pub fn sees_reply(&mut self, req: Req) -> bool
         ensures went { Went self.old self.new }
         ensures replied { IsTrue result → IsReplied (phase (seen_by self.new) req) }
+        ensures vain { result ≡ false → LooksInVain req self.old self.new }
     {
-        matches!(self.client.look(req), Phase::Done(_) | Phase::Gone)
+        let phase = self.client.look(req);
+        has_reply(Some(phase))
     }
 }

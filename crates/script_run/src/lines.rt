@@ -1,8 +1,10 @@
 //! The lines of a ring, carried out one after another.
-ghost use Rattle.std.specs.Prelude.{◌≡◌, IfOk, OnOk, None};
+ghost use Rattle.std.specs.Prelude.{◌≡◌, IfOk, IfErr, OnOk, None};
 ghost use Rattle.script.specs.declared.act.Act.TheVariants.{Submit, Wait};
 ghost use Rattle.script.specs.Homes.{AreHomes};
-ghost use Rattle.script_run.specs.Hands.{AreEntries, Carries, CarriedOut, IsNewHand, IsCarried};
+ghost use Rattle.script_run.specs.Hands.{AreEntries, Carries, IsNewHand, IsCarried};
+ghost use Rattle.script_run.specs.Tries.{CarriedOut, IfStuck, IsStuckLine, RanOut};
+ghost use Rattle.script_run.specs.declared.lines.Halt.TheVariants.{Memory as NoMemory};
 
 use crate::hand::{Batch, Hand, Tried};
 use crate::stage::{Stage, home_of};
@@ -27,12 +29,16 @@ pub(crate) enum Halt {
 }
 
 impl From<AllocError> for Halt {
+    ghost from_gives = { λ _ halt. halt ≡ NoMemory };
+
     fn from(_error: AllocError) -> Halt {
         Halt::Memory
     }
 }
 
 impl<T: Drop> From<AllocFailed<T>> for Halt {
+    ghost from_gives = { λ _ halt. halt ≡ NoMemory };
+
     fn from(_error: AllocFailed<T>) -> Halt {
         Halt::Memory
     }
@@ -40,7 +46,7 @@ impl<T: Drop> From<AllocFailed<T>> for Halt {
 
 impl Halt {
     /// Whether the other rings are to stop too.
-    fn stops_all(self) -> bool {
+    pub fn stops_all(self) -> bool {
         match self {
             Halt::Stuck(_) | Halt::Stopped => false,
             Halt::Refused | Halt::Memory | Halt::Thread => true,
@@ -52,15 +58,21 @@ impl Halt {
 /// tells the others to stop.
 pub(crate) fn carry_out<R: Wait>(rt: &R, stage: &Stage<'_>, mut hand: Hand) -> Hand
     requires { AreHomes stage.now.script.now stage.now.homes.now }
-    ensures { CarriedOut stage.now.script.now hand result }
+    ensures { CarriedOut stage.now.script.now stage.now.turns hand result }
 {
-    if let Err(halt) = carry_lines(rt, stage, &mut hand) {
-        if halt.stops_all() {
-            stage.barrier.stop();
+    match carry_lines(rt, stage, &mut hand) {
+        Ok(()) => {
+            hand.halt = None;
+            hand
         }
-        hand.halt = Some(halt);
+        Err(halt) => {
+            if halt.stops_all() {
+                stage.barrier.stop();
+            }
+            hand.halt = Some(halt);
+            hand
+        }
     }
-    hand
 }
 
 /// Carries the ring's lines out, up to the first that stops.
@@ -68,6 +80,7 @@ fn carry_lines<R: Wait>(rt: &R, stage: &Stage<'_>, hand: &mut Hand) -> Result<()
     requires { AreHomes stage.now.script.now stage.now.homes.now }
     ensures same { (hand.new.client.board ≡ hand.old.client.board) × (hand.new.client.ring ≡ hand.old.client.ring) }
     ensures carried { OnOk result (IsNewHand stage.now.script.now hand.old → IsCarried stage.now.script.now hand.new) }
+    ensures stuck { IfErr result (IfStuck (λ p. IsNewHand stage.now.script.now hand.old → IsStuckLine stage.now.script.now stage.now.turns p hand.new)) }
 {
     if !stage.barrier.wait(rt) {
         return Err(Halt::Thread);
@@ -86,6 +99,7 @@ fn carry_line<R: Wait>(rt: &R, stage: &Stage<'_>, hand: &mut Hand, act: &Act) ->
     requires { AreHomes stage.now.script.now stage.now.homes.now }
     ensures same { (hand.new.client.board ≡ hand.old.client.board) × (hand.new.client.ring ≡ hand.old.client.ring) }
     ensures carried { OnOk result (Carries stage.now.script.now act.now hand.old hand.new) }
+    ensures stuck { IfErr result (IfStuck (λ p. RanOut stage.now.script.now stage.now.turns act.now p hand.old hand.new)) }
 {
     match act {
         Act::Submit(places) => submit_line(rt, stage, hand, places),
@@ -104,6 +118,7 @@ fn submit_line<R: Wait>(
 ) -> Result<(), Halt>
     ensures same { (hand.new.client.board ≡ hand.old.client.board) × (hand.new.client.ring ≡ hand.old.client.ring) }
     ensures carried { OnOk result (Carries stage.now.script.now (Submit places.now) hand.old hand.new) }
+    ensures stuck { IfErr result (IfStuck (λ p. RanOut stage.now.script.now stage.now.turns (Submit places.now) p hand.old hand.new)) }
 {
     let Some(first) = places.first() else {
         return Err(Halt::Refused);
@@ -126,7 +141,8 @@ fn submit_line<R: Wait>(
 
 /// The entries at these places, with their buffers.
 fn batch_of(stage: &Stage<'_>, places: &[u32]) -> Result<Batch, Halt>
-    ensures { IfOk result (λ batch. AreEntries stage.now.script.now places.now batch.items) }
+    ensures entries { IfOk result (λ batch. AreEntries stage.now.script.now places.now batch.items) }
+    ensures free { IfErr result (IfStuck (λ _. ⊥)) }
 {
     let mut batch = Vec::new(stage.alloc);
     for place in places {
@@ -145,6 +161,7 @@ fn wait<R: Wait>(rt: &R, stage: &Stage<'_>, hand: &mut Hand, place: u32) -> Resu
     requires { AreHomes stage.now.script.now stage.now.homes.now }
     ensures same { (hand.new.client.board ≡ hand.old.client.board) × (hand.new.client.ring ≡ hand.old.client.ring) }
     ensures carried { OnOk result (Carries stage.now.script.now (Wait place) hand.old hand.new) }
+    ensures stuck { IfErr result (IfStuck (λ p. RanOut stage.now.script.now stage.now.turns (Wait place) p hand.old hand.new)) }
 {
     let Some(req) = home_of(stage.homes, place) else {
         return Err(Halt::Refused);

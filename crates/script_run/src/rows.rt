@@ -1,5 +1,6 @@
 //! The table of a run, from its completions.
-ghost use Rattle.std.specs.Prelude.{◌≡◌, length, IfOk, IfSome, OnSome};
+ghost use Rattle.std.specs.Prelude.{◌≡◌, length, IfOk, IfErr, IfSome, OnSome};
+ghost use Rattle.script_run.specs.Faults.{IsUnstuck};
 ghost use Rattle.script.specs.Rows.{data_count};
 ghost use Rattle.script_run.specs.RunRows.{AreRows, IsFound, IsRow, IsRowOf};
 
@@ -20,6 +21,7 @@ pub(crate) fn table_of(
 ) -> Result<Table, RunFault>
     ensures lines { IfOk result (λ table. length table.lines.items ≡ length script.now.entries.items) }
     ensures rows { IfOk result (λ table. AreRows script.now homes.now taken.now left.now table.lines.items) }
+    ensures unstuck { IfErr result IsUnstuck }
 {
     let mut lines = Vec::new(alloc);
     for place in 0..script.entries.len() {

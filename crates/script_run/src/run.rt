@@ -1,5 +1,6 @@
 //! A script carried out.
-ghost use Rattle.std.specs.Prelude.{◌≡◌, ◌≤◌, [], ◌∷◌, ◌++◌, List, None, All, length, map, vec_capacity, IfOk, IfSome};
+ghost use Rattle.std.specs.Prelude.{◌≡◌, ◌≤◌, ◌⊎◌, ℕ, [], ◌∷◌, ◌++◌, List, None, Some, All, length, map, vec_capacity, IfOk, IfErr, IfSome};
+ghost use Rattle.std.specs.String.{string_bytes};
 ghost use Rattle.steps.specs.declared.view.Role.TheVariants.{Poller};
 ghost use Rattle.work.specs.Passes.{Pass, seen_of};
 ghost use Rattle.board.specs.Reports.{IsReport};
@@ -8,11 +9,16 @@ ghost use Rattle.script.specs.Homes.{AreHomes};
 ghost use Rattle.script.specs.Rows.{rows_of};
 ghost use Rattle.script.specs.Tables.{IsTableOf};
 ghost use Rattle.script_run.specs.Hands.{AreNew, AllWent, client_of, taken_by};
-ghost use Rattle.script_run.specs.ClockLines.{AreClockLines, IsAlong};
+ghost use Rattle.script_run.specs.ClockLines.{AreClockLines};
+ghost use Rattle.script_run.specs.ClockTries.{IsAtLine};
 ghost use Rattle.script_run.specs.Played.{AreStarting, IsPlayed, IsStartedFor};
+ghost use Rattle.script_run.specs.Stuck.{HasLabel, IsStuck, IsStuckOn};
+ghost use Rattle.script_run.specs.Faults.{IfStuckOn, IsUnstuck};
+ghost use Rattle.script_run.specs.Tries.{IsLowest};
+ghost use Rattle.script_run.specs.declared.lines.Halt.TheVariants.{Stuck};
 
 use crate::barrier::Barrier;
-use crate::clock::{ClockLine, LineClock, lines_of};
+use crate::clock::{ClockLine, Ended, LineClock, lines_of};
 use crate::fault::RunFault;
 use crate::hand::Hand;
 use crate::lines::Halt;
@@ -48,7 +54,8 @@ pub fn run_script<
     turns: u32,
     turnstile: G,
 ) -> Result<Table, RunFault>
-    ensures { IfOk result (λ table. IsTableOf script.now (rows_of table)) }
+    ensures table { IfOk result (λ table. IsTableOf script.now (rows_of table)) }
+    ensures stuck { IfErr result (IfStuckOn (IsStuck script.now workers turns)) }
 {
     let homes = homes_of(alloc, script)?;
     let shape = shape_of(alloc, script, workers)?;
@@ -81,7 +88,16 @@ pub fn run_script<
         turns,
         barrier: &barrier,
     };
-    run_lines(rt, &stage, watch, runtime, clients, room, lines.as_slice())
+    run_lines(
+        rt,
+        &stage,
+        watch,
+        workers,
+        runtime,
+        clients,
+        room,
+        lines.as_slice(),
+    )
 }
 
 /// Empty lists with room for the hands of all rings, and for their clients, so that once the threads have started no list of them
@@ -92,23 +108,27 @@ struct Room {
     clients: Vec<Client>,
 }
 
-/// Carries all lines out on a runtime that was started for the script, and gives the table. There is room for its hands and clients.
+/// Carries all lines out on a runtime that was started for the script, with so many workers, and gives the table. There is room for its
+/// hands and clients.
 fn run_lines<R: Threads + Wait + Sync>(
     rt: &R,
     stage: &Stage<'_>,
     watch: Watch,
+    workers: u32,
     runtime: Runtime<LineClock>,
     clients: Vec<Client>,
     room: Room,
     lines: &[ClockLine],
 ) -> Result<Table, RunFault>
     requires homes { AreHomes stage.now.script.now stage.now.homes.now }
-    requires started { IsStartedFor stage.now.script.now runtime.board clients.items }
+    requires started { IsStartedFor stage.now.script.now workers runtime.board clients.items }
     requires hands { (room.hands.items ≡ []) × (length clients.items ≤ vec_capacity room.hands) }
     requires clients { (room.clients.items ≡ []) × (length clients.items ≤ vec_capacity room.clients) }
     requires lines { AreClockLines stage.now.script.now stage.now.script.now.clock.items lines.now }
-    ensures { IfOk result (λ table. IsTableOf stage.now.script.now (rows_of table)) }
+    ensures table { IfOk result (λ table. IsTableOf stage.now.script.now (rows_of table)) }
+    ensures stuck { IfErr result (IfStuckOn (IsStuck stage.now.script.now workers stage.now.turns)) }
 {
+    let _ = workers;
     let Room {
         hands,
         clients: back,
@@ -126,7 +146,7 @@ fn run_lines<R: Threads + Wait + Sync>(
 
 /// The board that a script asks for.
 fn shape_of(alloc: Global, script: &Script, workers: u32) -> Result<Shape, AllocError>
-    ensures { IfOk result (λ s. (length s.rings.items ≡ length script.now.rings.items) × (s.pipes.items ≡ script.now.pipes.items)) }
+    ensures { IfOk result (λ s. (length s.rings.items ≡ length script.now.rings.items) × (s.pipes.items ≡ script.now.pipes.items) × (s.workers ≡ workers)) }
 {
     let mut rings = Vec::new(alloc);
     for (cells, posts) in &script.rings {
@@ -173,7 +193,8 @@ fn play<R: Threads + Wait + Sync>(
     requires room { length hands.items ≤ vec_capacity hands }
     requires clients { (clients.items ≡ []) × (length hands.items ≤ vec_capacity clients) }
     requires lines { AreClockLines stage.now.script.now stage.now.script.now.clock.items lines.now }
-    ensures { IfOk result (λ t. IsPlayed stage.now.script.now runtime.board t.0.items t.1) }
+    ensures played { IfOk result (λ t. IsPlayed stage.now.script.now runtime.board t.0.items t.1) }
+    ensures stuck { IfErr result (IfStuckOn (IsStuckOn stage.now.script.now stage.now.turns runtime.board)) }
 {
     let mut hands = carry_all(rt, stage, hands);
     let halt = finish_lines(rt, &mut watch, &mut hands);
@@ -183,13 +204,13 @@ fn play<R: Threads + Wait + Sync>(
         return Err(fault_of(stage, halt));
     }
     let (report, clock) = joined?;
-    let Some(taken) = taken else {
-        return Err(RunFault::Memory);
-    };
-    if clock.has_carried(lines) {
-        Ok((taken, report))
-    } else {
-        Err(RunFault::Shared)
+    match clock.ended(lines, stage.turns) {
+        Ended::Through => match taken {
+            Some(taken) => Ok((taken, report)),
+            None => Err(RunFault::Memory),
+        },
+        Ended::Stuck(place) => Err(fault_of(stage, Halt::Stuck(place))),
+        Ended::Other => Err(RunFault::Shared),
     }
 }
 
@@ -197,15 +218,16 @@ fn play<R: Threads + Wait + Sync>(
 fn finish_lines<R: Wait>(rt: &R, watch: &mut Watch, hands: &mut Vec<Hand>) -> Option<Halt>
     ensures went { AllWent hands.old.items hands.new.items }
     ensures through { result ≡ None → All (λ h. h.halt ≡ None) hands.old.items }
+    ensures stuck { (p : ℕ) → result ≡ Some (Stuck p) → IsLowest hands.old.items (length hands.old.items) p }
 {
     let halt = halt_of(hands.as_slice());
     if halt.is_some() {
         return halt;
     }
-    if go_on(rt, watch, hands).is_err() {
-        return Some(Halt::Memory);
+    match go_on(rt, watch, hands) {
+        Ok(()) => None,
+        Err(_) => Some(Halt::Memory),
     }
-    stuck_of(watch)
 }
 
 /// Ends the runtime, and gives its report and the clock. Where that isn't had all threads have ended too.
@@ -216,7 +238,8 @@ fn end<R: Threads + Wait>(
     clients: Vec<Client>,
 ) -> Result<(Report, LineClock), RunFault>
     requires { AreClients runtime.board clients.items }
-    ensures { IfOk result (λ t. (poller : Pass) × (workers : List Pass) × IsReport runtime.board (poller ∷ (map submitter_of clients.items ++ workers)) t.0 × IsAlong t.1.lines.items t.1.next (seen_of poller) × (poller.view.role ≡ Poller (length runtime.board.layout.cells))) }
+    ensures ended { IfOk result (λ t. (poller : Pass) × (workers : List Pass) × IsReport runtime.board (poller ∷ (map submitter_of clients.items ++ workers)) t.0 × IsAtLine t.1.lines.items t.1.next t.1.tries t.1.most t.1.is_stuck (seen_of poller) × (poller.view.role ≡ Poller (length runtime.board.layout.cells))) }
+    ensures unstuck { IfErr result IsUnstuck }
 {
     match join_with_clock(rt, alloc, runtime, clients) {
         Ok(ended) => Ok(ended),
@@ -224,34 +247,35 @@ fn end<R: Threads + Wait>(
     }
 }
 
-/// Of two rings' halts, or none, the one that is told: the first one that is a reason of its own.
+/// Of two rings' halts, or none, the one that is told: one that stops all comes first, then the lower ring's.
 fn told_of(first: Option<Halt>, second: Option<Halt>) -> Option<Halt>
-    ensures { result ≡ None → (first ≡ None) × (second ≡ None) }
+    ensures none { result ≡ None → (first ≡ None) × (second ≡ None) }
+    ensures stuck { (p : ℕ) → result ≡ Some (Stuck p) → (first ≡ Some (Stuck p)) ⊎ ((first ≡ None) × (second ≡ Some (Stuck p))) }
 {
     match first {
         None => second,
-        Some(Halt::Stopped) => second.or(first),
+        Some(Halt::Stuck(_)) => match second {
+            None | Some(Halt::Stuck(_)) => first,
+            Some(_) => second,
+        },
+        Some(Halt::Stopped) => match second {
+            None | Some(Halt::Stuck(_)) => first,
+            Some(_) => second,
+        },
         Some(_) => first,
     }
 }
 
 /// The halt that is told of these hands, if one has any.
 fn halt_of(hands: &[Hand]) -> Option<Halt>
-    ensures { result ≡ None → All (λ h. h.halt ≡ None) hands.now }
+    ensures none { result ≡ None → All (λ h. h.halt ≡ None) hands.now }
+    ensures stuck { (p : ℕ) → result ≡ Some (Stuck p) → IsLowest hands.now (length hands.now) p }
 {
     let mut halt = None;
     for hand in hands {
         halt = told_of(halt, hand.halt);
     }
     halt
-}
-
-/// The halt of the clock, if it has one.
-fn stuck_of(watch: &Watch) -> Option<Halt> {
-    match watch.progress.stuck_at() {
-        Some(place) => Some(Halt::Stuck(place)),
-        None => None,
-    }
 }
 
 /// What these hands come to: their clients, for which there is room, and all that they took, unless there is no memory for it.
@@ -283,10 +307,13 @@ fn parts_of(
 }
 
 /// The fault of a run that stopped.
-fn fault_of(stage: &Stage<'_>, halt: Halt) -> RunFault {
+fn fault_of(stage: &Stage<'_>, halt: Halt) -> RunFault
+    ensures { IfStuckOn (λ label. (p : ℕ) × (halt ≡ Stuck p) × HasLabel stage.now.script.now p label) result }
+{
     match halt {
         Halt::Stuck(place) => match label_of(stage, place) {
-            Ok(label) => RunFault::Stuck(label),
+            Ok(Some(label)) => RunFault::Stuck(label),
+            Ok(None) => RunFault::Shared,
             Err(_) => RunFault::Memory,
         },
         Halt::Refused => RunFault::Shared,
@@ -295,10 +322,12 @@ fn fault_of(stage: &Stage<'_>, halt: Halt) -> RunFault {
     }
 }
 
-/// The label of the entry at a place.
-fn label_of(stage: &Stage<'_>, place: u32) -> Result<String, AllocError> {
+/// The label of the entry at a place, if there is one.
+fn label_of(stage: &Stage<'_>, place: u32) -> Result<Option<String>, AllocError>
+    ensures { IfOk result (λ found. IfSome found (λ label. HasLabel stage.now.script.now place (string_bytes label))) }
+{
     match stage.script.entries.get(place as usize) {
-        Some(entry) => entry.label.clone(),
-        None => Ok(String::new(stage.alloc)),
+        Some(entry) => Ok(Some(entry.label.clone()?)),
+        None => Ok(None),
     }
 }

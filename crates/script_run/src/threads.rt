@@ -1,7 +1,7 @@
 //! The threads of the rings.
 ghost use Rattle.std.specs.Prelude.{◌≡◌, ◌≤◌, length, vec_capacity, IfOk, IfErr};
 ghost use Rattle.script.specs.Homes.{AreHomes};
-ghost use Rattle.script_run.specs.Hands.{AllCarriedOut, CarriedOut};
+ghost use Rattle.script_run.specs.Tries.{AllCarriedOut, CarriedOut};
 
 use crate::barrier::Barrier;
 use crate::hand::Hand;
@@ -15,14 +15,14 @@ use std::sync::Wait;
 use std::thread;
 use std::thread::{Promise, PromisedHandle, Scope, Threads};
 
-/// The hand that a ring's thread gives back came of this one, by the lines of this script.
+/// The hand that a ring's thread gives back came of this one, by the lines of this script, each tried so often.
 #[derive(Drop)]
-struct Carried(Snapshot<Script>, Snapshot<Hand>);
+struct Carried(Snapshot<Script>, Snapshot<u32>, Snapshot<Hand>);
 
 impl Promise<Hand> for Carried {
-    ghost use Rattle.script_run.specs.Hands.{CarriedOut};
+    ghost use Rattle.script_run.specs.Tries.{CarriedOut};
 
-    ghost kept_by = { λ p r. CarriedOut p.0.value p.1.value r };
+    ghost kept_by = { λ p r. CarriedOut p.0.value p.1.value p.2.value r };
 }
 
 /// `carry_out`, of the stage's parts: what a thread is given names no struct of references.
@@ -36,7 +36,7 @@ fn carry_by<R: Wait>(
     hand: Hand,
 ) -> Hand
     requires { AreHomes script.now homes.now }
-    ensures { CarriedOut script.now hand result }
+    ensures { CarriedOut script.now turns hand result }
 {
     let stage = Stage {
         alloc,
@@ -57,8 +57,8 @@ fn start<'s, E, R: Threads + Wait + Sync>(
     hand: Hand,
 ) -> Result<PromisedHandle<Hand, Carried>, Hand>
     requires { AreHomes stage.now.script.now stage.now.homes.now }
-    ensures thread { IfOk result (λ t. (t.promise.0.value ≡ stage.now.script.now) × (t.promise.1.value ≡ hand)) }
-    ensures refused { IfErr result (λ h. CarriedOut stage.now.script.now hand h) }
+    ensures thread { IfOk result (λ t. (t.promise.0.value ≡ stage.now.script.now) × (t.promise.1.value ≡ stage.now.turns) × (t.promise.2.value ≡ hand)) }
+    ensures refused { IfErr result (λ h. CarriedOut stage.now.script.now stage.now.turns hand h) }
 {
     let Stage {
         alloc,
@@ -67,12 +67,16 @@ fn start<'s, E, R: Threads + Wait + Sync>(
         turns,
         barrier,
     } = *stage;
-    let promise = Carried(Snapshot::of(script), Snapshot::of(&hand));
+    let promise = Carried(
+        Snapshot::of(script),
+        Snapshot::of(&turns),
+        Snapshot::of(&hand),
+    );
     match scope.spawn_with(
         promise,
         move || -> Hand
             requires { AreHomes script.now homes.now }
-            ensures { CarriedOut script.entry.now hand result }
+            ensures { CarriedOut script.entry.now turns hand result }
         { carry_by(rt, alloc, script, homes, turns, barrier, hand) },
     ) {
         Ok(thread) => Ok(thread),
@@ -92,7 +96,7 @@ fn carry_from<'s, E, R: Threads + Wait + Sync>(
 ) -> Vec<Hand>
     requires homes { AreHomes stage.now.script.now stage.now.homes.now }
     requires room { length hands.items ≤ vec_capacity hands }
-    ensures carried { AllCarriedOut stage.now.script.now hands.items result.items }
+    ensures carried { AllCarriedOut stage.now.script.now stage.now.turns hands.items result.items }
     ensures room { vec_capacity result ≡ vec_capacity hands }
 {
     let Some(hand) = hands.pop() else {
@@ -120,7 +124,7 @@ pub(crate) fn carry_all<R: Threads + Wait + Sync>(
 ) -> Vec<Hand>
     requires homes { AreHomes stage.now.script.now stage.now.homes.now }
     requires room { length hands.items ≤ vec_capacity hands }
-    ensures { AllCarriedOut stage.now.script.now hands.items result.items }
+    ensures { AllCarriedOut stage.now.script.now stage.now.turns hands.items result.items }
 {
     let Stage {
         alloc,
@@ -135,7 +139,7 @@ pub(crate) fn carry_all<R: Threads + Wait + Sync>(
         move |scope| -> Vec<Hand>
             requires homes { AreHomes script.now homes.now }
             requires room { length hands.items ≤ vec_capacity hands }
-            ensures { AllCarriedOut script.entry.now hands.items result.items }
+            ensures { AllCarriedOut script.entry.now turns hands.items result.items }
         {
             let stage = Stage {
                 alloc,

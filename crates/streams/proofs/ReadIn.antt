@@ -2,7 +2,12 @@
 use Rattle.std.proofs.Common.{◌≡◌, ℕ, List, [], ◌++◌, refl, sym, subst, IfSome, append-nil}
 use Rattle.std.proofs.KnownBytes.{Consumes-nil, Consumes-trans, Consumes-whole}
 use Rattle.std.specs.declared.option.Option.{Option}
+use Rattle.std.specs.Prelude.{Result}
+use Rattle.std.specs.declared.io.Error.{Error}
 use Rattle.std.specs.Io.KnownBytes.{Consumes, IsAtEnd}
+use Rattle.streams.specs.declared.fault.InputFault.{InputFault}
+use Rattle.streams.specs.declared.fault.InputFault.TheVariants.{Input, Memory}
+use Rattle.streams.specs.Calls.{FailedToRead, IsOfRead, TookBy}
 
 -- nothing was read yet
 pub Consumes-at_first : (a : Option (List ℕ)) (bytes : List ℕ) → bytes ≡ [] → Consumes a a bytes
@@ -19,3 +24,9 @@ Consumes-at_last a b c bytes before read = Consumes-further a b c bytes [] bytes
 -- these are all bytes
 pub is_all_at_end : (a b : Option (List ℕ)) (bytes : List ℕ) → Consumes a b bytes → IsAtEnd b → IfSome a (λ there. bytes ≡ there)
 is_all_at_end a b bytes taken end = Consumes-whole a b bytes (λ there. bytes ≡ there) taken end refl
+
+-- a read failed after so many
+pub failed_after : {S : Type 0} (gives : S → Result ℕ Error → List ℕ → S → Type 0) (n : ℕ) (a : S) (had : List ℕ) (b c : S) (fault : InputFault)
+    → TookBy gives n a had b → IsOfRead gives b c fault → FailedToRead gives a c fault
+failed_after gives n a had b c (Input e) took told = (n, had, b, took, told)
+failed_after gives n a had b c Memory took told = absurd told

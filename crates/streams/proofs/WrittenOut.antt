@@ -1,5 +1,5 @@
 -- A list that is written out from its front.
-use Rattle.std.proofs.Common.{◌≡◌, ◌<◌, ◌+◌, ◌-◌, ℕ, List, ◌++◌, length, take, drop, sym, ap, ◌∙◌, subst, arith, length-append, append_assoc, take-append-drop}
+use Rattle.std.proofs.Common.{◌≡◌, ◌<◌, ◌≤◌, [], ◌∷◌, refl, ◌+◌, ◌-◌, ℕ, List, ◌++◌, length, take, drop, sym, ap, ◌∙◌, subst, arith, length-append, append_assoc, take-append-drop}
 use Rattle.std.proofs.lemmas.List.{take_rest}
 use Rattle.std.proofs.KnownBytes.{Appends-kept}
 use Rattle.std.specs.declared.option.Option.{Option}
@@ -18,3 +18,8 @@ AppendsBeginning-at_fault a b c all done rest split left gone kept =
     let len : length all ≡ length done + length rest = ap length split ∙ length-append done rest in
     let front : take (length done) all ≡ done = ap (take (length done)) split ∙ take-append_seam done rest in
     (length done, omega arith, subst (Appends a c) (sym front) (Appends-kept a b c done gone kept))
+
+-- a list that is empty
+pub none_left : (l : List ℕ) → length l ≤ 0 → l ≡ []
+none_left [] h = refl
+none_left (x ∷ xs) h = absurd (omega arith)

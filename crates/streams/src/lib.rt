@@ -4,9 +4,11 @@
 pub mod fault;
 pub mod input;
 pub mod output;
+pub mod stream;
 #[cfg(test)]
 mod tests;
 
 pub use fault::{InputFault, OutputFault};
 pub use input::read_all;
 pub use output::write_out;
+pub use stream::{Sink, Source};

@@ -45,13 +45,13 @@ impl Manner {
 
 /// A writer that keeps what it took.
 #[derive(Drop)]
-struct Sink {
+struct SlowWriter {
     manner: Manner,
     calls: usize,
     taken: Vec<u8>,
 }
 
-impl Write for Sink {
+impl Write for SlowWriter {
     fn write(&mut self, buf: &[u8]) -> io::Result<usize> {
         let call = self.calls;
         self.calls = call.saturating_add(1);
@@ -67,13 +67,13 @@ impl Write for Sink {
 
 /// A reader of `BYTES`.
 #[derive(Drop)]
-struct Source {
+struct SlowReader {
     manner: Manner,
     calls: usize,
     given: usize,
 }
 
-impl Read for Source {
+impl Read for SlowReader {
     fn read(&mut self, buf: &mut [u8]) -> io::Result<usize> {
         let call = self.calls;
         self.calls = call.saturating_add(1);
@@ -87,8 +87,8 @@ impl Read for Source {
 }
 
 /// A writer that has taken nothing yet.
-fn sink_of(rt: &HostRuntime, manner: Manner) -> Sink {
-    Sink {
+fn sink_of(rt: &HostRuntime, manner: Manner) -> SlowWriter {
+    SlowWriter {
         manner,
         calls: 0,
         taken: Vec::new(rt.alloc()),
@@ -96,8 +96,8 @@ fn sink_of(rt: &HostRuntime, manner: Manner) -> Sink {
 }
 
 /// A reader that has given nothing yet.
-fn source_of(manner: Manner) -> Source {
-    Source {
+fn source_of(manner: Manner) -> SlowReader {
+    SlowReader {
         manner,
         calls: 0,
         given: 0,

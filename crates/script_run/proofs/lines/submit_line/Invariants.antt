@@ -1,8 +1,12 @@
+-- The batch is the line's, and each try so far was in vain.
+use Rattle.script.specs.declared.act.Act.TheVariants.{Submit}
 use Rattle.script_run.specs.Hands.{AreEntries, Went}
+use Rattle.script_run.specs.Tries.{TriedInVain}
 use Rattle.script_run.proofs.lines.submit_line.Given as goal
 
 abbrev pub invariant-loop-try : goal.invariant-loop-try
 invariant-loop-try g l = record {
   went : Went l.fn.hand l.hand;
   batch : AreEntries l.stage.script.now l.places.items l.batch.items;
+  tried : TriedInVain l.stage.script.now (Submit l.places) l._try l.fn.hand l.hand;
 }

@@ -1,14 +1,27 @@
-use Rattle.std.proofs.Common.{Some}
+use Rattle.std.proofs.Common.{Some, refl}
+use Rattle.script.specs.declared.act.Act.TheVariants as act
 use Rattle.script.proofs.HomesRead.{home_is}
-use Rattle.script_run.proofs.HandSteps.{carries_wait, went_then}
+use Rattle.script_run.proofs.HandSteps.{carries_wait, went_then, went_same, tried_last, ran_out}
 use Rattle.script_run.proofs.lines.wait.Goals as goal
 
 pub returns-then-sees_reply-clause-carried : goal.returns-then-sees_reply-clause-carried
 returns-then-sees_reply-clause-carried g c =
     carries_wait c.args.stage.now.script.now c.args.place c.in-Some.req c.args.hand.now c.sees_reply.new.self
     (home_is c.args.stage.now.script.now c.args.stage.now.homes.now c.requires c.args.place (Some c.in-Some.req) c.in-Some.ensures)
-    (went_then c.args.hand.now c.loop-try.hand c.sees_reply.new.self c.loop-try.invariant (went_then c.loop-try.hand c.take_all.new.self c.sees_reply.new.self c.take_all.ensures c.sees_reply.ensures.went))
+    (went_then c.args.hand.now c.loop-try.hand c.sees_reply.new.self c.loop-try.invariant.went (went_then c.loop-try.hand c.take_all.new.self c.sees_reply.new.self c.take_all.ensures c.sees_reply.ensures.went))
     (c.sees_reply.ensures.replied c.if-sees_reply.true)
 
+pub loop-try-init : goal.loop-try-init
+loop-try-init g c = record { went = went_same c.args.hand.now c.args.hand.now refl; tried = went_same c.args.hand.now c.args.hand.now refl }
+
 pub loop-try-preserved : goal.loop-try-preserved
-loop-try-preserved g c = went_then c.args.hand.now c.loop-try.hand c.sees_reply.new.self c.loop-try.invariant (went_then c.loop-try.hand c.take_all.new.self c.sees_reply.new.self c.take_all.ensures c.sees_reply.ensures.went)
+loop-try-preserved g c =
+    let script = c.args.stage.now.script.now in
+    let home = home_is script c.args.stage.now.homes.now c.requires c.args.place (Some c.in-Some.req) c.in-Some.ensures in
+    record {
+      went = went_then c.args.hand.now c.loop-try.hand c.sees_reply.new.self c.loop-try.invariant.went (went_then c.loop-try.hand c.take_all.new.self c.sees_reply.new.self c.take_all.ensures c.sees_reply.ensures.went);
+      tried = tried_last script (act.Wait c.args.place) c.loop-try._try c.args.hand.now c.loop-try.hand c.take_all.new.self c.sees_reply.new.self c.loop-try.invariant.tried c.take_all.ensures (c.in-Some.req, home, c.sees_reply.ensures.vain c.if-sees_reply.false);
+    }
+
+pub returns-clause-stuck : goal.returns-clause-stuck
+returns-clause-stuck g c = ran_out c.args.stage.now.script.now (act.Wait c.args.place) c.args.stage.now.turns c.loop-try._try c.args.place c.args.hand.now c.loop-try.hand c.loop-try.auto._try-end c.loop-try-test.false refl c.loop-try.invariant.tried

@@ -1,5 +1,11 @@
+-- Each look so far was in vain.
+use Rattle.script.specs.declared.act.Act.TheVariants.{Wait}
 use Rattle.script_run.specs.Hands.{Went}
+use Rattle.script_run.specs.Tries.{TriedInVain}
 use Rattle.script_run.proofs.lines.wait.Given as goal
 
 abbrev pub invariant-loop-try : goal.invariant-loop-try
-invariant-loop-try g l = Went l.fn.hand l.hand
+invariant-loop-try g l = record {
+  went : Went l.fn.hand l.hand;
+  tried : TriedInVain l.stage.script.now (Wait l.place) l._try l.fn.hand l.hand;
+}

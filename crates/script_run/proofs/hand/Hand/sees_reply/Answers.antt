@@ -1,9 +1,12 @@
-use Rattle.std.proofs.Common.{refl, true≢false, sym}
-use Rattle.script_run.proofs.HandSteps.{went_looked}
+use Rattle.std.proofs.Common.{◌∙◌, refl, sym}
+use Rattle.script_run.proofs.HandSteps.{went_looked, reply_found}
 use Rattle.script_run.proofs.hand.Hand.sees_reply.Goals as goal
 
-pub returns-in-Done-clause-went : goal.returns-in-Done-clause-went
-returns-in-Done-clause-went c = let e = c.look.ensures in went_looked c.args.self.now.client.board _ _ e.same.0 e.same.1 refl refl e.looks
-
-pub returns-in_default : goal.returns-in_default
-returns-in_default c = let e = c.look.ensures in record { went = went_looked c.args.self.now.client.board _ _ e.same.0 e.same.1 refl refl e.looks; replied = λ i. absurd (true≢false (sym i)) }
+pub returns : goal.returns
+returns c =
+    let e = c.look-phase.ensures in let is = c.has_reply.ensures in
+    record {
+      went = went_looked c.args.self.now.client.board _ _ e.same.0 e.same.1 refl refl e.looks;
+      replied = λ w. reply_found c.look-phase.new.self.submitter.view.seen c.args.req c.look-phase.result e.finds.0 (sym is ∙ w);
+      vain = λ w. (c.look-phase.result, e.finds, sym is ∙ w);
+    }

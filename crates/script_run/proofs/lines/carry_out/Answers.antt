@@ -1,0 +1,30 @@
+use Rattle.std.proofs.Common.{◌≡◌, Some, None, refl, sym, subst}
+use Rattle.std.proofs.lemmas.Option.{none-some}
+use Rattle.script_run.specs.declared.lines.Halt.TheVariants.{Stuck}
+use Rattle.script_run.specs.Hands.{IsNewHand}
+use Rattle.script_run.specs.Tries.{IfStuck, IsStuckLine}
+use Rattle.script_run.proofs.HandSteps.{carried_as, stuck_as}
+use Rattle.script_run.proofs.lines.carry_out.Goals as goal
+
+pub returns-in-Ok : goal.returns-in-Ok
+returns-in-Ok g c =
+    let e = c.in-Ok.ensures in let same = c.carry_lines.ensures.same in
+    record {
+      board = same.0;
+      ring = same.1;
+      carried = λ new none. carried_as c.args.stage.now.script.now c.carry_lines.new.hand _ refl refl (e.carried new);
+      stuck = λ p new w. absurd (none-some (Stuck p) w);
+    }
+
+pub returns-after-stops_all : goal.returns-after-stops_all
+returns-after-stops_all g c =
+    let script = c.args.stage.now.script.now in let turns = c.args.stage.now.turns in let hand = c.carry_lines.new.hand in
+    let e = c.in-Err.ensures in let same = c.carry_lines.ensures.same in
+    record {
+      board = same.0;
+      ring = same.1;
+      carried = λ new none. absurd (let w : None ≡ Some c.in-Err.halt = sym none in none-some c.in-Err.halt w);
+      stuck = λ p new w.
+          (let is : c.in-Err.halt ≡ Stuck p = cc in
+          stuck_as script turns p hand _ refl (subst (IfStuck (λ q. IsNewHand script c.args.hand → IsStuckLine script turns q hand)) is e.stuck new));
+    }

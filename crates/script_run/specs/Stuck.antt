@@ -1,0 +1,69 @@
+-- Which line of a script a run is stuck at.
+use Rattle.std.specs.Prelude.{◌≡◌, ◌⊎◌, ℕ, zero, suc, ◌<◌, ◌++◌, length, max, false, List, ◌∷◌, All, Some, slice_get, slice_index_or}
+use Rattle.std.specs.String.{string_bytes}
+use Rattle.history.specs.declared.event.Event.{Event}
+use Rattle.steps.specs.declared.view.Role.TheVariants.{Poller}
+use Rattle.work.specs.Board.{Facts}
+use Rattle.work.specs.Passes.{Pass, seen_of}
+use Rattle.runtime.specs.Clients.{ClientFacts}
+use Rattle.script.specs.declared.act.Act.{Act}
+use Rattle.script.specs.declared.named.Named.{Named}
+use Rattle.script.specs.declared.script.Script.{Script}
+use Rattle.script.specs.Carried.{HasTimed}
+use Rattle.script.specs.Tables.{is_done}
+use Rattle.script_run.specs.declared.hand.Hand.{Hand}
+use Rattle.script_run.specs.Hands.{IsCarried}
+use Rattle.script_run.specs.Played.{AreInOrder, IsStartedFor}
+use Rattle.script_run.specs.Tries.{IsFor, IsStuckLine}
+
+-- the entry at this place has the label
+abbrev pub HasLabel : Script → ℕ → List ℕ → Type 0
+HasLabel c p label = (e : Named) × (slice_get c.entries.items p ≡ Some e) × (label ≡ string_bytes e.label)
+
+-- the line of a ring ran out of tries, and those of all lower rings are carried out
+pub record IsStuckRing (c : Script) (turns : ℕ) (b : Facts) (label : List ℕ) : Type 0 where
+  pub hands : List Hand
+  pub order : AreInOrder b hands
+  pub ring : ℕ
+  pub there : ring < length hands
+  pub place : ℕ
+  pub stuck : (d : Hand) → IsStuckLine c turns place (slice_index_or hands ring d)
+  pub lower : (k : ℕ) (d : Hand) → k < ring → IsCarried c (slice_index_or hands k d)
+  pub label_is : HasLabel c place label
+
+-- ---- the clock's line
+
+-- at so many times, one after another, the line was not done
+abbrev pub WasUndone : Script → Act → ℕ → List Event → Type 0
+WasUndone c act zero h = Unit {0}
+WasUndone c act (suc n) h = (later : List Event) × (seen : List Event) × (h ≡ later ++ seen) × (is_done c seen act ≡ false) × WasUndone c act n seen
+
+-- the lines of all rings are carried out, and the clock's before one that ran out of tries, of which there is at least one
+pub record IsStuckClock (c : Script) (turns : ℕ) (b : Facts) (label : List ℕ) : Type 0 where
+  pub hands : List Hand
+  pub order : AreInOrder b hands
+  pub carried : All (λ h. IsCarried c h) hands
+  pub poller : Pass
+  pub role : poller.view.role ≡ Poller (length b.layout.cells)
+  pub done : List Act
+  pub act : Act
+  pub left : List Act
+  pub split : c.clock.items ≡ done ++ act ∷ left
+  pub timed : HasTimed c done (act ∷ left) (seen_of poller)
+  pub place : ℕ
+  pub is_for : IsFor act place
+  pub tried : WasUndone c act (max turns 1) (seen_of poller)
+  pub label_is : HasLabel c place label
+
+-- ---- a run
+
+-- a line of a run on this board ran out of tries
+abbrev pub IsStuckOn : Script → ℕ → Facts → List ℕ → Type 0
+IsStuckOn c turns b label = IsStuckRing c turns b label ⊎ IsStuckClock c turns b label
+
+-- a run with so many workers, and so many tries of a line, is stuck with this label
+pub record IsStuck (c : Script) (workers turns : ℕ) (label : List ℕ) : Type 0 where
+  pub board : Facts
+  pub clients : List ClientFacts
+  pub started : IsStartedFor c workers board clients
+  pub stuck : IsStuckOn c turns board label
