@@ -28,13 +28,13 @@ use Rattle.board.specs.PollerRows.{MayArm}
 use Rattle.board.specs.TimerCalls.{HasFewer, IsEarly, IsNoneToExpire, IsNoneToSettle, IsTargetDone, IsUnarmed, IsUncounted}
 use Rattle.wheel.specs.Deadlines.{armed as armed_at, dropped}
 use Rattle.runtime.specs.declared.error.Memory.{Memory}
-use Rattle.runtime.specs.Turns.{GoesOn}
-use Rattle.runtime.specs.Desks.{Cares, AreHeldBack, ArePending, IsCared, IsDone, IsHeldBack, IsNoted, IsPendingTimer, IsPlain, IsSet, LooksAfter, Once, is_among, with_waiting}
+use Rattle.runtime.specs.Turns.{GoesOn, answered_by}
+use Rattle.runtime.specs.Desks.{Cares, AreHeldBack, ArePending, IsCared, IsDone, IsHeldBack, IsLinkedDue, IsNoted, IsPendingTimer, IsPlain, IsSet, LooksAfter, NoneIsDue, Once, is_among, with_waiting}
 use Rattle.runtime.specs.declared.hands.Hands.{Hands}
-use Rattle.runtime.specs.Parts.{HaveWaited, IsDueTimer, HasStopped, IsStuck, WaitsOn, WasTried, WatchesOn, WentOn, stands_armed, with_watched}
+use Rattle.runtime.specs.Parts.{HaveWaited, IsDueTimer, HasRung, HasStopped, IsStuck, WaitsOn, WasTried, WatchesOn, WentOn, stands_armed, with_watched}
 use Rattle.outbox.specs.Outbox.{Waiting}
 use Rattle.runtime.specs.Backlogs.{Owed}
-use Rattle.runtime.specs.PollTurns.{IsPollers, IsTaken}
+use Rattle.runtime.specs.PollTurns.{AllRung, Desk, IsPollers, IsStopped, IsTaken, Rang, cares_in}
 use Rattle.runtime.specs.Shelves.{Places, with_request}
 use Rattle.runtime.proofs.ClockLaws.{clock_kept}
 use Rattle.runtime.proofs.TurnLaws.{among_append}
@@ -124,7 +124,7 @@ module _ (b : Facts) (p q : Pass) (es : List Event) (x : GoesOn b p es q) where
 
 -- ---- what was true at some time in between
 
-begins_then : (i j k : List Line) → Begins j i → Begins k j → Begins k i
+pub begins_then : (i j k : List Line) → Begins j i → Begins k j → Begins k i
 begins_then i j k x y = (y.0 ++ x.0, y.1 ∙ (ap (λ (l : List Line). y.0 ++ l) x.1 ∙ sym (append_assoc y.0 x.0 i)))
 
 pub once_later : (p m q : Pass) (P : List Event → Type 0) → Begins q.view.seen m.view.seen → Once p m P → Once p q P
@@ -386,6 +386,12 @@ module _ (b : Facts) (p q : Pass) (es : List Event) (x : GoesOn b p es q) (role 
       (λ (o : IsReplied (phase (seen_of p) r)). absurd (replied_unarmed (seen_of q) r (replied_on b p q es x r o) d is))
       due.1.1
 
+  pub linked_due : IsNoneToExpire (seen_of p) r → (d : ℕ) → phase (seen_of q) r ≡ armed d → IsLinkedDue (seen_of q) r
+  linked_due n d is = (d, is, ⊎_elim
+      (λ (a : phase (seen_of q) r ≡ armed due.0). let one = one_deadline (seen_of q) r due.0 d a is in let same_time = clock_kept b p q es x role none in let le = due.2 in omega (arith, one, same_time, le))
+      (λ (o : IsReplied (phase (seen_of q) r)). absurd (replied_unarmed (seen_of q) r o d is))
+      (noted_on b p q es x r due.0 due.1).1, still_linked n d is)
+
   -- neither a TIMEOUT nor a LINK_TIMEOUT that is armed: it is over
   pub unarmed_both : IsNoneToExpire (seen_of p) r → IsNoneToSettle (seen_of q) r → IsUnarmed (seen_of q) r
   unarmed_both n m d is = ⊎_elim
@@ -443,6 +449,9 @@ held_then p m q xs ys x y a b r is = ⊎_elim
 
 pub held_later : (p m q : Pass) (xs : List Req) → Begins q.view.seen m.view.seen → AreHeldBack p m xs → AreHeldBack p q xs
 held_later p m q xs y a r is = once_later p m q (λ h. IsHeldBack h r) y (a r is)
+
+pub held_sooner : (p m q : Pass) (xs : List Req) → Begins m.view.seen p.view.seen → AreHeldBack m q xs → AreHeldBack p q xs
+held_sooner p m q xs x a r is = once_sooner p m q (λ h. IsHeldBack h r) x (a r is)
 
 -- who was tried waits on only where it could not go on
 pub tried_waits : (r : Req) (p q : Pass) (old new : Places) → WasTried r p q old new → HaveWaited p q old.items new.items
@@ -617,3 +626,76 @@ taken_next tails old new ring tail h k s t is others stops before now = ⊎_elim
         (cases_order i ring)))
       (λ st. inr st) now)
     (λ st. inr (stops st)) before
+
+-- ---- what a later part of a turn leaves as it was
+
+pub room_falls : (b : Facts) (h k : Hands) (o w : Waiting) → Rang b h o k w → k.room ≤ h.room
+room_falls b h k o w x =
+    let e : length w.answered ≡ length (o.answered ++ answered_by x.events) = ap (λ (l : List Req). length l) x.answered in let r = x.room in
+    omega (arith, e, r, length-append o.answered (answered_by x.events))
+
+pub stuck_on : (b : Facts) (h k : Hands) (o w : Waiting) → Rang b h o k w → IsStuck h → IsStuck k
+stuck_on b h k o w x s = ⊎_elim
+    (λ f. inl (ap (λ (z : Owed). z.is_full) x.same.1 ∙ f))
+    (λ z. inr (let le = room_falls b h k o w x in omega (arith, le, z))) s
+
+pub stopped_on : (b : Facts) (h k : Hands) (o w : Waiting) (s t : Places) → Rang b h o k w → t ≡ s → HasStopped h s → HasStopped k t
+stopped_on b h k o w s t x e y = ⊎_elim (λ st. inl (stuck_on b h k o w x st)) (λ le. inr (subst (λ (z : Places). z.places ≤ length z.items) (sym e) le)) y
+
+-- no timer has become due
+pub rung_on : (b : Facts) (p : Pass) (h k : Hands) (o w : Waiting) (c d : Cares) → IsPollers h.poller → ((r : Req) (n : ℕ) → d.deadline r ≡ Some n → c.deadline r ≡ Some n) → Rang b h o k w → HasRung p h c → HasRung p k d
+rung_on b p h k o w c d role fewer x y = ⊎_elim
+    (λ none. inl (λ r n is. let same_time = clock_kept b h.poller k.poller x.events x.goes role x.still in let lt = none r n (fewer r n is) in omega (arith, same_time, lt)))
+    (λ z. inr (⊎_elim
+      (λ full. inl (let le = room_falls b h k o w x in omega (arith, le, full)))
+      (λ linked. inr (let le = room_falls b h k o w x in let few = linked.0 in omega (arith, le, few), (linked.1.0, once_later p h.poller k.poller (λ e. IsLinkedDue e linked.1.0) (x.goes.later, x.goes.seen_is) linked.1.1)))
+      z))
+    y
+
+pub rung_sooner : (p m : Pass) (h : Hands) (c : Cares) → Begins m.view.seen p.view.seen → HasRung m h c → HasRung p h c
+rung_sooner p m h c b y = ⊎_elim (λ none. inl none) (λ z. inr (⊎_elim (λ full. inl full) (λ linked. inr (linked.0, (linked.1.0, once_sooner p m h.poller (λ e. IsLinkedDue e linked.1.0) b linked.1.1))) z)) y
+
+pub rung_is : (p : Pass) (h k : Hands) (c : Cares) → k.poller ≡ h.poller → k.room ≡ h.room → HasRung p h c → HasRung p k c
+rung_is p h k c same_poller same_room y = ⊎_elim
+    (λ none. inl (subst (λ (q : Pass). NoneIsDue c (seen_of q)) (sym same_poller) none))
+    (λ z. inr (⊎_elim
+      (λ full. inl (same_room ∙ full))
+      (λ linked. inr (let few = linked.0 in omega (arith, few, same_room), (linked.1.0, subst (λ (q : Pass). Once p q (λ e. IsLinkedDue e linked.1.0)) (sym same_poller) linked.1.1)))
+      z))
+    y
+
+pub pending_sooner : (p m q : Pass) (xs : List Req) → Begins m.view.seen p.view.seen → ArePending m q xs → ArePending p q xs
+pending_sooner p m q xs b a r is = once_sooner p m q (λ h. IsPendingTimer h r) b (a r is)
+
+pub pending_later : (p m q : Pass) (xs : List Req) → Begins q.view.seen m.view.seen → ArePending p m xs → ArePending p q xs
+pending_later p m q xs b a r is = once_later p m q (λ h. IsPendingTimer h r) b (a r is)
+
+pub none_there : (xs : List Req) → length xs ≡ 0 → xs ≡ []
+none_there [] e = refl
+none_there (x ∷ xs) e = absurd (omega (arith, e))
+
+-- ---- what a turn leaves to be looked after
+
+-- numbers are kept, or the outbox has no place more
+pub is_stopped : (h k : Hands) (d : Desk) (o : Waiting) (before : ℕ) → IsStuck h → (h.kept.is_full ≡ true → k.kept.numbers ≢ []) → d.kept ≡ k.kept.numbers → length o.answered + h.room ≡ before → before ≡ d.places → IsStopped d o
+is_stopped h k d o before s full kept room places = ⊎_elim
+    (λ f. inl (λ (e : d.kept ≡ []). full f (sym kept ∙ e)))
+    (λ z. inr (omega (arith, z, room, places))) s
+
+pub all_rung : (p : Pass) (h : Hands) (old d : Desk) (o : Waiting) (before : ℕ) → HasRung p h (cares_in d) → old.poller ≡ p → d.poller ≡ h.poller → length o.answered + h.room ≡ before → before ≡ d.places → AllRung old d o
+all_rung p h old d o before y first last room places = ⊎_elim
+    (λ none. inl (subst (λ (q : Pass). NoneIsDue (cares_in d) (seen_of q)) (sym last) none))
+    (λ z. inr (⊎_elim
+      (λ full. inl (omega (arith, full, room, places)))
+      (λ linked. inr (let few = linked.0 in omega (arith, few, room, places), (linked.1.0, subst (λ (q : Pass). Once old.poller q (λ e. IsLinkedDue e linked.1.0)) (sym last) (subst (λ (q : Pass). Once q h.poller (λ e. IsLinkedDue e linked.1.0)) (sym first) linked.1.1))))
+      z))
+    y
+
+-- where nothing waits and no timer is left, the poller is done with all that was taken up
+pub all_done_with : (c : Cares) (j : List Line) → LooksAfter c j → c.waiting ≡ [] → ((r : Req) (d : ℕ) → c.deadline r ≢ Some d) → (r : Req) → r.k < c.taken r.ring → IsDone j r
+all_done_with c j y none over r lt = ⊎_elim
+    (λ d. d)
+    (λ z. ⊎_elim
+      (λ w. absurd (true≢false (sym w ∙ ap (λ (ws : List Req). is_among ws r) none)))
+      (λ (s : IsSet c j r). absurd (over r s.deadline s.noted)) z)
+    (y.each r lt)

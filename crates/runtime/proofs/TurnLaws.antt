@@ -331,6 +331,16 @@ turned b q h m k s t n r u v z a e f g l m' o w of x y none same = record {
   shape = (refl, same);
 }
 
+-- a turn that did nothing
+pub nothing_done : (b : Facts) (q : QueueFacts) (h m k : Hands) (o w : Waiting) → HasTicked b h m → Did b q m o k w → o.answered ≡ [] → k.moved ≡ false → GoesOn b h.poller [] k.poller × ((r : Req) → freed k.poller.view.seen r ≡ freed h.poller.view.seen r) × (k.ready ≡ h.ready) × (w.answered ≡ [])
+nothing_done b q h m k o w x y none idle =
+    let z = y.quiet idle in let t = x.quiet z.0 in (
+      subst (λ (es : List Event). GoesOn b h.poller es k.poller) (λ i. z.1 i ++ t i) (goes_on_then b h.poller m.poller k.poller x.events y.events x.goes y.goes),
+      λ r. y.freed_are r ∙ (ap (λ (rs : List Req). cond (is_among rs r) true (freed m.poller.view.seen r)) z.2 ∙ x.alone r),
+      y.ready ∙ (ap (λ (ps : List Req). record m.ready { put = m.ready.put ++ ps }) z.3 ∙ (sym (no_puts m.ready) ∙ x.same.0)),
+      y.answered ∙ ((λ i. none i ++ answered_by (z.1 i)) ∙ refl),
+    )
+
 abbrev pub is_idle : Turn → Bool
 is_idle Idle = true
 is_idle Moved = false

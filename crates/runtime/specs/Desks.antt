@@ -92,6 +92,6 @@ ArePending p q rs = (r : Req) → is_among rs r ≡ true → Once p q (λ h. IsP
 abbrev pub NoneIsDue : Cares → List Event → Type 0
 NoneIsDue c h = (r : Req) (d : ℕ) → c.deadline r ≡ Some d → clock_of h < d
 
--- a LINK_TIMEOUT's has
-abbrev pub IsLinkedDue : Cares → List Event → Type 0
-IsLinkedDue c h = (r : Req) × (d : ℕ) × (c.deadline r ≡ Some d) × (d ≤ clock_of h) × IsLinkTimeout h r
+-- the request is an armed LINK_TIMEOUT whose deadline has come
+abbrev pub IsLinkedDue : List Event → Req → Type 0
+IsLinkedDue h r = (d : ℕ) × (phase h r ≡ armed d) × (d ≤ clock_of h) × IsLinkTimeout h r

@@ -1,7 +1,7 @@
 -- What parts of a poll turn make of the requests that wait, and why they stop.
 use Rattle.std.specs.Prelude.{◌≡◌, ◌⊎◌, ◌<◌, ◌≤◌, ℕ, Bool, true, false, List, ◌∷◌, length, Some}
 use Rattle.history.specs.declared.req.Req.{Req}
-use Rattle.work.specs.Passes.{Pass}
+use Rattle.work.specs.Passes.{Pass, seen_of}
 use Rattle.board.specs.declared.phase.Phase.{Phase as Standing}
 use Rattle.board.specs.declared.phase.Phase.TheVariants.{Armed}
 use Rattle.outbox.specs.Outbox.{Waiting}
@@ -12,7 +12,7 @@ use Rattle.history.specs.History.{clock_of}
 use Rattle.runtime.specs.declared.lists.Lists.{Lists}
 use Rattle.runtime.specs.PollTurns.{Rang}
 use Rattle.runtime.specs.declared.hands.Hands.{Hands}
-use Rattle.runtime.specs.Desks.{Cares, IsHeldBack, IsPendingTimer, IsNoted, Once, is_among}
+use Rattle.runtime.specs.Desks.{Cares, IsHeldBack, IsLinkedDue, IsPendingTimer, IsNoted, NoneIsDue, Once, is_among}
 use Rattle.runtime.specs.Shelves.{Places, with_request}
 
 -- the numbers found no place in the ready queue, or the outbox has none for one answer more
@@ -59,3 +59,7 @@ IsDueTimer h r = (d : ℕ) × IsNoted h r d × (d ≤ clock_of h)
 abbrev pub stands_armed : Standing → Bool
 stands_armed (Armed d) = true
 stands_armed _ = false
+
+-- no timer whose deadline has come is left, or the outbox has no place more, or no second one, which the LINK_TIMEOUT whose turn it was may need
+abbrev pub HasRung : Pass → Hands → Cares → Type 0
+HasRung p h c = NoneIsDue c (seen_of h.poller) ⊎ ((h.room ≡ 0) ⊎ ((h.room ≤ 1) × ((r : Req) × Once p h.poller (λ e. IsLinkedDue e r))))

@@ -16,7 +16,7 @@ use Rattle.runtime.specs.declared.hands.Hands.{Hands}
 use Rattle.runtime.specs.Turns.{GoesOn, answered_by}
 use Rattle.wheel.specs.Wheel.{deadline_at}
 use Rattle.runtime.specs.declared.lists.Intake.{Intake}
-use Rattle.runtime.specs.Desks.{Cares, AreHeldBack, ArePending, IsDone, IsLinkedDue, NoneIsDue, is_among, taken_in}
+use Rattle.runtime.specs.Desks.{Cares, AreHeldBack, ArePending, IsDone, IsLinkedDue, NoneIsDue, Once, is_among, taken_in}
 
 -- the poller's desk: its passes, the numbers that found no place in the ready queue, and how many cells and rings its board has. It looks after the requests of each ring that were taken up, those that wait for another, those timers that are watched since a reply may end them, and the deadlines
 pub record Desk : Type 0 where
@@ -137,9 +137,9 @@ AllTaken d o = ((i : ℕ) → i < d.rings → IsTaken d.sleeper.tails (taken_in 
 abbrev pub AllTried : Desk → Desk → Waiting → Type 0
 AllTried old new o = AreHeldBack old.poller new.poller new.waiting ⊎ IsStopped new o
 
--- no timer whose deadline has come is left, unless the outbox has no place more, or just one, and the timer is a LINK_TIMEOUT, which may end its target too
-abbrev pub AllRung : Desk → Waiting → Type 0
-AllRung d o = NoneIsDue (cares_in d) (seen_of d.poller) ⊎ ((d.places ≤ length o.answered) ⊎ ((d.places ≤ length o.answered + 1) × IsLinkedDue (cares_in d) (seen_of d.poller)))
+-- no timer whose deadline has come is left, unless the outbox has no place more, or just one when it was the turn of a LINK_TIMEOUT, which may end its target too
+abbrev pub AllRung : Desk → Desk → Waiting → Type 0
+AllRung old new o = NoneIsDue (cares_in new) (seen_of new.poller) ⊎ ((new.places ≤ length o.answered) ⊎ ((new.places ≤ length o.answered + 1) × ((r : Req) × Once old.poller new.poller (λ h. IsLinkedDue h r))))
 
 -- each timer that is still watched was looked at in this turn, and waits for a reply, unless the outbox has no place more
 abbrev pub AllCounted : Desk → Desk → Waiting → Type 0

@@ -10,9 +10,9 @@ ghost use Rattle.work.specs.Passes.{seen_of};
 ghost use Rattle.ready.specs.Ready.{IsOf as IsOfQueue};
 ghost use Rattle.board.specs.Calls.{Goes};
 ghost use Rattle.controls.specs.Clocks.{Asked};
-ghost use Rattle.runtime.specs.Desks.{AreHeldBack, ArePending, IsLinkedDue, LooksAfter, NoneIsDue, cares_of, taken_in};
+ghost use Rattle.runtime.specs.Desks.{AreHeldBack, ArePending, LooksAfter, cares_of, taken_in};
 ghost use Rattle.runtime.specs.PollTurns.{AllCounted, AllRung, AllTaken, AllTried, AreAt, Did, HasRoom, HasTicked, IsAt, IsIdle, IsPollTurn, IsPollers, IsNewDesk, IsTaken, cares_in, cells_in_all};
-ghost use Rattle.runtime.specs.Parts.{HasFewerTimers, HasStopped, IsStuck, WentOn};
+ghost use Rattle.runtime.specs.Parts.{HasFewerTimers, HasRung, HasStopped, IsStuck, WentOn};
 
 use crate::backlog::Backlog;
 use crate::error::Memory;
@@ -221,7 +221,7 @@ fn look_after<R: Wait>(
     ensures places { lists.new.waiting.places ≡ lists.old.waiting.places }
     ensures taken { IfOk result (λ _. ((i : ℕ) → i < length lists.old.rings.items → IsTaken sleeper.now.tails (taken_in lists.new.rings.items) i) ⊎ HasStopped hands.new lists.new.waiting) }
     ensures tried { IfOk result (λ _. AreHeldBack hands.old.poller hands.new.poller lists.new.waiting.items ⊎ IsStuck hands.new) }
-    ensures rung { IfOk result (λ _. NoneIsDue (cares_of lists.new) (seen_of hands.new.poller) ⊎ ((hands.new.room ≡ 0) ⊎ ((hands.new.room ≤ 1) × IsLinkedDue (cares_of lists.new) (seen_of hands.new.poller)))) }
+    ensures rung { IfOk result (λ _. HasRung hands.old.poller hands.new (cares_of lists.new)) }
     ensures counted { IfOk result (λ _. ArePending hands.old.poller hands.new.poller lists.new.watchers.items ⊎ (hands.new.room ≡ 0)) }
 {
     hands.retry(rt, queue);
@@ -273,7 +273,7 @@ pub fn poll_turn<R: Wait, C: Clock>(
     ensures looks_after { LooksAfter (cares_in desk.new) desk.new.poller.view.seen }
     ensures taken_up { IfOk result (λ _. AllTaken desk.new outbox.new) }
     ensures tried { IfOk result (λ _. AllTried desk.old desk.new outbox.new) }
-    ensures rung { IfOk result (λ _. AllRung desk.new outbox.new) }
+    ensures rung { IfOk result (λ _. AllRung desk.old desk.new outbox.new) }
     ensures counted { IfOk result (λ _. AllCounted desk.old desk.new outbox.new) }
     ensures sleeper { IsSleeperOf bell.now desk.new.sleeper }
     ensures read { HasLoaded desk.old.sleeper desk.new.sleeper }

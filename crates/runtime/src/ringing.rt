@@ -2,12 +2,12 @@
 ghost use Rattle.std.specs.Prelude.{◌≡◌, ◌≢◌, ◌⊎◌, ◌<◌, ◌≤◌, ℕ, true, false, length, Some};
 ghost use Rattle.history.specs.declared.req.Req.{Req as Request};
 ghost use Rattle.history.specs.History.{armed, phase};
-ghost use Rattle.history.specs.Chains.{IsLinkTimeout, previous};
+ghost use Rattle.history.specs.Chains.{previous};
 ghost use Rattle.wheel.specs.Wheel.{deadline_at};
 ghost use Rattle.work.specs.Passes.{seen_of};
 ghost use Rattle.board.specs.TimerCalls.{IsNoneToExpire, IsNoneToSettle, IsUnarmed};
-ghost use Rattle.runtime.specs.Desks.{ArePending, IsLinkedDue, IsPendingTimer, LooksAfter, NoneIsDue, cares_of};
-ghost use Rattle.runtime.specs.Parts.{HasFewerTimers, IsDueTimer, WatchesOn, WentOn, stands_armed, with_watched};
+ghost use Rattle.runtime.specs.Desks.{ArePending, IsLinkedDue, IsPendingTimer, LooksAfter, cares_of};
+ghost use Rattle.runtime.specs.Parts.{HasFewerTimers, HasRung, IsDueTimer, WatchesOn, WentOn, stands_armed, with_watched};
 ghost use Rattle.runtime.specs.PollTurns.{HasRoom, IsAt, Rang};
 
 use crate::hands::Hands;
@@ -94,7 +94,7 @@ fn fire(board: &Board, hands: &mut Hands, outbox: &mut Outbox, req: Req) -> bool
     requires linked { IsNoneToExpire (seen_of hands.old.poller) req }
     ensures rang { Rang board.now hands.old outbox.old hands.new outbox.new }
     ensures over { result ≡ true → IsUnarmed (seen_of hands.new.poller) req }
-    ensures full { result ≡ false → (hands.new.room ≡ 1) × IsLinkTimeout (seen_of hands.new.poller) req }
+    ensures full { result ≡ false → (hands.new.room ≡ 1) × IsLinkedDue (seen_of hands.new.poller) req }
 {
     if hands.room < 2 {
         return !is_armed(board, hands, req);
@@ -123,7 +123,7 @@ fn run_out(board: &Board, hands: &mut Hands, outbox: &mut Outbox, req: Req) -> b
     requires due { IsDueTimer (seen_of hands.old.poller) req }
     ensures rang { Rang board.now hands.old outbox.old hands.new outbox.new }
     ensures over { result ≡ true → IsUnarmed (seen_of hands.new.poller) req }
-    ensures full { result ≡ false → (hands.new.room ≡ 1) × IsLinkTimeout (seen_of hands.new.poller) req }
+    ensures full { result ≡ false → (hands.new.room ≡ 1) × IsLinkedDue (seen_of hands.new.poller) req }
 {
     match board.expire(&mut hands.poller, req) {
         Expiry::Expired => {
@@ -143,11 +143,14 @@ pub(crate) fn ring_due(board: &Board, hands: &mut Hands, lists: &mut Lists, outb
     ensures rang { Rang board.now hands.old outbox.old hands.new outbox.new }
     ensures cared { LooksAfter (cares_of lists.new) hands.new.poller.view.seen }
     ensures same { (lists.new.rings ≡ lists.old.rings) × (lists.new.waiting ≡ lists.old.waiting) }
-    ensures rung { NoneIsDue (cares_of lists.new) (seen_of hands.new.poller) ⊎ ((hands.new.room ≡ 0) ⊎ ((hands.new.room ≡ 1) × IsLinkedDue (cares_of lists.new) (seen_of hands.new.poller))) }
+    ensures rung { HasRung hands.old.poller hands.new (cares_of lists.new) }
 {
     let now = hands.poller.clock();
     while let Some(req) = lists.timers.due(now) {
-        if hands.room == 0 || !run_out(board, hands, outbox, req) {
+        if hands.room == 0 {
+            break;
+        }
+        if !run_out(board, hands, outbox, req) {
             break;
         }
         lists.timers.drop_timer(req);

@@ -6,7 +6,7 @@ use Rattle.outbox.specs.Outbox.{with_answered}
 use Rattle.work.specs.Passes.{Pass, seen_of}
 use Rattle.board.specs.TimerCalls.{IsUnarmed}
 use Rattle.runtime.proofs.TurnLaws.{goes_on, rang_answered, rang_looked, rang_then, rang_twice}
-use Rattle.runtime.proofs.DeskLaws.{not_false, not_true, linked_apart, linked_on, not_early, replied_unarmed, still_linked, target_over, unarmed_both}
+use Rattle.runtime.proofs.DeskLaws.{not_false, not_true, linked_apart, linked_on, not_early, linked_due, target_over, unarmed_both}
 use Rattle.runtime.proofs.ringing.fire.Goals as goal
 
 pub returns-in-Took : goal.returns-in-Took
@@ -28,7 +28,7 @@ returns-in-Missed c = record {
 pub returns-then-hands-lt2-clause-full : goal.returns-then-hands-lt2-clause-full
 returns-then-hands-lt2-clause-full c = λ e. let a = c.is_armed.ensures.armed (not_false _ e) in let r = c.is_armed.ensures.same.0 in let some = c.requires.some in let few = c.if-hands-lt2.true in (
   omega (arith, r, some, few),
-  still_linked _ _ _ _ (c.is_armed.ensures.went_on c.args.outbox.now).goes c.requires.own.1 (c.is_armed.ensures.went_on c.args.outbox.now).still c.args.req c.requires.due c.requires.linked a.0 a.1,
+  linked_due _ _ _ _ (c.is_armed.ensures.went_on c.args.outbox.now).goes c.requires.own.1 (c.is_armed.ensures.went_on c.args.outbox.now).still c.args.req c.requires.due c.requires.linked a.0 a.1,
 )
 
 pub unreachable-requires : goal.unreachable-requires
