@@ -33,6 +33,7 @@ impl Lists {
     /// Empty lists, for these rings, which have so many cells in all.
     pub fn new(alloc: Global, rings: Vec<Intake>, places: usize) -> Result<Lists, Memory>
         ensures rings { IfOk result (λ l. l.rings ≡ rings) }
+        ensures places { IfOk result (λ l. l.waiting.places ≡ places) }
         ensures cares { (j : List Line) → ((i : ℕ) → taken_in rings.items i ≡ 0) → IfOk result (λ l. LooksAfter (cares_of l) j) }
     {
         let waiting = Shelf::new(alloc, places)?;
