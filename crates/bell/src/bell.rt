@@ -78,6 +78,7 @@ impl Bell {
         ensures pass { (sleeper.new.table ≡ sleeper.old.table) × (sleeper.new.dozes ≡ sleeper.old.dozes) × (sleeper.new.wakes ≡ sleeper.old.wakes) }
         ensures read { HasLoaded sleeper.old sleeper.new }
         ensures risen { HaveRisen sleeper.old.tails sleeper.new.tails }
+        ensures few { self.now.rings ≤ 16 }
     {
         sleeper.collect(&self.table.shared);
     }

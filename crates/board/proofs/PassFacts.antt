@@ -21,7 +21,7 @@ use Rattle.work.specs.Passes.{Pass, CanReach, seen_of, Took}
 use Rattle.work.proofs.PassesKept.{looked_of}
 use Rattle.board.proofs.Standings.{word_is}
 use Rattle.board.proofs.HeardPasses.{heard_second}
-use Rattle.board.specs.Calls.{IsWord, LastAt, Stepped, HasLooked, Goes, MayStart}
+use Rattle.board.specs.Calls.{KeepsFreed, IsWord, LastAt, Stepped, HasLooked, Goes, MayStart}
 use Rattle.board.proofs.GoesLaws.{goes_looked}
 
 -- no request of a ring that isn't there was submitted
@@ -119,3 +119,10 @@ module _ (v w : View) (n : ℕ) (role : v.role ≡ Poller n) where
   freed_may r x = let seen : w.seen ≡ Freed r ∷ x.mid = ap (λ (z : View). z.seen) x.is in
       let f = x.orderly.0 in let k = subst (λ (j : List Line). (freed j r ≡ true) × MayStart j r) (sym seen) (ap (λ b. cond b true (freed x.mid r)) (same_itself r), (f.0, f.1, f.2)) in
       (k.0, k.1, sym (same_freed v.role mine x.saw.later v.seen x.saw.none r) ∙ (ap (λ (j : List Line). freed j r) (sym x.saw.is) ∙ f.3))
+
+-- a look of the pass leaves who was moved to Ready, as far as the poller's pass knows, also after it heard a messenger
+pub keeps_freed : (p q : Pass) → Looks p.view q.view → KeepsFreed p q
+keeps_freed p q x = λ n role. freed_looked p.view q.view n role x
+
+pub keeps_freed_told : (p h q : Pass) (v : View) → h ≡ record p { view = hearing p.view v } → v.parts ≡ 0 → Looks h.view q.view → KeepsFreed p q
+keeps_freed_told p h q v is none x = keeps_freed p q (looks_told p.view v q.view none (subst (λ (z : Pass). Looks z.view q.view) is x))

@@ -8,6 +8,7 @@ use Rattle.history.specs.History.{Cause, phase, unborn, waits, runs, armed, repl
 use Rattle.history.specs.Chains.{Open, is_timer}
 use Rattle.history.specs.Legal.{IsOf as IsOfKind}
 use Rattle.steps.specs.declared.line.Line.{Line}
+use Rattle.steps.specs.declared.view.Role.TheVariants.{Poller}
 use Rattle.steps.specs.declared.view.Step.{Step}
 use Rattle.steps.specs.Journal.{events_of, freed}
 use Rattle.steps.specs.Cells.{IsCell, request_at, claim_at, word_of}
@@ -29,6 +30,10 @@ pub record Goes (b : Facts) (p : Pass) (es : List Event) (q : Pass) : Type 0 whe
   pub seen_is : q.view.seen ≡ later ++ p.view.seen
   pub own : own_of p.view.role later ≡ es
   pub last : EndsWith es (events_of later)
+
+-- only the poller moves a request to Ready, so its pass knows by a look of no more that were moved
+abbrev pub KeepsFreed : Pass → Pass → Type 0
+KeepsFreed p q = (n : ℕ) → p.view.role ≡ Poller n → (r : Req) → freed q.view.seen r ≡ freed p.view.seen r
 
 -- the last step of the pass was made in this call, and after it the pass had seen all that it has
 abbrev pub HasLooked : Pass → Pass → Type 0

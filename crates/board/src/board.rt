@@ -14,7 +14,7 @@ ghost use Rattle.work.specs.Board.{Facts, IsOf};
 ghost use Rattle.work.specs.Grid.{AreCellCounts};
 ghost use Rattle.work.specs.Passes.{seen_of, FoundNotReady, Took};
 ghost use Rattle.board.specs.declared.error.BoardError.TheVariants.{BadShape};
-ghost use Rattle.board.specs.Calls.{Goes, Finds, HasLooked, Stepped, FoundHeld, IsUnheld, MayStart, next_of};
+ghost use Rattle.board.specs.Calls.{Goes, Finds, HasLooked, KeepsFreed, Stepped, FoundHeld, IsUnheld, MayStart, next_of};
 ghost use Rattle.board.specs.Headline.{IsCompletion, HasOnce};
 ghost use Rattle.board.specs.ShapeLimits.{counts, is_shape, widest};
 ghost use Rattle.board.specs.New.{IsNew, AreSubmitters, AreWorkers, IsCutting};
@@ -194,6 +194,7 @@ impl Board {
         ensures looks { Goes self.now (P.knows pass.old) [] (P.knows pass.new) }
         ensures finds { Finds self.now req result (P.knows pass.old) (P.knows pass.new) }
         ensures took { (P.knows pass.new).took ≡ (P.knows pass.old).took }
+        ensures alone { KeepsFreed (P.knows pass.old) (P.knows pass.new) }
     {
         let Some(spot) = self.grid.locate(req) else {
             return Phase::Unborn;
@@ -211,6 +212,7 @@ impl Board {
         ensures told { Begins (Q.knows other.new).view.seen (P.knows pass.new).view.seen }
         ensures looked { HasLooked (P.knows pass.old) (P.knows pass.new) × HasLooked (Q.knows other.old) (Q.knows other.new) }
         ensures took { ((P.knows pass.new).took ≡ (P.knows pass.old).took) × ((Q.knows other.new).took ≡ (Q.knows other.old).took) }
+        ensures alone { KeepsFreed (P.knows pass.old) (P.knows pass.new) × KeepsFreed (Q.knows other.old) (Q.knows other.new) }
     {
         let words = &self.table.shared;
         pass.load(words, 0);

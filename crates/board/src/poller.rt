@@ -2,7 +2,7 @@
 ghost use Rattle.std.specs.Prelude.{◌≡◌, ◌+◌, ◌-◌, ◌*◌, List, [], ◌∷◌, length, IfOk, IfErr};
 ghost use Rattle.history.specs.declared.event.Event.TheVariants.{Tick};
 ghost use Rattle.history.specs.declared.req.Req.{Req as Request};
-ghost use Rattle.history.specs.History.{submits};
+ghost use Rattle.history.specs.History.{clock_of, submits};
 ghost use Rattle.steps.specs.Journal.{freed};
 ghost use Rattle.steps.specs.Cells.{cells_in, claim_at, total};
 ghost use Rattle.steps.specs.declared.view.Role.TheVariants.{Poller as PollerRole};
@@ -144,6 +144,14 @@ impl Poller {
             clock: 0,
             alarms,
         }
+    }
+
+    /// The clock's time, in ticks: that of its last tick, or 0.
+    pub fn clock(&self) -> u32
+        ensures clock { result ≡ clock_of (seen_of self.now) }
+        ensures role { self.now.view.role ≡ PollerRole (length self.now.view.layout.cells) }
+    {
+        self.clock
     }
 
     /// Its seat.

@@ -3,6 +3,7 @@ use Rattle.std.proofs.Common.{◌≡◌, ℕ, ◌+◌, Bool, true, false, cond, 
 use Rattle.history.specs.declared.event.Event.{Event}
 use Rattle.history.specs.declared.event.Event.TheVariants.{Tick}
 use Rattle.history.specs.declared.req.Req.{Req}
+use Rattle.history.specs.History.{clock_of}
 use Rattle.history.specs.Legal.{Legal, Setup}
 use Rattle.history.specs.Ticked.{counts_tick, ticked}
 use Rattle.steps.specs.Cells.{setup_of}
@@ -27,6 +28,19 @@ none_then [] fs a b = b
 none_then (e ∷ es) fs a b =
     let rest : ticked (es ++ fs) ≡ 0 = none_then es fs (omega (arith, a)) b in
     omega (arith, a, rest)
+
+pub ticks_then : (es fs : List Event) → ticked (es ++ fs) ≡ ticked es + ticked fs
+ticks_then [] fs = omega arith
+ticks_then (e ∷ es) fs = let rest = ticks_then es fs in omega (arith, rest)
+
+-- what sets no clock leaves it
+still_tick : (e : Event) (h : List Event) → counts_tick e ≡ 0 → clock_of (e ∷ h) ≡ clock_of h
+still_tick (Tick n) h z = absurd (let o : 1 ≡ 0 = z in omega (arith, o))
+still_tick e h z = refl
+
+clock_still : (more h : List Event) → ticked more ≡ 0 → clock_of (more ++ h) ≡ clock_of h
+clock_still [] h z = refl
+clock_still (e ∷ more) h z = still_tick e (more ++ h) (omega (arith, z)) ∙ clock_still more h (omega (arith, z))
 
 -- a poller owns each Tick
 owns_tick : (n : ℕ) (e : Event) → (owns (Poller n) (Did e) ≡ true) ⊎ (counts_tick e ≡ 0)
@@ -85,3 +99,8 @@ goes_along G b p q n role x may =
 -- a poller's pass stays a poller's
 pub still_pollers : (b : Facts) (p q : Pass) (es : List Event) → GoesOn b p es q → IsPollers p → IsPollers q
 still_pollers b p q es x role = (role.0, x.role_is ∙ role.1)
+
+-- and knows the clock's time where it doesn't set it
+pub clock_kept : (b : Facts) (p q : Pass) (es : List Event) → GoesOn b p es q → IsPollers p → ticked es ≡ 0 → clock_of (seen_of q) ≡ clock_of (seen_of p)
+clock_kept b p q es x role none =
+    ap clock_of (ap events_of x.seen_is ∙ events_before x.later p.view.seen) ∙ clock_still (events_of x.later) (seen_of p) (own_ticks p x.later es role x.own ∙ none)

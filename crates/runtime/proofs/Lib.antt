@@ -1,4 +1,5 @@
 pub mod ClockLaws
 pub mod TurnLaws
+pub mod DeskLaws
 pub mod ShiftLaws
 pub mod RuntimeParts

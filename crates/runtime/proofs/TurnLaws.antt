@@ -5,7 +5,7 @@ use Rattle.history.specs.declared.req.Req.{Req}
 use Rattle.history.specs.declared.event.Event.{Event}
 use Rattle.history.specs.History.{same}
 use Rattle.history.specs.Ticked.{ticked}
-use Rattle.history.proofs.Requests.{bool_cases, same_true}
+use Rattle.history.proofs.Requests.{bool_cases, same_itself, same_true}
 use Rattle.steps.specs.declared.line.Line.{Line}
 use Rattle.steps.specs.Journal.{freed}
 use Rattle.work.specs.Board.{Facts, IsOf}
@@ -21,8 +21,10 @@ use Rattle.runtime.specs.declared.turn.Turn.{Turn}
 use Rattle.runtime.specs.declared.turn.Turn.TheVariants.{Moved, Idle}
 use Rattle.runtime.specs.Turns.{GoesOn, HandedOver, answered_by, answered_one}
 use Rattle.runtime.specs.Backlogs.{Owed}
-use Rattle.runtime.proofs.ClockLaws.{none_then}
-use Rattle.runtime.specs.PollTurns.{AreAt, HasRoom, HasArmed, HasTicked, IsPollTurn, Did, Rang, is_among}
+use Rattle.runtime.proofs.ClockLaws.{none_then, still_pollers, ticks_then}
+use Rattle.runtime.specs.declared.lists.Intake.{Intake}
+use Rattle.runtime.specs.Desks.{is_among}
+use Rattle.runtime.specs.PollTurns.{AreAt, AreNew, HasRoom, HasTicked, IsAt, IsPollTurn, IsPollers, Did, Rang}
 use Rattle.bell.specs.BellPasses.{Sleeping}
 
 pub goes_on : (b : Facts) (p q : Pass) (es : List Event) → Goes b p es q → GoesOn b p es q
@@ -58,10 +60,11 @@ rang_then b h m k o u w x y = record {
   room = y.room ∙ x.room;
   alone = λ r. y.alone r ∙ x.alone r;
   same = (y.same.0 ∙ x.same.0, y.same.1 ∙ x.same.1);
+  quiet = λ idle. let last = y.quiet idle in let first = x.quiet last.0 in (first.0, (λ i. last.1 i ++ first.1 i));
 }
 
 pub rang_still : (b : Facts) (h : Hands) (o : Waiting) → IsOf b h.poller → Rang b h o h o
-rang_still b h o of = record { events = []; goes = goes_nowhere b h.poller of; still = refl; answered = sym (append-nil o.answered); places = refl; room = refl; alone = λ r. refl; same = (refl, refl) }
+rang_still b h o of = record { events = []; goes = goes_nowhere b h.poller of; still = refl; answered = sym (append-nil o.answered); places = refl; room = refl; alone = λ r. refl; same = (refl, refl); quiet = λ idle. (idle, refl) }
 
 spread : (s A R S c : Bool) → cond A true (cond R true c) ≡ cond S true c → cond A true (cond (cond s true R) true c) ≡ cond (cond s true S) true c
 spread true true R S c e = refl
@@ -71,6 +74,59 @@ spread false A R S c e = e
 among_both : (rs ss : List Req) (q : Req) (c : Bool) → cond (is_among ss q) true (cond (is_among rs q) true c) ≡ cond (is_among (rs ++ ss) q) true c
 among_both [] ss q c = refl
 among_both (r ∷ rs) ss q c = spread (same r q) (is_among ss q) (is_among rs q) (is_among (rs ++ ss) q) c (among_both rs ss q c)
+
+-- requests that were moved in two parts are new and stand once, if those of each part are and do
+new_among : (j : List Line) (rs : List Req) (q : Req) → AreNew j rs → is_among rs q ≡ true → freed j q ≡ false
+new_among j [] q n is = absurd (true≢false (sym is))
+new_among j (r ∷ rs) q n is = ⊎_elim
+    (λ (w : same r q ≡ true). ap (freed j) (sym (same_true r q w)) ∙ n.0)
+    (λ (w : same r q ≡ false). new_among j rs q n.2 (sym (ap (λ (c : Bool). cond c true (is_among rs q)) w) ∙ is))
+    (bool_cases (same r q))
+
+cond_true : (c b : Bool) → c ≡ true → cond c true b ≡ true
+cond_true c b e = ap (λ (x : Bool). cond x true b) e
+
+cond_false : (c b : Bool) → cond c true b ≡ false → b ≡ false
+cond_false true b e = absurd (true≢false e)
+cond_false false b e = e
+
+pub among_append : (rs ss : List Req) (q : Req) → is_among (rs ++ ss) q ≡ cond (is_among rs q) true (is_among ss q)
+among_append [] ss q = refl
+among_append (r ∷ rs) ss q = ⊎_elim
+    (λ (w : same r q ≡ true). cond_true (same r q) (is_among (rs ++ ss) q) w ∙ sym (cond_true (cond (same r q) true (is_among rs q)) (is_among ss q) (cond_true (same r q) (is_among rs q) w)))
+    (λ (w : same r q ≡ false). ap (λ (c : Bool). cond c true (is_among (rs ++ ss) q)) w ∙ (among_append rs ss q ∙ ap (λ (c : Bool). cond (cond c true (is_among rs q)) true (is_among ss q)) (sym w)))
+    (bool_cases (same r q))
+
+in_rest : (c b : Bool) → b ≡ true → cond c true b ≡ true
+in_rest true b e = refl
+in_rest false b e = e
+
+module _ (i j : List Line) where
+  -- what a part moved isn't among what the next part moved
+  once_more : (q : Req) (rs ss : List Req) → ((r : Req) → freed j r ≡ cond (is_among rs r) true (freed i r)) → AreNew j ss → is_among rs q ≡ true → is_among ss q ≡ false
+  once_more q rs ss same' n is = ⊎_elim
+      (λ (w : is_among ss q ≡ true). absurd (true≢false (sym (same' q ∙ cond_true (is_among rs q) (freed i q) is) ∙ new_among j ss q n w)))
+      (λ (w : is_among ss q ≡ false). w) (bool_cases (is_among ss q))
+
+  new_later : (rs ss : List Req) → ((r : Req) → freed j r ≡ cond (is_among rs r) true (freed i r)) → AreNew j ss → AreNew i ss
+  new_later rs [] same' n = tt
+  new_later rs (s ∷ ss) same' n = (cond_false (is_among rs s) (freed i s) (sym (same' s) ∙ n.0), n.1, new_later rs ss same' n.2)
+
+  pub new_both : (xs rs ss : List Req) → ((r : Req) → freed j r ≡ cond (is_among xs r) true (freed i r)) → ((q : Req) → is_among rs q ≡ true → is_among xs q ≡ true) → AreNew i rs → AreNew j ss → AreNew i (rs ++ ss)
+  new_both xs [] ss same' part n m = new_later xs ss same' m
+  new_both xs (r ∷ rs) ss same' part n m = (
+    n.0,
+    among_append rs ss r ∙ (ap (λ (c : Bool). cond c true (is_among ss r)) n.1 ∙ once_more r xs ss same' m (part r (cond_true (same r r) (is_among rs r) (same_itself r)))),
+    new_both xs rs ss same' (λ q is. part q (in_rest (same r q) (is_among rs q) is)) n.2 m,
+  )
+
+pub new_same : (i j : List Line) (rs : List Req) → ((r : Req) → freed j r ≡ freed i r) → AreNew j rs → AreNew i rs
+new_same i j [] same' n = tt
+new_same i j (r ∷ rs) same' n = (sym (same' r) ∙ n.0, n.1, new_same i j rs same' n.2)
+
+nil_left : (xs ys : List Req) → xs ++ ys ≡ [] → xs ≡ []
+nil_left [] ys e = refl
+nil_left (x ∷ xs) ys e = absurd (let z : x ∷ (xs ++ ys) ≡ [] = e in cc)
 
 handed_then : (k1 r1 p1 k2 r2 p2 k3 : List Req) → k1 ++ r1 ≡ p1 ++ k2 → k2 ++ r2 ≡ p2 ++ k3 → k1 ++ (r1 ++ r2) ≡ (p1 ++ p2) ++ k3
 handed_then k1 r1 p1 k2 r2 p2 k3 a b = sym (append_assoc k1 r1 r2) ∙ (ap (λ (z : List Req). z ++ r2) a ∙ (append_assoc p1 k2 r2 ∙ (ap (λ (z : List Req). p1 ++ z) b ∙ sym (append_assoc p1 p2 k3))))
@@ -87,10 +143,12 @@ did_then b q h m k o u w x y = record {
   places = y.places ∙ x.places;
   room = y.room ∙ x.room;
   released = x.released ++ y.released;
+  fresh = new_both h.poller.view.seen m.poller.view.seen x.released x.released y.released x.freed_are (λ q is. is) x.fresh y.fresh;
   freed_are = λ r. y.freed_are r ∙ (ap (λ (c : Bool). cond (is_among y.released r) true c) (x.freed_are r) ∙ among_both x.released y.released r (freed h.poller.view.seen r));
   puts = x.puts ++ y.puts;
   ready = puts_then h.ready m.ready k.ready x.puts y.puts x.ready y.ready;
   handed = handed_then h.kept.numbers x.released x.puts m.kept.numbers y.released y.puts k.kept.numbers x.handed y.handed;
+  quiet = λ idle. let last = y.quiet idle in let first = x.quiet last.0 in (first.0, (λ i. last.1 i ++ first.1 i), (λ i. first.2 i ++ last.2 i), (λ i. first.3 i ++ last.3 i));
 }
 
 no_puts : (m : Moves) → m ≡ record m { put = m.put ++ [] }
@@ -106,31 +164,20 @@ did_ring b q h k o w x = record {
   places = x.places;
   room = x.room;
   released = [];
+  fresh = tt;
   freed_are = x.alone;
   puts = [];
   ready = x.same.0 ∙ no_puts h.ready;
   handed = append-nil h.kept.numbers ∙ ap (λ (z : Owed). z.numbers) (sym x.same.1);
+  quiet = λ idle. let q = x.quiet idle in (q.0, q.1, refl, refl);
 }
 
 pub did_still : (b : Facts) (q : QueueFacts) (h : Hands) (o : Waiting) → IsOf b h.poller → Did b q h o h o
 did_still b q h o of = did_ring b q h h o o (rang_still b h o of)
 
--- a part that answered nothing
-pub rang_armed : (b : Facts) (h k : Hands) (o : Waiting) → HasArmed b h k → Rang b h o k o
-rang_armed b h k o x = record {
-  events = x.events;
-  goes = x.goes;
-  still = x.still;
-  answered = sym (append-nil o.answered) ∙ ap (λ (z : List Req). o.answered ++ z) (sym x.silent);
-  places = refl;
-  room = ap (λ (n : ℕ). length o.answered + n) x.same.2;
-  alone = x.alone;
-  same = (x.same.0, x.same.1);
-}
-
 -- a part that only handed over what was kept
-pub did_retry : (b : Facts) (q : QueueFacts) (h k : Hands) (o : Waiting) → IsOf b h.poller → HandedOver h.ready h.kept.numbers k.ready k.kept.numbers → k.poller ≡ h.poller → k.room ≡ h.room → Did b q h o k o
-did_retry b q h k o of x same room = record {
+pub did_retry : (b : Facts) (q : QueueFacts) (h k : Hands) (o : Waiting) → IsOf b h.poller → HandedOver h.ready h.kept.numbers k.ready k.kept.numbers → k.poller ≡ h.poller → k.room ≡ h.room → (k.moved ≡ false → (h.moved ≡ false) × (h.kept.numbers ≡ [])) → Did b q h o k o
+did_retry b q h k o of x same room quiet' = record {
   events = [];
   goes = subst (λ (z : Pass). GoesOn b h.poller [] z) (sym same) (goes_nowhere b h.poller of);
   still = refl;
@@ -138,15 +185,20 @@ did_retry b q h k o of x same room = record {
   places = refl;
   room = ap (λ (n : ℕ). length o.answered + n) room;
   released = [];
+  fresh = tt;
   freed_are = λ r. ap (λ (z : Pass). freed z.view.seen r) same;
   puts = x.0;
   ready = x.1;
   handed = append-nil h.kept.numbers ∙ x.2;
+  quiet = λ idle. let w = quiet' idle in (w.0, refl, refl, nil_left x.0 k.kept.numbers (sym x.2 ∙ w.1));
 }
 
 -- the passes are still those of the board and the queue, and there is still room
+pub at_on : (b : Facts) (h k : Hands) (o w : Waiting) → IsAt b h → Rang b h o k w → IsAt b k
+at_on b h k o w a x = (x.goes.kept, still_pollers b h.poller k.poller x.events x.goes a.1)
+
 pub at_after : (b : Facts) (q : QueueFacts) (h k : Hands) (o w : Waiting) → AreAt b q h → Did b q h o k w → AreAt b q k
-at_after b q h k o w a x = (x.goes.kept, ap (λ (m : Moves). m.queue) x.ready ∙ a.1)
+at_after b q h k o w a x = ((x.goes.kept, still_pollers b h.poller k.poller x.events x.goes a.0.1), ap (λ (m : Moves). m.queue) x.ready ∙ a.1)
 
 pub room_after : (b : Facts) (q : QueueFacts) (h k : Hands) (o w : Waiting) → HasRoom h o → Did b q h o k w → HasRoom k w
 room_after b q h k o w a x = let e = x.room in let p = x.places in omega (arith, a, e, p)
@@ -156,8 +208,8 @@ room_rang b h k o w a x = let e = x.room in let p = x.places in omega (arith, a,
 
 -- the poller went on by these events, and one request was put into the outbox
 pub rang_answered : (b : Facts) (h k : Hands) (p : Pass) (o w : Waiting) (es : List Event) (r : Req) → ticked es ≡ 0 → answered_by es ≡ r ∷ [] → Goes b h.poller es p → ((q : Req) → freed p.view.seen q ≡ freed h.poller.view.seen q)
-    → (k.poller ≡ p) × (k.ready ≡ h.ready) × (k.kept ≡ h.kept) → k.room + 1 ≡ h.room → w ≡ with_answered r o → Rang b h o k w
-rang_answered b h k p o w es r still one goes alone same room put = record {
+    → (k.poller ≡ p) × (k.ready ≡ h.ready) × (k.kept ≡ h.kept) → k.room + 1 ≡ h.room → k.moved ≡ true → w ≡ with_answered r o → Rang b h o k w
+rang_answered b h k p o w es r still one goes alone same room moved put = record {
   events = es;
   goes = subst (λ (z : Pass). GoesOn b h.poller es z) (sym same.0) (goes_on b h.poller p es goes);
   still = still;
@@ -166,13 +218,14 @@ rang_answered b h k p o w es r still one goes alone same room put = record {
   room = let e : length w.answered ≡ length (o.answered ++ r ∷ []) = ap (λ (z : Waiting). length z.answered) put in omega (arith, e, length-append o.answered (r ∷ []), room);
   alone = λ q. ap (λ (z : Pass). freed z.view.seen q) same.0 ∙ alone q;
   same = (same.1, same.2);
+  quiet = λ idle. absurd (true≢false (sym moved ∙ idle));
 }
 
 -- and two were
 pub rang_twice : (b : Facts) (h m k : Hands) (p : Pass) (o u w : Waiting) (es : List Event) (t r : Req) → ticked es ≡ 0 → answered_by es ≡ t ∷ r ∷ [] → Goes b h.poller es p → ((q : Req) → freed p.view.seen q ≡ freed h.poller.view.seen q)
     → (m.poller ≡ p) × (m.ready ≡ h.ready) × (m.kept ≡ h.kept) → m.room + 1 ≡ h.room → u ≡ with_answered t o
-    → (k.poller ≡ m.poller) × (k.ready ≡ m.ready) × (k.kept ≡ m.kept) → k.room + 1 ≡ m.room → w ≡ with_answered r u → Rang b h o k w
-rang_twice b h m k p o u w es t r still both goes alone same room put then more last = record {
+    → (k.poller ≡ m.poller) × (k.ready ≡ m.ready) × (k.kept ≡ m.kept) → k.room + 1 ≡ m.room → k.moved ≡ true → w ≡ with_answered r u → Rang b h o k w
+rang_twice b h m k p o u w es t r still both goes alone same room put then more moved last = record {
   events = es;
   goes = subst (λ (z : Pass). GoesOn b h.poller es z) (sym (then.0 ∙ same.0)) (goes_on b h.poller p es goes);
   still = still;
@@ -183,11 +236,12 @@ rang_twice b h m k p o u w es t r still both goes alone same room put then more 
       omega (arith, e, f, length-append u.answered (r ∷ []), length-append o.answered (t ∷ []), room, more);
   alone = λ q. ap (λ (z : Pass). freed z.view.seen q) (then.0 ∙ same.0) ∙ alone q;
   same = (then.1 ∙ same.1, then.2 ∙ same.2);
+  quiet = λ idle. absurd (true≢false (sym moved ∙ idle));
 }
 
 -- the poller looked
-pub rang_looked : (b : Facts) (h k : Hands) (o : Waiting) → Goes b h.poller [] k.poller → ((q : Req) → freed k.poller.view.seen q ≡ freed h.poller.view.seen q) → (k.ready ≡ h.ready) × (k.kept ≡ h.kept) × (k.room ≡ h.room) → Rang b h o k o
-rang_looked b h k o goes alone same = record {
+pub rang_looked : (b : Facts) (h k : Hands) (o : Waiting) → Goes b h.poller [] k.poller → ((q : Req) → freed k.poller.view.seen q ≡ freed h.poller.view.seen q) → (k.ready ≡ h.ready) × (k.kept ≡ h.kept) × (k.room ≡ h.room) → (k.moved ≡ false → h.moved ≡ false) → Rang b h o k o
+rang_looked b h k o goes alone same quiet' = record {
   events = [];
   goes = goes_on b h.poller k.poller [] goes;
   still = refl;
@@ -196,14 +250,29 @@ rang_looked b h k o goes alone same = record {
   room = ap (λ (n : ℕ). length o.answered + n) same.2;
   alone = alone;
   same = (same.0, same.1);
+  quiet = λ idle. (quiet' idle, refl);
+}
+
+-- the poller went on by events that answer nothing
+pub rang_silent : (b : Facts) (h k : Hands) (o : Waiting) (es : List Event) → ticked es ≡ 0 → answered_by es ≡ [] → Goes b h.poller es k.poller → ((q : Req) → freed k.poller.view.seen q ≡ freed h.poller.view.seen q) → (k.ready ≡ h.ready) × (k.kept ≡ h.kept) × (k.room ≡ h.room) → k.moved ≡ true → Rang b h o k o
+rang_silent b h k o es still silent goes alone same moved = record {
+  events = es;
+  goes = goes_on b h.poller k.poller es goes;
+  still = still;
+  answered = sym (append-nil o.answered) ∙ ap (λ (z : List Req). o.answered ++ z) (sym silent);
+  places = refl;
+  room = ap (λ (n : ℕ). length o.answered + n) same.2;
+  alone = alone;
+  same = (same.0, same.1);
+  quiet = λ idle. absurd (true≢false (sym moved ∙ idle));
 }
 
 -- that a turn did something changes nothing else
-pub rang_moved : (b : Facts) (h k : Hands) (o w : Waiting) (m : Bool) → Rang b h o k w → Rang b h o (record k { moved = m }) w
-rang_moved b h k o w m x = record { events = x.events; goes = x.goes; still = x.still; answered = x.answered; places = x.places; room = x.room; alone = x.alone; same = x.same }
+pub rang_moved : (b : Facts) (h k : Hands) (o w : Waiting) → Rang b h o k w → Rang b h o (record k { moved = true }) w
+rang_moved b h k o w x = record { events = x.events; goes = x.goes; still = x.still; answered = x.answered; places = x.places; room = x.room; alone = x.alone; same = x.same; quiet = λ idle. absurd (true≢false idle) }
 
-pub did_moved : (b : Facts) (q : QueueFacts) (h k : Hands) (o w : Waiting) (m : Bool) → Did b q h o k w → Did b q h o (record k { moved = m }) w
-did_moved b q h k o w m x = record { events = x.events; goes = x.goes; still = x.still; answered = x.answered; places = x.places; room = x.room; released = x.released; freed_are = x.freed_are; puts = x.puts; ready = x.ready; handed = x.handed }
+pub rang_is : (b : Facts) (h k l : Hands) (o w x : Waiting) → l ≡ k → x ≡ w → Rang b h o k w → Rang b h o l x
+rang_is b h k l o w x same out d = subst (λ (z : Hands). Rang b h o z x) (sym same) (subst (λ (z : Waiting). Rang b h o k z) (sym out) d)
 
 abbrev pub is_freed : Released → Bool
 is_freed Freed = true
@@ -224,8 +293,8 @@ freed_one r p q is alone i = ⊎_elim
 
 -- a request was moved to Ready, and handed over
 pub did_freed : (b : Facts) (q : QueueFacts) (h k : Hands) (p : Pass) (o : Waiting) (r : Req) → Goes b h.poller [] p → freed p.view.seen r ≡ true → ((i : Req) → same r i ≡ false → freed p.view.seen i ≡ freed h.poller.view.seen i)
-    → (k.poller ≡ p) × (k.room ≡ h.room) → HandedOver h.ready (h.kept.numbers ++ r ∷ []) k.ready k.kept.numbers → Did b q h o k o
-did_freed b q h k p o r goes is alone same x = record {
+    → (k.poller ≡ p) × (k.room ≡ h.room) → k.moved ≡ true → freed h.poller.view.seen r ≡ false → HandedOver h.ready (h.kept.numbers ++ r ∷ []) k.ready k.kept.numbers → Did b q h o k o
+did_freed b q h k p o r goes is alone same moved new x = record {
   events = [];
   goes = subst (λ (z : Pass). GoesOn b h.poller [] z) (sym same.0) (goes_on b h.poller p [] goes);
   still = refl;
@@ -233,32 +302,44 @@ did_freed b q h k p o r goes is alone same x = record {
   places = refl;
   room = ap (λ (n : ℕ). length o.answered + n) same.1;
   released = r ∷ [];
+  fresh = (new, refl, tt);
   freed_are = λ i. ap (λ (z : Pass). freed z.view.seen i) same.0 ∙ freed_one r h.poller p is alone i;
   puts = x.0;
   ready = x.1;
   handed = x.2;
+  quiet = λ idle. absurd (true≢false (sym moved ∙ idle));
 }
 
 pub did_is : (b : Facts) (q : QueueFacts) (h k l : Hands) (o w x : Waiting) → l ≡ k → x ≡ w → Did b q h o k w → Did b q h o l x
 did_is b q h k l o w x same out d = subst (λ (z : Hands). Did b q h o z x) (sym same) (subst (λ (z : Waiting). Did b q h o k z) (sym out) d)
 
 -- a whole turn: the clock was asked, and then the requests and timers were looked after
-pub turned : (b : Facts) (q : QueueFacts) (h m k : Hands) (s t : Sleeping) (n r u : ℕ) (o w : Waiting) → IsOfQueue q h.ready → HasTicked b h m → Did b q m o k w → o.answered ≡ [] → u ≡ r
-    → IsPollTurn b q (record { poller = h.poller; sleeper = s; ready = h.ready; kept = h.kept.numbers; places = n; rings = r }) (record { poller = k.poller; sleeper = t; ready = k.ready; kept = k.kept.numbers; places = n; rings = u }) w
-turned b q h m k s t n r u o w of x y none same = record {
+pub turned : (b : Facts) (q : QueueFacts) (h m k : Hands) (s t : Sleeping) (n r u : ℕ) (v z : List Intake) (a e f g : List Req) (l m' : List ((ℕ × ℕ) × ℕ)) (o w : Waiting) → IsOfQueue q h.ready → HasTicked b h m → Did b q m o k w → o.answered ≡ [] → u ≡ r
+    → IsPollTurn b q (record { poller = h.poller; sleeper = s; ready = h.ready; kept = h.kept.numbers; places = n; rings = r; intakes = v; waiting = a; watched = e; deadlines = l }) (record { poller = k.poller; sleeper = t; ready = k.ready; kept = k.kept.numbers; places = n; rings = u; intakes = z; waiting = f; watched = g; deadlines = m' }) w
+turned b q h m k s t n r u v z a e f g l m' o w of x y none same = record {
   own = (y.goes.kept, ap (λ (z : Moves). z.queue) (y.ready ∙ ap (λ (z : Moves). record z { put = z.put ++ y.puts }) x.same.0) ∙ of);
-  looked = x.looked;
-  looks = x.looks;
   events = y.events ++ x.events;
-  goes = goes_on_then b x.looked m.poller k.poller x.events y.events x.goes y.goes;
+  goes = goes_on_then b h.poller m.poller k.poller x.events y.events x.goes y.goes;
+  once = let e = ticks_then y.events x.events in let l = x.once in let z = y.still in omega (arith, e, l, z);
   answered = y.answered ∙ (ap (λ (z : List Req). z ++ answered_by y.events) (none ∙ sym x.silent) ∙ sym (answered_both y.events x.events));
   released = y.released;
+  fresh = new_same h.poller.view.seen m.poller.view.seen y.released x.alone y.fresh;
   freed_are = λ i. y.freed_are i ∙ ap (λ (c : Bool). cond (is_among y.released i) true c) (x.alone i);
   puts = y.puts;
   ready = y.ready ∙ ap (λ (z : Moves). record z { put = z.put ++ y.puts }) x.same.0;
   handed = ap (λ (z : Owed). z.numbers ++ y.released) (sym x.same.1) ∙ y.handed;
   shape = (refl, same);
 }
+
+-- a turn that did nothing
+pub nothing_done : (b : Facts) (q : QueueFacts) (h m k : Hands) (o w : Waiting) → HasTicked b h m → Did b q m o k w → o.answered ≡ [] → k.moved ≡ false → GoesOn b h.poller [] k.poller × ((r : Req) → freed k.poller.view.seen r ≡ freed h.poller.view.seen r) × (k.ready ≡ h.ready) × (w.answered ≡ [])
+nothing_done b q h m k o w x y none idle =
+    let z = y.quiet idle in let t = x.quiet z.0 in (
+      subst (λ (es : List Event). GoesOn b h.poller es k.poller) (λ i. z.1 i ++ t i) (goes_on_then b h.poller m.poller k.poller x.events y.events x.goes y.goes),
+      λ r. y.freed_are r ∙ (ap (λ (rs : List Req). cond (is_among rs r) true (freed m.poller.view.seen r)) z.2 ∙ x.alone r),
+      y.ready ∙ (ap (λ (ps : List Req). record m.ready { put = m.ready.put ++ ps }) z.3 ∙ (sym (no_puts m.ready) ∙ x.same.0)),
+      y.answered ∙ ((λ i. none i ++ answered_by (z.1 i)) ∙ refl),
+    )
 
 abbrev pub is_idle : Turn → Bool
 is_idle Idle = true

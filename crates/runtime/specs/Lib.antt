@@ -1,6 +1,8 @@
 pub mod Shelves
+pub mod Desks
 pub mod Turns
 pub mod PollTurns
+pub mod Parts
 pub mod WorkTurns
 pub mod Clients
 pub mod Loops

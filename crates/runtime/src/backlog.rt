@@ -1,5 +1,5 @@
 //! The numbers of requests that the poller has moved to Ready, on their way into the ready queue.
-ghost use Rattle.std.specs.Prelude.{◌≡◌, [], ◌∷◌, ◌++◌, true, false};
+ghost use Rattle.std.specs.Prelude.{◌≡◌, ◌≢◌, [], ◌∷◌, ◌++◌, true, false};
 ghost use Rattle.ready.specs.Ready.{IsOf as IsOfQueue};
 ghost use Rattle.runtime.specs.Turns.{HandedOver};
 ghost use Rattle.runtime.specs.Backlogs.{no_numbers};
@@ -24,9 +24,11 @@ impl Model for Backlog {
 
     ghost use Rattle.std.specs.Prelude.{◌++◌};
     ghost use Rattle.ready.specs.Spans.{numbers_in};
-    ghost use Rattle.runtime.specs.Backlogs.{is_there};
+    ghost use Rattle.runtime.specs.Backlogs.{HasNext, is_there};
 
     ghost view = { λ b. record { numbers = numbers_in b.span ++ numbers_in b.next; is_full = is_there b.next } };
+
+    ghost invariant = { λ b. HasNext b.next };
 }
 
 impl Backlog {
@@ -49,7 +51,8 @@ impl Backlog {
 
     /// Whether it has no place for one more: its numbers found none in the ready queue.
     pub fn is_full(&self) -> bool
-        ensures { result ≡ self.now.is_full }
+        ensures full { result ≡ self.now.is_full }
+        ensures some { result ≡ true → self.now.numbers ≢ [] }
     {
         self.next.is_some()
     }

@@ -1,8 +1,9 @@
 //! The poller's passes in a turn.
-ghost use Rattle.std.specs.Prelude.{◌≡◌, ◌<◌, ◌+◌, ◌++◌, ◌∷◌, [], true, false};
+ghost use Rattle.std.specs.Prelude.{◌≡◌, ◌≢◌, ◌<◌, ◌+◌, ◌++◌, ◌∷◌, [], true, false};
 ghost use Rattle.outbox.specs.Outbox.{with_answered};
 ghost use Rattle.ready.specs.Ready.{IsOf as IsOfQueue};
 ghost use Rattle.runtime.specs.PollTurns.{HasRoom};
+ghost use Rattle.runtime.specs.Parts.{IsStuck};
 ghost use Rattle.runtime.specs.Turns.{HandedOver, kept_in};
 
 use crate::backlog::Backlog;
@@ -56,6 +57,7 @@ impl Hands {
     pub fn is_free(&self) -> bool
         ensures kept { result ≡ true → self.now.kept.is_full ≡ false }
         ensures room { result ≡ true → 0 < self.now.room }
+        ensures stuck { result ≡ false → IsStuck self.now }
     {
         !self.kept.is_full() && self.room > 0
     }
@@ -65,6 +67,7 @@ impl Hands {
         requires some { 0 < self.old.room }
         requires room { HasRoom self.old outbox.old }
         ensures answered { outbox.new ≡ with_answered req outbox.old }
+        ensures moved { self.new.moved ≡ true }
         ensures room { self.new.room + 1 ≡ self.old.room }
         ensures same { (self.new.poller ≡ self.old.poller) × (self.new.ready ≡ self.old.ready) × (self.new.kept ≡ self.old.kept) }
     {
@@ -79,6 +82,7 @@ impl Hands {
         requires free { self.old.kept.is_full ≡ false }
         ensures handed { HandedOver self.old.ready (self.old.kept.numbers ++ req ∷ []) self.new.ready self.new.kept.numbers }
         ensures same { (self.new.poller ≡ self.old.poller) × (self.new.room ≡ self.old.room) }
+        ensures moved { self.new.moved ≡ true }
     {
         self.moved = true;
         self.kept.add(rt, queue, &mut self.ready, req, limit);
@@ -89,10 +93,26 @@ impl Hands {
         requires own { IsOfQueue queue.now self.old.ready }
         ensures handed { HandedOver self.old.ready self.old.kept.numbers self.new.ready self.new.kept.numbers }
         ensures same { (self.new.poller ≡ self.old.poller) × (self.new.room ≡ self.old.room) }
+        ensures quiet { self.new.moved ≡ false → (self.old.moved ≡ false) × (self.old.kept.numbers ≡ []) }
     {
         if !self.kept.is_empty() {
             self.moved = true;
         }
         self.kept.flush(rt, queue, &mut self.ready);
+    }
+
+    /// The same at the end of a turn: numbers that found no place in it wait for the next turn.
+    pub fn retry_rest<R: Wait>(&mut self, rt: &R, queue: &ReadyQueue)
+        requires own { IsOfQueue queue.now self.old.ready }
+        ensures handed { HandedOver self.old.ready self.old.kept.numbers self.new.ready self.new.kept.numbers }
+        ensures same { (self.new.poller ≡ self.old.poller) × (self.new.room ≡ self.old.room) }
+        ensures quiet { self.new.moved ≡ false → (self.old.moved ≡ false) × (self.old.kept.numbers ≡ []) }
+        ensures kept { self.old.kept.is_full ≡ true → self.new.kept.numbers ≢ [] }
+    {
+        if self.kept.is_full() {
+            self.moved = true;
+        } else {
+            self.retry(rt, queue);
+        }
     }
 }

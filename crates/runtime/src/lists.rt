@@ -1,6 +1,10 @@
 //! What the poller's desk looks after.
-ghost use Rattle.std.specs.Prelude.{◌≡◌, ◌<◌, length, IfOk, OnErr};
-ghost use Rattle.runtime.specs.Shelves.{with_request};
+ghost use Rattle.std.specs.Prelude.{◌≡◌, ◌<◌, ◌+◌, ◌++◌, ◌∷◌, [], length, ℕ, List, IfOk, IfErr};
+ghost use Rattle.history.specs.History.{armed, phase};
+ghost use Rattle.steps.specs.declared.line.Line.{Line};
+ghost use Rattle.steps.specs.Journal.{events_of};
+ghost use Rattle.runtime.specs.Desks.{LooksAfter, cares_of, taken_in, with_waiting};
+ghost use Rattle.runtime.specs.Parts.{WaitsOn};
 
 use crate::error::Memory;
 use crate::shelf::Shelf;
@@ -15,22 +19,22 @@ pub(crate) struct Intake {
     pub taken: u64,
 }
 
-/// Of each ring how many requests were taken up; those that wait for another; the armed timers; among them those that may wait for
-/// replies, as LINK_TIMEOUTs do and TIMEOUTs that count; the timer that found no memory; and the time of the clock.
+/// Of each ring how many requests were taken up; those that wait for another; the armed timers; and among them those that may wait
+/// for replies, as LINK_TIMEOUTs do and TIMEOUTs that count.
 #[derive(Drop)]
 pub(crate) struct Lists {
     pub rings: Vec<Intake>,
     pub waiting: Shelf,
     pub timers: Timers,
     pub watchers: Shelf,
-    pub unset: Option<(Req, u32)>,
-    pub now: u32,
 }
 
 impl Lists {
     /// Empty lists, for these rings, which have so many cells in all.
     pub fn new(alloc: Global, rings: Vec<Intake>, places: usize) -> Result<Lists, Memory>
-        ensures { IfOk result (λ l. l.rings ≡ rings) }
+        ensures rings { IfOk result (λ l. l.rings ≡ rings) }
+        ensures places { IfOk result (λ l. l.waiting.places ≡ places) }
+        ensures cares { (j : List Line) → ((i : ℕ) → taken_in rings.items i ≡ 0) → IfOk result (λ l. LooksAfter (cares_of l) j) }
     {
         let waiting = Shelf::new(alloc, places)?;
         let watchers = Shelf::new(alloc, places)?;
@@ -39,50 +43,35 @@ impl Lists {
             waiting,
             timers: Timers::new(alloc),
             watchers,
-            unset: None,
-            now: 0,
         })
     }
 
-    /// Notes the deadline of a timer. Where that finds no memory it is tried again by `set_again`.
-    pub fn set(&mut self, req: Req, deadline: u32) -> Result<(), Memory>
-        ensures rings { length self.new.rings.items ≡ length self.old.rings.items }
-        ensures shelves { (self.new.waiting ≡ self.old.waiting) × (self.new.watchers ≡ self.old.watchers) }
+    /// How many requests of the ring were taken up.
+    pub fn taken(&self, ring: u16) -> u64
+        requires { ring < length self.now.rings.items }
+        ensures { result ≡ taken_in self.now.rings.items ring }
     {
-        if self.timers.arm(req, deadline).is_err() {
-            self.unset = Some((req, deadline));
+        self.rings[usize::from(ring)].taken
+    }
+
+    /// Looks after a timer that is armed: notes its deadline, and that a reply may end it. Where that finds no memory it waits, to
+    /// be tried again.
+    pub fn note(&mut self, req: Req, deadline: u32) -> Result<(), Memory>
+        requires waiting { length self.old.waiting.items < self.old.waiting.places }
+        ensures rings { self.new.rings ≡ self.old.rings }
+        ensures waits { WaitsOn req self.old.waiting self.new.waiting }
+        ensures same { IfOk result (λ _. self.new.waiting ≡ self.old.waiting) }
+        ensures cares { (j : List Line) → phase (events_of j) req ≡ armed deadline → LooksAfter (with_waiting req (cares_of self.old)) j → LooksAfter (cares_of self.new) j }
+    {
+        let Ok(()) = self.timers.arm(req, deadline) else {
+            self.waiting.put(req);
             return Err(Memory);
-        }
+        };
+        let Ok(()) = self.watchers.make_place() else {
+            self.waiting.put(req);
+            return Err(Memory);
+        };
+        self.watchers.put(req);
         Ok(())
-    }
-
-    /// Notes the deadline that found no memory before, if there is one.
-    pub fn set_again(&mut self) -> Result<(), Memory>
-        ensures rings { length self.new.rings.items ≡ length self.old.rings.items }
-    {
-        match self.unset.take() {
-            Some((req, deadline)) => self.set(req, deadline),
-            None => Ok(()),
-        }
-    }
-
-    /// Takes up the ring's next request. A timer of the request that had its cell before has its reply, and is forgotten.
-    pub fn take_up(&mut self, ring: u16, k: u64) -> Req
-        ensures req { result ≡ record { ring = ring; k = k } }
-        ensures rings { length self.new.rings.items ≡ length self.old.rings.items }
-        ensures shelves { (self.new.waiting ≡ self.old.waiting) × (self.new.watchers ≡ self.old.watchers) }
-    {
-        let req = Req { ring, k };
-        if let Some(intake) = self.rings.get_mut(usize::from(ring)) {
-            intake.taken = k.saturating_add(1);
-            if intake.cells <= k {
-                let before = Req {
-                    ring: req.ring,
-                    k: k - intake.cells,
-                };
-                self.timers.drop_timer(before);
-            }
-        }
-        req
     }
 }

@@ -1,12 +1,18 @@
 //! The poller's desk, and its turns.
-ghost use Rattle.std.specs.Prelude.{◌≡◌, ◌≤◌, ◌+◌, ◌<◌, ◌==◌, ◌^◌, [], ◌∷◌, false, length, slice_index, IfOk, IfErr};
+ghost use Rattle.std.specs.Prelude.{◌≡◌, ◌≢◌, ◌⊎◌, ◌≤◌, ◌+◌, ◌<◌, ◌==◌, ◌^◌, ℕ, [], ◌∷◌, false, length, slice_index, List, None, Some, IfOk, IfErr};
+ghost use Rattle.history.specs.declared.req.Req.{Req as Request};
+ghost use Rattle.steps.specs.declared.line.Line.{Line};
+ghost use Rattle.steps.specs.Journal.{freed};
+ghost use Rattle.wheel.specs.Wheel.{deadline_at};
 ghost use Rattle.bell.specs.BellPasses.{HasLoaded, HaveRisen, IsSleeperOf};
 ghost use Rattle.work.specs.Board.{IsOf};
 ghost use Rattle.work.specs.Passes.{seen_of};
 ghost use Rattle.ready.specs.Ready.{IsOf as IsOfQueue};
 ghost use Rattle.board.specs.Calls.{Goes};
 ghost use Rattle.controls.specs.Clocks.{Asked};
-ghost use Rattle.runtime.specs.PollTurns.{AreAt, Did, HasRoom, HasTicked, Rang, IsPollTurn, IsPollers, IsNewDesk, cells_in_all};
+ghost use Rattle.runtime.specs.Desks.{AreHeldBack, ArePending, LooksAfter, cares_of, taken_in};
+ghost use Rattle.runtime.specs.PollTurns.{AllCounted, AllRung, AllTaken, AllTried, AreAt, Did, HasRoom, HasTicked, IsAt, IsIdle, IsPollTurn, IsPollers, IsNewDesk, IsTaken, cares_in, cells_in_all};
+ghost use Rattle.runtime.specs.Parts.{HasFewerTimers, HasRung, HasStopped, IsStuck, WentOn};
 
 use crate::backlog::Backlog;
 use crate::error::Memory;
@@ -25,8 +31,8 @@ use std::alloc::{AllocError, Global};
 use std::marker::Model;
 use std::sync::Wait;
 
-/// What the poller's turns need: its passes, and what it looks after. Contracts see its passes, the numbers that it keeps, and
-/// how many cells its board has.
+/// What the poller's turns need: its passes, and what it looks after. Contracts see its passes, the numbers that it keeps, how
+/// many cells its board has, and what it looks after: each request that was taken up, until the poller is done with it.
 #[derive(Drop)]
 pub struct PollDesk {
     hands: Hands,
@@ -37,16 +43,20 @@ pub struct PollDesk {
 
 impl Model for PollDesk {
     ghost use Rattle.std.specs.Prelude.{◌≡◌, length};
+    ghost use Rattle.runtime.specs.Desks.{LooksAfter, cares_of};
     ghost use Rattle.runtime.specs.PollTurns.{Desk};
 
     ghost Value = { Desk };
 
-    ghost view = { λ d. record { poller = d.hands.poller; sleeper = d.sleeper; ready = d.hands.ready; kept = d.hands.kept.numbers; places = d.places; rings = length d.lists.rings.items } };
+    ghost view = { λ d. record { poller = d.hands.poller; sleeper = d.sleeper; ready = d.hands.ready; kept = d.hands.kept.numbers; places = d.places; rings = length d.lists.rings.items; intakes = d.lists.rings.items; waiting = d.lists.waiting.items; watched = d.lists.watchers.items; deadlines = d.lists.timers } };
+
+    ghost invariant = { λ d. LooksAfter (cares_of d.lists) d.hands.poller.view.seen × (d.lists.waiting.places ≡ d.places) };
 }
 
 /// The cells of each ring.
 fn intakes_of(alloc: Global, rings: &[RingShape]) -> Result<Vec<Intake>, AllocError>
-    ensures { IfOk result (λ v. length v.items ≡ length rings.now) }
+    ensures count { IfOk result (λ v. length v.items ≡ length rings.now) }
+    ensures none { IfOk result (λ v. (i : ℕ) → taken_in v.items i ≡ 0) }
 {
     let mut intakes = Vec::new(alloc);
     for ring in rings {
@@ -80,6 +90,7 @@ impl PollDesk {
     ) -> Result<PollDesk, (Memory, Poller, Sleeper, ReadyPass)>
         ensures new { IfOk result (IsNewDesk (length shape.now.rings.items) poller sleeper ready) }
         ensures places { cells_in_all shape.now.rings.items < 2 ^ 64 → IfOk result (λ d. d.places ≡ cells_in_all shape.now.rings.items) }
+        ensures looks_after { IfOk result (λ d. LooksAfter (cares_in d) d.poller.view.seen) }
         ensures refused { IfErr result (λ e. (e.1 ≡ poller) × (e.2 ≡ sleeper) × (e.3 ≡ ready)) }
     {
         let places = places_of(shape.rings.as_slice());
@@ -160,8 +171,10 @@ pub(crate) fn rest<R: Wait>(rt: &R, bell: &Bell, desk: &mut PollDesk)
 
 /// The phase of the request that the clock asks for, if any.
 fn phase_of(board: &Board, poller: &mut Poller, asked: Option<Req>) -> Option<Phase>
-    requires { IsOf board.now poller.old }
+    requires own { IsOf board.now poller.old }
+    requires role { IsPollers poller.old }
     ensures looks { Goes board.now poller.old [] poller.new }
+    ensures alone { (r : Request) → freed poller.new.view.seen r ≡ freed poller.old.view.seen r }
     ensures asked { Asked poller.new.view.seen asked result }
 {
     match asked {
@@ -171,24 +184,24 @@ fn phase_of(board: &Board, poller: &mut Poller, asked: Option<Req>) -> Option<Ph
 }
 
 /// Asks the clock, and sets the board's to what it tells, unless that is before its time or after its end.
-fn ask_clock<C: Clock>(board: &Board, hands: &mut Hands, lists: &mut Lists, clock: &mut C)
+fn ask_clock<C: Clock>(board: &Board, hands: &mut Hands, clock: &mut C)
     requires own { IsOf board.now hands.old.poller }
+    ensures role { IsPollers hands.new.poller }
     ensures ticked { HasTicked board.now hands.old hands.new }
-    ensures follows { IsPollers hands.old.poller → C.follows clock.old (seen_of hands.old.poller) → C.follows clock.new (seen_of hands.new.poller) }
-    ensures rings { length lists.new.rings.items ≡ length lists.old.rings.items }
+    ensures follows { C.follows clock.old (seen_of hands.old.poller) → C.follows clock.new (seen_of hands.new.poller) }
 {
+    let now = hands.poller.clock();
     let phase = phase_of(board, &mut hands.poller, clock.ask());
-    let Some(to) = clock.tell(lists.now, phase) else {
+    let Some(to) = clock.tell(now, phase) else {
         return;
     };
     let Ok(()) = board.tick(&mut hands.poller, to) else {
         return;
     };
-    lists.now = to;
     hands.moved = true;
 }
 
-/// The steps of a turn, after the tails were read and the clock was asked. Whether something is left to look after.
+/// The requests that wait and those that are new, and the timers, in a turn after the tails were read and the clock was asked.
 fn look_after<R: Wait>(
     rt: &R,
     board: &Board,
@@ -197,32 +210,38 @@ fn look_after<R: Wait>(
     hands: &mut Hands,
     lists: &mut Lists,
     outbox: &mut Outbox,
-) -> Result<bool, Memory>
+) -> Result<(), Memory>
     requires own { AreAt board.now queue.now hands.old }
     requires room { HasRoom hands.old outbox.old }
-    requires rings { length lists.old.rings.items ≡ length sleeper.now.tails }
+    requires rings { (length lists.old.rings.items ≡ length sleeper.now.tails) × (length lists.old.rings.items ≤ 16) }
+    requires cared { LooksAfter (cares_of lists.old) hands.old.poller.view.seen }
     ensures did { Did board.now queue.now hands.old outbox.old hands.new outbox.new }
+    ensures cared { LooksAfter (cares_of lists.new) hands.new.poller.view.seen }
     ensures rings { length lists.new.rings.items ≡ length lists.old.rings.items }
-    ensures kept { IfOk result (λ more. more ≡ false → hands.new.kept.numbers ≡ []) }
+    ensures places { lists.new.waiting.places ≡ lists.old.waiting.places }
+    ensures taken { IfOk result (λ _. ((i : ℕ) → i < length lists.old.rings.items → IsTaken sleeper.now.tails (taken_in lists.new.rings.items) i) ⊎ HasStopped hands.new lists.new.waiting) }
+    ensures tried { IfOk result (λ _. AreHeldBack hands.old.poller hands.new.poller lists.new.waiting.items ⊎ IsStuck hands.new) }
+    ensures rung { IfOk result (λ _. HasRung hands.old.poller hands.new (cares_of lists.new)) }
+    ensures counted { IfOk result (λ _. ArePending hands.old.poller hands.new.poller lists.new.watchers.items ⊎ (hands.new.room ≡ 0)) }
 {
-    lists.set_again()?;
     hands.retry(rt, queue);
     release_waiting(rt, board, queue, hands, lists, outbox)?;
     take_new(rt, board, queue, sleeper, hands, lists, outbox)?;
     ring_due(board, hands, lists, outbox);
     watch_replies(board, hands, lists, outbox);
-    hands.retry(rt, queue);
-    Ok(has_work(board, hands, lists, outbox))
+    Ok(())
 }
 
 /// Whether the turn did something, or has something to look after: numbers that it keeps, or a request that it has taken up and
 /// that waits or is armed.
-fn has_work(board: &Board, hands: &mut Hands, lists: &mut Lists, outbox: &mut Outbox) -> bool
-    requires own { IsOf board.now hands.old.poller }
-    requires room { HasRoom hands.old outbox.old }
-    ensures rang { Rang board.now hands.old outbox.old hands.new outbox.new }
-    ensures rings { length lists.new.rings.items ≡ length lists.old.rings.items }
-    ensures kept { result ≡ false → hands.new.kept.numbers ≡ [] }
+fn has_work(board: &Board, hands: &mut Hands, lists: &mut Lists) -> bool
+    requires own { IsAt board.now hands.old }
+    requires cared { LooksAfter (cares_of lists.old) hands.old.poller.view.seen }
+    ensures went_on { WentOn board.now hands.old hands.new }
+    ensures cared { LooksAfter (cares_of lists.new) hands.new.poller.view.seen }
+    ensures same { (lists.new.rings ≡ lists.old.rings) × (lists.new.waiting ≡ lists.old.waiting) × (lists.new.watchers ≡ lists.old.watchers) }
+    ensures fewer { HasFewerTimers lists.old lists.new }
+    ensures none { result ≡ false → (hands.new.moved ≡ false) × (hands.new.kept.numbers ≡ []) × (lists.new.waiting.items ≡ []) × ((r : Request) (d : ℕ) → deadline_at lists.new.timers r ≢ Some d) }
 {
     if hands.moved || !hands.kept.is_empty() {
         return true;
@@ -230,7 +249,7 @@ fn has_work(board: &Board, hands: &mut Hands, lists: &mut Lists, outbox: &mut Ou
     if lists.waiting.len() > 0 || lists.watchers.len() > 0 {
         return true;
     }
-    has_timers(board, hands, lists, outbox) || hands.moved
+    has_timers(board, hands, lists) || hands.moved
 }
 
 /// One turn of the poller. It reads all tails, asks the clock, goes over the requests that wait for others and those that are new,
@@ -251,19 +270,24 @@ pub fn poll_turn<R: Wait, C: Clock>(
     requires ready { IsOfQueue queue.now desk.old.ready }
     requires outbox { (outbox.old.answered ≡ []) × (desk.old.places ≤ outbox.old.places) }
     ensures turned { IsPollTurn board.now queue.now desk.old desk.new outbox.new }
+    ensures looks_after { LooksAfter (cares_in desk.new) desk.new.poller.view.seen }
+    ensures taken_up { IfOk result (λ _. AllTaken desk.new outbox.new) }
+    ensures tried { IfOk result (λ _. AllTried desk.old desk.new outbox.new) }
+    ensures rung { IfOk result (λ _. AllRung desk.old desk.new outbox.new) }
+    ensures counted { IfOk result (λ _. AllCounted desk.old desk.new outbox.new) }
     ensures sleeper { IsSleeperOf bell.now desk.new.sleeper }
     ensures read { HasLoaded desk.old.sleeper desk.new.sleeper }
     ensures risen { HaveRisen desk.old.sleeper.tails desk.new.sleeper.tails }
     ensures places { outbox.new.places ≡ outbox.old.places }
-    ensures idle { IfOk result (λ turn. turn ≡ Turn.Idle → desk.new.kept ≡ []) }
+    ensures idle { IfOk result (λ turn. turn ≡ Turn.Idle → IsIdle board.now desk.old desk.new outbox.new) }
     ensures follows { IsPollers desk.old.poller → C.follows clock.old (seen_of desk.old.poller) → C.follows clock.new (seen_of desk.new.poller) }
 {
     bell.collect(&mut desk.sleeper);
     desk.hands.room = desk.places;
     desk.hands.moved = false;
-    ask_clock(board, &mut desk.hands, &mut desk.lists, clock);
+    ask_clock(board, &mut desk.hands, clock);
     let sleeper = &desk.sleeper;
-    let has_work = look_after(
+    look_after(
         rt,
         board,
         queue,
@@ -272,5 +296,7 @@ pub fn poll_turn<R: Wait, C: Clock>(
         &mut desk.lists,
         outbox,
     )?;
+    desk.hands.retry_rest(rt, queue);
+    let has_work = has_work(board, &mut desk.hands, &mut desk.lists);
     Ok(if has_work { Turn::Moved } else { Turn::Idle })
 }

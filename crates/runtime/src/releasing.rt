@@ -1,37 +1,69 @@
 //! The poller releases requests: those that wait for another, and those that are new.
-ghost use Rattle.std.specs.Prelude.{◌≡◌, ◌<◌, false, length};
-ghost use Rattle.runtime.specs.PollTurns.{AreAt, HasRoom, HasArmed, Did};
-ghost use Rattle.work.specs.Board.{IsOf};
+ghost use Rattle.std.specs.Prelude.{◌≡◌, ◌≢◌, ◌⊎◌, ◌+◌, ◌<◌, ◌≤◌, ℕ, false, true, length, slice_index, IfOk};
+ghost use Rattle.std.specs.Result.{is_ok};
+ghost use Rattle.board.specs.Calls.{IsUnheld};
+ghost use Rattle.board.specs.PollerRows.{MayArm};
+ghost use Rattle.work.specs.Passes.{seen_of};
+ghost use Rattle.runtime.specs.Desks.{AreHeldBack, LooksAfter, cares_of, taken_in, with_waiting};
+ghost use Rattle.runtime.specs.PollTurns.{AreAt, IsAt, HasRoom, Did, IsTaken};
+ghost use Rattle.runtime.specs.Parts.{IsStuck, HasStopped, WaitsOn, WasTried, WentOn, HaveWaited};
 
 use crate::error::Memory;
 use crate::hands::{Hands, limit_of};
 use crate::lists::Lists;
+use crate::ringing::forget;
 use bell::Sleeper;
 use bell::bell::MAX_RINGS;
-use board::{Arming, Board, Released};
+use board::{Arming, Board, Phase, Released};
 use history::Req;
 use outbox::Outbox;
 use ready::ReadyQueue;
 use std::sync::Wait;
 
-/// Arms a timer that may start. It waits on where it may not, or where there is no place for it.
-fn arm(board: &Board, hands: &mut Hands, lists: &mut Lists, req: Req) -> Result<(), Memory>
-    requires own { IsOf board.now hands.old.poller }
+/// Looks where a request stands that doesn't wait for the poller. It is done with, or is looked after as the timer that it is; one
+/// that wasn't submitted yet waits on.
+fn look_again(board: &Board, hands: &mut Hands, lists: &mut Lists, req: Req) -> Result<(), Memory>
+    requires own { IsAt board.now hands.old }
+    requires unheld { IsUnheld hands.old.poller.view.seen req }
     requires waiting { length lists.old.waiting.items < lists.old.waiting.places }
-    ensures armed { HasArmed board.now hands.old hands.new }
-    ensures rings { length lists.new.rings.items ≡ length lists.old.rings.items }
+    requires cared { LooksAfter (with_waiting req (cares_of lists.old)) hands.old.poller.view.seen }
+    ensures went_on { WentOn board.now hands.old hands.new }
+    ensures cared { LooksAfter (cares_of lists.new) hands.new.poller.view.seen }
+    ensures rings { lists.new.rings ≡ lists.old.rings }
+    ensures waits { WaitsOn req lists.old.waiting lists.new.waiting }
+    ensures tried { IfOk result (λ _. WasTried req hands.old.poller hands.new.poller lists.old.waiting lists.new.waiting) }
 {
-    if lists.watchers.is_full() {
-        lists.waiting.put(req);
-        return Ok(());
+    match board.look(&mut hands.poller, req) {
+        Phase::Ready | Phase::Done(_) | Phase::Gone => {
+            hands.moved = true;
+            Ok(())
+        }
+        Phase::Armed(deadline) => lists.note(req, deadline),
+        Phase::Unborn | Phase::Held | Phase::Running => {
+            lists.waiting.put(req);
+            Ok(())
+        }
     }
+}
+
+/// Arms a timer that may start. It waits on where it may not.
+fn arm(board: &Board, hands: &mut Hands, lists: &mut Lists, req: Req) -> Result<(), Memory>
+    requires own { IsAt board.now hands.old }
+    requires timer { MayArm (seen_of hands.old.poller) req }
+    requires waiting { length lists.old.waiting.items < lists.old.waiting.places }
+    requires cared { LooksAfter (with_waiting req (cares_of lists.old)) hands.old.poller.view.seen }
+    ensures went_on { WentOn board.now hands.old hands.new }
+    ensures cared { LooksAfter (cares_of lists.new) hands.new.poller.view.seen }
+    ensures rings { lists.new.rings ≡ lists.old.rings }
+    ensures waits { WaitsOn req lists.old.waiting lists.new.waiting }
+    ensures tried { IfOk result (λ _. WasTried req hands.old.poller hands.new.poller lists.old.waiting lists.new.waiting) }
+{
     match board.arm(&mut hands.poller, req) {
         Arming::Armed(deadline) => {
             hands.moved = true;
-            lists.watchers.put(req);
-            lists.set(req, deadline)
+            lists.note(req, deadline)
         }
-        Arming::NotHeld => Ok(()),
+        Arming::NotHeld => look_again(board, hands, lists, req),
         Arming::NotTimer | Arming::Shut => {
             lists.waiting.put(req);
             Ok(())
@@ -54,17 +86,52 @@ fn release<R: Wait>(
     requires free { (hands.old.kept.is_full ≡ false) × (0 < hands.old.room) }
     requires room { HasRoom hands.old outbox.old }
     requires waiting { length lists.old.waiting.items < lists.old.waiting.places }
+    requires cared { LooksAfter (with_waiting req (cares_of lists.old)) hands.old.poller.view.seen }
     ensures did { Did board.now queue.now hands.old outbox.old hands.new outbox.new }
-    ensures rings { length lists.new.rings.items ≡ length lists.old.rings.items }
+    ensures cared { LooksAfter (cares_of lists.new) hands.new.poller.view.seen }
+    ensures rings { lists.new.rings ≡ lists.old.rings }
+    ensures waits { WaitsOn req lists.old.waiting lists.new.waiting }
+    ensures tried { IfOk result (λ _. WasTried req hands.old.poller hands.new.poller lists.old.waiting lists.new.waiting) }
 {
     match board.release(&mut hands.poller, req) {
         Released::Severed => hands.answer(outbox, req),
         Released::Freed => hands.hand_over(rt, queue, req, limit),
         Released::Shut => lists.waiting.put(req),
         Released::Timer => return arm(board, hands, lists, req),
-        Released::NotHeld => hands.moved = true,
+        Released::NotHeld => return look_again(board, hands, lists, req),
     }
     Ok(())
+}
+
+/// Releases a request that waits, where the numbers find their places and memory was found so far. Else it waits on.
+fn release_next<R: Wait>(
+    rt: &R,
+    board: &Board,
+    queue: &ReadyQueue,
+    hands: &mut Hands,
+    lists: &mut Lists,
+    outbox: &mut Outbox,
+    req: Req,
+    limit: u8,
+    outcome: Result<(), Memory>,
+) -> Result<(), Memory>
+    requires own { AreAt board.now queue.now hands.old }
+    requires room { HasRoom hands.old outbox.old }
+    requires waiting { length lists.old.waiting.items < lists.old.waiting.places }
+    requires cared { LooksAfter (with_waiting req (cares_of lists.old)) hands.old.poller.view.seen }
+    ensures outcome { is_ok result ≡ true → is_ok outcome ≡ true }
+    ensures did { Did board.now queue.now hands.old outbox.old hands.new outbox.new }
+    ensures cared { LooksAfter (cares_of lists.new) hands.new.poller.view.seen }
+    ensures rings { lists.new.rings ≡ lists.old.rings }
+    ensures waits { WaitsOn req lists.old.waiting lists.new.waiting }
+    ensures tried { IfOk result (λ _. WasTried req hands.old.poller hands.new.poller lists.old.waiting lists.new.waiting ⊎ IsStuck hands.new) }
+    ensures stuck { IsStuck hands.old → IsStuck hands.new }
+{
+    if outcome.is_ok() && hands.is_free() {
+        return release(rt, board, queue, hands, lists, outbox, req, limit);
+    }
+    lists.waiting.put(req);
+    outcome
 }
 
 /// Goes over the requests that wait for another, in order, as long as the numbers find their places. After `Memory` those that it
@@ -79,26 +146,66 @@ pub(crate) fn release_waiting<R: Wait>(
 ) -> Result<(), Memory>
     requires own { AreAt board.now queue.now hands.old }
     requires room { HasRoom hands.old outbox.old }
+    requires cared { LooksAfter (cares_of lists.old) hands.old.poller.view.seen }
     ensures did { Did board.now queue.now hands.old outbox.old hands.new outbox.new }
-    ensures rings { length lists.new.rings.items ≡ length lists.old.rings.items }
+    ensures cared { LooksAfter (cares_of lists.new) hands.new.poller.view.seen }
+    ensures rings { lists.new.rings ≡ lists.old.rings }
+    ensures places { lists.new.waiting.places ≡ lists.old.waiting.places }
+    ensures tried { IfOk result (λ _. AreHeldBack hands.old.poller hands.new.poller lists.new.waiting.items ⊎ IsStuck hands.new) }
 {
     let limit = limit_of(lists.waiting.len() as u64, hands.workers);
     let mut outcome = Ok(());
     for _n in 0..lists.waiting.len() {
         let Some(req) = lists.waiting.take() else {
-            break;
+            unreachable!();
         };
-        if outcome.is_ok() && hands.is_free() {
-            outcome = release(rt, board, queue, hands, lists, outbox, req, limit);
-        } else {
-            lists.waiting.put(req);
-        }
+        outcome = release_next(
+            rt, board, queue, hands, lists, outbox, req, limit, outcome,
+        );
     }
     outcome
 }
 
+/// Forgets the timer of the request that had the cell of the ring's k-th request before, where that timer has its reply.
+fn forget_before(board: &Board, hands: &mut Hands, lists: &mut Lists, ring: u16, k: u64)
+    requires own { IsAt board.now hands.old }
+    requires ring { ring < length lists.old.rings.items }
+    requires cared { LooksAfter (cares_of lists.old) hands.old.poller.view.seen }
+    ensures went_on { WentOn board.now hands.old hands.new }
+    ensures cared { LooksAfter (cares_of lists.new) hands.new.poller.view.seen }
+    ensures same { (lists.new.rings ≡ lists.old.rings) × (lists.new.waiting ≡ lists.old.waiting) }
+{
+    let cells = lists.rings[usize::from(ring)].cells;
+    if cells <= k {
+        let before = Req { ring, k: k - cells };
+        forget(board, hands, lists, before);
+    }
+}
+
+/// Takes up the ring's next request. It waits until it is released.
+fn take_up(board: &Board, hands: &mut Hands, lists: &mut Lists, ring: u16, k: u64) -> Req
+    requires own { IsAt board.now hands.old }
+    requires next { (ring < length lists.old.rings.items) × (taken_in lists.old.rings.items ring ≡ k) × (k < 18446744073709551615) }
+    requires cared { LooksAfter (cares_of lists.old) hands.old.poller.view.seen }
+    ensures went_on { WentOn board.now hands.old hands.new }
+    ensures req { result ≡ record { ring = ring; k = k } }
+    ensures cared { LooksAfter (with_waiting result (cares_of lists.new)) hands.new.poller.view.seen }
+    ensures rings { length lists.new.rings.items ≡ length lists.old.rings.items }
+    ensures taken { taken_in lists.new.rings.items ring ≡ k + 1 }
+    ensures others { (i : ℕ) → i ≢ ring → taken_in lists.new.rings.items i ≡ taken_in lists.old.rings.items i }
+    ensures waiting { lists.new.waiting ≡ lists.old.waiting }
+{
+    forget_before(board, hands, lists, ring, k);
+    lists.rings[usize::from(ring)].taken = k + 1;
+    hands.moved = true;
+    Req { ring, k }
+}
+
+/// The tail by which the poller is told to end.
+pub(crate) const END: u64 = u64::MAX;
+
 /// Takes up the ring's new requests, in order, up to the tail, as long as the numbers find their places and there is a
-/// place for one.
+/// place for one. By the tail that ends the poller it takes up none.
 fn take_ring<R: Wait>(
     rt: &R,
     board: &Board,
@@ -111,26 +218,32 @@ fn take_ring<R: Wait>(
 ) -> Result<(), Memory>
     requires own { AreAt board.now queue.now hands.old }
     requires room { HasRoom hands.old outbox.old }
+    requires ring { ring < length lists.old.rings.items }
+    requires cared { LooksAfter (cares_of lists.old) hands.old.poller.view.seen }
     ensures did { Did board.now queue.now hands.old outbox.old hands.new outbox.new }
+    ensures cared { LooksAfter (cares_of lists.new) hands.new.poller.view.seen }
     ensures rings { length lists.new.rings.items ≡ length lists.old.rings.items }
+    ensures places { lists.new.waiting.places ≡ lists.old.waiting.places }
+    ensures waited { IfOk result (λ _. HaveWaited hands.old.poller hands.new.poller lists.old.waiting.items lists.new.waiting.items) }
+    ensures taken { IfOk result (λ _. ((tail ≡ 18446744073709551615) ⊎ (tail ≤ taken_in lists.new.rings.items ring)) ⊎ HasStopped hands.new lists.new.waiting) }
+    ensures others { (i : ℕ) → i ≢ ring → taken_in lists.new.rings.items i ≡ taken_in lists.old.rings.items i }
+    ensures stuck { IsStuck hands.old → IsStuck hands.new }
+    ensures stopped { HasStopped hands.old lists.old.waiting → HasStopped hands.new lists.new.waiting }
 {
-    let Some(intake) = lists.rings.get(usize::from(ring)) else {
+    if tail == END {
         return Ok(());
-    };
-    let limit = limit_of(tail.saturating_sub(intake.taken), hands.workers);
-    for k in intake.taken..tail {
+    }
+    let taken = lists.taken(ring);
+    let limit = limit_of(tail.saturating_sub(taken), hands.workers);
+    for k in taken..tail {
         if !hands.is_free() || lists.waiting.is_full() {
             break;
         }
-        let req = lists.take_up(ring, k);
-        hands.moved = true;
+        let req = take_up(board, hands, lists, ring, k);
         release(rt, board, queue, hands, lists, outbox, req, limit)?;
     }
     Ok(())
 }
-
-/// The tail by which the poller is told to end.
-pub(crate) const END: u64 = u64::MAX;
 
 /// Takes up the new requests of all rings.
 pub(crate) fn take_new<R: Wait>(
@@ -144,18 +257,22 @@ pub(crate) fn take_new<R: Wait>(
 ) -> Result<(), Memory>
     requires own { AreAt board.now queue.now hands.old }
     requires room { HasRoom hands.old outbox.old }
-    requires rings { length lists.old.rings.items ≡ length sleeper.now.tails }
+    requires rings { (length lists.old.rings.items ≡ length sleeper.now.tails) × (length lists.old.rings.items ≤ 16) }
+    requires cared { LooksAfter (cares_of lists.old) hands.old.poller.view.seen }
     ensures did { Did board.now queue.now hands.old outbox.old hands.new outbox.new }
+    ensures cared { LooksAfter (cares_of lists.new) hands.new.poller.view.seen }
     ensures rings { length lists.new.rings.items ≡ length lists.old.rings.items }
+    ensures places { lists.new.waiting.places ≡ lists.old.waiting.places }
+    ensures waited { IfOk result (λ _. HaveWaited hands.old.poller hands.new.poller lists.old.waiting.items lists.new.waiting.items) }
+    ensures taken { IfOk result (λ _. ((i : ℕ) → i < length lists.old.rings.items → IsTaken sleeper.now.tails (taken_in lists.new.rings.items) i) ⊎ HasStopped hands.new lists.new.waiting) }
+    ensures stuck { IsStuck hands.old → IsStuck hands.new }
 {
     for ring in 0..MAX_RINGS {
         if lists.rings.len() <= usize::from(ring) {
             break;
         }
         let tail = sleeper.tail(ring);
-        if tail != END {
-            take_ring(rt, board, queue, hands, lists, outbox, ring, tail)?;
-        }
+        take_ring(rt, board, queue, hands, lists, outbox, ring, tail)?;
     }
     Ok(())
 }

@@ -1,15 +1,60 @@
 //! The poller looks after armed timers: those that are due, and those whose targets may have replied.
-ghost use Rattle.std.specs.Prelude.{◌≡◌, ◌<◌, ◌≤◌, length};
+ghost use Rattle.std.specs.Prelude.{◌≡◌, ◌≢◌, ◌⊎◌, ◌<◌, ◌≤◌, ℕ, true, false, length, Some};
+ghost use Rattle.history.specs.declared.req.Req.{Req as Request};
+ghost use Rattle.history.specs.History.{armed, phase};
 ghost use Rattle.history.specs.Chains.{previous};
-ghost use Rattle.work.specs.Board.{IsOf};
-ghost use Rattle.runtime.specs.PollTurns.{HasRoom, Rang};
+ghost use Rattle.wheel.specs.Wheel.{deadline_at};
+ghost use Rattle.work.specs.Passes.{seen_of};
+ghost use Rattle.board.specs.TimerCalls.{IsNoneToExpire, IsNoneToSettle, IsUnarmed};
+ghost use Rattle.runtime.specs.Desks.{ArePending, IsLinkedDue, IsPendingTimer, LooksAfter, cares_of};
+ghost use Rattle.runtime.specs.Parts.{HasFewerTimers, HasRung, IsDueTimer, WatchesOn, WentOn, stands_armed, with_watched};
+ghost use Rattle.runtime.specs.PollTurns.{HasRoom, IsAt, Rang};
 
 use crate::hands::Hands;
 use crate::lists::Lists;
-use board::{Board, Counting, Expiry, Firing, Settling};
+use board::{Board, Counting, Expiry, Firing, Phase, Settling};
 use history::Req;
 use outbox::Outbox;
-use wheel::{TimerSet, Timers};
+use wheel::TimerSet;
+
+/// Whether a request that stands so is an armed timer.
+fn is_armed_at(phase: Phase) -> bool
+    ensures { result ≡ stands_armed phase }
+{
+    match phase {
+        Phase::Armed(_) => true,
+        Phase::Unborn | Phase::Held | Phase::Ready | Phase::Running => false,
+        Phase::Done(_) | Phase::Gone => false,
+    }
+}
+
+/// Looks whether the request is an armed timer.
+fn is_armed(board: &Board, hands: &mut Hands, req: Req) -> bool
+    requires own { IsAt board.now hands.old }
+    ensures went_on { WentOn board.now hands.old hands.new }
+    ensures same { (hands.new.room ≡ hands.old.room) × (hands.new.moved ≡ hands.old.moved) }
+    ensures armed { result ≡ true → (d : ℕ) × (phase (seen_of hands.new.poller) req ≡ armed d) }
+    ensures unarmed { result ≡ false → IsUnarmed (seen_of hands.new.poller) req }
+{
+    is_armed_at(board.look(&mut hands.poller, req))
+}
+
+/// Forgets the request's timer, where that is no longer armed.
+pub(crate) fn forget(board: &Board, hands: &mut Hands, lists: &mut Lists, req: Req)
+    requires own { IsAt board.now hands.old }
+    requires cared { LooksAfter (cares_of lists.old) hands.old.poller.view.seen }
+    ensures went_on { WentOn board.now hands.old hands.new }
+    ensures cared { LooksAfter (cares_of lists.new) hands.new.poller.view.seen }
+    ensures same { (lists.new.rings ≡ lists.old.rings) × (lists.new.waiting ≡ lists.old.waiting) }
+{
+    if !lists.timers.has_timer(req) {
+        return;
+    }
+    if is_armed(board, hands, req) {
+        return;
+    }
+    lists.timers.drop_timer(req);
+}
 
 /// The request before this one, which is the target of a LINK_TIMEOUT.
 fn target_of(req: Req) -> Req
@@ -23,10 +68,12 @@ fn target_of(req: Req) -> Req
 
 /// Settles a timer, where its target has replied. Whether it still waits for that.
 fn settle(board: &Board, hands: &mut Hands, outbox: &mut Outbox, req: Req) -> bool
-    requires own { IsOf board.now hands.old.poller }
+    requires own { IsAt board.now hands.old }
     requires some { 0 < hands.old.room }
     requires room { HasRoom hands.old outbox.old }
     ensures rang { Rang board.now hands.old outbox.old hands.new outbox.new }
+    ensures pending { result ≡ true → IsPendingTimer (seen_of hands.new.poller) req }
+    ensures over { result ≡ false → IsNoneToSettle (seen_of hands.new.poller) req }
 {
     match board.settle(&mut hands.poller, req) {
         Settling::Settled => {
@@ -38,125 +85,125 @@ fn settle(board: &Board, hands: &mut Hands, outbox: &mut Outbox, req: Req) -> bo
     }
 }
 
-/// Fires a LINK_TIMEOUT, where that is due. Whether its timer goes on.
+/// Fires a LINK_TIMEOUT whose deadline has come. False where the outbox has no room for its target too.
 fn fire(board: &Board, hands: &mut Hands, outbox: &mut Outbox, req: Req) -> bool
-    requires own { IsOf board.now hands.old.poller }
-    requires some { 1 < hands.old.room }
+    requires own { IsAt board.now hands.old }
+    requires some { 0 < hands.old.room }
     requires room { HasRoom hands.old outbox.old }
+    requires due { IsDueTimer (seen_of hands.old.poller) req }
+    requires linked { IsNoneToExpire (seen_of hands.old.poller) req }
     ensures rang { Rang board.now hands.old outbox.old hands.new outbox.new }
+    ensures over { result ≡ true → IsUnarmed (seen_of hands.new.poller) req }
+    ensures full { result ≡ false → (hands.new.room ≡ 1) × IsLinkedDue (seen_of hands.new.poller) req }
 {
+    if hands.room < 2 {
+        return !is_armed(board, hands, req);
+    }
     match board.fire(&mut hands.poller, req) {
         Firing::Took => {
             hands.answer(outbox, target_of(req));
             hands.answer(outbox, req);
-            false
+            true
         }
         Firing::Missed => {
             hands.answer(outbox, req);
-            false
+            true
         }
-        Firing::TargetDone => settle(board, hands, outbox, req),
-        Firing::Early => true,
-        Firing::NotArmed => false,
+        Firing::TargetDone => !settle(board, hands, outbox, req),
+        Firing::Early => unreachable!(),
+        Firing::NotArmed => true,
     }
 }
 
-/// Lets a timer run out, where that is due. Whether it goes on.
+/// Ends a timer whose deadline has come. False where it is a LINK_TIMEOUT and the outbox has no room for its target too.
 fn run_out(board: &Board, hands: &mut Hands, outbox: &mut Outbox, req: Req) -> bool
-    requires own { IsOf board.now hands.old.poller }
-    requires some { 1 < hands.old.room }
+    requires own { IsAt board.now hands.old }
+    requires some { 0 < hands.old.room }
     requires room { HasRoom hands.old outbox.old }
+    requires due { IsDueTimer (seen_of hands.old.poller) req }
     ensures rang { Rang board.now hands.old outbox.old hands.new outbox.new }
+    ensures over { result ≡ true → IsUnarmed (seen_of hands.new.poller) req }
+    ensures full { result ≡ false → (hands.new.room ≡ 1) × IsLinkedDue (seen_of hands.new.poller) req }
 {
     match board.expire(&mut hands.poller, req) {
         Expiry::Expired => {
             hands.answer(outbox, req);
-            false
+            true
         }
-        Expiry::Early => true,
+        Expiry::Early => unreachable!(),
         Expiry::NotArmed => fire(board, hands, outbox, req),
     }
 }
 
-/// Lets the timers run out that are due at this time, the least deadline first. One that is no longer armed is forgotten. False
-/// where one that was found still goes on.
-fn ring_by(
-    board: &Board,
-    hands: &mut Hands,
-    lists: &mut Lists,
-    outbox: &mut Outbox,
-    now: u32,
-) -> bool
-    requires own { IsOf board.now hands.old.poller }
+/// Ends the timers whose deadlines have come, the least deadline first, as long as the outbox has room.
+pub(crate) fn ring_due(board: &Board, hands: &mut Hands, lists: &mut Lists, outbox: &mut Outbox)
+    requires own { IsAt board.now hands.old }
     requires room { HasRoom hands.old outbox.old }
+    requires cared { LooksAfter (cares_of lists.old) hands.old.poller.view.seen }
     ensures rang { Rang board.now hands.old outbox.old hands.new outbox.new }
-    ensures rings { length lists.new.rings.items ≡ length lists.old.rings.items }
+    ensures cared { LooksAfter (cares_of lists.new) hands.new.poller.view.seen }
+    ensures same { (lists.new.rings ≡ lists.old.rings) × (lists.new.waiting ≡ lists.old.waiting) }
+    ensures rung { HasRung hands.old.poller hands.new (cares_of lists.new) }
 {
-    for _n in 0..hands.room {
-        if hands.room < 2 {
+    let now = hands.poller.clock();
+    while let Some(req) = lists.timers.due(now) {
+        if hands.room == 0 {
             break;
         }
-        let Some(req) = lists.timers.due(now) else {
+        if !run_out(board, hands, outbox, req) {
             break;
-        };
-        if run_out(board, hands, outbox, req) {
-            return false;
         }
         lists.timers.drop_timer(req);
         hands.moved = true;
     }
-    true
-}
-
-/// Lets the timers run out that are due.
-pub(crate) fn ring_due(board: &Board, hands: &mut Hands, lists: &mut Lists, outbox: &mut Outbox)
-    requires own { IsOf board.now hands.old.poller }
-    requires room { HasRoom hands.old outbox.old }
-    ensures rang { Rang board.now hands.old outbox.old hands.new outbox.new }
-    ensures rings { length lists.new.rings.items ≡ length lists.old.rings.items }
-{
-    let now = lists.now;
-    ring_by(board, hands, lists, outbox, now);
 }
 
 /// Forgets timers that are no longer armed. Whether one is left that is.
-pub(crate) fn has_timers(
-    board: &Board,
-    hands: &mut Hands,
-    lists: &mut Lists,
-    outbox: &mut Outbox,
-) -> bool
-    requires own { IsOf board.now hands.old.poller }
-    requires room { HasRoom hands.old outbox.old }
-    ensures rang { Rang board.now hands.old outbox.old hands.new outbox.new }
-    ensures rings { length lists.new.rings.items ≡ length lists.old.rings.items }
+pub(crate) fn has_timers(board: &Board, hands: &mut Hands, lists: &mut Lists) -> bool
+    requires own { IsAt board.now hands.old }
+    requires cared { LooksAfter (cares_of lists.old) hands.old.poller.view.seen }
+    ensures went_on { WentOn board.now hands.old hands.new }
+    ensures cared { LooksAfter (cares_of lists.new) hands.new.poller.view.seen }
+    ensures same { (lists.new.rings ≡ lists.old.rings) × (lists.new.waiting ≡ lists.old.waiting) × (lists.new.watchers ≡ lists.old.watchers) }
+    ensures fewer { HasFewerTimers lists.old lists.new }
+    ensures none { result ≡ false → (r : Request) (d : ℕ) → deadline_at lists.new.timers r ≢ Some d }
 {
-    !ring_by(board, hands, lists, outbox, u32::MAX)
+    while let Some(req) = lists.timers.due(u32::MAX) {
+        if is_armed(board, hands, req) {
+            return true;
+        }
+        lists.timers.drop_timer(req);
+        hands.moved = true;
+    }
+    false
 }
 
-/// Looks after an armed timer that may wait for replies: a TIMEOUT that counts them is answered once they are enough, and a
-/// LINK_TIMEOUT once its target has replied. Whether it still waits. One that has counted enough is forgotten.
-fn watch(
-    board: &Board,
-    hands: &mut Hands,
-    timers: &mut Timers,
-    outbox: &mut Outbox,
-    req: Req,
-) -> bool
-    requires own { IsOf board.now hands.old.poller }
+/// Looks after an armed timer that a reply may end: a TIMEOUT that counts replies is answered once they are enough, and a
+/// LINK_TIMEOUT once its target has replied. One that is still pending is watched on.
+fn watch(board: &Board, hands: &mut Hands, lists: &mut Lists, outbox: &mut Outbox, req: Req)
+    requires own { IsAt board.now hands.old }
     requires some { 0 < hands.old.room }
     requires room { HasRoom hands.old outbox.old }
+    requires watchers { length lists.old.watchers.items < lists.old.watchers.places }
+    requires cared { LooksAfter (with_watched req (cares_of lists.old)) hands.old.poller.view.seen }
     ensures rang { Rang board.now hands.old outbox.old hands.new outbox.new }
+    ensures cared { LooksAfter (cares_of lists.new) hands.new.poller.view.seen }
+    ensures same { (lists.new.rings ≡ lists.old.rings) × (lists.new.waiting ≡ lists.old.waiting) }
+    ensures watched { WatchesOn req hands.old.poller hands.new.poller lists.old.watchers lists.new.watchers }
+    ensures fewer { HasFewerTimers lists.old lists.new }
 {
     match board.count(&mut hands.poller, req) {
         Counting::Counted => {
-            timers.drop_timer(req);
+            lists.timers.drop_timer(req);
             hands.answer(outbox, req);
-            false
         }
-        Counting::Fewer => true,
-        Counting::NotCounted => settle(board, hands, outbox, req),
-        Counting::NotArmed => false,
+        Counting::Fewer => lists.watchers.put(req),
+        Counting::NotCounted => {
+            if settle(board, hands, outbox, req) {
+                lists.watchers.put(req);
+            }
+        }
+        Counting::NotArmed => {}
     }
 }
 
@@ -168,20 +215,22 @@ pub(crate) fn watch_replies(
     lists: &mut Lists,
     outbox: &mut Outbox,
 )
-    requires own { IsOf board.now hands.old.poller }
+    requires own { IsAt board.now hands.old }
     requires room { HasRoom hands.old outbox.old }
+    requires cared { LooksAfter (cares_of lists.old) hands.old.poller.view.seen }
     ensures rang { Rang board.now hands.old outbox.old hands.new outbox.new }
-    ensures rings { length lists.new.rings.items ≡ length lists.old.rings.items }
+    ensures cared { LooksAfter (cares_of lists.new) hands.new.poller.view.seen }
+    ensures same { (lists.new.rings ≡ lists.old.rings) × (lists.new.waiting ≡ lists.old.waiting) }
+    ensures counted { ArePending hands.old.poller hands.new.poller lists.new.watchers.items ⊎ (hands.new.room ≡ 0) }
+    ensures fewer { HasFewerTimers lists.old lists.new }
 {
     for _n in 0..lists.watchers.len() {
         if hands.room == 0 {
             break;
         }
         let Some(req) = lists.watchers.take() else {
-            break;
+            unreachable!();
         };
-        if watch(board, hands, &mut lists.timers, outbox, req) {
-            lists.watchers.put(req);
-        }
+        watch(board, hands, lists, outbox, req);
     }
 }

@@ -49,6 +49,16 @@ impl Shelf {
         self.items.len() == self.places
     }
 
+    /// Makes a place for one request more, where all are taken.
+    pub fn make_place(&mut self) -> Result<(), AllocError>
+        ensures same { self.new.items ≡ self.old.items }
+        ensures place { IfOk result (λ _. length self.new.items < self.new.places) }
+    {
+        self.items.reserve(1)?;
+        self.places = self.places.max(self.items.len() + 1);
+        Ok(())
+    }
+
     /// Puts a request in, after all others.
     pub fn put(&mut self, req: Req)
         requires room { length self.old.items < self.old.places }
@@ -61,7 +71,7 @@ impl Shelf {
     pub fn take(&mut self) -> Option<Req>
         ensures places { self.new.places ≡ self.old.places }
         ensures open { IfSome result (λ _. length self.new.items < self.new.places) }
-        ensures taken { MatchOption result (self.new ≡ self.old) (λ req. self.old.items ≡ req ∷ self.new.items) }
+        ensures taken { MatchOption result ((self.new ≡ self.old) × (self.old.items ≡ [])) (λ req. self.old.items ≡ req ∷ self.new.items) }
     {
         self.items.pop_front()
     }

@@ -1,5 +1,5 @@
 //! Timers in a hashed wheel.
-ghost use Rattle.std.specs.Prelude.{◌≡◌, ℕ, ◌+◌, ◌%◌, ◌<◌, ◌≤◌, IsTrue, IsSome, None, OnOk, OnErr, ◌↔◌, length};
+ghost use Rattle.std.specs.Prelude.{◌≡◌, ℕ, ◌+◌, ◌%◌, ◌<◌, ◌≤◌, IsTrue, IsSome, is_some, None, OnOk, OnErr, ◌↔◌, length};
 ghost use Rattle.std.specs.HashMap.{spare};
 ghost use Rattle.history.specs.declared.req.Req.{Req};
 ghost use Rattle.wheel.specs.Deadlines.{armed, dropped, IsFirstDue};
@@ -61,6 +61,7 @@ fn note(deadlines: &mut Deadlines, req: Req, at: u32) -> Option<u32>
 fn forget(deadlines: &mut Deadlines, req: Req) -> Option<u32>
     ensures old { result ≡ deadline_at deadlines.old.entries req }
     ensures forgotten { (q : Req) → deadline_at deadlines.new.entries q ≡ dropped (deadline_at deadlines.old.entries) req q }
+    ensures fewer { IsSome result → length deadlines.new.entries + 1 ≡ length deadlines.old.entries }
 {
     deadlines.remove(&(req.ring, req.k))
 }
@@ -102,6 +103,13 @@ impl Timers {
         }
     }
 
+    /// Whether the request has a timer.
+    pub fn has_timer(&self, req: Req) -> bool
+        ensures { result ≡ is_some (deadline_at self.now req) }
+    {
+        !self.deadlines.is_empty() && self.deadlines.contains_key(&(req.ring, req.k))
+    }
+
     /// `arm`, which looks at the slot of the deadline, and at the slot of the one that it replaces.
     pub fn arm_counted<L: Ledger>(
         &mut self,
@@ -132,6 +140,7 @@ impl Timers {
     pub fn drop_counted<L: Ledger>(&mut self, req: Req, looks: &mut Looks<L>) -> bool
         ensures there { IsTrue result ↔ IsSome (deadline_at self.old req) }
         ensures dropped { deadline_at self.new ≡ dropped (deadline_at self.old) req }
+        ensures fewer { IsTrue result → length self.new + 1 ≡ length self.old }
         ensures one_slot { looks.new ≤ looks.old + 1 }
         ensures idle { length self.old ≡ 0 → looks.new ≡ looks.old }
     {
@@ -180,6 +189,7 @@ fn drop_by<L: Ledger>(timers: &mut Timers, req: Req, blank: Blank) -> bool
     requires some { 0 < blank.parts }
     ensures there { IsTrue result ↔ IsSome (deadline_at timers.old req) }
     ensures dropped { deadline_at timers.new ≡ dropped (deadline_at timers.old) req }
+    ensures fewer { IsTrue result → length timers.new + 1 ≡ length timers.old }
 {
     let mut looks = Looks::<L>::new(blank);
     timers.drop_counted(req, &mut looks)
@@ -203,7 +213,11 @@ impl TimerSet for Timers {
         arm_by::<Brand>(self, req, at, Blank::new(1))
     }
 
-    fn drop_timer(&mut self, req: Req) -> bool {
+    fn drop_timer(&mut self, req: Req) -> bool
+        ensures there { IsTrue result ↔ IsSome (deadline_at self.old req) }
+        ensures dropped { deadline_at self.new ≡ dropped (deadline_at self.old) req }
+        ensures fewer { IsTrue result → length self.new + 1 ≡ length self.old }
+    {
         drop_by::<Brand>(self, req, Blank::new(1))
     }
 

@@ -1,19 +1,66 @@
-use Rattle.runtime.proofs.TurnLaws.{did_retry, did_ring, did_still, did_then}
+use Rattle.std.proofs.Common.{◌≡◌, ◌<◌, length, refl, sym, subst, inl, inr, ⊎_elim, List, [], ap, ◌∙◌}
+use Rattle.history.specs.declared.req.Req.{Req}
+use Rattle.steps.specs.Rule.{Begins}
+use Rattle.work.specs.Passes.{Pass}
+use Rattle.runtime.specs.Desks.{AreHeldBack, cares_of, taken_in}
+use Rattle.runtime.specs.Shelves.{Places}
+use Rattle.runtime.specs.declared.lists.Intake.{Intake}
+use Rattle.runtime.specs.PollTurns.{IsTaken}
+use Rattle.runtime.proofs.TurnLaws.{at_after, at_on, did_retry, did_ring, did_then}
+use Rattle.runtime.proofs.DeskLaws.{begins_then, held_later, held_then, pending_sooner, rung_on, rung_sooner, stopped_on, stuck_on}
 use Rattle.runtime.proofs.poll.look_after.Goals as goal
 
-pub returns-in_err-set_again-clause-did : goal.returns-in_err-set_again-clause-did
-returns-in_err-set_again-clause-did g c = did_still _ _ _ _ c.requires.own.0
+pub returns-in_err-release_waiting-clause-did : goal.returns-in_err-release_waiting-clause-did
+returns-in_err-release_waiting-clause-did g c =
+    let first = did_retry c.args.board.now c.args.queue.now c.args.hands.now c.retry.new.self c.args.outbox.now c.requires.own.0.0 c.retry.ensures.handed c.retry.ensures.same.0 c.retry.ensures.same.1 c.retry.ensures.quiet in
+    did_then _ _ _ _ _ _ c.args.outbox.now _ first c.release_waiting.ensures.did
 
 pub returns-in_err-take_new-clause-did : goal.returns-in_err-take_new-clause-did
 returns-in_err-take_new-clause-did g c =
-    let first = did_retry c.args.board.now c.args.queue.now c.args.hands.now c.retry.new.self c.args.outbox.now c.requires.own.0 c.retry.ensures.handed c.retry.ensures.same.0 c.retry.ensures.same.1 in
+    let first = did_retry c.args.board.now c.args.queue.now c.args.hands.now c.retry.new.self c.args.outbox.now c.requires.own.0.0 c.retry.ensures.handed c.retry.ensures.same.0 c.retry.ensures.same.1 c.retry.ensures.quiet in
     did_then _ _ _ _ _ _ c.release_waiting.new.outbox _ (did_then _ _ _ _ _ _ c.args.outbox.now _ first c.release_waiting.ensures.did) c.take_new.ensures.did
 
 pub returns-clause-did : goal.returns-clause-did
 returns-clause-did g c =
-    let first = did_retry c.args.board.now c.args.queue.now c.args.hands.now c.retry.new.self c.args.outbox.now c.requires.own.0 c.retry.ensures.handed c.retry.ensures.same.0 c.retry.ensures.same.1 in
+    let first = did_retry c.args.board.now c.args.queue.now c.args.hands.now c.retry.new.self c.args.outbox.now c.requires.own.0.0 c.retry.ensures.handed c.retry.ensures.same.0 c.retry.ensures.same.1 c.retry.ensures.quiet in
     let taken = did_then _ _ _ _ _ _ c.release_waiting.new.outbox _ (did_then _ _ _ _ _ _ c.args.outbox.now _ first c.release_waiting.ensures.did) c.take_new.ensures.did in
     let rung = did_then _ _ _ _ _ _ c.take_new.new.outbox _ taken (did_ring _ _ _ _ _ _ c.ring_due.ensures.rang) in
-    let settled = did_then _ _ _ _ _ _ c.ring_due.new.outbox _ rung (did_ring _ _ _ _ _ _ c.watch_replies.ensures.rang) in
-    let again = did_then _ _ _ _ _ _ c.watch_replies.new.outbox _ settled (did_retry _ _ _ _ c.watch_replies.new.outbox settled.goes.kept c.retry-2.ensures.handed c.retry-2.ensures.same.0 c.retry-2.ensures.same.1) in
-    did_then _ _ _ _ _ _ c.watch_replies.new.outbox _ again (did_ring _ _ _ _ _ _ c.has_work.ensures.rang)
+    did_then _ _ _ _ _ _ c.ring_due.new.outbox _ rung (did_ring _ _ _ _ _ _ c.watch_replies.ensures.rang)
+
+pub returns-clause-taken : goal.returns-clause-taken
+returns-clause-taken g c =
+    let d = c.ring_due.ensures.rang in let e = c.watch_replies.ensures.rang in
+    let items : c.watch_replies.new.lists.rings.items ≡ c.take_new.new.lists.rings.items = ap (λ v. v.items) (c.watch_replies.ensures.same.0 ∙ c.ring_due.ensures.same.0) in
+    let before : c.release_waiting.new.lists.rings.items ≡ c.args.lists.now.rings.items = ap (λ v. v.items) c.release_waiting.ensures.rings in
+    ⊎_elim
+    (λ t. inl (λ i lt. subst (λ (xs : List Intake). IsTaken c.args.sleeper.now.tails (taken_in xs) i) (sym items) (t i (subst (λ (xs : List Intake). i < length xs) (sym before) lt))))
+    (λ s. inr (stopped_on _ _ _ _ _ _ _ e c.watch_replies.ensures.same.1 (stopped_on _ _ _ _ _ _ _ d c.ring_due.ensures.same.1 s)))
+    c.in_ok-take_new.ensures.taken
+
+pub returns-clause-tried : goal.returns-clause-tried
+returns-clause-tried g c =
+    let a = c.release_waiting.ensures.did.goes in let b = c.take_new.ensures.did.goes in let d = c.ring_due.ensures.rang in let e = c.watch_replies.ensures.rang in
+    let p = c.args.hands.now.poller in
+    let same_waiting = c.watch_replies.ensures.same.1 ∙ c.ring_due.ensures.same.1 in
+    ⊎_elim
+    (λ held.
+      let all : AreHeldBack c.retry.new.self.poller c.take_new.new.hands.poller c.take_new.new.lists.waiting.items = held_then c.retry.new.self.poller c.release_waiting.new.hands.poller c.take_new.new.hands.poller c.release_waiting.new.lists.waiting.items c.take_new.new.lists.waiting.items (a.later, a.seen_is) (b.later, b.seen_is) held c.in_ok-take_new.ensures.waited in
+      let later = held_later c.retry.new.self.poller c.take_new.new.hands.poller c.watch_replies.new.hands.poller c.take_new.new.lists.waiting.items (begins_then _ c.ring_due.new.hands.poller.view.seen _ (d.goes.later, d.goes.seen_is) (e.goes.later, e.goes.seen_is)) all in
+      inl (subst (λ (q : Pass). AreHeldBack q c.watch_replies.new.hands.poller c.watch_replies.new.lists.waiting.items) c.retry.ensures.same.0 (subst (λ (s : Places). AreHeldBack c.retry.new.self.poller c.watch_replies.new.hands.poller s.items) (sym same_waiting) later)))
+    (λ stuck. inr (stuck_on _ _ _ _ _ e (stuck_on _ _ _ _ _ d (c.take_new.ensures.stuck stuck))))
+    c.in_ok-release_waiting.ensures.tried
+
+pub returns-clause-rung : goal.returns-clause-rung
+returns-clause-rung g c =
+    let first = did_retry c.args.board.now c.args.queue.now c.args.hands.now c.retry.new.self c.args.outbox.now c.requires.own.0.0 c.retry.ensures.handed c.retry.ensures.same.0 c.retry.ensures.same.1 c.retry.ensures.quiet in
+    let taken = did_then _ _ _ _ _ _ c.release_waiting.new.outbox _ (did_then _ _ _ _ _ _ c.args.outbox.now _ first c.release_waiting.ensures.did) c.take_new.ensures.did in
+    let at = at_on _ _ _ _ _ (at_after _ _ _ _ _ _ c.requires.own taken).0 c.ring_due.ensures.rang in
+    rung_sooner c.args.hands.now.poller c.take_new.new.hands.poller c.watch_replies.new.hands (cares_of c.watch_replies.new.lists) (taken.goes.later, taken.goes.seen_is)
+    (rung_on _ c.take_new.new.hands.poller c.ring_due.new.hands c.watch_replies.new.hands _ _ (cares_of c.ring_due.new.lists) (cares_of c.watch_replies.new.lists) at.1 c.watch_replies.ensures.fewer c.watch_replies.ensures.rang c.ring_due.ensures.rung)
+
+pub returns-clause-counted : goal.returns-clause-counted
+returns-clause-counted g c =
+    let first = did_retry c.args.board.now c.args.queue.now c.args.hands.now c.retry.new.self c.args.outbox.now c.requires.own.0.0 c.retry.ensures.handed c.retry.ensures.same.0 c.retry.ensures.same.1 c.retry.ensures.quiet in
+    let taken = did_then _ _ _ _ _ _ c.release_waiting.new.outbox _ (did_then _ _ _ _ _ _ c.args.outbox.now _ first c.release_waiting.ensures.did) c.take_new.ensures.did in
+    let rung = did_then _ _ _ _ _ _ c.take_new.new.outbox _ taken (did_ring _ _ _ _ _ _ c.ring_due.ensures.rang) in
+    ⊎_elim (λ p. inl (pending_sooner c.args.hands.now.poller c.ring_due.new.hands.poller c.watch_replies.new.hands.poller c.watch_replies.new.lists.watchers.items (rung.goes.later, rung.goes.seen_is) p)) (λ full. inr full) c.watch_replies.ensures.counted

@@ -1,9 +1,18 @@
-use Rattle.std.proofs.Common.{◌≡◌, length}
-use Rattle.runtime.specs.PollTurns.{Did}
+use Rattle.std.proofs.Common.{◌≡◌, ◌⊎◌, length}
+use Rattle.std.specs.Prelude.{IfOk}
+use Rattle.runtime.specs.Desks.{AreHeldBack, LooksAfter, cares_of}
+use Rattle.runtime.specs.Parts.{IsStuck}
+use Rattle.runtime.specs.PollTurns.{AreAt, Did, HasRoom}
+use Rattle.runtime.proofs.DeskLaws.{Passed}
 use Rattle.runtime.proofs.releasing.release_waiting.Given as goal
 
 abbrev pub invariant-loop-n : goal.invariant-loop-n
 invariant-loop-n g l = record {
   did : Did l.board l.queue l.fn.hands l.fn.outbox l.hands l.outbox;
-  rings : length l.lists.rings.items ≡ length l.fn.lists.rings.items;
+  at : AreAt l.board l.queue l.hands;
+  room : HasRoom l.hands l.outbox;
+  cared : LooksAfter (cares_of l.lists) l.hands.poller.view.seen;
+  rings : l.lists.rings ≡ l.fn.lists.rings;
+  places : l.lists.waiting.places ≡ l.fn.lists.waiting.places;
+  passed : Passed l.lists.waiting.items l._n l._n-end (λ done. IfOk l.outcome (λ _. AreHeldBack l.fn.hands.poller l.hands.poller done ⊎ IsStuck l.hands));
 }

@@ -1,9 +1,18 @@
-use Rattle.std.proofs.Common.{◌≡◌, length}
-use Rattle.runtime.specs.PollTurns.{Did}
+use Rattle.std.proofs.Common.{◌≡◌, ◌⊎◌, ℕ, ◌<◌, length}
+use Rattle.runtime.specs.Desks.{LooksAfter, cares_of, taken_in}
+use Rattle.runtime.specs.Parts.{HasStopped, HaveWaited, IsStuck}
+use Rattle.runtime.specs.PollTurns.{AreAt, Did, HasRoom, IsTaken}
 use Rattle.runtime.proofs.releasing.take_new.Given as goal
 
 abbrev pub invariant-loop-ring : goal.invariant-loop-ring
 invariant-loop-ring g l = record {
   did : Did l.board l.queue l.fn.hands l.fn.outbox l.hands l.outbox;
+  at : AreAt l.board l.queue l.hands;
+  room : HasRoom l.hands l.outbox;
+  cared : LooksAfter (cares_of l.lists) l.hands.poller.view.seen;
   rings : length l.lists.rings.items ≡ length l.fn.lists.rings.items;
+  places : l.lists.waiting.places ≡ l.fn.lists.waiting.places;
+  waited : HaveWaited l.fn.hands.poller l.hands.poller l.fn.lists.waiting.items l.lists.waiting.items;
+  taken : ((i : ℕ) → i < l.ring → IsTaken l.sleeper.tails (taken_in l.lists.rings.items) i) ⊎ HasStopped l.hands l.lists.waiting;
+  stuck : IsStuck l.fn.hands → IsStuck l.hands;
 }

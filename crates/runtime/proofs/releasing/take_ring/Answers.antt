@@ -1,18 +1,57 @@
-use Rattle.std.proofs.Common.{refl, ◌∙◌, true}
-use Rattle.runtime.proofs.TurnLaws.{did_moved, did_still, did_then}
+use Rattle.std.proofs.Common.{refl, sym, ap, ◌∙◌, ◌≡◌, inl, inr, ⊎_elim}
+use Rattle.runtime.specs.Shelves.{Places}
+use Rattle.runtime.proofs.TurnLaws.{at_after, did_ring, did_still, did_then, room_after}
+use Rattle.runtime.proofs.DeskLaws.{free_goes_on, free_unstuck, no_answers, same_places, waited_more, went_free}
 use Rattle.runtime.proofs.releasing.take_ring.Goals as goal
 
-pub returns-in_default-clause-did : goal.returns-in_default-clause-did
-returns-in_default-clause-did g c = did_still _ _ _ _ c.requires.own.0
-
 pub loop-k-init : goal.loop-k-init
-loop-k-init g c = record { did = did_still _ _ _ _ c.requires.own.0; rings = refl }
+loop-k-init g c = record {
+  did = did_still _ _ _ _ c.requires.own.0.0;
+  at = c.requires.own;
+  room = c.requires.room;
+  cared = c.requires.cared;
+  rings = refl;
+  there = c.requires.ring;
+  places = refl;
+  waited = λ r is. inl is;
+  taken = sym c.taken-taken.ensures;
+  others = λ i n. refl;
+  stuck = λ s. s;
+  stopped = λ s. s;
+}
+
+pub release-requires-clause-own : goal.release-requires-clause-own
+release-requires-clause-own g c = at_after _ c.args.queue.now _ _ c.loop-k.outbox c.loop-k.outbox c.loop-k.invariant.at (did_ring _ _ _ _ _ _ (c.take_up-req.ensures.went_on c.loop-k.outbox))
+
+pub release-requires-clause-free : goal.release-requires-clause-free
+release-requires-clause-free g c = went_free _ _ _ c.take_up-req.ensures.went_on (c.is_free.ensures.kept c.if-not-is_free.false, c.is_free.ensures.room c.if-not-is_free.false)
+
+pub release-requires-clause-room : goal.release-requires-clause-room
+release-requires-clause-room g c = room_after _ c.args.queue.now _ _ c.loop-k.outbox c.loop-k.outbox c.loop-k.invariant.room (did_ring _ _ _ _ _ _ (c.take_up-req.ensures.went_on c.loop-k.outbox))
 
 pub returns-in_err-release-clause-did : goal.returns-in_err-release-clause-did
-returns-in_err-release-clause-did g c = did_then _ _ _ _ _ _ c.loop-k.outbox _ (did_moved _ _ _ _ _ _ true c.loop-k.invariant.did) c.release.ensures.did
+returns-in_err-release-clause-did g c = did_then _ _ _ _ _ _ c.loop-k.outbox _ (did_then _ _ _ _ _ _ c.loop-k.outbox _ c.loop-k.invariant.did (did_ring _ _ _ _ _ _ (c.take_up-req.ensures.went_on c.loop-k.outbox))) c.release.ensures.did
 
 pub loop-k-preserved : goal.loop-k-preserved
-loop-k-preserved g c = record {
-  did = did_then _ _ _ _ _ _ c.loop-k.outbox _ (did_moved _ _ _ _ _ _ true c.loop-k.invariant.did) c.release.ensures.did;
-  rings = c.release.ensures.rings ∙ (c.take_up-req.ensures.rings ∙ c.loop-k.invariant.rings);
-}
+loop-k-preserved g c =
+    let i = c.loop-k.invariant in let t = c.take_up-req.ensures in let e = c.release.ensures in
+    let took = did_ring _ c.args.queue.now _ _ _ _ (t.went_on c.loop-k.outbox) in
+    let all = did_then _ _ _ _ _ _ c.loop-k.outbox _ (did_then _ _ _ _ _ _ c.loop-k.outbox _ i.did took) e.did in
+    let kept = c.is_free.ensures.kept c.if-not-is_free.false in let some = c.is_free.ensures.room c.if-not-is_free.false in
+    record {
+      did = all;
+      at = at_after _ _ _ _ _ _ c.requires.own all;
+      room = room_after _ _ _ _ _ _ c.requires.room all;
+      cared = e.cared;
+      rings = ap (λ z. Rattle.std.proofs.Common.length z.items) e.rings ∙ (t.rings ∙ i.rings);
+      there = i.there;
+      places = same_places c.take_up-req.result _ _ e.waits ∙ (ap (λ (s : Places). s.places) t.waiting ∙ i.places);
+      waited = waited_more c.args.hands.now.poller c.loop-k.hands.poller c.take_up-req.new.hands.poller c.release.new.hands.poller c.args.lists.now.waiting.items c.loop-k.lists.waiting.items c.take_up-req.new.lists.waiting c.release.new.lists.waiting c.take_up-req.result (i.did.goes.later, i.did.goes.seen_is) ((t.went_on no_answers).goes.later, (t.went_on no_answers).goes.seen_is) (e.did.goes.later, e.did.goes.seen_is) i.waited (ap (λ (s : Places). s.items) t.waiting) c.in_ok-release.ensures.tried;
+      taken = ap (λ z. Rattle.runtime.specs.Desks.taken_in z.items c.args.ring) e.rings ∙ t.taken;
+      others = λ k n. ap (λ z. Rattle.runtime.specs.Desks.taken_in z.items k) e.rings ∙ (t.others k n ∙ i.others k n);
+      stuck = λ s. absurd (free_unstuck c.loop-k.hands kept some (i.stuck s));
+      stopped = λ s. absurd (free_goes_on c.loop-k.hands c.loop-k.lists.waiting kept some (c.is_full.ensures.open c.if-is_full.false) (i.stopped s));
+    }
+
+pub returns-then-tail-eq-END-clause-did : goal.returns-then-tail-eq-END-clause-did
+returns-then-tail-eq-END-clause-did g c = did_still _ _ _ _ c.requires.own.0.0

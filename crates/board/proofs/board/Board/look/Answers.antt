@@ -6,7 +6,7 @@ use Rattle.steps.specs.Rule.{Shown}
 use Rattle.work.specs.Board.{Facts}
 use Rattle.board.specs.Calls.{Stands}
 use Rattle.board.proofs.GoesLaws.{goes_looked}
-use Rattle.board.proofs.PassFacts.{unborn_ring, found_word, stepped_once, spot_of}
+use Rattle.board.proofs.PassFacts.{keeps_freed, unborn_ring, found_word, stepped_once, spot_of}
 use Rattle.board.proofs.board.Board.look.Goals as goal
 
 pub returns-in_default-clause-finds : goal.returns-in_default-clause-finds
@@ -25,3 +25,6 @@ returns-clause-finds g c =
     let e = c.load-word.ensures in let p = g.P.Pass.knows c.args.pass.now in let q = g.P.Pass.knows c.load-word.new.self in let s = c.in-Some.spot in
     let at = spot_of c.args.self.now p c.self.inside.grid s.cell s.generation c.args.req c.requires (sym (ap (λ (b : Facts). b.layout.cells) c.self.view_is)) c.in-Some.ensures.some.1 in
     (subst (λ (r : Req). Stands q.view.seen r c.told.result) at (c.told.ensures.stands p.view.layout.cells q.view.seen s.cell e.shown), inr (stepped_once c.args.self.now.layout.cells c.args.req p q s.cell s.generation c.load-word.result (subst (λ (b : Facts). IsCell b.layout.cells s.cell) c.self.view_is c.in-Some.ensures.some.0) (subst (λ (b : Facts). request_at b.layout.cells s.cell s.generation ≡ c.args.req) c.self.view_is c.in-Some.ensures.some.1) e.step (subst (λ (L : Layout). Shown L.cells q.view.seen s.cell c.load-word.result) c.requires.layout_is e.shown)))
+
+pub returns-clause-alone : goal.returns-clause-alone
+returns-clause-alone g c = keeps_freed (g.P.Pass.knows c.args.pass.now) (g.P.Pass.knows c.load-word.new.self) c.load-word.ensures.looks

@@ -6,8 +6,8 @@ use Rattle.work.specs.Board.{Facts, IsBoard}
 use Rattle.work.specs.Passes.{Pass, CanReach}
 use Rattle.work.proofs.PassesKept.{looked_of}
 use Rattle.board.proofs.GoesLaws.{goes_looked}
-use Rattle.board.specs.Calls.{HasLooked}
-use Rattle.board.proofs.PassFacts.{first_cell_reached, goes_told, begins_told, has_looked}
+use Rattle.board.specs.Calls.{HasLooked, KeepsFreed}
+use Rattle.board.proofs.PassFacts.{first_cell_reached, goes_told, begins_told, has_looked, keeps_freed, keeps_freed_told}
 use Rattle.board.proofs.board.Board.meet.Goals as goal
 
 pub load-requires : goal.load-requires
@@ -49,4 +49,10 @@ pub returns-clause-took : goal.returns-clause-took
 returns-clause-took g c = (
   ap (λ (z : Pass). z.took) c.tell-messenger.ensures.same ∙ c.load.ensures.took,
   c.load-2.ensures.took ∙ ap (λ (z : Pass). z.took) c.hear.ensures.heard,
+)
+
+pub returns-clause-alone : goal.returns-clause-alone
+returns-clause-alone g c = let p = g.P.Pass.knows c.args.pass.now in let o = g.Q.Pass.knows c.args.other.now in let m = c.tell-messenger.result in (
+  subst (λ (z : Pass). KeepsFreed p z) (sym c.tell-messenger.ensures.same) (keeps_freed p (g.P.Pass.knows c.load.new.self) c.load.ensures.looks),
+  keeps_freed_told o (g.Q.Pass.knows c.hear.new.self) (g.Q.Pass.knows c.load-2.new.self) m.view c.hear.ensures.heard (ap (λ (z : Pass). z.view.parts) c.tell-messenger.ensures.told) c.load-2.ensures.looks,
 )

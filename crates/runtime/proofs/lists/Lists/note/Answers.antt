@@ -1,0 +1,24 @@
+use Rattle.std.proofs.Common.{◌≡◌, ℕ, ◌≤◌, ◌++◌, ◌∷◌, [], List, Option, sym, ap, ◌∙◌, subst, arith}
+use Rattle.history.specs.declared.req.Req.{Req}
+use Rattle.steps.specs.declared.line.Line.{Line}
+use Rattle.runtime.specs.Desks.{Cares, LooksAfter, cares_of}
+use Rattle.runtime.specs.Shelves.{Places}
+use Rattle.runtime.proofs.DeskLaws.{half_sets_timer, sets_timer, waits_on}
+use Rattle.runtime.proofs.lists.Lists.note.Goals as goal
+
+-- what is looked after is the same by equal lists
+same_cares : (c : Cares) (ws vs xs ys : List Req) (f g : Req → Option ℕ) (j : List Line) → ws ≡ vs → xs ≡ ys → f ≡ g → LooksAfter (record c { waiting = vs; watched = ys; deadline = g }) j → LooksAfter (record c { waiting = ws; watched = xs; deadline = f }) j
+same_cares c ws vs xs ys f g j a b e y = subst (λ (z : List Req × List Req × (Req → Option ℕ)). LooksAfter (record c { waiting = z.0; watched = z.1; deadline = z.2 }) j) (λ i. (sym a i, sym b i, sym e i)) y
+
+pub returns-in_default-clause-cares : goal.returns-in_default-clause-cares
+returns-in_default-clause-cares c = λ j is y. same_cares (cares_of c.args.self.now) _ _ _ _ _ _ j (ap (λ (s : Places). s.items) c.put.ensures) (λ i. c.args.self.now.watchers.items) c.in_default.ensures.err (waits_on (cares_of c.args.self.now) c.args.req j y)
+
+pub returns-in_default-make_place-clause-cares : goal.returns-in_default-make_place-clause-cares
+returns-in_default-make_place-clause-cares c = λ j is y.
+    let fits = c.ranges.deadline.fits in
+    same_cares (cares_of c.args.self.now) _ _ _ _ _ _ j (ap (λ (s : Places). s.items) c.put-in_default-make_place.ensures) c.make_place.ensures.same c.in-Ok.ensures.ok (half_sets_timer (cares_of c.args.self.now) c.args.req c.args.deadline j (omega (arith, fits)) is y)
+
+pub returns-clause-cares : goal.returns-clause-cares
+returns-clause-cares c = λ j is y.
+    let fits = c.ranges.deadline.fits in
+    same_cares (cares_of c.args.self.now) _ _ _ _ _ _ j (λ i. c.args.self.now.waiting.items) (ap (λ (s : Places). s.items) c.put-2.ensures ∙ ap (λ (l : List Req). l ++ c.args.req ∷ []) c.make_place.ensures.same) c.in-Ok.ensures.ok (sets_timer (cares_of c.args.self.now) c.args.req c.args.deadline j (omega (arith, fits)) is y)

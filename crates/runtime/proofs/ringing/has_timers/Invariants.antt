@@ -1,0 +1,17 @@
+use Rattle.std.proofs.Common.{◌≡◌, length}
+use Rattle.runtime.specs.Desks.{LooksAfter, cares_of}
+use Rattle.runtime.specs.Parts.{HasFewerTimers, WentOn}
+use Rattle.runtime.specs.PollTurns.{IsAt}
+use Rattle.runtime.proofs.ringing.has_timers.Given as goal
+
+abbrev pub invariant-loop-req : goal.invariant-loop-req
+invariant-loop-req l = record {
+  went_on : WentOn l.board l.fn.hands l.hands;
+  at : IsAt l.board l.hands;
+  cared : LooksAfter (cares_of l.lists) l.hands.poller.view.seen;
+  same : (l.lists.rings ≡ l.fn.lists.rings) × (l.lists.waiting ≡ l.fn.lists.waiting) × (l.lists.watchers ≡ l.fn.lists.watchers);
+  fewer : HasFewerTimers l.fn.lists l.lists;
+}
+
+abbrev pub decreases-loop-req : goal.decreases-loop-req
+decreases-loop-req l = length l.lists.timers
