@@ -57,9 +57,9 @@ IsArmedOrOver d r h = (phase h r ≡ armed d) ⊎ IsReplied (phase h r)
 armed_lasts : (s : Setup) (r : Req) (d : ℕ) → Lasting s (IsArmedOrOver d r) r
 armed_lasts s r d e h l a c x = ⊎_elim
     (λ (is : phase h r ≡ armed d). ⊎_elim
-      (λ (w : concerns e r ≡ true). inr (subst IsReplied (sym (changed s e h r w)) (subst (λ (p : Phase). IsReplied (becomes h e p)) (sym is) (ends_armed h e d (subst (λ (p : Phase). MayChange p e) is (may_change s e h r l a w))))))
-      (λ (w : concerns e r ≡ false). inl (unchanged s e h r w ∙ is))
-      (bool_cases (concerns e r)))
+    (λ (w : concerns e r ≡ true). inr (subst IsReplied (sym (changed s e h r w)) (subst (λ (p : Phase). IsReplied (becomes h e p)) (sym is) (ends_armed h e d (subst (λ (p : Phase). MayChange p e) is (may_change s e h r l a w))))))
+    (λ (w : concerns e r ≡ false). inl (unchanged s e h r w ∙ is))
+    (bool_cases (concerns e r)))
     (λ (o : IsReplied (phase h r)). inr (replied_stays s e h r l a o)) x
 
 or_true : (c b : Bool) → b ≡ true → cond c true b ≡ true
@@ -175,9 +175,9 @@ moves_waiting c ws vs j part y = record {
   each = λ q lt. ⊎_elim
       (λ d. inl d)
       (λ z. ⊎_elim
-        (λ w. ⊎_elim (λ v. inr (inl v)) (λ d. inl d) (part q w))
-        (λ (s : IsSet (record c { waiting = ws }) j q). inr (inr (record { deadline = s.deadline; armed_is = s.armed_is; noted = s.noted; watched = s.watched })))
-        z)
+      (λ w. ⊎_elim (λ v. inr (inl v)) (λ d. inl d) (part q w))
+      (λ (s : IsSet (record c { waiting = ws }) j q). inr (inr (record { deadline = s.deadline; armed_is = s.armed_is; noted = s.noted; watched = s.watched })))
+      z)
       (y.each q lt);
   timers = y.timers;
 }
@@ -202,9 +202,9 @@ module _ (c : Cares) (r : Req) (d : ℕ) (j : List Line) (fits : d ≤ 429496729
   noted_timers : ((q : Req) (n : ℕ) → c.deadline q ≡ Some n → IsNoted (events_of j) q n) → (q : Req) (n : ℕ) → armed_at c.deadline r d q ≡ Some n → IsNoted (events_of j) q n
   noted_timers old q n n_is = ⊎_elim
       (λ (e : same r q ≡ true).
-        let at : armed_at c.deadline r d q ≡ Some d = ap (λ (b : Bool). cond b (Some d) (c.deadline q)) e in
-        let one : d ≡ n = (let z = sym at ∙ n_is in cc) in
-        subst (λ (m : ℕ). IsNoted (events_of j) q m) one (fits, inl (at_r q e)))
+      let at : armed_at c.deadline r d q ≡ Some d = ap (λ (b : Bool). cond b (Some d) (c.deadline q)) e in
+      let one : d ≡ n = (let z = sym at ∙ n_is in cc) in
+      subst (λ (m : ℕ). IsNoted (events_of j) q m) one (fits, inl (at_r q e)))
       (λ (e : same r q ≡ false). old q n (sym (at_others q e) ∙ n_is))
       (bool_cases (same r q))
 
@@ -213,12 +213,12 @@ module _ (c : Cares) (r : Req) (d : ℕ) (j : List Line) (fits : d ≤ 429496729
     each = λ q lt. ⊎_elim
         (λ (e : same r q ≡ true). inr (inr (record { deadline = d; armed_is = at_r q e; noted = ap (λ (b : Bool). cond b (Some d) (c.deadline q)) e; watched = inl (among_second c.watched (r ∷ []) q (one_among r q e)) })))
         (λ (e : same r q ≡ false). ⊎_elim
-          (λ done. inl done)
-          (λ z. ⊎_elim
-            (λ w. inr (inl (⊎_elim (λ (f : same r q ≡ true). absurd (true≢false (sym f ∙ e))) (λ v. v) (among_cons r c.waiting q w))))
-            (λ (s : IsSet (with_waiting r c) j q). inr (inr (record { deadline = s.deadline; armed_is = s.armed_is; noted = at_others q e ∙ s.noted; watched = ⊎_elim (λ w. inl (among_first c.watched (r ∷ []) q w)) (λ p. inr p) s.watched })))
-            z)
-          (y.each q lt))
+        (λ done. inl done)
+        (λ z. ⊎_elim
+        (λ w. inr (inl (⊎_elim (λ (f : same r q ≡ true). absurd (true≢false (sym f ∙ e))) (λ v. v) (among_cons r c.waiting q w))))
+        (λ (s : IsSet (with_waiting r c) j q). inr (inr (record { deadline = s.deadline; armed_is = s.armed_is; noted = at_others q e ∙ s.noted; watched = ⊎_elim (λ w. inl (among_first c.watched (r ∷ []) q w)) (λ p. inr p) s.watched })))
+        z)
+        (y.each q lt))
         (bool_cases (same r q));
     timers = noted_timers y.timers;
   }
@@ -229,12 +229,12 @@ module _ (c : Cares) (r : Req) (d : ℕ) (j : List Line) (fits : d ≤ 429496729
     each = λ q lt. ⊎_elim
         (λ (e : same r q ≡ true). inr (inl (among_second c.waiting (r ∷ []) q (one_among r q e))))
         (λ (e : same r q ≡ false). ⊎_elim
-          (λ done. inl done)
-          (λ z. ⊎_elim
-            (λ w. inr (inl (⊎_elim (λ (f : same r q ≡ true). absurd (true≢false (sym f ∙ e))) (λ v. among_first c.waiting (r ∷ []) q v) (among_cons r c.waiting q w))))
-            (λ (s : IsSet (with_waiting r c) j q). inr (inr (record { deadline = s.deadline; armed_is = s.armed_is; noted = at_others q e ∙ s.noted; watched = s.watched })))
-            z)
-          (y.each q lt))
+        (λ done. inl done)
+        (λ z. ⊎_elim
+        (λ w. inr (inl (⊎_elim (λ (f : same r q ≡ true). absurd (true≢false (sym f ∙ e))) (λ v. among_first c.waiting (r ∷ []) q v) (among_cons r c.waiting q w))))
+        (λ (s : IsSet (with_waiting r c) j q). inr (inr (record { deadline = s.deadline; armed_is = s.armed_is; noted = at_others q e ∙ s.noted; watched = s.watched })))
+        z)
+        (y.each q lt))
         (bool_cases (same r q));
     timers = noted_timers y.timers;
   }
@@ -245,12 +245,12 @@ drops_timer c r j un y = record {
   each = λ q lt. ⊎_elim
       (λ done. inl done)
       (λ z. ⊎_elim
-        (λ w. inr (inl w))
-        (λ (s : IsSet c j q). ⊎_elim
-          (λ (e : same r q ≡ true). absurd (subst (IsUnarmed (events_of j)) (same_true r q e) un s.deadline s.armed_is))
-          (λ (e : same r q ≡ false). inr (inr (record { deadline = s.deadline; armed_is = s.armed_is; noted = ap (λ (b : Bool). cond b None (c.deadline q)) e ∙ s.noted; watched = s.watched })))
-          (bool_cases (same r q)))
-        z)
+      (λ w. inr (inl w))
+      (λ (s : IsSet c j q). ⊎_elim
+      (λ (e : same r q ≡ true). absurd (subst (IsUnarmed (events_of j)) (same_true r q e) un s.deadline s.armed_is))
+      (λ (e : same r q ≡ false). inr (inr (record { deadline = s.deadline; armed_is = s.armed_is; noted = ap (λ (b : Bool). cond b None (c.deadline q)) e ∙ s.noted; watched = s.watched })))
+      (bool_cases (same r q)))
+      z)
       (y.each q lt);
   timers = λ q n is. ⊎_elim
       (λ (e : same r q ≡ true). absurd (let z = sym (ap (λ (b : Bool). cond b None (c.deadline q)) e) ∙ is in cc))
@@ -270,18 +270,18 @@ unwatches c r j over y = record {
   each = λ q lt. ⊎_elim
       (λ done. inl done)
       (λ z. ⊎_elim
-        (λ w. inr (inl w))
-        (λ (s : IsSet (with_watched r c) j q). ⊎_elim
-          (λ w. ⊎_elim
-            (λ (e : same r q ≡ true). ⊎_elim
-              (λ un. absurd (subst (IsUnarmed (events_of j)) (same_true r q e) un s.deadline s.armed_is))
-              (λ p. inr (inr (record { deadline = s.deadline; armed_is = s.armed_is; noted = s.noted; watched = inr (subst (IsPlain (events_of j)) (same_true r q e) p) })))
-              over)
-            (λ v. inr (inr (record { deadline = s.deadline; armed_is = s.armed_is; noted = s.noted; watched = inl v })))
-            (among_cons r c.watched q w))
-          (λ p. inr (inr (record { deadline = s.deadline; armed_is = s.armed_is; noted = s.noted; watched = inr p })))
-          s.watched)
-        z)
+      (λ w. inr (inl w))
+      (λ (s : IsSet (with_watched r c) j q). ⊎_elim
+      (λ w. ⊎_elim
+      (λ (e : same r q ≡ true). ⊎_elim
+      (λ un. absurd (subst (IsUnarmed (events_of j)) (same_true r q e) un s.deadline s.armed_is))
+      (λ p. inr (inr (record { deadline = s.deadline; armed_is = s.armed_is; noted = s.noted; watched = inr (subst (IsPlain (events_of j)) (same_true r q e) p) })))
+      over)
+      (λ v. inr (inr (record { deadline = s.deadline; armed_is = s.armed_is; noted = s.noted; watched = inl v })))
+      (among_cons r c.watched q w))
+      (λ p. inr (inr (record { deadline = s.deadline; armed_is = s.armed_is; noted = s.noted; watched = inr p })))
+      s.watched)
+      z)
       (y.each q lt);
   timers = y.timers;
 }
@@ -292,16 +292,16 @@ watches_on c r j y = record {
   each = λ q lt. ⊎_elim
       (λ done. inl done)
       (λ z. ⊎_elim
-        (λ w. inr (inl w))
-        (λ (s : IsSet (with_watched r c) j q). inr (inr (record {
-          deadline = s.deadline;
-          armed_is = s.armed_is;
-          noted = s.noted;
-          watched = ⊎_elim
-              (λ w. inl (⊎_elim (λ (e : same r q ≡ true). among_second c.watched (r ∷ []) q (one_among r q e)) (λ v. among_first c.watched (r ∷ []) q v) (among_cons r c.watched q w)))
-              (λ p. inr p) s.watched;
-        })))
-        z)
+      (λ w. inr (inl w))
+      (λ (s : IsSet (with_watched r c) j q). inr (inr (record {
+        deadline = s.deadline;
+        armed_is = s.armed_is;
+        noted = s.noted;
+        watched = ⊎_elim
+            (λ w. inl (⊎_elim (λ (e : same r q ≡ true). among_second c.watched (r ∷ []) q (one_among r q e)) (λ v. among_first c.watched (r ∷ []) q v) (among_cons r c.watched q w)))
+            (λ p. inr p) s.watched;
+      })))
+      z)
       (y.each q lt);
   timers = y.timers;
 }
@@ -310,9 +310,9 @@ watches_on c r j y = record {
 next_or_before : (q : Req) (ring k : ℕ) (new old : ℕ → ℕ) → old ring ≡ k → new ring ≡ k + 1 → ((i : ℕ) → i ≢ ring → new i ≡ old i) → q.k < new q.ring → (q.k < old q.ring) ⊎ (record { ring = ring; k = k } ≡ q)
 next_or_before q ring k new old before after others lt = ⊎_elim
     (λ (e : q.ring ≡ ring). let o = ap old e ∙ before in let n = ap new e ∙ after in ⊎_elim
-      (λ (same_k : q.k ≡ k). inr (λ i. record { ring = sym e i; k = sym same_k i }))
-      (λ z. ⊎_elim (λ (l : q.k < k). inl (omega (arith, l, o))) (λ (l : k < q.k). absurd (omega (arith, l, lt, n))) z)
-      (cases_order q.k k))
+    (λ (same_k : q.k ≡ k). inr (λ i. record { ring = sym e i; k = sym same_k i }))
+    (λ z. ⊎_elim (λ (l : q.k < k). inl (omega (arith, l, o))) (λ (l : k < q.k). absurd (omega (arith, l, lt, n))) z)
+    (cases_order q.k k))
     (λ z. let o = others q.ring (λ (e : q.ring ≡ ring). ⊎_elim (λ (l : q.ring < ring). omega (arith, l, e)) (λ (l : ring < q.ring). omega (arith, l, e)) z) in inl (omega (arith, lt, o)))
     (cases_order q.ring ring)
 
@@ -321,12 +321,12 @@ pub takes_up : (c : Cares) (taken : ℕ → ℕ) (ring k : ℕ) (j : List Line) 
 takes_up c taken ring k j old new others y = record {
   each = λ q lt. ⊎_elim
       (λ (lt' : q.k < c.taken q.ring). ⊎_elim
-        (λ done. inl done)
-        (λ z. ⊎_elim
-          (λ w. inr (inl (or_true (same (record { ring = ring; k = k }) q) (is_among c.waiting q) w)))
-          (λ (s : IsSet c j q). inr (inr (record { deadline = s.deadline; armed_is = s.armed_is; noted = s.noted; watched = s.watched })))
-          z)
-        (y.each q lt'))
+      (λ done. inl done)
+      (λ z. ⊎_elim
+      (λ w. inr (inl (or_true (same (record { ring = ring; k = k }) q) (is_among c.waiting q) w)))
+      (λ (s : IsSet c j q). inr (inr (record { deadline = s.deadline; armed_is = s.armed_is; noted = s.noted; watched = s.watched })))
+      z)
+      (y.each q lt'))
       (λ (one : record { ring = ring; k = k } ≡ q). inr (inl (subst (λ (z : Req). is_among (record { ring = ring; k = k } ∷ c.waiting) z ≡ true) one (is_true (same (record { ring = ring; k = k }) (record { ring = ring; k = k })) (is_among c.waiting (record { ring = ring; k = k })) (same_itself (record { ring = ring; k = k }))))))
       (next_or_before q ring k taken c.taken old new others lt);
   timers = y.timers;
@@ -380,17 +380,22 @@ module _ (b : Facts) (p q : Pass) (es : List Event) (x : GoesOn b p es q) (role 
   pub still_linked : IsNoneToExpire (seen_of p) r → (d : ℕ) → phase (seen_of q) r ≡ armed d → IsLinkTimeout (seen_of q) r
   still_linked n d is = ⊎_elim
       (λ (was : phase (seen_of p) r ≡ armed due.0). ⊎_elim
-        (λ (un : IsUnarmed (seen_of p) r). absurd (un due.0 was))
-        (λ (link : IsLinkTimeout (seen_of p) r). linked_on b p q es x r (born_on b p q es x r (armed due.0) was (λ e. cc)) link)
-        n)
+      (λ (un : IsUnarmed (seen_of p) r). absurd (un due.0 was))
+      (λ (link : IsLinkTimeout (seen_of p) r). linked_on b p q es x r (born_on b p q es x r (armed due.0) was (λ e. cc)) link)
+      n)
       (λ (o : IsReplied (phase (seen_of p) r)). absurd (replied_unarmed (seen_of q) r (replied_on b p q es x r o) d is))
       due.1.1
 
   pub linked_due : IsNoneToExpire (seen_of p) r → (d : ℕ) → phase (seen_of q) r ≡ armed d → IsLinkedDue (seen_of q) r
-  linked_due n d is = (d, is, ⊎_elim
-      (λ (a : phase (seen_of q) r ≡ armed due.0). let one = one_deadline (seen_of q) r due.0 d a is in let same_time = clock_kept b p q es x role none in let le = due.2 in omega (arith, one, same_time, le))
-      (λ (o : IsReplied (phase (seen_of q) r)). absurd (replied_unarmed (seen_of q) r o d is))
-      (noted_on b p q es x r due.0 due.1).1, still_linked n d is)
+  linked_due n d is = (
+    d,
+    is,
+    ⊎_elim
+        (λ (a : phase (seen_of q) r ≡ armed due.0). let one = one_deadline (seen_of q) r due.0 d a is in let same_time = clock_kept b p q es x role none in let le = due.2 in omega (arith, one, same_time, le))
+        (λ (o : IsReplied (phase (seen_of q) r)). absurd (replied_unarmed (seen_of q) r o d is))
+        (noted_on b p q es x r due.0 due.1).1,
+    still_linked n d is,
+  )
 
   -- neither a TIMEOUT nor a LINK_TIMEOUT that is armed: it is over
   pub unarmed_both : IsNoneToExpire (seen_of p) r → IsNoneToSettle (seen_of q) r → IsUnarmed (seen_of q) r
@@ -416,16 +421,16 @@ waits_not h r a n is w = n (sym is ∙ w)
 pub was_unborn : (b : Facts) (p q : Pass) (es : List Event) → GoesOn b p es q → (r : Req) → IsUnheld p.view.seen r → (phase (seen_of q) r ≡ waits) × (freed q.view.seen r ≡ false) → IsHeldBack (seen_of p) r
 was_unborn b p q es x r un held = ⊎_elim
     (λ z. ⊎_elim
-      (λ (u : phase (seen_of p) r ≡ unborn). inl (waits_not (seen_of p) r unborn (λ e. cc) u))
-      (λ (o : IsReplied (phase (seen_of p) r)). absurd (subst IsReplied held.0 (replied_on b p q es x r o)))
-      z)
+    (λ (u : phase (seen_of p) r ≡ unborn). inl (waits_not (seen_of p) r unborn (λ e. cc) u))
+    (λ (o : IsReplied (phase (seen_of p) r)). absurd (subst IsReplied held.0 (replied_on b p q es x r o)))
+    z)
     (λ z. ⊎_elim
-      (λ a. absurd (⊎_elim
-        (λ (is : phase (seen_of q) r ≡ armed a.0). let e = sym is ∙ held.0 in cc)
-        (λ (o : IsReplied (phase (seen_of q) r)). subst IsReplied held.0 o)
-        (armed_on b p q es x r a.0 a.1)))
-      (λ (f : freed p.view.seen r ≡ true). absurd (true≢false (sym (freed_on b p q es x r f) ∙ held.1)))
-      z)
+    (λ a. absurd (⊎_elim
+    (λ (is : phase (seen_of q) r ≡ armed a.0). let e = sym is ∙ held.0 in cc)
+    (λ (o : IsReplied (phase (seen_of q) r)). subst IsReplied held.0 o)
+    (armed_on b p q es x r a.0 a.1)))
+    (λ (f : freed p.view.seen r ≡ true). absurd (true≢false (sym (freed_on b p q es x r f) ∙ held.1)))
+    z)
     un
 
 -- a timer that may be armed is one for good
@@ -550,9 +555,9 @@ held_more : (p m q : Pass) (r : Req) (done : List Req) (old new : Places) → Be
 held_more p m q r done old new b c held w e i is = ⊎_elim
     (λ v. once_later p m q (λ h. IsHeldBack h i) c (held i v))
     (λ v. ⊎_elim
-      (λ (same_as : new ≡ old). absurd (longer old r (sym same_as ∙ e)))
-      (λ z. subst (λ (i : Req). Once p q (λ h. IsHeldBack h i)) (among_one r i v) (once_sooner p m q (λ h. IsHeldBack h r) b z.1))
-      w)
+    (λ (same_as : new ≡ old). absurd (longer old r (sym same_as ∙ e)))
+    (λ z. subst (λ (i : Req). Once p q (λ h. IsHeldBack h i)) (among_one r i v) (once_sooner p m q (λ h. IsHeldBack h r) b z.1))
+    w)
     (among_or done (r ∷ []) i is)
 
 -- requests that wait, one of which was tried
@@ -563,11 +568,14 @@ next_held p m q h k x (Ok u) items old new r n total t is lt b c ok stuck w trie
     let before = ok_is x (AreHeldBack p m t.done ⊎ IsStuck h) (ok refl) t.true_of in
     passes_next (λ done. IfOk x (λ _. AreHeldBack p m done ⊎ IsStuck h)) (λ done. AreHeldBack p q done ⊎ IsStuck k) items old.items new.items r t.todo t.done n total t.items_are t.left is lt
     (⊎_elim
-      (λ (e : new ≡ old). inl (ap (λ (s : Places). s.items) e, ⊎_elim (λ held. inl (held_later p m q t.done c held)) (λ s. inr (stuck s)) before))
-      (λ (e : new ≡ with_request r old). inr (ap (λ (s : Places). s.items) e, ⊎_elim
-        (λ (v : WasTried r m q old new). ⊎_elim (λ held. inl (held_more p m q r t.done old new b c held v e)) (λ s. inr (stuck s)) before)
-        (λ s. inr s) tried))
-      w)
+    (λ (e : new ≡ old). inl (ap (λ (s : Places). s.items) e, ⊎_elim (λ held. inl (held_later p m q t.done c held)) (λ s. inr (stuck s)) before))
+    (λ (e : new ≡ with_request r old). inr (
+      ap (λ (s : Places). s.items) e,
+      ⊎_elim
+          (λ (v : WasTried r m q old new). ⊎_elim (λ held. inl (held_more p m q r t.done old new b c held v e)) (λ s. inr (stuck s)) before)
+          (λ s. inr s) tried,
+    ))
+    w)
 next_held p m q h k x (Err y) items old new r n total t is lt b c ok stuck w tried =
     passes_next (λ done. IfOk x (λ _. AreHeldBack p m done ⊎ IsStuck h)) (λ done. Unit {0}) items old.items new.items r t.todo t.done n total t.items_are t.left is lt
     (⊎_elim (λ (e : new ≡ old). inl (ap (λ (s : Places). s.items) e, tt)) (λ (e : new ≡ with_request r old). inr (ap (λ (s : Places). s.items) e, tt)) w)
@@ -579,9 +587,9 @@ next_pending p m q items old new r n total t is lt b c w =
     let later : ArePending p q t.done = λ i is. once_later p m q (λ h. IsPendingTimer h i) c (t.true_of i is) in
     passes_next (ArePending p m) (ArePending p q) items old.items new.items r t.todo t.done n total t.items_are t.left is lt
     (⊎_elim
-      (λ (e : new ≡ old). inl (ap (λ (s : Places). s.items) e, later))
-      (λ z. inr (ap (λ (s : Places). s.items) z.0, λ i is. ⊎_elim (λ v. later i v) (λ v. subst (λ (i : Req). Once p q (λ h. IsPendingTimer h i)) (among_one r i v) (once_sooner p m q (λ h. IsPendingTimer h r) b z.1)) (among_or t.done (r ∷ []) i is)))
-      w)
+    (λ (e : new ≡ old). inl (ap (λ (s : Places). s.items) e, later))
+    (λ z. inr (ap (λ (s : Places). s.items) z.0, λ i is. ⊎_elim (λ v. later i v) (λ v. subst (λ (i : Req). Once p q (λ h. IsPendingTimer h i)) (among_one r i v) (once_sooner p m q (λ h. IsPendingTimer h r) b z.1)) (among_or t.done (r ∷ []) i is)))
+    w)
 
 pub same_places : (r : Req) (old new : Places) → WaitsOn r old new → new.places ≡ old.places
 same_places r old new w = ⊎_elim (λ e. ap (λ (s : Places). s.places) e) (λ e. ap (λ (s : Places). s.places) e) w
@@ -618,13 +626,13 @@ pub taken_next : (tails : List ℕ) (old new : ℕ → ℕ) (ring tail : ℕ) (h
     → ((i : ℕ) → i < ring → IsTaken tails old i) ⊎ HasStopped h s → ((tail ≡ 18446744073709551615) ⊎ (tail ≤ new ring)) ⊎ HasStopped k t → ((i : ℕ) → i < ring + 1 → IsTaken tails new i) ⊎ HasStopped k t
 taken_next tails old new ring tail h k s t is others stops before now = ⊎_elim
     (λ (b : (i : ℕ) → i < ring → IsTaken tails old i). ⊎_elim
-      (λ (n : (tail ≡ 18446744073709551615) ⊎ (tail ≤ new ring)). inl (λ i lt. ⊎_elim
-        (λ (e : i ≡ ring). subst (IsTaken tails new) (sym e) (⊎_elim (λ end. inl (sym is ∙ end)) (λ le. inr (subst (λ (x : ℕ). x ≤ new ring) is le)) n))
-        (λ z. ⊎_elim
-          (λ (l : i < ring). let same_as = others i (λ (e : i ≡ ring). omega (arith, l, e)) in ⊎_elim (λ end. inl end) (λ le. inr (subst (λ (x : ℕ). slice_index tails i ≤ x) (sym same_as) le)) (b i l))
-          (λ (l : ring < i). absurd (omega (arith, l, lt))) z)
-        (cases_order i ring)))
-      (λ st. inr st) now)
+    (λ (n : (tail ≡ 18446744073709551615) ⊎ (tail ≤ new ring)). inl (λ i lt. ⊎_elim
+    (λ (e : i ≡ ring). subst (IsTaken tails new) (sym e) (⊎_elim (λ end. inl (sym is ∙ end)) (λ le. inr (subst (λ (x : ℕ). x ≤ new ring) is le)) n))
+    (λ z. ⊎_elim
+    (λ (l : i < ring). let same_as = others i (λ (e : i ≡ ring). omega (arith, l, e)) in ⊎_elim (λ end. inl end) (λ le. inr (subst (λ (x : ℕ). slice_index tails i ≤ x) (sym same_as) le)) (b i l))
+    (λ (l : ring < i). absurd (omega (arith, l, lt))) z)
+    (cases_order i ring)))
+    (λ st. inr st) now)
     (λ st. inr (stops st)) before
 
 -- ---- what a later part of a turn leaves as it was
@@ -647,9 +655,9 @@ pub rung_on : (b : Facts) (p : Pass) (h k : Hands) (o w : Waiting) (c d : Cares)
 rung_on b p h k o w c d role fewer x y = ⊎_elim
     (λ none. inl (λ r n is. let same_time = clock_kept b h.poller k.poller x.events x.goes role x.still in let lt = none r n (fewer r n is) in omega (arith, same_time, lt)))
     (λ z. inr (⊎_elim
-      (λ full. inl (let le = room_falls b h k o w x in omega (arith, le, full)))
-      (λ linked. inr (let le = room_falls b h k o w x in let few = linked.0 in omega (arith, le, few), (linked.1.0, once_later p h.poller k.poller (λ e. IsLinkedDue e linked.1.0) (x.goes.later, x.goes.seen_is) linked.1.1)))
-      z))
+    (λ full. inl (let le = room_falls b h k o w x in omega (arith, le, full)))
+    (λ linked. inr (let le = room_falls b h k o w x in let few = linked.0 in omega (arith, le, few), (linked.1.0, once_later p h.poller k.poller (λ e. IsLinkedDue e linked.1.0) (x.goes.later, x.goes.seen_is) linked.1.1)))
+    z))
     y
 
 pub rung_sooner : (p m : Pass) (h : Hands) (c : Cares) → Begins m.view.seen p.view.seen → HasRung m h c → HasRung p h c
@@ -659,9 +667,9 @@ pub rung_is : (p : Pass) (h k : Hands) (c : Cares) → k.poller ≡ h.poller →
 rung_is p h k c same_poller same_room y = ⊎_elim
     (λ none. inl (subst (λ (q : Pass). NoneIsDue c (seen_of q)) (sym same_poller) none))
     (λ z. inr (⊎_elim
-      (λ full. inl (same_room ∙ full))
-      (λ linked. inr (let few = linked.0 in omega (arith, few, same_room), (linked.1.0, subst (λ (q : Pass). Once p q (λ e. IsLinkedDue e linked.1.0)) (sym same_poller) linked.1.1)))
-      z))
+    (λ full. inl (same_room ∙ full))
+    (λ linked. inr (let few = linked.0 in omega (arith, few, same_room), (linked.1.0, subst (λ (q : Pass). Once p q (λ e. IsLinkedDue e linked.1.0)) (sym same_poller) linked.1.1)))
+    z))
     y
 
 pub pending_sooner : (p m q : Pass) (xs : List Req) → Begins m.view.seen p.view.seen → ArePending m q xs → ArePending p q xs
@@ -686,9 +694,9 @@ pub all_rung : (p : Pass) (h : Hands) (old d : Desk) (o : Waiting) (before : ℕ
 all_rung p h old d o before y first last room places = ⊎_elim
     (λ none. inl (subst (λ (q : Pass). NoneIsDue (cares_in d) (seen_of q)) (sym last) none))
     (λ z. inr (⊎_elim
-      (λ full. inl (omega (arith, full, room, places)))
-      (λ linked. inr (let few = linked.0 in omega (arith, few, room, places), (linked.1.0, subst (λ (q : Pass). Once old.poller q (λ e. IsLinkedDue e linked.1.0)) (sym last) (subst (λ (q : Pass). Once q h.poller (λ e. IsLinkedDue e linked.1.0)) (sym first) linked.1.1))))
-      z))
+    (λ full. inl (omega (arith, full, room, places)))
+    (λ linked. inr (let few = linked.0 in omega (arith, few, room, places), (linked.1.0, subst (λ (q : Pass). Once old.poller q (λ e. IsLinkedDue e linked.1.0)) (sym last) (subst (λ (q : Pass). Once q h.poller (λ e. IsLinkedDue e linked.1.0)) (sym first) linked.1.1))))
+    z))
     y
 
 -- where nothing waits and no timer is left, the poller is done with all that was taken up
@@ -696,6 +704,6 @@ pub all_done_with : (c : Cares) (j : List Line) → LooksAfter c j → c.waiting
 all_done_with c j y none over r lt = ⊎_elim
     (λ d. d)
     (λ z. ⊎_elim
-      (λ w. absurd (true≢false (sym w ∙ ap (λ (ws : List Req). is_among ws r) none)))
-      (λ (s : IsSet c j r). absurd (over r s.deadline s.noted)) z)
+    (λ w. absurd (true≢false (sym w ∙ ap (λ (ws : List Req). is_among ws r) none)))
+    (λ (s : IsSet c j r). absurd (over r s.deadline s.noted)) z)
     (y.each r lt)

@@ -159,9 +159,7 @@ pub(crate) fn release_waiting<R: Wait>(
         let Some(req) = lists.waiting.take() else {
             unreachable!();
         };
-        outcome = release_next(
-            rt, board, queue, hands, lists, outbox, req, limit, outcome,
-        );
+        outcome = release_next(rt, board, queue, hands, lists, outbox, req, limit, outcome);
     }
     outcome
 }

@@ -44,9 +44,9 @@ returns-clause-tried g c =
     let same_waiting = c.watch_replies.ensures.same.1 ∙ c.ring_due.ensures.same.1 in
     ⊎_elim
     (λ held.
-      let all : AreHeldBack c.retry.new.self.poller c.take_new.new.hands.poller c.take_new.new.lists.waiting.items = held_then c.retry.new.self.poller c.release_waiting.new.hands.poller c.take_new.new.hands.poller c.release_waiting.new.lists.waiting.items c.take_new.new.lists.waiting.items (a.later, a.seen_is) (b.later, b.seen_is) held c.in_ok-take_new.ensures.waited in
-      let later = held_later c.retry.new.self.poller c.take_new.new.hands.poller c.watch_replies.new.hands.poller c.take_new.new.lists.waiting.items (begins_then _ c.ring_due.new.hands.poller.view.seen _ (d.goes.later, d.goes.seen_is) (e.goes.later, e.goes.seen_is)) all in
-      inl (subst (λ (q : Pass). AreHeldBack q c.watch_replies.new.hands.poller c.watch_replies.new.lists.waiting.items) c.retry.ensures.same.0 (subst (λ (s : Places). AreHeldBack c.retry.new.self.poller c.watch_replies.new.hands.poller s.items) (sym same_waiting) later)))
+    let all : AreHeldBack c.retry.new.self.poller c.take_new.new.hands.poller c.take_new.new.lists.waiting.items = held_then c.retry.new.self.poller c.release_waiting.new.hands.poller c.take_new.new.hands.poller c.release_waiting.new.lists.waiting.items c.take_new.new.lists.waiting.items (a.later, a.seen_is) (b.later, b.seen_is) held c.in_ok-take_new.ensures.waited in
+    let later = held_later c.retry.new.self.poller c.take_new.new.hands.poller c.watch_replies.new.hands.poller c.take_new.new.lists.waiting.items (begins_then _ c.ring_due.new.hands.poller.view.seen _ (d.goes.later, d.goes.seen_is) (e.goes.later, e.goes.seen_is)) all in
+    inl (subst (λ (q : Pass). AreHeldBack q c.watch_replies.new.hands.poller c.watch_replies.new.lists.waiting.items) c.retry.ensures.same.0 (subst (λ (s : Places). AreHeldBack c.retry.new.self.poller c.watch_replies.new.hands.poller s.items) (sym same_waiting) later)))
     (λ stuck. inr (stuck_on _ _ _ _ _ e (stuck_on _ _ _ _ _ d (c.take_new.ensures.stuck stuck))))
     c.in_ok-release_waiting.ensures.tried
 

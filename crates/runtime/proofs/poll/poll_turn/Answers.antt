@@ -124,14 +124,14 @@ pub returns-clause-idle : goal.returns-clause-idle
 returns-clause-idle g c = elim c.if-has_work.branch [
   | then-has_work v ↦ λ e. absurd (moved_not_idle _ v.result-is e)
   | else-has_work v ↦ λ e.
-    let w = c.has_work-has_work in let h = c.look_after.new.hands in let k = w.new.hands in let l = w.new.lists in
-    let went = w.ensures.went_on no_answers in
-    let first = did_then _ _ _ _ _ _ c.look_after.new.outbox _ c.look_after.ensures.did (did_retry c.args.board.now c.args.queue.now h c.retry_rest.new.self c.look_after.new.outbox c.look_after.ensures.did.goes.kept c.retry_rest.ensures.handed c.retry_rest.ensures.same.0 c.retry_rest.ensures.same.1 c.retry_rest.ensures.quiet) in
-    let all = did_then _ _ _ _ _ _ c.look_after.new.outbox _ first (did_ring _ _ _ _ _ _ (w.ensures.went_on c.look_after.new.outbox)) in
-    let rest = w.ensures.none v.if-has_work.false in
-    let done = nothing_done _ _ _ _ _ _ _ c.ask_clock.ensures.ticked all c.requires.outbox.0 rest.0 in
-    subst (λ (o : Desk). IsIdle c.args.board.now o (record { poller = k.poller; sleeper = c.collect.new.sleeper; ready = k.ready; kept = k.kept.numbers; places = c.desk.inside.places; rings = length l.rings.items; intakes = l.rings.items; waiting = l.waiting.items; watched = l.watchers.items; deadlines = l.timers }) c.look_after.new.outbox) c.desk.view_is
-    (record { kept = rest.1; goes = done.0; alone = done.1; ready = done.2; answered = done.3; done = all_done_with (cares_of l) k.poller.view.seen w.ensures.cared rest.2 rest.3 })
+      let w = c.has_work-has_work in let h = c.look_after.new.hands in let k = w.new.hands in let l = w.new.lists in
+      let went = w.ensures.went_on no_answers in
+      let first = did_then _ _ _ _ _ _ c.look_after.new.outbox _ c.look_after.ensures.did (did_retry c.args.board.now c.args.queue.now h c.retry_rest.new.self c.look_after.new.outbox c.look_after.ensures.did.goes.kept c.retry_rest.ensures.handed c.retry_rest.ensures.same.0 c.retry_rest.ensures.same.1 c.retry_rest.ensures.quiet) in
+      let all = did_then _ _ _ _ _ _ c.look_after.new.outbox _ first (did_ring _ _ _ _ _ _ (w.ensures.went_on c.look_after.new.outbox)) in
+      let rest = w.ensures.none v.if-has_work.false in
+      let done = nothing_done _ _ _ _ _ _ _ c.ask_clock.ensures.ticked all c.requires.outbox.0 rest.0 in
+      subst (λ (o : Desk). IsIdle c.args.board.now o (record { poller = k.poller; sleeper = c.collect.new.sleeper; ready = k.ready; kept = k.kept.numbers; places = c.desk.inside.places; rings = length l.rings.items; intakes = l.rings.items; waiting = l.waiting.items; watched = l.watchers.items; deadlines = l.timers }) c.look_after.new.outbox) c.desk.view_is
+      (record { kept = rest.1; goes = done.0; alone = done.1; ready = done.2; answered = done.3; done = all_done_with (cares_of l) k.poller.view.seen w.ensures.cared rest.2 rest.3 })
 ]
 
 pub returns-clause-follows : goal.returns-clause-follows

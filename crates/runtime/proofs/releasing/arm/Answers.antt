@@ -43,7 +43,10 @@ pub returns-in-NotTimer-clause-tried : goal.returns-in-NotTimer-clause-tried
 returns-in-NotTimer-clause-tried c =
     let p = c.args.hands.now.poller in let q = c.arm.new.poller in let r = c.args.req in
     let x = goes_on _ _ _ _ c.arm.ensures.goes in
-    inr (c.put.ensures, once_now p q (λ h. IsHeldBack h r) (x.later, x.seen_is) (⊎_elim
-      (λ (is : c.arm.result ≡ NotTimer). absurd (timer_stays _ p q _ x r c.requires.timer (c.arm.ensures.not_timer is).1))
-      (λ (is : c.arm.result ≡ Shut). ⊎_elim (λ severed. inr (inr severed)) (λ shut. inr (inl shut.0.0)) (c.arm.ensures.shut is).0)
-      c.in-NotTimer.is))
+    inr (
+      c.put.ensures,
+      once_now p q (λ h. IsHeldBack h r) (x.later, x.seen_is) (⊎_elim
+          (λ (is : c.arm.result ≡ NotTimer). absurd (timer_stays _ p q _ x r c.requires.timer (c.arm.ensures.not_timer is).1))
+          (λ (is : c.arm.result ≡ Shut). ⊎_elim (λ severed. inr (inr severed)) (λ shut. inr (inl shut.0.0)) (c.arm.ensures.shut is).0)
+          c.in-NotTimer.is),
+    )

@@ -20,12 +20,12 @@ returns-in-Ready-clause-cared c =
     let later = after_on _ _ _ _ (goes_on _ _ _ _ c.look.ensures.looks) _ c.requires.cared in
     let at = c.look.ensures.finds.0 in
     let done : IsDone j r = ⊎_elim
-        (λ (is : c.look.result ≡ Ready). let s : Stands j r Ready = subst (λ (z : Standing). Stands j r z) is at in inl s.1)
-        (λ z. ⊎_elim
-          (λ is. let s : Stands j r (Done is.0) = subst (λ (z : Standing). Stands j r z) is.1 at in inr (subst Rattle.history.specs.History.IsReplied (sym s.1) tt))
-          (λ (is : c.look.result ≡ Gone). let s : Stands j r Gone = subst (λ (z : Standing). Stands j r z) is at in inr (subst Rattle.history.specs.History.IsReplied (sym s.2) tt))
-          z)
-        c.in-Ready.is in
+    (λ (is : c.look.result ≡ Ready). let s : Stands j r Ready = subst (λ (z : Standing). Stands j r z) is at in inl s.1)
+    (λ z. ⊎_elim
+    (λ is. let s : Stands j r (Done is.0) = subst (λ (z : Standing). Stands j r z) is.1 at in inr (subst Rattle.history.specs.History.IsReplied (sym s.1) tt))
+    (λ (is : c.look.result ≡ Gone). let s : Stands j r Gone = subst (λ (z : Standing). Stands j r z) is at in inr (subst Rattle.history.specs.History.IsReplied (sym s.2) tt))
+    z)
+    c.in-Ready.is in
     done_waiting (cares_of c.args.lists.now) r j done later
 
 pub returns-in-Armed-clause-went_on : goal.returns-in-Armed-clause-went_on
@@ -47,10 +47,13 @@ returns-in-Unborn-clause-tried c =
     let p = c.args.hands.now.poller in let q = c.look.new.pass in let r = c.args.req in
     let x = goes_on _ _ _ _ c.look.ensures.looks in
     let at = c.look.ensures.finds.0 in
-    inr (c.put.ensures, ⊎_elim
-      (λ (is : c.look.result ≡ Unborn). let s : Stands q.view.seen r Unborn = subst (λ (z : Standing). Stands q.view.seen r z) is at in once_now p q (λ h. IsHeldBack h r) (x.later, x.seen_is) (inl (waits_not (seen_of q) r unborn (λ e. cc) s)))
-      (λ z. ⊎_elim
-        (λ (is : c.look.result ≡ Held). let s : Stands q.view.seen r Held = subst (λ (z : Standing). Stands q.view.seen r z) is at in once_before p q (λ h. IsHeldBack h r) (x.later, x.seen_is) (was_unborn _ p q _ x r c.requires.unheld s))
-        (λ (is : c.look.result ≡ Running). let s : Stands q.view.seen r Running = subst (λ (z : Standing). Stands q.view.seen r z) is at in once_now p q (λ h. IsHeldBack h r) (x.later, x.seen_is) (inl (waits_not (seen_of q) r runs (λ e. cc) s)))
-        z)
-      c.in-Unborn.is)
+    inr (
+      c.put.ensures,
+      ⊎_elim
+          (λ (is : c.look.result ≡ Unborn). let s : Stands q.view.seen r Unborn = subst (λ (z : Standing). Stands q.view.seen r z) is at in once_now p q (λ h. IsHeldBack h r) (x.later, x.seen_is) (inl (waits_not (seen_of q) r unborn (λ e. cc) s)))
+          (λ z. ⊎_elim
+          (λ (is : c.look.result ≡ Held). let s : Stands q.view.seen r Held = subst (λ (z : Standing). Stands q.view.seen r z) is at in once_before p q (λ h. IsHeldBack h r) (x.later, x.seen_is) (was_unborn _ p q _ x r c.requires.unheld s))
+          (λ (is : c.look.result ≡ Running). let s : Stands q.view.seen r Running = subst (λ (z : Standing). Stands q.view.seen r z) is at in once_now p q (λ h. IsHeldBack h r) (x.later, x.seen_is) (inl (waits_not (seen_of q) r runs (λ e. cc) s)))
+          z)
+          c.in-Unborn.is,
+    )

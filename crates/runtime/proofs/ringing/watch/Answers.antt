@@ -51,8 +51,11 @@ returns-then-settle-clause-cared c =
 pub returns-then-settle-clause-watched : goal.returns-then-settle-clause-watched
 returns-then-settle-clause-watched c =
     let x = goes_on _ _ _ _ c.in-NotCounted.ensures.goes in let y = c.settle.ensures.rang.goes in
-    inr (c.put-then-settle.ensures, once_sooner c.args.hands.now.poller c.count.new.poller c.settle.new.hands.poller (λ h. IsPendingTimer h c.args.req) (x.later, x.seen_is)
-      (once_now c.count.new.poller c.settle.new.hands.poller (λ h. IsPendingTimer h c.args.req) (y.later, y.seen_is) (c.settle.ensures.pending c.if-settle.true)))
+    inr (
+      c.put-then-settle.ensures,
+      once_sooner c.args.hands.now.poller c.count.new.poller c.settle.new.hands.poller (λ h. IsPendingTimer h c.args.req) (x.later, x.seen_is)
+          (once_now c.count.new.poller c.settle.new.hands.poller (λ h. IsPendingTimer h c.args.req) (y.later, y.seen_is) (c.settle.ensures.pending c.if-settle.true)),
+    )
 
 pub returns-else-settle-clause-rang : goal.returns-else-settle-clause-rang
 returns-else-settle-clause-rang c = rang_then _ _ _ _ _ c.args.outbox.now _ (rang_looked _ _ _ _ c.in-NotCounted.ensures.goes c.count.ensures.alone (refl, refl, refl) (λ m. m)) c.settle.ensures.rang
