@@ -20,7 +20,6 @@ use crate::phase::{Phase, told};
 use claim::{GENERATIONS, unpack_facts};
 use entry::Sqe;
 use history::Req;
-use steps::facts::is_link_timeout;
 use steps::{TableSeat, Words, seat};
 use work::{Grid, Spot};
 
@@ -68,7 +67,7 @@ impl Lane {
 pub(crate) fn hosts(sqe: &Sqe, last: bool) -> bool
     ensures { (bytes : List ℕ) → result ≡ hosts (Some (record { entry = sqe.now; bytes = bytes; last = last })) }
 {
-    (sqe.links_soft() || sqe.links_hard()) && !last && !is_link_timeout(sqe.op())
+    (sqe.links_soft() || sqe.links_hard()) && !last && !sqe.op().is_link_timeout()
 }
 
 /// Whether these facts are those of a request of this generation, whose chain goes on after it.

@@ -1,7 +1,7 @@
 //! What a submitter notes of its request: the word of facts, and the count of a TIMEOUT.
 ghost use Rattle.std.specs.Prelude.{◌≡◌, ℕ, ◌+◌, ◌*◌, ◌<◌, Option};
 ghost use Rattle.history.specs.History.{Submission};
-ghost use Rattle.history.specs.Chains.{hosts, is_link_timeout, placed_behind};
+ghost use Rattle.history.specs.Chains.{hosts, placed_behind};
 ghost use Rattle.steps.specs.Notes.{count_in, etime_in, facts_of, row_number, ticks_in};
 
 use claim::{FactsWord, pack_facts};
@@ -117,28 +117,13 @@ fn etime_in(op: Op) -> bool
     by_opcode!(etime_in!(op))
 }
 
-macro_rules! is_linked_timer {
-    ((timer linked $ticks:ident) ()) => { true };
-    ((timer alone $ticks:ident) ()) => { false };
-    ((plain $kind:ident) ()) => { false };
-    ((pipe $kind:ident $($field:ident)*) ()) => { false };
-    ((cancel $kind:ident $($field:ident)*) ()) => { false };
-}
-
-/// Whether it is a LINK_TIMEOUT.
-pub fn is_link_timeout(op: Op) -> bool
-    ensures { result ≡ is_link_timeout op }
-{
-    by_opcode!(op => is_linked_timer!())
-}
-
 /// The facts of a request of this generation, as it is placed: a LINK_TIMEOUT as Invalid, unless the entry before it hosts one.
 pub(crate) fn facts(generation: u32, sqe: &Sqe, last: bool, hosted: bool) -> u64
     requires { generation < 16777216 }
     ensures facts { (before : Option Submission) → hosted ≡ hosts before → result ≡ facts_of generation (placed_behind before sqe.now) last }
     ensures generation { (n : ℕ) × (result ≡ generation + 16777216 * n) }
 {
-    let misplaced = is_link_timeout(sqe.op()) && !hosted;
+    let misplaced = sqe.op().is_link_timeout() && !hosted;
     let ticks = ticks_in(sqe);
     pack_facts(FactsWord {
         generation,
