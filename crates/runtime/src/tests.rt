@@ -1,13 +1,18 @@
 //! Turns one after another in one thread: what each comes to, and when there is nothing to do.
 use crate::stage::{Entry, play};
 use entry::Sqe;
-use prep::{cancel, cancel_all, link_timeout, nop, read, timeout, timeout_count, write};
+use prep::{
+    cancel, cancel_all, link_timeout, nop, read, timeout, timeout_count, timeout_remove, write,
+};
 use std::test::Fail;
 
 /// IOSQE_IO_DRAIN, IOSQE_IO_LINK.
 const DRAIN: u8 = 2;
 
 const LINK: u8 = 4;
+
+/// IORING_TIMEOUT_ETIME_SUCCESS.
+const ETIME_SUCCESS: u32 = 32;
 
 /// -ETIME, -ECANCELED.
 const TIMED_OUT: i32 = -62;
@@ -222,5 +227,72 @@ fn what_follows_a_canceled_member_is_severed(rt: HostRuntime) -> Result<(), Fail
         told.as_str(),
         "0.0 moved moved moved+0.0+0.3 moved+0.1+0.2 idle -125:60:61:62 -125:1:2 -125 0 on"
     );
+    Ok(())
+}
+
+/// Where the outbox has a place for one answer alone.
+#[test]
+fn a_timeout_runs_out_on_a_board_of_one_cell(rt: HostRuntime) -> Result<(), Fail> {
+    let at_once = [plain(timeout(0, 0), 0, 61)];
+    let told = play(&rt, rt.alloc(), &[1], 1, &at_once, &[], "f p p r0", 0)?;
+    assert_eq!(rt; told.as_str(), "0.0 moved+0.0 idle -62 on");
+    let later = [plain(timeout(3, ETIME_SUCCESS), 0, 62)];
+    let words = "f t1 l0 t3 t4 p r0";
+    let told = play(&rt, rt.alloc(), &[1], 1, &later, &[], words, 0)?;
+    assert_eq!(rt;
+        told.as_str(),
+        "0.0 moved armed4 moved moved+0.0 idle -62 past"
+    );
+    let counted = [plain(timeout_count(2, 1, 0), 0, 63)];
+    let told = play(&rt, rt.alloc(), &[1], 1, &counted, &[], "f p t2 p r0", 0)?;
+    assert_eq!(rt; told.as_str(), "0.0 moved moved+0.0 idle -62 past");
+    Ok(())
+}
+
+#[test]
+fn each_timer_ends_on_a_board_of_two_cells(rt: HostRuntime) -> Result<(), Fail> {
+    let fires = [reads(4, LINK, 71, 90), plain(link_timeout(3), 0, 72)];
+    let words = "f p l1 t2 t3 p r0 r1";
+    let told = play(&rt, rt.alloc(), &[2], 2, &fires, &[], words, 0)?;
+    assert_eq!(rt;
+        told.as_str(),
+        "0.0 moved armed3 moved moved+0.0+0.1 idle -125:90:91:92:93 -62 past"
+    );
+    let settled = [writes(2, LINK, 73, 1), plain(link_timeout(9), 0, 74)];
+    let told = play(&rt, rt.alloc(), &[2], 2, &settled, &[], "f p w p r0 r1", 0)?;
+    assert_eq!(rt;
+        told.as_str(),
+        "0.0 moved moved+0.0 moved+0.1 2:1:2 -125 on"
+    );
+    let removed = [
+        plain(timeout(9, 0), 0, 75),
+        plain(timeout_remove(75), 0, 76),
+    ];
+    let told = play(
+        &rt,
+        rt.alloc(),
+        &[2],
+        2,
+        &removed,
+        &[],
+        "f p w p p r0 r1",
+        0,
+    )?;
+    assert_eq!(rt;
+        told.as_str(),
+        "0.0 moved moved+0.0+0.1 moved idle -125 0 on"
+    );
+    let counted = [plain(timeout_count(100, 1, 0), 0, 77), plain(nop(), 0, 78)];
+    let told = play(
+        &rt,
+        rt.alloc(),
+        &[2],
+        2,
+        &counted,
+        &[],
+        "f p w p p r0 r1",
+        0,
+    )?;
+    assert_eq!(rt; told.as_str(), "0.0 moved moved+0.1 moved+0.0 idle 0 0 on");
     Ok(())
 }
