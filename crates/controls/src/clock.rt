@@ -22,9 +22,10 @@ pub trait Clock {
     fn ask(&self) -> Option<Req>
         ensures { result ≡ asked self.now };
 
-    /// The next time of the clock in ticks, if it goes on. `now` is its time, and `phase` that of the request that it asked for.
+    /// The next time of the clock in ticks, if it goes on. `now` is the board's time, and `phase` that of the request that it asked
+    /// for.
     fn tell(&mut self, now: u32, phase: Option<Phase>) -> Option<u32>
-        ensures { Told (follows self.old) (follows self.new) (asked self.old) phase result };
+        ensures { Told (follows self.old) (follows self.new) (asked self.old) now phase result };
 
     /// What does not set the clock, the clock need not know of.
     ghost stays: { (c : Self) (s : Setup) (e : Event) (h : List Event) → Legal s (e ∷ h) → counts_tick e ≡ 0 → follows c h → follows c (e ∷ h) };

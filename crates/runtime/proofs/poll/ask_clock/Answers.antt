@@ -5,7 +5,7 @@ use Rattle.steps.specs.Journal.{freed}
 use Rattle.work.specs.Passes.{Pass}
 use Rattle.runtime.specs.Turns.{GoesOn}
 use Rattle.runtime.specs.PollTurns.{IsPollers}
-use Rattle.runtime.proofs.ClockLaws.{goes_along, heard, stops_along}
+use Rattle.runtime.proofs.ClockLaws.{clock_kept, goes_along, heard, stops_along}
 use Rattle.runtime.proofs.TurnLaws.{goes_nowhere, goes_on, goes_on_then}
 use Rattle.runtime.proofs.poll.ask_clock.Goals as goal
 
@@ -57,19 +57,22 @@ returns-clause-ticked g c = record {
 pub returns-in_default-clause-follows : goal.returns-in_default-clause-follows
 returns-in_default-clause-follows g c f =
     let role : IsPollers c.args.hands.now.poller = (_, c.clock-now.ensures.role) in
+    let time = c.clock-now.ensures.clock ∙ sym (clock_kept _ _ _ [] (goes_on _ _ _ _ c.phase_of-phase.ensures.looks) role refl) in
     let before = heard (g.C.Clock.follows c.args.clock.now) (g.met.C.Clock.stays c.args.clock.now) _ _ _ _ _ _ c.phase_of-phase.ensures.looks role c.ask.ensures c.phase_of-phase.ensures.asked f in
-    c.in_default.ensures c.phase_of-phase.new.poller.view.seen before.0 before.1
+    c.in_default.ensures c.phase_of-phase.new.poller.view.seen before.0 time before.1
 
 pub returns-in_default-tick-clause-follows : goal.returns-in_default-tick-clause-follows
 returns-in_default-tick-clause-follows g c f =
     let role : IsPollers c.args.hands.now.poller = (_, c.clock-now.ensures.role) in
+    let time = c.clock-now.ensures.clock ∙ sym (clock_kept _ _ _ [] (goes_on _ _ _ _ c.phase_of-phase.ensures.looks) role refl) in
     let before = heard (g.C.Clock.follows c.args.clock.now) (g.met.C.Clock.stays c.args.clock.now) _ _ _ _ _ _ c.phase_of-phase.ensures.looks role c.ask.ensures c.phase_of-phase.ensures.asked f in
     let refused = c.in_default-tick.ensures.refused in
-    stops_along (g.C.Clock.follows c.tell.new.self) _ _ _ c.in-Some.to c.phase_of-phase.ensures.looks.kept refused.0 refused.1 (c.in-Some.ensures c.phase_of-phase.new.poller.view.seen before.0 before.1)
+    stops_along (g.C.Clock.follows c.tell.new.self) _ _ _ c.in-Some.to c.phase_of-phase.ensures.looks.kept refused.0 refused.1 (c.in-Some.ensures c.phase_of-phase.new.poller.view.seen before.0 time before.1)
 
 pub returns-clause-follows : goal.returns-clause-follows
 returns-clause-follows g c f =
     let role : IsPollers c.args.hands.now.poller = (_, c.clock-now.ensures.role) in
+    let time = c.clock-now.ensures.clock ∙ sym (clock_kept _ _ _ [] (goes_on _ _ _ _ c.phase_of-phase.ensures.looks) role refl) in
     let before = heard (g.C.Clock.follows c.args.clock.now) (g.met.C.Clock.stays c.args.clock.now) _ _ _ _ _ _ c.phase_of-phase.ensures.looks role c.ask.ensures c.phase_of-phase.ensures.asked f in
     let still : IsPollers c.phase_of-phase.new.poller = (role.0, c.phase_of-phase.ensures.looks.role_is ∙ role.1) in
-    goes_along (g.C.Clock.follows c.tell.new.self) _ _ _ c.in-Some.to still c.in-Ok.ensures.goes (c.in-Some.ensures c.phase_of-phase.new.poller.view.seen before.0 before.1)
+    goes_along (g.C.Clock.follows c.tell.new.self) _ _ _ c.in-Some.to still c.in-Ok.ensures.goes (c.in-Some.ensures c.phase_of-phase.new.poller.view.seen before.0 time before.1)

@@ -5,7 +5,7 @@ use Rattle.script_run.proofs.ClockSteps.{told_waiting, told_arming, told_setting
 use Rattle.script_run.proofs.clock.LineClockClock.tell.Goals as goal
 
 pub returns-in-Wait : goal.returns-in-Wait
-returns-in-Wait c = λ j k a.
+returns-in-Wait c = λ j k t a.
     (let old = c.args.self.now in let new = c.count.new.self in let e = c.count.ensures in let r = c.in-Wait.field-0 in let p = c.in-Wait.field-1 in
     let at : line_at old.is_stuck old.lines.items old.next ≡ Some (Wait r p) = sym c.line.ensures ∙ (c.in_ok-line.was ∙ ap Some c.in-Wait.is) in
     turn_counted old.lines.items new.lines.items old.next new.next old.tries new.tries old.most new.most old.is_stuck new.is_stuck c.has_reply.result _
@@ -16,7 +16,7 @@ returns-in-Wait c = λ j k a.
     k)
 
 pub returns-in-Armed : goal.returns-in-Armed
-returns-in-Armed c = λ j k a.
+returns-in-Armed c = λ j k t a.
     (let old = c.args.self.now in let new = c.count-in-Armed.new.self in let e = c.count-in-Armed.ensures in let r = c.in-Armed.field-0 in let p = c.in-Armed.field-1 in
     let at : line_at old.is_stuck old.lines.items old.next ≡ Some (Armed r p) = sym c.line.ensures ∙ (c.in_ok-line.was ∙ ap Some c.in-Armed.is) in
     turn_counted old.lines.items new.lines.items old.next new.next old.tries new.tries old.most new.most old.is_stuck new.is_stuck c.is_ready.result _
@@ -27,7 +27,7 @@ returns-in-Armed c = λ j k a.
     k)
 
 pub returns-in-Tick : goal.returns-in-Tick
-returns-in-Tick c = λ j k a.
+returns-in-Tick c = λ j k t a.
     (let old = c.args.self.now in let new = c.go_on.new.self in let e = c.go_on.ensures in
     let at : line_at old.is_stuck old.lines.items old.next ≡ Some (Tick c.in-Tick.to) = sym c.line.ensures ∙ (c.in_ok-line.was ∙ ap Some c.in-Tick.is) in
     let goes = e.same.2 ∙ not_stuck old.is_stuck old.lines.items old.next (Tick c.in-Tick.to) at in
