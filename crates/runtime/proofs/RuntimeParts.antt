@@ -20,7 +20,6 @@ use Rattle.board.proofs.TakenCells.{some_get}
 use Rattle.bell.specs.BellPasses.{Facts as Bell, IsNew, IsRingerOf, Ringing, Sleeping, new_ringing}
 use Rattle.runtime.specs.StartParts.{AreRingers, IsNewRinger}
 use Rattle.runtime.specs.Clients.{ClientFacts, AreClients, AreNewClients, HasTaken, IsNewClient, submitter_of, without_tail}
-use Rattle.runtime.specs.Turns.{kept_in}
 
 -- a list without a first element
 pub none_first : {X : Type 0} (xs : List X) → slice_get xs 0 ≡ None → xs ≡ []

@@ -43,7 +43,7 @@ use Rattle.steps.proofs.OwnFacts.{same_hit}
 use Rattle.steps.proofs.Submissions.{fits_is}
 use Rattle.steps.proofs.ViewsKept.{layout_after, role_after, parts_after, parcel_after}
 use Rattle.work.specs.Board.{Facts, IsOf, share_of}
-use Rattle.work.specs.Passes.{Pass, Running, Took, HasRoom, IsSpare, RunsIt, IsGridOf, own_of}
+use Rattle.work.specs.Passes.{Pass, Running, Took, HasRoom, RunsIt, IsGridOf, own_of}
 use Rattle.work.specs.Searches.{FewSteps, wanted_in}
 use Rattle.work.specs.declared.cancel.Wanted.{Wanted}
 use Rattle.work.specs.declared.run.Ran.{Ran}
@@ -320,8 +320,8 @@ pub grid_on : (table : TableId) (K : List ℕ) (v w : View) → w.layout ≡ v.l
 grid_on table K v w same o = record { cells_are = ap (λ (L : Layout). L.cells) same ∙ o.cells_are; wide = o.wide }
 
 -- and so does the room of its list
-pub room_on : (table : TableId) (K : List ℕ) (v w : View) (list : List Req) (room : ℕ) → IsGridOf table K v → w.layout ≡ v.layout → IsSpare K list room → HasRoom w.layout.cells room
-room_on table K v w list room grid same spare = subst (λ (L : List ℕ). HasRoom L room) (sym (ap (λ (L : Layout). L.cells) same ∙ grid.cells_are)) spare.1
+pub room_on : (table : TableId) (K : List ℕ) (v w : View) (room : ℕ) → IsGridOf table K v → w.layout ≡ v.layout → HasRoom K room → HasRoom w.layout.cells room
+room_on table K v w room grid same spare = subst (λ (L : List ℕ). HasRoom L room) (sym (ap (λ (L : Layout). L.cells) same ∙ grid.cells_are)) spare
 
 -- ---- which pipe an operation names
 

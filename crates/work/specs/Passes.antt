@@ -71,10 +71,11 @@ pub record CanReach (table : TableId) (p : Pass) (x : ℕ) : Type 0 where
   pub table_is : p.table ≡ table
   pub cell : (x < 16384) × IsCell p.view.layout.cells x × (claim_at x + 7 < table.words)
 
--- a worker that runs a request, as contracts see it
+-- a worker that runs a request, as contracts see it, and the requests that its last run took
 pub record Running : Type 0 where
   pub pass : Pass
   pub req : Req
+  pub took : List Req
 
 -- the view of a worker that runs the request r of this cell and generation, whose parcel is p, on a board of so many pipes; r is no timer
 pub record RunsIt (table : TableId) (v : View) (x g : ℕ) (r : Req) (p : Parcel) (pipes : ℕ) : Type 0 where
@@ -93,23 +94,23 @@ pub record IsGridOf (table : TableId) (K : List ℕ) (v : View) : Type 0 where
   pub cells_are : v.layout.cells ≡ K
   pub wide : table.words ≡ words_of (total K)
 
--- its seat, with the parcel in hand, and no pipe; if it runs a cancel, that has neither taken a request nor found one running, and there is a list for those that it takes
-pub record IsBusySeat (table : TableId) (K : List ℕ) (s : Seat (Option Thing) View) (x g : ℕ) (r : Req) (p : Parcel) (pipes : ℕ) (took : List Req) (room : ℕ) : Type 0 where
+-- its seat, with the parcel in hand, and no pipe; if it runs a cancel, that has neither taken a request nor found one running, and there is room for a list of those that it takes
+pub record IsBusySeat (table : TableId) (K : List ℕ) (s : Seat (Option Thing) View) (x g : ℕ) (r : Req) (p : Parcel) (pipes : ℕ) (room : ℕ) : Type 0 where
   pub table_is : s.table_id ≡ table
   pub grid : IsGridOf table K s.me.0
   pub runs : RunsIt table s.me.0 x g r p pipes
   pub unhit : hit (events_of s.me.0.seen) r ≡ nothing
-  pub spare : IsSpare K took room
+  pub spare : HasRoom K room
   pub out : s.me.1 ≡ (slot_at x, None) ∷ []
   pub bare : (n : ℕ) → holder s.me.0.seen n ≢ Some r
 
 -- the same with a pipe in hand that the entry is answered from, as what was seen tells, and no other
-pub record IsHoldingSeat (table : TableId) (K : List ℕ) (s : Seat (Option Thing) View) (x g : ℕ) (r : Req) (p : Parcel) (pipes n : ℕ) (c : Conduit) (took : List Req) (room : ℕ) : Type 0 where
+pub record IsHoldingSeat (table : TableId) (K : List ℕ) (s : Seat (Option Thing) View) (x g : ℕ) (r : Req) (p : Parcel) (pipes n : ℕ) (c : Conduit) (room : ℕ) : Type 0 where
   pub table_is : s.table_id ≡ table
   pub grid : IsGridOf table K s.me.0
   pub runs : RunsIt table s.me.0 x g r p pipes
   pub unhit : hit (events_of s.me.0.seen) r ≡ nothing
-  pub spare : IsSpare K took room
+  pub spare : HasRoom K room
   pub out : s.me.1 ≡ (n, None) ∷ (slot_at x, None) ∷ []
   pub alone : HasAlone s.me.0.seen n r
   pub named : (uses_at p.sqe.op n ≡ true) × (n < pipes)
@@ -122,12 +123,12 @@ pub record Holding : Type 0 where
   pub pipe : ℕ
 
 -- the same with both pipes in hand that the entry joins, and no other
-pub record IsJoiningSeat (table : TableId) (K : List ℕ) (s : Seat (Option Thing) View) (x g : ℕ) (r : Req) (p : Parcel) (pipes a b : ℕ) (c d : Conduit) (took : List Req) (room : ℕ) : Type 0 where
+pub record IsJoiningSeat (table : TableId) (K : List ℕ) (s : Seat (Option Thing) View) (x g : ℕ) (r : Req) (p : Parcel) (pipes a b : ℕ) (c d : Conduit) (room : ℕ) : Type 0 where
   pub table_is : s.table_id ≡ table
   pub grid : IsGridOf table K s.me.0
   pub runs : RunsIt table s.me.0 x g r p pipes
   pub unhit : hit (events_of s.me.0.seen) r ≡ nothing
-  pub spare : IsSpare K took room
+  pub spare : HasRoom K room
   pub out : s.me.1 ≡ (b, None) ∷ (a, None) ∷ (slot_at x, None) ∷ []
   pub both : HasBoth s.me.0.seen a b r
   pub named : UsesBoth p.sqe.op pipes a b

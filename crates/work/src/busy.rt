@@ -48,9 +48,9 @@ impl<'a> Model for Busy<'a> {
 
     ghost Value = { Running };
 
-    ghost view = { λ b. record { pass = pass_of b.seat; req = b.req } };
+    ghost view = { λ b. record { pass = pass_of b.seat; req = b.req; took = b.took.items } };
 
-    ghost invariant = { λ b. IsBusySeat b.words.now.table_id b.grid.now b.seat b.cell b.generation b.req b.parcel b.pipes b.took.items (vec_capacity b.took) };
+    ghost invariant = { λ b. IsBusySeat b.words.now.table_id b.grid.now b.seat b.cell b.generation b.req b.parcel b.pipes (vec_capacity b.took) };
 }
 
 /// Puts the parcel back into the slot that the seat has.
@@ -70,10 +70,10 @@ impl<'a> Busy<'a> {
     ghost use Rattle.work.specs.Searches.{FewSteps, wanted_in};
     ghost use Rattle.work.specs.WorkerRuns.{AreFew, AreHits, EndsBy, HasStepped, StepsAt, IsRun, MissedPipe, taken_in};
 
-    /// Puts the request back to Ready.
+    /// Puts the request back to Ready. The list of what its last run took stays.
     pub fn park(self) -> Worker
         ensures kept { (b : Facts) → IsOf b self.entry.pass → IsOf b result }
-        ensures took { result.took ≡ [] }
+        ensures took { result.took ≡ self.entry.took }
         ensures steps { Took self.entry.pass.view result.view 1 }
         ensures parked { (result.table ≡ self.entry.pass.table) × Extends self.entry.pass.view (Did (Park self.entry.req)) Idle result.view }
     {
@@ -90,7 +90,18 @@ impl<'a> Busy<'a> {
         } = self;
         put_back(words, &mut seat, cell, parcel);
         seat::park(words, &mut seat, cell, generation);
-        Worker::new(seat, took)
+        Worker::after(seat, took)
+    }
+
+    /// Puts the request back to Ready, after a run that took nothing.
+    pub(crate) fn give_up(mut self) -> Worker
+        ensures kept { (b : Facts) → IsOf b self.entry.pass → IsOf b result }
+        ensures took { result.took ≡ [] }
+        ensures steps { Took self.entry.pass.view result.view 1 }
+        ensures parked { (result.table ≡ self.entry.pass.table) × Extends self.entry.pass.view (Did (Park self.entry.req)) Idle result.view }
+    {
+        self.took.clear();
+        self.park()
     }
 
     /// Answers the request, which is no cancel and is answered from no pipe of the board.
@@ -193,6 +204,7 @@ impl<'a> Busy<'a> {
             pipes: _,
             mut took,
         } = self;
+        took.clear();
         let res = hunt(words, &mut seat, grid, req, wanted, &mut took);
         let fails = fails_placed(&parcel.sqe, res);
         let cqe = Cqe {
@@ -216,11 +228,11 @@ impl<'a> Busy<'a> {
         prove!(pipe < self.pipes);
         let holding = match self.hold(pipe) {
             Ok(holding) => holding,
-            Err(busy) => return (busy.park(), Ran::Parked(Parked::PipeBusy)),
+            Err(busy) => return (busy.give_up(), Ran::Parked(Parked::PipeBusy)),
         };
         match holding.answer() {
             Ok((worker, cqe)) => (worker, Ran::Replied { cqe }),
-            Err(busy) => (busy.park(), Ran::Parked(Parked::NotReady)),
+            Err(busy) => (busy.give_up(), Ran::Parked(Parked::NotReady)),
         }
     }
 

@@ -43,7 +43,7 @@ impl<'a> Model for Holding<'a> {
 
     ghost view = { λ h. record { pass = pass_of h.seat; req = h.req; pipe = h.pipe } };
 
-    ghost invariant = { λ h. IsHoldingSeat h.words.now.table_id h.grid.now h.seat h.cell h.generation h.req h.parcel h.pipes h.pipe h.conduit h.took.items (vec_capacity h.took) };
+    ghost invariant = { λ h. IsHoldingSeat h.words.now.table_id h.grid.now h.seat h.cell h.generation h.req h.parcel h.pipes h.pipe h.conduit (vec_capacity h.took) };
 }
 
 impl<'a> Holding<'a> {

@@ -50,7 +50,7 @@ impl<'a> Model for Joining<'a> {
 
     ghost view = { λ k. record { pass = pass_of k.seat; req = k.req; source = k.source; target = k.target } };
 
-    ghost invariant = { λ k. IsJoiningSeat k.words.now.table_id k.grid.now k.seat k.cell k.generation k.req k.parcel k.pipes k.source k.target k.from k.into k.took.items (vec_capacity k.took) };
+    ghost invariant = { λ k. IsJoiningSeat k.words.now.table_id k.grid.now k.seat k.cell k.generation k.req k.parcel k.pipes k.source k.target k.from k.into (vec_capacity k.took) };
 }
 
 impl<'a> Holding<'a> {
@@ -196,15 +196,15 @@ impl<'a> Busy<'a> {
         prove!(source < self.pipes);
         let holding = match self.hold(source) {
             Ok(holding) => holding,
-            Err(busy) => return (busy.park(), Ran::Parked(Parked::PipeBusy)),
+            Err(busy) => return (busy.give_up(), Ran::Parked(Parked::PipeBusy)),
         };
         let joining = match holding.hold(target) {
             Ok(joining) => joining,
-            Err(busy) => return (busy.park(), Ran::Parked(Parked::PipeBusy)),
+            Err(busy) => return (busy.give_up(), Ran::Parked(Parked::PipeBusy)),
         };
         match joining.answer() {
             Ok((worker, cqe)) => (worker, Ran::Replied { cqe }),
-            Err(busy) => (busy.park(), Ran::Parked(Parked::NotReady)),
+            Err(busy) => (busy.give_up(), Ran::Parked(Parked::NotReady)),
         }
     }
 }

@@ -57,8 +57,8 @@ impl Worker {
         Self { seat, took }
     }
 
-    /// The requests that its last run ended, in the order of their numbers: none where that was no cancel's. A request that it
-    /// begins empties the list.
+    /// The requests that its last run ended, in the order of their numbers: none where that was no cancel's. The list stands until its
+    /// next run.
     pub fn took(&self) -> &[Req]
         ensures { result.now ≡ self.now.took }
     {
@@ -106,10 +106,10 @@ impl Worker {
         ensures begun { IfOk result (λ b. (b.req ≡ req) × (b.pass.table ≡ self.table) × Extends self.view (Did (Begin req)) (RoleBusy req) b.pass.view) }
         ensures kept { (b : Facts) → IsOf b self → IfOk result (λ busy. IsOf b busy.pass) × IfErr result (λ w. IsOf b w) }
         ensures steps { IfOk result (λ b. Took self.view b.pass.view 1) }
-        ensures took { IfErr result (λ w. w.took ≡ self.took) }
+        ensures took { IfOk result (λ b. b.took ≡ self.took) × IfErr result (λ w. w.took ≡ self.took) }
         ensures refused { IfErr result (λ w. (w.table ≡ self.table) × ((w.view ≡ self.view) ⊎ Looks self.view w.view) × ((length grid.now ≤ req.ring) ⊎ FoundNotReady grid.now req self.view w.view)) }
     {
-        let Worker { mut seat, mut took } = self;
+        let Worker { mut seat, took } = self;
         let Some(spot) = grid.locate(req) else {
             return Err(Worker { seat, took });
         };
@@ -121,7 +121,6 @@ impl Worker {
         if !seat::begin(words, &mut seat, spot.cell, generation) {
             return Err(Worker { seat, took });
         }
-        took.clear();
         let thing = words.exchange(&mut seat, slot(spot.cell), None);
         Ok(Busy {
             words,

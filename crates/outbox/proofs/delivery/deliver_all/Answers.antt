@@ -2,7 +2,7 @@ use Rattle.std.proofs.Common.{◌≡◌, ◌<◌, ◌+◌, ◌∷◌, ◌++◌, 
 use Rattle.std.specs.List.{slice_get}
 use Rattle.history.specs.declared.req.Req.{Req}
 use Rattle.compring.specs.Posts.{Posts}
-use Rattle.outbox.specs.Outbox.{Waiting, HasPosted, of_ring, others}
+use Rattle.outbox.specs.Outbox.{Waiting, HasPosted, of_ring}
 use Rattle.outbox.proofs.QueueTurn.{after_post, after_turn}
 use Rattle.outbox.proofs.delivery.deliver_all.Goals as goal
 use Rattle.outbox.proofs.delivery.deliver_all.Goals.{then-req-of+in-Ok, else-req-of}

@@ -1,5 +1,5 @@
 use Rattle.std.proofs.Common.{◌≡◌, ◌++◌, length, take, drop}
-use Rattle.outbox.specs.Outbox.{HasPosted, Delivers, of_ring, others}
+use Rattle.outbox.specs.Outbox.{HasPosted, of_ring, others}
 use Rattle.outbox.proofs.delivery.deliver_all.Given as goal
 
 abbrev pub invariant-loop-n : goal.invariant-loop-n

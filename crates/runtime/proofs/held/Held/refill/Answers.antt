@@ -1,4 +1,4 @@
-use Rattle.std.proofs.Common.{◌≡◌, ℕ, [], ◌∷◌, ◌++◌, List, length, inl, refl, sym, ap, ◌∙◌, arith}
+use Rattle.std.proofs.Common.{◌≡◌, [], ◌∷◌, ◌++◌, List, length, inl, refl, sym, ap, ◌∙◌, arith}
 use Rattle.history.specs.declared.req.Req.{Req}
 use Rattle.runtime.specs.Clients.{Holding}
 use Rattle.runtime.proofs.held.Held.refill.Goals as goal

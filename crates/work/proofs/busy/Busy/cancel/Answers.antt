@@ -17,7 +17,7 @@ use Rattle.steps.specs.Plays.{Seated, MayReply}
 use Rattle.steps.specs.Rule.{Extends, IsStep}
 use Rattle.steps.proofs.ViewsKept.{role_after}
 use Rattle.work.specs.Board.{IsOf}
-use Rattle.work.specs.Passes.{Pass, Running, seen_of}
+use Rattle.work.specs.Passes.{HasRoom, Pass, Running, seen_of}
 use Rattle.work.specs.Searches.{FewSteps, wanted_in}
 use Rattle.work.specs.WorkerRuns.{AreFew, AreHits, DidHunt, EndsBy, run_as, taken_in}
 use Rattle.work.proofs.CancelEnds.{by_bare, by_events, by_layout, by_of, by_runs, cancels_run, few_replied, may_hunt, ring_cells}
@@ -28,6 +28,9 @@ pub hunt-res-requires-clause-cancels : goal.hunt-res-requires-clause-cancels
 hunt-res-requires-clause-cancels c = let b = c.self.inside in let i = c.self.invariant in let table = b.words.now.table_id in
     let wants = subst (λ (k : Running). (e : Entry) → IsPlaced (seen_of k.pass) k.req e → wanted_in e.op ≡ Some c.args.wanted) (sym c.self.view_is) c.requires.wanted (run_as b.parcel.sqe) (runs_placed table b.seat.me.0 b.seat.me.0 b.cell b.generation b.req b.parcel b.pipes i.runs) in
     (cancels_run table b.seat b.cell b.generation b.req b.parcel b.pipes c.args.wanted i.runs i.table_is wants, i.unhit)
+
+pub hunt-res-requires-clause-spare : goal.hunt-res-requires-clause-spare
+hunt-res-requires-clause-spare c = (c.clear.ensures.items, subst (λ (n : ℕ). HasRoom c.self.inside.grid.now n) (sym c.clear.ensures.capacity) c.self.invariant.spare)
 
 pub hunt-res-requires-clause-cell : goal.hunt-res-requires-clause-cell
 hunt-res-requires-clause-cell c = let b = c.self.inside in let i = c.self.invariant in
@@ -68,7 +71,7 @@ after-requires-clause-seat c = let b = c.self.inside in let i = c.self.invariant
 
 pub after-requires-clause-room : goal.after-requires-clause-room
 after-requires-clause-room c = let b = c.self.inside in let i = c.self.invariant in let m = c.put_back.ensures.seat.2 in let h = c.hunt-res.ensures.hunted in λ n.
-    (let room = room_on b.words.now.table_id b.grid.now b.seat.me.0 c.reply.new.seat.me.0 b.took.items (vec_capacity b.took) i.grid (c.reply.ensures.ended.2 ∙ (ap (λ (z : Seated). z.0.layout) m ∙ by_layout b.req b.seat.me.0 c.hunt-res.new.seat.me.0 h.own h.went)) i.spare n in let more = c.hunt-res.ensures.capacity in omega arith)
+    (let room = room_on b.words.now.table_id b.grid.now b.seat.me.0 c.reply.new.seat.me.0 (vec_capacity b.took) i.grid (c.reply.ensures.ended.2 ∙ (ap (λ (z : Seated). z.0.layout) m ∙ by_layout b.req b.seat.me.0 c.hunt-res.new.seat.me.0 h.own h.went)) i.spare n in let same = c.clear.ensures.capacity in let more = c.hunt-res.ensures.capacity in omega arith)
 
 pub returns-clause-ended : goal.returns-clause-ended
 returns-clause-ended c = let b = c.self.inside in let i = c.self.invariant in let m = c.put_back.ensures.seat.2 in let table = b.words.now.table_id in let v : View = b.seat.me.0 in let w : View = c.hunt-res.new.seat.me.0 in let n : View = c.reply.new.seat.me.0 in let list = c.hunt-res.new.took.items in let res = to_z w32 (of_z w32 c.hunt-res.result) in

@@ -15,4 +15,4 @@ park-requires-clause-parcel c = let b = c.self.inside in let i = c.self.invarian
     (b.parcel, refl, subst (λ (q : Req). IsParcel b.seat.me.0.seen q [] b.parcel) (sym i.runs.req_is) i.runs.parcel)
 
 pub returns-clause-steps : goal.returns-clause-steps
-returns-clause-steps c = took_one c.args.self.pass.view c.put_back.new.seat.me.0 c.park.new.seat.me.0 c.new.result.view _ _ (ap (λ (m : Seated). m.0) c.put_back.ensures.seat.2 ∙ ap (λ (r : Running). r.pass.view) c.self.view_is) c.park.ensures.step (ap (λ (p : Pass). p.view) c.new.ensures)
+returns-clause-steps c = took_one c.args.self.pass.view c.put_back.new.seat.me.0 c.park.new.seat.me.0 c.after.result.view _ _ (ap (λ (m : Seated). m.0) c.put_back.ensures.seat.2 ∙ ap (λ (r : Running). r.pass.view) c.self.view_is) c.park.ensures.step (ap (λ (p : Pass). p.view) c.after.ensures)

@@ -39,25 +39,25 @@ hold-requires-2 c = let b = c.self.inside in let i = c.self.invariant in let tab
     record { named = λ e is. on (λ (d : Entry). UsesBoth d.op (length m.layout.caps) c.in-Ok.holding.pipe c.args.target) (λ d k. subst (λ (z : Layout × ℕ). UsesBoth d.op (length z.0.caps) z.1 c.args.target) (λ l. (sym same l, sym h.1 l)) (c.requires.named d k)) e (subst (λ (q : Req). IsPlaced (events_of m.seen) q e) h.0 is) }
 
 pub returns-in-Err-clause-steps : goal.returns-in-Err-clause-steps
-returns-in-Err-clause-steps c = let v : View = c.args.self.pass.view in let r : Req = c.args.self.req in let m : View = c.in-Err.busy.pass.view in let w : View = c.park.result.view in let k = c.in-Err.ensures.busy.3 in let t = c.park.ensures.steps in
+returns-in-Err-clause-steps c = let v : View = c.args.self.pass.view in let r : Req = c.args.self.req in let m : View = c.in-Err.busy.pass.view in let w : View = c.give_up.result.view in let k = c.in-Err.ensures.busy.3 in let t = c.give_up.ensures.steps in
     inl (took_both v m w 1 1 (took_more v v m 0 (pipe_at c.args.source) k.0 (took_none v) k.1) t, missed_out v v m w c.args.source r 0 1 (took_none v) k t)
 
 -- the source was out
 pub returns-in-Err-clause-ran : goal.returns-in-Err-clause-ran
-returns-in-Err-clause-ran c = let b = c.self.inside in let i = c.self.invariant in let table = b.words.now.table_id in let v : View = c.args.self.pass.view in let r : Req = c.args.self.req in let busy = subst (λ (k : Running). k.pass.view.role ≡ Busy k.req) c.self.view_is i.runs.role in let m : View = c.in-Err.busy.pass.view in let w : View = c.park.result.view in let h = c.in-Err.ensures.busy in
-    let x = subst (λ (q : Req). Extends m (Did (Park q)) Idle w) h.0 c.park.ensures.parked.1 in let out = missed_out v v m w c.args.source r 0 1 (took_none v) h.3 c.park.ensures.steps in
-    (ends_by v m w r (quiet_look v v m r (quiet_still v r busy) h.2) w (Park r) Idle x refl (role_after m w (Did (Park r)) Idle x), c.park.ensures.took, λ e is. (let both = c.requires.named e is in (c.args.source, both.source_there, (uses_joined e.op c.args.source c.args.target both.joins).0, out)))
+returns-in-Err-clause-ran c = let b = c.self.inside in let i = c.self.invariant in let table = b.words.now.table_id in let v : View = c.args.self.pass.view in let r : Req = c.args.self.req in let busy = subst (λ (k : Running). k.pass.view.role ≡ Busy k.req) c.self.view_is i.runs.role in let m : View = c.in-Err.busy.pass.view in let w : View = c.give_up.result.view in let h = c.in-Err.ensures.busy in
+    let x = subst (λ (q : Req). Extends m (Did (Park q)) Idle w) h.0 c.give_up.ensures.parked.1 in let out = missed_out v v m w c.args.source r 0 1 (took_none v) h.3 c.give_up.ensures.steps in
+    (ends_by v m w r (quiet_look v v m r (quiet_still v r busy) h.2) w (Park r) Idle x refl (role_after m w (Did (Park r)) Idle x), c.give_up.ensures.took, λ e is. (let both = c.requires.named e is in (c.args.source, both.source_there, (uses_joined e.op c.args.source c.args.target both.joins).0, out)))
 
 pub returns-in-Err-hold-clause-steps : goal.returns-in-Err-hold-clause-steps
-returns-in-Err-hold-clause-steps c = let v : View = c.args.self.pass.view in let r : Req = c.args.self.req in let h = c.in-Ok.ensures.held in let m : View = c.in-Ok.holding.pass.view in let a = c.in-Err-hold.ensures.busy in let o : View = c.in-Err-hold.busy.pass.view in let w : View = c.park-in-Err-hold.result.view in let missed = subst (λ (q : Req). MissedPipe m a.2 c.args.target q) h.0 a.4 in let t = c.park-in-Err-hold.ensures.steps in let out = missed_out v m a.2 w c.args.target r 1 2 (took_more v v m 0 (pipe_at c.args.source) 0 (took_none v) h.3) missed (took_both a.2 o w 1 1 (took_more a.2 a.2 o 0 (pipe_at c.in-Ok.holding.pipe) a.6.0 (took_none a.2) a.6.1) t) in
+returns-in-Err-hold-clause-steps c = let v : View = c.args.self.pass.view in let r : Req = c.args.self.req in let h = c.in-Ok.ensures.held in let m : View = c.in-Ok.holding.pass.view in let a = c.in-Err-hold.ensures.busy in let o : View = c.in-Err-hold.busy.pass.view in let w : View = c.give_up-in-Err-hold.result.view in let missed = subst (λ (q : Req). MissedPipe m a.2 c.args.target q) h.0 a.4 in let t = c.give_up-in-Err-hold.ensures.steps in let out = missed_out v m a.2 w c.args.target r 1 2 (took_more v v m 0 (pipe_at c.args.source) 0 (took_none v) h.3) missed (took_both a.2 o w 1 1 (took_more a.2 a.2 o 0 (pipe_at c.in-Ok.holding.pipe) a.6.0 (took_none a.2) a.6.1) t) in
     inr (took_both v o w 3 1 (took_more v a.2 o 2 (pipe_at c.in-Ok.holding.pipe) a.6.0 (took_more v m a.2 1 (pipe_at c.args.target) missed.0 (took_more v v m 0 (pipe_at c.args.source) 0 (took_none v) h.3) missed.1) a.6.1) t, out)
 
 -- the target was out
 pub returns-in-Err-hold-clause-ran : goal.returns-in-Err-hold-clause-ran
-returns-in-Err-hold-clause-ran c = let b = c.self.inside in let i = c.self.invariant in let table = b.words.now.table_id in let v : View = c.args.self.pass.view in let r : Req = c.args.self.req in let busy = subst (λ (k : Running). k.pass.view.role ≡ Busy k.req) c.self.view_is i.runs.role in let h = c.in-Ok.ensures.held in let m : View = c.in-Ok.holding.pass.view in let a = c.in-Err-hold.ensures.busy in let o : View = c.in-Err-hold.busy.pass.view in let w : View = c.park-in-Err-hold.result.view in let missed = subst (λ (q : Req). MissedPipe m a.2 c.args.target q) h.0 a.4 in let t = c.park-in-Err-hold.ensures.steps in let out = missed_out v m a.2 w c.args.target r 1 2 (took_more v v m 0 (pipe_at c.args.source) 0 (took_none v) h.3) missed (took_both a.2 o w 1 1 (took_more a.2 a.2 o 0 (pipe_at c.in-Ok.holding.pipe) a.6.0 (took_none a.2) a.6.1) t) in let held = quiet_line v v m r (quiet_still v r busy) (Hold r c.args.source) (λ l. refl) h.4 in
-    let free = subst (λ (q : Req). Extends a.2 (Free q c.in-Ok.holding.pipe) (Busy q) o) h.0 a.5 in let x = subst (λ (q : Req). Extends o (Did (Park q)) Idle w) (a.0 ∙ h.0) c.park-in-Err-hold.ensures.parked.1 in
+returns-in-Err-hold-clause-ran c = let b = c.self.inside in let i = c.self.invariant in let table = b.words.now.table_id in let v : View = c.args.self.pass.view in let r : Req = c.args.self.req in let busy = subst (λ (k : Running). k.pass.view.role ≡ Busy k.req) c.self.view_is i.runs.role in let h = c.in-Ok.ensures.held in let m : View = c.in-Ok.holding.pass.view in let a = c.in-Err-hold.ensures.busy in let o : View = c.in-Err-hold.busy.pass.view in let w : View = c.give_up-in-Err-hold.result.view in let missed = subst (λ (q : Req). MissedPipe m a.2 c.args.target q) h.0 a.4 in let t = c.give_up-in-Err-hold.ensures.steps in let out = missed_out v m a.2 w c.args.target r 1 2 (took_more v v m 0 (pipe_at c.args.source) 0 (took_none v) h.3) missed (took_both a.2 o w 1 1 (took_more a.2 a.2 o 0 (pipe_at c.in-Ok.holding.pipe) a.6.0 (took_none a.2) a.6.1) t) in let held = quiet_line v v m r (quiet_still v r busy) (Hold r c.args.source) (λ l. refl) h.4 in
+    let free = subst (λ (q : Req). Extends a.2 (Free q c.in-Ok.holding.pipe) (Busy q) o) h.0 a.5 in let x = subst (λ (q : Req). Extends o (Did (Park q)) Idle w) (a.0 ∙ h.0) c.give_up-in-Err-hold.ensures.parked.1 in
     let bare = quiet_line v a.2 o r (quiet_look v m a.2 r held a.3) (Free r c.in-Ok.holding.pipe) (λ l. refl) free in
-    (ends_by v o w r bare w (Park r) Idle x refl (role_after o w (Did (Park r)) Idle x), c.park-in-Err-hold.ensures.took, λ e is. (let both = c.requires.named e is in (c.args.target, both.target_there, (uses_joined e.op c.args.source c.args.target both.joins).1, out)))
+    (ends_by v o w r bare w (Park r) Idle x refl (role_after o w (Did (Park r)) Idle x), c.give_up-in-Err-hold.ensures.took, λ e is. (let both = c.requires.named e is in (c.args.target, both.target_there, (uses_joined e.op c.args.source c.args.target both.joins).1, out)))
 
 pub returns-in-Ok-answer-clause-kept : goal.returns-in-Ok-answer-clause-kept
 returns-in-Ok-answer-clause-kept c = let b = c.self.inside in let i = c.self.invariant in let table = b.words.now.table_id in let v : View = c.args.self.pass.view in let r : Req = c.args.self.req in let busy = subst (λ (k : Running). k.pass.view.role ≡ Busy k.req) c.self.view_is i.runs.role in let h = c.in-Ok.ensures.held in let m : View = c.in-Ok.holding.pass.view in let j = c.in-Ok-hold.ensures.held in let n : View = c.in-Ok-hold.joining.pass.view in let second = subst (λ (q : Req). Extends m (Hold q c.args.target) (Busy q) n) h.0 j.5 in let mine = j.0 ∙ h.0 in let a = c.in-Ok-answer.ensures.replied in let k = c.in-Ok-hold.joining in
@@ -79,13 +79,13 @@ returns-in-Ok-answer-clause-ran c = let b = c.self.inside in let i = c.self.inva
     (bare_reply c.args.self c.in-Ok-answer.worker c.in-Ok-answer.cqe.res [] (ends_by v n a.1 r both w (Reply r c.in-Ok-answer.cqe.res []) (Leaving r) x (ap (λ (z : View). z.seen) a.5) (ap (λ (z : View). z.role) a.5)) c.in-Ok-answer.ensures.took, λ e is. user e (on e is))
 
 pub returns-in-Err-answer-clause-steps : goal.returns-in-Err-answer-clause-steps
-returns-in-Err-answer-clause-steps c = let v : View = c.args.self.pass.view in let h = c.in-Ok.ensures.held in let m : View = c.in-Ok.holding.pass.view in let j = c.in-Ok-hold.ensures.held in let n : View = c.in-Ok-hold.joining.pass.view in let a = c.in-Err-answer.ensures.waits in let mid : View = a.2 in let o : View = c.in-Err-answer.busy.pass.view in let w : View = c.park-in-Err-answer.result.view in
-    took_both v o w 4 1 (took_more v mid o 3 (pipe_at c.in-Ok-hold.joining.source) a.6.0 (took_more v n mid 2 (pipe_at c.in-Ok-hold.joining.target) a.5.0 (took_more v m n 1 (pipe_at c.args.target) 0 (took_more v v m 0 (pipe_at c.args.source) 0 (took_none v) h.3) j.4) a.5.1) a.6.1) c.park-in-Err-answer.ensures.steps
+returns-in-Err-answer-clause-steps c = let v : View = c.args.self.pass.view in let h = c.in-Ok.ensures.held in let m : View = c.in-Ok.holding.pass.view in let j = c.in-Ok-hold.ensures.held in let n : View = c.in-Ok-hold.joining.pass.view in let a = c.in-Err-answer.ensures.waits in let mid : View = a.2 in let o : View = c.in-Err-answer.busy.pass.view in let w : View = c.give_up-in-Err-answer.result.view in
+    took_both v o w 4 1 (took_more v mid o 3 (pipe_at c.in-Ok-hold.joining.source) a.6.0 (took_more v n mid 2 (pipe_at c.in-Ok-hold.joining.target) a.5.0 (took_more v m n 1 (pipe_at c.args.target) 0 (took_more v v m 0 (pipe_at c.args.source) 0 (took_none v) h.3) j.4) a.5.1) a.6.1) c.give_up-in-Err-answer.ensures.steps
 
 -- there was no answer while it had both pipes
 pub returns-in-Err-answer-clause-ran : goal.returns-in-Err-answer-clause-ran
-returns-in-Err-answer-clause-ran c = let b = c.self.inside in let i = c.self.invariant in let table = b.words.now.table_id in let v : View = c.args.self.pass.view in let r : Req = c.args.self.req in let busy = subst (λ (k : Running). k.pass.view.role ≡ Busy k.req) c.self.view_is i.runs.role in let h = c.in-Ok.ensures.held in let m : View = c.in-Ok.holding.pass.view in let j = c.in-Ok-hold.ensures.held in let n : View = c.in-Ok-hold.joining.pass.view in let second = subst (λ (q : Req). Extends m (Hold q c.args.target) (Busy q) n) h.0 j.5 in let mine = j.0 ∙ h.0 in let held = quiet_line v v m r (quiet_still v r busy) (Hold r c.args.source) (λ l. refl) h.4 in let both = quiet_line v m n r held (Hold r c.args.target) (λ l. refl) second in let a = c.in-Err-answer.ensures.waits in let mid : View = a.2 in let o : View = c.in-Err-answer.busy.pass.view in let w : View = c.park-in-Err-answer.result.view in let k = c.in-Ok-hold.joining in
-    let first = subst (λ (q : Req). Extends n (Free q k.target) (Busy q) mid) mine a.3 in let last = subst (λ (q : Req). Extends mid (Free q k.source) (Busy q) o) mine a.4 in let x = subst (λ (q : Req). Extends o (Did (Park q)) Idle w) (a.0 ∙ mine) c.park-in-Err-answer.ensures.parked.1 in
+returns-in-Err-answer-clause-ran c = let b = c.self.inside in let i = c.self.invariant in let table = b.words.now.table_id in let v : View = c.args.self.pass.view in let r : Req = c.args.self.req in let busy = subst (λ (k : Running). k.pass.view.role ≡ Busy k.req) c.self.view_is i.runs.role in let h = c.in-Ok.ensures.held in let m : View = c.in-Ok.holding.pass.view in let j = c.in-Ok-hold.ensures.held in let n : View = c.in-Ok-hold.joining.pass.view in let second = subst (λ (q : Req). Extends m (Hold q c.args.target) (Busy q) n) h.0 j.5 in let mine = j.0 ∙ h.0 in let held = quiet_line v v m r (quiet_still v r busy) (Hold r c.args.source) (λ l. refl) h.4 in let both = quiet_line v m n r held (Hold r c.args.target) (λ l. refl) second in let a = c.in-Err-answer.ensures.waits in let mid : View = a.2 in let o : View = c.in-Err-answer.busy.pass.view in let w : View = c.give_up-in-Err-answer.result.view in let k = c.in-Ok-hold.joining in
+    let first = subst (λ (q : Req). Extends n (Free q k.target) (Busy q) mid) mine a.3 in let last = subst (λ (q : Req). Extends mid (Free q k.source) (Busy q) o) mine a.4 in let x = subst (λ (q : Req). Extends o (Did (Park q)) Idle w) (a.0 ∙ mine) c.give_up-in-Err-answer.ensures.parked.1 in
     let bare = quiet_line v mid o r (quiet_line v n mid r both (Free r k.target) (λ l. refl) first) (Free r k.source) (λ l. refl) last in
     let on = subst (λ (k : Running). Extends k.pass.view (Hold k.req c.args.source) (Busy k.req) m → Extends m (Hold k.req c.args.target) (Busy k.req) n → (e : Entry) → IsPlaced (events_of k.pass.view.seen) k.req e → IsPlaced (events_of n.seen) k.req e) c.self.view_is
     (λ y z e is. placed_on table m n b.cell b.generation b.req b.parcel b.pipes (runs_on table b.seat.me.0 m b.cell b.generation b.req b.parcel b.pipes i.runs (Hold b.req c.args.source) y) (Hold b.req c.args.target) (Busy b.req) z e
@@ -101,4 +101,4 @@ returns-in-Err-answer-clause-ran c = let b = c.self.inside in let i = c.self.inv
       has = has_both v.layout.caps n.seen e.op r c.args.source c.args.target (c.requires.named e is).joins has.1 has.2;
       none = λ res d answers. none e (on e is) res d (subst (λ (L : Layout). OpAnswers L.caps (events_of n.seen) r e.op res d) (sym same) answers);
     } in
-    (ends_by v o w r bare w (Park r) Idle x refl (role_after o w (Did (Park r)) Idle x), c.park-in-Err-answer.ensures.took, λ e is. (let both = c.requires.named e is in (c.args.source, both.source_there, (uses_joined e.op c.args.source c.args.target both.joins).0, quiet e is)))
+    (ends_by v o w r bare w (Park r) Idle x refl (role_after o w (Did (Park r)) Idle x), c.give_up-in-Err-answer.ensures.took, λ e is. (let both = c.requires.named e is in (c.args.source, both.source_there, (uses_joined e.op c.args.source c.args.target both.joins).0, quiet e is)))

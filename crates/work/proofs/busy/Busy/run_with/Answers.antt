@@ -34,15 +34,15 @@ answer-requires c = let b = c.self.inside in let i = c.self.invariant in let m :
     record { named = λ e is. on (λ (d : Entry). UsesOne d.op (length m.layout.caps) c.in-Ok.holding.pipe) (λ d k. subst (λ (z : Layout × ℕ). UsesOne d.op (length z.0.caps) z.1) (λ j. (sym same j, sym h.1 j)) (c.requires.named d k)) e (subst (λ (q : Req). IsPlaced (events_of m.seen) q e) h.0 is) }
 
 pub returns-in-Err-clause-steps : goal.returns-in-Err-clause-steps
-returns-in-Err-clause-steps c = let b = c.self.inside in let i = c.self.invariant in let v : View = c.args.self.pass.view in let m : View = c.in-Err.busy.pass.view in let w : View = c.park.result.view in let k = c.in-Err.ensures.busy.3 in
-    took_both v m w 1 1 (took_more v v m 0 (pipe_at c.args.pipe) k.0 (took_none v) k.1) c.park.ensures.steps
+returns-in-Err-clause-steps c = let b = c.self.inside in let i = c.self.invariant in let v : View = c.args.self.pass.view in let m : View = c.in-Err.busy.pass.view in let w : View = c.give_up.result.view in let k = c.in-Err.ensures.busy.3 in
+    took_both v m w 1 1 (took_more v v m 0 (pipe_at c.args.pipe) k.0 (took_none v) k.1) c.give_up.ensures.steps
 
 -- the pipe was out
 pub returns-in-Err-clause-ran : goal.returns-in-Err-clause-ran
-returns-in-Err-clause-ran c = let b = c.self.inside in let i = c.self.invariant in let v : View = c.args.self.pass.view in let r : Req = c.args.self.req in let m : View = c.in-Err.busy.pass.view in let w : View = c.park.result.view in let busy = subst (λ (k : Running). k.pass.view.role ≡ Busy k.req) c.self.view_is i.runs.role in let h = c.in-Err.ensures.busy in let k = h.3 in let t = c.park.ensures.steps in
-    let x = subst (λ (q : Req). Extends m (Did (Park q)) Idle w) h.0 c.park.ensures.parked.1 in
+returns-in-Err-clause-ran c = let b = c.self.inside in let i = c.self.invariant in let v : View = c.args.self.pass.view in let r : Req = c.args.self.req in let m : View = c.in-Err.busy.pass.view in let w : View = c.give_up.result.view in let busy = subst (λ (k : Running). k.pass.view.role ≡ Busy k.req) c.self.view_is i.runs.role in let h = c.in-Err.ensures.busy in let k = h.3 in let t = c.give_up.ensures.steps in
+    let x = subst (λ (q : Req). Extends m (Did (Park q)) Idle w) h.0 c.give_up.ensures.parked.1 in
     let out = missed_out v v m w c.args.pipe r 0 1 (took_none v) k t in
-    (ends_by v m w r (quiet_look v v m r (quiet_still v r busy) h.2) w (Park r) Idle x refl (role_after m w (Did (Park r)) Idle x), c.park.ensures.took, λ e is. (let one = c.requires.named e is in (c.args.pipe, one.there, one.used, out)))
+    (ends_by v m w r (quiet_look v v m r (quiet_still v r busy) h.2) w (Park r) Idle x refl (role_after m w (Did (Park r)) Idle x), c.give_up.ensures.took, λ e is. (let one = c.requires.named e is in (c.args.pipe, one.there, one.used, out)))
 
 pub returns-in-Ok-answer-clause-kept : goal.returns-in-Ok-answer-clause-kept
 returns-in-Ok-answer-clause-kept c = let b = c.self.inside in let i = c.self.invariant in let v : View = c.args.self.pass.view in let r : Req = c.args.self.req in let busy = subst (λ (k : Running). k.pass.view.role ≡ Busy k.req) c.self.view_is i.runs.role in let h = c.in-Ok.ensures.held in let a = c.in-Ok-answer.ensures.replied in let p : Pass = c.in-Ok.holding.pass in
@@ -61,13 +61,13 @@ returns-in-Ok-answer-clause-ran c = let b = c.self.inside in let i = c.self.inva
     (bare_reply c.args.self c.in-Ok-answer.worker c.in-Ok-answer.cqe.res a.1 (ends_by v m a.2 r (quiet_line v v m r (quiet_still v r busy) (Hold r c.args.pipe) (λ j. refl) h.4) w (Reply r c.in-Ok-answer.cqe.res a.1) (Leaving r) x (ap (λ (z : View). z.seen) a.5) (ap (λ (z : View). z.role) a.5)) c.in-Ok-answer.ensures.took, λ e is. user e (on e is))
 
 pub returns-in-Err-answer-clause-steps : goal.returns-in-Err-answer-clause-steps
-returns-in-Err-answer-clause-steps c = let b = c.self.inside in let i = c.self.invariant in let v : View = c.args.self.pass.view in let m : View = c.in-Ok.holding.pass.view in let n : View = c.in-Err-answer.busy.pass.view in let w : View = c.park-in-Err-answer.result.view in let h = c.in-Ok.ensures.held in let s = c.in-Err-answer.ensures.waits.3 in
-    took_both v n w 2 1 (took_more v m n 1 (pipe_at c.in-Ok.holding.pipe) s.0 (took_more v v m 0 (pipe_at c.args.pipe) 0 (took_none v) h.3) s.1) c.park-in-Err-answer.ensures.steps
+returns-in-Err-answer-clause-steps c = let b = c.self.inside in let i = c.self.invariant in let v : View = c.args.self.pass.view in let m : View = c.in-Ok.holding.pass.view in let n : View = c.in-Err-answer.busy.pass.view in let w : View = c.give_up-in-Err-answer.result.view in let h = c.in-Ok.ensures.held in let s = c.in-Err-answer.ensures.waits.3 in
+    took_both v n w 2 1 (took_more v m n 1 (pipe_at c.in-Ok.holding.pipe) s.0 (took_more v v m 0 (pipe_at c.args.pipe) 0 (took_none v) h.3) s.1) c.give_up-in-Err-answer.ensures.steps
 
 -- there was no answer while it had the pipe
 pub returns-in-Err-answer-clause-ran : goal.returns-in-Err-answer-clause-ran
-returns-in-Err-answer-clause-ran c = let b = c.self.inside in let i = c.self.invariant in let v : View = c.args.self.pass.view in let r : Req = c.args.self.req in let m : View = c.in-Ok.holding.pass.view in let n : View = c.in-Err-answer.busy.pass.view in let w : View = c.park-in-Err-answer.result.view in let busy = subst (λ (k : Running). k.pass.view.role ≡ Busy k.req) c.self.view_is i.runs.role in let h = c.in-Ok.ensures.held in let a = c.in-Err-answer.ensures.waits in
-    let free = subst (λ (q : Req). Extends m (Free q c.in-Ok.holding.pipe) (Busy q) n) h.0 a.2 in let x = subst (λ (q : Req). Extends n (Did (Park q)) Idle w) (a.0 ∙ h.0) c.park-in-Err-answer.ensures.parked.1 in
+returns-in-Err-answer-clause-ran c = let b = c.self.inside in let i = c.self.invariant in let v : View = c.args.self.pass.view in let r : Req = c.args.self.req in let m : View = c.in-Ok.holding.pass.view in let n : View = c.in-Err-answer.busy.pass.view in let w : View = c.give_up-in-Err-answer.result.view in let busy = subst (λ (k : Running). k.pass.view.role ≡ Busy k.req) c.self.view_is i.runs.role in let h = c.in-Ok.ensures.held in let a = c.in-Err-answer.ensures.waits in
+    let free = subst (λ (q : Req). Extends m (Free q c.in-Ok.holding.pipe) (Busy q) n) h.0 a.2 in let x = subst (λ (q : Req). Extends n (Did (Park q)) Idle w) (a.0 ∙ h.0) c.give_up-in-Err-answer.ensures.parked.1 in
     let on = subst (λ (k : Running). Extends k.pass.view (Hold k.req c.args.pipe) (Busy k.req) m → (e : Entry) → IsPlaced (events_of k.pass.view.seen) k.req e → IsPlaced (events_of m.seen) k.req e) c.self.view_is (λ y. placed_on b.words.now.table_id b.seat.me.0 m b.cell b.generation b.req b.parcel b.pipes i.runs (Hold b.req c.args.pipe) (Busy b.req) y) h.4 in
     let none = subst (λ (q : Req). (e : Entry) → IsPlaced (events_of m.seen) q e → Unanswered m q e) h.0 c.in-Err-answer.ensures.unanswered in
     let first = quiet_line v v m r (quiet_still v r busy) (Hold r c.args.pipe) (λ j. refl) h.4 in let second = quiet_line v m n r first (Free r c.in-Ok.holding.pipe) (λ j. refl) free in
@@ -80,4 +80,4 @@ returns-in-Err-answer-clause-ran c = let b = c.self.inside in let i = c.self.inv
       has = has_one v.layout.caps m.seen e.op r c.args.pipe (c.requires.named e is) (held_now v m r c.args.pipe (Busy r) h.4);
       none = λ res d k. none e (on e is) res d (subst (λ (L : Layout). OpAnswers L.caps (events_of m.seen) r e.op res d) (sym same) k);
     } in
-    (ends_by v n w r second w (Park r) Idle x refl (role_after n w (Did (Park r)) Idle x), c.park-in-Err-answer.ensures.took, λ e is. (let one = c.requires.named e is in (c.args.pipe, one.there, one.used, quiet e is)))
+    (ends_by v n w r second w (Park r) Idle x refl (role_after n w (Did (Park r)) Idle x), c.give_up-in-Err-answer.ensures.took, λ e is. (let one = c.requires.named e is in (c.args.pipe, one.there, one.used, quiet e is)))

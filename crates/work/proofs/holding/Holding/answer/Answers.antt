@@ -93,7 +93,7 @@ new-requires-clause-seat c = let b = c.self.inside in let i = c.self.invariant i
 
 pub new-requires-clause-room : goal.new-requires-clause-room
 new-requires-clause-room c = let b = c.self.inside in let i = c.self.invariant in let m = in_both_hands b.seat.me c.exchange.new.seat.me c.turn.new.self.me c.put_back.new.seat.me b.pipe (slot_at b.cell) _ _ i.out c.exchange.ensures.3 c.turn.ensures.2 c.put_back.ensures.seat.2 in
-    room_on b.words.now.table_id b.grid.now b.seat.me.0 c.reply.new.seat.me.0 b.took.items (vec_capacity b.took) i.grid (c.reply.ensures.ended.2 ∙ ap (λ (z : Seated). z.0.layout) m) i.spare
+    room_on b.words.now.table_id b.grid.now b.seat.me.0 c.reply.new.seat.me.0 (vec_capacity b.took) i.grid (c.reply.ensures.ended.2 ∙ ap (λ (z : Seated). z.0.layout) m) i.spare
 
 pub returns-clause-replied : goal.returns-clause-replied
 returns-clause-replied c = let b = c.self.inside in let i = c.self.invariant in let one = one_handed b.words.now.table_id b.seat.me.0 b.seat.me.0 b.cell b.generation b.req b.parcel b.pipes i.runs b.pipe (subst Named (sym c.self.view_is) c.requires.named) in let k = c.in-Some.ensures b.seat.me.0.layout.caps (events_of b.seat.me.0.seen) b.req b.pipe (subst (λ (o : Op). UsesOne o (length b.seat.me.0.layout.caps) b.pipe) (sym c.op.ensures) one) i.pipe_is (sound (setup_of b.seat.me.0.layout) (events_of b.seat.me.0.seen) b.pipe i.runs.legal) in

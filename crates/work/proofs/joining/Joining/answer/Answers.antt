@@ -108,7 +108,7 @@ new-requires-clause-seat c = let b = c.self.inside in let i = c.self.invariant i
 
 pub new-requires-clause-room : goal.new-requires-clause-room
 new-requires-clause-room c = let b = c.self.inside in let i = c.self.invariant in let v : View = b.seat.me.0 in let table = b.words.now.table_id in let m = in_three_hands b.seat.me c.exchange.new.seat.me c.turn.new.self.me c.exchange-2.new.seat.me c.turn-2.new.self.me c.put_back.new.seat.me b.target b.source (slot_at b.cell) _ _ _ i.out c.exchange.ensures.3 c.turn.ensures.2 c.exchange-2.ensures.3 c.turn-2.ensures.2 c.put_back.ensures.seat.2 in
-    room_on b.words.now.table_id b.grid.now b.seat.me.0 c.reply_both.new.seat.me.0 b.took.items (vec_capacity b.took) i.grid (c.reply_both.ensures.ended.2 ∙ ap (λ (z : Seated). z.0.layout) m) i.spare
+    room_on b.words.now.table_id b.grid.now b.seat.me.0 c.reply_both.new.seat.me.0 (vec_capacity b.took) i.grid (c.reply_both.ensures.ended.2 ∙ ap (λ (z : Seated). z.0.layout) m) i.spare
 
 pub returns-clause-replied : goal.returns-clause-replied
 returns-clause-replied c = let b = c.self.inside in let i = c.self.invariant in let v : View = b.seat.me.0 in let table = b.words.now.table_id in let ends = subst (λ (z : Op × ℕ). UsesBoth z.0 z.1 b.source b.target) (λ j. (sym c.op.ensures j, sym i.runs.pipes_are.0 j)) i.named in let k = c.in-Some.ensures v.layout.caps (events_of v.seen) b.req b.source b.target ends i.source_is (sound (setup_of v.layout) (events_of v.seen) b.source i.runs.legal) i.target_is (sound (setup_of v.layout) (events_of v.seen) b.target i.runs.legal) in let m = in_three_hands b.seat.me c.exchange.new.seat.me c.turn.new.self.me c.exchange-2.new.seat.me c.turn-2.new.self.me c.put_back.new.seat.me b.target b.source (slot_at b.cell) _ _ _ i.out c.exchange.ensures.3 c.turn.ensures.2 c.exchange-2.ensures.3 c.turn-2.ensures.2 c.put_back.ensures.seat.2 in
