@@ -1,5 +1,5 @@
 -- What contracts see of a bell's passes.
-use Rattle.std.specs.Prelude.{◌≡◌, ℕ, zero, suc, ◌+◌, ◌++◌, ◌<◌, ◌≤◌, Bool, true, false, List, [], ◌∷◌, length, replicate, slice_index, slice_set}
+use Rattle.std.specs.Prelude.{◌≡◌, ℕ, zero, suc, ◌+◌, ◌++◌, ◌<◌, ◌≤◌, Bool, true, false, cond, List, [], ◌∷◌, length, replicate, slice_index, slice_set}
 use mathlib.Core.Option.{some}
 use lib.ListN.{get_elem?}
 use Rattle.atomic_table.specs.Seated.{TableId}
@@ -119,3 +119,7 @@ HasGivenUp v w = (h : List Change) × IsSince (length v.tails) h v.wakes × (w �
 -- and once it has found the bit clear
 abbrev pub HasWoken : View → View → Type 0
 HasWoken v w = (h : List Change) × IsSince (length v.tails) h v.wakes × (stands h ≡ false) × (w ≡ waking h v)
+
+-- how many wakes are given: one where it is owed
+abbrev pub wakes_for : Bool → ℕ
+wakes_for owed = cond owed 1 0

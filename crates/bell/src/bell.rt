@@ -1,6 +1,6 @@
 //! The bell and its calls.
-ghost use Rattle.std.specs.Prelude.{◌≡◌, ◌≢◌, ◌↔◌, ◌⊎◌, ◌≤◌, ◌<◌, ◌∷◌, true, false, IfOk, IsErrOf};
-ghost use Rattle.bell.specs.BellPasses.{IsRingerOf, IsSleeperOf, HasAsked, HasLoaded, HasLooked, HasTakenBack, HaveRisen, IsNew, WasFound};
+ghost use Rattle.std.specs.Prelude.{◌≡◌, ◌≢◌, ◌↔◌, ◌⊎◌, ◌+◌, ◌≤◌, ◌<◌, ◌∷◌, true, false, IfOk, IsErrOf};
+ghost use Rattle.bell.specs.BellPasses.{IsRingerOf, IsSleeperOf, HasAsked, HasLoaded, HasLooked, HasTakenBack, HaveRisen, IsNew, WasFound, wakes_for};
 
 use crate::error::BellError;
 use crate::law::Law;
@@ -8,10 +8,12 @@ use crate::plays::CutRinger;
 use crate::ringer::{MustWake, Ringer};
 use crate::sleeper::{Nap, Sleeper};
 use crate::view::View;
+use crate::wakes::Wakes;
 use atomic_table::Table;
 use std::alloc::Global;
-use std::marker::Model;
+use std::marker::{Brand, Model};
 use std::sync::Wait;
+use std::sync::ledger::{Blank, Ledger};
 
 /// The most rings of a bell.
 pub const MAX_RINGS: u16 = 16;
@@ -30,6 +32,16 @@ impl Model for Bell {
     ghost view = { λ b. record { table = b.table.shared.table_id; rings = b.table.shared.key } };
 
     ghost invariant = { λ b. IsBell b.table.shared.table_id b.table.shared.key };
+}
+
+/// `ring_counted`, uncounted.
+fn ring_by<L: Ledger>(bell: &Bell, wake: MustWake, blank: Blank)
+    requires name { blank.name ≡ L.name }
+    requires parts { blank.parts ≡ L.parts }
+    requires some { 0 < blank.parts }
+{
+    let mut wakes = Wakes::<L>::new(blank);
+    bell.ring_counted(wake, &mut wakes);
 }
 
 impl Bell {
@@ -66,9 +78,16 @@ impl Bell {
 
     /// Wakes the sleeper, where that is owed.
     pub fn ring(&self, wake: MustWake) {
+        ring_by::<Brand>(self, wake, Blank::new(1));
+    }
+
+    /// `ring`, and a wake that is given is counted: one where it is owed, else none.
+    pub fn ring_counted<L: Ledger>(&self, wake: MustWake, wakes: &mut Wakes<L>)
+        ensures { wakes.new ≡ wakes.old + wakes_for wake.owed }
+    {
         let MustWake { owed } = wake;
         if owed {
-            self.table.shared.wake_one(0);
+            wakes.give(&self.table.shared);
         }
     }
 

@@ -9,6 +9,7 @@ mod plays;
 pub mod ringer;
 pub mod sleeper;
 pub mod view;
+pub mod wakes;
 
 pub use bell::Bell;
 pub use error::BellError;
@@ -16,3 +17,4 @@ pub use law::Law;
 pub use ringer::{MustWake, Ringer};
 pub use sleeper::{Nap, Sleeper};
 pub use view::{Change, Load, Role, View};
+pub use wakes::Wakes;

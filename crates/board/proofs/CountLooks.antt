@@ -1,5 +1,5 @@
 -- Where the steps of a count are made: at the timer's own claim word, or at those of later requests.
-use Rattle.std.proofs.Common.{◌≡◌, ◌≢◌, ⊎_elim, ℕ, suc, ◌+◌, ◌*◌, ◌<◌, ◌≤◌, ◌==◌, nat_lt, ltb-true, ltb-false, mul-le-mul_right, suc-mul, Bool, true, false, cond, List, [], ◌∷◌, ◌++◌, sym, refl, ap, ◌∙◌, subst, arith, eq-eqb, eqb-true}
+use Rattle.std.proofs.Common.{◌≡◌, ⊎_elim, ℕ, suc, ◌+◌, ◌*◌, ◌<◌, ◌≤◌, ◌==◌, nat_lt, ltb-true, ltb-false, mul-le-mul_right, suc-mul, Bool, true, false, cond, List, [], ◌∷◌, ◌++◌, sym, refl, ap, ◌∙◌, subst, arith, eq-eqb, eqb-true}
 use Rattle.std.proofs.lemmas.List.{append_assoc}
 use Rattle.history.specs.declared.req.Req.{Req}
 use Rattle.history.proofs.Requests.{bool_cases}
@@ -8,7 +8,6 @@ use Rattle.steps.specs.declared.view.View.{View}
 use Rattle.steps.specs.Cells.{IsCell, cells_in, place_of, request_at, ring_of, claim_at}
 use Rattle.steps.specs.Rule.{IsStep}
 use Rattle.steps.proofs.CellNumbers.{one_cell}
-use Rattle.work.specs.Searches.{steps_at}
 use Rattle.work.proofs.CancelSearch.{steps_both}
 use Rattle.board.specs.PollerRows.{Spends, StepsTo, steps_elsewhere}
 

@@ -9,7 +9,7 @@ use Rattle.entry.specs.Entry.{Entry}
 use Rattle.history.specs.declared.req.Req.{Req}
 use Rattle.history.specs.declared.event.Event.{Event}
 use Rattle.history.specs.declared.event.Event.TheVariants.{Arm}
-use Rattle.history.specs.History.{phase, waits, armed, fired, clock_of, submits, IsReplied}
+use Rattle.history.specs.History.{phase, armed, fired, clock_of, submits, IsReplied}
 use Rattle.history.specs.Chains.{IsLinkTimeout, IsPlaced, Severed, is_timer, is_timeout, is_link_timeout}
 use Rattle.history.specs.Legal.{Setup, Legal, ticks_of, count_of, IsOf as IsOfKind}
 use Rattle.history.proofs.Requests.{same_itself}

@@ -3,7 +3,7 @@ use Rattle.gates.specs.EntryRows.{waiting}
 use Rattle.history.specs.History.{phase, submits, IsReplied}
 use Rattle.steps.specs.Journal.{events_of}
 use Rattle.work.specs.Passes.{pass_of}
-use Rattle.board.specs.declared.poller.Arming.TheVariants.{NotHeld, Shut}
+use Rattle.board.specs.declared.poller.Arming.TheVariants.{NotHeld}
 use Rattle.board.specs.declared.poller.Released.TheVariants.{NotHeld as Unreleased}
 use Rattle.board.specs.PollerRows.{Paid}
 use Rattle.board.specs.PollerTimers.{looks_at}
