@@ -19,6 +19,8 @@ pub mod serving;
 mod shared;
 mod shelf;
 #[cfg(test)]
+mod sleeping_tests;
+#[cfg(test)]
 mod stage;
 pub mod started;
 pub mod startup;
