@@ -46,7 +46,7 @@ returns-in-NotTimer-clause-tried c =
     inr (
       c.put.ensures,
       once_now p q (λ h. IsHeldBack h r) (x.later, x.seen_is) (⊎_elim
-          (λ (is : c.arm.result ≡ NotTimer). absurd (timer_stays _ p q _ x r c.requires.timer (c.arm.ensures.not_timer is).1))
-          (λ (is : c.arm.result ≡ Shut). ⊎_elim (λ severed. inr (inr severed)) (λ shut. inr (inl shut.0.0)) (c.arm.ensures.shut is).0)
+          (λ (is : c.arm.result ≡ NotTimer). absurd (timer_stays _ p q _ x r c.requires.timer (c.arm.ensures.not_timer is).0.1))
+          (λ (is : c.arm.result ≡ Shut). ⊎_elim (λ severed. inr (inr severed)) (λ shut. inr (inl shut.0.0)) (c.arm.ensures.shut is).barred)
           c.in-NotTimer.is),
     )

@@ -15,7 +15,7 @@ returns-in-Settled c = record {
 pub returns-in-TargetOpen : goal.returns-in-TargetOpen
 returns-in-TargetOpen c = record {
   rang = rang_looked _ _ _ _ c.in-TargetOpen.ensures.goes c.settle.ensures.alone (refl, refl, refl) (λ m. m);
-  pending = λ e. let t = c.in-TargetOpen.ensures.target_open refl in inr (t.0, t.1, t.2);
+  pending = λ e. let t = (c.in-TargetOpen.ensures.target_open refl).0 in inr (t.0, t.1, t.2);
   over = λ e. absurd (true≢false e);
 }
 
