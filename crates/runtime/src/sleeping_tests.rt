@@ -1,5 +1,5 @@
 //! A sleeper of the bell: what its doze and a ringer find, and on a thread of its own.
-ghost use Rattle.std.specs.Prelude.{◌≡◌, ◌≤◌, ◌×◌, All, IfOk};
+ghost use Rattle.std.specs.Prelude.{◌≡◌, ◌≤◌, All, IfOk};
 ghost use Rattle.std.specs.Arc.{arc_value};
 ghost use Rattle.bell.specs.BellPasses.{IsRingerOf, IsSleeperOf};
 
