@@ -19,8 +19,6 @@ pub mod serving;
 mod shared;
 mod shelf;
 #[cfg(test)]
-mod sleeping_tests;
-#[cfg(test)]
 mod stage;
 pub mod started;
 pub mod startup;
