@@ -8,6 +8,8 @@ pub mod law;
 mod plays;
 pub mod ringer;
 pub mod sleeper;
+#[cfg(test)]
+mod tests;
 pub mod view;
 pub mod wakes;
 

@@ -74,12 +74,8 @@ prints_as : {E : Type 0} (job other : Job) (s t : Option (List ℕ)) (r : Result
 prints_as job other s t r is prints = subst (λ (j : Job). IfOk r (λ text. Prints j s t text.items)) (sym is) prints
 
 pub prints_run : {E : Type 0} (job : Job) (workers turns : ℕ) (s t : Option (List ℕ)) (c : Script) (r : Result (Vec ℕ) E) → job ≡ Run workers turns
-    → Reads s c → IfOk r (λ text. IsRunText c text.items) → IfOk r (λ text. Prints job s t text.items)
+    → Reads s c → IfOk r (λ text. IsRunText c workers text.items) → IfOk r (λ text. Prints job s t text.items)
 prints_run job workers turns s t c r is reads prints = prints_as job (Run workers turns) s t r is (prints_for (Run workers turns) s t c r reads prints)
-
-pub prints_outcomes : {E : Type 0} (job : Job) (stats : Bool) (s t : Option (List ℕ)) (c : Script) (r : Result (Vec ℕ) E) → job ≡ Outcomes stats
-    → Reads s c → IfOk r (λ text. IsOutcomesText c text.items) → IfOk r (λ text. Prints job s t text.items)
-prints_outcomes job stats s t c r is reads prints = prints_as job (Outcomes stats) s t r is (prints_for (Outcomes stats) s t c r reads prints)
 
 history_for : {E : Type 0} (t : Option (List ℕ)) (c : Script) (bytes : List ℕ) (r : Result (Vec ℕ) E) → AreAll t bytes
     → IfOk r (λ text. IsHistoryOfText c bytes text.items) → IfOk r (λ text. IsHistoryFor c t text.items)

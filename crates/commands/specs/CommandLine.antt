@@ -1,7 +1,8 @@
 -- The command line: which words each command takes, and what they ask for.
-use Rattle.std.specs.Prelude.{◌≡◌, ◌≤◌, ℕ, pos, true, false, List, [], ◌∷◌, Some, codes, decimal, option_map}
+use Rattle.std.specs.Prelude.{◌≡◌, ◌≤◌, ℕ, pos, true, false, List, [], ◌∷◌, Option, Some, None, codes, decimal, option_map}
 use Rattle.std.specs.Borrow.{Bor}
-use Rattle.clap.specs.Words.{Row, Rule, Text, first_of, new_rule, one_of, rule_of}
+use Rattle.clap.specs.Words.{App, Row, Rule, Text, app_of, fields_of, first_of, new_app, new_rule, one_of, rule_of, subcommand_of, with_rule, with_subcommand}
+use Rattle.clap.specs.declared.builder.command.Command.{Command}
 use Rattle.clap.specs.declared.builder.ArgAction.TheVariants.{Set, SetTrue}
 use Rattle.clap.specs.declared.builder.arg.Arg.{Arg}
 use Rattle.clap.specs.declared.builder.value_parser.ValueParser.TheVariants as parser
@@ -44,6 +45,30 @@ table_rule = record (new_rule (codes "TABLE")) { required = true; action = Some 
 abbrev pub IsRead : Arg → Rule → Type 0
 IsRead a rule = (rule_of a ≡ rule) × (a.global ≡ false)
 
+-- ---- the commands
+
+-- the command reads its words so, and has no argument that other commands read too
+abbrev pub IsApp : Command → App → Type 0
+IsApp c app = (app_of c ≡ app) × ((fields_of c).has_globals ≡ false)
+
+abbrev pub run_app : App
+run_app = with_rule (with_rule (with_rule (new_app (codes "run")) workers_rule) turns_rule) file_rule
+
+abbrev pub outcomes_app : App
+outcomes_app = with_rule (with_rule (new_app (codes "outcomes")) stats_rule) file_rule
+
+abbrev pub history_app : App
+history_app = with_rule (with_rule (new_app (codes "history")) file_rule) table_rule
+
+-- the program's name, without its commands: one of them has to be given
+abbrev pub bare_app : App
+bare_app = record (new_app (codes "ringrun")) {
+  top = record ((new_app (codes "ringrun")).top) { has_version = true; subcommand_required = true; arg_required_else_help = true };
+}
+
+abbrev pub ringrun : App
+ringrun = with_subcommand (with_subcommand (with_subcommand bare_app run_app.top) outcomes_app.top) history_app.top
+
 -- ---- what they ask for
 
 -- the number that is written for a word, or where none is the usual one
@@ -69,3 +94,11 @@ pub record Asks (name : Text) (rows : List Row) (invocation : Invocation) : Type
   pub job : IsJobFor name rows invocation.job
   pub file : (text : Text) → first_of (codes "FILE") rows ≡ Some text → invocation.file.now ≡ text
   pub table : option_map (λ (t : Bor Text). t.now) invocation.table ≡ first_of (codes "TABLE") rows
+
+-- the words of the command line, the program's name first, name a command, whose words ask for this
+abbrev pub AsksFor : Option (Text × List Row) → Invocation → Type 0
+AsksFor None invocation = ⊥
+AsksFor (Some (name, rows)) invocation = Asks name rows invocation
+
+abbrev pub IsAsked : List Text → Invocation → Type 0
+IsAsked words invocation = AsksFor (subcommand_of ringrun words) invocation

@@ -7,9 +7,11 @@ use Rattle.script_text.specs.HistoryText.{history_text}
 use Rattle.script_text.specs.Scripts.{SaysScript}
 use Rattle.script_text.specs.TableText.{IsTableText, table_text}
 use Rattle.explore.specs.Courses.{Among}
-use Rattle.script.specs.Rows.{AreInOrder}
+use Rattle.script.specs.declared.table.Table.{Table}
+use Rattle.script.specs.Rows.{AreInOrder, rows_of}
 use Rattle.script.specs.Tables.{IsTableOf}
 use Rattle.explore.specs.EventLogs.{IsHistoryOf}
+use Rattle.script_run.specs.RunRows.{HasRun}
 use Rattle.commands.specs.declared.job.Job.{Job}
 use Rattle.commands.specs.declared.job.Job.TheVariants.{Run, Outcomes, History}
 
@@ -32,11 +34,12 @@ tables_text c (rows ∷ others) = (table_text c.entries.items rows ++ codes "\n"
 abbrev pub counted_text : Script → List (List (ℤ × List ℕ)) → List ℕ
 counted_text c tables = tables_text c tables ++ (codes "tables " ++ (decimal (length tables) ++ codes "\n"))
 
--- `run`: one of the script's tables
-pub record IsRunText (c : Script) (text : List ℕ) : Type 0 where
-  pub rows : List (ℤ × List ℕ)
-  pub is_table : IsTableOf c rows
-  pub text_is : text ≡ table_text c.entries.items rows
+-- `run`: one of the script's tables, of a run with this number of workers
+pub record IsRunText (c : Script) (workers : ℕ) (text : List ℕ) : Type 0 where
+  pub table : Table
+  pub run : HasRun c workers table.lines.items
+  pub is_table : IsTableOf c (rows_of table)
+  pub text_is : text ≡ table_text c.entries.items (rows_of table)
 
 -- `outcomes`: just the tables of the script, each once and in order, and how many there are
 pub record IsOutcomesText (c : Script) (text : List ℕ) : Type 0 where
@@ -69,7 +72,7 @@ pub record IsHistoryFor (c : Script) (known : Option (List ℕ)) (text : List �
 
 -- what a job prints of a script, and of the table that a reader had
 abbrev pub PrintsOf : Job → Script → Option (List ℕ) → List ℕ → Type 0
-PrintsOf (Run workers turns) c table text = IsRunText c text
+PrintsOf (Run workers turns) c table text = IsRunText c workers text
 PrintsOf (Outcomes stats) c table text = IsOutcomesText c text
 PrintsOf History c table text = IsHistoryFor c table text
 

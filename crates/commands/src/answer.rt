@@ -149,7 +149,7 @@ fn run_text<R: Threads + Wait + Copy + Send + Sync + 'static>(
     workers: u32,
     turns: u32,
 ) -> Result<Vec<u8>, Problem>
-    ensures prints { IfOk result (λ text. IsRunText script.now text.items) }
+    ensures prints { IfOk result (λ text. IsRunText script.now workers text.items) }
     ensures explains { IfErr result (IsOfRun script.now workers turns) }
 {
     let table = run_script(rt, alloc, script, workers, turns, Open)?;

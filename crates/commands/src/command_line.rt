@@ -1,12 +1,15 @@
 //! The command line, as clap reads it.
-ghost use Rattle.commands.specs.CommandLine.{file_rule, stats_rule, table_rule, turns_rule, workers_rule, IsRead};
+ghost use Rattle.std.specs.Prelude.{IfOk};
+ghost use Rattle.commands.specs.CommandLine.{file_rule, history_app, outcomes_app, ringrun, run_app, stats_rule, table_rule, turns_rule, workers_rule, IsApp, IsRead};
 
 use clap::{Arg, ArgAction, Command, value_parser};
 use limits::WORKERS;
 use std::alloc::{AllocError, Global};
 
 /// The program's commands.
-pub fn command<'a>(alloc: Global) -> Result<Command<'a>, AllocError> {
+pub fn command<'a>(alloc: Global) -> Result<Command<'a>, AllocError>
+    ensures { IfOk result (λ c. IsApp c ringrun) }
+{
     Command::new(alloc, "ringrun")
         .version("0.1.0")
         .about(
@@ -21,7 +24,9 @@ pub fn command<'a>(alloc: Global) -> Result<Command<'a>, AllocError> {
 }
 
 /// The command `run`.
-fn run<'a>(alloc: Global) -> Result<Command<'a>, AllocError> {
+fn run<'a>(alloc: Global) -> Result<Command<'a>, AllocError>
+    ensures { IfOk result (λ c. IsApp c run_app) }
+{
     Command::new(alloc, "run")
         .about("Carries a script out by threads, and prints its table of completions.")
         .long_about(
@@ -38,7 +43,9 @@ fn run<'a>(alloc: Global) -> Result<Command<'a>, AllocError> {
 }
 
 /// The command `outcomes`.
-fn outcomes<'a>(alloc: Global) -> Result<Command<'a>, AllocError> {
+fn outcomes<'a>(alloc: Global) -> Result<Command<'a>, AllocError>
+    ensures { IfOk result (λ c. IsApp c outcomes_app) }
+{
     Command::new(alloc, "outcomes")
         .about("Lists every table of completions that a script can have, whatever the schedule.")
         .after_help(
@@ -49,7 +56,9 @@ fn outcomes<'a>(alloc: Global) -> Result<Command<'a>, AllocError> {
 }
 
 /// The command `history`.
-fn history<'a>(alloc: Global) -> Result<Command<'a>, AllocError> {
+fn history<'a>(alloc: Global) -> Result<Command<'a>, AllocError>
+    ensures { IfOk result (λ c. IsApp c history_app) }
+{
     Command::new(alloc, "history")
         .about(
             "Prints one legal history of a script that ends in a given table, or that there is none.",

@@ -1,7 +1,7 @@
 //! What the words of the command line ask for.
-ghost use Rattle.std.specs.Prelude.{◌≤◌, IfOk};
-ghost use Rattle.clap.specs.Words.{found_of, rows_of};
-ghost use Rattle.commands.specs.CommandLine.{Asks, IsJobFor, IsNumber};
+ghost use Rattle.std.specs.Prelude.{◌≤◌, IfOk, map};
+ghost use Rattle.clap.specs.Words.{fault_of, found_of, rows_of, FailsBy};
+ghost use Rattle.commands.specs.CommandLine.{ringrun, Asks, IsAsked, IsJobFor, IsNumber};
 ghost use Rattle.commands.specs.Jobs.{IsWithin};
 
 use crate::command_line::command;
@@ -32,12 +32,14 @@ pub struct Invocation<'a> {
 /// or what is wrong with the words.
 pub fn invocation_of<'a>(alloc: Global, words: &'a [&'a str]) -> Result<Invocation<'a>, Error>
     ensures within { IfOk result (λ invocation. IsWithin invocation.job) }
+    ensures asks { IfOk result (IsAsked (map (λ s. s.now) words.entry.now)) }
+    ensures kinds { FailsBy (fault_of ringrun (map (λ s. s.now) words.entry.now)) result }
 {
     let matches = command(alloc)?.try_get_matches_from(words)?;
-    match matches.subcommand() {
-        Some((name, given)) => Ok(asked(name, given)),
-        None => Ok(asked("run", &matches)),
-    }
+    let Some((name, given)) = matches.subcommand() else {
+        unreachable!()
+    };
+    Ok(asked(name, given))
 }
 
 /// The invocation that the words of the command of this name ask for.

@@ -5,7 +5,11 @@ use Rattle.history.specs.declared.req.Req.{Req}
 use Rattle.board.specs.declared.completion.Completion.{Completion}
 use Rattle.script.specs.declared.named.Named.{Named}
 use Rattle.script.specs.declared.script.Script.{Script}
+use Rattle.work.specs.Board.{Facts}
+use Rattle.runtime.specs.Clients.{ClientFacts}
+use Rattle.script.specs.Homes.{AreHomes}
 use Rattle.script.specs.Rows.{data_count}
+use Rattle.script_run.specs.Played.{IsPlayed, IsStartedFor}
 
 -- the request's completion, among those that were taken and those of the end
 abbrev pub IsFound : Req → List Completion → List (Completion × Bool) → Completion → Type 0
@@ -30,3 +34,15 @@ pub record IsRow (c : Script) (homes : List (Option Req)) (taken : List Completi
 -- each entry has its row
 abbrev pub AreRows : Script → List (Option Req) → List Completion → List (Completion × Bool) → List (ℤ × Vec ℕ) → Type 0
 AreRows c homes taken left rows = (place : ℕ) (row : ℤ × Vec ℕ) → slice_get rows place ≡ Some row → IsRow c homes taken left place row
+
+-- a run of the script with this number of workers has these rows: all its lines were carried out on a board that was started for them, and each row is that of a completion which was taken or stands in the report
+pub record HasRun (c : Script) (workers : ℕ) (rows : List (ℤ × Vec ℕ)) : Type 0 where
+  pub board : Facts
+  pub clients : List ClientFacts
+  pub started : IsStartedFor c workers board clients
+  pub taken : List Completion
+  pub left : List (Completion × Bool)
+  pub played : IsPlayed c board taken left
+  pub homes : List (Option Req)
+  pub are_homes : AreHomes c homes
+  pub rows_are : AreRows c homes taken left rows

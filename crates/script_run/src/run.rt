@@ -12,6 +12,7 @@ ghost use Rattle.script_run.specs.Hands.{AreNew, AllWent, client_of, taken_by};
 ghost use Rattle.script_run.specs.ClockLines.{AreClockLines};
 ghost use Rattle.script_run.specs.ClockTries.{IsAtLine};
 ghost use Rattle.script_run.specs.Played.{AreStarting, IsPlayed, IsStartedFor};
+ghost use Rattle.script_run.specs.RunRows.{HasRun};
 ghost use Rattle.script_run.specs.Stuck.{HasLabel, IsStuck, IsStuckOn};
 ghost use Rattle.script_run.specs.Faults.{IfStuckOn, IsUnstuck};
 ghost use Rattle.script_run.specs.Tries.{IsLowest};
@@ -55,6 +56,7 @@ pub fn run_script<
     turnstile: G,
 ) -> Result<Table, RunFault>
     ensures table { IfOk result (λ table. IsTableOf script.now (rows_of table)) }
+    ensures run { IfOk result (λ table. HasRun script.now workers table.lines.items) }
     ensures stuck { IfErr result (IfStuckOn (IsStuck script.now workers turns)) }
 {
     let homes = homes_of(alloc, script)?;
@@ -126,6 +128,7 @@ fn run_lines<R: Threads + Wait + Sync>(
     requires clients { (room.clients.items ≡ []) × (length clients.items ≤ vec_capacity room.clients) }
     requires lines { AreClockLines stage.now.script.now stage.now.script.now.clock.items lines.now }
     ensures table { IfOk result (λ table. IsTableOf stage.now.script.now (rows_of table)) }
+    ensures run { IfOk result (λ table. HasRun stage.now.script.now workers table.lines.items) }
     ensures stuck { IfErr result (IfStuckOn (IsStuck stage.now.script.now workers stage.now.turns)) }
 {
     let _ = workers;

@@ -1,13 +1,15 @@
-use Rattle.std.proofs.Common.{◌≡◌, List, Bool, length, sym, subst}
+use Rattle.std.proofs.Common.{◌≡◌, List, Bool, length}
+use Rattle.work.specs.Board.{Facts}
 use Rattle.board.specs.declared.completion.Completion.{Completion}
+use Rattle.script.specs.declared.script.Script.{Script}
 use Rattle.script.specs.declared.table.Table.{Table}
 use Rattle.script.specs.Rows.{rows_of}
 use Rattle.script.specs.Tables.{IsTableOf}
 use Rattle.script_run.specs.Played.{IsPlayed}
-use Rattle.script_run.specs.RunRows.{AreRows}
+use Rattle.script_run.specs.RunRows.{AreRows, HasRun}
 use Rattle.script_run.proofs.RunSteps.{starts, same_setup, if_ok}
 use Rattle.script_run.proofs.WholeTables.{is_table}
-use Rattle.std.proofs.lemmas.Result.{err_from_is_err_and, IfErr-weaker}
+use Rattle.std.proofs.lemmas.Result.{err_from_is_err_and, IfErr-weaker, IfOk-weaker}
 use Rattle.script_run.specs.Faults.{IsUnstuck, IfStuckOn}
 use Rattle.script_run.specs.Stuck.{IsStuck}
 use Rattle.script_run.proofs.StuckRuns.{stuck_of_run, unstuck}
@@ -16,16 +18,28 @@ use Rattle.script_run.proofs.run.run_lines.Goals as goal
 pub play-requires-clause-hands : goal.play-requires-clause-hands
 play-requires-clause-hands g c κs inside = let s = c.requires.started in starts c.args.stage.now.script.now s.shape c.args.runtime.board c.hands_of-hands.result.items c.args.clients.items s.started c.hands_of-hands.ensures.clients c.hands_of-hands.ensures.new
 
+-- the same, of lists that are these
+played_as : (script : Script) (b : Facts) (taken told : List Completion) (lines left : List (Completion × Bool)) → told ≡ taken → left ≡ lines → IsPlayed script b taken lines → IsPlayed script b told left
+played_as script b taken told lines left first second played = rw (first, second) played
+
 pub returns-clause-table : goal.returns-clause-table
 returns-clause-table g c =
     let script = c.args.stage.now.script.now in let b = c.args.runtime.board in let homes = c.args.stage.now.homes.now in let s = c.requires.started in
     let taken : List Completion = c.as_slice.result.now in
     let left : List (Completion × Bool) = c.lines.result.now in
-    let one : IsPlayed script b taken c.in_ok-taken.report = subst (λ (z : List Completion). IsPlayed script b z c.in_ok-taken.report) (sym c.as_slice.ensures.value) c.in_ok-taken.ensures.played in
-    let all : IsPlayed script b taken left = subst (λ (z : List (Completion × Bool)). IsPlayed script b taken z) (sym c.lines.ensures) one in
+    let all = played_as script b _ taken _ left c.as_slice.ensures.value c.lines.ensures c.in_ok-taken.ensures.played in
     let same' = same_setup script s.shape b c.args.clients.items s.started s.rings s.pipes in
     if_ok (λ (t : Table). length t.lines.items ≡ length script.entries.items) (λ (t : Table). AreRows script homes taken left t.lines.items) (λ (t : Table). IsTableOf script (rows_of t)) c.table_of.result
     (λ t count each. is_table script b taken left all same' homes t.lines.items c.requires.homes count each) c.table_of.ensures.lines c.table_of.ensures.rows
+
+pub returns-clause-run : goal.returns-clause-run
+returns-clause-run g c =
+    let script = c.args.stage.now.script.now in let b = c.args.runtime.board in let homes = c.args.stage.now.homes.now in
+    let taken : List Completion = c.as_slice.result.now in
+    let left : List (Completion × Bool) = c.lines.result.now in
+    let all = played_as script b _ taken _ left c.as_slice.ensures.value c.lines.ensures c.in_ok-taken.ensures.played in
+    IfOk-weaker c.table_of.result (λ (t : Table). AreRows script homes taken left t.lines.items) (λ (t : Table). HasRun script c.args.workers t.lines.items)
+    (λ t each. record { board = b; clients = c.args.clients.items; started = c.requires.started; taken = taken; left = left; played = all; homes = homes; are_homes = c.requires.homes; rows_are = each }) c.table_of.ensures.rows
 
 pub returns-clause-stuck : goal.returns-clause-stuck
 returns-clause-stuck g c = IfErr-weaker c.table_of.result IsUnstuck (IfStuckOn (IsStuck c.args.stage.now.script.now c.args.workers c.args.stage.now.turns)) (λ f none. unstuck (IsStuck c.args.stage.now.script.now c.args.workers c.args.stage.now.turns) f none) c.table_of.ensures.unstuck
