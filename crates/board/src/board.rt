@@ -227,7 +227,7 @@ impl Board {
         ensures steps { IfOk result (λ b. Took worker.view b.pass.view 1) }
         ensures begun { IfOk result (λ b. (b.req ≡ req) × IsOf self.now b.pass × Extends worker.view (Did (Begin req)) (BusyRole req) b.pass.view) }
         ensures refused { IfErr result (λ w. IsOf self.now w × ((w.view ≡ worker.view) ⊎ Looks worker.view w.view) × ((length self.now.layout.cells ≤ req.ring) ⊎ FoundNotReady self.now.layout.cells req worker.view w.view)) }
-        ensures took { IfErr result (λ w. w.took ≡ worker.took) }
+        ensures took { IfOk result (λ b. b.took ≡ worker.took) × IfErr result (λ w. w.took ≡ worker.took) }
     {
         worker.begin(&self.table.shared, &self.grid, self.pipes, req)
     }
