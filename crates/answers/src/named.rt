@@ -34,6 +34,8 @@ pub fn pipes_of(op: Op, pipes: u64) -> NamedPipes
 }
 
 /// The pipe of an operation that names the end `fd` alone.
+/// A READ of a write end has its pipe too, though its answer doesn't need it: which pipe an operation is answered from is read off its
+/// fd, and not off its row.
 fn one_of(op: Op, fd: i32, pipes: u64) -> NamedPipes
     requires names { (p : ℕ) → p < pipes → uses_at op p ≡ is_at (end_of fd) p }
     ensures { AreNamed op pipes result }

@@ -93,6 +93,7 @@ pub record IsNew (rings : ℕ) (b : Facts) (ringers : List Ringing) (s : Sleepin
   pub sleeper : s ≡ record { table = b.table; tails = replicate rings 0; loads = []; dozes = false; wakes = [] }
 
 -- all tails were loaded once each in this call, and the list has what was found
+-- The loads are named, so that a body that reads nothing and leaves the old tails is refused.
 abbrev pub HasLoaded : Sleeping → Sleeping → Type 0
 HasLoaded old new = new.loads ≡ loads_of (length new.tails) new.tails ++ old.loads
 

@@ -13,6 +13,7 @@ use std::time::Instant;
 use std::{env, io};
 
 /// How many rounds are measured, and how many operations a round has.
+/// A round is short, so that other programs on the machine disturb few of them, and the median stays.
 const ROUNDS: usize = 101;
 
 const OPERATIONS: usize = 20_000;

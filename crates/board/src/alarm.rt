@@ -24,7 +24,7 @@ use steps::facts::{LINK_TIMEOUT, TIMEOUT};
 use steps::{TableSeat, seat, timers};
 use work::Spot;
 
-/// What the poller keeps of a timer that it armed.
+/// What the poller keeps of a timer that it armed, so that the calls which end it need no look at the notes.
 #[derive(Clone, Copy, PartialEq, Eq, Debug)]
 pub(crate) enum Alarm {
     /// It is a LINK_TIMEOUT.

@@ -160,7 +160,7 @@ impl Board {
         self.end(poller, submitters, workers, room.room)
     }
 
-    /// The report, for which there is room. All passes are there.
+    /// The report, for which there is room. All passes are there. It is read off the table, so their order plays no part.
     fn end(
         self,
         poller: Poller,

@@ -37,8 +37,9 @@ pub(crate) struct Lane {
     /// The facts that it noted last for each cell.
     pub facts: Vec<u64>,
     /// The chains of all requests before this one have replied.
+    /// They stay so: each chain is passed once, however many submissions ask for its cells.
     pub done: u64,
-    /// Whether a LINK_TIMEOUT may be the next entry.
+    /// Whether a LINK_TIMEOUT may be the next entry. After the end of a batch none may: its first entry is no case of its own.
     pub hosted: bool,
 }
 
@@ -185,7 +186,7 @@ fn first_unreaped(lane: &Lane, grid: &Grid, count: u64) -> Option<u64>
 }
 
 /// Whether there is room for the ring's next requests, so many of them: their cells are free, and have had fewer requests than
-/// they can have.
+/// they can have. Where a cell isn't free it looks before it says so: `Full` is true of the history after a step of this very call.
 pub(crate) fn room(
     words: &Words,
     seat: &mut TableSeat,

@@ -122,6 +122,7 @@ pub(crate) fn settle(
 }
 
 /// Ends the target of a LINK_TIMEOUT whose deadline has come, or finds it running, or with a reply.
+/// One exchange is enough: only the poller makes Ready or arms, so a word that it found idle stays until the request runs or ends.
 fn strike(board: &Board, seat: &mut TableSeat, spot: Spot, req: Req) -> Struck
     requires ours { IsOurs board.now seat.old }
     requires at { IsAt board.now.layout.cells spot.cell spot.generation req }

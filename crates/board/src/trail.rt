@@ -207,6 +207,8 @@ pub(crate) fn take_in(board: &Board, seat: &mut TableSeat, row: &mut Row, req: R
 }
 
 /// Looks at a request that is in the way of another one, `req`. Where its whole chain has replied, that may have too.
+/// Its facts may be a later request's: then its whole chain has replied, and whether its reply failed can't be told. If `req` still waits
+/// it is of another chain, and that plays no part.
 fn pass(
     board: &Board,
     seat: &mut TableSeat,
@@ -325,6 +327,8 @@ fn next_look(first: u64, link: Option<u64>, looked: bool) -> (u64, Round)
 
 /// Asks the row whether the request may start, or looks at one that is in its way. The members of its chain come first, from
 /// the nearest back to the first that has no reply: a failure of one ends the chain, whoever else is in the way.
+/// One that replied without a failure tells nothing of those before it: a LINK_TIMEOUT may run out before its target fails. Past one
+/// without a reply it needn't look: if an earlier member had failed, that one would be severed itself, or is an armed timer.
 fn advance(
     board: &Board,
     seat: &mut TableSeat,

@@ -72,7 +72,7 @@ fn job_of(name: &str, given: &ArgMatches<'_>) -> Job
 }
 
 /// The number given for a word, from 1 to `most`. The parser of the word gives the usual one where there is none, and has
-/// refused all others.
+/// refused all others. It is tested once more, so that the limits are a clause here (`IsWithin`).
 fn number_of(given: &ArgMatches<'_>, word: &str, most: u32) -> u32
     requires { 1 ≤ most }
     ensures within { (1 ≤ result) × (result ≤ most) }

@@ -17,7 +17,7 @@ use streams::{InputFault, OutputFault};
 /// Why a command gives no answer.
 #[derive(Drop)]
 pub enum Problem {
-    /// Standard input or a file could not be read.
+    /// Standard input or a file could not be read, also where the machine had no memory for it.
     Input,
     /// The answer could not be written.
     Output,

@@ -1,4 +1,4 @@
-//! What goes to standard error.
+//! What goes to standard error, part by part through `write_out`, which needs no memory. Whether it went out is reported to no one.
 ghost use Rattle.std.specs.Prelude.{◌≡◌, ◌*◌, ◌/◌, [], min, max, OnOk, OnErr};
 ghost use Rattle.std.specs.Io.KnownBytes.{Appends};
 ghost use Rattle.commands.specs.Printed.{AppendsSome};

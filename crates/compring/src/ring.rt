@@ -20,7 +20,7 @@ pub enum Place {
 }
 
 /// Posts in their order. Contracts see whose they are, what waits in the ring and in its overflow, and the number of the next to be
-/// taken.
+/// taken. That the overflow is empty unless the ring is full is an invariant, so that it holds of what a lock finds.
 #[derive(Drop)]
 pub struct CompletionRing {
     owner: u16,

@@ -4,6 +4,8 @@ ghost use Rattle.std.specs.Prelude.{⊤, [], ◌∷◌, codes};
 use bitflags::{Flag, Flags, bitflag_items};
 
 /// The supported flags of an entry: `IO_DRAIN` (bit 1), `IO_LINK` (bit 2) and `IO_HARDLINK` (bit 3) of io_uring_enter(2).
+/// It can hold any bits; that an entry has those of its row alone is the invariant of `Sqe`. It has no model, since its table is lent as
+/// a constant, where the kit takes no type with one: contracts see its number by `bits_of`.
 #[derive(Clone, Copy, PartialEq, Eq, Debug)]
 pub struct SqeFlags(u8);
 

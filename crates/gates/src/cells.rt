@@ -128,6 +128,7 @@ pub fn last_pending(cells: &VecDeque<Cell>, j: usize) -> Option<usize>
 
 /// The place after which the members of a chain wait for an earlier one, where those at `low` don't and those at `high` do:
 /// the first member that has not replied. It halves what is left of the chain with each cell that it looks at.
+/// No pointer to it is kept: the chain's first cells may be gone while later members wait.
 pub fn first_held(cells: &VecDeque<Cell>, mut low: usize, mut high: usize) -> usize
     requires { high < length cells.now.items }
     ensures { low < high → held_at cells.now.items low ≡ false → held_at cells.now.items high ≡ true → IsTurn cells.now.items low high result }

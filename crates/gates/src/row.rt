@@ -130,6 +130,7 @@ impl Row {
     }
 
     /// Adds a stand-in for the next request: without flags, and with a reply that doesn't fail.
+    /// It serves for a request whose whole chain has replied, since nothing that is pending asks how.
     pub fn add_stand_in(&mut self) -> Result<u64, RowFull>
         requires { added self.old < 2 ^ 64 - 1 }
         ensures number { IfOk result (λ k. k ≡ added self.old) }

@@ -96,6 +96,7 @@ is_link_timeout_in None = false
 is_link_timeout_in (Some e) = is_link_timeout e.op
 
 -- whose place decides: a LINK_TIMEOUT may be armed when its target may start (this profile)
+-- So it can be open and severed at once: its target may have failed.
 abbrev pub gate_of : List Event → Req → Req
 gate_of h r = cond (is_link_timeout_in (placed h r)) (previous r) r
 

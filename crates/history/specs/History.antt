@@ -1,4 +1,5 @@
 -- A history: the list of the events so far, the newest first. What became of a request is read off the whole list.
+-- With the newest at the head, what one more event makes of a request, and whether it is allowed, compute by one case each.
 use Rattle.std.specs.Prelude.{ℕ, zero, suc, ◌+◌, ◌-◌, ◌==◌, ◌&&◌, ◌||◌, Bool, true, false, cond, ℤ, pos, negsuc, List, [], ◌∷◌, Option, Some, None}
 use Rattle.entry.specs.Entry.{Entry}
 use Rattle.history.specs.declared.req.Req.{Req}
@@ -17,6 +18,7 @@ pub data Cause : Type 0 where
   by_cut : Cause
 
 -- where a request stands: an armed timer has its deadline, an answered request its reply, also once it was reaped
+-- (a chain asks whether the reply failed)
 pub data Phase : Type 0 where
   unborn : Phase
   waits : Phase

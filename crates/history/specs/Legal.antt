@@ -53,6 +53,9 @@ abbrev pub IsOf : List Event → Req → (Op → Bool) → Bool → Type 0
 IsOf h r is b = (e : Entry) × IsPlaced h r e × (is e.op ≡ b)
 
 -- what each event asks for, beside that nothing but Cut follows Shut
+-- A cancel that runs may be parked, also after its Take or Miss, and be taken by another cancel while it waits. On a board only
+-- one that has done nothing is parked.
+-- A LINK_TIMEOUT that fired and was not settled before Shut is cut.
 abbrev pub MayCome : Setup → List Event → Event → Type 0
 MayCome s h (Submit r e bytes last) = (r.ring < s.rings) × (r.k ≡ submits h r.ring) × Fits e bytes
 MayCome s h (Begin r) = (phase h r ≡ waits) × Open h r × IsOf h r is_timer false

@@ -185,7 +185,7 @@ fn given(pipes: &[Pipe], fd: i32) -> &[u8]
     }
 }
 
-/// The first `n` bytes of one pipe go over into another. Both stay as they are where memory is wanting.
+/// The first `n` bytes of one pipe go over into another. Both stay as they are where memory is wanting: they are taken out last.
 fn move_over(
     alloc: Global,
     pipes: &mut Vec<Pipe>,

@@ -52,6 +52,7 @@ impl Ring {
     }
 
     /// How many requests after `k` were answered.
+    /// They are counted anew at each Count, so that no reply has a number to change.
     fn later_answered(&self, k: usize) -> usize
         requires { k < length self.now }
         ensures { result ≡ later_answered self.now k }

@@ -38,6 +38,7 @@ macro_rules! given {
 }
 
 /// The entry that a row stands for, without flags and user_data.
+/// It is inlined, so that the compiler computes the entry of a row whose opcode is known.
 #[inline(always)]
 fn entry_of(row: Row) -> Sqe
     ensures { IsOfRow row result }
@@ -146,7 +147,7 @@ pub fn with_flags(sqe: Sqe, flags: u8) -> Sqe
     Sqe::of_row(sqe.row(), flags, sqe.user_data())
 }
 
-/// The entry with this user_data: io_uring_sqe_set_data64(3).
+/// The entry with this user_data: io_uring_sqe_set_data64(3). Its row stays, so the table isn't asked again.
 pub fn with_user_data(sqe: Sqe, user_data: u64) -> Sqe
     ensures { result ≡ record { user_data = user_data; flags = sqe.flags; op = sqe.op } }
 {

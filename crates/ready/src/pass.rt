@@ -7,11 +7,13 @@ use crate::tally::Tally;
 use crossbeam_queue::Pass;
 use std::marker::Model;
 
-/// How many shares all passes of a queue have.
+/// How many shares all passes of a queue have, however many there are: the rule's first view is fixed. Each pass but the last has one,
+/// and the last the others.
 pub(crate) const ALL_SHARES: u32 = u32::MAX;
 
 /// What one thread holds that puts requests and takes them. A span that it took out of the queue it gives one request at a time; the
 /// rest stays with the pass. Contracts see its queue, its shares of it, and which requests it put and took.
+/// Its shares are kept at run time too, for `gather` to add up.
 #[derive(Drop)]
 pub struct ReadyPass {
     pub(crate) seat: Pass<Span, Tally>,

@@ -27,6 +27,7 @@ pub(crate) struct Hands {
 }
 
 /// How many of so many requests go to a worker together. Each worker gets its part, and two parts where there are enough.
+/// So a few requests are shared out one by one. With one worker all that a span holds go together: nobody else could run them.
 pub(crate) fn limit_of(requests: u64, workers: u32) -> u8 {
     if workers < 2 {
         return MOST;

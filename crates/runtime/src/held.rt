@@ -13,6 +13,7 @@ use std::marker::Model;
 use std::sync::Wait;
 
 /// How many posts a client takes at once, at most.
+/// Under load it takes the lock once for all of them. Those that it holds at the end weren't reaped, and are in the report.
 const MOST_TAKEN: usize = 64;
 
 /// The posts of a ring that were taken from its completion ring, and whose completions were not taken, the oldest first. Contracts see

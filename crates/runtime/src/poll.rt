@@ -138,6 +138,7 @@ impl PollDesk {
     }
 
     /// How many cells its board has: so many places the outbox of a turn needs.
+    /// More answers can't come. No clause counts over all cells, so the contract of a turn still speaks of a full outbox.
     pub fn places(&self) -> usize
         ensures { result ≡ self.now.places }
     {

@@ -17,8 +17,8 @@ fn pass_all<G: Turnstile>(turnstile: &G, outbox: &Outbox) {
 }
 
 /// Posts all answered requests, each to the completion ring of its own ring, and takes the lock of a ring once for all that are its own.
-/// A post for which no memory is found is
-/// tried again, until it is.
+/// A post for which no memory is found is tried again, until it is: the ring has room again once its client takes, and a request
+/// that was answered and never posted would be found by no one.
 pub(crate) fn post_all<R: Wait, G: Turnstile>(
     rt: &R,
     posts: &PostLocks,

@@ -199,7 +199,8 @@ fn take_up(board: &Board, hands: &mut Hands, lists: &mut Lists, ring: u16, k: u6
     Req { ring, k }
 }
 
-/// The tail by which the poller is told to end.
+/// The tail by which the poller is told to end: no ring comes so far. So it looks at tails alone, and wakes by this one as by any other.
+/// Tails don't fall: once told, a client of ring 0 publishes no further one.
 pub(crate) const END: u64 = u64::MAX;
 
 /// Takes up the ring's new requests, in order, up to the tail, as long as the numbers find their places and there is a

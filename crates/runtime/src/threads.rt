@@ -24,6 +24,8 @@ use std::sync::atomic::Ordering;
 use std::{hint, thread};
 
 /// How many turns in a row that did nothing a thread makes at once, before it lets other threads have its processor.
+/// A call of the system after each would take longer than most requests. Pauses that double, as the kit's `Backoff` makes them, would
+/// let a request wait as long again as the thread had been idle.
 const SPINS: u32 = 256;
 
 /// Between a turn that did nothing and the next, after so many such turns in a row.

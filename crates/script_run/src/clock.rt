@@ -252,6 +252,7 @@ impl Clock for LineClock {
     fn ask(&self) -> Option<Req> {
         match self.line()? {
             ClockLine::Wait(req, _) | ClockLine::Armed(req, _) => Some(req),
+            // Any request will do: a poller whose clock asks for nothing may sleep, and would never set it.
             ClockLine::Tick(_) => Some(Req { ring: 0, k: 0 }),
         }
     }

@@ -251,6 +251,7 @@ fn end<R: Threads + Wait>(
 }
 
 /// Of two rings' halts, or none, the one that is told: one that stops all comes first, then the lower ring's.
+/// What would have become of a ring that was told to stop isn't known. So where a run is stuck each lower ring has carried its lines out.
 fn told_of(first: Option<Halt>, second: Option<Halt>) -> Option<Halt>
     ensures none { result ≡ None → (first ≡ None) × (second ≡ None) }
     ensures stuck { (p : ℕ) → result ≡ Some (Stuck p) → (first ≡ Some (Stuck p)) ⊎ ((first ≡ None) × (second ≡ Some (Stuck p))) }

@@ -117,6 +117,7 @@ fn carry_from<'s, E, R: Threads + Wait + Sync>(
 }
 
 /// Carries the lines of all clients out, each in a thread of its own. Where a thread is refused none carries any out.
+/// The kit's `map_vec` and `for_each_mut` would run the calls one after another then, and tell no one.
 pub(crate) fn carry_all<R: Threads + Wait + Sync>(
     rt: &R,
     stage: &Stage<'_>,

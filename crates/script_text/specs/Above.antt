@@ -1,4 +1,5 @@
 -- What the lines above a line say, one question after the other. Lines are given with the nearest first.
+-- Nothing of the reader's state is in these definitions.
 use Rattle.std.specs.Prelude.{◌==◌, ℕ, ◌+◌, ◌&&◌, List, [], ◌∷◌, ◌++◌, Bool, true, false, Option, Some, None, length, nat_lt, if◌then◌else◌}
 use Rattle.entry.specs.Entry.{Entry}
 use Rattle.limits.specs.declared.TheConstants.{CAPACITY, CELLS, TICK}

@@ -8,6 +8,7 @@ use crate::fault::Fault;
 use text::number_of;
 
 /// The faults that were found on a line, of which the first in the list of faults is kept.
+/// So what finds one kind of fault needs to know of no other.
 #[derive(Drop)]
 pub struct Faults {
     least: Option<Fault>,

@@ -8,6 +8,8 @@ use std::alloc::{AllocError, Global};
 use std::collections::BTreeMap;
 
 /// The entry lines of a script in order, and for each label the place of the first that declares it.
+/// Lines past the limit count too: a `wait` may name any of them. The index is a tree, since a hash has a fixed seed, and a text could
+/// be made to slow it down.
 #[derive(Drop)]
 pub struct Labels<'a> {
     pub lines: Vec<Declared<'a>>,

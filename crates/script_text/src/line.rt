@@ -13,6 +13,7 @@ use entry::Sqe;
 use std::alloc::{AllocError, Global};
 
 /// A line: its bytes, its words, and where it is a `raw` line the entry that its digits write.
+/// Both passes over the text go by these, so the definitions speak of lines as they are read, and not of digits.
 #[derive(Drop)]
 pub struct Line<'a> {
     pub text: &'a [u8],

@@ -18,6 +18,8 @@ use std::alloc::{AllocError, Global};
 
 /// The entry lines of a script in order, where each ring submits last, how many rings are declared, and whether any
 /// line declares one. While the lines are read, whose lines they are.
+/// A line with a fault declares what it says all the same: a faulty `ring` is a ring, a faulty `submit` submits, an `on` with a word too
+/// many names its actor. So one slip is reported once.
 #[derive(Drop)]
 pub struct Outline<'a> {
     pub labels: Labels<'a>,

@@ -39,7 +39,7 @@ facts_at x = note_at x 0
 abbrev pub user_at : ℕ → ℕ
 user_at x = note_at x 1
 
--- and the count of a TIMEOUT here. No other entry's is stored
+-- and the count of a TIMEOUT here. The other two words are full, and no other entry pays a step for it
 abbrev pub count_at : ℕ → ℕ
 count_at x = note_at x 2
 

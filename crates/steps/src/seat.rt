@@ -67,6 +67,7 @@ pub fn release(words: &Words, seat: &mut TableSeat, cell: usize, generation: u32
 
 /// Ends a Held request of which an earlier member of its chain has failed: it is answered with -125 (ECANCELED). `fails` says
 /// whether that is a failure of its entry. Else it reports what was found.
+/// What is severed was never open by its own place, so no worker has it.
 pub fn sever(words: &Words, seat: &mut TableSeat, cell: usize, generation: u32, fails: bool) -> bool
     requires fits { Fits words.now.table_id seat.old cell }
     requires poller { ((n : ℕ) × (seat.old.me.0.role ≡ Poller n)) × (0 < seat.old.me.0.parts) }

@@ -16,6 +16,7 @@ pub enum Role {
     /// The submitter of this ring.
     Submitter(u64),
     /// The submitter of the request's ring, while it has the slot of the request's cell: before the Submit, or the Reap.
+    /// It is a role of its own, so that who has all parts of the table knows that no slot is out.
     Lending(Req),
     /// A worker without a request.
     Idle,

@@ -7,6 +7,7 @@ use crate::error::Memory;
 use history::Req;
 
 /// Armed timers: a map from requests to deadlines, in ticks.
+/// It is seen as a function, so that each way to keep it meets the same clauses.
 pub trait TimerSet {
     /// The deadline of each request that has one.
     ghost deadline: { Self → Req → Option ℕ };

@@ -15,7 +15,7 @@ use std::collections::HashMap;
 use std::marker::{Brand, Model};
 use std::sync::ledger::{Blank, Ledger};
 
-/// The deadline of each request, by its ring and its number.
+/// The deadline of each request, by its ring and its number: a pair, so that `Req` needs no hash.
 type Deadlines = HashMap<(u16, u64), u32>;
 
 /// Timers in a wheel of 256 slots: each stands in the slot of its deadline modulo 256. Contracts see the requests with their
@@ -111,6 +111,7 @@ impl Timers {
     }
 
     /// `arm`, which looks at the slot of the deadline, and at the slot of the one that it replaces.
+    /// Room in the map comes first, then that in the slot, and the old deadline goes out last: what can fail comes before any change.
     pub fn arm_counted<L: Ledger>(
         &mut self,
         req: Req,

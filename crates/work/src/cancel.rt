@@ -130,6 +130,8 @@ fn attempt(words: &Words, seat: &mut TableSeat, target: Target, found: u64) -> R
 }
 
 /// Ends the request, or finds it running or over.
+/// Two exchanges are enough. A word that was found Held may have become Ready, or have a deadline in it. What was once Ready, Armed or
+/// Running is never Held again.
 fn take(words: &Words, seat: &mut TableSeat, target: Target) -> Tried
     requires cancels { (c : Request) × (w : WantedOf) × Cancels words.now.table_id seat.old c w × IsEarlier words.now.table_id seat.old c target × MayAim w.all seat.old.me.0 c (target_in seat.old target) × IsMeant seat.old.me.0 c (target_in seat.old target) }
     ensures seat { IsSameSeat seat.old seat.new × (seat.new.me.1 ≡ seat.old.me.1) }

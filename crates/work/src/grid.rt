@@ -42,6 +42,7 @@ impl Model for Grid {
 }
 
 /// The quotient of a number by a ring's number of cells, and the rest: without a division where that is a power of two.
+/// Each call of a request needs them, and a division takes as long as a step on the board.
 #[inline(always)]
 pub fn divided(k: u64, cells: u64) -> (u64, u64)
     requires { 0 < cells }
