@@ -1,3 +1,4 @@
+mod CommandLines
 mod Listings
 mod Printing
 mod Problems
