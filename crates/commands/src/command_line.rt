@@ -35,7 +35,7 @@ fn run<'a>(alloc: Global) -> Result<Command<'a>, AllocError>
              each worker.",
         )
         .after_help(
-            "Example:\n  printf 'ring 4\\non 0\\nnop a\\nsubmit\\nwait a\\n' | ringrun run -\nprints\n  a 0\n\nStatus 0: the table was printed. 1: one line 'fault: ..' says why not. 2: the script has a fault, printed as\n'line N: ..'. 3: a line ran out of turns, printed as 'stuck L' with the label that it waits for.",
+            "Example:\n  printf 'ring 4\\non 0\\nnop a\\nsubmit\\nwait a\\n' | ringrun run -\nprints\n  a 0\n\nStatus 0: the table was printed. 1: one line 'fault: ..' says why not. 2: the script has a fault, printed as\n'line N: ..'. 3: a line ran out of turns, printed as\n'stuck L' with the label that it waits for, or of the first entry that it submits.",
         )
         .arg(workers(alloc))?
         .arg(turns(alloc))?

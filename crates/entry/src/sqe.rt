@@ -53,7 +53,7 @@ macro_rules! fails_column {
 /// The reply of a timer that ran out.
 const ETIME: i32 = -62;
 
-/// Whether the reply is a failure, which a soft link doesn't survive: an error, or a READ or WRITE of fewer bytes than
+/// Whether the reply is a failure, which a soft link doesn't survive: an error, or a READ, WRITE or SPLICE of fewer bytes than
 /// asked. No reply to a LINK_TIMEOUT is one, nor -62 to a TIMEOUT with ETIME_SUCCESS.
 pub fn fails(sqe: &Sqe, res: i32) -> bool
     ensures { result ≡ is_failure sqe.now res }

@@ -31,7 +31,7 @@ pub const ENTRIES: usize = 256;
 /// The longest buffer that a script gives to a READ, or to an entry that it writes as bytes, in bytes.
 pub const BUFFER: u32 = 1048576;
 
-/// The largest `len` of a READ or WRITE, in bytes.
+/// The largest `len` of a READ, WRITE or SPLICE, in bytes.
 pub const LENGTH: u32 = 2147483647;
 
 /// The largest number of a file descriptor.

@@ -61,26 +61,9 @@ pub fn run_script<
 {
     let homes = homes_of(alloc, script)?;
     let shape = shape_of(alloc, script, workers)?;
-    let room = Room {
-        hands: Vec::with_capacity(alloc, script.rings.len())?,
-        clients: Vec::with_capacity(alloc, script.rings.len())?,
-    };
+    let room = room_of(alloc, script.rings.len())?;
     let lines = lines_of(alloc, script, homes.as_slice())?;
-    let (clock, progress) = LineClock::new(
-        alloc,
-        lines_of(alloc, script, homes.as_slice())?,
-        turns,
-    )?;
-    let parks = Arc::new(alloc, Parks::new(alloc, script)?)?;
-    let counted = Counted {
-        parks: Arc::try_clone(&parks)?,
-        turnstile,
-    };
-    let watch = Watch {
-        progress,
-        parks,
-        turns: 0,
-    };
+    let (counted, clock, watch) = controls_of(alloc, script, homes.as_slice(), turns, turnstile)?;
     let (runtime, clients) = start(*rt, alloc, &shape, IDLE, counted, clock)?;
     let barrier = Barrier::new(script.rings.len() as u64);
     let stage = Stage {
@@ -102,12 +85,50 @@ pub fn run_script<
     )
 }
 
+/// The turnstile and the clock of a run, and what watches them.
+fn controls_of<G: Turnstile + Drop>(
+    alloc: Global,
+    script: &Script,
+    homes: &[Option<Req>],
+    turns: u32,
+    turnstile: G,
+) -> Result<(Counted<G>, LineClock, Watch), RunFault>
+    requires { AreHomes script.now homes.now }
+    ensures clock { IfOk result (λ t. IsAtLine t.1.lines.items t.1.next t.1.tries t.1.most t.1.is_stuck []) }
+    ensures unstuck { IfErr result IsUnstuck }
+{
+    let lines = lines_of(alloc, script, homes)?;
+    let (clock, progress) = LineClock::new(alloc, lines, turns)?;
+    let parks = Arc::new(alloc, Parks::new(alloc, script)?)?;
+    let theirs = Arc::try_clone(&parks)?;
+    let counted = Counted {
+        parks: theirs,
+        turnstile,
+    };
+    let watch = Watch {
+        progress,
+        parks,
+        turns: 0,
+    };
+    Ok((counted, clock, watch))
+}
+
 /// Empty lists with room for the hands of all rings, and for their clients, so that once the threads have started no list of them
 /// needs memory.
 #[derive(Drop)]
 struct Room {
     hands: Vec<Hand>,
     clients: Vec<Client>,
+}
+
+/// Room for the hands and clients of so many rings.
+fn room_of(alloc: Global, rings: usize) -> Result<Room, AllocError>
+    ensures hands { IfOk result (λ r. (r.hands.items ≡ []) × (rings ≤ vec_capacity r.hands)) }
+    ensures clients { IfOk result (λ r. (r.clients.items ≡ []) × (rings ≤ vec_capacity r.clients)) }
+{
+    let hands = Vec::with_capacity(alloc, rings)?;
+    let clients = Vec::with_capacity(alloc, rings)?;
+    Ok(Room { hands, clients })
 }
 
 /// Carries all lines out on a runtime that was started for the script, with so many workers, and gives the table. There is room for its

@@ -11,12 +11,12 @@ returns-in_err-lines-clause-stuck g c =
     let p = err_from_is_err_and c.from_residual-in_err-lines.result c.from_residual-in_err-lines.ensures.1 in
     rw (p.1, p.2) (unstuck (IsStuck c.args.script.now c.args.workers c.args.turns) _ c.in_err-lines.ensures.unstuck)
 
-pub returns-in_err-lines_of-clause-stuck : goal.returns-in_err-lines_of-clause-stuck
-returns-in_err-lines_of-clause-stuck g c =
-    let p = err_from_is_err_and c.from_residual-in_err-lines_of.result c.from_residual-in_err-lines_of.ensures.1 in
-    rw (p.1, p.2) (unstuck (IsStuck c.args.script.now c.args.workers c.args.turns) _ c.in_err-lines_of.ensures.unstuck)
-
 pub returns-in_err-runtime-clause-stuck : goal.returns-in_err-runtime-clause-stuck
 returns-in_err-runtime-clause-stuck g c =
     let p = err_from_is_err_and c.from_residual-in_err-runtime.result c.from_residual-in_err-runtime.ensures.1 in
     rw (p.1) (unstuck (IsStuck c.args.script.now c.args.workers c.args.turns) _ p.2)
+
+pub returns-in_err-counted-clause-stuck : goal.returns-in_err-counted-clause-stuck
+returns-in_err-counted-clause-stuck g c =
+    let p = err_from_is_err_and c.from_residual-in_err-counted.result c.from_residual-in_err-counted.ensures.1 in
+    rw (p.1, p.2) (unstuck (IsStuck c.args.script.now c.args.workers c.args.turns) _ c.in_err-counted.ensures.unstuck)
