@@ -10,10 +10,10 @@ use Rattle.history.proofs.Requests.{bool_cases}
 use Rattle.gates.specs.declared.cell.Behind.{Behind}
 use Rattle.gates.specs.declared.cell.Cell.{Cell}
 use Rattle.gates.specs.Slots.{Slot, slot_of, joins_of, is_pending, passes, pending_before}
-use Rattle.gates.specs.EntryRows.{Kept, HasCell, IsSound, Stands, Linked, Waits, link_in, numbered}
+use Rattle.gates.specs.EntryRows.{Kept, IsSound, Stands, Linked, link_in, numbered}
 use Rattle.gates.specs.Shows.{nth, HasNotSevered, HaveGoneOn, IsLink}
 use Rattle.gates.proofs.Lists.{get_there, one_some, passes_at}
-use Rattle.gates.proofs.Marks.{J, P, S, Join, severed_from}
+use Rattle.gates.proofs.Marks.{P, S, Join, severed_from}
 use Rattle.gates.proofs.Agreement.{Agrees}
 use Rattle.gates.proofs.Standing.{test_exact}
 
@@ -113,75 +113,58 @@ module _ (n : ℕ) (cs : List Cell) (linked : Linked n cs) where
 
 -- ---- by a row
 
-module _ (xs : List Slot) (r : Kept) (sound : IsSound r) (stands : Stands xs r) (k : ℕ) (cell : HasCell r k) where
+module _ (xs : List Slot) (r : Kept) (sound : IsSound r) (stands : Stands xs r) (j : ℕ) (lt : j < length r.cells) where
   abbrev ys : List Slot
   ys = map slot_of r.cells
 
-  joins_is : (m : ℕ) → r.lost ≤ m → m < k → passes joins_of ys (m - r.lost) ≡ J xs m
-  joins_is m a b = let there = cell.there in let e : r.lost + (m - r.lost) ≡ m = omega arith in test_exact xs r sound stands joins_of (m - r.lost) (omega (arith, there)) ∙ ap (passes joins_of xs) e ∙ joins_same m where
-    joins_same : (m : ℕ) → passes joins_of xs m ≡ J xs m
-    joins_same m = by_slot (slice_get xs m) where
-      by_slot : (o : Option Slot) → Rattle.gates.specs.Slots.test_at joins_of o ≡ Rattle.gates.proofs.Bridge.joins_at o
-      by_slot None = refl
-      by_slot (Some s) = refl
-
-  pending_is : (m : ℕ) → r.lost ≤ m → m < k → passes is_pending ys (m - r.lost) ≡ P xs m
-  pending_is m a b = let there = cell.there in let e : r.lost + (m - r.lost) ≡ m = omega arith in test_exact xs r sound stands is_pending (m - r.lost) (omega (arith, there)) ∙ ap (P xs) e
+  tested : (p : Slot → Bool) (m : ℕ) → r.lost ≤ m → m < r.lost + j → passes p ys (m - r.lost) ≡ passes p xs m
+  tested p m a b = test_exact xs r sound stands p (m - r.lost) (omega (arith, lt)) ∙ ap (passes p xs) (let e : r.lost + (m - r.lost) ≡ m = omega arith in e)
 
   -- who is named is the nearest earlier member of the chain that is pending
-  record Names (p : ℕ) : Type 0 where
-    kept : r.lost ≤ p
-    before : p < k
-    joined : Join xs p k
-    pending : P xs p ≡ true
-    between : (n : ℕ) → p < n → n < k → P xs n ≡ false
+  pub record Names (p : ℕ) : Type 0 where
+    pub before : p < j
+    pub joined : Join xs (r.lost + p) (r.lost + j)
+    pub pending : P xs (r.lost + p) ≡ true
+    pub between : (n : ℕ) → r.lost + p < n → n < r.lost + j → P xs n ≡ false
 
-  named : (p : ℕ) → link_in r (k - r.lost) ≡ Some p → Names p
-  named p = by_place (pending_before ys (k - r.lost)) refl where
-    by_place : (o : Option ℕ) → pending_before ys (k - r.lost) ≡ o → numbered r.lost o ≡ Some p → Names p
-    by_place None e u = absurd (none-some p u)
-    by_place (Some g) e u = let at : r.lost + g ≡ p = one_some (r.lost + g) p u in let near = nearest ys (k - r.lost) g e in let lt = near.before in let a = cell.kept in let off : p - r.lost ≡ g = omega arith in record {
-      kept = omega arith;
-      before = omega (arith, lt, a);
-      joined = λ n x y. sym (joins_is n (omega arith) y) ∙ near.joined (n - r.lost) (omega arith) (omega (arith, a));
-      pending = sym (pending_is p (omega arith) (omega (arith, lt, a))) ∙ ap (passes is_pending ys) off ∙ near.pending;
-      between = λ n x y. sym (pending_is n (omega arith) y) ∙ near.between (n - r.lost) (omega arith) (omega (arith, a));
-    }
-
-  -- who is named comes before, has its cell and is pending
-  pub link_named : (p : ℕ) → link_in r (k - r.lost) ≡ Some p → (p < k) × Waits xs r p
-  link_named p u = let n = named p u in let lt = n.before in let b = cell.there in (lt, record { cell = record { kept = n.kept; there = omega (arith, lt, b) }; pending = n.pending })
+  pub named : (p : ℕ) → pending_before ys j ≡ Some p → Names p
+  named p e = let near = nearest ys j p e in let b = near.before in record {
+    before = b;
+    joined = λ n x y. sym (tested joins_of n (omega arith) y) ∙ near.joined (n - r.lost) (omega arith) (omega arith);
+    pending = sym (test_exact xs r sound stands is_pending p (omega (arith, lt))) ∙ near.pending;
+    between = λ n x y. sym (tested is_pending n (omega arith) y) ∙ near.between (n - r.lost) (omega arith) (omega arith);
+  }
 
   -- where nobody is named none of its chain before it is pending
-  nobody : link_in r (k - r.lost) ≡ None → (m : ℕ) → m < k → Join xs m k → P xs m ≡ false
-  nobody = by_place (pending_before ys (k - r.lost)) refl where
-    by_place : (o : Option ℕ) → pending_before ys (k - r.lost) ≡ o → numbered r.lost o ≡ None → (m : ℕ) → m < k → Join xs m k → P xs m ≡ false
-    by_place (Some g) e u m lt l = absurd (none-some (r.lost + g) (sym u))
-    by_place None e u m lt l = let a = cell.kept in ⊎_elim
-        (λ (w : m < r.lost). stands.gone m w)
-        (λ (w : r.lost ≤ m). sym (pending_is m w lt) ∙ quiet ys (k - r.lost) e (m - r.lost) (omega (arith, a)) (λ n x y. (let c : (r.lost + n) - r.lost ≡ n = omega arith in ap (passes joins_of ys) (sym c) ∙ joins_is (r.lost + n) (omega arith) (omega (arith, a)) ∙ l (r.lost + n) (omega arith) (omega (arith, a)))))
-        (cases_lt m r.lost)
+  pub nobody_named : pending_before ys j ≡ None → (m : ℕ) → m < r.lost + j → Join xs m (r.lost + j) → P xs m ≡ false
+  nobody_named e m below l = ⊎_elim
+      (λ (w : m < r.lost). stands.gone m w)
+      (λ (w : r.lost ≤ m). sym (tested is_pending m w below) ∙ quiet ys j e (m - r.lost) (omega arith) (λ n x y. test_exact xs r sound stands joins_of n (omega (arith, lt)) ∙ l (r.lost + n) (omega arith) (omega arith)))
+      (cases_lt m r.lost)
 
-  module _ (h : List Event) (i : ℕ) (Live : ℕ → Type 0) (agrees : Agrees h i xs Live) (lt : k < length xs) (live : Live k) (free : S xs k ≡ false) where
+  module _ (h : List Event) (i : ℕ) (Live : ℕ → Type 0) (agrees : Agrees h i xs Live) (live : Live (r.lost + j)) (free : S xs (r.lost + j) ≡ false) where
+    k_within : r.lost + j < length xs
+    k_within = let n : r.lost + length r.cells ≡ length xs = stands.count in omega (arith, lt)
+
     -- a member of the chain that is not pending has replied, and not severed the chain
-    gone_on : (m : ℕ) → IsChainBefore h (nth i m) (nth i k) → P xs m ≡ false → HasNotSevered h (nth i m)
-    gone_on m c p = let pos : m < k = c.0.1 in let join = agrees.chain_found m k lt live c in (
-      agrees.replied_is m (omega (arith, lt)) p,
+    gone_on : (m : ℕ) → IsChainBefore h (nth i m) (nth i (r.lost + j)) → P xs m ≡ false → HasNotSevered h (nth i m)
+    gone_on m c p = let pos : m < r.lost + j = c.0.1 in let join = agrees.chain_found m (r.lost + j) k_within live c in (
+      agrees.replied_is m (omega (arith, k_within)) p,
       λ x res placed reply. ⊎_elim
-          (λ (v : severs x res ≡ true). absurd (true≢false (sym (severed_from xs k (omega (arith, lt)) m pos join (agrees.severs_found m k (omega (arith, lt)) live c p x res placed reply v)) ∙ free)))
+          (λ (v : severs x res ≡ true). absurd (true≢false (sym (severed_from xs (r.lost + j) (omega (arith, k_within)) m pos join (agrees.severs_found m (r.lost + j) (omega (arith, k_within)) live c p x res placed reply v)) ∙ free)))
           (λ (v : severs x res ≡ false). v)
           (bool_cases (severs x res)),
     )
 
     -- those of the chain from the n-th on have gone on, where none of them is pending
-    all_gone_on : (n : ℕ) → ((m : ℕ) → n ≤ m → m < k → Join xs m k → P xs m ≡ false) → HaveGoneOn h (nth i k) n
+    all_gone_on : (n : ℕ) → ((m : ℕ) → n ≤ m → m < r.lost + j → Join xs m (r.lost + j) → P xs m ≡ false) → HaveGoneOn h (nth i (r.lost + j)) n
     all_gone_on n none q le c =
-        let at : nth i q.k ≡ q = ap (λ z. nth z q.k) (sym c.0.0) in let c' = subst (λ (z : Req). IsChainBefore h z (nth i k)) (sym at) c in
-        subst (λ (z : Req). HasNotSevered h z) at (gone_on q.k c' (none q.k le c.0.1 (agrees.chain_found q.k k lt live c')))
+        let at : nth i q.k ≡ q = ap (λ z. nth z q.k) (sym c.0.0) in let c' = subst (λ (z : Req). IsChainBefore h z (nth i (r.lost + j))) (sym at) c in
+        subst (λ (z : Req). HasNotSevered h z) at (gone_on q.k c' (none q.k le c.0.1 (agrees.chain_found q.k (r.lost + j) k_within live c')))
 
     -- the row names the nearest one that is pending
-    pub link_law : IsLink h (nth i k) (link_in r (k - r.lost))
-    link_law = by_name (link_in r (k - r.lost)) refl where
-      by_name : (o : Option ℕ) → link_in r (k - r.lost) ≡ o → IsLink h (nth i k) o
-      by_name None e = all_gone_on 0 (λ m le below join. nobody e m below join)
-      by_name (Some p) e = let n = named p e in (agrees.chain_shown p k n.before (omega (arith, lt)) n.joined, all_gone_on (suc p) (λ m le below join. n.between m (omega arith) below))
+    pub link_law : IsLink h (nth i (r.lost + j)) (link_in r j)
+    link_law = by_name (pending_before ys j) refl where
+      by_name : (o : Option ℕ) → pending_before ys j ≡ o → IsLink h (nth i (r.lost + j)) (numbered r.lost o)
+      by_name None e = all_gone_on 0 (λ m le below join. nobody_named e m below join)
+      by_name (Some p) e = let n = named p e in let b = n.before in (agrees.chain_shown (r.lost + p) (r.lost + j) (omega arith) (omega (arith, k_within)) n.joined, all_gone_on (suc (r.lost + p)) (λ m le below join. n.between m (omega arith) below))

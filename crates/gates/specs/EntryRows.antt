@@ -1,13 +1,11 @@
 -- What is kept of a row of entries, and when it stands for a list of them.
-use Rattle.std.specs.Prelude.{IsTrue, ◌≡◌, ◌⊎◌, ℕ, suc, ◌+◌, ◌-◌, ◌<◌, ◌≤◌, ◌==◌, ◌&&◌, ◌||◌, not, nat_le, nat_lt, min, cond, Bool, true, false, List, [], ◌∷◌, length, map, drop, Option, Some, None, slice_get, slice_set}
+use Rattle.std.specs.Prelude.{IsTrue, ◌≡◌, ◌⊎◌, ℕ, suc, ◌+◌, ◌-◌, ◌<◌, ◌≤◌, ◌==◌, ◌&&◌, ◌||◌, nat_lt, cond, Bool, true, false, List, [], ◌∷◌, length, map, drop, Option, Some, None, slice_get, slice_set}
 use Rattle.entry.specs.Entry.{Entry}
 use Rattle.gates.specs.declared.cell.Behind.{Behind}
 use Rattle.gates.specs.declared.cell.Cell.{Cell}
 use Rattle.gates.specs.declared.traits.Traits.{Traits}
-use Rattle.gates.specs.declared.gate.Gate.{Gate}
 use Rattle.gates.specs.declared.gate.Asked.{Asked}
-use Rattle.gates.specs.declared.gate.Asked.TheVariants.{Open as open_now, OpenWith as open_with, Blocked as blocked_by}
-use Rattle.gates.specs.declared.gate.Gate.TheVariants.{Open as open_gate, Shut as shut_gate, Severed as severed_gate}
+use Rattle.gates.specs.declared.gate.Asked.TheVariants.{Severed as severed_now, Open as open_now, OpenWith as open_with, Blocked as blocked_by}
 use Rattle.gates.specs.Slots.{Slot, slot_of, traits_of, is_pending, is_draining, is_target_timer, next_of, behind, passes, pending_before}
 
 -- how many cells there are, how many entries have lost theirs to later ones, the cells of the others in order, and the places
@@ -92,48 +90,13 @@ waiting r = waiting_in (map slot_of r.cells)
 abbrev pub stand_in : Slot
 stand_in = record { traits = record { invalid = false; link_timeout = false; drains = false; links_soft = false; links_hard = false }; last = true; reply = Some false }
 
-abbrev pub held_of : Option Cell → Bool
-held_of None = false
-held_of (Some c) = c.behind.held
-
--- an earlier member of the chain of the request at j has not replied
-abbrev pub held_at : List Cell → ℕ → Bool
-held_at cs j = held_of (slice_get cs j)
-
--- the request at m is held up by nobody of its chain, and the next one is
-pub record IsTurn (cs : List Cell) (low high m : ℕ) : Type 0 where
-  pub least : low ≤ m
-  pub most : m < high
-  pub free : held_at cs m ≡ false
-  pub held : held_at cs (suc m) ≡ true
-
--- what a row answers, from what is kept
-abbrev pub shut_or_open : Bool → Gate
-shut_or_open true = open_gate
-shut_or_open false = shut_gate
-
-abbrev pub clear_by : Kept → ℕ → Option Cell → Bool
-clear_by r j None = false
-clear_by r j (Some c) = not c.behind.severed && (not c.behind.held && (nat_le j r.drain && (not c.traits.drains || nat_le j r.oldest)))
-
--- chains and drains let the request at the place j start
-abbrev pub clear_in : Kept → ℕ → Bool
-clear_in r j = clear_by r j (slice_get r.cells j)
-
 -- the place that decides for the request at j: its target's, if it is a LINK_TIMEOUT, and none where that has lost its cell
 abbrev pub place_by : ℕ → Cell → Option ℕ
 place_by j c = cond (is_target_timer c.behind.hosted (slot_of c)) (cond (j == 0) None (Some (j - 1))) (Some j)
 
-abbrev pub gate_by : Kept → Option ℕ → Gate
-gate_by r None = open_gate
-gate_by r (Some g) = shut_or_open (clear_in r g)
-
-abbrev pub gate_at : Kept → ℕ → Option Cell → Gate
-gate_at r j None = shut_gate
-gate_at r j (Some c) = cond c.behind.severed severed_gate (gate_by r (place_by j c))
-
-abbrev pub gate_in : Kept → ℕ → Gate
-gate_in r k = gate_at r (k - r.lost) (slice_get r.cells (k - r.lost))
+-- the request before the request k, if that is a LINK_TIMEOUT
+abbrev pub target_by : ℕ → Cell → Option ℕ
+target_by k c = cond (is_target_timer c.behind.hosted (slot_of c) && nat_lt 0 k) (Some (k - 1)) None
 
 -- the first entry has lost its cell
 abbrev pub without_first : Kept → Kept
@@ -155,14 +118,6 @@ free_by n cs o = nat_lt 0 o && ((o == length cs) || begins_after n (slice_get cs
 abbrev pub way_in : Kept → Option ℕ
 way_in r = cond (nat_lt (length r.cells) r.size) None (cond (free_by r.lost r.cells r.oldest) None (Some (r.lost + r.oldest)))
 
--- the member of the chain of c, at g, that holds it up, or g where there is none
-abbrev pub IsMember : List Cell → ℕ → ℕ → Cell → ℕ → Type 0
-IsMember cs n g c m = (c.behind.held ≡ false → m ≡ g) × (c.behind.held ≡ true → c.behind.head - n < g → held_at cs (c.behind.head - n) ≡ false → IsTurn cs (c.behind.head - n) g m)
-
--- m is the member of its chain that holds up c, at g
-abbrev pub blocker_by : ℕ → Cell → ℕ → ℕ → ℕ → Option ℕ
-blocker_by g c m oldest drain = let b : ℕ = cond c.traits.drains oldest (min drain m) in cond (nat_lt b g) (Some b) None
-
 abbrev pub numbered : ℕ → Option ℕ → Option ℕ
 numbered n None = None
 numbered n (Some b) = Some (n + b)
@@ -171,11 +126,31 @@ numbered n (Some b) = Some (n + b)
 abbrev pub link_in : Kept → ℕ → Option ℕ
 link_in r j = numbered r.lost (pending_before (map slot_of r.cells) j)
 
--- the answer for the place j by the place g, which decides for it, where q is the first request in the way of that
+-- the place of who is in the way of the request at the place g, by its own place: the first that has not replied, where it
+-- drains; the first drain that has not; or the nearest earlier member of its chain that has not
+abbrev pub bar_by : Kept → ℕ → Cell → Option ℕ
+bar_by r g d = cond (d.traits.drains && nat_lt r.oldest g) (Some r.oldest) (cond (nat_lt r.drain g) (Some r.drain) (pending_before (map slot_of r.cells) g))
+
+abbrev pub bar_at : Kept → ℕ → Option Cell → Option ℕ
+bar_at r g None = None
+bar_at r g (Some d) = bar_by r g d
+
+abbrev pub bar_in : Kept → ℕ → Option ℕ
+bar_in r g = bar_at r g (slice_get r.cells g)
+
+-- the answer for the place j by the place g, which decides for it, where q is the place of who is in the way of that
 abbrev pub asked_by : Kept → ℕ → ℕ → Option ℕ → Asked
-asked_by r g j (Some b) = blocked_by b (link_in r j)
+asked_by r g j (Some b) = blocked_by (r.lost + b) (link_in r j)
 asked_by r g j None = cond (nat_lt g j && passes is_pending (map slot_of r.cells) g) (open_with (r.lost + g)) open_now
 
--- what a row answers as the first request in the way of the place g
-abbrev pub IsBlockerAt : Kept → ℕ → Option ℕ → Type 0
-IsBlockerAt r g q = (d : Cell) → slice_get r.cells g ≡ Some d → (m : ℕ) × IsMember r.cells r.lost g d m × (q ≡ numbered r.lost (blocker_by g d m r.oldest r.drain))
+abbrev pub asked_of : Kept → ℕ → Option ℕ → Asked
+asked_of r j None = open_now
+asked_of r j (Some g) = asked_by r g j (bar_in r g)
+
+abbrev pub asked_at : Kept → ℕ → Option Cell → Asked
+asked_at r j None = open_now
+asked_at r j (Some c) = cond c.behind.severed severed_now (asked_of r j (place_by j c))
+
+-- what a row answers of the request k, from what is kept
+abbrev pub asked_in : Kept → ℕ → Asked
+asked_in r k = asked_at r (k - r.lost) (slice_get r.cells (k - r.lost))
