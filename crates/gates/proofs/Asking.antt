@@ -13,8 +13,8 @@ use Rattle.gates.specs.declared.cell.Behind.{Behind}
 use Rattle.gates.specs.declared.cell.Cell.{Cell}
 use Rattle.gates.specs.declared.gate.Asked.{Asked}
 use Rattle.gates.specs.declared.gate.Asked.TheVariants.{Severed as severed_now, Open as open_now, OpenWith as open_with, Blocked as blocked_by}
-use Rattle.gates.specs.Slots.{Slot, slot_of, is_pending, is_draining, is_target_timer, behind, test_at, passes, pending_before}
-use Rattle.gates.specs.EntryRows.{Kept, HasCell, IsSound, Stands, Waits, place_by, target_by, bar_by, bar_at, link_in, asked_by, asked_of, asked_at, asked_in, numbered}
+use Rattle.gates.specs.Slots.{Slot, slot_of, is_pending, is_draining, is_target_timer, behind, test_at, passes}
+use Rattle.gates.specs.EntryRows.{Kept, HasCell, IsSound, Stands, Waits, place_by, target_by, bar_by, bar_at, link_in, asked_by, asked_of, asked_at, asked_in, nearest_in, numbered}
 use Rattle.gates.specs.Shows.{nth, IsGate, IsAsked, IsTargetOf, named_in, linked_in, gate_by}
 use Rattle.gates.proofs.Lists.{get_there, one_some}
 use Rattle.gates.proofs.Marks.{J, P, S, Bars, hosted_joined, severed_next}
@@ -48,12 +48,12 @@ module _ (xs : List Slot) (r : Kept) (sound : IsSound r) (stands : Stands xs r) 
     -- who is named comes before, and is in the way
     bars_named : (b : ℕ) → bar_by r g d ≡ Some b → Names b
     bars_named b = by_first (d.traits.drains && nat_lt r.oldest g) refl where
-      by_drain : (t : Bool) → nat_lt r.drain g ≡ t → cond t (Some r.drain) (pending_before ys g) ≡ Some b → Names b
+      by_drain : (t : Bool) → nat_lt r.drain g ≡ t → cond t (Some r.drain) (nearest_in r.cells g) ≡ Some b → Names b
       by_drain true e u = let x : r.drain < g = ltb-true r.drain g e in let q = drain_parts xs r sound stands (r.lost + r.drain) (drain_pending xs r sound stands (omega (arith, lt))) in
           subst Names (one_some r.drain b u) (x, (omega arith, q.0, inr (inl q.1)))
       by_drain false e u = let m = named xs r sound stands g lt b u in let x = m.before in (x, (omega arith, m.pending, inl m.joined))
 
-      by_first : (t : Bool) → (d.traits.drains && nat_lt r.oldest g) ≡ t → cond t (Some r.oldest) (cond (nat_lt r.drain g) (Some r.drain) (pending_before ys g)) ≡ Some b → Names b
+      by_first : (t : Bool) → (d.traits.drains && nat_lt r.oldest g) ≡ t → cond t (Some r.oldest) (cond (nat_lt r.drain g) (Some r.drain) (nearest_in r.cells g)) ≡ Some b → Names b
       by_first true e u = let x : r.oldest < g = ltb-true r.oldest g (and_right d.traits.drains (nat_lt r.oldest g) e) in
           subst Names (one_some r.oldest b u) (x, (omega arith, oldest_pending xs r sound stands (omega (arith, lt)), inr (inr (slot_of d, entry, and_left d.traits.drains (nat_lt r.oldest g) e))))
       by_first false e u = by_drain (nat_lt r.drain g) refl u
@@ -67,7 +67,7 @@ module _ (xs : List Slot) (r : Kept) (sound : IsSound r) (stands : Stands xs r) 
       below : m < r.lost + g
       below = b.0
 
-      by_drain : (d.traits.drains && nat_lt r.oldest g) ≡ false → (t : Bool) → nat_lt r.drain g ≡ t → cond t (Some r.drain) (pending_before ys g) ≡ None → ⊥
+      by_drain : (d.traits.drains && nat_lt r.oldest g) ≡ false → (t : Bool) → nat_lt r.drain g ≡ t → cond t (Some r.drain) (nearest_in r.cells g) ≡ None → ⊥
       by_drain first true v u = none-some r.drain (sym u)
       by_drain first false v u = ⊎_elim
           (λ j. true≢false (sym b.1 ∙ nobody_named xs r sound stands g lt u m below j))
@@ -76,7 +76,7 @@ module _ (xs : List Slot) (r : Kept) (sound : IsSound r) (stands : Stands xs r) 
           (λ y. let is : d.traits.drains ≡ true = ap (λ (z : Slot). z.traits.drains) (one_some _ _ (sym entry ∙ y.1)) ∙ y.2 in
           let le : g ≤ r.oldest = not_lt r.oldest g (sym (ap (λ z. z && nat_lt r.oldest g) is) ∙ first) in true≢false (sym b.1 ∙ older xs r sound stands m (omega (arith, below)))) x) b.2
 
-      by_first : (t : Bool) → (d.traits.drains && nat_lt r.oldest g) ≡ t → cond t (Some r.oldest) (cond (nat_lt r.drain g) (Some r.drain) (pending_before ys g)) ≡ None → ⊥
+      by_first : (t : Bool) → (d.traits.drains && nat_lt r.oldest g) ≡ t → cond t (Some r.oldest) (cond (nat_lt r.drain g) (Some r.drain) (nearest_in r.cells g)) ≡ None → ⊥
       by_first true v u = none-some r.oldest (sym u)
       by_first false v u = by_drain v (nat_lt r.drain g) refl u
 
@@ -126,8 +126,8 @@ module _ (xs : List Slot) (r : Kept) (sound : IsSound r) (stands : Stands xs r) 
         (λ g e none l p u. subst IsAhead (one_some (r.lost + g) b u) (ahead g l p)) (λ _ _ _ _ u. absurd (none-some b u))
 
     linked_place : (b : ℕ) → linked_in (asked_of r j (place_by j c)) ≡ Some b → IsAhead b
-    linked_place b = asked_cases (λ a. linked_in a ≡ Some b → IsAhead b) (λ _ u. absurd (none-some b u)) (λ _ _ _ _ u. by_link (pending_before ys j) refl u) (λ _ _ _ _ _ u. absurd (none-some b u)) (λ _ _ _ _ u. absurd (none-some b u)) where
-      by_link : (o : Option ℕ) → pending_before ys j ≡ o → numbered r.lost o ≡ Some b → IsAhead b
+    linked_place b = asked_cases (λ a. linked_in a ≡ Some b → IsAhead b) (λ _ u. absurd (none-some b u)) (λ _ _ _ _ u. by_link (nearest_in r.cells j) refl u) (λ _ _ _ _ _ u. absurd (none-some b u)) (λ _ _ _ _ u. absurd (none-some b u)) where
+      by_link : (o : Option ℕ) → nearest_in r.cells j ≡ o → numbered r.lost o ≡ Some b → IsAhead b
       by_link None e u = absurd (none-some b u)
       by_link (Some p) e u = let m = named xs r sound stands j there p e in subst IsAhead (one_some (r.lost + p) b u) (ahead p m.before m.pending)
 

@@ -8,9 +8,9 @@ use Rattle.history.proofs.Requests.{bool_cases, and_left, and_right}
 use Rattle.gates.specs.declared.cell.Behind.{Behind}
 use Rattle.gates.specs.declared.cell.Cell.{Cell}
 use Rattle.gates.specs.Slots.{Slot, slot_of, joins_of, is_pending, is_draining, is_target_timer, next_of, next_in, behind, test_at, passes}
-use Rattle.gates.specs.EntryRows.{Kept, IsSound, Stands, place_by}
+use Rattle.gates.specs.EntryRows.{Kept, IsSound, Stands, held_of, held_at, place_by}
 use Rattle.gates.proofs.Lists.{get_there, get_drop, slot_there, one_some}
-use Rattle.gates.proofs.Marks.{J, P, Join}
+use Rattle.gates.proofs.Marks.{J, P, W, Join}
 
 pub head_joins : (k : ℕ) (o : Option Slot) (b : Behind) (j : Bool) (s : Slot) → o ≡ Some s → joins_of s ≡ j → let n : Behind = next_in k o b in n.head ≡ cond j b.head (k + 1)
 head_joins k None b j s e u = absurd (none_some s e) where
@@ -82,6 +82,9 @@ module _ (xs : List Slot) (r : Kept) (sound : IsSound r) (stands : Stands xs r) 
 
   pub test_exact : (p : Slot → Bool) (j : ℕ) → j < length r.cells → passes p (map slot_of r.cells) j ≡ passes p xs (r.lost + j)
   test_exact p j lt = let c = get_there r.cells j lt in ap (test_at p) (slot_there slot_of r.cells j c.0 c.1 ∙ sym (slot_exact j c.0 c.1))
+
+  pub held_exact : (j : ℕ) → j < length r.cells → held_at r.cells j ≡ W xs (r.lost + j)
+  held_exact j lt = let c = get_there r.cells j lt in ap held_of c.1 ∙ ap (λ (b : Behind). b.held) (behind_exact j c.0 c.1)
 
   -- all before the oldest have replied
   pub older : (m : ℕ) → m < r.lost + r.oldest → P xs m ≡ false

@@ -1,12 +1,12 @@
 -- What is kept of a row of entries, and when it stands for a list of them.
-use Rattle.std.specs.Prelude.{IsTrue, ◌≡◌, ◌⊎◌, ℕ, suc, ◌+◌, ◌-◌, ◌<◌, ◌≤◌, ◌==◌, ◌&&◌, ◌||◌, nat_lt, cond, Bool, true, false, List, [], ◌∷◌, length, map, drop, Option, Some, None, slice_get, slice_set}
+use Rattle.std.specs.Prelude.{IsTrue, ◌≡◌, ◌⊎◌, ℕ, zero, suc, ◌+◌, ◌-◌, ◌<◌, ◌≤◌, ◌==◌, ◌&&◌, ◌||◌, nat_lt, cond, Bool, true, false, List, [], ◌∷◌, length, map, drop, Option, Some, None, slice_get, slice_set}
 use Rattle.entry.specs.Entry.{Entry}
 use Rattle.gates.specs.declared.cell.Behind.{Behind}
 use Rattle.gates.specs.declared.cell.Cell.{Cell}
 use Rattle.gates.specs.declared.traits.Traits.{Traits}
 use Rattle.gates.specs.declared.gate.Asked.{Asked}
 use Rattle.gates.specs.declared.gate.Asked.TheVariants.{Severed as severed_now, Open as open_now, OpenWith as open_with, Blocked as blocked_by}
-use Rattle.gates.specs.Slots.{Slot, slot_of, traits_of, is_pending, is_draining, is_target_timer, next_of, behind, passes, pending_before}
+use Rattle.gates.specs.Slots.{Slot, slot_of, traits_of, is_pending, is_draining, is_target_timer, next_of, behind, passes}
 
 -- how many cells there are, how many entries have lost theirs to later ones, the cells of the others in order, and the places
 -- among them of the first that has not replied, and of the first drain that has not
@@ -118,18 +118,31 @@ free_by n cs o = nat_lt 0 o && ((o == length cs) || begins_after n (slice_get cs
 abbrev pub way_in : Kept → Option ℕ
 way_in r = cond (nat_lt (length r.cells) r.size) None (cond (free_by r.lost r.cells r.oldest) None (Some (r.lost + r.oldest)))
 
+abbrev pub held_of : Option Cell → Bool
+held_of None = false
+held_of (Some c) = c.behind.held
+
+-- an earlier member of the chain of the request at j has not replied
+abbrev pub held_at : List Cell → ℕ → Bool
+held_at cs j = held_of (slice_get cs j)
+
+-- the place of the nearest earlier member of the chain of the request at j that has not replied
+abbrev pub nearest_in : List Cell → ℕ → Option ℕ
+nearest_in cs zero = None
+nearest_in cs (suc j) = cond (held_at cs (suc j)) (cond (passes is_pending (map slot_of cs) j) (Some j) (nearest_in cs j)) None
+
 abbrev pub numbered : ℕ → Option ℕ → Option ℕ
 numbered n None = None
 numbered n (Some b) = Some (n + b)
 
 -- the nearest earlier member of the chain of the request at the place j that is pending
 abbrev pub link_in : Kept → ℕ → Option ℕ
-link_in r j = numbered r.lost (pending_before (map slot_of r.cells) j)
+link_in r j = numbered r.lost (nearest_in r.cells j)
 
 -- the place of who is in the way of the request at the place g, by its own place: the first that has not replied, where it
 -- drains; the first drain that has not; or the nearest earlier member of its chain that has not
 abbrev pub bar_by : Kept → ℕ → Cell → Option ℕ
-bar_by r g d = cond (d.traits.drains && nat_lt r.oldest g) (Some r.oldest) (cond (nat_lt r.drain g) (Some r.drain) (pending_before (map slot_of r.cells) g))
+bar_by r g d = cond (d.traits.drains && nat_lt r.oldest g) (Some r.oldest) (cond (nat_lt r.drain g) (Some r.drain) (nearest_in r.cells g))
 
 abbrev pub bar_at : Kept → ℕ → Option Cell → Option ℕ
 bar_at r g None = None
