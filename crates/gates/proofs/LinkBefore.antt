@@ -67,7 +67,7 @@ module _ (xs : List Slot) (r : Kept) (sound : IsSound r) (stands : Stands xs r) 
   named (suc j) lt p e = named_step j lt p (named j (omega arith) p) (held_at r.cells (suc j)) (passes is_pending (map slot_of r.cells) j) refl refl e
 
   -- where nobody is named none of its chain before it is pending
-  pub nobody_named : (j : ℕ) → j < length r.cells → nearest_in r.cells j ≡ None → (m : ℕ) → m < r.lost + j → Join xs m (r.lost + j) → P xs m ≡ false
+  nobody_named : (j : ℕ) → j < length r.cells → nearest_in r.cells j ≡ None → (m : ℕ) → m < r.lost + j → Join xs m (r.lost + j) → P xs m ≡ false
   nobody_named zero lt e = λ m below l. stands.gone m (omega arith)
   nobody_named (suc j) lt e = nobody_step j lt (nobody_named j (omega arith)) (held_at r.cells (suc j)) (passes is_pending (map slot_of r.cells) j) refl refl e
 

@@ -1,5 +1,5 @@
 -- What the cells of a row say of the list that the row stands for.
-use Rattle.std.proofs.Common.{◌≡◌, ◌≢◌, ◌⊎◌, ℕ, zero, suc, ◌+◌, ◌-◌, ◌<◌, ◌≤◌, ◌==◌, ◌&&◌, true, false, cond, Bool, List, length, map, Some, None, Option, refl, sym, ap, ◌∙◌, subst, ⊎_elim, inl, inr, true≢false, eqb-true, eq-eqb, arith}
+use Rattle.std.proofs.Common.{◌≡◌, ◌≢◌, ◌⊎◌, ℕ, zero, suc, ◌+◌, ◌-◌, ◌<◌, ◌≤◌, ◌==◌, ◌&&◌, ◌||◌, true, false, cond, Bool, List, length, map, Some, None, Option, refl, sym, ap, ◌∙◌, subst, ⊎_elim, inl, inr, true≢false, eqb-true, eq-eqb, arith}
 use Rattle.std.specs.List.{slice_get}
 use Rattle.std.proofs.lemmas.Bool.{cases_lt}
 use Rattle.std.proofs.lemmas.Option.{slice_get_within, none-some}
@@ -10,7 +10,7 @@ use Rattle.gates.specs.declared.cell.Cell.{Cell}
 use Rattle.gates.specs.Slots.{Slot, slot_of, joins_of, is_pending, is_draining, is_target_timer, next_of, next_in, behind, test_at, passes}
 use Rattle.gates.specs.EntryRows.{Kept, IsSound, Stands, held_of, held_at, place_by}
 use Rattle.gates.proofs.Lists.{get_there, get_drop, slot_there, one_some}
-use Rattle.gates.proofs.Marks.{J, P, W, Join}
+use Rattle.gates.proofs.Marks.{J, P, W, Join, step_held}
 
 pub head_joins : (k : ℕ) (o : Option Slot) (b : Behind) (j : Bool) (s : Slot) → o ≡ Some s → joins_of s ≡ j → let n : Behind = next_in k o b in n.head ≡ cond j b.head (k + 1)
 head_joins k None b j s e u = absurd (none_some s e) where
@@ -26,22 +26,25 @@ module _ (xs : List Slot) where
   pub record IsHead (k : ℕ) : Type 0 where
     pub within : head k ≤ k
     pub joined : Join xs (head k) k
+    pub free : W xs (head k) ≡ false
     pub alone : (m : ℕ) → m < head k → Join xs m k → ⊥
 
   head_step : (k : ℕ) → k < length xs → IsHead k → (j : Bool) → J xs k ≡ j → head (suc k) ≡ cond j (head k) (k + 1) → IsHead (suc k)
   head_step k lt ih true jk e = record {
     within = let a = ih.within in omega arith;
     joined = subst (λ n. Join xs n (suc k)) (sym e) (λ m a b. ⊎_elim (λ (w : m < k). ih.joined m a w) (λ (w : k ≤ m). (let u : k ≡ m = omega arith in subst (λ z. J xs z ≡ true) u jk)) (cases_lt m k));
+    free = ap (W xs) e ∙ ih.free;
     alone = λ m a l. ih.alone m (omega arith) (λ n x y. l n x (omega arith));
   }
   head_step k lt ih false jk e = record {
     within = omega arith;
     joined = λ m a b. absurd (omega arith);
+    free = ap (W xs) e ∙ ap (W xs) (let u : k + 1 ≡ suc k = omega arith in u) ∙ step_held xs k lt ∙ ap (λ z. z && (P xs k || W xs k)) jk;
     alone = λ m a l. true≢false (sym (l k (omega arith) (omega arith)) ∙ jk);
   }
 
   pub head_is : (k : ℕ) → k ≤ length xs → IsHead k
-  head_is zero le = record { within = omega arith; joined = λ m a b. absurd (omega arith); alone = λ m a l. absurd (omega arith) }
+  head_is zero le = record { within = omega arith; joined = λ m a b. absurd (omega arith); free = refl; alone = λ m a l. absurd (omega arith) }
   head_is (suc k) le = let t = get_there xs k (omega arith) in head_step k (omega arith) (head_is k (omega arith)) (joins_of t.0) (ap (test_at joins_of) t.1) (head_joins k (slice_get xs k) (behind xs k) (joins_of t.0) t.0 t.1 refl)
 
 -- the place that decides for a request is its own, or, for a LINK_TIMEOUT, the one before it

@@ -1,5 +1,5 @@
 -- What is kept of a row of entries, and when it stands for a list of them.
-use Rattle.std.specs.Prelude.{IsTrue, ◌≡◌, ◌⊎◌, ℕ, zero, suc, ◌+◌, ◌-◌, ◌<◌, ◌≤◌, ◌==◌, ◌&&◌, ◌||◌, nat_lt, cond, Bool, true, false, List, [], ◌∷◌, length, map, drop, Option, Some, None, slice_get, slice_set}
+use Rattle.std.specs.Prelude.{IsTrue, ◌≡◌, ◌⊎◌, ℕ, zero, suc, ◌+◌, ◌-◌, ◌<◌, ◌≤◌, ◌==◌, ◌&&◌, ◌||◌, nat_lt, min, cond, Bool, true, false, List, [], ◌∷◌, length, map, drop, Option, Some, None, slice_get, slice_set}
 use Rattle.entry.specs.Entry.{Entry}
 use Rattle.gates.specs.declared.cell.Behind.{Behind}
 use Rattle.gates.specs.declared.cell.Cell.{Cell}
@@ -139,31 +139,34 @@ numbered n (Some b) = Some (n + b)
 abbrev pub link_in : Kept → ℕ → Option ℕ
 link_in r j = numbered r.lost (nearest_in r.cells j)
 
--- the place of who is in the way of the request at the place g, by its own place: the first that has not replied, where it
--- drains; the first drain that has not; or the nearest earlier member of its chain that has not
-abbrev pub bar_by : Kept → ℕ → Cell → Option ℕ
-bar_by r g d = cond (d.traits.drains && nat_lt r.oldest g) (Some r.oldest) (cond (nat_lt r.drain g) (Some r.drain) (nearest_in r.cells g))
+-- the request at m is held up by nobody of its chain, and the next one is
+pub record IsTurn (cs : List Cell) (low high m : ℕ) : Type 0 where
+  pub least : low ≤ m
+  pub most : m < high
+  pub free : held_at cs m ≡ false
+  pub held : held_at cs (suc m) ≡ true
 
-abbrev pub bar_at : Kept → ℕ → Option Cell → Option ℕ
-bar_at r g None = None
-bar_at r g (Some d) = bar_by r g d
+-- the member of the chain of c, at g, that holds it up, or g where there is none
+abbrev pub IsMember : List Cell → ℕ → ℕ → Cell → ℕ → Type 0
+IsMember cs n g c m = (c.behind.held ≡ false → m ≡ g) × (c.behind.held ≡ true → c.behind.head - n < g → held_at cs (c.behind.head - n) ≡ false → IsTurn cs (c.behind.head - n) g m)
 
-abbrev pub bar_in : Kept → ℕ → Option ℕ
-bar_in r g = bar_at r g (slice_get r.cells g)
+-- the place of who is in the way of c, at g, where m is the member of its chain that holds it up
+abbrev pub bar_by : ℕ → Cell → ℕ → ℕ → ℕ → Option ℕ
+bar_by g c m oldest drain = let b : ℕ = cond c.traits.drains oldest (min drain m) in cond (nat_lt b g) (Some b) None
+
+-- q is the place of who is in the way of the request at the place g, by its own place
+abbrev pub IsBar : Kept → ℕ → Option ℕ → Type 0
+IsBar r g q = (d : Cell) → slice_get r.cells g ≡ Some d → (m : ℕ) × IsMember r.cells r.lost g d m × (q ≡ bar_by g d m r.oldest r.drain)
 
 -- the answer for the place j by the place g, which decides for it, where q is the place of who is in the way of that
 abbrev pub asked_by : Kept → ℕ → ℕ → Option ℕ → Asked
 asked_by r g j (Some b) = blocked_by (r.lost + b) (link_in r j)
 asked_by r g j None = cond (nat_lt g j && passes is_pending (map slot_of r.cells) g) (open_with (r.lost + g)) open_now
 
-abbrev pub asked_of : Kept → ℕ → Option ℕ → Asked
-asked_of r j None = open_now
-asked_of r j (Some g) = asked_by r g j (bar_in r g)
-
-abbrev pub asked_at : Kept → ℕ → Option Cell → Asked
-asked_at r j None = open_now
-asked_at r j (Some c) = cond c.behind.severed severed_now (asked_of r j (place_by j c))
+abbrev pub asked_of : Kept → ℕ → Option ℕ → Option ℕ → Asked
+asked_of r j None q = open_now
+asked_of r j (Some g) q = asked_by r g j q
 
 -- what a row answers of the request k, from what is kept
-abbrev pub asked_in : Kept → ℕ → Asked
-asked_in r k = asked_at r (k - r.lost) (slice_get r.cells (k - r.lost))
+abbrev pub IsAnswer : Kept → ℕ → Asked → Type 0
+IsAnswer r k a = (c : Cell) → slice_get r.cells (k - r.lost) ≡ Some c → (q : Option ℕ) × (c.behind.severed ≡ false → (g : ℕ) → place_by (k - r.lost) c ≡ Some g → IsBar r g q) × (a ≡ cond c.behind.severed severed_now (asked_of r (k - r.lost) (place_by (k - r.lost) c) q))

@@ -3,7 +3,7 @@ ghost use Rattle.std.specs.Prelude.{◌≡◌, ◌≢◌, ◌⊎◌, ℕ, ◌+�
 ghost use Rattle.std.specs.VecDeque.{deque_capacity};
 ghost use Rattle.gates.specs.declared.cell.Cell.{Cell};
 ghost use Rattle.gates.specs.Slots.{slot_of, joins_of, passes, is_pending, is_draining};
-ghost use Rattle.gates.specs.EntryRows.{LinkedAt, Linked, IsFirst, nearest_in};
+ghost use Rattle.gates.specs.EntryRows.{LinkedAt, Linked, IsFirst, held_at, nearest_in, IsTurn};
 
 use crate::cell::{Behind, Cell};
 use std::collections::VecDeque;
@@ -123,4 +123,21 @@ pub fn last_pending(cells: &VecDeque<Cell>, j: usize) -> Option<usize>
         }
     }
     None
+}
+
+/// The place after which the members of a chain wait for an earlier one, where those at `low` don't and those at `high` do:
+/// the first member that has not replied. It halves what is left of the chain with each cell that it looks at.
+pub fn first_held(cells: &VecDeque<Cell>, mut low: usize, mut high: usize) -> usize
+    requires { high < length cells.now.items }
+    ensures { low < high → held_at cells.now.items low ≡ false → held_at cells.now.items high ≡ true → IsTurn cells.now.items low high result }
+{
+    while high.saturating_sub(low) > 1 {
+        let middle = low + (high - low) / 2;
+        if cell_at(cells, middle).behind.held {
+            high = middle;
+        } else {
+            low = middle;
+        }
+    }
+    low
 }

@@ -2,13 +2,14 @@
 ghost use Rattle.std.specs.Prelude.{◌≡◌, ◌↔◌, ◌⊎◌, IsTrue, ℕ, ◌+◌, ◌-◌, ◌^◌, ◌<◌, ◌≤◌, ◌++◌, ◌∷◌, [], List, Option, length, IsOk, IfOk, OnOk, OnErr, IfSome, Some, None};
 ghost use Rattle.history.specs.declared.event.Event.{Event};
 ghost use Rattle.gates.specs.Slots.{Slot, first, passes, is_pending};
-ghost use Rattle.gates.specs.EntryRows.{Kept, HasCell, Stands, added, new_slot, slot_with, stand_in, with_reply, Waits, waiting, way_in, asked_by, asked_in, bar_in, place_by, target_by, without_first, IsToldBy, free_by, link_in};
+ghost use Rattle.gates.specs.EntryRows.{Kept, HasCell, Stands, added, new_slot, slot_with, stand_in, with_reply, Waits, waiting, way_in, asked_by, IsAnswer, IsBar, place_by, target_by, without_first, IsToldBy, free_by, link_in};
 ghost use Rattle.history.specs.History.{IsReplied, phase};
 ghost use Rattle.gates.specs.Shows.{nth, Shows, Mirrors, Trails, IsGate, IsAsked, IsTargetOf, IsFree, IsOfChain, named_in, linked_in};
 
 use crate::cell::{Behind, Cell};
 use crate::cells::{
-    cell_at, drain_after, first_draining, first_pending, last_pending, set_reply, spread,
+    cell_at, drain_after, first_draining, first_held, first_pending, last_pending, set_reply,
+    spread,
 };
 use crate::error::{Memory, RowFull};
 use crate::gate::{Asked, Gate};
@@ -224,7 +225,7 @@ impl Row {
     /// Whether the request `k` may start, by what is kept.
     fn decide(&self, k: u64) -> Asked
         requires { HasCell self.now k }
-        ensures { result ≡ asked_in self.now k }
+        ensures { IsAnswer self.now k result }
     {
         let j = (k - self.lost) as usize;
         let cell = cell_at(&self.cells, j);
@@ -240,7 +241,7 @@ impl Row {
     /// The same of the request at the place `j`, by the place `g`, which decides for it.
     fn decide_by(&self, g: usize, j: usize) -> Asked
         requires { (g ≤ j) × (j < length self.now.cells) }
-        ensures { result ≡ asked_by self.now g j (bar_in self.now g) }
+        ensures { (q : Option ℕ) × IsBar self.now g q × (result ≡ asked_by self.now g j q) }
     {
         match self.bar(g) {
             Some(b) => Asked::Blocked(self.lost + b as u64, self.link_before(j)),
@@ -251,19 +252,25 @@ impl Row {
         }
     }
 
-    /// The place of a request that keeps the one at a place from starting, by its own place.
+    /// The place of the first request that keeps the one at a place from starting, by its own place.
     fn bar(&self, g: usize) -> Option<usize>
         requires { g < length self.now.cells }
-        ensures bar { result ≡ bar_in self.now g }
+        ensures bar { IsBar self.now g result }
         ensures before { IfSome result (λ b. b < g) }
     {
-        if cell_at(&self.cells, g).traits.drains && self.oldest < g {
-            Some(self.oldest)
-        } else if self.drain < g {
-            Some(self.drain)
+        let cell = cell_at(&self.cells, g);
+        let member = if cell.behind.held {
+            let head = cell.behind.head.saturating_sub(self.lost) as usize;
+            first_held(&self.cells, head, g)
         } else {
-            last_pending(&self.cells, g)
-        }
+            g
+        };
+        let first = if cell.traits.drains {
+            self.oldest
+        } else {
+            self.drain.min(member)
+        };
+        if first < g { Some(first) } else { None }
     }
 
     /// The nearest earlier member of its chain, of the request at a place, that is pending.
