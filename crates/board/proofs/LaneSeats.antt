@@ -36,16 +36,6 @@ lane_hears s t a l parts heard is = let k = l.0 in let c = l.1 in reseat s t a (
   record { orderly = c.orderly; hosted_is = c.hosted_is; done_are = c.done_are; low = c.low; near = c.near },
 ))
 
--- a new seat, which has seen nothing
-pub chains_fresh : (v : View) (ring : ℕ) → v.seen ≡ Rattle.std.proofs.Common.[] → KnowsChains v ring 0 0 Rattle.std.proofs.Common.false
-chains_fresh v ring none = record {
-  orderly = subst (λ (j : List Line). Rattle.steps.specs.Fairness.Orderly v.layout j) (sym none) tt;
-  hosted_is = refl;
-  done_are = λ k lt. absurd (omega arith);
-  low = omega arith;
-  near = omega arith;
-}
-
 -- what was seen after a line begins with what was seen before
 grown : (v w : View) (l : Line) (role : Role) → Extends v l role w → (later : List Line) × (w.seen ≡ later ++ v.seen) × Legal (setup_of v.layout) (events_of w.seen) × (w.layout ≡ v.layout)
 grown v w l role x = (l ∷ x.saw.later, ap (λ (z : View). z.seen) x.is ∙ ap (λ (j : List Line). l ∷ j) x.saw.is, subst (λ (j : List Line). Legal (setup_of v.layout) (events_of j)) (sym (ap (λ (z : View). z.seen) x.is)) x.legal, ap (λ (z : View). z.layout) x.is)

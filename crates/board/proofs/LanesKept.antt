@@ -128,9 +128,6 @@ lane_looked s t a l x bare = (seat_looked s t a.ring a.next a.ages.items a.facts
 
 -- ---- who has replied
 
-pub spot_fits : (table : TableId) (s : Seat (Option Thing) View) (ring k : ℕ) (o : Spot) → IsOver table s.me.0.layout.cells s → IsSpot s.me.0.layout.cells ring k o → Fits table s o.cell
-spot_fits table s ring k o over spot = (over.table_is, spot.small, spot.inside, (let w = over.wide in let i = spot.inside in omega arith))
-
 -- what a submitter knows of the cell of one of its ring's requests
 pub lane_cell : (s : Seat (Option Thing) View) (a : Lane) (k : ℕ) (o : Spot) → IsLane s a → IsSpot s.me.0.layout.cells a.ring k o → (o.number < length a.ages.items) × (o.number < length a.facts.items) × KnowsCell s.me.0.layout.cells s.me.0.seen o.cell (get_or a.ages.items o.number 0) (get_or a.facts.items o.number 0)
 lane_cell s a k o l spot = let c = (cell_here s a.ring a.next a.ages.items a.facts.items l.0 o.cell o.number spot.inside spot.number_is (l.0.role ∙ ap Submitter (sym (ap (λ (r : Req). r.ring) spot.at)))) in (c.1, c.2, c.3)

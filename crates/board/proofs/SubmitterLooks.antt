@@ -33,15 +33,6 @@ gen_small K x g inside le = ⊎_elim (λ w. ltb-true g 16777216 w)
     let m : 16777216 * n ≤ g * n = mul-le-mul_right n z in let u : 16777216 * n ≡ 16777215 * n + n = suc-mul 16777215 n in
     let a : ℕ = g * n in let c : ℕ = 16777215 * n in let d : ℕ = 16777216 * n in let m' : d ≤ a = m in let u' : d ≡ c + n = u in let le' : a + place_of K x ≤ c = le in absurd (omega arith))) (bool_cases (nat_lt g 16777216))
 
--- a request's number is that of its ring's next one
-pub next_cell : (b : Facts) (p : Pass) (ring cell number g : ℕ) → IsOf b p → p.view.role ≡ Submitter ring → IsCell b.layout.cells cell → number ≡ place_of b.layout.cells cell → request_at b.layout.cells cell g ≡ next_of p ring → IsNextCell p cell number g
-next_cell b p ring cell number g o role inside is at = subst (λ (L : Layout). IsNextCell (record p { view = record p.view { layout = L } }) cell number g) (sym o.layout_is) record {
-  inside = inside;
-  number_is = is;
-  mine = role ∙ ap Submitter (sym (ap (λ (r : Req). r.ring) at));
-  next_is = ap (λ (r : Req). r.k) at ∙ ap (submits (seen_of p)) (sym (ap (λ (r : Req). r.ring) at));
-}
-
 -- the generation of the next request by its number
 pub generation_is : (K : List ℕ) (x g : ℕ) → IsCell K x → (request_at K x g).k / cells_in K (ring_of K x) ≡ g
 generation_is K x g inside = div-mul-add g (cells_in K (ring_of K x)) (place_of K x) (located K x inside).1

@@ -97,15 +97,6 @@ goes_one b p q e o owned t x = record {
 pub freed_one : (v w : View) (e : Event) → stands_for v.role pollers ≡ true → Extends v (Did e) v.role w → (q : Req) → freed w.seen q ≡ freed v.seen q
 freed_one v w e mine x q = ap (λ (j : List Line). freed j q) (ap (λ (z : View). z.seen) x.is ∙ ap (λ (j : List Line). Did e ∷ j) x.saw.is) ∙ same_freed v.role mine x.saw.later v.seen x.saw.none q
 
--- no timer is armed before the first event
-pub new_timers : (K : List ℕ) (h : List Event) (alarms : List Alarm) → h ≡ [] → length alarms ≡ total K → KnowsTimers K h 0 alarms
-new_timers K h alarms is many = subst (λ (g : List Event). KnowsTimers K g 0 alarms) (sym is) record {
-  clock_is = refl;
-  small = omega arith;
-  many = many;
-  each = λ y g inside d armed'. absurd (let z = armed' in cc);
-}
-
 -- the same over a call of the poller, by the cells that its seat knows
 pub timers_on : (b : Facts) (s t : TableSeat) (es : List Event) → IsPollerSeat s → Goes b (pass_of s) es (pass_of t) → IsOf b (pass_of s) → AllPass (is_calm none) es → AllPass is_still es → (clock : ℕ) (alarms : List Alarm)
     → KnowsTimers s.me.0.layout.cells (events_of s.me.0.seen) clock alarms → KnowsTimers t.me.0.layout.cells (events_of t.me.0.seen) clock alarms

@@ -16,13 +16,6 @@ use Rattle.steps.proofs.ClaimWords.{done_word}
 use Rattle.board.specs.PollerRows.{HasOutcome, IsNumbered}
 use Rattle.steps.specs.FactsTold.{TellsFacts}
 
--- the generation of a request that a cell may have
-pub few_generations : (K : List ℕ) (x g : ℕ) (q : Req) → IsCell K x → request_at K x g ≡ q → IsNumbered K q → g < 16777216
-few_generations K x g q inside at n = ⊎_elim (λ w. ltb-true g 16777216 w)
-    (λ w. (let c : ℕ = cells_in K (ring_of K x) in let z = ltb-false g 16777216 w in let m : 16777216 * c ≤ g * c = mul-le-mul_right c z in
-    let k : g * c + place_of K x < 16777216 * c = subst (λ (r : Req). r.k < 16777216 * cells_in K r.ring) (sym at) n.few in let a : ℕ = g * c in let d : ℕ = 16777216 * c in let m' : d ≤ a = m in let k' : a + place_of K x < d = k in absurd (omega arith)))
-    (bool_cases (nat_lt g 16777216))
-
 -- of a request that is Done
 pub done_outcome : (K : List ℕ) (j : List Line) (x w g : ℕ) (q : Req) (c : Cause) (res : ℤ) (f : Bool) → Shown K j x w → request_at K x g ≡ q → phase (events_of j) q ≡ replied c res
     → ((c : Cause) (f' : Bool) (g p : ℕ) → g < 16777216 → p < 4294967296 → w ≡ word_of DoneTag (cause_bits c f') g p → f ≡ f') → HasOutcome (events_of j) q f

@@ -50,11 +50,6 @@ drawn_first old (Some rest) new s r others ends is split =
     let start : List Req = before (numbers_of old) rest in
     ap numbers_of is.0 ∙ ends ∙ ap (λ (z : List Req). start ++ z) (sym is.1 ∙ split) ∙ sym (append_assoc start (r ∷ []) (numbers_in others))
 
--- nothing was drawn
-pub drawn_none : (old : List Span) (rest : Option Span) (new : List Span) → HasDrawn old rest new None → (new ≡ old) × (rest ≡ None)
-drawn_none old None new is = (is, refl)
-drawn_none old (Some rest) new is = absurd is
-
 pub same_moves : (a b : Moves) → a.queue ≡ b.queue → a.share ≡ b.share → a.put ≡ b.put → a.taken ≡ b.taken → a ≡ b
 same_moves a b queue share put taken =
     ap (λ z. record { queue = z; share = a.share; put = a.put; taken = a.taken }) queue

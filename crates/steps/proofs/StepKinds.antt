@@ -53,9 +53,6 @@ either_way n m A hit miss = dite (ℕ_discrete n m) hit miss
 pub now_is : (b : Bool) (p q : Phase) → b ≡ true → cond b p q ≡ p
 now_is b p q e = ap (λ (z : Bool). cond z p q) e
 
-pub two_requests : (h : List Event) (a b : Req) (p q : Phase) → phase h a ≡ p → phase h b ≡ q → p ≢ q → same a b ≡ false
-two_requests h a b p q x y n = same_false a b (λ e. n (sym x ∙ (ap (phase h) e ∙ y)))
-
 module _ (slots id : ℕ) (me : Seated) where
   abbrev pub v : View
   v = me.0

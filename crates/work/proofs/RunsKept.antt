@@ -343,16 +343,8 @@ pub wanted_run : (op : Op) → wanted_in (op_run op) ≡ wanted_in op
 wanted_run (LinkTimeout ticks) = refl
 wanted_run op = refl
 
-pub piped_plain : (op : Op) (n : ℕ) → uses_at op n ≡ true → wanted_in op ≡ None
-piped_plain (AsyncCancel u all) n is = absurd (true≢false (sym is))
-piped_plain (TimeoutRemove u) n is = absurd (true≢false (sym is))
-piped_plain op n is = refl
-
 pub steps_plain : (b : Running) (w : View) (e : Entry) (ran : Ran) → wanted_in e.op ≡ None → (named : NamedPipes) → AreNamed e.op (length b.pass.view.layout.caps) named → StepsAt named b.pass.view w b.req ran → HasStepped b w e ran
 steps_plain b w e ran is named are t = subst (λ (u : Option Wanted). StepsBy u b w e ran) (sym is) (named, are, t)
-
-pub steps_cancel : (b : Running) (w : View) (e : Entry) (ran : Ran) (u : Wanted) → wanted_in e.op ≡ Some u → FewSteps b.pass.view w 4 (5 * cells_in b.pass.view.layout.cells b.req.ring) → HasStepped b w e ran
-steps_cancel b w e ran u is f = subst (λ (z : Option Wanted). StepsBy z b w e ran) (sym is) f
 
 is_below : (caps : List ℕ) (n : ℕ) → is_pipe caps n ≡ true → n < length caps
 is_below caps n there = ltb-true n (length caps) there
