@@ -1,7 +1,6 @@
 -- The answers of pipes in hand are those of the definitions: READ, WRITE, POLL_ADD and SPLICE, case by case.
-use Rattle.std.proofs.Common.{◌≡◌, ℕ, ◌==◌, not, take, Bool, true, false, cond, pos, negsuc, List, [], refl, sym, ap, arith}
+use Rattle.std.proofs.Common.{◌≡◌, ℕ, ◌==◌, take, Bool, true, false, cond, pos, negsuc, List, [], refl, sym, ap, arith}
 use Rattle.std.proofs.lemmas.List.{take_min, take_all}
-use Rattle.pipe.specs.declared.ends.End.TheVariants.{Read, Write}
 use Rattle.pipe.specs.declared.ready.Ready.{Ready}
 use Rattle.pipe.specs.declared.ready.Ready.TheVariants.{Now, Wait, Fail}
 use Rattle.pipe.specs.Pipe.{Conduit}

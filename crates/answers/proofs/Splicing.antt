@@ -22,7 +22,7 @@ use Rattle.answers.specs.PipeReplies.{below, reply_of}
 use Rattle.answers.proofs.Absent.{not_there}
 use Rattle.answers.proofs.Linking.{said, none, splice_said}
 use Rattle.answers.proofs.Naming.{not_at, or_right}
-use Rattle.answers.proofs.Operating.{held_of, same, stays, IsError, Errs, errs_if, bad, nothing_moves, errs_nothing, silent, bare}
+use Rattle.answers.proofs.Operating.{held_of, same, stays, IsError, Errs, errs_if, bad, errs_nothing, silent, bare}
 
 -- ---- which ends they are
 

@@ -45,7 +45,7 @@ use Rattle.board.proofs.TimersHeld.{armed_before, freed_one, goes_one, none}
 use Rattle.board.proofs.TimersKept.{AllPass, is_calm, is_still}
 use Rattle.board.proofs.RowLaws.{submits_goes}
 use Rattle.board.proofs.CountLooks.{spends_add, spends_most, spends_other}
-use Rattle.board.proofs.Watching.{lasts_on, paid_add, paid_most, paid_none, paid_one, replied_on, stepped_after, watched_none, watched_then}
+use Rattle.board.proofs.Watching.{lasts_on, paid_add, paid_one, replied_on, stepped_after, watched_then}
 
 abbrev TableSeat : Type 0
 TableSeat = Seat (Option Thing) View

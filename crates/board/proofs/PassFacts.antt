@@ -21,7 +21,7 @@ use Rattle.work.specs.Passes.{Pass, CanReach, seen_of, Took}
 use Rattle.work.proofs.PassesKept.{looked_of}
 use Rattle.board.proofs.Standings.{word_is}
 use Rattle.board.proofs.HeardPasses.{heard_second}
-use Rattle.board.specs.Calls.{KeepsFreed, IsWord, LastAt, Stepped, HasLooked, Goes, MayStart}
+use Rattle.board.specs.Calls.{KeepsFreed, IsWord, Stepped, HasLooked, Goes, MayStart}
 use Rattle.board.proofs.GoesLaws.{goes_looked}
 
 -- no request of a ring that isn't there was submitted

@@ -1,5 +1,5 @@
 -- What the poller keeps of the clock and of timers stays right over a call that arms and fires none.
-use Rattle.std.proofs.Common.{◌≡◌, ℕ, ◌≤◌, Bool, true, false, cond, List, [], ◌∷◌, ◌++◌, Option, length, refl, sym, ap, ◌∙◌, subst, arith}
+use Rattle.std.proofs.Common.{◌≡◌, ℕ, ◌≤◌, Bool, true, false, cond, List, [], ◌∷◌, ◌++◌, Option, refl, sym, ap, ◌∙◌, subst}
 use Rattle.std.specs.List.{slice_get}
 use Rattle.history.specs.declared.req.Req.{Req}
 use Rattle.history.specs.declared.event.Event.{Event}
@@ -11,7 +11,7 @@ use Rattle.steps.specs.declared.line.Line.TheVariants.{Did}
 use Rattle.steps.specs.declared.view.Role.{Role}
 use Rattle.steps.specs.declared.view.Role.TheVariants.{Poller}
 use Rattle.steps.specs.declared.view.View.{View}
-use Rattle.steps.specs.Cells.{setup_of, request_at, total}
+use Rattle.steps.specs.Cells.{setup_of, request_at}
 use Rattle.steps.specs.Journal.{events_of, freed}
 use Rattle.steps.specs.Rule.{pollers, stands_for, owns, Looks, Extends}
 use Rattle.work.specs.Board.{Facts, IsOf}

@@ -1,19 +1,18 @@
 -- What the claim word and the facts of a request tell of its outcome.
-use Rattle.std.proofs.Common.{◌≡◌, ⊎_elim, ℕ, ◌+◌, ◌*◌, ◌<◌, ◌≤◌, ◌==◌, nat_lt, ltb-true, ltb-false, Bool, true, false, ℤ, List, Some, sym, refl, ap, ◌∙◌, subst, arith, mul-le-mul_right}
+use Rattle.std.proofs.Common.{◌≡◌, ℕ, ◌<◌, ◌==◌, Bool, true, false, ℤ, List, Some, sym, refl, ap, ◌∙◌, subst}
 use Rattle.claim.specs.Facts.{Facts, bit}
 use Rattle.claim.specs.declared.tag.Tag.TheVariants.{Done as DoneTag}
 use Rattle.entry.specs.Entry.{fails}
 use Rattle.history.specs.declared.req.Req.{Req}
 use Rattle.history.specs.History.{Cause, Phase, replied, reaped, phase, reply, reply_in}
 use Rattle.history.specs.declared.event.Event.{Event}
-use Rattle.history.proofs.Requests.{bool_cases}
 use Rattle.steps.specs.declared.line.Line.{Line}
-use Rattle.steps.specs.Cells.{IsCell, request_at, cells_in, ring_of, place_of, word_of, cause_bits}
+use Rattle.steps.specs.Cells.{request_at, word_of, cause_bits}
 use Rattle.steps.specs.Fairness.{IsReaped}
 use Rattle.steps.specs.Journal.{events_of}
 use Rattle.steps.specs.Rule.{Shown}
 use Rattle.steps.proofs.ClaimWords.{done_word}
-use Rattle.board.specs.PollerRows.{HasOutcome, IsNumbered}
+use Rattle.board.specs.PollerRows.{HasOutcome}
 use Rattle.steps.specs.FactsTold.{TellsFacts}
 
 -- of a request that is Done

@@ -143,17 +143,18 @@ module _ (xs : List Slot) (r : Kept) (sound : IsSound r) (stands : Stands xs r) 
     abbrev answer : Option ℕ → Asked
     answer q = cond c.behind.severed severed_now (asked_of r j (place_by j c) q)
 
-    abbrev IsFree : ℕ → Type 0
-    IsFree g = (m : ℕ) → ¬ Bars xs (r.lost + g) m
+    -- nobody is in the way of the place
+    abbrev IsUnbarred : ℕ → Type 0
+    IsUnbarred g = (m : ℕ) → ¬ Bars xs (r.lost + g) m
 
     -- the answers, each with why it is given
     answer_cases : (Q : Asked → Type 0) → (c.behind.severed ≡ true → Q severed_now) → (c.behind.severed ≡ false → place_by j c ≡ None → Q open_now)
         → (c.behind.severed ≡ false → (g b : ℕ) → place_by j c ≡ Some g → (b < g) × Bars xs (r.lost + g) (r.lost + b) → Q (blocked_by (r.lost + b) (link_in r j)))
-        → (c.behind.severed ≡ false → (g : ℕ) → place_by j c ≡ Some g → IsFree g → g < j → P xs (r.lost + g) ≡ true → Q (open_with (r.lost + g)))
-        → (c.behind.severed ≡ false → (g : ℕ) → place_by j c ≡ Some g → IsFree g → (g < j → P xs (r.lost + g) ≡ false) → Q open_now)
+        → (c.behind.severed ≡ false → (g : ℕ) → place_by j c ≡ Some g → IsUnbarred g → g < j → P xs (r.lost + g) ≡ true → Q (open_with (r.lost + g)))
+        → (c.behind.severed ≡ false → (g : ℕ) → place_by j c ≡ Some g → IsUnbarred g → (g < j → P xs (r.lost + g) ≡ false) → Q open_now)
         → (q : Option ℕ) → IsChosen q → Q (answer q)
     answer_cases Q severed lost blocked with_target open' q chosen = by_mark c.behind.severed refl where
-      by_test : c.behind.severed ≡ false → (g : ℕ) → place_by j c ≡ Some g → g < length r.cells → IsFree g → (t : Bool) → (nat_lt g j && passes is_pending ys g) ≡ t → Q (cond t (open_with (r.lost + g)) open_now)
+      by_test : c.behind.severed ≡ false → (g : ℕ) → place_by j c ≡ Some g → g < length r.cells → IsUnbarred g → (t : Bool) → (nat_lt g j && passes is_pending ys g) ≡ t → Q (cond t (open_with (r.lost + g)) open_now)
       by_test free g e l none true u = with_target free g e none (ltb-true g j (and_left (nat_lt g j) (passes is_pending ys g) u)) (sym (test_exact xs r sound stands is_pending g l) ∙ and_right (nat_lt g j) (passes is_pending ys g) u)
       by_test free g e l none false u = open' free g e none (λ x. ⊎_elim
           (λ (w : P xs (r.lost + g) ≡ true). absurd (true≢false (sym (rw (lt-ltb g j x, test_exact xs r sound stands is_pending g l ∙ w) refl) ∙ u)))
@@ -254,11 +255,11 @@ module _ (xs : List Slot) (r : Kept) (sound : IsSound r) (stands : Stands xs r) 
         inside : (g : ℕ) → place_by j c ≡ Some g → r.lost + g < length xs
         inside g e = let le = decides_before g e in omega (arith, within)
 
-        opens : (g : ℕ) → place_by j c ≡ Some g → ((m : ℕ) → ¬ Bars xs (r.lost + g) m) → IsClear h (gate_of h (nth i (r.lost + j)))
+        opens : (g : ℕ) → place_by j c ≡ Some g → IsUnbarred g → IsClear h (gate_of h (nth i (r.lost + j)))
         opens g e none = let f = facts g e in subst (λ z. IsClear h z) (sym f.0) (clear_shown h i xs Live agrees (r.lost + g) (inside g e) f.2 f.1 none)
 
         -- nobody before the place that decides holds the request up, and no more does that itself
-        goes_on : (g : ℕ) → place_by j c ≡ Some g → ((m : ℕ) → ¬ Bars xs (r.lost + g) m) → (g < j → P xs (r.lost + g) ≡ true → ¬ IsReplied (phase h (nth i (r.lost + g)))) → ¬ Severed h (nth i (r.lost + j))
+        goes_on : (g : ℕ) → place_by j c ≡ Some g → IsUnbarred g → (g < j → P xs (r.lost + g) ≡ true → ¬ IsReplied (phase h (nth i (r.lost + g)))) → ¬ Severed h (nth i (r.lost + j))
         goes_on g e none own = unsevered (λ m l join p. ⊎_elim
             (λ (x : m < r.lost + g). absurd (none m (x, p, inl (λ y a b. let le = decides_before g e in join y a (omega arith)))))
             (λ (x : r.lost + g ≤ m). let v : m ≡ r.lost + g = last_before m l x in subst (λ z. ¬ IsReplied (phase h (nth i z))) (sym v) (own (omega arith) (sym (ap (P xs) v) ∙ p)))

@@ -1,12 +1,11 @@
 -- The requests of spans, as lists: one more at the end, and what is before the rest of a list.
-use Rattle.std.proofs.Common.{◌≡◌, ℕ, zero, suc, ◌+◌, ◌-◌, List, [], ◌∷◌, ◌++◌, length, length-append, append_assoc, append-nil, take, flat_map, sum_by, sym, refl, ap, ◌∙◌, subst, arith, Option, Some, None}
+use Rattle.std.proofs.Common.{◌≡◌, ℕ, zero, suc, ◌+◌, ◌-◌, List, [], ◌∷◌, ◌++◌, length, length-append, append_assoc, append-nil, take, sum_by, sym, refl, ap, ◌∙◌, subst, arith, Option, Some, None}
 use Rattle.std.proofs.lemmas.List.Sums.{sum_by-cons, sum_by-append}
 use Rattle.std.proofs.lemmas.Grind.{flat_map-append}
-use Rattle.std.proofs.lemmas.List.Concat.{flat_map-cons}
 use Rattle.std.proofs.Math.Seq.{take-append_seam}
 use Rattle.history.specs.declared.req.Req.{Req}
 use Rattle.ready.specs.declared.span.Span.{Span}
-use Rattle.ready.specs.Spans.{run_from, numbers_in, most}
+use Rattle.ready.specs.Spans.{run_from, numbers_in}
 use Rattle.ready.specs.Ready.{Moves, all_put, all_taken, numbers_of, before}
 use Rattle.ready.specs.QueueParts.{HasDrawn, listed}
 

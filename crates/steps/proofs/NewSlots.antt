@@ -10,7 +10,7 @@ use Rattle.pipe.specs.Pipe.{Conduit}
 use Rattle.pipe.specs.PipeAnswers.{new_conduit}
 use Rattle.steps.specs.declared.parcel.Thing.{Thing}
 use Rattle.steps.specs.declared.parcel.Thing.TheVariants.{Piped}
-use Rattle.steps.specs.Cells.{PipeIs, AreNewSlots, slot_at, slots_of}
+use Rattle.steps.specs.Cells.{PipeIs, slot_at, slots_of}
 
 at_last : {A : Type 0} (l : List A) (a : A) → get_elem? (l ++ a ∷ []) (length l) ≡ some a
 at_last [] a = refl

@@ -12,10 +12,10 @@ use Rattle.claim.specs.declared.tag.Tag.{Tag}
 use Rattle.claim.specs.declared.tag.Tag.TheVariants.{Empty, Running}
 use Rattle.history.specs.declared.req.Req.{Req}
 use Rattle.history.specs.declared.event.Event.{Event}
-use Rattle.history.specs.History.{Cause, Phase, unborn, replied, reaped, same, phase, runs, submits, was_shut, data_of, IsReplied}
+use Rattle.history.specs.History.{Cause, Phase, unborn, replied, reaped, phase, runs, submits, was_shut, data_of, IsReplied}
 use Rattle.history.specs.Chains.{before_in}
 use Rattle.history.specs.Legal.{Setup, Legal}
-use Rattle.history.proofs.Requests.{same_itself, same_true, same_false}
+use Rattle.history.proofs.Requests.{same_itself, same_true}
 use Rattle.history.proofs.Growth.{unborn_yet}
 use Rattle.steps.specs.declared.line.Line.{Line}
 use Rattle.steps.specs.declared.parcel.Parcel.{Parcel}

@@ -1,5 +1,5 @@
 -- What the single steps of a run come to: which events the pass went on by, how many steps it took, and whose pass it stays.
-use Rattle.std.proofs.Common.{◌≡◌, ℕ, suc, ◌+◌, ◌*◌, ◌<◌, ◌≤◌, ◌&&◌, not, cond, Bool, true, false, ℤ, List, [], ◌∷◌, ◌++◌, length, slice_index, Option, Some, None, sym, refl, ap, ◌∙◌, subst, ⊎_elim, true≢false, ltb-true, eq-eqb, length-append, arith}
+use Rattle.std.proofs.Common.{◌≡◌, ℕ, suc, ◌+◌, ◌<◌, ◌≤◌, ◌&&◌, not, cond, Bool, true, false, ℤ, List, [], ◌∷◌, ◌++◌, length, slice_index, Option, Some, None, sym, refl, ap, ◌∙◌, subst, ⊎_elim, true≢false, ltb-true, eq-eqb, length-append, arith}
 use Rattle.std.proofs.lemmas.Bool.{cases_eq}
 use Rattle.std.proofs.lemmas.List.{append_assoc}
 use Rattle.atomic_table.specs.Table.{rest, turned}
@@ -34,7 +34,7 @@ use Rattle.steps.specs.declared.view.Step.{Step}
 use Rattle.steps.specs.declared.view.View.{View}
 use Rattle.steps.specs.Fairness.{Orderly}
 use Rattle.steps.specs.Journal.{event_of, events_of, holder}
-use Rattle.steps.specs.Cells.{setup_of, IsCell, cells_in, request_at, claim_at, pipe_at, slot_at, over, IsParcel, PipeIs}
+use Rattle.steps.specs.Cells.{setup_of, IsCell, request_at, claim_at, pipe_at, slot_at, over, IsParcel, PipeIs}
 use Rattle.steps.specs.Plays.{Seated, HasBoth, MayReply, IsSamePipe}
 use Rattle.steps.specs.Rule.{AreMade, NoneOf, owns, Begins, Looks, Extends, IsStep, leaves, leaves_one}
 use Rattle.steps.proofs.JournalGrowth.{lasts, placed_lasts, submission_lasts, submitted_in}
@@ -44,7 +44,7 @@ use Rattle.steps.proofs.Submissions.{fits_is}
 use Rattle.steps.proofs.ViewsKept.{layout_after, role_after, parts_after, parcel_after}
 use Rattle.work.specs.Board.{Facts, IsOf, share_of}
 use Rattle.work.specs.Passes.{Pass, Running, Took, HasRoom, RunsIt, IsGridOf, own_of}
-use Rattle.work.specs.Searches.{FewSteps, wanted_in}
+use Rattle.work.specs.Searches.{wanted_in}
 use Rattle.work.specs.declared.cancel.Wanted.{Wanted}
 use Rattle.work.specs.declared.run.Ran.{Ran}
 use Rattle.work.specs.WorkerRuns.{AreFew, DidReply, EndsBy, FoundOut, HasStepped, MissedPipe, StepsAt, StepsBy, op_run, run_as}
