@@ -1,7 +1,6 @@
 -- The answers of pipes in hand are those of the definitions: READ, WRITE, POLL_ADD and SPLICE, case by case.
-use Rattle.std.proofs.Common.{◌≡◌, ℕ, ◌==◌, not, take, Bool, true, false, cond, pos, negsuc, List, [], refl, sym, ap, arith}
+use Rattle.std.proofs.Common.{◌≡◌, ℕ, ◌==◌, take, Bool, true, false, cond, pos, negsuc, List, [], refl, sym, ap, arith}
 use Rattle.std.proofs.lemmas.List.{take_min, take_all}
-use Rattle.pipe.specs.declared.ends.End.TheVariants.{Read, Write}
 use Rattle.pipe.specs.declared.ready.Ready.{Ready}
 use Rattle.pipe.specs.declared.ready.Ready.TheVariants.{Now, Wait, Fail}
 use Rattle.pipe.specs.Pipe.{Conduit}
@@ -21,11 +20,6 @@ said (Fail errno) xs = now (below errno) []
 pub none : (n : ℕ) → ◌≡◌ {A = List ℕ} (take n []) []
 none n = take_all n [] (omega arith)
 
--- a choice of answers is made before what is said of them
-said_if : (b : Bool) (x y : Ready ℕ) (xs : List ℕ) → said (cond b x y) xs ≡ cond b (said x xs) (said y xs)
-said_if true x y xs = refl
-said_if false x y xs = refl
-
 read_cases : (a b d e : Bool) (m : ℕ) (xs ys : List ℕ) → ys ≡ take m xs → cond a (now (negsuc 8) []) (cond b (now (pos 0) []) (cond d (now (pos m) ys) (cond e (now (pos 0) []) later))) ≡ said (cond a (Fail (pos 9)) (cond b (Now 0) (cond d (Now m) (cond e (Now 0) Wait)))) xs
 read_cases true b d e m xs ys t = refl
 read_cases false true d e m xs ys t = refl
@@ -42,11 +36,6 @@ write_cases false false false true false g n m = refl
 write_cases false false false false f true n m = ap (now (pos m)) (sym (none m))
 write_cases false false false false f false n m = refl
 
-poll_cases : (a b : Bool) (n : ℕ) → cond (not a) (cond b later (now (pos n) [])) (now (negsuc 8) []) ≡ said (cond a (Fail (pos 9)) (cond b Wait (Now n))) []
-poll_cases true b n = refl
-poll_cases false true n = refl
-poll_cases false false n = ap (now (pos n)) (sym (none n))
-
 splice_cases : (k b m z : Bool) (n : ℕ) → cond k (now (pos 0) []) (cond b (now (negsuc 31) []) (cond m (now (pos n) []) (cond z (now (pos 0) []) later))) ≡ said (cond k (Now 0) (cond b (Fail (pos 32)) (cond m (Now n) (cond z (Now 0) Wait)))) []
 splice_cases true b m z n = refl
 splice_cases false true m z n = refl
@@ -60,12 +49,6 @@ module _ (cap : ℕ) (c : Conduit) (w : Flow) (s : IsPipe cap c w) where
 
   pub write_said : (len : ℕ) → told.answer_write cap w len ≡ said (piped.answer_write c len) []
   write_said len = rw (← s.content_is, ← s.read_is, ← s.write_is, ← s.cap_is) (write_cases c.write_shut _ c.read_shut _ _ _ len _)
-
-  pub poll_read_said : (mask : ℕ) → cond (not w.read_shut) (told.answer_poll (told.read_events w) mask) (now (negsuc 8) []) ≡ said (piped.answer_poll c Read mask) []
-  poll_read_said mask = rw (← s.content_is, ← s.read_is, ← s.write_is) (poll_cases c.read_shut _ _)
-
-  pub poll_write_said : (mask : ℕ) → cond (not w.write_shut) (told.answer_poll (told.write_events cap w) mask) (now (negsuc 8) []) ≡ said (piped.answer_poll c Write mask) []
-  poll_write_said mask = rw (← s.content_is, ← s.read_is, ← s.write_is, ← s.cap_is) (poll_cases c.write_shut _ _)
 
 pub splice_said : (cap room : ℕ) (c d : Conduit) (v w : Flow) → IsPipe cap c v → IsPipe room d w → (len : ℕ) → told.answer_splice room v w len ≡ said (piped.answer_splice c d len) []
 splice_said cap room c d v w s t len = rw (← s.content_is, ← s.write_is, ← t.content_is, ← t.read_is, ← t.cap_is) (splice_cases (len == 0) d.read_shut _ _ _)

@@ -1,7 +1,7 @@
 -- What READ, WRITE, CLOSE and POLL_ADD do to the pipe in hand is what their replies do to the pipe of the history.
 use Rattle.answers.specs.NamedEnds.{IsSide}
 use Rattle.pipe.specs.declared.ends.End.TheVariants.{Read as ReadSide, Write as WriteSide}
-use Rattle.std.proofs.Common.{Some, ◌≡◌, to_z, of_z, w32, ◌-ℤ◌, ℕ, ◌<◌, ◌≤◌, ◌==◌, ◌&&◌, nat_lt, min, take, drop, length, slice_index, Bool, true, false, cond, ℤ, pos, negsuc, List, [], ◌++◌, refl, sym, ap, ◌∙◌, subst, arith, ◌⊎◌, inl, inr, eq-eqb, eqb-true, append-nil, nat_le, bit_and, bit_or, not}
+use Rattle.std.proofs.Common.{◌≡◌, to_z, of_z, w32, ◌-ℤ◌, ℕ, ◌<◌, ◌≤◌, ◌==◌, ◌&&◌, nat_lt, min, take, drop, length, slice_index, Bool, true, false, cond, ℤ, pos, negsuc, List, [], ◌++◌, refl, sym, ap, ◌∙◌, subst, arith, ◌⊎◌, inl, inr, eq-eqb, eqb-true, append-nil, nat_le, bit_and, bit_or}
 use Rattle.std.proofs.lemmas.Bool.{lt-ltb}
 use Rattle.std.proofs.lemmas.List.{length-take-le}
 use Rattle.entry.specs.declared.op.Op.{Op}
@@ -9,7 +9,7 @@ use Rattle.entry.specs.declared.op.Offset.{Offset}
 use Rattle.entry.specs.declared.op.Op.TheVariants.{Close as OpClose, Read as OpRead, Write as OpWrite, PollAdd as OpPoll, Splice as OpSplice}
 use Rattle.history.specs.declared.event.Event.{Event}
 use Rattle.history.specs.declared.req.Req.{Req}
-use Rattle.history.specs.Answers.{Answer, now, is_pipe, read_from, write_to, close_of, poll_of, OpAnswers}
+use Rattle.history.specs.Answers.{Answer, now, is_pipe, read_from, write_to, poll_of, OpAnswers}
 use Rattle.history.specs.Pipes.{Flow, contents, flow, offered, flows, End, no_end, read_end, write_end, end_of}
 use Rattle.history.specs.Users.{is_at}
 use Rattle.history.specs.State.{Held, held_in}
@@ -18,10 +18,10 @@ use Rattle.pipe.specs.declared.ends.End.{End as Side}
 use Rattle.pipe.specs.declared.ready.Ready.{Ready}
 use Rattle.pipe.specs.declared.ready.Ready.TheVariants.{Now, Wait, Fail}
 use Rattle.pipe.specs.Pipe.{Conduit}
-use Rattle.pipe.specs.PipeAnswers.{moved, OnIdle, after_read, answer_read, answer_write, answer_close, answer_poll, free_in, is_shut, events_at, after_write, after_close}
+use Rattle.pipe.specs.PipeAnswers.{moved, OnIdle, after_read, answer_read, answer_write, answer_poll, free_in, is_shut, events_at, after_write}
 use Rattle.answers.specs.Answered.{IsPipe, IsSound, Does}
 use Rattle.answers.specs.PipeReplies.{below, reply_of}
-use Rattle.answers.proofs.Linking.{said, none, read_said, write_said, poll_read_said, poll_write_said}
+use Rattle.answers.proofs.Linking.{said, none, read_said, write_said}
 
 abbrev pub held_of : Conduit → Held
 held_of c = record { bytes = c.content; read_shut = c.read_shut; write_shut = c.write_shut }
@@ -57,9 +57,6 @@ read_errs c len = errs_if c.read_shut _ _ bad (errs_if (len == 0) _ _ tt (errs_i
 
 write_errs : (c : Conduit) (len : ℕ) → Errs (answer_write c len)
 write_errs c len = errs_if c.write_shut _ _ bad (errs_if (len == 0) _ _ tt (errs_if c.read_shut _ _ (inr (inl refl)) (errs_if (nat_le len c.cap) _ _ (errs_if (nat_le len (free_in c)) _ _ tt tt) (errs_if (nat_lt 0 (free_in c)) _ _ tt tt))))
-
-close_errs : (c : Conduit) (side : Side) → Errs (answer_close c side)
-close_errs c side = errs_if (is_shut side c) _ _ bad tt
 
 poll_errs : (c : Conduit) (side : Side) (mask : ℕ) → Errs (answer_poll c side mask)
 poll_errs c side mask = errs_if (is_shut side c) _ _ bad (errs_if (bit_and (events_at side c) (bit_or mask 24) == 0) _ _ tt tt)
@@ -112,10 +109,6 @@ abbrev pub zeroed : Ready (Unit {0}) → Ready ℕ
 zeroed (Now x) = Now 0
 zeroed Wait = Wait
 zeroed (Fail errno) = Fail errno
-
-close_said : (b : Bool) → cond (not b) (now (pos 0) []) (now (negsuc 8) []) ≡ said (zeroed (cond b (Fail (pos 9)) (Now tt))) []
-close_said true = refl
-close_said false = refl
 
 zero_now : (a : Ready (Unit {0})) (n : ℕ) → zeroed a ≡ Now n → 0 ≡ n
 zero_now (Now x) n e = cc
@@ -178,12 +171,6 @@ module _ (caps : List ℕ) (h : List Event) (r : Req) (p : ℕ) (fd : ℤ) (c : 
     shuts : (x : Answer) → ((res : ℤ) (data' : List ℕ) → x ≡ now res data' → OpAnswers caps h r (OpClose fd) res data') → ((res : ℤ) (data' : List ℕ) → OpAnswers caps h r (OpClose fd) res data' → x ≡ now res data') → x ≡ said (zeroed a) [] → Errs a → new.cap ≡ c.cap → held_of new ≡ flows_held (OpClose fd) (offers (OpClose fd)) (pos 0) p (held_of c) → OnIdle (zeroed a) (new ≡ c) → Does caps h r (OpClose fd) p (reply_of (zeroed a)) c new bytes bytes
     shuts x tells told link errs k m o = bare (OpClose fd) x tells told new (zeroed a) link (zeroed_errs a errs) k (λ n is. subst (λ (z : ℕ). held_of new ≡ closes_held (end_of fd) (pos z) p (held_of c)) (zero_now a n is) m) o
 
-    pub close_read_does : end_of fd ≡ read_end p → a ≡ answer_close c ReadSide → new ≡ after_close ReadSide c → OnIdle (zeroed a) (new ≡ c) → Does caps h r (OpClose fd) p (reply_of (zeroed a)) c new bytes bytes
-    close_read_does end e m o = shuts (close_of caps (flow h) (end_of fd)) (λ res d z. z) (λ res d z. z) (rw (end, is_there) (rw (← s.read_is) (close_said c.read_shut) ∙ ap (λ (z : Ready (Unit {0})). said (zeroed z) []) (sym e))) (subst (λ (z : Ready (Unit {0})). Errs z) (sym e) (close_errs c ReadSide)) (ap (λ (z : Conduit). z.cap) m) (rw (end, same p) (rw m refl)) o
-
-    pub close_write_does : end_of fd ≡ write_end p → a ≡ answer_close c WriteSide → new ≡ after_close WriteSide c → OnIdle (zeroed a) (new ≡ c) → Does caps h r (OpClose fd) p (reply_of (zeroed a)) c new bytes bytes
-    close_write_does end e m o = shuts (close_of caps (flow h) (end_of fd)) (λ res d z. z) (λ res d z. z) (rw (end, is_there) (rw (← s.write_is) (close_said c.write_shut) ∙ ap (λ (z : Ready (Unit {0})). said (zeroed z) []) (sym e))) (subst (λ (z : Ready (Unit {0})). Errs z) (sym e) (close_errs c WriteSide)) (ap (λ (z : Conduit). z.cap) m) (rw (end, same p) (rw m refl)) o
-
   module _ (a : Ready ℕ) (mask : ℕ) where
     polls : (side : Side) → poll_of caps (flow h) (end_of fd) mask ≡ said (answer_poll c side mask) [] → a ≡ answer_poll c side mask → Does caps h r (OpPoll fd mask) p (reply_of a) c c bytes bytes
     polls side link e = bare (OpPoll fd mask) (poll_of caps (flow h) (end_of fd) mask) (λ res d z. z) (λ res d z. z) c a (link ∙ ap (λ (z : Ready ℕ). said z []) (sym e)) (subst (λ (z : Ready ℕ). Errs z) (sym e) (poll_errs c side mask)) refl (λ n is. refl) (still a)
@@ -192,19 +179,6 @@ module _ (caps : List ℕ) (h : List Event) (r : Req) (p : ℕ) (fd : ℤ) (c : 
         still (Now n) = tt
         still Wait = refl
         still (Fail errno) = refl
-
-    pub poll_read_does : end_of fd ≡ read_end p → a ≡ answer_poll c ReadSide mask → Does caps h r (OpPoll fd mask) p (reply_of a) c c bytes bytes
-    poll_read_does end e = polls ReadSide (rw (end, is_there) (poll_read_said (slice_index caps p) c (flow h p) s mask)) e
-
-    pub poll_write_does : end_of fd ≡ write_end p → a ≡ answer_poll c WriteSide mask → Does caps h r (OpPoll fd mask) p (reply_of a) c c bytes bytes
-    poll_write_does end e = polls WriteSide (rw (end, is_there) (poll_write_said (slice_index caps p) c (flow h p) s mask)) e
-
-  -- a READ of a write end, and a WRITE of a read end
-  pub read_refused : (offset : Offset) (len : ℕ) → end_of fd ≡ write_end p → Does caps h r (OpRead fd offset len) p (Some (negsuc 8)) c c bytes bytes
-  read_refused offset len end = bare (OpRead fd offset len) (read_from caps (flow h) (end_of fd) len) (λ res d z. z) (λ res d z. z) c (Fail (pos 9)) (rw end refl) bad refl (λ n is. absurd cc) refl
-
-  pub write_refused : (offset : Offset) (len : ℕ) → end_of fd ≡ read_end p → Does caps h r (OpWrite fd offset len) p (Some (negsuc 8)) c c bytes bytes
-  write_refused offset len end = bare (OpWrite fd offset len) (write_to caps (flow h) (end_of fd) len) (λ res d z. z) (λ res d z. z) c (Fail (pos 9)) (rw end refl) bad refl (λ n is. absurd cc) refl
 
 -- which end of the pipe it is
 pub side_read : (x : End) (p : ℕ) → IsSide ReadSide x → is_at x p ≡ true → x ≡ read_end p

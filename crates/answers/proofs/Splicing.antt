@@ -22,7 +22,7 @@ use Rattle.answers.specs.PipeReplies.{below, reply_of}
 use Rattle.answers.proofs.Absent.{not_there}
 use Rattle.answers.proofs.Linking.{said, none, splice_said}
 use Rattle.answers.proofs.Naming.{not_at, or_right}
-use Rattle.answers.proofs.Operating.{held_of, same, stays, IsError, Errs, errs_if, bad, nothing_moves, errs_nothing, silent, bare}
+use Rattle.answers.proofs.Operating.{held_of, same, stays, IsError, Errs, errs_if, bad, errs_nothing, silent, bare}
 
 -- ---- which ends they are
 
@@ -125,11 +125,6 @@ module _ (caps : List ℕ) (h : List Event) (r : Req) (s t : ℕ) (fd_in fd_out 
     others = λ bytes p ns nt. reads_past (end_of fd_in) res p (writes (end_of fd_out) (bytes_in bytes) res p (flow h p)) (not_at (end_of fd_in) s p u.joins.0 ns) ∙ writes_past (end_of fd_out) (bytes_in bytes) res p (flow h p) (not_at (end_of fd_out) t p u.joins.1 nt);
   }
 
-  -- an end that isn't open, or is of the other side
-  pub both_refused : (gives (end_of fd_in) c && takes (end_of fd_out) d) ≡ false → DoesBoth caps h r op s t (Some (negsuc 8)) c c d d
-  both_refused n = replies (negsuc 8) c d (shut_said caps (flow h) s t c d u.source_there u.target_there source target len (end_of fd_in) (end_of fd_out) u.joins.0 u.joins.1 n) refl refl
-      (λ bytes. sym (nothing_moves op (bytes_in bytes) 8 s (held_of c))) (λ bytes. sym (nothing_moves op (bytes_in bytes) 8 t (held_of d)))
-
   module _ (g : gives (end_of fd_in) c ≡ true) (k : takes (end_of fd_out) d ≡ true) (c' d' : Conduit) where
     first : end_of fd_in ≡ read_end s
     first = read_end_is (end_of fd_in) s c u.joins.0 g
@@ -211,7 +206,3 @@ module _ (caps : List ℕ) (h : List Event) (r : Req) (p : ℕ) (fd_in fd_out : 
 
     pub alone_refused : (gives (end_of fd_in) c && takes (end_of fd_out) c) ≡ false → Does caps h r alone p (Some (negsuc 8)) c c bytes bytes
     alone_refused n = answered (negsuc 8) (pos 9) bad refl (shut_said caps (flow h) p p c c u.there u.there source source len (end_of fd_in) (end_of fd_out) at_both.0 at_both.1 n)
-
-    pub alone_same : gives (end_of fd_in) c ≡ true → takes (end_of fd_out) c ≡ true → Does caps h r alone p (Some (negsuc 21)) c c bytes bytes
-    alone_same g k = answered (negsuc 21) (pos 22) (inr (inr refl)) refl (ends_said caps (flow h) p p c c u.there u.there source source len (end_of fd_in) (end_of fd_out) at_both.0 at_both.1
-        ∙ (λ i. cond (g i && k i) (cond ((same p) i) (now (negsuc 21) []) (told.answer_splice (slice_index caps p) (flow h p) (flow h p) len)) bad_end))

@@ -1,5 +1,5 @@
 -- The reply that an answer of a pipe becomes.
-use Rattle.std.specs.Prelude.{◌≡◌, ℕ, zero, suc, ◌≤◌, ◌⊎◌, ℤ, pos, negsuc, Option, Some, None}
+use Rattle.std.specs.Prelude.{ℕ, zero, suc, ℤ, pos, negsuc, Option, Some, None}
 use Rattle.pipe.specs.declared.ready.Ready.{Ready}
 use Rattle.pipe.specs.declared.ready.Ready.TheVariants.{Now, Wait, Fail}
 
@@ -16,9 +16,3 @@ abbrev pub reply_of : Ready ℕ → Option ℤ
 reply_of (Now n) = Some (pos n)
 reply_of Wait = None
 reply_of (Fail errno) = Some (below errno)
-
--- at most so much, and no other errors than a pipe's
-abbrev pub IsSmall : Ready ℕ → Type 0
-IsSmall (Now n) = n ≤ 65536
-IsSmall Wait = Unit {0}
-IsSmall (Fail errno) = (errno ≡ pos 9) ⊎ (errno ≡ pos 32)

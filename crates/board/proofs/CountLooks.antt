@@ -1,5 +1,5 @@
 -- Where the steps of a count are made: at the timer's own claim word, or at those of later requests.
-use Rattle.std.proofs.Common.{◌≡◌, ⊎_elim, ℕ, suc, ◌+◌, ◌*◌, ◌<◌, ◌≤◌, ◌==◌, nat_lt, ltb-true, ltb-false, mul-le-mul_right, suc-mul, Bool, true, false, cond, List, [], ◌∷◌, ◌++◌, sym, refl, ap, ◌∙◌, subst, arith, eq-eqb, eqb-true}
+use Rattle.std.proofs.Common.{◌≡◌, ⊎_elim, ℕ, suc, ◌+◌, ◌*◌, ◌<◌, ◌≤◌, ◌==◌, nat_lt, ltb-true, ltb-false, mul-le-mul_right, suc-mul, Bool, true, false, cond, List, [], ◌∷◌, ◌++◌, sym, ap, ◌∙◌, subst, arith, eq-eqb, eqb-true}
 use Rattle.std.proofs.lemmas.List.{append_assoc}
 use Rattle.history.specs.declared.req.Req.{Req}
 use Rattle.history.proofs.Requests.{bool_cases}
@@ -26,9 +26,6 @@ one_at true = omega arith
 one_at false = omega arith
 
 module _ (K : List ℕ) (r : Req) where
-  pub spends_none : (v : View) → Spends K r v v 0 0
-  spends_none v = record { steps = []; is = refl; at_own = λ x g inside at. omega arith; at_others = λ x g inside at. omega arith }
-
   pub spends_most : (v w : View) (a b c d : ℕ) → Spends K r v w a b → a ≤ c → b ≤ d → Spends K r v w c d
   spends_most v w a b c d s l m = record { steps = s.steps; is = s.is; at_own = λ x g inside at. let z = s.at_own x g inside at in omega arith; at_others = λ x g inside at. let z = s.at_others x g inside at in omega arith }
 

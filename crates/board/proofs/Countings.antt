@@ -44,8 +44,8 @@ use Rattle.board.proofs.Settlings.{replied_by}
 use Rattle.board.proofs.TimersHeld.{armed_before, freed_one, goes_one, none}
 use Rattle.board.proofs.TimersKept.{AllPass, is_calm, is_still}
 use Rattle.board.proofs.RowLaws.{submits_goes}
-use Rattle.board.proofs.CountLooks.{spends_add, spends_most, spends_none, spends_other}
-use Rattle.board.proofs.Watching.{lasts_on, paid_add, paid_most, paid_none, paid_one, replied_on, stepped_after, watched_none, watched_then}
+use Rattle.board.proofs.CountLooks.{spends_add, spends_most, spends_other}
+use Rattle.board.proofs.Watching.{lasts_on, paid_add, paid_one, replied_on, stepped_after, watched_then}
 
 abbrev TableSeat : Type 0
 TableSeat = Seat (Option Thing) View
@@ -107,19 +107,6 @@ pub record Tallied (b : Facts) (s t : TableSeat) (r : Req) (k found : ℕ) : Typ
   pub paid : Paid s.me.0 t.me.0 0 (k - suc r.k)
   pub looks : Spends b.layout.cells r s.me.0 t.me.0 0 (k - suc r.k)
 
--- so far it has made no step
-pub tally_start : (b : Facts) (s : TableSeat) (r : Req) (k : ℕ) → IsOurs b s → k ≡ r.k + 1 → 0 < cells_in b.layout.cells r.ring → r.k < submits (events_of s.me.0.seen) r.ring → Tallied b s s r k 0
-tally_start b s r k o is some born = let zero' : k - suc r.k ≡ 0 = omega arith in record {
-  watched = watched_none b s o;
-  low = omega arith;
-  high = omega arith;
-  born = omega arith;
-  at_least = omega arith;
-  at_most = subst (λ (n : ℕ). replies_from (events_of s.me.0.seen) r.ring (suc r.k) n ≤ 0) (sym zero') (omega arith);
-  paid = subst (λ (n : ℕ). Paid s.me.0 s.me.0 0 n) (sym zero') (paid_none s.me.0 0);
-  looks = subst (λ (n : ℕ). Spends b.layout.cells r s.me.0 s.me.0 0 n) (sym zero') (spends_none b.layout.cells r s.me.0);
-}
-
 module _ (b : Facts) (s t u : TableSeat) (r : Req) (k found : ℕ) (x : Tallied b s t r k found) (w : Watched b t u) where
   abbrev here : Req
   here = record { ring = r.ring; k = k }
@@ -171,9 +158,6 @@ module _ (b : Facts) (s t : TableSeat) (r : Req) (k found count : ℕ) (x : Tall
   pub tally_all : r.k + cells_in b.layout.cells r.ring ≤ k → submits (events_of s.me.0.seen) r.ring ≤ r.k + cells_in b.layout.cells r.ring → found < count → later_replies (events_of s.me.0.seen) r < count
   tally_all end held lt = let h = events_of s.me.0.seen in let c = x.at_most in
       let z = replies_longer h r.ring (suc r.k) (submits h r.ring - suc r.k) (k - suc r.k) (omega arith) in omega (arith, z, c, lt)
-
-  pub tally_steps : Paid s.me.0 t.me.0 0 (cells_in b.layout.cells r.ring - 1)
-  tally_steps = let high = x.high in let low = x.low in paid_most s.me.0 t.me.0 (k - suc r.k) (cells_in b.layout.cells r.ring - 1) x.paid (omega arith)
 
   pub tally_looks : Spends b.layout.cells r s.me.0 t.me.0 0 (cells_in b.layout.cells r.ring - 1)
   tally_looks = let high = x.high in let low = x.low in spends_most b.layout.cells r s.me.0 t.me.0 0 (k - suc r.k) 0 (cells_in b.layout.cells r.ring - 1) x.looks (omega arith) (omega arith)

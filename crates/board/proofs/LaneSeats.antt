@@ -1,5 +1,5 @@
 -- A submitter's seat and lane from one call to the next.
-use Rattle.std.proofs.Common.{◌≡◌, ◌⊎◌, ℕ, zero, suc, ◌+◌, ◌*◌, ◌<◌, ◌≤◌, Bool, true, List, [], ◌∷◌, ◌++◌, Option, Some, length, get_or, set, sym, refl, ap, ◌∙◌, subst, arith, eq-eqb}
+use Rattle.std.proofs.Common.{◌≡◌, ◌⊎◌, ℕ, ◌+◌, ◌<◌, ◌≤◌, Bool, List, [], ◌∷◌, ◌++◌, Some, sym, refl, ap, ◌∙◌, subst}
 use Rattle.entry.specs.Entry.{Entry}
 use Rattle.history.specs.declared.req.Req.{Req}
 use Rattle.history.specs.declared.event.Event.TheVariants.{Submit, Reap}
@@ -35,16 +35,6 @@ lane_hears s t a l parts heard is = let k = l.0 in let c = l.1 in reseat s t a (
   record { role = k.role; bare = k.bare; ring_there = k.ring_there; next_is = k.next_is; narrow = k.narrow; few = k.few; unlent = k.unlent; many = k.many; legal = k.legal; knows = k.knows },
   record { orderly = c.orderly; hosted_is = c.hosted_is; done_are = c.done_are; low = c.low; near = c.near },
 ))
-
--- a new seat, which has seen nothing
-pub chains_fresh : (v : View) (ring : ℕ) → v.seen ≡ Rattle.std.proofs.Common.[] → KnowsChains v ring 0 0 Rattle.std.proofs.Common.false
-chains_fresh v ring none = record {
-  orderly = subst (λ (j : List Line). Rattle.steps.specs.Fairness.Orderly v.layout j) (sym none) tt;
-  hosted_is = refl;
-  done_are = λ k lt. absurd (omega arith);
-  low = omega arith;
-  near = omega arith;
-}
 
 -- what was seen after a line begins with what was seen before
 grown : (v w : View) (l : Line) (role : Role) → Extends v l role w → (later : List Line) × (w.seen ≡ later ++ v.seen) × Legal (setup_of v.layout) (events_of w.seen) × (w.layout ≡ v.layout)

@@ -1,7 +1,6 @@
 -- What a submitter knows of the chains of its ring, from one step to the next, and who has replied.
 use Rattle.std.proofs.Common.{◌≡◌, ◌≢◌, ◌⊎◌, ⊎_elim, inl, inr, ℕ, zero, suc, ◌+◌, ◌-◌, ◌*◌, ◌==◌, ◌<◌, ◌≤◌, Bool, true, false, cond, ℤ, Option, Some, None, List, [], ◌∷◌, ◌++◌, length, get_or, sym, refl, ap, ◌∙◌, subst, arith, true≢false, eqb-true, ne_eqb, suc-mul}
 use Rattle.std.proofs.lemmas.Bool.{cases_lt}
-use Rattle.atomic_table.specs.Seated.{TableId}
 use Rattle.atomic_table.specs.declared.shared.Seat.{Seat}
 use Rattle.entry.specs.Entry.{Entry}
 use Rattle.history.specs.declared.req.Req.{Req}
@@ -22,7 +21,7 @@ use Rattle.steps.specs.declared.view.View.{View}
 use Rattle.steps.specs.Fairness.{IsFree, IsReaped, Orderly}
 use Rattle.steps.specs.Journal.{events_of}
 use Rattle.steps.specs.Cells.{setup_of, IsCell, ring_of, place_of, cells_in, request_at}
-use Rattle.steps.specs.Rule.{rings, stands_for, Looks, Extends, Fits, IsStep, Vacant}
+use Rattle.steps.specs.Rule.{rings, stands_for, Looks, Extends, IsStep, Vacant}
 use Rattle.steps.proofs.JournalGrowth.{legal_before, lasts, done_lasts, same_before}
 use Rattle.work.specs.declared.grid.Spot.{Spot}
 use Rattle.steps.proofs.ViewsKept.{submitter_can}
@@ -31,7 +30,7 @@ use Rattle.board.specs.declared.phase.Phase.{Phase as Standing}
 use Rattle.board.specs.declared.phase.Phase.TheVariants.{Unborn, Held, Ready, Running, Armed, Done, Gone}
 use Rattle.board.specs.Calls.{Stands}
 use Rattle.board.specs.Seats.{KnowsCell}
-use Rattle.board.specs.Lanes.{nth, KnowsChains, IsLane, IsSpot, IsOver, Watched}
+use Rattle.board.specs.Lanes.{nth, KnowsChains, IsLane, IsSpot, Watched}
 use Rattle.board.proofs.SubmitterSeats.{seat_looked, cell_here}
 use Rattle.board.proofs.OwnCells.{same_default}
 use Rattle.steps.proofs.NotesKept.{earlier_reaped, reaped_born}
@@ -127,9 +126,6 @@ pub lane_looked : (s t : Seat (Option Thing) View) (a : Lane) → IsLane s a →
 lane_looked s t a l x bare = (seat_looked s t a.ring a.next a.ages.items a.facts.items l.0 x bare, chains_looked s.me.0 t.me.0 a.ring a.next a.done a.hosted (submitter_can s.me.0 a.ring l.0.role) l.1 x)
 
 -- ---- who has replied
-
-pub spot_fits : (table : TableId) (s : Seat (Option Thing) View) (ring k : ℕ) (o : Spot) → IsOver table s.me.0.layout.cells s → IsSpot s.me.0.layout.cells ring k o → Fits table s o.cell
-spot_fits table s ring k o over spot = (over.table_is, spot.small, spot.inside, (let w = over.wide in let i = spot.inside in omega arith))
 
 -- what a submitter knows of the cell of one of its ring's requests
 pub lane_cell : (s : Seat (Option Thing) View) (a : Lane) (k : ℕ) (o : Spot) → IsLane s a → IsSpot s.me.0.layout.cells a.ring k o → (o.number < length a.ages.items) × (o.number < length a.facts.items) × KnowsCell s.me.0.layout.cells s.me.0.seen o.cell (get_or a.ages.items o.number 0) (get_or a.facts.items o.number 0)

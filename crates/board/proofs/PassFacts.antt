@@ -21,7 +21,7 @@ use Rattle.work.specs.Passes.{Pass, CanReach, seen_of, Took}
 use Rattle.work.proofs.PassesKept.{looked_of}
 use Rattle.board.proofs.Standings.{word_is}
 use Rattle.board.proofs.HeardPasses.{heard_second}
-use Rattle.board.specs.Calls.{KeepsFreed, IsWord, LastAt, Stepped, HasLooked, Goes, MayStart}
+use Rattle.board.specs.Calls.{KeepsFreed, IsWord, Stepped, HasLooked, Goes, MayStart}
 use Rattle.board.proofs.GoesLaws.{goes_looked}
 
 -- no request of a ring that isn't there was submitted
@@ -38,13 +38,6 @@ has_looked p q word n is = (record { word = word; found = n; seen = q.view.seen 
 -- one step of the call, at the request's cell
 pub stepped_once : (K : List ℕ) (r : Req) (p q : Pass) (x g n : ℕ) → IsCell K x → request_at K x g ≡ r → IsStep (claim_at x) n p.view q.view → Shown K q.view.seen x n → Stepped K r p q
 stepped_once K r p q x g n inside at is shown = (x, g, n, record { others = []; cell_is = (inside, at); last = is }, shown)
-
--- two steps of the call, the last of which was at the request's cell
-pub last_of_two : (K : List ℕ) (r : Req) (p m q : Pass) (word i x g n : ℕ) → IsCell K x → request_at K x g ≡ r → IsStep word i p.view m.view → IsStep (claim_at x) n m.view q.view → LastAt K r p q x g n
-last_of_two K r p m q word i x g n inside at a b = record { others = record { word = word; found = i; seen = m.view.seen } ∷ []; cell_is = (inside, at); last = b ∙ ap (λ (t : List Step). record { word = claim_at x; found = n; seen = q.view.seen } ∷ t) a }
-
-pub took_two : (p m q : Pass) (word i word' n : ℕ) → IsStep word i p.view m.view → IsStep word' n m.view q.view → Took p.view q.view 2
-took_two p m q word i word' n a b = (record { word = word'; found = n; seen = q.view.seen } ∷ (record { word = word; found = i; seen = m.view.seen } ∷ []), refl, b ∙ ap (λ (t : List Step). record { word = word'; found = n; seen = q.view.seen } ∷ t) a)
 
 pub took_three : (u v w z : View) → (i : ℕ) (word : ℕ) → IsStep word i u v → (j : ℕ) (word' : ℕ) → IsStep word' j v w → (n : ℕ) (word'' : ℕ) → IsStep word'' n w z → Took u z 3
 took_three u v w z i word a j word' b n word'' c = (

@@ -57,10 +57,6 @@ rows_on b s t es o x rows k =
 
 -- ---- new rows
 
--- the rows so far, of the first rings
-pub rows_none : (K : List ℕ) (rows : List Kept) → rows ≡ [] → (i : ℕ) (r : Kept) → slice_get rows i ≡ Some r → KnowsRow K [] i r
-rows_none K rows is i r e = absurd (let z = sym (ap (λ (l : List Kept). slice_get l i) is) ∙ e in cc)
-
 pub new_row : (K : List ℕ) (i : ℕ) (r : Kept) → r.size ≡ cells_in K i → Stands [] r → KnowsRow K [] i r
 new_row K i r size stands = record { size = size; slots = []; stands = stands; trails = trails_none [] i }
 

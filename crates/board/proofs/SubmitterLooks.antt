@@ -1,13 +1,10 @@
 -- What a submitter that looked at the cell of its next request knows.
-use Rattle.std.proofs.Common.{◌≡◌, ⊎_elim, ℕ, zero, suc, ◌+◌, ◌*◌, ◌/◌, ◌<◌, ◌≤◌, List, [], sym, refl, ap, ◌∙◌, subst, arith, nat_lt, ltb-true, ltb-false, mul-le-mul_right, suc-mul}
+use Rattle.std.proofs.Common.{◌≡◌, ⊎_elim, ℕ, zero, suc, ◌+◌, ◌*◌, ◌/◌, ◌<◌, ◌≤◌, List, [], sym, refl, subst, arith, nat_lt, ltb-true, ltb-false, mul-le-mul_right, suc-mul}
 use Rattle.std.proofs.lemmas.Nat.{div-mul-add}
 use Rattle.history.specs.declared.req.Req.{Req}
-use Rattle.history.specs.History.{submits}
 use Rattle.history.specs.Legal.{Legal}
 use Rattle.history.proofs.Requests.{bool_cases}
 use Rattle.steps.specs.declared.line.Line.{Line}
-use Rattle.steps.specs.declared.view.Layout.{Layout}
-use Rattle.steps.specs.declared.view.Role.TheVariants.{Submitter}
 use Rattle.steps.specs.Fairness.{IsFree}
 use Rattle.steps.specs.Journal.{events_of}
 use Rattle.steps.specs.Cells.{setup_of, IsCell, ring_of, place_of, cells_in, request_at}
@@ -23,8 +20,7 @@ use Rattle.board.specs.declared.error.SubmitError.TheVariants.{Full, Spent}
 use Rattle.board.specs.Lanes.{nth, RefusesRoom, Watched}
 use Rattle.board.specs.Refusals.{RefusesEntry}
 use Rattle.board.proofs.GoesLaws.{goes_same, goes_looked, goes_then}
-use Rattle.board.specs.Calls.{Goes, next_of}
-use Rattle.board.specs.Seats.{IsNextCell}
+use Rattle.board.specs.Calls.{Goes}
 
 -- a request's generation is no more than those that its ring's cells have
 pub gen_small : (K : List ℕ) (x g : ℕ) → IsCell K x → (request_at K x g).k ≤ 16777215 * cells_in K (ring_of K x) → g < 16777216
@@ -32,15 +28,6 @@ gen_small K x g inside le = ⊎_elim (λ w. ltb-true g 16777216 w)
     (λ w. (let n : ℕ = cells_in K (ring_of K x) in let lt = (located K x inside).1 in let z = ltb-false g 16777216 w in
     let m : 16777216 * n ≤ g * n = mul-le-mul_right n z in let u : 16777216 * n ≡ 16777215 * n + n = suc-mul 16777215 n in
     let a : ℕ = g * n in let c : ℕ = 16777215 * n in let d : ℕ = 16777216 * n in let m' : d ≤ a = m in let u' : d ≡ c + n = u in let le' : a + place_of K x ≤ c = le in absurd (omega arith))) (bool_cases (nat_lt g 16777216))
-
--- a request's number is that of its ring's next one
-pub next_cell : (b : Facts) (p : Pass) (ring cell number g : ℕ) → IsOf b p → p.view.role ≡ Submitter ring → IsCell b.layout.cells cell → number ≡ place_of b.layout.cells cell → request_at b.layout.cells cell g ≡ next_of p ring → IsNextCell p cell number g
-next_cell b p ring cell number g o role inside is at = subst (λ (L : Layout). IsNextCell (record p { view = record p.view { layout = L } }) cell number g) (sym o.layout_is) record {
-  inside = inside;
-  number_is = is;
-  mine = role ∙ ap Submitter (sym (ap (λ (r : Req). r.ring) at));
-  next_is = ap (λ (r : Req). r.k) at ∙ ap (submits (seen_of p)) (sym (ap (λ (r : Req). r.ring) at));
-}
 
 -- the generation of the next request by its number
 pub generation_is : (K : List ℕ) (x g : ℕ) → IsCell K x → (request_at K x g).k / cells_in K (ring_of K x) ≡ g

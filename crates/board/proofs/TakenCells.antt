@@ -1,5 +1,5 @@
 -- Taking the words and slots of a table that was closed, one by one.
-use Rattle.std.proofs.Common.{◌≡◌, ◌≢◌, ℕ, zero, suc, ◌+◌, ◌-◌, ◌<◌, ◌≤◌, Bool, false, Option, Some, List, [], ◌∷◌, ◌++◌, length, get_or, set, sym, refl, ap, ◌∙◌, subst, arith, length-append, get_or-set_same, get_or-set_other}
+use Rattle.std.proofs.Common.{◌≡◌, ◌≢◌, ℕ, zero, suc, ◌+◌, ◌-◌, ◌<◌, ◌≤◌, Bool, false, Option, Some, List, [], ◌∷◌, ◌++◌, length, get_or, set, sym, ap, ◌∙◌, subst, arith, length-append, get_or-set_same, get_or-set_other}
 use Rattle.std.proofs.Math.ListN.{get_or-append}
 use Rattle.std.proofs.lemmas.List.{get_or-append_right}
 use mathlib.Core.Logic.{dite}
@@ -10,9 +10,6 @@ use Rattle.atomic_table.proofs.Lists.{at_last, at_longer}
 use Rattle.steps.specs.declared.parcel.Thing.{Thing}
 use Rattle.steps.specs.Cells.{claim_at, slot_at}
 use Rattle.board.specs.Remains.{IsEmptied, AreTaken}
-
-pub emptied_none : (xs : List Bool) (a : ℕ) → IsEmptied xs xs a a
-emptied_none xs a = record { inside = λ k l m. absurd (omega arith); below = λ k l. refl; above = λ k l. refl }
 
 pub emptied_more : (old new after : List Bool) (a p : ℕ) → after ≡ set new p false → p < length new → a ≤ p → IsEmptied old new a p → IsEmptied old after a (p + 1)
 emptied_more old new after a p is there le e = rw is record {
@@ -25,9 +22,6 @@ word_of_some : (l : List ℕ) (i a : ℕ) → get_elem? l i ≡ some a → get_o
 word_of_some [] i a e = cc
 word_of_some (x ∷ l) zero a e = cc
 word_of_some (x ∷ l) (suc i) a e = word_of_some l i a e
-
-pub taken_none : (words : List ℕ) (slots : List (Option Thing)) → AreTaken words slots 0 [] []
-taken_none words slots = record { claims_long = refl; things_long = refl; claims_are = λ x l. absurd (omega arith); things_are = λ x t l e. absurd (omega arith) }
 
 pub taken_more : (words : List ℕ) (slots : List (Option Thing)) (n w : ℕ) (t : Option Thing) (claims : List ℕ) (things : List (Option Thing)) → AreTaken words slots n claims things
     → get_elem? words (claim_at n) ≡ some w → get_elem? slots (slot_at n) ≡ some t → AreTaken words slots (n + 1) (claims ++ w ∷ []) (things ++ t ∷ [])

@@ -1,5 +1,5 @@
 -- What the poller keeps of the clock and of timers stays right over a call that arms and fires none.
-use Rattle.std.proofs.Common.{◌≡◌, ℕ, ◌≤◌, Bool, true, false, cond, List, [], ◌∷◌, ◌++◌, Option, length, refl, sym, ap, ◌∙◌, subst, arith}
+use Rattle.std.proofs.Common.{◌≡◌, ℕ, ◌≤◌, Bool, true, false, cond, List, [], ◌∷◌, ◌++◌, Option, refl, sym, ap, ◌∙◌, subst}
 use Rattle.std.specs.List.{slice_get}
 use Rattle.history.specs.declared.req.Req.{Req}
 use Rattle.history.specs.declared.event.Event.{Event}
@@ -11,7 +11,7 @@ use Rattle.steps.specs.declared.line.Line.TheVariants.{Did}
 use Rattle.steps.specs.declared.view.Role.{Role}
 use Rattle.steps.specs.declared.view.Role.TheVariants.{Poller}
 use Rattle.steps.specs.declared.view.View.{View}
-use Rattle.steps.specs.Cells.{setup_of, request_at, total}
+use Rattle.steps.specs.Cells.{setup_of, request_at}
 use Rattle.steps.specs.Journal.{events_of, freed}
 use Rattle.steps.specs.Rule.{pollers, stands_for, owns, Looks, Extends}
 use Rattle.work.specs.Board.{Facts, IsOf}
@@ -96,15 +96,6 @@ goes_one b p q e o owned t x = record {
 -- it moves no request to Ready
 pub freed_one : (v w : View) (e : Event) → stands_for v.role pollers ≡ true → Extends v (Did e) v.role w → (q : Req) → freed w.seen q ≡ freed v.seen q
 freed_one v w e mine x q = ap (λ (j : List Line). freed j q) (ap (λ (z : View). z.seen) x.is ∙ ap (λ (j : List Line). Did e ∷ j) x.saw.is) ∙ same_freed v.role mine x.saw.later v.seen x.saw.none q
-
--- no timer is armed before the first event
-pub new_timers : (K : List ℕ) (h : List Event) (alarms : List Alarm) → h ≡ [] → length alarms ≡ total K → KnowsTimers K h 0 alarms
-new_timers K h alarms is many = subst (λ (g : List Event). KnowsTimers K g 0 alarms) (sym is) record {
-  clock_is = refl;
-  small = omega arith;
-  many = many;
-  each = λ y g inside d armed'. absurd (let z = armed' in cc);
-}
 
 -- the same over a call of the poller, by the cells that its seat knows
 pub timers_on : (b : Facts) (s t : TableSeat) (es : List Event) → IsPollerSeat s → Goes b (pass_of s) es (pass_of t) → IsOf b (pass_of s) → AllPass (is_calm none) es → AllPass is_still es → (clock : ℕ) (alarms : List Alarm)

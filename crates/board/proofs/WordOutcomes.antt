@@ -1,27 +1,19 @@
 -- What the claim word and the facts of a request tell of its outcome.
-use Rattle.std.proofs.Common.{◌≡◌, ⊎_elim, ℕ, ◌+◌, ◌*◌, ◌<◌, ◌≤◌, ◌==◌, nat_lt, ltb-true, ltb-false, Bool, true, false, ℤ, List, Some, sym, refl, ap, ◌∙◌, subst, arith, mul-le-mul_right}
+use Rattle.std.proofs.Common.{◌≡◌, ℕ, ◌<◌, ◌==◌, Bool, true, false, ℤ, List, Some, sym, refl, ap, ◌∙◌, subst}
 use Rattle.claim.specs.Facts.{Facts, bit}
 use Rattle.claim.specs.declared.tag.Tag.TheVariants.{Done as DoneTag}
 use Rattle.entry.specs.Entry.{fails}
 use Rattle.history.specs.declared.req.Req.{Req}
 use Rattle.history.specs.History.{Cause, Phase, replied, reaped, phase, reply, reply_in}
 use Rattle.history.specs.declared.event.Event.{Event}
-use Rattle.history.proofs.Requests.{bool_cases}
 use Rattle.steps.specs.declared.line.Line.{Line}
-use Rattle.steps.specs.Cells.{IsCell, request_at, cells_in, ring_of, place_of, word_of, cause_bits}
+use Rattle.steps.specs.Cells.{request_at, word_of, cause_bits}
 use Rattle.steps.specs.Fairness.{IsReaped}
 use Rattle.steps.specs.Journal.{events_of}
 use Rattle.steps.specs.Rule.{Shown}
 use Rattle.steps.proofs.ClaimWords.{done_word}
-use Rattle.board.specs.PollerRows.{HasOutcome, IsNumbered}
+use Rattle.board.specs.PollerRows.{HasOutcome}
 use Rattle.steps.specs.FactsTold.{TellsFacts}
-
--- the generation of a request that a cell may have
-pub few_generations : (K : List ℕ) (x g : ℕ) (q : Req) → IsCell K x → request_at K x g ≡ q → IsNumbered K q → g < 16777216
-few_generations K x g q inside at n = ⊎_elim (λ w. ltb-true g 16777216 w)
-    (λ w. (let c : ℕ = cells_in K (ring_of K x) in let z = ltb-false g 16777216 w in let m : 16777216 * c ≤ g * c = mul-le-mul_right c z in
-    let k : g * c + place_of K x < 16777216 * c = subst (λ (r : Req). r.k < 16777216 * cells_in K r.ring) (sym at) n.few in let a : ℕ = g * c in let d : ℕ = 16777216 * c in let m' : d ≤ a = m in let k' : a + place_of K x < d = k in absurd (omega arith)))
-    (bool_cases (nat_lt g 16777216))
 
 -- of a request that is Done
 pub done_outcome : (K : List ℕ) (j : List Line) (x w g : ℕ) (q : Req) (c : Cause) (res : ℤ) (f : Bool) → Shown K j x w → request_at K x g ≡ q → phase (events_of j) q ≡ replied c res

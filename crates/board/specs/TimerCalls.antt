@@ -4,7 +4,7 @@ use Rattle.entry.specs.Entry.{Entry}
 use Rattle.history.specs.declared.req.Req.{Req}
 use Rattle.history.specs.declared.event.Event.{Event}
 use Rattle.history.specs.declared.event.Event.TheVariants.{Arm, Expire, Count, Fire, FireMiss, Settle}
-use Rattle.history.specs.History.{phase, unborn, waits, armed, replied, by_expire, by_count, by_settle, fired, clock_of, submits, later_replies, is_replied, IsReplied}
+use Rattle.history.specs.History.{phase, unborn, armed, replied, by_expire, by_count, by_settle, fired, clock_of, submits, later_replies, is_replied, IsReplied}
 use Rattle.history.specs.Chains.{IsLinkTimeout, IsPlaced, IsTarget, Severed, is_timeout, is_timer, previous}
 use Rattle.history.specs.Legal.{ticks_of, count_of, IsOf as IsOfKind}
 use Rattle.steps.specs.declared.line.Line.{Line}

@@ -1,15 +1,15 @@
 -- What deciding needs of a history and a list of entries: they agree on who joins, severs, drains and has replied. Live: the
 -- requests of which it is known.
-use Rattle.std.proofs.Common.{◌≡◌, ◌⊎◌, ℕ, ◌-◌, ◌<◌, ◌≤◌, true, false, List, length, Some, ℤ, refl, sym, ap, ◌∙◌, arith}
+use Rattle.std.proofs.Common.{◌≡◌, ◌⊎◌, ℕ, ◌-◌, ◌<◌, ◌≤◌, true, false, List, length, Some, None, Option, ℤ, refl, sym, ap, ◌∙◌, true≢false, arith}
 use Rattle.std.specs.List.{slice_get}
 use Rattle.entry.specs.Entry.{Entry, drains}
 use Rattle.history.specs.declared.event.Event.{Event}
 use Rattle.history.specs.History.{submission, phase, reply, IsReplied}
 use Rattle.history.specs.Chains.{joins, IsPlaced, IsChainBefore, severs, is_link_timeout_in, placed}
-use Rattle.gates.specs.Slots.{Slot, is_pending, is_target_timer, behind, test_at}
+use Rattle.gates.specs.Slots.{Slot, joins_of, is_pending, is_severing, is_target_timer, behind, test_at}
 use Rattle.gates.specs.Shows.{nth, Shows}
 use Rattle.gates.proofs.Lists.{get_there, one_some}
-use Rattle.gates.proofs.Bridge.{joins_at, severing_at, joins_shown, placed_slot, placed_shown, drains_same, timer_shown, severs_shown, severs_found, replied_shown}
+use Rattle.gates.proofs.Bridge.{joins_shown, placed_slot, placed_shown, drains_same, timer_shown, severs_shown, severs_found, replied_shown}
 use Rattle.gates.proofs.Marks.{J, H, P, Join, Drains}
 
 pub record Agrees (h : List Event) (i : ℕ) (xs : List Slot) (Live : ℕ → Type 0) : Type 0 where
@@ -25,7 +25,7 @@ pub record Agrees (h : List Event) (i : ℕ) (xs : List Slot) (Live : ℕ → Ty
 
 -- who is pending in the list has not replied
 abbrev pub Fresh : List Event → ℕ → List Slot → Type 0
-Fresh h i xs = (m : ℕ) → m < length xs → P xs m ≡ true → ¬ IsReplied (phase h (nth i m))
+Fresh h i xs = (m : ℕ) → P xs m ≡ true → ¬ IsReplied (phase h (nth i m))
 
 -- a list with the entries as they were handed in agrees everywhere
 abbrev pub Each : ℕ → Type 0
@@ -33,14 +33,14 @@ Each k = Unit {0}
 
 module _ (h : List Event) (i : ℕ) (xs : List Slot) (shows : Shows h i xs) where
   joins_is : (m : ℕ) → m < length xs → joins (submission h (nth i m)) ≡ J xs m
-  joins_is m lt = let t = get_there xs m lt in joins_shown h i xs shows m t.0 t.1 ∙ ap joins_at (sym t.1)
+  joins_is m lt = let t = get_there xs m lt in joins_shown h i xs shows m t.0 t.1 ∙ ap (test_at joins_of) (sym t.1)
 
   pub shown : Agrees h i xs Each
   shown = record {
     chain_shown = λ m k lt le l. ((refl, lt), λ j a b. joins_is j (omega arith) ∙ l j a b);
     chain_found = λ m k lt live c j a b. sym (joins_is j (omega arith)) ∙ c.1 j a b;
-    severs_shown = λ m lt j is. (let t = get_there xs m lt in severs_shown h i xs shows m t.0 t.1 (omega arith) (sym (ap (severing_at (behind xs m).hosted) t.1) ∙ is));
-    severs_found = λ m k lt live c done e res p r is. (let t = get_there xs m lt in ap (severing_at (behind xs m).hosted) t.1 ∙ severs_found h i xs shows m t.0 t.1 (omega arith) e res p r is);
+    severs_shown = λ m lt j is. (let t = get_there xs m lt in severs_shown h i xs shows m t.0 t.1 (omega arith) (sym (ap (test_at (is_severing (behind xs m).hosted)) t.1) ∙ is));
+    severs_found = λ m k lt live c done e res p r is. (let t = get_there xs m lt in ap (test_at (is_severing (behind xs m).hosted)) t.1 ∙ severs_found h i xs shows m t.0 t.1 (omega arith) e res p r is);
     replied_is = λ m lt is. (let t = get_there xs m lt in replied_shown h i xs shows m t.0 t.1 (sym (ap (test_at is_pending) t.1) ∙ is));
     drains_found = λ m lt why e p is. (let t = get_there xs m lt in (t.0, t.1, sym (drains_same h i xs shows m t.0 t.1) ∙ ap drains (one_some _ _ (sym (placed_shown h i xs shows m t.0 t.1 (omega arith)) ∙ p)) ∙ is));
     drains_shown = λ m lt d. (placed_slot h i xs shows m d.0 d.1, placed_shown h i xs shows m d.0 d.1 (omega arith), drains_same h i xs shows m d.0 d.1 ∙ d.2);
@@ -49,4 +49,7 @@ module _ (h : List Event) (i : ℕ) (xs : List Slot) (shows : Shows h i xs) wher
   }
 
   pub shown_fresh : Fresh h i xs
-  shown_fresh m lt is = let t = get_there xs m lt in (shows m t.0 t.1).pending (sym (ap (test_at is_pending) t.1) ∙ is)
+  shown_fresh m = by_slot (slice_get xs m) refl where
+    by_slot : (o : Option Slot) → slice_get xs m ≡ o → test_at is_pending o ≡ true → ¬ IsReplied (phase h (nth i m))
+    by_slot None u is = absurd (true≢false (sym is))
+    by_slot (Some s) u is = (shows m s u).pending is

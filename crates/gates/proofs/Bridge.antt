@@ -20,14 +20,6 @@ use Rattle.gates.proofs.Lists.{get_there, one_some}
 abbrev pub placed_as : Bool → Entry → Entry
 placed_as hosted e = cond (is_link_timeout e.op && not hosted) (record e { op = Rattle.entry.specs.declared.op.Op.TheVariants.Invalid }) e
 
-abbrev pub joins_at : Option Slot → Bool
-joins_at None = false
-joins_at (Some s) = joins_of s
-
-abbrev pub severing_at : Bool → Option Slot → Bool
-severing_at hosted None = false
-severing_at hosted (Some s) = is_severing hosted s
-
 -- what placing an entry as Invalid leaves of it
 drains_placed : (b : Bool) (e : Entry) → drains (cond b (record e { op = Rattle.entry.specs.declared.op.Op.TheVariants.Invalid }) e) ≡ drains e
 drains_placed true e = refl
@@ -51,11 +43,11 @@ timer_hosted true false = refl
 timer_hosted false true = refl
 timer_hosted false false = refl
 
-pub next_severed : (k : ℕ) (o : Option Slot) (b : Behind) (s : Slot) → o ≡ Some s → let n : Behind = next_in k o b in n.severed ≡ (joins_at o && (severing_at b.hosted o || b.severed))
+pub next_severed : (k : ℕ) (o : Option Slot) (b : Behind) (s : Slot) → o ≡ Some s → let n : Behind = next_in k o b in n.severed ≡ (test_at joins_of o && (test_at (is_severing b.hosted) o || b.severed))
 next_severed k None b s e = absurd (none-some s e)
 next_severed k (Some x) b s e = refl
 
-pub next_held : (k : ℕ) (o : Option Slot) (b : Behind) (s : Slot) → o ≡ Some s → let n : Behind = next_in k o b in n.held ≡ (joins_at o && (test_at is_pending o || b.held))
+pub next_held : (k : ℕ) (o : Option Slot) (b : Behind) (s : Slot) → o ≡ Some s → let n : Behind = next_in k o b in n.held ≡ (test_at joins_of o && (test_at is_pending o || b.held))
 next_held k None b s e = absurd (none-some s e)
 next_held k (Some x) b s e = refl
 

@@ -100,7 +100,7 @@ module _ (xs : List Slot) (r : Kept) (sound : IsSound r) (stands : Stands xs r) 
     full_law e f = ⊎_elim (λ a. omega (arith, exact, a)) (λ y. by_oldest (subst (λ z. IsReplied (phase h (nth i z)) × ((p : Req) → p.k < added r → IsChained h p (nth i z) → IsReplied (phase h p))) holder y)) f where
       by_oldest : IsReplied (phase h (nth i r.lost)) × ((p : Req) → p.k < added r → IsChained h p (nth i r.lost) → IsReplied (phase h p)) → ⊥
       by_oldest y = let w = way_joined e in let o : r.oldest < length r.cells = w.0 in
-          shown_fresh h i xs shows (r.lost + r.oldest) (omega (arith, n)) (oldest_pending xs r sound stands o) (⊎_elim
+          shown_fresh h i xs shows (r.lost + r.oldest) (oldest_pending xs r sound stands o) (⊎_elim
           (λ (u : 0 < r.oldest). y.1 (nth i (r.lost + r.oldest)) (omega arith) (inr ((shown h i xs shows).chain_shown r.lost (r.lost + r.oldest) (omega arith) (omega (arith, n)) w.1)))
           (λ (u : r.oldest ≤ 0). subst (λ z. IsReplied (phase h (nth i z))) (let v : r.lost ≡ r.lost + r.oldest = omega arith in v) y.0)
           (cases_lt 0 r.oldest))

@@ -6,7 +6,7 @@ use Rattle.history.specs.History.{phase, reply, IsReplied}
 use Rattle.history.specs.Chains.{IsPlaced, IsBefore, IsChainBefore, Severed, IsClear}
 use Rattle.history.proofs.Requests.{bool_cases}
 use Rattle.gates.specs.Slots.{Slot}
-use Rattle.gates.specs.Shows.{nth, Blocks}
+use Rattle.gates.specs.Shows.{nth}
 use Rattle.history.proofs.Growth.{replied_of_reply}
 use Rattle.gates.proofs.Bridge.{nobody}
 use Rattle.gates.proofs.Marks.{P, S, Join, Bars, severed_by, severed_from}
@@ -35,25 +35,13 @@ module _ (h : List Event) (i : ℕ) (xs : List Slot) (Live : ℕ → Type 0) (ag
       let done : P xs m ≡ false = ⊎_elim (λ (w : P xs m ≡ true). absurd (quiet m lt j w (replied_of_reply nobody (phase h (nth i m)) v.2 r))) (λ (w : P xs m ≡ false). w) (bool_cases (P xs m)) in
       severed_from xs k (omega arith) m lt j (agrees.severs_found m k in' live c done v.1 v.2 (subst (λ z. IsPlaced h z v.1) e v.4) r v.6)
 
-  -- a request of the list has replied, or is pending in it
-  pub pending_or : (m : ℕ) → m < length xs → ¬ IsReplied (phase h (nth i m)) → P xs m ≡ true
-  pending_or m lt unanswered = ⊎_elim (λ (w : P xs m ≡ true). w) (λ (w : P xs m ≡ false). absurd (unanswered (agrees.replied_is m lt w))) (bool_cases (P xs m))
-
-  pub blocks_shown : (k m : ℕ) → k < length xs → Bars xs k m → ¬ IsReplied (phase h (nth i m)) → Blocks h (nth i k) (nth i m)
-  blocks_shown k m lt b unanswered = record {
-    earlier = (refl, b.0);
-    unanswered = unanswered;
-    why = ⊎_elim (λ j. inl (agrees.chain_shown m k b.0 (omega arith) j))
-        (λ d. inr (⊎_elim (λ x. inl (agrees.drains_shown m (let a : m < k = b.0 in omega arith) x)) (λ x. inr (agrees.drains_shown k lt x)) d)) b.2;
-  }
-
-  pub blocks_found : (k m : ℕ) → k < length xs → Live k → Blocks h (nth i k) (nth i m) → Bars xs k m
-  blocks_found k m lt live b = let a : m < k = b.earlier.1 in (
-    a,
-    pending_or m (omega arith) b.unanswered,
-    ⊎_elim (λ c. inl (agrees.chain_found m k lt live c))
-        (λ d. inr (⊎_elim (λ x. inl (agrees.drains_found m (omega arith) (inl (pending_or m (omega arith) b.unanswered)) x.0 x.1 x.2)) (λ x. inr (agrees.drains_found k lt (inr live) x.0 x.1 x.2)) d)) b.why,
-  )
+  -- who stands in the way, and has not replied, keeps the gate shut
+  pub barred : (k m : ℕ) → k < length xs → Bars xs k m → ¬ IsReplied (phase h (nth i m)) → ¬ IsClear h (nth i k)
+  barred k m lt b unanswered c = unanswered (⊎_elim
+      (λ j. c.chain (nth i m) (agrees.chain_shown m k b.0 (omega arith) j))
+      (λ d. ⊎_elim
+      (λ x. let y = agrees.drains_shown m (let a : m < k = b.0 in omega arith) x in c.drains_before (nth i m) y.0 (refl, b.0) y.1 y.2)
+      (λ x. let y = agrees.drains_shown k lt x in c.drain y.0 y.1 y.2 (nth i m) (refl, b.0)) d) b.2)
 
   -- nothing stands in the way
   pub clear_shown : (k : ℕ) → k < length xs → Live k → S xs k ≡ false → ((m : ℕ) → ¬ Bars xs k m) → IsClear h (nth i k)
@@ -68,7 +56,3 @@ module _ (h : List Event) (i : ℕ) (xs : List Slot) (Live : ℕ → Type 0) (ag
         let e : q ≡ nth i q.k = by_number q (nth i k) b.0 refl in let a : q.k < k = b.1 in ⊎_elim
         (λ (w : P xs q.k ≡ true). absurd (f q.k e (a, w)))
         (λ (w : P xs q.k ≡ false). subst (λ z. IsReplied (phase h z)) (sym e) (agrees.replied_is q.k (omega arith) w)) (bool_cases (P xs q.k))
-
--- who blocks keeps the gate shut
-pub blocked_no : (h : List Event) (g q : Req) → Blocks h g q → ¬ IsClear h g
-blocked_no h g q b c = ⊎_elim (λ x. b.unanswered (c.chain q x)) (λ x. ⊎_elim (λ y. b.unanswered (c.drains_before q y.0 b.earlier y.1 y.2)) (λ y. b.unanswered (c.drain y.0 y.1 y.2 q b.earlier)) x) b.why

@@ -1,17 +1,19 @@
 -- The marks that a walk over a list of entries finds: who joins the next, who severs, who is pending, who is severed or held up.
-use Rattle.std.proofs.Common.{◌≡◌, ◌⊎◌, ℕ, suc, ◌<◌, ◌≤◌, ◌&&◌, ◌||◌, true, Bool, List, length, Some, refl}
+use Rattle.std.proofs.Common.{◌≡◌, ◌⊎◌, ℕ, zero, suc, ◌-◌, ◌<◌, ◌≤◌, ◌&&◌, ◌||◌, not, true, false, Bool, List, length, Some, refl, sym, ap, ◌∙◌, subst, true≢false, arith}
 use Rattle.std.specs.List.{slice_get}
-use Rattle.gates.specs.Slots.{Slot, is_pending, behind, passes}
+use Rattle.history.proofs.Requests.{and_left}
+use Rattle.gates.specs.declared.cell.Behind.{Behind}
+use Rattle.gates.specs.Slots.{Slot, joins_of, hosts_of, is_pending, is_severing, next_in, behind, test_at, passes}
 use Rattle.gates.proofs.Lists.{get_there}
 use Rattle.gates.proofs.HandedMarks.{carried_by, carried_from}
-use Rattle.gates.proofs.Bridge.{joins_at, severing_at, next_severed, next_held}
+use Rattle.gates.proofs.Bridge.{next_severed, next_held}
 
 module _ (xs : List Slot) where
   abbrev pub J : ℕ → Bool
-  J m = joins_at (slice_get xs m)
+  J m = passes joins_of xs m
 
   abbrev pub H : ℕ → Bool
-  H m = severing_at (behind xs m).hosted (slice_get xs m)
+  H m = passes (is_severing (behind xs m).hosted) xs m
 
   abbrev pub P : ℕ → Bool
   P m = passes is_pending xs m
@@ -50,3 +52,24 @@ module _ (xs : List Slot) where
   -- why the earlier entry m stands in the way of k
   abbrev pub Bars : ℕ → ℕ → Type 0
   Bars k m = (m < k) × (P m ≡ true) × (Join m k ⊎ (Drains m ⊎ Drains k))
+
+  -- a hosted entry stands behind one that joins it
+  pub hosted_joined : (k : ℕ) → k ≤ length xs → (behind xs k).hosted ≡ true → (0 < k) × (J (k - 1) ≡ true)
+  hosted_joined zero le e = absurd (true≢false (sym e))
+  hosted_joined (suc k) le e =
+      let t = get_there xs k (omega arith) in
+      let u : hosts_of t.0 ≡ true = sym (ap (λ z. let b : Behind = next_in k z (behind xs k) in b.hosted) t.1) ∙ e in
+      let v : J k ≡ true = ap (test_at joins_of) t.1 ∙ and_left (joins_of t.0) (not t.0.traits.link_timeout) u in
+      (omega arith, subst (λ z. J z ≡ true) (let q : k ≡ suc k - 1 = omega arith in q) v)
+
+  -- whom a request joins that is not severed, is not severed
+  pub severed_next : (k : ℕ) → 0 < k → k ≤ length xs → J (k - 1) ≡ true → S k ≡ false → S (k - 1) ≡ false
+  severed_next zero a le j e = absurd (omega arith)
+  severed_next (suc k) a le j e =
+      let q : suc k - 1 ≡ k = omega arith in subst (λ z. S z ≡ false) (sym q) (
+      let u : (J k && (H k || S k)) ≡ false = sym (step_severed k (omega arith)) ∙ e in
+      let j' : J k ≡ true = sym (ap J q) ∙ j in
+      or_false (H k) (S k) (sym (ap (λ z. z && (H k || S k)) j') ∙ u)) where
+        or_false : (x y : Bool) → (x || y) ≡ false → y ≡ false
+        or_false true y v = absurd (true≢false v)
+        or_false false y v = v

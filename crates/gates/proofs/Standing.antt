@@ -1,5 +1,5 @@
 -- What the cells of a row say of the list that the row stands for.
-use Rattle.std.proofs.Common.{◌≡◌, ◌≢◌, ◌⊎◌, ℕ, zero, suc, ◌+◌, ◌-◌, ◌<◌, ◌≤◌, ◌==◌, ◌&&◌, ◌||◌, not, true, false, cond, Bool, List, length, map, Some, None, Option, refl, sym, ap, ◌∙◌, subst, ⊎_elim, inl, inr, true≢false, eqb-true, eq-eqb, arith}
+use Rattle.std.proofs.Common.{◌≡◌, ◌≢◌, ◌⊎◌, ℕ, zero, suc, ◌+◌, ◌-◌, ◌<◌, ◌≤◌, ◌==◌, ◌&&◌, ◌||◌, true, false, cond, Bool, List, length, map, Some, None, Option, refl, sym, ap, ◌∙◌, subst, ⊎_elim, inl, inr, true≢false, eqb-true, eq-eqb, arith}
 use Rattle.std.specs.List.{slice_get}
 use Rattle.std.proofs.lemmas.Bool.{cases_lt}
 use Rattle.std.proofs.lemmas.Option.{slice_get_within, none-some}
@@ -8,24 +8,9 @@ use Rattle.history.proofs.Requests.{bool_cases, and_left, and_right}
 use Rattle.gates.specs.declared.cell.Behind.{Behind}
 use Rattle.gates.specs.declared.cell.Cell.{Cell}
 use Rattle.gates.specs.Slots.{Slot, slot_of, joins_of, is_pending, is_draining, is_target_timer, next_of, next_in, behind, test_at, passes}
-use Rattle.gates.specs.EntryRows.{Kept, HasCell, IsSound, Stands, held_of, held_at, place_by}
+use Rattle.gates.specs.EntryRows.{Kept, IsSound, Stands, held_of, held_at, place_by}
 use Rattle.gates.proofs.Lists.{get_there, get_drop, slot_there, one_some}
 use Rattle.gates.proofs.Marks.{J, P, W, Join, step_held}
-
--- the parts of a clear place
-pub clear_parts : (sev held dle dr ole : Bool) → (not sev && (not held && (dle && (not dr || ole)))) ≡ true → (sev ≡ false) × (held ≡ false) × (dle ≡ true) × (dr ≡ true → ole ≡ true)
-clear_parts true held dle dr ole e = absurd (true≢false (sym e))
-clear_parts false true dle dr ole e = absurd (true≢false (sym e))
-clear_parts false false false dr ole e = absurd (true≢false (sym e))
-clear_parts false false true true ole e = (refl, refl, refl, λ _. e)
-clear_parts false false true false ole e = (refl, refl, refl, λ u. absurd (true≢false (sym u)))
-
-pub clear_cases : (sev held dle dr ole : Bool) → (not sev && (not held && (dle && (not dr || ole)))) ≡ false → (sev ≡ true) ⊎ ((held ≡ true) ⊎ ((dle ≡ false) ⊎ ((dr ≡ true) × (ole ≡ false))))
-clear_cases true held dle dr ole e = inl refl
-clear_cases false true dle dr ole e = inr (inl refl)
-clear_cases false false false dr ole e = inr (inr (inl refl))
-clear_cases false false true true ole e = inr (inr (inr (refl, e)))
-clear_cases false false true false ole e = absurd (true≢false e)
 
 pub head_joins : (k : ℕ) (o : Option Slot) (b : Behind) (j : Bool) (s : Slot) → o ≡ Some s → joins_of s ≡ j → let n : Behind = next_in k o b in n.head ≡ cond j b.head (k + 1)
 head_joins k None b j s e u = absurd (none_some s e) where
@@ -60,36 +45,32 @@ module _ (xs : List Slot) where
 
   pub head_is : (k : ℕ) → k ≤ length xs → IsHead k
   head_is zero le = record { within = omega arith; joined = λ m a b. absurd (omega arith); free = refl; alone = λ m a l. absurd (omega arith) }
-  head_is (suc k) le = let t = get_there xs k (omega arith) in
-      head_step k (omega arith) (head_is k (omega arith)) (joins_of t.0) (ap joins_here t.1) (head_joins k (slice_get xs k) (behind xs k) (joins_of t.0) t.0 t.1 refl) where
-        joins_here : Option Slot → Bool
-        joins_here None = false
-        joins_here (Some s) = joins_of s
+  head_is (suc k) le = let t = get_there xs k (omega arith) in head_step k (omega arith) (head_is k (omega arith)) (joins_of t.0) (ap (test_at joins_of) t.1) (head_joins k (slice_get xs k) (behind xs k) (joins_of t.0) t.0 t.1 refl)
 
 -- the place that decides for a request is its own, or, for a LINK_TIMEOUT, the one before it
-module _ (r : Kept) (k : ℕ) (cell : HasCell r k) (c : Cell) where
+module _ (j : ℕ) (c : Cell) where
   abbrev pub is_timer : Bool
   is_timer = is_target_timer c.behind.hosted (slot_of c)
 
-  pub place_parts : (g : ℕ) → place_by (k - r.lost) c ≡ Some g → ((is_timer ≡ false) × (r.lost + g ≡ k)) ⊎ ((is_timer ≡ true) × (r.lost + g + 1 ≡ k))
+  pub place_parts : (g : ℕ) → place_by j c ≡ Some g → ((is_timer ≡ false) × (g ≡ j)) ⊎ ((is_timer ≡ true) × (suc g ≡ j))
   place_parts g = by_timer is_timer refl where
-    by_timer : (t : Bool) → is_timer ≡ t → cond t (cond ((k - r.lost) == 0) None (Some ((k - r.lost) - 1))) (Some (k - r.lost)) ≡ Some g → ((is_timer ≡ false) × (r.lost + g ≡ k)) ⊎ ((is_timer ≡ true) × (r.lost + g + 1 ≡ k))
-    by_timer false e u = let v : k - r.lost ≡ g = one_some (k - r.lost) g u in let a = cell.kept in inl (e, omega arith)
+    by_timer : (t : Bool) → is_timer ≡ t → cond t (cond (j == 0) None (Some (j - 1))) (Some j) ≡ Some g → ((is_timer ≡ false) × (g ≡ j)) ⊎ ((is_timer ≡ true) × (suc g ≡ j))
+    by_timer false e u = inl (e, sym (one_some j g u))
     by_timer true e u = ⊎_elim
-        (λ (w : ((k - r.lost) == 0) ≡ true). absurd (none-some g (sym (ap (λ b. cond b None (Some ((k - r.lost) - 1))) w) ∙ u)))
-        (λ (w : ((k - r.lost) == 0) ≡ false). let v : (k - r.lost) - 1 ≡ g = one_some ((k - r.lost) - 1) g (sym (ap (λ b. cond b None (Some ((k - r.lost) - 1))) w) ∙ u) in
-        let pos : k - r.lost ≢ 0 = λ z. true≢false (sym (eq-eqb (k - r.lost) 0 z) ∙ w) in let a = cell.kept in inr (e, omega arith))
-        (bool_cases ((k - r.lost) == 0))
+        (λ (w : (j == 0) ≡ true). absurd (none-some g (sym (ap (λ b. cond b None (Some (j - 1))) w) ∙ u)))
+        (λ (w : (j == 0) ≡ false). let v : j - 1 ≡ g = one_some (j - 1) g (sym (ap (λ b. cond b None (Some (j - 1))) w) ∙ u) in
+        let pos : j ≢ 0 = λ z. true≢false (sym (eq-eqb j 0 z) ∙ w) in inr (e, omega arith))
+        (bool_cases (j == 0))
 
   -- the target has lost its cell
-  pub no_place : place_by (k - r.lost) c ≡ None → (is_timer ≡ true) × (k ≡ r.lost)
+  pub no_place : place_by j c ≡ None → (is_timer ≡ true) × (j ≡ 0)
   no_place = by_timer is_timer refl where
-    by_timer : (t : Bool) → is_timer ≡ t → cond t (cond ((k - r.lost) == 0) None (Some ((k - r.lost) - 1))) (Some (k - r.lost)) ≡ None → (is_timer ≡ true) × (k ≡ r.lost)
-    by_timer false e u = absurd (none-some (k - r.lost) (sym u))
+    by_timer : (t : Bool) → is_timer ≡ t → cond t (cond (j == 0) None (Some (j - 1))) (Some j) ≡ None → (is_timer ≡ true) × (j ≡ 0)
+    by_timer false e u = absurd (none-some j (sym u))
     by_timer true e u = ⊎_elim
-        (λ (w : ((k - r.lost) == 0) ≡ true). let z : k - r.lost ≡ 0 = eqb-true (k - r.lost) 0 w in let a = cell.kept in (e, omega arith))
-        (λ (w : ((k - r.lost) == 0) ≡ false). absurd (none-some ((k - r.lost) - 1) (sym (sym (ap (λ b. cond b None (Some ((k - r.lost) - 1))) w) ∙ u))))
-        (bool_cases ((k - r.lost) == 0))
+        (λ (w : (j == 0) ≡ true). (e, eqb-true j 0 w))
+        (λ (w : (j == 0) ≡ false). absurd (none-some (j - 1) (sym (sym (ap (λ b. cond b None (Some (j - 1))) w) ∙ u))))
+        (bool_cases (j == 0))
 
 module _ (xs : List Slot) (r : Kept) (sound : IsSound r) (stands : Stands xs r) where
   pub slot_exact : (j : ℕ) (c : Cell) → slice_get r.cells j ≡ Some c → slice_get xs (r.lost + j) ≡ Some (slot_of c)

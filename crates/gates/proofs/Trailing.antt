@@ -17,10 +17,9 @@ use Rattle.gates.specs.declared.traits.Traits.{Traits}
 use Rattle.gates.specs.Slots.{Slot, traits_of, joins_of, is_unanswered, is_pending, is_target_timer, is_severing, next_in, behind, test_at}
 use Rattle.gates.specs.Shows.{nth, StandsIn, IsOutcome, TrailedAt, Trails}
 use Rattle.gates.proofs.Lists.{get_there, one_some}
-use Rattle.gates.proofs.Bridge.{joins_at, severing_at, severing_parts, nobody}
-use Rattle.gates.proofs.Marks.{J}
+use Rattle.gates.proofs.Bridge.{severing_parts, nobody}
+use Rattle.gates.proofs.Marks.{J, hosted_joined}
 use Rattle.gates.proofs.Agreement.{Agrees}
-use Rattle.gates.proofs.GateAnswers.{hosted_joined}
 
 -- a member of its chain from it on has not replied
 abbrev pub Live : List Event → ℕ → ℕ → Type 0
@@ -128,11 +127,11 @@ module _ (h : List Event) (i : ℕ) where
     real_pending m s e p = ⊎_elim (λ r. r) (λ d. absurd (true≢false (sym p ∙ ap is_unanswered d.done))) (trails m s e)
 
     joined_at : (m : ℕ) → m < length xs → J xs m ≡ true → joins (submission h (nth i m)) ≡ true
-    joined_at m lt j = let t = get_there xs m lt in let js : joins_of t.0 ≡ true = sym (ap joins_at t.1) ∙ j in joins_real m t.0 (real_joined m t.0 t.1 js) ∙ js
+    joined_at m lt j = let t = get_there xs m lt in let js : joins_of t.0 ≡ true = sym (ap (test_at joins_of) t.1) ∙ j in joins_real m t.0 (real_joined m t.0 t.1 js) ∙ js
 
     found_at : (m k : ℕ) → m < length xs → Live h i k → IsChainBefore h (nth i m) (nth i k) → J xs m ≡ true
     found_at m k lt live c = let t = get_there xs m lt in let le : m < k = c.0.1 in
-        ap joins_at t.1 ∙ sym (joins_real m t.0 (real_live m k t.0 t.1 live (inr c))) ∙ c.1 m (omega arith) le
+        ap (test_at joins_of) t.1 ∙ sym (joins_real m t.0 (real_live m k t.0 t.1 live (inr c))) ∙ c.1 m (omega arith) le
 
     severs_here : (m : ℕ) (s : Slot) (hosted : Bool) → TrailedAt h (nth i m) s → is_severing hosted s ≡ true → (e : Entry) × (res : ℤ) × IsPlaced h (nth i m) e × (reply h (nth i m) ≡ Some res) × (severs e res ≡ true)
     severs_here m s hosted r is =
@@ -210,8 +209,8 @@ module _ (h : List Event) (i : ℕ) where
     trailed = record {
       chain_shown = λ m k lt le l. ((refl, lt), λ j a b. joined_at j (omega arith) (l j a b));
       chain_found = λ m k lt live c j a b. found_at j k (omega arith) live (chain_part m j k a b c);
-      severs_shown = λ m lt j is. (let t = get_there xs m lt in severs_here m t.0 (behind xs m).hosted (real_joined m t.0 t.1 (sym (ap joins_at t.1) ∙ j)) (sym (ap (severing_at (behind xs m).hosted) t.1) ∙ is));
-      severs_found = λ m k lt live c done e res p r is. (let t = get_there xs m lt in ap (severing_at (behind xs m).hosted) t.1 ∙ severs_there m k t.0 (behind xs m).hosted (real_live m k t.0 t.1 live (inr c)) live c (sym (ap (test_at is_pending) t.1) ∙ done) e res p r is);
+      severs_shown = λ m lt j is. (let t = get_there xs m lt in severs_here m t.0 (behind xs m).hosted (real_joined m t.0 t.1 (sym (ap (test_at joins_of) t.1) ∙ j)) (sym (ap (test_at (is_severing (behind xs m).hosted)) t.1) ∙ is));
+      severs_found = λ m k lt live c done e res p r is. (let t = get_there xs m lt in ap (test_at (is_severing (behind xs m).hosted)) t.1 ∙ severs_there m k t.0 (behind xs m).hosted (real_live m k t.0 t.1 live (inr c)) live c (sym (ap (test_at is_pending) t.1) ∙ done) e res p r is);
       replied_is = λ m lt is. (let t = get_there xs m lt in let p : is_pending t.0 ≡ false = sym (ap (test_at is_pending) t.1) ∙ is in
           ⊎_elim (λ r. replied_here m t.0 r p) (λ d. d.replied) (trails m t.0 t.1));
       drains_found = λ m lt why e p is. (let t = get_there xs m lt in

@@ -1,14 +1,12 @@
 -- What is kept of a row of entries, and when it stands for a list of them.
-use Rattle.std.specs.Prelude.{IsTrue, ◌≡◌, ◌⊎◌, ℕ, suc, ◌+◌, ◌-◌, ◌<◌, ◌≤◌, ◌==◌, ◌&&◌, ◌||◌, not, nat_le, nat_lt, min, cond, Bool, true, false, List, [], ◌∷◌, length, map, drop, Option, Some, None, slice_get, slice_set}
+use Rattle.std.specs.Prelude.{IsTrue, ◌≡◌, ◌⊎◌, ℕ, zero, suc, ◌+◌, ◌-◌, ◌<◌, ◌≤◌, ◌==◌, ◌&&◌, ◌||◌, nat_lt, min, cond, Bool, true, false, List, [], ◌∷◌, length, map, drop, Option, Some, None, slice_get, slice_set}
 use Rattle.entry.specs.Entry.{Entry}
 use Rattle.gates.specs.declared.cell.Behind.{Behind}
 use Rattle.gates.specs.declared.cell.Cell.{Cell}
 use Rattle.gates.specs.declared.traits.Traits.{Traits}
-use Rattle.gates.specs.declared.gate.Gate.{Gate}
 use Rattle.gates.specs.declared.gate.Asked.{Asked}
-use Rattle.gates.specs.declared.gate.Asked.TheVariants.{Open as open_now, OpenWith as open_with, Blocked as blocked_by}
-use Rattle.gates.specs.declared.gate.Gate.TheVariants.{Open as open_gate, Shut as shut_gate, Severed as severed_gate}
-use Rattle.gates.specs.Slots.{Slot, slot_of, traits_of, is_pending, is_draining, is_target_timer, next_of, behind, passes, pending_before}
+use Rattle.gates.specs.declared.gate.Asked.TheVariants.{Severed as severed_now, Open as open_now, OpenWith as open_with, Blocked as blocked_by}
+use Rattle.gates.specs.Slots.{Slot, slot_of, traits_of, is_pending, is_draining, is_target_timer, next_of, behind, passes}
 
 -- how many cells there are, how many entries have lost theirs to later ones, the cells of the others in order, and the places
 -- among them of the first that has not replied, and of the first drain that has not
@@ -92,48 +90,13 @@ waiting r = waiting_in (map slot_of r.cells)
 abbrev pub stand_in : Slot
 stand_in = record { traits = record { invalid = false; link_timeout = false; drains = false; links_soft = false; links_hard = false }; last = true; reply = Some false }
 
-abbrev pub held_of : Option Cell → Bool
-held_of None = false
-held_of (Some c) = c.behind.held
-
--- an earlier member of the chain of the request at j has not replied
-abbrev pub held_at : List Cell → ℕ → Bool
-held_at cs j = held_of (slice_get cs j)
-
--- the request at m is held up by nobody of its chain, and the next one is
-pub record IsTurn (cs : List Cell) (low high m : ℕ) : Type 0 where
-  pub least : low ≤ m
-  pub most : m < high
-  pub free : held_at cs m ≡ false
-  pub held : held_at cs (suc m) ≡ true
-
--- what a row answers, from what is kept
-abbrev pub shut_or_open : Bool → Gate
-shut_or_open true = open_gate
-shut_or_open false = shut_gate
-
-abbrev pub clear_by : Kept → ℕ → Option Cell → Bool
-clear_by r j None = false
-clear_by r j (Some c) = not c.behind.severed && (not c.behind.held && (nat_le j r.drain && (not c.traits.drains || nat_le j r.oldest)))
-
--- chains and drains let the request at the place j start
-abbrev pub clear_in : Kept → ℕ → Bool
-clear_in r j = clear_by r j (slice_get r.cells j)
-
 -- the place that decides for the request at j: its target's, if it is a LINK_TIMEOUT, and none where that has lost its cell
 abbrev pub place_by : ℕ → Cell → Option ℕ
 place_by j c = cond (is_target_timer c.behind.hosted (slot_of c)) (cond (j == 0) None (Some (j - 1))) (Some j)
 
-abbrev pub gate_by : Kept → Option ℕ → Gate
-gate_by r None = open_gate
-gate_by r (Some g) = shut_or_open (clear_in r g)
-
-abbrev pub gate_at : Kept → ℕ → Option Cell → Gate
-gate_at r j None = shut_gate
-gate_at r j (Some c) = cond c.behind.severed severed_gate (gate_by r (place_by j c))
-
-abbrev pub gate_in : Kept → ℕ → Gate
-gate_in r k = gate_at r (k - r.lost) (slice_get r.cells (k - r.lost))
+-- the request before the request k, if that is a LINK_TIMEOUT
+abbrev pub target_by : ℕ → Cell → Option ℕ
+target_by k c = cond (is_target_timer c.behind.hosted (slot_of c) && nat_lt 0 k) (Some (k - 1)) None
 
 -- the first entry has lost its cell
 abbrev pub without_first : Kept → Kept
@@ -155,13 +118,18 @@ free_by n cs o = nat_lt 0 o && ((o == length cs) || begins_after n (slice_get cs
 abbrev pub way_in : Kept → Option ℕ
 way_in r = cond (nat_lt (length r.cells) r.size) None (cond (free_by r.lost r.cells r.oldest) None (Some (r.lost + r.oldest)))
 
--- the member of the chain of c, at g, that holds it up, or g where there is none
-abbrev pub IsMember : List Cell → ℕ → ℕ → Cell → ℕ → Type 0
-IsMember cs n g c m = (c.behind.held ≡ false → m ≡ g) × (c.behind.held ≡ true → c.behind.head - n < g → held_at cs (c.behind.head - n) ≡ false → IsTurn cs (c.behind.head - n) g m)
+abbrev pub held_of : Option Cell → Bool
+held_of None = false
+held_of (Some c) = c.behind.held
 
--- m is the member of its chain that holds up c, at g
-abbrev pub blocker_by : ℕ → Cell → ℕ → ℕ → ℕ → Option ℕ
-blocker_by g c m oldest drain = let b : ℕ = cond c.traits.drains oldest (min drain m) in cond (nat_lt b g) (Some b) None
+-- an earlier member of the chain of the request at j has not replied
+abbrev pub held_at : List Cell → ℕ → Bool
+held_at cs j = held_of (slice_get cs j)
+
+-- the place of the nearest earlier member of the chain of the request at j that has not replied
+abbrev pub nearest_in : List Cell → ℕ → Option ℕ
+nearest_in cs zero = None
+nearest_in cs (suc j) = cond (held_at cs (suc j)) (cond (passes is_pending (map slot_of cs) j) (Some j) (nearest_in cs j)) None
 
 abbrev pub numbered : ℕ → Option ℕ → Option ℕ
 numbered n None = None
@@ -169,13 +137,36 @@ numbered n (Some b) = Some (n + b)
 
 -- the nearest earlier member of the chain of the request at the place j that is pending
 abbrev pub link_in : Kept → ℕ → Option ℕ
-link_in r j = numbered r.lost (pending_before (map slot_of r.cells) j)
+link_in r j = numbered r.lost (nearest_in r.cells j)
 
--- the answer for the place j by the place g, which decides for it, where q is the first request in the way of that
+-- the request at m is held up by nobody of its chain, and the next one is
+pub record IsTurn (cs : List Cell) (low high m : ℕ) : Type 0 where
+  pub least : low ≤ m
+  pub most : m < high
+  pub free : held_at cs m ≡ false
+  pub held : held_at cs (suc m) ≡ true
+
+-- the member of the chain of c, at g, that holds it up, or g where there is none
+abbrev pub IsMember : List Cell → ℕ → ℕ → Cell → ℕ → Type 0
+IsMember cs n g c m = (c.behind.held ≡ false → m ≡ g) × (c.behind.held ≡ true → c.behind.head - n < g → held_at cs (c.behind.head - n) ≡ false → IsTurn cs (c.behind.head - n) g m)
+
+-- the place of who is in the way of c, at g, where m is the member of its chain that holds it up
+abbrev pub bar_by : ℕ → Cell → ℕ → ℕ → ℕ → Option ℕ
+bar_by g c m oldest drain = let b : ℕ = cond c.traits.drains oldest (min drain m) in cond (nat_lt b g) (Some b) None
+
+-- q is the place of who is in the way of the request at the place g, by its own place
+abbrev pub IsBar : Kept → ℕ → Option ℕ → Type 0
+IsBar r g q = (d : Cell) → slice_get r.cells g ≡ Some d → (m : ℕ) × IsMember r.cells r.lost g d m × (q ≡ bar_by g d m r.oldest r.drain)
+
+-- the answer for the place j by the place g, which decides for it, where q is the place of who is in the way of that
 abbrev pub asked_by : Kept → ℕ → ℕ → Option ℕ → Asked
-asked_by r g j (Some b) = blocked_by b (link_in r j)
+asked_by r g j (Some b) = blocked_by (r.lost + b) (link_in r j)
 asked_by r g j None = cond (nat_lt g j && passes is_pending (map slot_of r.cells) g) (open_with (r.lost + g)) open_now
 
--- what a row answers as the first request in the way of the place g
-abbrev pub IsBlockerAt : Kept → ℕ → Option ℕ → Type 0
-IsBlockerAt r g q = (d : Cell) → slice_get r.cells g ≡ Some d → (m : ℕ) × IsMember r.cells r.lost g d m × (q ≡ numbered r.lost (blocker_by g d m r.oldest r.drain))
+abbrev pub asked_of : Kept → ℕ → Option ℕ → Option ℕ → Asked
+asked_of r j None q = open_now
+asked_of r j (Some g) q = asked_by r g j q
+
+-- what a row answers of the request k, from what is kept
+abbrev pub IsAnswer : Kept → ℕ → Asked → Type 0
+IsAnswer r k a = (c : Cell) → slice_get r.cells (k - r.lost) ≡ Some c → (q : Option ℕ) × (c.behind.severed ≡ false → (g : ℕ) → place_by (k - r.lost) c ≡ Some g → IsBar r g q) × (a ≡ cond c.behind.severed severed_now (asked_of r (k - r.lost) (place_by (k - r.lost) c) q))

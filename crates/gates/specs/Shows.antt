@@ -1,15 +1,15 @@
 -- When a list of entries with their replies is what a history says of the first requests of a ring, and what a row then answers.
-use Rattle.std.specs.Prelude.{◌≡◌, ◌⊎◌, ℕ, suc, ◌-◌, ◌<◌, ◌≤◌, ℤ, Bool, true, false, List, Option, Some, None, slice_get}
-use Rattle.entry.specs.Entry.{Entry, drains, fails}
+use Rattle.std.specs.Prelude.{IsTrue, ◌≡◌, ◌⊎◌, ℕ, suc, ◌-◌, ◌<◌, ◌≤◌, ℤ, Bool, true, false, List, Option, Some, None, slice_get}
+use Rattle.entry.specs.Entry.{Entry, fails}
 use Rattle.history.specs.declared.req.Req.{Req}
 use Rattle.history.specs.declared.event.Event.{Event}
 use Rattle.history.specs.History.{Submission, submission, phase, reply, IsReplied}
-use Rattle.history.specs.Chains.{IsPlaced, IsBefore, IsChainBefore, IsChained, IsChainDone, IsTarget, Severed, Open, gate_of, severs}
+use Rattle.history.specs.Chains.{IsPlaced, IsChainBefore, IsChained, IsChainDone, IsTarget, Severed, Open, severs}
 use Rattle.gates.specs.declared.gate.Gate.{Gate}
 use Rattle.gates.specs.declared.gate.Gate.TheVariants.{Open as open_gate, Shut as shut_gate, Severed as severed_gate}
 use Rattle.gates.specs.declared.gate.Asked.{Asked}
 use Rattle.gates.specs.declared.gate.Asked.TheVariants.{Severed as severed_now, Open as open_now, OpenWith as open_with, Blocked as blocked_by}
-use Rattle.gates.specs.Slots.{Slot, traits_of, IsPlain, is_pending}
+use Rattle.gates.specs.Slots.{Slot, traits_of, IsPlain, is_pending, passes}
 
 abbrev pub nth : ℕ → ℕ → Req
 nth i k = record { ring = i; k = k }
@@ -35,18 +35,6 @@ abbrev pub IsTargetOf : List Event → Req → Option ℕ → Type 0
 IsTargetOf h l None = (t : Req) → ¬ IsTarget h l t
 IsTargetOf h l (Some k) = IsTarget h l (nth l.ring k)
 
--- q has not replied, and stands in the way of a request whose place is g: as an earlier member of its chain, as an earlier
--- drain, or as any earlier request where g drains (io_uring_enter(2), IOSQE_IO_LINK and IOSQE_IO_DRAIN)
-pub record Blocks (h : List Event) (g q : Req) : Type 0 where
-  pub earlier : IsBefore q g
-  pub unanswered : ¬ IsReplied (phase h q)
-  pub why : IsChainBefore h q g ⊎ (((e : Entry) × IsPlaced h q e × (drains e ≡ true)) ⊎ ((e : Entry) × IsPlaced h g e × (drains e ≡ true)))
-
--- the first request that blocks r, or none where r is severed or open
-abbrev pub IsBlocker : List Event → Req → Option ℕ → Type 0
-IsBlocker h r None = Severed h r ⊎ Open h r
-IsBlocker h r (Some k) = (¬ Severed h r) × Blocks h (gate_of h r) (nth r.ring k) × ((m : ℕ) → m < k → ¬ Blocks h (gate_of h r) (nth r.ring m))
-
 -- p is q, or a member of its chain
 abbrev pub IsOfChain : List Event → Req → Req → Type 0
 IsOfChain h p q = (p ≡ q) ⊎ IsChained h p q
@@ -56,23 +44,12 @@ IsOfChain h p q = (p ≡ q) ⊎ IsChained h p q
 abbrev pub IsFree : List Event → ℕ → Req → Type 0
 IsFree h n r = (r.k < n) ⊎ (IsReplied (phase h (nth r.ring (r.k - n))) × ((p : Req) → p.k < r.k → IsChained h p (nth r.ring (r.k - n)) → IsReplied (phase h p)))
 
--- the slot has the traits of the request's entry as it was placed, and its reply
-pub record MirroredAt (h : List Event) (q : Req) (s : Slot) : Type 0 where
-  pub handed : (x : Submission) × (submission h q ≡ Some x) × (x.last ≡ s.last)
-  pub placed : (e : Entry) × IsPlaced h q e × (traits_of e ≡ s.traits)
-  pub pending : is_pending s ≡ true → ¬ IsReplied (phase h q)
-  pub replied : (f : Bool) → s.reply ≡ Some f → (res : ℤ) × (reply h q ≡ Some res) × (fails placed.0 res ≡ f)
-
 -- the slot stands in for a request whose whole chain has replied: it has no flags, and a reply that doesn't fail
 pub record StandsIn (h : List Event) (q : Req) (s : Slot) : Type 0 where
   pub plain : IsPlain s.traits
   pub done : s.reply ≡ Some false
   pub replied : IsReplied (phase h q)
   pub chain : (p : Req) → IsChained h p q → IsReplied (phase h p)
-
--- the slots are those of the first requests of the ring i, with the entries as they were placed, but for stand-ins
-abbrev pub Mirrors : List Event → ℕ → List Slot → Type 0
-Mirrors h i xs = (k : ℕ) (s : Slot) → slice_get xs k ≡ Some s → MirroredAt h (nth i k) s ⊎ StandsIn h (nth i k) s
 
 -- what may be kept as the outcome of q: whether its reply fails; or, once its whole chain has replied, that it doesn't
 abbrev pub IsOutcome : List Event → Req → Bool → Type 0
@@ -92,6 +69,11 @@ TrailsAt h q s = TrailedAt h q s ⊎ StandsIn h q s
 -- outcomes that were looked for: later replies are not among them
 abbrev pub Trails : List Event → ℕ → List Slot → Type 0
 Trails h i xs = (k : ℕ) (s : Slot) → slice_get xs k ≡ Some s → TrailsAt h (nth i k) s
+
+-- they trail the history, and have each reply: who is pending in the list has not replied
+pub record Mirrors (h : List Event) (i : ℕ) (xs : List Slot) : Type 0 where
+  pub trails : Trails h i xs
+  pub fresh : (k : ℕ) → IsTrue (passes is_pending xs k) → ¬ IsReplied (phase h (nth i k))
 
 -- it has replied, and not so that the rest of its chain is ended
 abbrev pub HasNotSevered : List Event → Req → Type 0
@@ -123,3 +105,9 @@ named_in _ = None
 abbrev pub linked_in : Asked → Option ℕ
 linked_in (blocked_by b p) = p
 linked_in _ = None
+
+-- the gate, by an answer from which no reply is missing
+abbrev pub gate_by : Asked → Gate
+gate_by severed_now = severed_gate
+gate_by (blocked_by b p) = shut_gate
+gate_by _ = open_gate

@@ -88,8 +88,3 @@ test_at p (Some s) = p s
 -- the entry k is there and passes the test
 abbrev pub passes : (Slot → Bool) → List Slot → ℕ → Bool
 passes p xs k = test_at p (slice_get xs k)
-
--- the nearest entry before the entry k that is pending, among those from which on each joins the next
-abbrev pub pending_before : List Slot → ℕ → Option ℕ
-pending_before xs zero = None
-pending_before xs (suc k) = cond (passes joins_of xs k) (cond (passes is_pending xs k) (Some k) (pending_before xs k)) None

@@ -2,8 +2,8 @@
 ghost use Rattle.std.specs.Prelude.{◌≡◌, ◌≢◌, ◌⊎◌, ℕ, ◌+◌, ◌^◌, ◌<◌, ◌≤◌, length, map, slice_get, slice_set, IfSome, Some, false, true};
 ghost use Rattle.std.specs.VecDeque.{deque_capacity};
 ghost use Rattle.gates.specs.declared.cell.Cell.{Cell};
-ghost use Rattle.gates.specs.Slots.{slot_of, joins_of, passes, is_pending, is_draining, pending_before};
-ghost use Rattle.gates.specs.EntryRows.{LinkedAt, Linked, IsFirst, held_at, IsTurn};
+ghost use Rattle.gates.specs.Slots.{slot_of, joins_of, passes, is_pending, is_draining};
+ghost use Rattle.gates.specs.EntryRows.{LinkedAt, Linked, IsFirst, held_at, nearest_in, IsTurn};
 
 use crate::cell::{Behind, Cell};
 use std::collections::VecDeque;
@@ -111,9 +111,8 @@ pub fn drain_after(cells: &VecDeque<Cell>, drain: usize, drains: bool) -> usize
 /// The place of the nearest earlier member of its chain, of the request at `j`, that has not replied. It walks back over those
 /// that have, and only where one has not.
 pub fn last_pending(cells: &VecDeque<Cell>, j: usize) -> Option<usize>
-    requires inside { j < length cells.now.items }
-    requires linked { (n : ℕ) × Linked n cells.now.items }
-    ensures nearest { result ≡ pending_before (map slot_of cells.now.items) j }
+    requires { j < length cells.now.items }
+    ensures nearest { result ≡ nearest_in cells.now.items j }
     ensures before { IfSome result (λ p. p < j) }
 {
     let mut m = j;

@@ -1,4 +1,6 @@
 //! Whether a request may start.
+ghost use Rattle.std.specs.Prelude.{◌≡◌};
+ghost use Rattle.gates.specs.Shows.{gate_by};
 
 /// Whether a request may start.
 #[derive(Clone, Copy, PartialEq, Eq, Debug)]
@@ -25,4 +27,17 @@ pub enum Asked {
     /// nearest earlier member of its chain that is pending in the row: a failure of that one ends the chain, whoever else is
     /// in the way.
     Blocked(u64, Option<u64>),
+}
+
+impl Asked {
+    /// The gate, where all replies are known.
+    pub(crate) fn gate(self) -> Gate
+        ensures { result ≡ gate_by self }
+    {
+        match self {
+            Asked::Severed => Gate::Severed,
+            Asked::Open | Asked::OpenWith(_) => Gate::Open,
+            Asked::Blocked(..) => Gate::Shut,
+        }
+    }
 }

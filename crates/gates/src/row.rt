@@ -1,11 +1,10 @@
 //! The requests of one ring, with the replies so far.
-ghost use Rattle.std.specs.Prelude.{◌≡◌, ◌↔◌, ◌⊎◌, IsTrue, ℕ, ◌+◌, ◌-◌, ◌^◌, ◌<◌, ◌≤◌, ◌++◌, ◌∷◌, [], List, Option, length, IsOk, IfOk, OnOk, OnErr, Some, None, slice_get};
+ghost use Rattle.std.specs.Prelude.{◌≡◌, ◌↔◌, ◌⊎◌, IsTrue, ℕ, ◌+◌, ◌-◌, ◌^◌, ◌<◌, ◌≤◌, ◌++◌, ◌∷◌, [], List, Option, length, IsOk, IfOk, OnOk, OnErr, IfSome, Some, None};
 ghost use Rattle.history.specs.declared.event.Event.{Event};
-ghost use Rattle.gates.specs.declared.cell.Cell.{Cell};
 ghost use Rattle.gates.specs.Slots.{Slot, first, passes, is_pending};
-ghost use Rattle.gates.specs.EntryRows.{Kept, HasCell, Stands, added, new_slot, slot_with, stand_in, with_reply, Waits, waiting, way_in, asked_by, gate_in, clear_in, place_by, without_first, IsToldBy, free_by, IsMember, blocker_by, IsBlockerAt, link_in};
+ghost use Rattle.gates.specs.EntryRows.{Kept, HasCell, Stands, added, new_slot, slot_with, stand_in, with_reply, Waits, waiting, way_in, asked_by, IsAnswer, IsBar, place_by, target_by, without_first, IsToldBy, free_by, link_in};
 ghost use Rattle.history.specs.History.{IsReplied, phase};
-ghost use Rattle.gates.specs.Shows.{nth, Shows, Mirrors, Trails, IsGate, IsAsked, IsTargetOf, IsBlocker, IsFree, IsOfChain, named_in, linked_in};
+ghost use Rattle.gates.specs.Shows.{nth, Shows, Mirrors, Trails, IsGate, IsAsked, IsTargetOf, IsFree, IsOfChain, named_in, linked_in};
 
 use crate::cell::{Behind, Cell};
 use crate::cells::{
@@ -203,13 +202,6 @@ impl Row {
         self.lost + self.cells.len() as u64
     }
 
-    /// The request `k` was added, and still has its cell: no later one has taken it.
-    pub fn has_cell(&self, k: u64) -> bool
-        ensures { IsTrue result ↔ HasCell self.now k }
-    {
-        k >= self.lost && k - self.lost < self.cells.len() as u64
-    }
-
     /// Whether the request `k` may start: severed first, then open, else shut.
     pub fn open(&self, k: u64) -> Gate
         requires { HasCell self.now k }
@@ -217,41 +209,7 @@ impl Row {
         ensures placed { (h : List Event) (i : ℕ) (xs : List Slot) → Stands xs self.now → Mirrors h i xs → IsTrue (passes is_pending xs k) → IsGate h (nth i k) result }
     {
         let _ = &self.size;
-        self.decide(k)
-    }
-
-    /// Whether the request `k` may start, by what is kept.
-    fn decide(&self, k: u64) -> Gate
-        requires { HasCell self.now k }
-        ensures { result ≡ gate_in self.now k }
-    {
-        let j = (k - self.lost) as usize;
-        let cell = cell_at(&self.cells, j);
-        if cell.behind.severed {
-            return Gate::Severed;
-        }
-        match place(cell, j) {
-            Some(g) => {
-                if self.is_clear(g) {
-                    Gate::Open
-                } else {
-                    Gate::Shut
-                }
-            }
-            None => Gate::Open,
-        }
-    }
-
-    /// Chains and drains let the request at a place start.
-    fn is_clear(&self, j: usize) -> bool
-        requires { j < length self.now.cells }
-        ensures { result ≡ clear_in self.now j }
-    {
-        let cell = cell_at(&self.cells, j);
-        !cell.behind.severed
-            && !cell.behind.held
-            && j <= self.drain
-            && (!cell.traits.drains || j <= self.oldest)
+        self.decide(k).gate()
     }
 
     /// What is known of whether the request `k` may start, where requests that are pending in the row may have replied.
@@ -261,29 +219,59 @@ impl Row {
         ensures linked { (xs : List Slot) → Stands xs self.now → (p : ℕ) → linked_in result ≡ Some p → (p < k) × Waits xs self.now p }
         ensures trailed { (h : List Event) (i : ℕ) (xs : List Slot) → Stands xs self.now → Trails h i xs → (IsReplied (phase h (nth i k)) → ⊥) → IsAsked h (nth i k) result }
     {
+        let _ = &self.size;
+        self.decide(k)
+    }
+
+    /// Whether the request `k` may start, by what is kept.
+    fn decide(&self, k: u64) -> Asked
+        requires { HasCell self.now k }
+        ensures { IsAnswer self.now k result }
+    {
         let j = (k - self.lost) as usize;
         let cell = cell_at(&self.cells, j);
         if cell.behind.severed {
             return Asked::Severed;
         }
         match place(cell, j) {
-            Some(g) => self.ask_of_place(g, j),
+            Some(g) => self.decide_by(g, j),
             None => Asked::Open,
         }
     }
 
-    /// The answer for the request at the place `j`, by the place `g`, which decides for it.
-    fn ask_of_place(&self, g: usize, j: usize) -> Asked
+    /// The same of the request at the place `j`, by the place `g`, which decides for it.
+    fn decide_by(&self, g: usize, j: usize) -> Asked
         requires { (g ≤ j) × (j < length self.now.cells) }
-        ensures { (q : Option ℕ) × IsBlockerAt self.now g q × (result ≡ asked_by self.now g j q) }
+        ensures { (q : Option ℕ) × IsBar self.now g q × (result ≡ asked_by self.now g j q) }
     {
-        match self.blocker_of_place(g) {
-            Some(b) => Asked::Blocked(b, self.link_before(j)),
+        match self.bar(g) {
+            Some(b) => Asked::Blocked(self.lost + b as u64, self.link_before(j)),
             None if g < j && cell_at(&self.cells, g).is_pending() => {
                 Asked::OpenWith(self.lost + g as u64)
             }
             None => Asked::Open,
         }
+    }
+
+    /// The place of the first request that keeps the one at a place from starting, by its own place.
+    fn bar(&self, g: usize) -> Option<usize>
+        requires { g < length self.now.cells }
+        ensures bar { IsBar self.now g result }
+        ensures before { IfSome result (λ b. b < g) }
+    {
+        let cell = cell_at(&self.cells, g);
+        let member = if cell.behind.held {
+            let head = cell.behind.head.saturating_sub(self.lost) as usize;
+            first_held(&self.cells, head, g)
+        } else {
+            g
+        };
+        let first = if cell.traits.drains {
+            self.oldest
+        } else {
+            self.drain.min(member)
+        };
+        if first < g { Some(first) } else { None }
     }
 
     /// The nearest earlier member of its chain, of the request at a place, that is pending.
@@ -301,42 +289,9 @@ impl Row {
     pub fn target_of(&self, k: u64) -> Option<u64>
         requires { HasCell self.now k }
         ensures handed { (h : List Event) (i : ℕ) (xs : List Slot) → Stands xs self.now → Shows h i xs → IsTargetOf h (nth i k) result }
-        ensures placed { (h : List Event) (i : ℕ) (xs : List Slot) → Stands xs self.now → Mirrors h i xs → IsTrue (passes is_pending xs k) → IsTargetOf h (nth i k) result }
         ensures trailed { (h : List Event) (i : ℕ) (xs : List Slot) → Stands xs self.now → Trails h i xs → (IsReplied (phase h (nth i k)) → ⊥) → IsTargetOf h (nth i k) result }
     {
-        let cell = cell_at(&self.cells, (k - self.lost) as usize);
-        if !cell.is_link_timeout() {
-            return None;
-        }
-        k.checked_sub(1)
-    }
-
-    /// The first request that keeps the request `k` from starting. None where it is severed, or open.
-    pub fn blocker(&self, k: u64) -> Option<u64>
-        requires { HasCell self.now k }
-        ensures handed { (h : List Event) (i : ℕ) (xs : List Slot) → Stands xs self.now → Shows h i xs → IsBlocker h (nth i k) result }
-        ensures placed { (h : List Event) (i : ℕ) (xs : List Slot) → Stands xs self.now → Mirrors h i xs → IsTrue (passes is_pending xs k) → IsBlocker h (nth i k) result }
-    {
-        let j = (k - self.lost) as usize;
-        let cell = cell_at(&self.cells, j);
-        if cell.behind.severed {
-            return None;
-        }
-        match place(cell, j) {
-            Some(g) => self.blocker_of_place(g),
-            None => None,
-        }
-    }
-
-    /// The first request that keeps the one at a place from starting, by its own place.
-    fn blocker_of_place(&self, g: usize) -> Option<u64>
-        requires { g < length self.now.cells }
-        ensures { IsBlockerAt self.now g result }
-    {
-        match first_blocker(&self.cells, self.lost, g, self.oldest, self.drain) {
-            Some(b) => Some(self.lost + b as u64),
-            None => None,
-        }
+        target(cell_at(&self.cells, (k - self.lost) as usize), k)
     }
 }
 
@@ -350,6 +305,17 @@ fn place(cell: &Cell, j: usize) -> Option<usize>
         None
     } else {
         Some(j - 1)
+    }
+}
+
+/// The number of its target, if it is the request `k` and a LINK_TIMEOUT.
+fn target(cell: &Cell, k: u64) -> Option<u64>
+    ensures { result ≡ target_by k cell.now }
+{
+    if cell.is_link_timeout() && k > 0 {
+        Some(k - 1)
+    } else {
+        None
     }
 }
 
@@ -376,29 +342,4 @@ fn is_free(cells: &VecDeque<Cell>, lost: u64, oldest: usize) -> bool
     ensures { result ≡ free_by lost cells.now.items oldest }
 {
     oldest > 0 && (oldest == cells.len() || cell_at(cells, oldest).behind.head > lost)
-}
-
-/// The place of the first request that keeps the one at the place `g` from starting.
-fn first_blocker(
-    cells: &VecDeque<Cell>,
-    lost: u64,
-    g: usize,
-    oldest: usize,
-    drain: usize,
-) -> Option<usize>
-    requires { g < length cells.now.items }
-    ensures { (c : Cell) → slice_get cells.now.items g ≡ Some c → (m : ℕ) × IsMember cells.now.items lost g c m × (result ≡ blocker_by g c m oldest drain) }
-{
-    let cell = cell_at(cells, g);
-    let member = if cell.behind.held {
-        first_held(cells, cell.behind.head.saturating_sub(lost) as usize, g)
-    } else {
-        g
-    };
-    let first = if cell.traits.drains {
-        oldest
-    } else {
-        drain.min(member)
-    };
-    if first < g { Some(first) } else { None }
 }

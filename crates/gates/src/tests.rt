@@ -1,5 +1,5 @@
 //! Rows by the rules of chains, drains and link timeouts, at their limits.
-ghost use Rattle.std.specs.Prelude.{◌≡◌, ◌+◌, ◌^◌, ◌<◌};
+ghost use Rattle.std.specs.Prelude.{◌≡◌, ◌+◌, ◌^◌, ◌<◌, ◌≤◌};
 ghost use Rattle.gates.specs.EntryRows.{added};
 
 use crate::{Asked, Gate, Row, RowFull, Traits};
@@ -44,8 +44,8 @@ fn invalid(flags: u8) -> Sqe {
 
 /// Adds an entry, for which there is room.
 fn put(rt: &impl Abort, row: &mut Row, sqe: Sqe, last: bool) -> u64
-    requires { added row.old < 2 ^ 32 }
-    ensures { added row.new ≡ added row.old + 1 }
+    requires { (row.old.lost ≡ 0) × (added row.old < row.old.size) × (row.old.size ≤ 8) }
+    ensures { (row.new.lost ≡ 0) × (added row.new ≡ added row.old + 1) × (row.new.size ≡ row.old.size) }
 {
     match row.add(sqe, last) {
         Ok(k) => k,
@@ -53,22 +53,26 @@ fn put(rt: &impl Abort, row: &mut Row, sqe: Sqe, last: bool) -> u64
     }
 }
 
-fn answer(rt: &impl Abort, row: &mut Row, k: u64, fails: bool)
-    ensures { added row.new ≡ added row.old }
+/// Adds an entry with these traits, for which there is room.
+fn put_traits(rt: &impl Abort, row: &mut Row, traits: Traits, last: bool) -> u64
+    requires { (row.old.lost ≡ 0) × (added row.old < row.old.size) × (row.old.size ≤ 8) }
+    ensures { (row.new.lost ≡ 0) × (added row.new ≡ added row.old + 1) × (row.new.size ≡ row.old.size) }
 {
-    assert!(rt; row.has_cell(k));
-    row.replied(k, fails);
+    match row.add_traits(traits, last) {
+        Ok(k) => k,
+        Err(RowFull) => panic!(rt; "the row is full"),
+    }
 }
 
-/// What the row says of a request: its gate, and the first request that blocks it.
-fn asked(rt: &impl Abort, row: &Row, k: u64) -> (Gate, Option<u64>) {
-    assert!(rt; row.has_cell(k));
-    (row.open(k), row.blocker(k))
-}
-
-fn target(rt: &impl Abort, row: &Row, k: u64) -> Option<u64> {
-    assert!(rt; row.has_cell(k));
-    row.target_of(k)
+/// Nothing can be added.
+fn refuse(rt: &impl Abort, row: &mut Row)
+    requires { added row.old < 2 ^ 32 }
+    ensures { row.new ≡ row.old }
+{
+    match row.add(nop(0), true) {
+        Ok(_) => panic!(rt; "there was room"),
+        Err(RowFull) => {}
+    }
 }
 
 #[test]
@@ -78,14 +82,14 @@ fn a_soft_chain_goes_on_until_a_reply_fails(rt: HostRuntime) -> Result<(), Fail>
     assert_eq!(rt; first, 0);
     put(&rt, &mut row, read(LINK), false);
     put(&rt, &mut row, nop(0), true);
-    assert_eq!(rt; asked(&rt, &row, 0), (Gate::Open, None));
-    assert_eq!(rt; asked(&rt, &row, 1), (Gate::Shut, Some(0)));
-    assert_eq!(rt; asked(&rt, &row, 2), (Gate::Shut, Some(0)));
-    answer(&rt, &mut row, 0, false);
-    assert_eq!(rt; asked(&rt, &row, 1), (Gate::Open, None));
-    assert_eq!(rt; asked(&rt, &row, 2), (Gate::Shut, Some(1)));
-    answer(&rt, &mut row, 1, true);
-    assert_eq!(rt; asked(&rt, &row, 2), (Gate::Severed, None));
+    assert_eq!(rt; row.open(0), Gate::Open);
+    assert_eq!(rt; row.open(1), Gate::Shut);
+    assert_eq!(rt; row.open(2), Gate::Shut);
+    row.replied(0, false);
+    assert_eq!(rt; row.open(1), Gate::Open);
+    assert_eq!(rt; row.open(2), Gate::Shut);
+    row.replied(1, true);
+    assert_eq!(rt; row.open(2), Gate::Severed);
     Ok(())
 }
 
@@ -95,9 +99,9 @@ fn severing_passes_hard_members(rt: HostRuntime) -> Result<(), Fail> {
     put(&rt, &mut row, read(LINK), false);
     put(&rt, &mut row, nop(HARD), false);
     put(&rt, &mut row, nop(0), false);
-    answer(&rt, &mut row, 0, true);
-    assert_eq!(rt; asked(&rt, &row, 1), (Gate::Severed, None));
-    assert_eq!(rt; asked(&rt, &row, 2), (Gate::Severed, None));
+    row.replied(0, true);
+    assert_eq!(rt; row.open(1), Gate::Severed);
+    assert_eq!(rt; row.open(2), Gate::Severed);
     Ok(())
 }
 
@@ -108,10 +112,10 @@ fn a_hard_link_severs_after_an_invalid_member_alone(rt: HostRuntime) -> Result<(
     put(&rt, &mut row, nop(0), true);
     put(&rt, &mut row, invalid(HARD), false);
     put(&rt, &mut row, nop(0), true);
-    answer(&rt, &mut row, 0, true);
-    answer(&rt, &mut row, 2, true);
-    assert_eq!(rt; asked(&rt, &row, 1), (Gate::Open, None));
-    assert_eq!(rt; asked(&rt, &row, 3), (Gate::Severed, None));
+    row.replied(0, true);
+    row.replied(2, true);
+    assert_eq!(rt; row.open(1), Gate::Open);
+    assert_eq!(rt; row.open(3), Gate::Severed);
     Ok(())
 }
 
@@ -120,7 +124,7 @@ fn the_last_entry_of_a_batch_ends_its_chain(rt: HostRuntime) -> Result<(), Fail>
     let mut row = Row::new(rt.alloc(), 2)?;
     put(&rt, &mut row, read(LINK), true);
     put(&rt, &mut row, nop(0), true);
-    assert_eq!(rt; asked(&rt, &row, 1), (Gate::Open, None));
+    assert_eq!(rt; row.open(1), Gate::Open);
     Ok(())
 }
 
@@ -131,11 +135,11 @@ fn a_member_that_was_cancelled_early_holds_nobody_up(rt: HostRuntime) -> Result<
     put(&rt, &mut row, nop(HARD), false);
     put(&rt, &mut row, nop(HARD), false);
     put(&rt, &mut row, nop(0), true);
-    answer(&rt, &mut row, 1, true);
-    assert_eq!(rt; asked(&rt, &row, 3), (Gate::Shut, Some(0)));
-    answer(&rt, &mut row, 0, false);
-    assert_eq!(rt; asked(&rt, &row, 2), (Gate::Open, None));
-    assert_eq!(rt; asked(&rt, &row, 3), (Gate::Shut, Some(2)));
+    row.replied(1, true);
+    assert_eq!(rt; row.open(3), Gate::Shut);
+    row.replied(0, false);
+    assert_eq!(rt; row.open(2), Gate::Open);
+    assert_eq!(rt; row.open(3), Gate::Shut);
     Ok(())
 }
 
@@ -146,15 +150,15 @@ fn a_drain_waits_for_all_and_holds_back_all(rt: HostRuntime) -> Result<(), Fail>
     put(&rt, &mut row, nop(0), true);
     put(&rt, &mut row, nop(DRAIN), true);
     put(&rt, &mut row, nop(0), true);
-    answer(&rt, &mut row, 1, false);
-    assert_eq!(rt; asked(&rt, &row, 0), (Gate::Open, None));
-    assert_eq!(rt; asked(&rt, &row, 2), (Gate::Shut, Some(0)));
-    assert_eq!(rt; asked(&rt, &row, 3), (Gate::Shut, Some(2)));
-    answer(&rt, &mut row, 0, false);
-    assert_eq!(rt; asked(&rt, &row, 2), (Gate::Open, None));
-    assert_eq!(rt; asked(&rt, &row, 3), (Gate::Shut, Some(2)));
-    answer(&rt, &mut row, 2, true);
-    assert_eq!(rt; asked(&rt, &row, 3), (Gate::Open, None));
+    row.replied(1, false);
+    assert_eq!(rt; row.open(0), Gate::Open);
+    assert_eq!(rt; row.open(2), Gate::Shut);
+    assert_eq!(rt; row.open(3), Gate::Shut);
+    row.replied(0, false);
+    assert_eq!(rt; row.open(2), Gate::Open);
+    assert_eq!(rt; row.open(3), Gate::Shut);
+    row.replied(2, true);
+    assert_eq!(rt; row.open(3), Gate::Open);
     Ok(())
 }
 
@@ -166,15 +170,15 @@ fn a_link_timeout_is_open_where_its_target_is(rt: HostRuntime) -> Result<(), Fai
     put(&rt, &mut row, link_timeout(LINK), false);
     put(&rt, &mut row, link_timeout(0), true);
     put(&rt, &mut row, link_timeout(0), true);
-    assert_eq!(rt; target(&rt, &row, 1), None);
-    assert_eq!(rt; target(&rt, &row, 2), Some(1));
-    assert_eq!(rt; target(&rt, &row, 3), None);
-    assert_eq!(rt; target(&rt, &row, 4), None);
-    assert_eq!(rt; asked(&rt, &row, 2), (Gate::Shut, Some(0)));
-    answer(&rt, &mut row, 0, false);
-    assert_eq!(rt; asked(&rt, &row, 1), (Gate::Open, None));
-    assert_eq!(rt; asked(&rt, &row, 2), (Gate::Open, None));
-    assert_eq!(rt; asked(&rt, &row, 3), (Gate::Shut, Some(1)));
+    assert_eq!(rt; row.target_of(1), None);
+    assert_eq!(rt; row.target_of(2), Some(1));
+    assert_eq!(rt; row.target_of(3), None);
+    assert_eq!(rt; row.target_of(4), None);
+    assert_eq!(rt; row.open(2), Gate::Shut);
+    row.replied(0, false);
+    assert_eq!(rt; row.open(1), Gate::Open);
+    assert_eq!(rt; row.open(2), Gate::Open);
+    assert_eq!(rt; row.open(3), Gate::Shut);
     Ok(())
 }
 
@@ -183,22 +187,16 @@ fn a_cell_is_free_once_its_chain_has_replied(rt: HostRuntime) -> Result<(), Fail
     let mut row = Row::new(rt.alloc(), 2)?;
     put(&rt, &mut row, nop(LINK), false);
     put(&rt, &mut row, nop(0), true);
-    assert_eq!(rt; row.add(nop(0), true), Err(RowFull));
-    answer(&rt, &mut row, 0, false);
-    assert_eq!(rt; row.add(nop(0), true), Err(RowFull));
-    answer(&rt, &mut row, 1, false);
-    let third = put(&rt, &mut row, nop(0), true);
+    refuse(&rt, &mut row);
+    row.replied(0, false);
+    refuse(&rt, &mut row);
+    row.replied(1, false);
+    let Ok(third) = row.add(nop(0), true) else {
+        panic!(rt; "the row is full")
+    };
     assert_eq!(rt; third, 2);
-    assert!(rt; !row.has_cell(0));
-    assert!(rt; row.has_cell(1));
-    assert_eq!(rt; asked(&rt, &row, 2), (Gate::Open, None));
+    assert_eq!(rt; row.open(third), Gate::Open);
     Ok(())
-}
-
-/// What a row that trails its ring says of a request.
-fn ask(rt: &impl Abort, row: &Row, k: u64) -> Asked {
-    assert!(rt; row.has_cell(k));
-    row.ask(k)
 }
 
 #[test]
@@ -208,17 +206,17 @@ fn a_row_that_trails_names_who_is_to_be_looked_at(rt: HostRuntime) -> Result<(),
     put(&rt, &mut row, read(LINK), false);
     put(&rt, &mut row, link_timeout(0), true);
     put(&rt, &mut row, nop(DRAIN), true);
-    assert_eq!(rt; ask(&rt, &row, 0), Asked::Open);
-    assert_eq!(rt; ask(&rt, &row, 1), Asked::Blocked(0, Some(0)));
-    assert_eq!(rt; ask(&rt, &row, 2), Asked::Blocked(0, Some(1)));
-    assert_eq!(rt; ask(&rt, &row, 3), Asked::Blocked(0, None));
-    answer(&rt, &mut row, 0, false);
-    assert_eq!(rt; ask(&rt, &row, 1), Asked::Open);
-    assert_eq!(rt; ask(&rt, &row, 2), Asked::OpenWith(1));
-    assert_eq!(rt; ask(&rt, &row, 3), Asked::Blocked(1, None));
-    answer(&rt, &mut row, 1, true);
-    assert_eq!(rt; ask(&rt, &row, 2), Asked::Severed);
-    assert_eq!(rt; ask(&rt, &row, 3), Asked::Blocked(2, None));
+    assert_eq!(rt; row.ask(0), Asked::Open);
+    assert_eq!(rt; row.ask(1), Asked::Blocked(0, Some(0)));
+    assert_eq!(rt; row.ask(2), Asked::Blocked(0, Some(1)));
+    assert_eq!(rt; row.ask(3), Asked::Blocked(0, None));
+    row.replied(0, false);
+    assert_eq!(rt; row.ask(1), Asked::Open);
+    assert_eq!(rt; row.ask(2), Asked::OpenWith(1));
+    assert_eq!(rt; row.ask(3), Asked::Blocked(1, None));
+    row.replied(1, true);
+    assert_eq!(rt; row.ask(2), Asked::Severed);
+    assert_eq!(rt; row.ask(3), Asked::Blocked(2, None));
     Ok(())
 }
 
@@ -229,19 +227,27 @@ fn the_chain_of_the_first_request_is_in_the_way(rt: HostRuntime) -> Result<(), F
     let alone = Traits::of(&nop(0));
     assert_eq!(rt; row.in_the_way(), None);
     assert_eq!(rt; row.count(), 0);
-    assert_eq!(rt; row.add_traits(linked, false), Ok(0));
-    assert_eq!(rt; row.add_traits(alone, true), Ok(1));
-    assert_eq!(rt; row.add_traits(alone, true), Ok(2));
+    put_traits(&rt, &mut row, linked, false);
+    put_traits(&rt, &mut row, alone, true);
+    let third = put_traits(&rt, &mut row, alone, true);
+    assert_eq!(rt; third, 2);
     assert_eq!(rt; row.in_the_way(), Some(0));
-    answer(&rt, &mut row, 0, false);
+    row.replied(0, false);
     assert_eq!(rt; row.in_the_way(), Some(1));
-    assert_eq!(rt; row.add_traits(alone, true), Err(RowFull));
-    assert_eq!(rt; row.add_stand_in(), Err(RowFull));
-    answer(&rt, &mut row, 1, false);
+    row.replied(1, false);
     assert_eq!(rt; row.in_the_way(), None);
+    assert_eq!(rt; row.ask(2), Asked::Open);
     assert_eq!(rt; row.add_stand_in(), Ok(3));
     assert_eq!(rt; row.count(), 4);
     assert_eq!(rt; row.in_the_way(), None);
-    assert_eq!(rt; ask(&rt, &row, 2), Asked::Open);
+    Ok(())
+}
+
+#[test]
+fn a_row_whose_first_chain_has_not_replied_is_full(rt: HostRuntime) -> Result<(), Fail> {
+    let mut row = Row::new(rt.alloc(), 1)?;
+    put(&rt, &mut row, read(0), true);
+    assert_eq!(rt; row.add_stand_in(), Err(RowFull));
+    assert_eq!(rt; row.add_traits(Traits::of(&nop(0)), true), Err(RowFull));
     Ok(())
 }

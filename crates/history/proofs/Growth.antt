@@ -36,9 +36,6 @@ MayChange _ _ = ⊥
 pub at_request : (h : List Event) (q r : Req) (p : Phase) → same q r ≡ true → phase h q ≡ p → phase h r ≡ p
 at_request h q r p w is = subst (λ (z : Req). phase h z ≡ p) (same_true q r w) is
 
-idle_born : (p : Phase) → IsIdle p → ¬ (p ≡ unborn)
-idle_born p i e = subst IsIdle e i
-
 pending_born : (p : Phase) → IsPending p → ¬ (p ≡ unborn)
 pending_born p i e = subst IsPending e i
 

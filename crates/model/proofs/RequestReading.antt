@@ -181,10 +181,6 @@ module _ (h : List Event) (i : ℕ) (xs : List Request) (reads : (k : ℕ) → s
   asked_some op None a = absurd (true≢false (sym a))
   asked_some op (Some e) a = (e, refl, a)
 
-  pending_some : (o : Option Request) → pending_of o ≡ true → (y : Request) × (o ≡ Some y)
-  pending_some None p = absurd (true≢false (sym p))
-  pending_some (Some y) p = (y, refl)
-
   -- what a cancel means
   module _ (k : ℕ) (x : Request) (is : slice_get xs k ≡ Some x) (d : Entry) (p : placed_in xs k ≡ Some d) where
     pub matched : (m : ℕ) → m < k → asked_for d.op (placed_in xs m) ≡ true → Matches h (at k) (at m)

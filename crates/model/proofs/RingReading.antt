@@ -54,10 +54,6 @@ module _ (xs : List Request) where
   severed_before zero lt j v = absurd (omega arith)
   severed_before (suc m) lt j v = let e : joins (handed_in xs m) ≡ true = rw sub-one at j in let f : severs_at xs m ≡ false = rw sub-one at v in rw (e, f, sub-one) refl
 
-  pub done_unjoined : (m : ℕ) → 0 < m → joins (handed_in xs (m - 1)) ≡ false → chain_done xs m ≡ true
-  done_unjoined zero lt j = absurd (omega arith)
-  done_unjoined (suc m) lt j = let e : joins (handed_in xs m) ≡ false = rw sub-one at j in rw e refl
-
   pub undone_here : (m : ℕ) → 0 < m → joins (handed_in xs (m - 1)) ≡ true → pending_of (slice_get xs (m - 1)) ≡ true → chain_done xs m ≡ false
   undone_here zero lt j v = absurd (omega arith)
   undone_here (suc m) lt j v = let e : joins (handed_in xs m) ≡ true = rw sub-one at j in let f : pending_of (slice_get xs m) ≡ true = rw sub-one at v in rw (e, f) refl

@@ -1,11 +1,11 @@
 -- The events of no one request: Tick, Shut. And Submit, which makes one.
-use Rattle.std.proofs.Common.{◌≡◌, ℕ, zero, suc, ◌<◌, ◌≤◌, ◌==◌, ◌||◌, ◌++◌, Bool, true, false, cond, List, [], ◌∷◌, length, get_or, Option, Some, None, refl, sym, ap, ◌∙◌, subst, ⊎_elim, true≢false, eqb-true, eq-eqb, length-append, arith}
+use Rattle.std.proofs.Common.{◌≡◌, ℕ, zero, suc, ◌<◌, ◌==◌, ◌||◌, ◌++◌, Bool, true, false, cond, List, [], ◌∷◌, length, get_or, Option, Some, None, refl, sym, ap, ◌∙◌, subst, ⊎_elim, true≢false, eqb-true, eq-eqb, length-append, arith}
 use Rattle.std.specs.List.{slice_get, list_any}
 use Rattle.std.proofs.lemmas.Option.{slice_get_within, slice_get_past}
 use Rattle.entry.specs.Entry.{Entry}
 use Rattle.history.specs.declared.req.Req.{Req}
 use Rattle.history.specs.declared.event.Event.{Event}
-use Rattle.history.specs.declared.event.Event.TheVariants.{Tick, Shut, Submit}
+use Rattle.history.specs.declared.event.Event.TheVariants.{Shut, Submit}
 use Rattle.model.specs.declared.request.Request.{Request}
 use Rattle.model.specs.declared.request.Stage.{Stage}
 use Rattle.model.specs.declared.request.Stage.TheVariants.{Waits, Runs, Armed, Replied, Reaped}
@@ -23,25 +23,6 @@ use Rattle.model.proofs.RequestLists.{slice_get-push}
 use Rattle.model.proofs.Phases.{runs_from}
 use Rattle.model.proofs.RequestReading.{stage_is}
 use Rattle.model.proofs.RingWrites.{row, row_of, put_row, row_put, same_setup}
-
-pub tick_carries : (m : Machine) (n : ℕ) → m.shut ≡ false → m.clock ≤ n → n ≤ 2147483647 → Carries m (Tick n) (record m { clock = n })
-tick_carries m n s le top = (
-  refl,
-  λ h a. let may : MayCome (setup_of m) h (Tick n) = (subst (λ (z : ℕ). z ≤ n) (sym a.clock) le, top) in (
-    may,
-    record {
-      legal = ((a.shut ∙ s, may), a.legal);
-      requests = a.requests;
-      counts = λ j. (let e : submits (Tick n ∷ h) j ≡ submits h j = omega arith in e ∙ a.counts j);
-      pipes = a.pipes;
-      clock = refl;
-      shut = a.shut;
-    },
-  ),
-)
-
-pub tick_refuses : (m : Machine) (n : ℕ) → (m.clock ≤ n → n ≤ 2147483647 → ⊥) → Refuses m (Tick n) m
-tick_refuses m n out = (refl, λ h a c. out (subst (λ (z : ℕ). z ≤ n) a.clock c.0) c.1)
 
 -- some request of some ring runs
 row_any : (rings : List (List Request)) (i k : ℕ) (x : Request) → slice_get (row rings i) k ≡ Some x → is_runs x.stage ≡ true → list_any runs_in rings ≡ true
@@ -157,9 +138,6 @@ module _ (m : Machine) (i : ℕ) (e : Entry) (bytes : List ℕ) (last : Bool) wh
       },
     ),
   )
-
-pub submit_refuses : (m : Machine) (q : Req) (e : Entry) (bytes : List ℕ) (last : Bool) → (q.ring < length m.rings → q.k ≡ length (row m.rings q.ring) → Fits e bytes → ⊥) → Refuses m (Submit q e bytes last) m
-submit_refuses m q e bytes last out = (refl, λ h a c. out c.0 (c.1 ∙ a.counts q.ring) c.2)
 
 -- as the code meets it: the bytes are a copy, and no data have come
 pub submit_meets : (m now : Machine) → m ≡ now → (q : Req) (e : Entry) (bs : List ℕ) (last : Bool) (r s : List Request) (f : Catch) (cs ts : List ℕ) → now.shut ≡ false → q.ring < length m.rings → r ≡ get_or m.rings q.ring r → q.k ≡ length r

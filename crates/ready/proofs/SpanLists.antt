@@ -1,12 +1,11 @@
 -- The requests of spans, as lists: one more at the end, and what is before the rest of a list.
-use Rattle.std.proofs.Common.{◌≡◌, ℕ, zero, suc, ◌+◌, ◌-◌, List, [], ◌∷◌, ◌++◌, length, length-append, append_assoc, append-nil, take, flat_map, sum_by, sym, refl, ap, ◌∙◌, subst, arith, Option, Some, None}
+use Rattle.std.proofs.Common.{◌≡◌, ℕ, zero, suc, ◌+◌, ◌-◌, List, [], ◌∷◌, ◌++◌, length, length-append, append_assoc, append-nil, take, sum_by, sym, refl, ap, ◌∙◌, subst, arith, Option, Some, None}
 use Rattle.std.proofs.lemmas.List.Sums.{sum_by-cons, sum_by-append}
 use Rattle.std.proofs.lemmas.Grind.{flat_map-append}
-use Rattle.std.proofs.lemmas.List.Concat.{flat_map-cons}
 use Rattle.std.proofs.Math.Seq.{take-append_seam}
 use Rattle.history.specs.declared.req.Req.{Req}
 use Rattle.ready.specs.declared.span.Span.{Span}
-use Rattle.ready.specs.Spans.{run_from, numbers_in, most}
+use Rattle.ready.specs.Spans.{run_from, numbers_in}
 use Rattle.ready.specs.Ready.{Moves, all_put, all_taken, numbers_of, before}
 use Rattle.ready.specs.QueueParts.{HasDrawn, listed}
 
@@ -49,11 +48,6 @@ drawn_first old None new s r others ends is split =
 drawn_first old (Some rest) new s r others ends is split =
     let start : List Req = before (numbers_of old) rest in
     ap numbers_of is.0 ∙ ends ∙ ap (λ (z : List Req). start ++ z) (sym is.1 ∙ split) ∙ sym (append_assoc start (r ∷ []) (numbers_in others))
-
--- nothing was drawn
-pub drawn_none : (old : List Span) (rest : Option Span) (new : List Span) → HasDrawn old rest new None → (new ≡ old) × (rest ≡ None)
-drawn_none old None new is = (is, refl)
-drawn_none old (Some rest) new is = absurd is
 
 pub same_moves : (a b : Moves) → a.queue ≡ b.queue → a.share ≡ b.share → a.put ≡ b.put → a.taken ≡ b.taken → a ≡ b
 same_moves a b queue share put taken =

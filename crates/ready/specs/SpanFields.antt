@@ -1,5 +1,5 @@
 -- What the fields of a span stand for.
-use Rattle.std.specs.Prelude.{ℕ, suc, ◌+◌, ◌<◌, ◌^◌, List}
+use Rattle.std.specs.Prelude.{suc, ◌+◌, ◌<◌, ◌^◌, List}
 use Rattle.history.specs.declared.req.Req.{Req}
 use Rattle.ready.specs.Spans.{run_from, most}
 use Rattle.ready.specs.declared.span.Span.TheInside.{Inside}

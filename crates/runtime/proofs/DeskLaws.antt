@@ -1,5 +1,5 @@
 -- What the poller's desk looks after, from one step of a turn to the next.
-use Rattle.std.proofs.Common.{◌≡◌, ◌≢◌, ◌⊎◌, inl, inr, ⊎_elim, ℕ, suc, ◌+◌, ◌-◌, ◌<◌, ◌≤◌, Bool, true, false, cond, not, List, [], ◌∷◌, ◌++◌, length, length-append, slice_index, Option, Some, None, Result, Ok, Err, IfOk, is_ok, sym, refl, ap, ◌∙◌, subst, arith, true≢false}
+use Rattle.std.proofs.Common.{◌≡◌, ◌≢◌, ◌⊎◌, inl, inr, ⊎_elim, ℕ, ◌+◌, ◌-◌, ◌<◌, ◌≤◌, Bool, true, false, cond, not, List, [], ◌∷◌, ◌++◌, length, length-append, slice_index, Option, Some, None, Result, Ok, Err, IfOk, is_ok, sym, refl, ap, ◌∙◌, subst, arith, true≢false}
 use Rattle.std.proofs.lemmas.Bool.{cases_order}
 use Rattle.std.proofs.lemmas.List.{append_assoc}
 use Rattle.entry.specs.declared.op.Op.{Op}
@@ -8,12 +8,12 @@ use Rattle.entry.specs.Entry.{Entry}
 use Rattle.history.specs.declared.req.Req.{Req}
 use Rattle.history.specs.declared.event.Event.{Event}
 use Rattle.history.specs.declared.event.Event.TheVariants.{Take, Expire, Count, Fire, Settle, Cut}
-use Rattle.history.specs.History.{Phase, unborn, waits, armed, same, becomes, concerns, phase, submits, clock_of, IsReplied}
+use Rattle.history.specs.History.{Phase, unborn, waits, armed, same, becomes, concerns, phase, submits, IsReplied}
 use Rattle.history.specs.Chains.{IsLinkTimeout, IsPlaced, IsTarget, is_link_timeout, is_timeout, is_timer, previous}
 use Rattle.history.specs.Legal.{Legal, Setup, count_of, IsOf as IsOfKind}
 use Rattle.history.specs.Ticked.{ticked}
 use Rattle.history.proofs.Growth.{MayChange, may_change, changed, unchanged, replied_stays}
-use Rattle.history.proofs.Requests.{bool_cases, same_true, same_itself}
+use Rattle.history.proofs.Requests.{bool_cases, same_true}
 use Rattle.steps.specs.Cells.{setup_of}
 use Rattle.steps.specs.declared.line.Line.{Line}
 use Rattle.steps.specs.Journal.{events_of, freed, frees}
@@ -303,32 +303,6 @@ watches_on c r j y = record {
       })))
       z)
       (y.each q lt);
-  timers = y.timers;
-}
-
--- a request that was taken up now was taken up before, or is the one that was taken up now
-next_or_before : (q : Req) (ring k : ℕ) (new old : ℕ → ℕ) → old ring ≡ k → new ring ≡ k + 1 → ((i : ℕ) → i ≢ ring → new i ≡ old i) → q.k < new q.ring → (q.k < old q.ring) ⊎ (record { ring = ring; k = k } ≡ q)
-next_or_before q ring k new old before after others lt = ⊎_elim
-    (λ (e : q.ring ≡ ring). let o = ap old e ∙ before in let n = ap new e ∙ after in ⊎_elim
-    (λ (same_k : q.k ≡ k). inr (λ i. record { ring = sym e i; k = sym same_k i }))
-    (λ z. ⊎_elim (λ (l : q.k < k). inl (omega (arith, l, o))) (λ (l : k < q.k). absurd (omega (arith, l, lt, n))) z)
-    (cases_order q.k k))
-    (λ z. let o = others q.ring (λ (e : q.ring ≡ ring). ⊎_elim (λ (l : q.ring < ring). omega (arith, l, e)) (λ (l : ring < q.ring). omega (arith, l, e)) z) in inl (omega (arith, lt, o)))
-    (cases_order q.ring ring)
-
--- the ring's next request is taken up, and waits
-pub takes_up : (c : Cares) (taken : ℕ → ℕ) (ring k : ℕ) (j : List Line) → c.taken ring ≡ k → taken ring ≡ k + 1 → ((i : ℕ) → i ≢ ring → taken i ≡ c.taken i) → LooksAfter c j → LooksAfter (record c { taken = taken; waiting = record { ring = ring; k = k } ∷ c.waiting }) j
-takes_up c taken ring k j old new others y = record {
-  each = λ q lt. ⊎_elim
-      (λ (lt' : q.k < c.taken q.ring). ⊎_elim
-      (λ done. inl done)
-      (λ z. ⊎_elim
-      (λ w. inr (inl (or_true (same (record { ring = ring; k = k }) q) (is_among c.waiting q) w)))
-      (λ (s : IsSet c j q). inr (inr (record { deadline = s.deadline; armed_is = s.armed_is; noted = s.noted; watched = s.watched })))
-      z)
-      (y.each q lt'))
-      (λ (one : record { ring = ring; k = k } ≡ q). inr (inl (subst (λ (z : Req). is_among (record { ring = ring; k = k } ∷ c.waiting) z ≡ true) one (is_true (same (record { ring = ring; k = k }) (record { ring = ring; k = k })) (is_among c.waiting (record { ring = ring; k = k })) (same_itself (record { ring = ring; k = k }))))))
-      (next_or_before q ring k taken c.taken old new others lt);
   timers = y.timers;
 }
 

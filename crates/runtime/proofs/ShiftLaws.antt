@@ -29,26 +29,6 @@ shifts_still d = record {
   numbers = λ h. omega arith;
 }
 
-handed_moves : (p q : Moves) (ps : List Req) → q ≡ record p { put = p.put ++ ps } → q ≡ record p { put = p.put ++ ps; taken = p.taken ++ [] }
-handed_moves p q ps e = e ∙ ap (λ (l : List Req). record p { put = p.put ++ ps; taken = l }) (sym (append-nil p.taken))
-
--- the first of two numbers was tried, or the second
-pub shifts_first : (p q : Moves) (k l o : Option Req) → HandedOver p (kept_in k) q (kept_in l) → Shifts (record { ready = p; kept = kept_in k ++ kept_in o }) [] [] (record { ready = q; kept = kept_in l ++ kept_in o })
-shifts_first p q k l o x = record {
-  puts = x.0;
-  takes = [];
-  ready = handed_moves p q x.0 x.1;
-  numbers = λ h. let e : sum_by h (kept_in k) ≡ sum_by h (x.0 ++ kept_in l) = ap (sum_by h) x.2 in omega (arith, e, sum_by-append h x.0 (kept_in l), sum_by-append h (kept_in k) (kept_in o), sum_by-append h (kept_in l) (kept_in o));
-}
-
-pub shifts_second : (p q : Moves) (k o l : Option Req) → HandedOver p (kept_in o) q (kept_in l) → Shifts (record { ready = p; kept = kept_in k ++ kept_in o }) [] [] (record { ready = q; kept = kept_in k ++ kept_in l })
-shifts_second p q k o l x = record {
-  puts = x.0;
-  takes = [];
-  ready = handed_moves p q x.0 x.1;
-  numbers = λ h. let e : sum_by h (kept_in o) ≡ sum_by h (x.0 ++ kept_in l) = ap (sum_by h) x.2 in omega (arith, e, sum_by-append h x.0 (kept_in l), sum_by-append h (kept_in k) (kept_in o), sum_by-append h (kept_in k) (kept_in l));
-}
-
 -- a number that was given went beside the others, and was tried
 pub shifts_given : (d e f : Desk) (r : Req) → e.ready ≡ d.ready → ((h : Req → ℕ) → sum_by h e.kept ≡ sum_by h d.kept + h r) → Shifts e [] [] f → Shifts d (r ∷ []) [] f
 shifts_given d e f r same kept x = record {

@@ -24,7 +24,7 @@ use Rattle.runtime.specs.Backlogs.{Owed}
 use Rattle.runtime.proofs.ClockLaws.{none_then, still_pollers, ticks_then}
 use Rattle.runtime.specs.declared.lists.Intake.{Intake}
 use Rattle.runtime.specs.Desks.{is_among}
-use Rattle.runtime.specs.PollTurns.{AreAt, AreNew, HasRoom, HasTicked, IsAt, IsPollTurn, IsPollers, Did, Rang}
+use Rattle.runtime.specs.PollTurns.{AreAt, AreNew, HasRoom, HasTicked, IsAt, IsPollTurn, Did, Rang}
 use Rattle.bell.specs.BellPasses.{Sleeping}
 
 pub goes_on : (b : Facts) (p q : Pass) (es : List Event) → Goes b p es q → GoesOn b p es q
@@ -271,9 +271,6 @@ rang_silent b h k o es still silent goes alone same moved = record {
 pub rang_moved : (b : Facts) (h k : Hands) (o w : Waiting) → Rang b h o k w → Rang b h o (record k { moved = true }) w
 rang_moved b h k o w x = record { events = x.events; goes = x.goes; still = x.still; answered = x.answered; places = x.places; room = x.room; alone = x.alone; same = x.same; quiet = λ idle. absurd (true≢false idle) }
 
-pub rang_is : (b : Facts) (h k l : Hands) (o w x : Waiting) → l ≡ k → x ≡ w → Rang b h o k w → Rang b h o l x
-rang_is b h k l o w x same out d = subst (λ (z : Hands). Rang b h o z x) (sym same) (subst (λ (z : Waiting). Rang b h o k z) (sym out) d)
-
 abbrev pub is_freed : Released → Bool
 is_freed Freed = true
 is_freed Severed = false
@@ -309,9 +306,6 @@ did_freed b q h k p o r goes is alone same moved new x = record {
   handed = x.2;
   quiet = λ idle. absurd (true≢false (sym moved ∙ idle));
 }
-
-pub did_is : (b : Facts) (q : QueueFacts) (h k l : Hands) (o w x : Waiting) → l ≡ k → x ≡ w → Did b q h o k w → Did b q h o l x
-did_is b q h k l o w x same out d = subst (λ (z : Hands). Did b q h o z x) (sym same) (subst (λ (z : Waiting). Did b q h o k z) (sym out) d)
 
 -- a whole turn: the clock was asked, and then the requests and timers were looked after
 pub turned : (b : Facts) (q : QueueFacts) (h m k : Hands) (s t : Sleeping) (n r u : ℕ) (v z : List Intake) (a e f g : List Req) (l m' : List ((ℕ × ℕ) × ℕ)) (o w : Waiting) → IsOfQueue q h.ready → HasTicked b h m → Did b q m o k w → o.answered ≡ [] → u ≡ r

@@ -81,10 +81,6 @@ module _ (s : Setup) where
   legal_before [] seen h = h
   legal_before (l ∷ later) seen h = legal_before later seen (legal_tail l (later ++ seen) h)
 
-  pub live_before : (later seen : List Line) → was_shut (events_of (later ++ seen)) ≡ false → was_shut (events_of seen) ≡ false
-  live_before [] seen h = h
-  live_before (l ∷ later) seen h = live_before later seen (live_tail l (later ++ seen) h)
-
   pub submits_grow : (later seen : List Line) (i : ℕ) → submits (events_of seen) i ≤ submits (events_of (later ++ seen)) i
   submits_grow [] seen i = omega arith
   submits_grow (Did e ∷ later) seen i = let l = submits_grow later seen i in omega arith

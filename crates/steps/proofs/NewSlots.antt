@@ -10,7 +10,7 @@ use Rattle.pipe.specs.Pipe.{Conduit}
 use Rattle.pipe.specs.PipeAnswers.{new_conduit}
 use Rattle.steps.specs.declared.parcel.Thing.{Thing}
 use Rattle.steps.specs.declared.parcel.Thing.TheVariants.{Piped}
-use Rattle.steps.specs.Cells.{PipeIs, AreNewSlots, slot_at, slots_of}
+use Rattle.steps.specs.Cells.{PipeIs, slot_at, slots_of}
 
 at_last : {A : Type 0} (l : List A) (a : A) → get_elem? (l ++ a ∷ []) (length l) ≡ some a
 at_last [] a = refl
@@ -35,9 +35,6 @@ pipe_pushed caps n slots after o is u new = rw is record {
       (λ ne. (let k = u.pipes p (omega arith) in (k.0, at_longer slots (o ∷ []) p k.0 k.1, k.2)));
 }
 
-pub cells_begin : (caps : List ℕ) (slots : List (Option Thing)) → PipesUpTo caps 64 slots → CellsUpTo caps 0 slots
-cells_begin caps slots u = record { long = u.long; pipes = u.pipes; empty = λ x lt. absurd (omega arith) }
-
 pub cell_pushed : (caps : List ℕ) (n : ℕ) (slots after : List (Option Thing)) → after ≡ slots ++ None ∷ [] → CellsUpTo caps n slots → CellsUpTo caps (n + 1) after
 cell_pushed caps n slots after is u = rw is record {
   long = (let l = u.long in omega (arith, length-append slots (None ∷ [])));
@@ -46,9 +43,6 @@ cell_pushed caps n slots after is u = rw is record {
       (λ e. (let l = u.long in subst (λ z. get_elem? (slots ++ None ∷ []) z ≡ some None) (let same : length slots ≡ slot_at x = omega arith in same) (at_last slots None)))
       (λ ne. at_longer slots (None ∷ []) (slot_at x) None (u.empty x (omega arith)));
 }
-
-pub cells_done : (caps : List ℕ) (n : ℕ) (slots : List (Option Thing)) → CellsUpTo caps n slots → AreNewSlots caps n slots
-cells_done caps n slots u = record { long = (let l = u.long in omega arith); empty = u.empty; pipes = u.pipes }
 
 pub new_pipe_is : (caps : List ℕ) (p n : ℕ) (v : Conduit) → v ≡ new_conduit n → n ≡ get_or caps p 0 → PipeIs caps p (Some (Piped v)) untouched
 new_pipe_is caps p n v is at = (ap (λ (z : Conduit). z.cap) is ∙ at, ap (λ (z : Conduit). z.content) is, ap (λ (z : Conduit). z.read_shut) is, ap (λ (z : Conduit). z.write_shut) is)

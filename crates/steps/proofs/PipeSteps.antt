@@ -143,9 +143,6 @@ module _ (slots id : ℕ) (me : Seated) where
     goes_on s r at l same t tick = seat_sees L (l ∷ r.past) t v v.role refl
         (λ c is. (let b = busy_now slots id me s r at c is in (b.0, ap (λ h. phase h c) same ∙ b.1))) (λ c is. absurd (true≢false (sym is ∙ ap (λ (z : Role). is_leaving z c) busy))) (λ c is. absurd (let y = sym busy ∙ is in cc)) (made_with L s r id v l t at tick)
 
-    has_parts : (s : St) (r : Ruled L s) → There slots id me s → 0 < v.parts
-    has_parts s r at = (busy_now slots id me s r at q busy).0
-
     hold_does : p < length L.caps → (s : St) (r : Ruled L s) → There slots id me s → get_or s.words (pipe_at p) 0 ≡ 0 → Does slots id me L s (pipe_at p) 1 (λ m'. Extends v (Hold q p) v.role m'.0 × HasPipe m' p me.1)
     hold_does there s r at is =
         let l : Line = Hold q p in let home = at_home L.caps r.past p _ _ (holder r.past p) (r.pipes p small) is in let t = tick slots id me (pipe_at p) s (l ∷ r.past) in

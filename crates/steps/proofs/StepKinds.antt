@@ -12,10 +12,10 @@ use Rattle.claim.specs.declared.tag.Tag.{Tag}
 use Rattle.claim.specs.declared.tag.Tag.TheVariants.{Empty, Running}
 use Rattle.history.specs.declared.req.Req.{Req}
 use Rattle.history.specs.declared.event.Event.{Event}
-use Rattle.history.specs.History.{Cause, Phase, unborn, replied, reaped, same, phase, runs, submits, was_shut, data_of, IsReplied}
+use Rattle.history.specs.History.{Cause, Phase, unborn, replied, reaped, phase, runs, submits, was_shut, data_of, IsReplied}
 use Rattle.history.specs.Chains.{before_in}
 use Rattle.history.specs.Legal.{Setup, Legal}
-use Rattle.history.proofs.Requests.{same_itself, same_true, same_false}
+use Rattle.history.proofs.Requests.{same_itself, same_true}
 use Rattle.history.proofs.Growth.{unborn_yet}
 use Rattle.steps.specs.declared.line.Line.{Line}
 use Rattle.steps.specs.declared.parcel.Parcel.{Parcel}
@@ -52,9 +52,6 @@ either_way n m A hit miss = dite (ℕ_discrete n m) hit miss
 -- the place after an event of the request
 pub now_is : (b : Bool) (p q : Phase) → b ≡ true → cond b p q ≡ p
 now_is b p q e = ap (λ (z : Bool). cond z p q) e
-
-pub two_requests : (h : List Event) (a b : Req) (p q : Phase) → phase h a ≡ p → phase h b ≡ q → p ≢ q → same a b ≡ false
-two_requests h a b p q x y n = same_false a b (λ e. n (sym x ∙ (ap (phase h) e ∙ y)))
 
 module _ (slots id : ℕ) (me : Seated) where
   abbrev pub v : View

@@ -13,10 +13,6 @@ IsUncut word = (k : ℕ) → k < length word → IsCutByte (slice_index word k) 
 IsUncut-rest : (b : ℕ) (bs : List ℕ) → IsUncut (b ∷ bs) → IsUncut bs
 IsUncut-rest b bs h k lt = h (suc k) (omega (arith, lt))
 
-cut_first : (b : ℕ) (bs rest : List ℕ) → IsUncut (b ∷ bs) → IsCut rest → rest ≡ b ∷ bs → ⊥
-cut_first b bs [] h cut e = absurd cc
-cut_first b bs (c ∷ cs) h cut e = let same : c ≡ b = cc in h 0 (omega arith) (rw (← same) cut)
-
 -- there is one word up to the first cut, and one rest
 pub cut_once : (v w x y : List ℕ) → IsUncut v → IsUncut w → IsCut x → IsCut y → v ++ x ≡ w ++ y → (v ≡ w) × (x ≡ y)
 cut_once [] [] x y hv hw hx hy e = (refl, e)

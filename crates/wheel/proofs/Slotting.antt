@@ -77,13 +77,6 @@ module _ (xs ys : List (List Timer)) (es fs : Deadlines) (r : Req) (d i : ℕ) (
 
 -- a request is dropped; es and fs are the deadlines before and after
 module _ (xs : List (List Timer)) (es fs : Deadlines) (r : Req) (wheel : IsWheel xs es) (noted : (q : Req) → deadline_at fs q ≡ dropped (deadline_at es) r q) where
-  -- it had no deadline
-  pub drops_nothing : deadline_at es r ≡ None → IsWheel xs fs
-  drops_nothing had s q = wheel s q ∙ by (same r q) refl ∙ sym (ap (in_slot s) (noted q)) where
-    by : (b : Bool) → same r q ≡ b → in_slot s (deadline_at es q) ≡ in_slot s (cond b None (deadline_at es q))
-    by true w = ap (in_slot s) (one_deadline es r q w ∙ had)
-    by false w = refl
-
   -- it had the deadline c in the slot i
   pub drops : (ys : List (List Timer)) (c i : ℕ) → deadline_at es r ≡ Some c → i ≡ c % 256 → deadline_in (slot_list ys i) ≡ dropped (deadline_in (slot_list xs i)) r → ((s : ℕ) → (s ≡ i → ⊥) → slot_list ys s ≡ slot_list xs s) → IsWheel ys fs
   drops ys c i had at left rest s q = ⊎_elim (λ (e : s ≡ i). subst (λ z. deadline_in (slot_list ys z) q ≡ in_slot z (deadline_at fs q)) (sym e) own) (λ (ne : s ≡ i → ⊥). ap (λ t. deadline_in t q) (rest s ne) ∙ wheel s q ∙ by ne (same r q) refl ∙ sym (ap (in_slot s) (noted q))) (cases_eq s i) where

@@ -173,8 +173,5 @@ searching_next table s t n c u first k known now walked d = record {
 
 -- ---- where it ends
 
-pub few_all : (v w : View) (c : Req) (first n : ℕ) → c.k ≤ first + (n - 1) → Walked v w c first c.k → FewSteps v w 3 (5 * (n - 1))
-few_all v w c first n near now = record { steps = now.steps; is = now.is; few = now.few; most = (let q = now.most in omega arith) }
-
 pub none_left : (v w : View) (c : Req) (first : ℕ) → Searching v w c first c.k → NoneLeft (events_of w.seen) c
 none_left v w c first now q m = now.passed q m m.0.1

@@ -1,5 +1,5 @@
 -- What the single steps of a run come to: which events the pass went on by, how many steps it took, and whose pass it stays.
-use Rattle.std.proofs.Common.{◌≡◌, ℕ, suc, ◌+◌, ◌*◌, ◌<◌, ◌≤◌, ◌&&◌, not, cond, Bool, true, false, ℤ, List, [], ◌∷◌, ◌++◌, length, slice_index, Option, Some, None, sym, refl, ap, ◌∙◌, subst, ⊎_elim, true≢false, ltb-true, eq-eqb, length-append, arith}
+use Rattle.std.proofs.Common.{◌≡◌, ℕ, suc, ◌+◌, ◌<◌, ◌≤◌, ◌&&◌, not, cond, Bool, true, false, ℤ, List, [], ◌∷◌, ◌++◌, length, slice_index, Option, Some, None, sym, refl, ap, ◌∙◌, subst, ⊎_elim, true≢false, ltb-true, eq-eqb, length-append, arith}
 use Rattle.std.proofs.lemmas.Bool.{cases_eq}
 use Rattle.std.proofs.lemmas.List.{append_assoc}
 use Rattle.atomic_table.specs.Table.{rest, turned}
@@ -34,7 +34,7 @@ use Rattle.steps.specs.declared.view.Step.{Step}
 use Rattle.steps.specs.declared.view.View.{View}
 use Rattle.steps.specs.Fairness.{Orderly}
 use Rattle.steps.specs.Journal.{event_of, events_of, holder}
-use Rattle.steps.specs.Cells.{setup_of, IsCell, cells_in, request_at, claim_at, pipe_at, slot_at, over, IsParcel, PipeIs}
+use Rattle.steps.specs.Cells.{setup_of, IsCell, request_at, claim_at, pipe_at, slot_at, over, IsParcel, PipeIs}
 use Rattle.steps.specs.Plays.{Seated, HasBoth, MayReply, IsSamePipe}
 use Rattle.steps.specs.Rule.{AreMade, NoneOf, owns, Begins, Looks, Extends, IsStep, leaves, leaves_one}
 use Rattle.steps.proofs.JournalGrowth.{lasts, placed_lasts, submission_lasts, submitted_in}
@@ -44,7 +44,7 @@ use Rattle.steps.proofs.Submissions.{fits_is}
 use Rattle.steps.proofs.ViewsKept.{layout_after, role_after, parts_after, parcel_after}
 use Rattle.work.specs.Board.{Facts, IsOf, share_of}
 use Rattle.work.specs.Passes.{Pass, Running, Took, HasRoom, RunsIt, IsGridOf, own_of}
-use Rattle.work.specs.Searches.{FewSteps, wanted_in}
+use Rattle.work.specs.Searches.{wanted_in}
 use Rattle.work.specs.declared.cancel.Wanted.{Wanted}
 use Rattle.work.specs.declared.run.Ran.{Ran}
 use Rattle.work.specs.WorkerRuns.{AreFew, DidReply, EndsBy, FoundOut, HasStepped, MissedPipe, StepsAt, StepsBy, op_run, run_as}
@@ -343,16 +343,8 @@ pub wanted_run : (op : Op) → wanted_in (op_run op) ≡ wanted_in op
 wanted_run (LinkTimeout ticks) = refl
 wanted_run op = refl
 
-pub piped_plain : (op : Op) (n : ℕ) → uses_at op n ≡ true → wanted_in op ≡ None
-piped_plain (AsyncCancel u all) n is = absurd (true≢false (sym is))
-piped_plain (TimeoutRemove u) n is = absurd (true≢false (sym is))
-piped_plain op n is = refl
-
 pub steps_plain : (b : Running) (w : View) (e : Entry) (ran : Ran) → wanted_in e.op ≡ None → (named : NamedPipes) → AreNamed e.op (length b.pass.view.layout.caps) named → StepsAt named b.pass.view w b.req ran → HasStepped b w e ran
 steps_plain b w e ran is named are t = subst (λ (u : Option Wanted). StepsBy u b w e ran) (sym is) (named, are, t)
-
-pub steps_cancel : (b : Running) (w : View) (e : Entry) (ran : Ran) (u : Wanted) → wanted_in e.op ≡ Some u → FewSteps b.pass.view w 4 (5 * cells_in b.pass.view.layout.cells b.req.ring) → HasStepped b w e ran
-steps_cancel b w e ran u is f = subst (λ (z : Option Wanted). StepsBy z b w e ran) (sym is) f
 
 is_below : (caps : List ℕ) (n : ℕ) → is_pipe caps n ≡ true → n < length caps
 is_below caps n there = ltb-true n (length caps) there

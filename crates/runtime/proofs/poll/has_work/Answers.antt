@@ -1,5 +1,4 @@
-use Rattle.std.proofs.Common.{◌≡◌, ap, ◌∙◌, List, [], length, arith}
-use Rattle.history.specs.declared.req.Req.{Req}
+use Rattle.std.proofs.Common.{ap, ◌∙◌, arith}
 use Rattle.runtime.specs.Backlogs.{Owed}
 use Rattle.runtime.specs.Shelves.{Places}
 use Rattle.runtime.proofs.DeskLaws.{no_answers, none_there}

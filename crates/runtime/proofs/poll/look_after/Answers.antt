@@ -1,6 +1,4 @@
-use Rattle.std.proofs.Common.{◌≡◌, ◌<◌, length, refl, sym, subst, inl, inr, ⊎_elim, List, [], ap, ◌∙◌}
-use Rattle.history.specs.declared.req.Req.{Req}
-use Rattle.steps.specs.Rule.{Begins}
+use Rattle.std.proofs.Common.{◌≡◌, ◌<◌, length, sym, subst, inl, inr, ⊎_elim, List, ap, ◌∙◌}
 use Rattle.work.specs.Passes.{Pass}
 use Rattle.runtime.specs.Desks.{AreHeldBack, cares_of, taken_in}
 use Rattle.runtime.specs.Shelves.{Places}

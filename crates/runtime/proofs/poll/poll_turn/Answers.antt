@@ -1,12 +1,11 @@
 use Rattle.std.proofs.Common.{◌≡◌, ◌≢◌, ◌≤◌, ◌<◌, ◌+◌, ℕ, inl, inr, ⊎_elim, sym, ap, ◌∙◌, subst, List, [], length, arith}
 use Rattle.history.specs.declared.req.Req.{Req}
-use Rattle.outbox.specs.Outbox.{Waiting}
 use Rattle.ready.specs.Ready.{IsOf as IsOfQueue}
 use Rattle.work.specs.Passes.{Pass, seen_of}
 use Rattle.runtime.specs.declared.lists.Intake.{Intake}
 use Rattle.runtime.specs.Backlogs.{Owed}
 use Rattle.runtime.specs.Desks.{AreHeldBack, ArePending, cares_of, taken_in}
-use Rattle.runtime.specs.PollTurns.{AllCounted, AllRung, AllTaken, AllTried, Desk, IsIdle, IsPollTurn, IsPollers, IsTaken}
+use Rattle.runtime.specs.PollTurns.{Desk, IsIdle, IsPollTurn, IsPollers, IsTaken}
 use Rattle.runtime.specs.Shelves.{Places}
 use Rattle.steps.specs.Rule.{Begins}
 use Rattle.runtime.specs.Parts.{HasRung, IsStuck}

@@ -2,7 +2,6 @@ use Rattle.std.proofs.Common.{◌≡◌, ◌⊎◌, refl, inl, inr, sym, ap, sub
 use Rattle.history.specs.declared.req.Req.{Req}
 use Rattle.history.specs.declared.event.Event.{Event}
 use Rattle.history.specs.declared.event.Event.TheVariants.{Arm}
-use Rattle.work.specs.Passes.{Pass, seen_of}
 use Rattle.board.specs.Calls.{Goes}
 use Rattle.board.specs.TimerCalls.{armed_by}
 use Rattle.board.specs.declared.poller.Arming.{Arming}

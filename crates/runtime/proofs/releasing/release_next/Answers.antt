@@ -1,4 +1,4 @@
-use Rattle.std.proofs.Common.{inl, inr, sym, subst}
+use Rattle.std.proofs.Common.{sym, subst}
 use Rattle.runtime.specs.Desks.{LooksAfter, cares_of}
 use Rattle.runtime.specs.Shelves.{Places}
 use Rattle.runtime.proofs.TurnLaws.{did_still}

@@ -1,4 +1,4 @@
-use Rattle.std.proofs.Common.{◌≡◌, ◌⊎◌, length}
+use Rattle.std.proofs.Common.{◌≡◌, ◌⊎◌}
 use Rattle.std.specs.Prelude.{IfOk}
 use Rattle.runtime.specs.Desks.{AreHeldBack, LooksAfter, cares_of}
 use Rattle.runtime.specs.Parts.{IsStuck}

@@ -1,4 +1,4 @@
-use Rattle.std.proofs.Common.{refl, ap, ◌∙◌, [], ◌∷◌, inl, inr, sym, subst, ⊎_elim, true≢false, arith, ◌≡◌}
+use Rattle.std.proofs.Common.{refl, ap, ◌∙◌, [], ◌∷◌, sym, subst, ⊎_elim, true≢false, arith}
 use Rattle.history.specs.declared.req.Req.{Req}
 use Rattle.history.specs.declared.event.Event.TheVariants.{Fire, FireMiss, Settle}
 use Rattle.history.specs.Chains.{previous}

@@ -1,6 +1,5 @@
-use Rattle.std.proofs.Common.{◌≡◌, sym, subst, ◌∙◌, inl, inr, ℕ, Option, arith}
+use Rattle.std.proofs.Common.{sym, subst, ◌∙◌, inr, ℕ, Option, arith}
 use Rattle.history.specs.declared.req.Req.{Req}
-use Rattle.history.specs.History.{clock_of}
 use Rattle.runtime.specs.Desks.{IsLinkedDue, LooksAfter, cares_of}
 use Rattle.runtime.proofs.ClockLaws.{clock_kept}
 use Rattle.runtime.proofs.TurnLaws.{at_on, rang_moved, rang_then, room_rang}

@@ -1,4 +1,4 @@
-use Rattle.std.proofs.Common.{refl, inl, inr, subst, sym, ap, true≢false, [], ◌∷◌}
+use Rattle.std.proofs.Common.{refl, inl, inr, subst, sym, true≢false, [], ◌∷◌}
 use Rattle.history.specs.declared.event.Event.TheVariants.{Settle}
 use Rattle.work.specs.Passes.{Pass, seen_of}
 use Rattle.board.specs.TimerCalls.{IsNoneToSettle}

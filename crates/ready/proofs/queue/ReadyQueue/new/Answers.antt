@@ -1,7 +1,7 @@
-use Rattle.std.proofs.Common.{◌≡◌, ◌-◌, ◌<◌, ap, arith}
+use Rattle.std.proofs.Common.{◌≡◌, ◌-◌, ap, arith}
 use Rattle.crossbeam_queue.specs.Passes.{view}
 use Rattle.ready.specs.Rule.{all_shares, share_of}
-use Rattle.ready.proofs.Balance.{begins, forks}
+use Rattle.ready.proofs.Balance.{forks}
 use Rattle.ready.proofs.queue.ReadyQueue.new.Goals as goal
 
 pub another-seat-requires-clause-rule : goal.another-seat-requires-clause-rule

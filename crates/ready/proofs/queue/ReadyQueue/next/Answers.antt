@@ -1,4 +1,4 @@
-use Rattle.std.proofs.Common.{◌≡◌, ◌++◌, ◌∷◌, [], List, Option, Some, sym, ap, ◌∙◌, subst}
+use Rattle.std.proofs.Common.{◌≡◌, ◌++◌, ◌∷◌, [], List, sym, ap, ◌∙◌, subst}
 use Rattle.history.specs.declared.req.Req.{Req}
 use Rattle.crossbeam_queue.specs.Passes.{view}
 use Rattle.ready.specs.Spans.{numbers_in}

@@ -1,4 +1,4 @@
-use Rattle.std.proofs.Common.{◌≤◌, length, List, ap, subst, suc, arith}
+use Rattle.std.proofs.Common.{◌≤◌, length, List, subst, suc, arith}
 use Rattle.history.specs.declared.req.Req.{Req}
 use Rattle.ready.specs.Spans.{most}
 use Rattle.ready.proofs.SpanLists.{run_length}

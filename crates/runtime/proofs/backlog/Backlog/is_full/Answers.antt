@@ -1,4 +1,4 @@
-use Rattle.std.proofs.Common.{◌≡◌, List, Option, Some, None, [], ◌∷◌, ◌++◌, true, false, sym, ap, ◌∙◌, subst, true≢false}
+use Rattle.std.proofs.Common.{◌≡◌, List, Option, Some, None, [], ◌∷◌, ◌++◌, true, sym, ap, ◌∙◌, true≢false}
 use Rattle.history.specs.declared.req.Req.{Req}
 use Rattle.std.specs.Option.{is_some}
 use Rattle.ready.specs.Spans.{numbers_in}

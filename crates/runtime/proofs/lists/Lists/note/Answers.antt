@@ -1,4 +1,4 @@
-use Rattle.std.proofs.Common.{◌≡◌, ℕ, ◌≤◌, ◌++◌, ◌∷◌, [], List, Option, sym, ap, ◌∙◌, subst, arith}
+use Rattle.std.proofs.Common.{◌≡◌, ℕ, ◌++◌, ◌∷◌, [], List, Option, sym, ap, ◌∙◌, subst, arith}
 use Rattle.history.specs.declared.req.Req.{Req}
 use Rattle.steps.specs.declared.line.Line.{Line}
 use Rattle.runtime.specs.Desks.{Cares, LooksAfter, cares_of}
