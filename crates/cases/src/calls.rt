@@ -95,14 +95,13 @@ fn meet_worker(
     ensures { AreIn (λ p. IsOf board.now p) idle.new.items }
 {
     let mut worker = take_idle(board, idle, first)?;
-    match idle.get_mut(second) {
-        Some(Some(other)) => board.meet(&mut worker, other),
-        _ => {
-            put_idle(board, idle, first, worker);
-            return None;
-        }
-    }
+    let Some(mut other) = take_idle(board, idle, second) else {
+        put_idle(board, idle, first, worker);
+        return None;
+    };
+    board.meet(&mut worker, &mut other);
     put_idle(board, idle, first, worker);
+    put_idle(board, idle, second, other);
     Some(())
 }
 

@@ -187,7 +187,9 @@ impl Walk {
     fn end_each(&mut self, cuts: bool) -> Result<bool, Slip> {
         let mut is_right = true;
         for i in 0..self.requests.len() {
-            let req = self.requests[i];
+            let Some(req) = self.requests.get(i).copied() else {
+                continue;
+            };
             let event = if cuts {
                 Event::Cut(req)
             } else {
