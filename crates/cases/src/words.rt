@@ -1,6 +1,8 @@
 //! The words of a line, read one after another.
-ghost use Rattle.std.specs.Prelude.{◌≡◌, IsTrue, IsSomeAnd, true, false, None};
+ghost use Rattle.std.specs.Prelude.{◌≡◌, IsOk, IsTrue, IsSomeAnd, true, false, None};
 
+use crate::told::Slip;
+use hex::FromHex;
 use history::Req;
 use std::alloc::{AllocError, Global};
 use std::str::FromStr;
@@ -10,6 +12,7 @@ use text::bytes_of;
 /// for, the line is bad, and stays so; what stands for the word says nothing.
 #[derive(Drop)]
 pub struct Words<'a> {
+    pub alloc: Global,
     /// The words that are still to be read, if any.
     pub rest: Option<&'a str>,
     pub is_bad: bool,
@@ -17,11 +20,12 @@ pub struct Words<'a> {
 
 impl<'a> Words<'a> {
     /// All words of a line.
-    pub fn of(line: &'a str) -> Words<'a>
+    pub fn of(alloc: Global, line: &'a str) -> Words<'a>
         ensures rest { IsSomeAnd result.rest (λ rest. rest.now ≡ line.now) }
         ensures good { result.is_bad ≡ false }
     {
         Words {
+            alloc,
             rest: Some(line),
             is_bad: false,
         }
@@ -114,27 +118,77 @@ impl<'a> Words<'a> {
     }
 
     /// The next word as bytes, between quotes or by two lower-case hexadecimal digits each: none where there is no word.
-    pub fn bytes(&mut self, alloc: Global) -> Result<Vec<u8>, AllocError>
+    pub fn bytes(&mut self) -> Result<Vec<u8>, AllocError>
         ensures { IsTrue self.old.is_bad → IsTrue self.new.is_bad }
     {
         let word = self.next_word().unwrap_or("");
         if let [b'"', letters @ .., b'"'] = word.as_bytes() {
-            return Vec::from_slice(alloc, letters);
+            return Vec::from_slice(self.alloc, letters);
         }
-        match bytes_of(alloc, word.as_bytes())? {
+        match bytes_of(self.alloc, word.as_bytes())? {
             Some(bytes) => Ok(bytes),
-            None => Ok(self.bad(Vec::new(alloc))),
+            None => Ok(self.bad(Vec::new(self.alloc))),
+        }
+    }
+
+    /// The next word as the digits of so many bytes.
+    pub fn array<const N: usize>(&mut self) -> [u8; N]
+        ensures kept { IsTrue self.old.is_bad → IsTrue self.new.is_bad }
+        ensures missing { self.old.rest ≡ None → IsTrue self.new.is_bad }
+    {
+        match <[u8; N]>::from_hex(self.word()) {
+            Ok(bytes) => bytes,
+            Err(_) => self.bad([0; N]),
+        }
+    }
+
+    /// The next word as the name of a pass.
+    pub fn name(&mut self) -> Name
+        ensures kept { IsTrue self.old.is_bad → IsTrue self.new.is_bad }
+        ensures missing { self.old.rest ≡ None → IsTrue self.new.is_bad }
+    {
+        let word = self.word();
+        let submitter = word.strip_prefix("submitter").and_then(number_of);
+        let worker = word.strip_prefix("worker").and_then(number_of);
+        match (submitter, worker) {
+            (Some(ring), _) => Name::Submitter(ring),
+            (_, Some(number)) => Name::Worker(number),
+            _ if word == "poller" => Name::Poller,
+            _ => self.bad(Name::Poller),
+        }
+    }
+
+    /// All that is left of the line.
+    pub fn left(&mut self) -> &'a str
+        ensures kept { IsTrue self.old.is_bad → IsTrue self.new.is_bad }
+        ensures missing { self.old.rest ≡ None → IsTrue self.new.is_bad }
+    {
+        match self.rest.take() {
+            Some(rest) => rest,
+            None => self.word(),
         }
     }
 
     /// All words were read, and the line isn't bad.
-    pub fn are_whole(&self) -> bool
-        ensures read { IsTrue result → self.now.rest ≡ None }
-        ensures good { IsTrue result → self.now.is_bad ≡ false }
-        ensures whole { self.now.rest ≡ None → self.now.is_bad ≡ false → IsTrue result }
+    pub fn end(&self) -> Result<(), Slip>
+        ensures read { IsOk result → self.now.rest ≡ None }
+        ensures good { IsOk result → self.now.is_bad ≡ false }
+        ensures whole { self.now.rest ≡ None → self.now.is_bad ≡ false → IsOk result }
     {
-        self.rest.is_none() && !self.is_bad
+        if self.rest.is_none() && !self.is_bad {
+            Ok(())
+        } else {
+            Err(Slip::BadLine)
+        }
     }
+}
+
+/// A pass, as a line names it: `poller`, `submitter0`, `worker0`.
+#[derive(Clone, Copy)]
+pub enum Name {
+    Poller,
+    Submitter(usize),
+    Worker(usize),
 }
 
 /// The number that a word writes, in decimal, without a zero or a plus sign in front.

@@ -1,5 +1,0 @@
-use Rattle.board_cases.specs.Cast.{IsCast}
-use Rattle.board_cases.proofs.play.park_all.Given as goal
-
-abbrev pub invariant-loop-number : goal.invariant-loop-number
-invariant-loop-number l = IsCast l.board l.cast

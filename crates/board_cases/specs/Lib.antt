@@ -1,2 +1,0 @@
-pub mod Cast
-pub mod CastPlaces

@@ -1,0 +1,133 @@
+//! Calls of the layers, case by case: reads cases from standard input, a line each, and prints those whose answer is another than
+//! the line wants, and how many there were. The page of this crate has the grammar of the lines.
+#![tactic(auto)]
+
+mod boards;
+mod broken;
+mod calls;
+mod cast;
+mod drawn;
+mod entries;
+mod judge;
+mod pipes;
+mod runs;
+mod scripts;
+mod told;
+mod values;
+mod walks;
+mod words;
+
+use boards::play_board;
+use judge::{Judge, call_of};
+use pipes::Pipes;
+use runs::{Machine, unfolded};
+use std::alloc::Global;
+use std::io;
+use std::io::Read;
+use told::{Slip, Told, said, yes};
+use walks::Walk;
+use words::Words;
+
+/// What later lines speak of: the last two pipes, and the last rings.
+#[derive(Drop)]
+struct Kept {
+    pipes: Pipes,
+    walk: Option<Walk>,
+}
+
+/// What is told of a call.
+fn told_of<R: Machine>(rt: &R, kept: &mut Kept, call: &str) -> Told {
+    let alloc = rt.alloc();
+    let (kind, rest) = call.split_once(' ').unwrap_or((call, ""));
+    let (text, second) = rest.split_once(" ; ").unwrap_or((rest, ""));
+    match kind {
+        "script" => scripts::told(alloc, &unfolded(alloc, text)?),
+        "whole" => scripts::told_of_whole(alloc, &unfolded(alloc, text)?),
+        "long" => scripts::told_of_long(&mut Words::of(alloc, text)),
+        "says" => scripts::said_by(alloc, text),
+        "table" => scripts::told_of_table(alloc, text, second),
+        "events" => scripts::told_of_events(alloc, text),
+        "states" => scripts::search(alloc, text, &mut Words::of(alloc, second)),
+        "agrees" => scripts::agrees(alloc, text, &mut Words::of(alloc, second)),
+        "legal" => scripts::is_legal(rt, text, second),
+        "among" => yes(alloc, runs::is_listed(rt, text, second)?),
+        "listed" => runs::prints_listed(rt, text),
+        "drawn" => drawn::told(rt, text),
+        "runs" => runs::by_each(rt, text),
+        "stats" => runs::surveyed(rt, text),
+        "pours" => runs::pours(rt, &mut Words::of(alloc, text)),
+        "example" => runs::of_example(rt, "outcomes", text),
+        "carried" => runs::of_example(rt, "run", text),
+        "files" => runs::of_files(rt, text, second),
+        "words" => runs::asked(alloc, text, second),
+        "problem" => runs::problem(alloc, text),
+        "writes" | "reads" | "finds" => broken::told(rt, kind, text, second),
+        "run" | "run-1" | "run-64" | "stuck" | "once" | "outcomes" | "history" => {
+            runs::told(rt, kind, text, second)
+        }
+        _ => told_of_value(alloc, kept, call),
+    }
+}
+
+/// What is told of a call of a value, a pipe or the one-thread ring.
+fn told_of_value(alloc: Global, kept: &mut Kept, call: &str) -> Told {
+    let mut words = Words::of(alloc, call);
+    let kind = words.word();
+    let told = match kind {
+        "rings" => {
+            kept.walk = Some(Walk::new(&mut words)?);
+            said(alloc, "made")?
+        }
+        "pipe" | "write" | "read" | "splice" | "swap" | "close" | "shut" | "poll" | "memory" => {
+            pipes::told(&mut kept.pipes, kind, &mut words)?
+        }
+        "submit"
+        | "part"
+        | "goes"
+        | "refuses"
+        | "tells"
+        | "ends"
+        | "nops"
+        | "state"
+        | "answer"
+        | "clock"
+        | "submitted"
+        | "due"
+        | "deadline"
+        | "was-shut" => match &mut kept.walk {
+            Some(walk) => walk.told(kind, &mut words)?,
+            None => return Err(Slip::BadLine),
+        },
+        _ => values::told(kind, &mut words)?,
+    };
+    words.end()?;
+    Ok(told)
+}
+
+fn main(rt: HostRuntime) -> io::Result<()> {
+    let alloc = rt.alloc();
+    let mut text = String::new(alloc);
+    rt.reader().read_to_string(&mut text)?;
+    let mut kept = Kept {
+        pipes: Pipes {
+            last: None,
+            other: None,
+        },
+        walk: None,
+    };
+    let mut judge = Judge { rt: &rt, count: 0 };
+    for (place, part) in text.as_str().split("\nboard ").enumerate() {
+        if place > 0 {
+            play_board(&mut judge, part)?;
+            continue;
+        }
+        for line in part.split('\n') {
+            if let Some(call) = call_of(line) {
+                let told = told_of(&rt, &mut kept, call);
+                judge.hear("", line, told)?;
+            }
+        }
+    }
+    let count = judge.count;
+    println!(rt; "{count} cases")
+}

@@ -1,0 +1,243 @@
+//! Commands over texts and over files.
+use crate::told::{Slip, Told, said, yes};
+use crate::words::Words;
+use commands::{Invocation, Job, Problem, invocation_of, perform, serve};
+use explore::ExploreError;
+use script_run::RunFault;
+use script_text::{Fault, ScriptFault};
+use std::alloc::{AllocError, Global};
+use std::io;
+use std::io::Input;
+use std::rt::Files;
+use std::sync::Wait;
+use std::thread::Threads;
+use std::time::Clock;
+use streams::{InputFault, OutputFault};
+
+/// What commands ask of a machine.
+pub trait Machine: Threads
+    + Wait
+    + Copy
+    + Send
+    + Sync
+    + Clock
+    + Files
+    + Input
+    + AllocGlobal
+    + 'static {}
+
+impl<R: Threads + Wait + Copy + Send + Sync + Clock + Files + Input + AllocGlobal + 'static> Machine
+    for R {}
+
+/// How often a waiting line of a run is tried: without end to speak of.
+const TURNS: u32 = 10_000_000;
+
+/// A text with its lines' ends, for which `/` stands.
+pub fn unfolded(alloc: Global, text: &str) -> Result<Vec<u8>, AllocError> {
+    let mut bytes = Vec::from_slice(alloc, text.as_bytes())?;
+    for byte in bytes.iter_mut() {
+        if *byte == b'/' {
+            *byte = b'\n';
+        }
+    }
+    Ok(bytes)
+}
+
+/// A text in which `/` stands for its lines' ends.
+pub fn folded(alloc: Global, bytes: &mut [u8]) -> Result<String, AllocError> {
+    for byte in bytes.iter_mut() {
+        if *byte == b'\n' {
+            *byte = b'/';
+        }
+    }
+    String::from_utf8_lossy(alloc, bytes)
+}
+
+/// The job of a kind of case. A run has two workers, or one, or eight, or the most that there may be. It tries each waiting line
+/// ten thousand times, or once, or thirty thousand times, or without end to speak of.
+fn job_of(kind: &str) -> Result<Job, Slip> {
+    let (workers, turns) = match kind {
+        "outcomes" => return Ok(Job::Outcomes { stats: false }),
+        "stats" => return Ok(Job::Outcomes { stats: true }),
+        "history" => return Ok(Job::History),
+        "stuck" => (2, 10_000),
+        "once" => (2, 1),
+        "drawn" => (2, 30_000),
+        "run-1" => (1, TURNS),
+        "run" => (2, TURNS),
+        "run-8" => (8, TURNS),
+        "run-64" => (64, TURNS),
+        _ => return Err(Slip::BadLine),
+    };
+    Ok(Job::Run { workers, turns })
+}
+
+/// The status of a job, and what it writes on standard output and then on standard error.
+type Answer = Result<(u8, String), Slip>;
+
+/// What a job of this kind answers.
+pub fn answered<R: Machine>(rt: &R, kind: &str, script: &str, table: &str) -> Answer {
+    let (alloc, job) = (rt.alloc(), job_of(kind)?);
+    let (mut out, mut err) = (Vec::new(alloc), Vec::new(alloc));
+    let (script, table) = (unfolded(alloc, script)?, unfolded(alloc, table)?);
+    let (mut script, mut table) = (script.as_slice(), table.as_slice());
+    let status = perform(rt, alloc, &job, &mut script, &mut table, &mut out, &mut err);
+    out.append(&mut err)?;
+    Ok((status, folded(alloc, &mut out)?))
+}
+
+/// The same of a job over files.
+fn served<R: Machine>(rt: &R, kind: &str, file: &str, table: Option<&str>) -> Answer {
+    let (alloc, job) = (rt.alloc(), job_of(kind)?);
+    let (mut out, mut err) = (Vec::new(alloc), Vec::new(alloc));
+    let status = serve(rt, rt, &Invocation { job, file, table }, &mut out, &mut err);
+    out.append(&mut err)?;
+    Ok((status, folded(alloc, &mut out)?))
+}
+
+/// The status and what was written.
+fn both(alloc: Global, answer: &(u8, String)) -> Told {
+    let (status, text) = answer;
+    Ok(format!(in alloc; "{status} {text}")?)
+}
+
+/// Whether this table is among those of a list as `outcomes` writes it.
+pub fn has_table(alloc: Global, listed: &str, table: &str) -> Result<bool, AllocError> {
+    let listed = format!(in alloc; "//{listed}")?;
+    let wanted = format!(in alloc; "//{table}/")?;
+    Ok(listed.as_str().contains(wanted.as_str()))
+}
+
+/// Whether `outcomes` lists this table of the script.
+pub fn is_listed<R: Machine>(rt: &R, script: &str, table: &str) -> Result<bool, Slip> {
+    let (status, listed) = answered(rt, "outcomes", script, "")?;
+    Ok(status == 0 && has_table(rt.alloc(), listed.as_str(), table)?)
+}
+
+/// What a command answers.
+pub fn told<R: Machine>(rt: &R, kind: &str, script: &str, table: &str) -> Told {
+    both(rt.alloc(), &answered(rt, kind, script, table)?)
+}
+
+/// What `history` answers over files.
+pub fn of_files<R: Machine>(rt: &R, script: &str, table: &str) -> Told {
+    both(rt.alloc(), &served(rt, "history", script, Some(table))?)
+}
+
+/// Whether `outcomes` lists the table that a run prints.
+pub fn prints_listed<R: Machine>(rt: &R, script: &str) -> Told {
+    let (status, table) = answered(rt, "run", script, "")?;
+    yes(
+        rt.alloc(),
+        status == 0 && is_listed(rt, script, table.as_str())?,
+    )
+}
+
+/// What run with one worker, with two and with eight says, where all three are the same, or else all three.
+pub fn by_each<R: Machine>(rt: &R, script: &str) -> Told {
+    let alloc = rt.alloc();
+    let one = told(rt, "run-1", script, "")?;
+    let two = told(rt, "run", script, "")?;
+    let eight = told(rt, "run-8", script, "")?;
+    if one.as_str() == two.as_str() && two.as_str() == eight.as_str() {
+        Ok(two)
+    } else {
+        Ok(format!(in alloc; "{one} by one worker, {two} by two, {eight} by eight")?)
+    }
+}
+
+/// What `outcomes` with `--stats` says, but for the number at its end: how fast the machine was.
+pub fn surveyed<R: Machine>(rt: &R, script: &str) -> Told {
+    let whole = told(rt, "stats", script, "")?;
+    let (text, _) = whole.as_str().rsplit_once(' ').unwrap_or(("", ""));
+    said(rt.alloc(), text)
+}
+
+/// Whether a run prints the right table of a script that writes so many letters at once to an empty pipe of this capacity, and
+/// then reads as many: what fits in goes in, and comes out.
+pub fn pours<R: Machine>(rt: &R, words: &mut Words<'_>) -> Told {
+    let alloc = rt.alloc();
+    let (capacity, count) = (words.number::<usize>(), words.number::<usize>());
+    words.end()?;
+    let fits = count.min(capacity);
+    let (mut letters, mut digits) = (String::new(alloc), String::new(alloc));
+    for place in 0..count {
+        let is_third = place % 3 == 2;
+        letters.push(if is_third { 'b' } else { 'a' })?;
+        if place < fits {
+            digits.push_str(if is_third { "62" } else { "61" })?;
+        }
+    }
+    let script = format!(in alloc;
+        "pipe {capacity}/ring 8/on 0/write w 1 {letters}/submit/wait w/read r 0 {count}/submit/wait r"
+    )?;
+    let wanted = format!(in alloc; "0 w {fits}/r {fits} {digits}/")?;
+    let told = told(rt, "run", script.as_str(), "")?;
+    if told.as_str() == wanted.as_str() {
+        said(alloc, "yes")
+    } else {
+        Ok(told)
+    }
+}
+
+/// Whether the outcomes of an example are what stands beside it; or else whether a run of it prints one of these tables.
+pub fn of_example<R: Machine>(rt: &R, kind: &str, name: &str) -> Told {
+    let alloc = rt.alloc();
+    let (script, beside) = (
+        format!(in alloc; "{name}.ring")?,
+        format!(in alloc; "{name}.outcomes")?,
+    );
+    let Ok(mut listed) = std::fs::read(rt, beside.as_str()) else {
+        return Err(Slip::BadLine);
+    };
+    let listed = folded(alloc, &mut listed)?;
+    let (status, text) = served(rt, kind, script.as_str(), None)?;
+    let is_right = if kind == "run" {
+        has_table(alloc, listed.as_str(), text.as_str())?
+    } else {
+        text.as_str() == listed.as_str()
+    };
+    yes(alloc, status == 0 && is_right)
+}
+
+/// What a command line asks for: its job, its file and its table, or `refused`, or `help` whose text has this part.
+pub fn asked(alloc: Global, line: &str, part: &str) -> Told {
+    let words: Vec<&str> = line.split(' ').collect(alloc)?;
+    match invocation_of(alloc, &words) {
+        Ok(Invocation { job, file, table }) => {
+            let table = table.unwrap_or("none");
+            Ok(format!(in alloc; "{job:?} of {file}, table {table}")?)
+        }
+        Err(error) if error.use_stderr() => said(alloc, "refused"),
+        Err(error) => {
+            let text = format!(in alloc; "{error}")?;
+            let is_right = text.as_str().contains(part);
+            said(alloc, if is_right { "help" } else { "another help" })
+        }
+    }
+}
+
+/// The status and the line of the problem of this name, of those that no script can bring about.
+pub fn problem(alloc: Global, name: &str) -> Told {
+    let problem = match name {
+        "many" => Problem::from(ExploreError::TooMany),
+        "search" => Problem::from(ExploreError::Memory),
+        "script" => Problem::from(ScriptFault::Memory),
+        "line" => Problem::from(ScriptFault::Line {
+            line: 7,
+            fault: Fault::BadTable,
+        }),
+        "stuck" => Problem::from(RunFault::Stuck(String::from_str(alloc, "a")?)),
+        "run" => Problem::from(RunFault::Memory),
+        "thread" => Problem::from(RunFault::Thread),
+        "shared" => Problem::from(RunFault::Shared),
+        "workers" => Problem::from(RunFault::Workers),
+        "reading" => Problem::from(InputFault::Memory),
+        "missing" => Problem::from(InputFault::Input(io::Error::from(io::ErrorKind::NotFound))),
+        "full" => Problem::from(OutputFault::WriteZero),
+        "writing" => Problem::from(OutputFault::Output(io::Error::from(io::ErrorKind::BrokenPipe))),
+        _ => return Err(Slip::BadLine),
+    };
+    let status = problem.status();
+    Ok(format!(in alloc; "{status} {problem}")?)
+}
