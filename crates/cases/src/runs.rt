@@ -54,13 +54,13 @@ pub fn folded(alloc: Global, bytes: &mut [u8]) -> Result<String, AllocError> {
 }
 
 /// The job of a kind of case. A run has two workers, or one, or eight, or the most that there may be. It tries each waiting line
-/// ten thousand times, or once, or thirty thousand times, or without end to speak of.
+/// sixty thousand times, or once, or thirty thousand times, or without end to speak of.
 fn job_of(kind: &str) -> Result<Job, Slip> {
     let (workers, turns) = match kind {
         "outcomes" => return Ok(Job::Outcomes { stats: false }),
         "stats" => return Ok(Job::Outcomes { stats: true }),
         "history" => return Ok(Job::History),
-        "stuck" => (2, 10_000),
+        "stuck" => (2, 60_000),
         "once" => (2, 1),
         "drawn" => (2, 30_000),
         "run-1" => (1, TURNS),
