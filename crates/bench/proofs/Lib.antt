@@ -1,2 +1,0 @@
-pub mod WordParts
-pub mod ReadSums

@@ -1,2 +1,0 @@
-pub mod Median
-pub mod Sums

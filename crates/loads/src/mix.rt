@@ -1,0 +1,200 @@
+//! The mixed load of one client: batches of requests of all kinds, and what it checks of each request.
+use crate::draws::{Draws, LINKS, VALUES};
+use crate::flow::{Flow, buffer_of};
+use crate::load::Batch;
+use crate::replies::may_reply;
+use anyhow::{Result, bail};
+use board::Completion;
+use entry::Sqe;
+use prep::{cancel_all, with_flags, with_user_data};
+use std::alloc::{AllocError, Global};
+use std::mem;
+
+/// IOSQE_IO_DRAIN.
+const DRAIN: u8 = 2;
+
+/// For how many turns it waits after the first cancels, which don't take what a worker is just trying; then twice as long, and so on.
+const PATIENCE: u64 = 64;
+
+/// A request without a completion: its number and its entry, and the place at which the bytes of its buffer begin.
+#[derive(Clone, Copy)]
+struct Record {
+    number: u64,
+    sqe: Sqe,
+    from: u64,
+}
+
+/// A client's load. It goes by spans, of up to half its ring's cells: a batch that ends by itself, with drains; batches of any kind;
+/// and cancels of all that is left, until each request has its completion. A wild load has no spans, and drains anywhere.
+#[derive(Drop)]
+pub(crate) struct Mix {
+    alloc: Global,
+    is_wild: bool,
+    draws: Draws,
+    flow: Flow,
+    /// By the number of a request modulo the cells: a cell has one request at a time.
+    open: Vec<Option<Record>>,
+    /// The batch at hand.
+    drawn: Vec<Record>,
+    span_end: u64,
+    turns: u64,
+    rest: u64,
+    patience: u64,
+    pub submitted: u64,
+    pub reaped: u64,
+    pub reported: u64,
+}
+
+impl Mix {
+    /// The load of the client of a ring of so many cells that has submitted nothing yet. One seed in four is that of a wild one.
+    pub fn new(alloc: Global, ring: u16, cells: u32, seed: u64) -> Result<Mix, AllocError> {
+        Ok(Mix {
+            alloc,
+            is_wild: seed % 4 == 1,
+            draws: Draws::new(seed.wrapping_add(u64::from(ring))),
+            flow: Flow::new(ring),
+            open: Vec::from_elem(alloc, None, cells as usize)?,
+            drawn: Vec::new(alloc),
+            span_end: 0,
+            turns: 0,
+            rest: 0,
+            patience: PATIENCE,
+            submitted: 0,
+            reaped: 0,
+            reported: 0,
+        })
+    }
+
+    /// Begins a round of so many turns.
+    pub fn begin(&mut self, turns: u64) {
+        self.turns = turns;
+    }
+
+    /// Counts a turn. Whether the round is over.
+    pub fn is_over(&mut self) -> bool {
+        let is_over = self.turns == 0;
+        self.turns = self.turns.saturating_sub(1);
+        is_over
+    }
+
+    /// The next batch. It may be empty.
+    pub fn next_batch(&mut self) -> Result<Batch, AllocError> {
+        let mut batch = Vec::new(self.alloc);
+        if self.is_wild || self.submitted < self.span_end {
+            self.draw(&mut batch, false)?;
+        } else if self.submitted == self.reaped {
+            let half = (self.open.len() / 2).min(1_024) as u32;
+            let span = u64::from(self.draws.below(half + 1));
+            self.span_end = self.submitted.saturating_add(span);
+            (self.rest, self.patience) = (0, PATIENCE);
+            self.draw(&mut batch, true)?;
+        } else if self.rest == 0 {
+            self.rest = self.patience;
+            self.patience = self.patience.saturating_mul(2).min(1_048_576);
+            for value in 0..VALUES {
+                self.add(&mut batch, cancel_all(u64::from(value)))?;
+            }
+        } else {
+            self.rest = self.rest.saturating_sub(1);
+        }
+        Ok(batch)
+    }
+
+    /// Adds entries at random: any, or such as end by themselves, with drains.
+    fn draw(&mut self, batch: &mut Batch, is_quick: bool) -> Result<(), AllocError> {
+        let mut link = 0;
+        for _entry in 0..self.draws.below(8) + 1 {
+            let sqe = if link != 0 && self.draws.below(3) == 0 {
+                self.draws.link_timeout()
+            } else if is_quick || self.draws.below(2) == 0 {
+                self.draws.quick()
+            } else {
+                self.draws.slow(&self.flow)
+            };
+            link = LINKS[self.draws.below(8) as usize];
+            let may_drain = is_quick || (self.is_wild && self.draws.below(16) == 0);
+            let drain = if may_drain && self.draws.below(3) == 0 {
+                DRAIN
+            } else {
+                0
+            };
+            let sqe = with_user_data(with_flags(sqe, link | drain), self.draws.user_data());
+            self.add(batch, sqe)?;
+        }
+        Ok(())
+    }
+
+    /// Adds an entry.
+    fn add(&mut self, batch: &mut Batch, sqe: Sqe) -> Result<(), AllocError> {
+        let from = self.flow.begin(sqe.op(), self.draws.number());
+        let number = self.submitted.saturating_add(batch.len() as u64);
+        self.drawn.push(Record { number, sqe, from })?;
+        batch.push((sqe, buffer_of(self.alloc, sqe.op(), from)?))?;
+        Ok(())
+    }
+
+    /// The place of a request among the open ones.
+    fn place(&mut self, number: u64) -> Option<&mut Option<Record>> {
+        let place = number.checked_rem(self.open.len() as u64)?;
+        self.open.get_mut(place as usize)
+    }
+
+    /// What is known of a request, which has its completion now.
+    fn close(&mut self, number: u64) -> Option<Record> {
+        let record = self.place(number)?.take()?;
+        if record.number == number {
+            Some(record)
+        } else {
+            None
+        }
+    }
+
+    /// Notes that the batch was submitted.
+    pub fn sent(&mut self) -> Result<()> {
+        for record in mem::replace(&mut self.drawn, Vec::new(self.alloc)) {
+            match self.place(record.number) {
+                Some(slot) if slot.is_none() => *slot = Some(record),
+                _ => bail!("request {} has a cell that is in use", record.number),
+            }
+            self.submitted = self.submitted.saturating_add(1);
+        }
+        Ok(())
+    }
+
+    /// Notes that the batch found no room.
+    pub fn refused(&mut self, _batch: Batch) {
+        for record in &self.drawn {
+            self.flow.finish(record.sqe.op(), 0);
+        }
+        self.drawn.clear();
+    }
+
+    /// Notes a completion that was taken.
+    pub fn take(&mut self, completion: Completion) -> Result<()> {
+        self.reaped = self.reaped.saturating_add(1);
+        self.tell(&completion, false)
+    }
+
+    /// Notes a line of the report, and whether the end cut it off.
+    pub fn report(&mut self, completion: &Completion, is_cut: bool) -> Result<()> {
+        self.reported = self.reported.saturating_add(1);
+        self.tell(completion, is_cut)
+    }
+
+    /// Looks at a reply: its request had none before, and may have this one, with this buffer.
+    fn tell(&mut self, completion: &Completion, is_cut: bool) -> Result<()> {
+        let (number, cqe) = (completion.req.k, completion.cqe);
+        let Some(Record { sqe, from, .. }) = self.close(number) else {
+            bail!("request {number} was told twice, or never submitted");
+        };
+        let (op, res, buffer) = (sqe.op(), cqe.res, completion.buffer.as_slice());
+        if cqe.user_data != sqe.user_data() || !may_reply(op, res, is_cut) {
+            bail!("request {number}, {op:?}, can't have the reply {res}");
+        }
+        if !self.flow.is_right(op, from, res, buffer) {
+            bail!("the buffer of request {number}, {op:?}, with reply {res}, is wrong");
+        }
+        self.flow.finish(op, res);
+        Ok(())
+    }
+}

@@ -1,4 +1,0 @@
-use Rattle.runtime_bench.proofs.board_path.is_refused.Goals as goal
-
-pub returns-in-Ok : goal.returns-in-Ok
-returns-in-Ok c = (c.in-Ok.ensures.submitted c.ring-ring.result c.ring-ring.ensures.role).1.kept
