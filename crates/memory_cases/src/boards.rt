@@ -45,12 +45,12 @@ pub(crate) fn new_board(
 /// A board is made of this shape.
 impl Call<()> for Shape {
     fn make(&mut self, _rt: &(), alloc: Global, gave: &mut Shown) -> bool {
-        let made = Board::new(alloc, self);
-        if let Ok(parts) = &made {
+        let made = gave.got(Board::new(alloc, self));
+        if let Some(parts) = &made {
             gave.count(" submitters ", parts.2.len() as u64);
             gave.count(" workers ", parts.3.len() as u64);
         }
-        made.is_ok()
+        made.is_some()
     }
 }
 
@@ -84,12 +84,15 @@ impl Handed<()> for Whole {
                 tell_report(&report, gave);
                 None
             }
-            Err(it) => Some(Whole {
-                board: it.board,
-                poller: it.poller,
-                submitters: it.submitters,
-                workers: it.workers,
-            }),
+            Err(it) => {
+                gave.refused(&it.error);
+                Some(Whole {
+                    board: it.board,
+                    poller: it.poller,
+                    submitters: it.submitters,
+                    workers: it.workers,
+                })
+            }
         }
     }
 

@@ -62,9 +62,9 @@ struct Walk {
 }
 
 impl Call<()> for Walk {
-    fn make(&mut self, _rt: &(), _alloc: Global, _gave: &mut Shown) -> bool {
+    fn make(&mut self, _rt: &(), _alloc: Global, gave: &mut Shown) -> bool {
         match &self.event {
-            Some(event) => self.object.apply(event).is_ok(),
+            Some(event) => gave.got(self.object.apply(event)).is_some(),
             None => true,
         }
     }

@@ -51,21 +51,26 @@ fn taken(mut pipe: Pipe) -> u64 {
 }
 
 /// How much of the new part there is, where it is made.
-fn made(alloc: Global, part: Part) -> Option<u64> {
+fn made(alloc: Global, part: Part, gave: &mut Shown) -> Option<u64> {
     Some(match part {
-        Part::Pipe => taken(Pipe::new(alloc, 16).ok()?),
-        Part::Row => Row::new(alloc, 4).ok()?.count(),
-        Part::Bell => Bell::new(alloc, 3).ok()?.1.len() as u64,
-        Part::Outbox => Outbox::new(alloc, 5).ok()?.room() as u64,
-        Part::Ring => u64::from(CompletionRing::new(alloc, 2).ok()?.take().is_some()),
-        Part::Queue => ReadyQueue::new(alloc, 4, 2).ok()?.1.len() as u64,
-        Part::Object => u64::from(Object::new(alloc, 1, &[4]).ok()?.reply_of(req(0)).is_some()),
+        Part::Pipe => taken(gave.got(Pipe::new(alloc, 16))?),
+        Part::Row => gave.got(Row::new(alloc, 4))?.count(),
+        Part::Bell => gave.got(Bell::new(alloc, 3))?.1.len() as u64,
+        Part::Outbox => gave.got(Outbox::new(alloc, 5))?.room() as u64,
+        Part::Ring => u64::from(gave.got(CompletionRing::new(alloc, 2))?.take().is_some()),
+        Part::Queue => gave.got(ReadyQueue::new(alloc, 4, 2))?.1.len() as u64,
+        Part::Object => u64::from(
+            gave.got(Object::new(alloc, 1, &[4]))?
+                .reply_of(req(0))
+                .is_some(),
+        ),
     })
 }
 
 impl Call<()> for New {
     fn make(&mut self, _rt: &(), alloc: Global, gave: &mut Shown) -> bool {
-        gave.count_if(self.1, made(alloc, self.2))
+        let count = made(alloc, self.2, gave);
+        gave.count_if(self.1, count)
     }
 }
 
@@ -86,7 +91,7 @@ struct Post(CompletionRing);
 
 impl Call<()> for Post {
     fn make(&mut self, _rt: &(), _alloc: Global, gave: &mut Shown) -> bool {
-        if self.0.post(req(1)).is_err() {
+        if gave.got(self.0.post(req(1))).is_none() {
             return false;
         }
         take_posts(&mut self.0, gave);
@@ -117,8 +122,11 @@ impl Call<()> for Delivery {
         let Some(first) = self.outbox.first() else {
             return true;
         };
-        if first.ring == self.ring.owner() && deliver(&mut self.outbox, &mut self.ring).is_err() {
-            return false;
+        if first.ring == self.ring.owner() {
+            let posted = deliver(&mut self.outbox, &mut self.ring);
+            if gave.got(posted).is_none() {
+                return false;
+            }
         }
         take_posts(&mut self.ring, gave);
         true
@@ -152,9 +160,9 @@ struct Arm {
 }
 
 impl Call<()> for Arm {
-    fn make(&mut self, _rt: &(), _alloc: Global, _gave: &mut Shown) -> bool {
+    fn make(&mut self, _rt: &(), _alloc: Global, gave: &mut Shown) -> bool {
         let (k, at) = self.next;
-        self.timers.arm(req(k), at).is_ok()
+        gave.got(self.timers.arm(req(k), at)).is_some()
     }
 
     fn show(&self, shown: &mut Shown) {
@@ -209,7 +217,16 @@ impl<R: Wait> Handed<R> for Queue {
                 }
                 None
             }
-            Err(Ungathered { queue, passes, .. }) => Some(Queue { queue, passes }),
+            Err(
+                Ungathered {
+                    error,
+                    queue,
+                    passes,
+                },
+            ) => {
+                gave.refused(&error);
+                Some(Queue { queue, passes })
+            }
         }
     }
 

@@ -46,34 +46,40 @@ struct Search {
 }
 
 /// How many entries or lines were read, or whether the table is written as it was read.
-fn counted(alloc: Global, asked: Asked, script: &Script, table: &Table) -> Option<u64> {
+fn counted(
+    alloc: Global,
+    asked: Asked,
+    script: &Script,
+    table: &Table,
+    gave: &mut Shown,
+) -> Option<u64> {
     Some(match asked {
-        Asked::Script => read_script(alloc, SCRIPT).ok()?.entries.len() as u64,
-        Asked::Table => read_table(alloc, script, TABLE).ok()?.lines.len() as u64,
-        _ => u64::from(write_table(alloc, script, table).ok()?.as_slice() == TABLE),
+        Asked::Script => gave.got(read_script(alloc, SCRIPT))?.entries.len() as u64,
+        Asked::Table => gave.got(read_table(alloc, script, TABLE))?.lines.len() as u64,
+        _ => u64::from(gave.got(write_table(alloc, script, table))?.as_slice() == TABLE),
     })
 }
 
 impl Search {
     /// Makes the call, and keeps what it gave: how much it gave.
-    fn find(&mut self, alloc: Global) -> Option<u64> {
+    fn find(&mut self, alloc: Global, gave: &mut Shown) -> Option<u64> {
         match self.asked.1 {
             Asked::Outcomes => {
-                self.tables = outcomes(alloc, &self.script, LIMIT).ok()?;
+                self.tables = gave.got(outcomes(alloc, &self.script, LIMIT))?;
                 Some(self.tables.len() as u64)
             }
             Asked::History => {
-                self.events = find_history(alloc, &self.script, &self.table, LIMIT).ok()??;
+                self.events = gave.got(find_history(alloc, &self.script, &self.table, LIMIT))??;
                 Some(self.events.len() as u64)
             }
-            asked => counted(alloc, asked, &self.script, &self.table),
+            asked => counted(alloc, asked, &self.script, &self.table, gave),
         }
     }
 }
 
 impl Call<()> for Search {
     fn make(&mut self, _rt: &(), alloc: Global, gave: &mut Shown) -> bool {
-        let count = self.find(alloc);
+        let count = self.find(alloc, gave);
         gave.count_if(self.asked.0, count)
     }
 

@@ -35,7 +35,10 @@ impl<R: Threads + Wait> Handed<R> for Running {
                     runtime,
                     clients,
                 },
-            ) => Some(Running { runtime, clients }),
+            ) => {
+                gave.refused(&JoinError::Memory);
+                Some(Running { runtime, clients })
+            }
             Err(_) => None,
         }
     }
@@ -50,10 +53,14 @@ fn started<R: Threads + Wait + Copy + Send + 'static>(
     rt: R,
     alloc: Global,
     shape: &Shape,
+    gave: &mut Shown,
 ) -> Option<Running> {
     match start(rt, alloc, shape, IDLE, Open, NoClock) {
         Ok((runtime, clients)) => Some(Running { runtime, clients }),
-        Err(_) => None,
+        Err(error) => {
+            gave.refused(&error);
+            None
+        }
     }
 }
 
@@ -73,11 +80,11 @@ fn tell_start<R: Threads + Wait + Copy + Send + 'static>(
     shape: &Shape,
 ) -> Option<Running> {
     lines.mark();
-    let mut running = started(rt, lines.alloc, shape);
+    let mut running = started(rt, lines.alloc, shape, &mut lines.gave);
     lines.mark();
     let went = if running.is_some() { "" } else { AGAIN };
     if running.is_none() {
-        running = started(rt, lines.alloc, shape);
+        running = started(rt, lines.alloc, shape, &mut lines.gave);
     }
     if let Some(running) = &running {
         lines.gave.count(" clients ", running.clients.len() as u64);

@@ -1,6 +1,7 @@
 //! Calls that take memory, and their lines.
 use history::Req;
 use std::alloc::{AllocError, Global};
+use std::fmt::Display;
 
 /// The size of the allocation that `.ci/refusals` takes for a mark. No call asks for just so many bytes.
 const MARK: usize = 77_777;
@@ -8,22 +9,24 @@ const MARK: usize = 77_777;
 /// More bytes than a call tells of what it gave.
 const ROOM: usize = 1024;
 
-/// How a call went that didn't give its answer at once: it was refused memory, all was as before, and it was made again.
-pub(crate) const AGAIN: &str = " no memory, all as before; again";
+/// What is told behind the reason for which a call was refused: all was as before, and it was made again.
+pub(crate) const AGAIN: &str = ", all as before; again";
 
 /// Something wasn't as before, or it was refused again.
-const CHANGED: &str = " no memory, and something changed; again";
+const CHANGED: &str = ", and something changed; again";
 
-/// What a call gave, or what can be seen of that on which it is made, as text.
+/// What a call gave, or what can be seen of that on which it is made, as text; and why it was refused.
 #[derive(Drop)]
 pub(crate) struct Shown {
     text: String,
+    error: String,
 }
 
 impl Shown {
     fn new(alloc: Global) -> Shown {
         Shown {
             text: String::new(alloc),
+            error: String::new(alloc),
         }
     }
 
@@ -45,6 +48,22 @@ impl Shown {
         number.is_some()
     }
 
+    /// Notes why the call was refused.
+    pub fn refused<E: Display>(&mut self, error: &E) {
+        let _ = write!(self.error, " {error}");
+    }
+
+    /// What the call gave, unless it was refused.
+    pub fn got<T: Drop, E: Display + Drop>(&mut self, made: Result<T, E>) -> Option<T> {
+        match made {
+            Ok(it) => Some(it),
+            Err(error) => {
+                self.refused(&error);
+                None
+            }
+        }
+    }
+
     /// Adds a request.
     pub fn req(&mut self, req: Req) {
         self.count(" ", u64::from(req.ring));
@@ -60,16 +79,16 @@ impl Shown {
 
 /// A call, and that on which it is made.
 pub(crate) trait Call<R> {
-    /// Makes the call, and tells what it gave. It is false only where the call was refused memory.
+    /// Makes the call, and tells what it gave, or notes why it was refused, and is false.
     fn make(&mut self, rt: &R, alloc: Global, gave: &mut Shown) -> bool;
 
     /// What can be seen of that on which it is made.
     fn show(&self, _shown: &mut Shown) {}
 }
 
-/// What a call takes, and gives back where it is refused memory.
+/// What a call takes, and gives back where it is refused.
 pub(crate) trait Handed<R> {
-    /// Makes the call, and tells what it gave. What was handed in, where the call was refused memory.
+    /// Makes the call, and tells what it gave, or notes why it was refused: then it gives back what was handed in.
     fn hand(self, rt: &R, alloc: Global, gave: &mut Shown) -> Option<Self>;
 
     /// What can be seen of what is handed in.
@@ -104,9 +123,10 @@ pub(crate) struct Lines {
 impl Lines {
     pub fn new(alloc: Global) -> Result<Lines, AllocError> {
         let text = String::with_capacity(alloc, ROOM)?;
+        let error = String::with_capacity(alloc, ROOM)?;
         Ok(Lines {
             alloc,
-            gave: Shown { text },
+            gave: Shown { text, error },
             before: Shown::new(alloc),
             after: Shown::new(alloc),
             lines: Shown::new(alloc),
@@ -123,7 +143,7 @@ impl Lines {
         let _ = String::with_capacity(self.alloc, MARK);
     }
 
-    /// Makes a call, once more where it was refused memory. How it went.
+    /// Makes a call, once more where it was refused. How it went.
     pub fn make<R, C: Call<R>>(&mut self, rt: &R, call: &mut C) -> &'static str {
         call.show(&mut self.before);
         self.mark();
@@ -145,10 +165,12 @@ impl Lines {
     pub fn add(&mut self, name: &str, went: &str) {
         self.lines.text(name);
         self.lines.text(":");
+        self.lines.text(self.gave.error.as_str());
         self.lines.text(went);
         self.lines.text(self.gave.text.as_str());
         self.lines.text("\n");
         self.gave.text.clear();
+        self.gave.error.clear();
         self.before.text.clear();
         self.after.text.clear();
     }

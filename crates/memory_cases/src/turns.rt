@@ -80,7 +80,10 @@ impl Handed<Shape> for Passes {
                 gave.count(" places ", desk.places() as u64);
                 None
             }
-            Err((_, poller, sleeper, ready)) => Some((poller, sleeper, ready)),
+            Err((memory, poller, sleeper, ready)) => {
+                gave.refused(&memory);
+                Some((poller, sleeper, ready))
+            }
         }
     }
 
@@ -189,7 +192,7 @@ impl Stage {
             &mut outbox,
         );
         tell_answers(&outbox, gave);
-        turn.is_ok()
+        gave.got(turn).is_some()
     }
 
     /// One turn of the worker, and what it answered.
@@ -224,7 +227,7 @@ impl<R: Wait> Call<R> for Stage {
 }
 
 /// How a turn went that was refused memory, and was made again.
-const FURTHER: &str = " no memory, what was done stands; again";
+const FURTHER: &str = ", what was done stands; again";
 
 /// IOSQE_IO_LINK.
 const LINK: u8 = 4;
