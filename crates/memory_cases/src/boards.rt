@@ -1,30 +1,32 @@
 //! Boards, from their start to their end.
-ghost use Rattle.std.specs.Prelude.{All, IfOk};
+ghost use Rattle.std.specs.Prelude.{◌≡◌, All, IfOk, IfSome, length};
 ghost use Rattle.work.specs.Board.{IsOf};
 
-use crate::told::{Went, again, mark, tell};
-use anyhow::{Result, bail};
-use board::{
-    Board, BoardError, FinishError, Poller, Report, RingShape, Shape, Submitter, Unfinished, Worker,
-};
+use crate::told::{Call, Handed, Lines, Shown};
+use board::{Board, BoardError, Poller, Report, RingShape, Shape, Submitter, Worker};
 use entry::Sqe;
-use history::Req;
 use prep::{nop, read};
 use std::alloc::Global;
+use std::marker::Model;
 
 /// Entries with their buffers.
 pub(crate) type Batch = Vec<(Sqe, Vec<u8>)>;
 
-/// Two rings of 4 cells, a pipe of 16 bytes, and two workers.
-pub(crate) fn shape_of(alloc: Global) -> Result<Shape> {
-    let ring = RingShape {
-        cells: 4,
-        posts: None,
-    };
-    Ok(Shape {
-        rings: Vec::from_elem(alloc, ring, 2)?,
-        pipes: Vec::from_elem(alloc, 16u32, 1)?,
-        workers: 2,
+/// Adds an entry with a buffer of so many bytes.
+pub(crate) fn add(alloc: Global, batch: &mut Batch, sqe: Sqe, bytes: usize) {
+    if let Ok(buffer) = Vec::from_elem(alloc, b'.', bytes) {
+        let _ = batch.push((sqe, buffer));
+    }
+}
+
+/// So many rings of so many cells, a pipe of 16 bytes, and so many workers.
+pub(crate) fn shape_of(alloc: Global, rings: usize, cells: u32, workers: u32) -> Option<Shape>
+    ensures { IfSome result (λ s. length s.rings.items ≡ rings) }
+{
+    Some(Shape {
+        rings: Vec::from_elem(alloc, RingShape { cells, posts: None }, rings).ok()?,
+        pipes: Vec::from_elem(alloc, 16u32, 1).ok()?,
+        workers,
     })
 }
 
@@ -32,7 +34,7 @@ pub(crate) fn shape_of(alloc: Global) -> Result<Shape> {
 pub(crate) fn new_board(
     alloc: Global,
     shape: &Shape,
-) -> Result<(Board, Poller, Vec<Submitter>, Vec<Worker>)>
+) -> Result<(Board, Poller, Vec<Submitter>, Vec<Worker>), BoardError>
     ensures poller { IfOk result (λ t. IsOf t.0 t.1) }
     ensures submitters { IfOk result (λ t. All (λ p. IsOf t.0 p) t.2.items) }
     ensures workers { IfOk result (λ t. All (λ p. IsOf t.0 p) t.3.items) }
@@ -40,112 +42,118 @@ pub(crate) fn new_board(
     Ok(Board::new(alloc, shape)?)
 }
 
-/// How the making of a board goes.
-fn board_new<R: Print>(rt: &R, alloc: Global, shape: &Shape) -> Result<()> {
-    mark(alloc);
-    let first = Board::new(alloc, shape);
-    mark(alloc);
-    let (made, went) = match first {
-        Ok(made) => (made, Went::AtOnce),
-        Err(BoardError::Memory) => (Board::new(alloc, shape)?, Went::Again),
-        Err(error) => return Err(error.into()),
-    };
-    let (_board, _poller, submitters, workers) = made;
-    let gave = format!(in alloc;
-        "{} submitters and {} workers",
-        submitters.len(),
-        workers.len()
-    )?;
-    tell(rt, "Board::new", went, gave.as_str())?;
-    Ok(())
-}
-
-/// Submits a batch. Its first request, or the batch.
-pub(crate) fn submit(board: &Board, submitter: &mut Submitter, batch: Batch) -> Result<Req, Batch>
-    requires { IsOf board.now submitter.old }
-    ensures { IsOf board.now submitter.new }
-{
-    let _ring = submitter.ring();
-    match board.submit_batch(submitter, batch) {
-        Ok(first) => Ok(first),
-        Err((_error, batch)) => Err(batch),
+/// A board is made of this shape.
+impl Call<()> for Shape {
+    fn make(&mut self, _rt: &(), alloc: Global, gave: &mut Shown) -> bool {
+        let made = gave.got(Board::new(alloc, self));
+        if let Some(parts) = &made {
+            gave.count(" submitters ", parts.2.len() as u64);
+            gave.count(" workers ", parts.3.len() as u64);
+        }
+        made.is_some()
     }
 }
 
-/// Submits a batch by the submitter of ring 0. Whether it was taken.
-fn submit_by_first(board: &Board, submitters: &mut Vec<Submitter>, batch: Batch) -> bool
-    requires { All (λ p. IsOf board.now p) submitters.old.items }
-    ensures { All (λ p. IsOf board.now p) submitters.new.items }
-{
-    match submitters.get_mut(0) {
-        Some(submitter) => submit(board, submitter, batch).is_ok(),
-        None => false,
-    }
-}
-
-/// A NOP and a READ.
-fn two(alloc: Global) -> Result<Batch> {
-    let mut batch = Vec::new(alloc);
-    batch.push((nop(), Vec::new(alloc)))?;
-    batch.push((read(0, 4, 0), Vec::from_elem(alloc, 7u8, 4)?))?;
-    Ok(batch)
-}
-
-/// Ends the board. Where it is refused memory all passes come back, with the board.
-fn finish(
-    alloc: Global,
+/// A board, and all its passes.
+#[derive(Drop)]
+struct Whole {
     board: Board,
     poller: Poller,
     submitters: Vec<Submitter>,
     workers: Vec<Worker>,
-) -> Result<(Report, Went)>
-    requires poller { IsOf board poller }
-    requires submitters { All (λ p. IsOf board p) submitters.items }
-    requires workers { All (λ p. IsOf board p) workers.items }
-{
-    mark(alloc);
-    let first = board.finish(alloc, poller, submitters, workers);
-    mark(alloc);
-    match first {
-        Ok(report) => Ok((report, Went::AtOnce)),
-        Err(
-            Unfinished {
-                error: FinishError::Memory,
-                board,
-                poller,
-                submitters,
-                workers,
-            },
-        ) => {
-            let is_same = submitters.len() == 2 && workers.len() == 2;
-            match board.finish(alloc, poller, submitters, workers) {
-                Ok(report) => Ok((report, again(is_same))),
-                Err(_) => bail!("refused again"),
+}
+
+impl Model for Whole {
+    ghost use Rattle.std.specs.Prelude.{All};
+    ghost use Rattle.work.specs.Board.{Facts, IsOf};
+
+    ghost Value = { Facts };
+
+    ghost view = { λ w. w.board };
+
+    ghost invariant = { λ w. IsOf w.board w.poller × All (λ p. IsOf w.board p) w.submitters.items × All (λ p. IsOf w.board p) w.workers.items };
+}
+
+impl Handed<()> for Whole {
+    fn hand(self, _rt: &(), alloc: Global, gave: &mut Shown) -> Option<Whole> {
+        match self
+            .board
+            .finish(alloc, self.poller, self.submitters, self.workers)
+        {
+            Ok(report) => {
+                tell_report(&report, gave);
+                None
+            }
+            Err(it) => {
+                gave.refused(&it.error);
+                Some(Whole {
+                    board: it.board,
+                    poller: it.poller,
+                    submitters: it.submitters,
+                    workers: it.workers,
+                })
             }
         }
-        Err(_) => bail!("a pass is missing"),
+    }
+
+    fn show_parts(&self, shown: &mut Shown) {
+        shown.count(" submitters ", self.submitters.len() as u64);
+        shown.count(" workers ", self.workers.len() as u64);
     }
 }
 
-/// The lines of a report.
-pub(crate) fn reported(alloc: Global, report: &Report) -> Result<String> {
-    let mut text = String::from_str(alloc, "reports")?;
+/// Tells the lines of a report.
+pub(crate) fn tell_report(report: &Report, gave: &mut Shown) {
+    gave.text(" reports");
     for (completion, is_cut) in report.lines() {
-        let req = completion.req;
-        let res = completion.cqe.res;
-        write!(text, " {}.{} {res} {is_cut}", req.ring, req.k)?;
+        gave.req(completion.req);
+        gave.reply(completion.cqe.res);
+        gave.text(if *is_cut { " cut" } else { "" });
     }
-    Ok(text)
 }
 
-/// A board is made, and another is ended that has two requests without a reply.
-pub(crate) fn tell_boards<R: Print>(rt: &R, alloc: Global) -> Result<()> {
-    let shape = shape_of(alloc)?;
-    board_new(rt, alloc, &shape)?;
-    let (board, poller, mut submitters, workers) = new_board(alloc, &shape)?;
-    submit_by_first(&board, &mut submitters, two(alloc)?);
-    let (report, went) = finish(alloc, board, poller, submitters, workers)?;
-    let gave = reported(alloc, &report)?;
-    tell(rt, "Board::finish", went, gave.as_str())?;
-    Ok(())
+/// Submits a batch.
+pub(crate) fn submit(board: &Board, submitter: &mut Submitter, batch: Batch)
+    requires { IsOf board.now submitter.old }
+    ensures { IsOf board.now submitter.new }
+{
+    let _ring = submitter.ring();
+    let _ = board.submit_batch(submitter, batch);
+}
+
+/// Submits a batch by the submitter of ring 0.
+fn submit_by_first(board: &Board, submitters: &mut Vec<Submitter>, batch: Batch)
+    requires { All (λ p. IsOf board.now p) submitters.old.items }
+    ensures { All (λ p. IsOf board.now p) submitters.new.items }
+{
+    if let Some(submitter) = submitters.get_mut(0) {
+        submit(board, submitter, batch);
+    }
+}
+
+/// A new board, on which a NOP and a READ have no reply.
+fn whole_of(alloc: Global, shape: &Shape) -> Option<Whole> {
+    let Ok((board, poller, mut submitters, workers)) = new_board(alloc, shape) else {
+        return None;
+    };
+    let mut batch = Vec::new(alloc);
+    add(alloc, &mut batch, nop(), 0);
+    add(alloc, &mut batch, read(0, 4, 0), 4);
+    submit_by_first(&board, &mut submitters, batch);
+    Some(Whole {
+        board,
+        poller,
+        submitters,
+        workers,
+    })
+}
+
+/// A board is made, and another is ended.
+pub(crate) fn tell_boards(lines: &mut Lines) {
+    if let Some(mut shape) = shape_of(lines.alloc, 2, 4, 2) {
+        let mut whole = whole_of(lines.alloc, &shape);
+        lines.tell(&(), "Board::new", &mut shape);
+        lines.tell(&(), "Board::finish", &mut whole);
+        drop(whole);
+    }
 }

@@ -5,21 +5,20 @@
 mod boards;
 mod objects;
 mod parts;
-mod queues;
 mod scripts;
-mod stage;
 mod threads;
 mod told;
 mod turns;
 
-use anyhow::Result;
+use std::io;
 
-fn main(rt: HostRuntime) -> Result<()> {
-    parts::tell_parts(&rt, rt.alloc())?;
-    queues::tell_queues(&rt, rt.alloc())?;
-    objects::tell_objects(&rt, rt.alloc())?;
-    boards::tell_boards(&rt, rt.alloc())?;
-    turns::tell_turns(&rt, rt.alloc())?;
-    scripts::tell_scripts(&rt, rt.alloc())?;
-    threads::tell_threads(&rt, rt.alloc())
+fn main(rt: HostRuntime) -> io::Result<()> {
+    let mut lines = told::Lines::new(rt.alloc())?;
+    parts::tell_parts(&rt, &mut lines);
+    objects::tell_objects(&mut lines);
+    boards::tell_boards(&mut lines);
+    turns::tell_turns(&rt, &mut lines);
+    scripts::tell_scripts(&mut lines);
+    threads::tell_threads(&rt, &mut lines);
+    print!(rt; "{}", lines.as_str())
 }

@@ -1,192 +1,268 @@
-//! Pipes, rows, bells, outboxes, completion rings and timers.
-ghost use Rattle.std.specs.Prelude.{◌≡◌, ◌<◌, length, slice_get, IfSome};
+//! Calls that make something from nothing; posts, timers, and a ready queue's end.
+ghost use Rattle.std.specs.Prelude.{All};
+ghost use Rattle.ready.specs.Ready.{IsOf};
 
-use crate::told::{Went, again, made, mark, tell};
-use anyhow::Result;
-use bell::{Bell, BellError};
-use compring::{CompletionRing, PostError};
+use crate::objects::req;
+use crate::told::{Call, Handed, Lines, Shown};
+use bell::Bell;
+use compring::CompletionRing;
 use gates::Row;
 use history::Req;
+use model::Object;
 use outbox::{Outbox, deliver};
-use pipe::{Pipe, PipeError, Ready};
+use pipe::{Pipe, Ready};
+use ready::{ReadyPass, ReadyQueue, Ungathered};
 use std::alloc::Global;
+use std::sync::Wait;
 use wheel::{TimerSet, Timers};
 
-fn req(k: u64) -> Req
-    ensures { result ≡ record { ring = 0; k = k } }
-{
-    Req { ring: 0, k }
+/// What is made from nothing.
+#[derive(Clone, Copy)]
+enum Part {
+    Pipe,
+    Row,
+    Bell,
+    Outbox,
+    Ring,
+    Queue,
+    Object,
 }
 
-/// A pipe of 16 bytes, and how many bytes of 20 it takes.
-fn pipe_new<R: Print>(rt: &R, alloc: Global) -> Result<()> {
-    let (mut pipe, went) = made(
-        alloc,
-        &|| { Pipe::new(alloc, 16).map_err(|e| e == PipeError::Memory) },
-    )?;
-    let count = match pipe.write_from(b"twenty bytes of text") {
-        Ready::Now(count) => count,
+/// A call that makes a part, with its name, and the words for what is told of the part.
+#[derive(Clone, Copy)]
+struct New(&'static str, &'static str, Part);
+
+const NEW: &[New] = &[
+    New("Pipe::new", " of 20 bytes it takes ", Part::Pipe),
+    New("Row::new", " entries ", Part::Row),
+    New("Bell::new", " ringers ", Part::Bell),
+    New("Outbox::new", " free places ", Part::Outbox),
+    New("CompletionRing::new", " posts ", Part::Ring),
+    New("ReadyQueue::new", " passes ", Part::Queue),
+    New("Object::new", " replies ", Part::Object),
+];
+
+/// How many of these bytes the pipe takes.
+fn taken(mut pipe: Pipe) -> u64 {
+    match pipe.write_from(b"twenty bytes of text") {
+        Ready::Now(count) => count as u64,
         _ => 0,
-    };
-    let gave = format!(in alloc; "it takes {count} of 20 bytes")?;
-    tell(rt, "Pipe::new", went, gave.as_str())?;
-    Ok(())
+    }
 }
 
-/// A row of 4 cells.
-fn row_new<R: Print>(rt: &R, alloc: Global) -> Result<()> {
-    let (row, went) = made(alloc, &|| Row::new(alloc, 4).map_err(|_| true))?;
-    let gave = format!(in alloc; "it has {} entries", row.count())?;
-    tell(rt, "Row::new", went, gave.as_str())?;
-    Ok(())
+/// How much of the new part there is, where it is made.
+fn made(alloc: Global, part: Part, gave: &mut Shown) -> Option<u64> {
+    Some(match part {
+        Part::Pipe => taken(gave.got(Pipe::new(alloc, 16))?),
+        Part::Row => gave.got(Row::new(alloc, 4))?.count(),
+        Part::Bell => gave.got(Bell::new(alloc, 3))?.1.len() as u64,
+        Part::Outbox => gave.got(Outbox::new(alloc, 5))?.room() as u64,
+        Part::Ring => u64::from(gave.got(CompletionRing::new(alloc, 2))?.take().is_some()),
+        Part::Queue => gave.got(ReadyQueue::new(alloc, 4, 2))?.1.len() as u64,
+        Part::Object => u64::from(
+            gave.got(Object::new(alloc, 1, &[4]))?
+                .reply_of(req(0))
+                .is_some(),
+        ),
+    })
 }
 
-/// A bell for 3 rings.
-fn bell_new<R: Print>(rt: &R, alloc: Global) -> Result<()> {
-    let ((_bell, ringers, sleeper), went) = made(
-        alloc,
-        &|| { Bell::new(alloc, 3).map_err(|e| e == BellError::Memory) },
-    )?;
-    let gave = format!(in alloc; "{} ringers", ringers.len())?;
-    drop(sleeper);
-    tell(rt, "Bell::new", went, gave.as_str())?;
-    Ok(())
+impl Call<()> for New {
+    fn make(&mut self, _rt: &(), alloc: Global, gave: &mut Shown) -> bool {
+        let count = made(alloc, self.2, gave);
+        gave.count_if(self.1, count)
+    }
 }
 
-/// An outbox of 5 places.
-fn outbox_new<R: Print>(rt: &R, alloc: Global) -> Result<()> {
-    let (outbox, went) = made(alloc, &|| Outbox::new(alloc, 5).map_err(|_| true))?;
-    let gave = format!(in alloc; "{} free places", outbox.room())?;
-    tell(rt, "Outbox::new", went, gave.as_str())?;
-    Ok(())
-}
-
-/// A completion ring for 2 posts.
-fn ring_new<R: Print>(rt: &R, alloc: Global) -> Result<()> {
-    let (mut ring, went) = made(
-        alloc,
-        &|| { CompletionRing::new(alloc, 2).map_err(|e| e == PostError::Memory) },
-    )?;
-    let gave = posts_of(alloc, &mut ring)?;
-    tell(rt, "CompletionRing::new", went, gave.as_str())?;
-    Ok(())
-}
-
-/// The posts of the ring, in order, which are taken: each with its number.
-fn posts_of(alloc: Global, ring: &mut CompletionRing) -> Result<String> {
-    let mut text = String::from_str(alloc, "posts")?;
+/// Takes the posts of the ring, in order: each with its number.
+fn take_posts(ring: &mut CompletionRing, gave: &mut Shown) {
+    gave.text(" posts");
     for _post in 0..8 {
-        let Some((number, req)) = ring.take() else {
-            break;
-        };
-        write!(text, " {number}:{}.{}", req.ring, req.k)?;
-    }
-    Ok(text)
-}
-
-/// Posts a request into a ring. Want of memory changes nothing.
-fn post(alloc: Global, ring: &mut CompletionRing, req: Req) -> Result<Went> {
-    let before = ring.overflowed();
-    mark(alloc);
-    let first = ring.post(req);
-    mark(alloc);
-    match first {
-        Ok(_) => Ok(Went::AtOnce),
-        Err(PostError::Memory) => {
-            let is_same = ring.overflowed() == before;
-            ring.post(req)?;
-            Ok(again(is_same))
+        if let Some((number, req)) = ring.take() {
+            gave.count(" ", number);
+            gave.req(req);
         }
-        Err(error) => Err(error.into()),
     }
 }
 
-/// The posts of a ring of one place: the second goes into its overflow.
-fn ring_post<R: Print>(rt: &R, alloc: Global) -> Result<()> {
-    let mut ring = CompletionRing::new(alloc, 1)?;
-    ring.post(req(0))?;
-    let went = post(alloc, &mut ring, req(1))?;
-    let gave = posts_of(alloc, &mut ring)?;
-    tell(rt, "CompletionRing::post", went, gave.as_str())?;
-    Ok(())
-}
+/// A post into a ring that is full.
+#[derive(Drop)]
+struct Post(CompletionRing);
 
-/// Delivers the first request of an outbox. Want of memory changes nothing.
-fn deliver_one(alloc: Global, outbox: &mut Outbox, ring: &mut CompletionRing) -> Result<Went>
-    requires some { 0 < length outbox.old.answered }
-    requires own { IfSome (slice_get outbox.old.answered 0) (λ r. r.ring ≡ ring.old.owner) }
-{
-    mark(alloc);
-    let first = deliver(outbox, ring);
-    mark(alloc);
-    if first.is_ok() {
-        return Ok(Went::AtOnce);
+impl Call<()> for Post {
+    fn make(&mut self, _rt: &(), _alloc: Global, gave: &mut Shown) -> bool {
+        if gave.got(self.0.post(req(1))).is_none() {
+            return false;
+        }
+        take_posts(&mut self.0, gave);
+        true
     }
-    let is_same = outbox.len() == 2 && !ring.overflowed();
-    deliver(outbox, ring)?;
-    Ok(again(is_same))
+
+    fn show(&self, shown: &mut Shown) {
+        shown.count(" overflow ", u64::from(self.0.overflowed()));
+    }
 }
 
-/// Two requests wait in an outbox, and the first is delivered to a ring that is full.
-fn outbox_deliver<R: Print>(rt: &R, alloc: Global) -> Result<()> {
-    let mut outbox = Outbox::new(alloc, 2)?;
+/// A ring of one place that is full.
+fn full_ring(alloc: Global, first: Req) -> Option<CompletionRing> {
+    let mut ring = CompletionRing::new(alloc, 1).ok()?;
+    let _ = ring.post(first);
+    Some(ring)
+}
+
+/// The first request of an outbox is delivered to a ring that is full.
+#[derive(Drop)]
+struct Delivery {
+    outbox: Outbox,
+    ring: CompletionRing,
+}
+
+impl Call<()> for Delivery {
+    fn make(&mut self, _rt: &(), _alloc: Global, gave: &mut Shown) -> bool {
+        let Some(first) = self.outbox.first() else {
+            return true;
+        };
+        if first.ring == self.ring.owner() {
+            let posted = deliver(&mut self.outbox, &mut self.ring);
+            if gave.got(posted).is_none() {
+                return false;
+            }
+        }
+        take_posts(&mut self.ring, gave);
+        true
+    }
+
+    fn show(&self, shown: &mut Shown) {
+        shown.count(" overflow ", u64::from(self.ring.overflowed()));
+        shown.count(" left ", self.outbox.len() as u64);
+    }
+}
+
+/// An outbox in which two requests wait.
+fn two_waiting(alloc: Global) -> Option<Outbox> {
+    let mut outbox = Outbox::new(alloc, 2).ok()?;
     outbox.put(req(0));
     outbox.put(req(1));
-    let mut ring = CompletionRing::new(alloc, 1)?;
-    ring.post(req(9))?;
-    let went = deliver_one(alloc, &mut outbox, &mut ring)?;
-    let left = outbox.len();
-    let mut gave = posts_of(alloc, &mut ring)?;
-    write!(gave, ", {left} left")?;
-    tell(rt, "deliver", went, gave.as_str())?;
-    Ok(())
+    Some(outbox)
 }
 
-/// The timers that are due at these times.
-fn due_of(alloc: Global, timers: &Timers) -> Result<String> {
-    let mut text = String::from_str(alloc, "due")?;
-    for now in [43, 44, 299, 300, 2_147_483_647] {
-        match timers.due(now) {
-            Some(req) => write!(text, " {}.{}", req.ring, req.k)?,
-            None => write!(text, " none")?,
+/// The times at which it is told which timer is due.
+const TIMES: &[u32] = &[43, 44, 299, 300, 2_147_483_647];
+
+/// Three timers, two of which share a slot, and then two of them once more.
+const ARMED: &[(u64, u32)] = &[(0, 300), (1, 44), (2, 2_147_483_647), (1, 299), (0, 43)];
+
+/// A timer is armed.
+#[derive(Drop)]
+struct Arm {
+    timers: Timers,
+    next: (u64, u32),
+}
+
+impl Call<()> for Arm {
+    fn make(&mut self, _rt: &(), _alloc: Global, gave: &mut Shown) -> bool {
+        let (k, at) = self.next;
+        gave.got(self.timers.arm(req(k), at)).is_some()
+    }
+
+    fn show(&self, shown: &mut Shown) {
+        shown.text(" due");
+        for now in TIMES {
+            match self.timers.due(*now) {
+                Some(req) => shown.req(req),
+                None => shown.text(" none"),
+            }
         }
     }
-    Ok(text)
 }
 
-/// Arms a timer. Want of memory changes nothing.
-fn arm(alloc: Global, timers: &mut Timers, req: Req, at: u32) -> Result<Went> {
-    let before = due_of(alloc, timers)?;
-    mark(alloc);
-    let first = timers.arm(req, at);
-    mark(alloc);
-    if first.is_ok() {
-        return Ok(Went::AtOnce);
+fn tell_posts(lines: &mut Lines) {
+    if let Some(ring) = full_ring(lines.alloc, req(0)) {
+        lines.tell(&(), "CompletionRing::post", &mut Post(ring));
     }
-    let after = due_of(alloc, timers)?;
-    timers.arm(req, at)?;
-    Ok(again(before.as_str() == after.as_str()))
 }
 
-/// Three timers are armed, two of which share a slot, and then two of them once more.
-fn timers_arm<R: Print>(rt: &R, alloc: Global) -> Result<()> {
-    let mut timers = Timers::new(alloc);
-    for (k, at) in [(0, 300), (1, 44), (2, 2_147_483_647), (1, 299), (0, 43)] {
-        let went = arm(alloc, &mut timers, req(k), at)?;
-        let gave = due_of(alloc, &timers)?;
-        tell(rt, "Timers::arm", went, gave.as_str())?;
+fn tell_delivery(lines: &mut Lines) {
+    if let (Some(outbox), Some(ring)) = (two_waiting(lines.alloc), full_ring(lines.alloc, req(9))) {
+        lines.tell(&(), "deliver", &mut Delivery { outbox, ring });
     }
-    Ok(())
+}
+
+fn tell_timers(lines: &mut Lines) {
+    let mut arm = Arm {
+        timers: Timers::new(lines.alloc),
+        next: (0, 0),
+    };
+    for next in ARMED {
+        arm.next = *next;
+        lines.tell(&(), "Timers::arm", &mut arm);
+    }
+}
+
+/// A queue of 4 places, and its two passes.
+#[derive(Drop)]
+struct Queue {
+    queue: ReadyQueue,
+    passes: Vec<ReadyPass>,
+    ghost own: { All (λ p. IsOf queue p) passes.items },
+}
+
+impl<R: Wait> Handed<R> for Queue {
+    fn hand(self, rt: &R, alloc: Global, gave: &mut Shown) -> Option<Queue> {
+        match self.queue.gather(rt, alloc, self.passes) {
+            Ok(left) => {
+                gave.text(" left");
+                for req in left.as_slice() {
+                    gave.req(*req);
+                }
+                None
+            }
+            Err(
+                Ungathered {
+                    error,
+                    queue,
+                    passes,
+                },
+            ) => {
+                gave.refused(&error);
+                Some(Queue { queue, passes })
+            }
+        }
+    }
+
+    fn show_parts(&self, shown: &mut Shown) {
+        shown.count(" passes ", self.passes.len() as u64);
+    }
+}
+
+/// Puts a request into the queue, by its first pass.
+fn put<R: Wait>(rt: &R, queue: &ReadyQueue, passes: &mut Vec<ReadyPass>, k: u64)
+    requires { All (λ p. IsOf queue.now p) passes.old.items }
+    ensures { All (λ p. IsOf queue.now p) passes.new.items }
+{
+    if let Some(pass) = passes.get_mut(0) {
+        let _ = queue.put(rt, pass, req(k));
+    }
+}
+
+/// A queue with three requests is ended.
+fn tell_queue<R: Wait>(rt: &R, lines: &mut Lines) {
+    if let Ok((queue, mut passes)) = ReadyQueue::new(lines.alloc, 4, 2) {
+        put(rt, &queue, &mut passes, 0);
+        put(rt, &queue, &mut passes, 1);
+        put(rt, &queue, &mut passes, 2);
+        lines.tell(rt, "ReadyQueue::gather", &mut Some(Queue { queue, passes }));
+    }
 }
 
 /// The calls of the parts.
-pub(crate) fn tell_parts<R: Print>(rt: &R, alloc: Global) -> Result<()> {
-    pipe_new(rt, alloc)?;
-    row_new(rt, alloc)?;
-    bell_new(rt, alloc)?;
-    outbox_new(rt, alloc)?;
-    ring_new(rt, alloc)?;
-    ring_post(rt, alloc)?;
-    outbox_deliver(rt, alloc)?;
-    timers_arm(rt, alloc)
+pub(crate) fn tell_parts<R: Wait>(rt: &R, lines: &mut Lines) {
+    for new in NEW {
+        let mut call = *new;
+        lines.tell(&(), call.0, &mut call);
+    }
+    tell_posts(lines);
+    tell_delivery(lines);
+    tell_timers(lines);
+    tell_queue(rt, lines);
 }

@@ -1,8 +1,8 @@
 //! Scripts, tables, outcomes and histories.
-use crate::told::{made, tell};
-use anyhow::{Result, bail};
-use explore::{ExploreError, Script, Table, find_history, outcomes};
-use script_text::{ScriptFault, read_script, read_table, write_history, write_table};
+use crate::told::{Call, Lines, Shown};
+use explore::{Script, Table, find_history, outcomes};
+use history::Event;
+use script_text::{read_script, read_table, write_history, write_table};
 use std::alloc::Global;
 
 /// A READ of an empty pipe and its cancel, in a chain with a timer, and a second ring whose lines the clock waits for.
@@ -15,87 +15,126 @@ const TABLE: &[u8] = b"r -125\nt -125\nc 0\nw 2\n";
 /// How many states a search may meet.
 const LIMIT: u32 = 10_000;
 
-/// The text of a table.
-fn text_of(alloc: Global, script: &Script, table: &Table) -> Result<String> {
-    Ok(String::from_utf8(write_table(alloc, script, table)?)?)
+/// A call on the script or its table.
+#[derive(Clone, Copy)]
+enum Asked {
+    Script,
+    Table,
+    Text,
+    Outcomes,
+    History,
 }
 
-fn script_read<R: Print>(rt: &R, alloc: Global) -> Result<Script> {
-    let (script, went) = made(
-        alloc,
-        &|| { read_script(alloc, SCRIPT).map_err(|e| matches!(e, ScriptFault::Memory)) },
-    )?;
-    let gave = format!(in alloc; "{} entries", script.entries.len())?;
-    tell(rt, "read_script", went, gave.as_str())?;
-    Ok(script)
+/// A call, with the words for the number that it gives.
+const ASKED: &[(&str, &str, Asked)] = &[
+    ("read_script", " entries ", Asked::Script),
+    ("read_table", " lines ", Asked::Table),
+    ("write_table", " as it was read ", Asked::Text),
+    ("outcomes", " tables ", Asked::Outcomes),
+    ("find_history", " events ", Asked::History),
+];
+
+/// A script and its table, the call that is made, and what it gave.
+#[derive(Drop)]
+struct Search {
+    alloc: Global,
+    asked: (&'static str, Asked),
+    script: Script,
+    table: Table,
+    tables: Vec<Table>,
+    events: Vec<Event>,
 }
 
-fn table_read<R: Print>(rt: &R, alloc: Global, script: &Script) -> Result<Table> {
-    let (table, went) = made(
-        alloc,
-        &|| { read_table(alloc, script, TABLE).map_err(|e| matches!(e, ScriptFault::Memory)) },
-    )?;
-    let gave = format!(in alloc; "{} lines", table.lines.len())?;
-    tell(rt, "read_table", went, gave.as_str())?;
-    Ok(table)
+/// How many entries or lines were read, or whether the table is written as it was read.
+fn counted(
+    alloc: Global,
+    asked: Asked,
+    script: &Script,
+    table: &Table,
+    gave: &mut Shown,
+) -> Option<u64> {
+    Some(match asked {
+        Asked::Script => gave.got(read_script(alloc, SCRIPT))?.entries.len() as u64,
+        Asked::Table => gave.got(read_table(alloc, script, TABLE))?.lines.len() as u64,
+        _ => u64::from(gave.got(write_table(alloc, script, table))?.as_slice() == TABLE),
+    })
 }
 
-fn table_write<R: Print>(rt: &R, alloc: Global, script: &Script, table: &Table) -> Result<()> {
-    let (bytes, went) = made(
-        alloc,
-        &|| { write_table(alloc, script, table).map_err(|_| true) },
-    )?;
-    let gave = if bytes.as_slice() == TABLE {
-        "the table that was read"
-    } else {
-        "another table"
-    };
-    tell(rt, "write_table", went, gave)?;
-    Ok(())
-}
-
-/// All tables of the script, one behind the other.
-fn told_all(alloc: Global, script: &Script, tables: &[Table]) -> Result<String> {
-    let mut all = String::from_str(alloc, "/ ")?;
-    for table in tables {
-        let text = text_of(alloc, script, table)?;
-        for line in text.as_str().split('\n') {
-            write!(all, "{line} ")?;
+impl Search {
+    /// Makes the call, and keeps what it gave: how much it gave.
+    fn find(&mut self, alloc: Global, gave: &mut Shown) -> Option<u64> {
+        match self.asked.1 {
+            Asked::Outcomes => {
+                self.tables = gave.got(outcomes(alloc, &self.script, LIMIT))?;
+                Some(self.tables.len() as u64)
+            }
+            Asked::History => {
+                self.events = gave.got(find_history(alloc, &self.script, &self.table, LIMIT))??;
+                Some(self.events.len() as u64)
+            }
+            asked => counted(alloc, asked, &self.script, &self.table, gave),
         }
-        all.push_str("/ ")?;
     }
-    Ok(all)
 }
 
-fn outcomes_of<R: Print>(rt: &R, alloc: Global, script: &Script) -> Result<()> {
-    let (tables, went) = made(
-        alloc,
-        &|| { outcomes(alloc, script, LIMIT).map_err(|e| e == ExploreError::Memory) },
-    )?;
-    let gave = told_all(alloc, script, tables.as_slice())?;
-    tell(rt, "outcomes", went, gave.as_str())?;
-    Ok(())
+impl Call<()> for Search {
+    fn make(&mut self, _rt: &(), alloc: Global, gave: &mut Shown) -> bool {
+        let count = self.find(alloc, gave);
+        gave.count_if(self.asked.0, count)
+    }
+
+    fn show(&self, shown: &mut Shown) {
+        for table in self.tables.as_slice() {
+            tell_table(self.alloc, &self.script, table, shown);
+        }
+        tell_history(self.alloc, &self.script, self.events.as_slice(), shown);
+    }
 }
 
-fn history_of<R: Print>(rt: &R, alloc: Global, script: &Script, table: &Table) -> Result<()> {
-    let (found, went) = made(
-        alloc,
-        &|| { find_history(alloc, script, table, LIMIT).map_err(|e| e == ExploreError::Memory) },
-    )?;
-    let Some(events) = found else {
-        bail!("no history")
+/// Tells the lines of a table.
+fn tell_table(alloc: Global, script: &Script, table: &Table, gave: &mut Shown) {
+    gave.text(" /");
+    let Ok(bytes) = write_table(alloc, script, table) else {
+        return;
     };
-    let text = write_history(alloc, script, events.as_slice())?;
-    let gave = format!(in alloc; "{} events, {} bytes", events.len(), text.len())?;
-    tell(rt, "find_history", went, gave.as_str())?;
-    Ok(())
+    if let Ok(text) = String::from_utf8(bytes) {
+        for line in text.as_str().trim_end().split('\n') {
+            gave.text(" ");
+            gave.text(line);
+        }
+    }
+}
+
+/// Tells how long the text of a history is.
+fn tell_history(alloc: Global, script: &Script, events: &[Event], gave: &mut Shown) {
+    match write_history(alloc, script, events) {
+        Ok(text) if text.len() > 0 => gave.count(" bytes ", text.len() as u64),
+        _ => {}
+    }
+}
+
+/// The script and its table.
+fn search_of(alloc: Global) -> Option<Search> {
+    let script = read_script(alloc, SCRIPT).ok()?;
+    let table = read_table(alloc, &script, TABLE).ok()?;
+    Some(Search {
+        alloc,
+        asked: ("", Asked::Script),
+        script,
+        table,
+        tables: Vec::new(alloc),
+        events: Vec::new(alloc),
+    })
 }
 
 /// The calls on a script and its table.
-pub(crate) fn tell_scripts<R: Print>(rt: &R, alloc: Global) -> Result<()> {
-    let script = script_read(rt, alloc)?;
-    let table = table_read(rt, alloc, &script)?;
-    table_write(rt, alloc, &script, &table)?;
-    outcomes_of(rt, alloc, &script)?;
-    history_of(rt, alloc, &script, &table)
+pub(crate) fn tell_scripts(lines: &mut Lines) {
+    if let Some(mut search) = search_of(lines.alloc) {
+        for (name, words, asked) in ASKED {
+            search.asked = (words, *asked);
+            search.tables.clear();
+            lines.tell(&(), name, &mut search);
+        }
+        drop(search);
+    }
 }

@@ -1,14 +1,12 @@
 //! Runtimes, from their start to their end.
-ghost use Rattle.std.specs.Prelude.{IfOk};
 ghost use Rattle.runtime.specs.Clients.{AreClients};
 
-use crate::boards::{reported, shape_of};
-use crate::told::{Went, again, mark, tell};
-use anyhow::{Result, bail};
-use board::{Report, Shape};
+use crate::boards::{add, shape_of, tell_report};
+use crate::told::{AGAIN, Handed, Lines, Shown};
+use board::Shape;
 use controls::{NoClock, Open};
 use prep::read;
-use runtime::{Client, JoinError, Runtime, StartError, Unjoined, join_all, start};
+use runtime::{Client, JoinError, Runtime, Unjoined, join_all, start};
 use std::alloc::Global;
 use std::sync::Wait;
 use std::thread::Threads;
@@ -16,84 +14,93 @@ use std::thread::Threads;
 /// After how many idle turns in a row the poller sleeps.
 const IDLE: u32 = 64;
 
-/// A runtime with its clients. Where it is refused memory, or a thread, no thread is left.
+/// A runtime, and its clients.
+#[derive(Drop)]
+struct Running {
+    runtime: Runtime<NoClock>,
+    clients: Vec<Client>,
+    ghost own: { AreClients runtime.board clients.items },
+}
+
+impl<R: Threads + Wait> Handed<R> for Running {
+    fn hand(self, rt: &R, alloc: Global, gave: &mut Shown) -> Option<Running> {
+        match join_all(rt, alloc, self.runtime, self.clients) {
+            Ok(report) => {
+                tell_report(&report, gave);
+                None
+            }
+            Err(
+                Unjoined {
+                    error: JoinError::Memory,
+                    runtime,
+                    clients,
+                },
+            ) => {
+                gave.refused(&JoinError::Memory);
+                Some(Running { runtime, clients })
+            }
+            Err(_) => None,
+        }
+    }
+
+    fn show_parts(&self, shown: &mut Shown) {
+        shown.count(" clients ", self.clients.len() as u64);
+    }
+}
+
+/// A runtime of this shape, unless it is refused memory or a thread.
 fn started<R: Threads + Wait + Copy + Send + 'static>(
     rt: R,
     alloc: Global,
     shape: &Shape,
-) -> Result<(Runtime<NoClock>, Vec<Client>, Went)>
-    ensures { IfOk result (λ t. AreClients t.0.board t.1.items) }
-{
-    mark(alloc);
-    let first = start(rt, alloc, shape, IDLE, Open, NoClock);
-    mark(alloc);
-    match first {
-        Ok((runtime, clients)) => Ok((runtime, clients, Went::AtOnce)),
-        Err(StartError::Memory | StartError::Thread) => {
-            let (runtime, clients) = start(rt, alloc, shape, IDLE, Open, NoClock)?;
-            Ok((runtime, clients, Went::Again))
+    gave: &mut Shown,
+) -> Option<Running> {
+    match start(rt, alloc, shape, IDLE, Open, NoClock) {
+        Ok((runtime, clients)) => Some(Running { runtime, clients }),
+        Err(error) => {
+            gave.refused(&error);
+            None
         }
-        Err(error) => Err(error.into()),
     }
 }
 
 /// Submits a READ that nothing answers, by the client of ring 0.
-fn submit(alloc: Global, runtime: &Runtime<NoClock>, clients: &mut Vec<Client>) -> Result<()>
-    requires { AreClients runtime.now.board clients.old.items }
-    ensures { AreClients runtime.now.board clients.new.items }
-{
-    let _ = runtime;
+fn submit(alloc: Global, running: &mut Running) {
     let mut batch = Vec::new(alloc);
-    batch.push((read(0, 4, 0), Vec::from_elem(alloc, 7u8, 4)?))?;
-    if let Some(client) = clients.get_mut(0) {
+    add(alloc, &mut batch, read(0, 4, 0), 4);
+    if let Some(client) = running.clients.get_mut(0) {
         let _ = client.submit_batch(batch);
     }
-    Ok(())
 }
 
-/// Ends the runtime. Where it is refused memory it goes on, and comes back with its clients.
-fn joined<R: Threads + Wait>(
-    rt: &R,
-    alloc: Global,
-    runtime: Runtime<NoClock>,
-    clients: Vec<Client>,
-) -> Result<(Report, Went)>
-    requires { AreClients runtime.board clients.items }
-{
-    mark(alloc);
-    let first = join_all(rt, alloc, runtime, clients);
-    mark(alloc);
-    match first {
-        Ok(report) => Ok((report, Went::AtOnce)),
-        Err(
-            Unjoined {
-                error: JoinError::Memory,
-                runtime,
-                clients,
-            },
-        ) => {
-            let is_same = clients.len() == 2;
-            match join_all(rt, alloc, runtime, clients) {
-                Ok(report) => Ok((report, again(is_same))),
-                Err(_) => bail!("refused again"),
-            }
-        }
-        Err(_) => bail!("not ended"),
+/// A runtime is started, once more where it was refused memory or a thread.
+fn tell_start<R: Threads + Wait + Copy + Send + 'static>(
+    rt: R,
+    lines: &mut Lines,
+    shape: &Shape,
+) -> Option<Running> {
+    lines.mark();
+    let mut running = started(rt, lines.alloc, shape, &mut lines.gave);
+    lines.mark();
+    let went = if running.is_some() { "" } else { AGAIN };
+    if running.is_none() {
+        running = started(rt, lines.alloc, shape, &mut lines.gave);
     }
+    if let Some(running) = &running {
+        lines.gave.count(" clients ", running.clients.len() as u64);
+    }
+    lines.add("start", went);
+    running
 }
 
 /// A runtime is started, and ended with a request that has no reply.
-pub(crate) fn tell_threads<R: Threads + Wait + Print + Copy + Send + 'static>(
-    rt: &R,
-    alloc: Global,
-) -> Result<()> {
-    let shape = shape_of(alloc)?;
-    let (runtime, mut clients, went) = started(*rt, alloc, &shape)?;
-    let gave = format!(in alloc; "{} clients", clients.len())?;
-    tell(rt, "start", went, gave.as_str())?;
-    submit(alloc, &runtime, &mut clients)?;
-    let (report, went) = joined(rt, alloc, runtime, clients)?;
-    let gave = reported(alloc, &report)?;
-    tell(rt, "join_all", went, gave.as_str())?;
-    Ok(())
+pub(crate) fn tell_threads<R: Threads + Wait + Copy + Send + 'static>(rt: &R, lines: &mut Lines) {
+    if let Some(shape) = shape_of(lines.alloc, 2, 4, 2) {
+        let mut running = tell_start(*rt, lines, &shape);
+        if let Some(running) = &mut running {
+            submit(lines.alloc, running);
+        }
+        lines.tell(rt, "join_all", &mut running);
+        drop(running);
+    }
 }

@@ -1,18 +1,233 @@
-//! The turns of a poller and of a worker, one after another in one thread.
-ghost use Rattle.std.specs.Prelude.{◌≡◌, [], IfOk};
+//! The turns of a poller and of a worker, one after another in one thread, on a board of one ring.
+ghost use Rattle.std.specs.Prelude.{◌≡◌, length, IfSome};
+ghost use Rattle.bell.specs.BellPasses.{IsRingerOf, IsSleeperOf};
+ghost use Rattle.ready.specs.Ready.{IsOf as IsOfQueue};
+ghost use Rattle.work.specs.Board.{IsOf};
 
-use crate::boards::Batch;
-use crate::stage::Stage;
-use crate::told::{Went, mark, tell};
-use anyhow::Result;
-use board::Phase;
-use controls::{Clock, NoClock};
-use entry::Sqe;
+use crate::boards::{Batch, add, new_board, shape_of, submit};
+use crate::told::{AGAIN, Call, Handed, Lines, Shown};
+use bell::{Bell, Ringer, Sleeper};
+use board::{Board, Phase, Poller, Shape, Submitter, Worker};
+use controls::{Clock, NoClock, Open};
 use history::Req;
 use outbox::Outbox;
 use prep::{nop, read, timeout, with_flags, write};
+use ready::{ReadyPass, ReadyQueue};
+use runtime::{PollDesk, WorkDesk, poll_turn, work_turn};
 use std::alloc::Global;
+use std::marker::Model;
 use std::sync::Wait;
+
+/// How many cells the ring has.
+const CELLS: u32 = 8;
+
+/// A board of one ring, with its passes.
+fn ground_of(alloc: Global, shape: &Shape) -> Option<(Board, Poller, Submitter, Worker)>
+    ensures poller { IfSome result (λ t. IsOf t.0 t.1) }
+    ensures submitter { IfSome result (λ t. IsOf t.0 t.2) }
+    ensures worker { IfSome result (λ t. IsOf t.0 t.3) }
+{
+    let Ok((board, poller, mut submitters, mut workers)) = new_board(alloc, shape) else {
+        return None;
+    };
+    let submitter = submitters.pop()?;
+    let worker = workers.pop()?;
+    Some((board, poller, submitter, worker))
+}
+
+/// A bell for one ring, with its passes.
+fn signals_of(alloc: Global) -> Option<(Bell, Ringer, Sleeper)>
+    ensures rings { IfSome result (λ t. t.0.rings ≡ 1) }
+    ensures ringer { IfSome result (λ t. IsRingerOf t.0 t.1 × (t.1.tail ≡ 0)) }
+    ensures sleeper { IfSome result (λ t. IsSleeperOf t.0 t.2) }
+{
+    let Ok((bell, mut ringers, sleeper)) = Bell::new(alloc, 1) else {
+        return None;
+    };
+    let ringer = ringers.pop()?;
+    Some((bell, ringer, sleeper))
+}
+
+/// A ready queue, with a pass for the poller and one for the worker.
+fn lane_of(alloc: Global) -> Option<(ReadyQueue, ReadyPass, ReadyPass)>
+    ensures poller { IfSome result (λ t. IsOfQueue t.0 t.1) }
+    ensures worker { IfSome result (λ t. IsOfQueue t.0 t.2) }
+{
+    let Ok((queue, mut passes)) = ReadyQueue::new(alloc, CELLS, 2) else {
+        return None;
+    };
+    let one = passes.pop()?;
+    let other = passes.pop()?;
+    Some((queue, one, other))
+}
+
+/// What a poller's desk is made of.
+type Passes = (Poller, Sleeper, ReadyPass);
+
+/// What a poller's desk is made of, for a board of this shape.
+fn passes_of(alloc: Global, shape: &Shape) -> Option<Passes> {
+    let (_, poller, _, _) = ground_of(alloc, shape)?;
+    let (_, _, sleeper) = signals_of(alloc)?;
+    let (_, ready, _) = lane_of(alloc)?;
+    Some((poller, sleeper, ready))
+}
+
+impl Handed<Shape> for Passes {
+    fn hand(self, shape: &Shape, alloc: Global, gave: &mut Shown) -> Option<Passes> {
+        let (poller, sleeper, ready) = self;
+        match PollDesk::new(alloc, shape, poller, sleeper, ready) {
+            Ok(desk) => {
+                gave.count(" places ", desk.places() as u64);
+                None
+            }
+            Err((memory, poller, sleeper, ready)) => {
+                gave.refused(&memory);
+                Some((poller, sleeper, ready))
+            }
+        }
+    }
+
+    fn show_parts(&self, shown: &mut Shown) {
+        shown.text(" passes");
+    }
+}
+
+/// A board with its poller's and its worker's desks, and who submits to its ring: the passes, and the tail that was published last. Each
+/// turn takes one of the outboxes.
+#[derive(Drop)]
+struct Stage {
+    board: Board,
+    bell: Bell,
+    queue: ReadyQueue,
+    desk: PollDesk,
+    work: WorkDesk,
+    worker: Option<Worker>,
+    submitter: Submitter,
+    ringer: Ringer,
+    tail: u64,
+    outboxes: Vec<Outbox>,
+}
+
+impl Model for Stage {
+    ghost use Rattle.std.specs.Prelude.{◌≡◌, IfSome};
+    ghost use Rattle.bell.specs.BellPasses.{IsRingerOf, IsSleeperOf};
+    ghost use Rattle.ready.specs.Ready.{IsOf as IsOfQueue};
+    ghost use Rattle.work.specs.Board.{Facts, IsOf};
+
+    ghost Value = { Facts };
+
+    ghost view = { λ s. s.board };
+
+    ghost invariant = { λ s. IsOf s.board s.desk.poller × IsSleeperOf s.bell s.desk.sleeper × (s.desk.rings ≡ s.bell.rings) × IsOfQueue s.queue s.desk.ready × IsOfQueue s.queue s.work.ready × IfSome s.worker (λ w. IsOf s.board w) × IsOf s.board s.submitter × IsRingerOf s.bell s.ringer × (s.ringer.tail ≡ s.tail) };
+}
+
+/// Tells what was answered.
+fn tell_answers(outbox: &Outbox, gave: &mut Shown) {
+    for place in 0..outbox.len() {
+        if let Some(req) = outbox.get(place) {
+            gave.count(" ", req.k);
+        }
+    }
+}
+
+/// More outboxes than there are turns.
+fn outboxes_of(alloc: Global) -> Vec<Outbox> {
+    let mut outboxes = Vec::new(alloc);
+    for _turn in 0..20 {
+        if let Ok(outbox) = Outbox::new(alloc, CELLS) {
+            let _ = outboxes.push(outbox);
+        }
+    }
+    outboxes
+}
+
+impl Stage {
+    fn new(alloc: Global, shape: &Shape) -> Option<Stage>
+        requires { length shape.now.rings.items ≡ 1 }
+    {
+        let (board, poller, submitter, worker) = ground_of(alloc, shape)?;
+        let (bell, ringer, sleeper) = signals_of(alloc)?;
+        let (queue, one, other) = lane_of(alloc)?;
+        match PollDesk::new(alloc, shape, poller, sleeper, one) {
+            Ok(desk) => Some(Stage {
+                board,
+                bell,
+                queue,
+                desk,
+                work: WorkDesk::new(other),
+                worker: Some(worker),
+                submitter,
+                ringer,
+                tail: 0,
+                outboxes: outboxes_of(alloc),
+            }),
+            Err(_) => None,
+        }
+    }
+
+    /// Submits a batch, and publishes the tail.
+    fn submit(&mut self, batch: Batch) {
+        let tail = self.tail.saturating_add(batch.len() as u64);
+        submit(&self.board, &mut self.submitter, batch);
+        let wake = self.bell.publish(&mut self.ringer, tail);
+        self.tail = tail;
+        self.bell.ring(wake);
+    }
+
+    /// One turn of the poller, and what it answered. It is false where the turn was refused memory.
+    fn poll<R: Wait, C: Clock>(&mut self, rt: &R, clock: &mut C, gave: &mut Shown) -> bool {
+        let Some(mut outbox) = self.outboxes.pop() else {
+            return true;
+        };
+        if outbox.len() > 0 || outbox.room() < self.desk.places() {
+            return true;
+        }
+        let turn = poll_turn(
+            rt,
+            &self.board,
+            &self.bell,
+            &self.queue,
+            &mut self.desk,
+            clock,
+            &mut outbox,
+        );
+        tell_answers(&outbox, gave);
+        gave.got(turn).is_some()
+    }
+
+    /// One turn of the worker, and what it answered.
+    fn work<R: Wait>(&mut self, rt: &R, gave: &mut Shown) {
+        let Some(mut outbox) = self.outboxes.pop() else {
+            return;
+        };
+        if outbox.room() < self.board.widest() as usize {
+            return;
+        }
+        let Some(worker) = self.worker.take() else {
+            return;
+        };
+        let (worker, _turn) = work_turn(
+            rt,
+            &self.board,
+            &self.queue,
+            &mut self.work,
+            worker,
+            &Open,
+            &mut outbox,
+        );
+        self.worker = Some(worker);
+        tell_answers(&outbox, gave);
+    }
+}
+
+impl<R: Wait> Call<R> for Stage {
+    fn make(&mut self, rt: &R, _alloc: Global, gave: &mut Shown) -> bool {
+        self.poll(rt, &mut NoClock, gave)
+    }
+}
+
+/// How a turn went that was refused memory, and was made again.
+const FURTHER: &str = ", what was done stands; again";
 
 /// IOSQE_IO_LINK.
 const LINK: u8 = 4;
@@ -39,127 +254,51 @@ impl Clock for Once {
     }
 }
 
-/// Adds an entry with a buffer of so many bytes.
-fn add(alloc: Global, batch: &mut Batch, sqe: Sqe, bytes: usize) -> Result<()> {
-    batch.push((sqe, Vec::from_elem(alloc, b'.', bytes)?))?;
-    Ok(())
-}
-
 /// Two READs of an empty pipe, each with a NOP that is linked to it, and between them a TIMEOUT that is linked to a NOP. So the poller
 /// has three requests that wait for another.
-fn waiting(alloc: Global) -> Result<Batch> {
+fn waiting(alloc: Global) -> Batch {
     let mut batch = Vec::new(alloc);
-    add(alloc, &mut batch, with_flags(read(0, 2, 0), LINK), 2)?;
-    add(alloc, &mut batch, nop(), 0)?;
-    add(alloc, &mut batch, with_flags(nop(), LINK), 0)?;
-    add(alloc, &mut batch, timeout(5, 0), 0)?;
-    add(alloc, &mut batch, with_flags(read(0, 2, 0), LINK), 2)?;
-    add(alloc, &mut batch, nop(), 0)?;
-    Ok(batch)
+    add(alloc, &mut batch, with_flags(read(0, 2, 0), LINK), 2);
+    add(alloc, &mut batch, nop(), 0);
+    add(alloc, &mut batch, with_flags(nop(), LINK), 0);
+    add(alloc, &mut batch, timeout(5, 0), 0);
+    add(alloc, &mut batch, with_flags(read(0, 2, 0), LINK), 2);
+    add(alloc, &mut batch, nop(), 0);
+    batch
 }
 
-/// A WRITE that serves both READs.
-fn serving(alloc: Global) -> Result<Batch> {
-    let mut batch = Vec::new(alloc);
-    add(alloc, &mut batch, write(1, 4, 0), 4)?;
-    Ok(batch)
+/// A turn of the poller, and so many of the worker.
+fn turn<R: Wait>(rt: &R, stage: &mut Stage, count: u32, gave: &mut Shown) {
+    stage.poll(rt, &mut NoClock, gave);
+    for _turn in 0..count {
+        stage.work(rt, gave);
+    }
 }
 
-/// An empty outbox for a turn.
-fn outbox_of(alloc: Global, stage: &Stage) -> Result<Outbox>
-    ensures { IfOk result (λ o. o.answered ≡ []) }
-{
-    Ok(Outbox::new(alloc, u32::try_from(stage.places())?)?)
+/// The poller meets a timer among the requests that wait for another, and goes on with these in their order, when a WRITE serves both
+/// READs: what the turns answer.
+fn turns<R: Wait>(rt: &R, lines: &mut Lines, mut stage: Stage) -> Stage {
+    stage.submit(waiting(lines.alloc));
+    turn(rt, &mut stage, 3, &mut lines.gave);
+    let went = lines.make(rt, &mut stage);
+    let mut serving = Vec::new(lines.alloc);
+    add(lines.alloc, &mut serving, write(1, 4, 0), 4);
+    stage.submit(serving);
+    turn(rt, &mut stage, 6, &mut lines.gave);
+    turn(rt, &mut stage, 3, &mut lines.gave);
+    stage.poll(rt, &mut Once { to: Some(5) }, &mut lines.gave);
+    lines.add("poll_turn", if went == AGAIN { FURTHER } else { went });
+    stage
 }
 
-/// Adds what was answered.
-fn note(text: &mut String, outbox: &Outbox) -> Result<()> {
-    for place in 0..outbox.len() {
-        if let Some(req) = outbox.get(place) {
-            write!(text, " {}", req.k)?;
+/// A poller's desk, and turns.
+pub(crate) fn tell_turns<R: Wait>(rt: &R, lines: &mut Lines) {
+    if let Some(shape) = shape_of(lines.alloc, 1, CELLS, 1) {
+        let mut passes = passes_of(lines.alloc, &shape);
+        lines.tell(&shape, "PollDesk::new", &mut passes);
+        drop(passes);
+        if let Some(stage) = Stage::new(lines.alloc, &shape) {
+            drop(turns(rt, lines, stage));
         }
     }
-    Ok(())
-}
-
-/// A turn of the poller at this clock, and what it answered. Whether it was refused memory.
-fn poll<R: Wait, C: Clock>(
-    rt: &R,
-    alloc: Global,
-    stage: &mut Stage,
-    clock: &mut C,
-    text: &mut String,
-) -> Result<bool> {
-    let mut outbox = outbox_of(alloc, stage)?;
-    let turn = stage.poll(rt, clock, &mut outbox);
-    note(text, &outbox)?;
-    Ok(turn.is_none())
-}
-
-/// A turn of the poller that may be refused memory, and another where it was.
-fn poll_again<R: Wait>(
-    rt: &R,
-    alloc: Global,
-    stage: &mut Stage,
-    text: &mut String,
-) -> Result<Went> {
-    let mut outbox = outbox_of(alloc, stage)?;
-    mark(alloc);
-    let turn = stage.poll(rt, &mut NoClock, &mut outbox);
-    mark(alloc);
-    note(text, &outbox)?;
-    if turn.is_some() {
-        return Ok(Went::AtOnce);
-    }
-    if poll(rt, alloc, stage, &mut NoClock, text)? {
-        return Ok(Went::Changed);
-    }
-    Ok(Went::Further)
-}
-
-/// So many turns of the worker, and what they answered.
-fn work<R: Wait>(
-    rt: &R,
-    alloc: Global,
-    stage: &mut Stage,
-    count: u32,
-    text: &mut String,
-) -> Result<()> {
-    for _turn in 0..count {
-        let mut outbox = outbox_of(alloc, stage)?;
-        stage.work(rt, &mut outbox)?;
-        note(text, &outbox)?;
-    }
-    Ok(())
-}
-
-/// The poller meets a timer among the requests that wait for another, and goes on with these in their order: what the turns answer.
-fn turns_of<R: Wait>(rt: &R, alloc: Global, stage: &mut Stage) -> Result<(String, Went)> {
-    let mut text = String::from_str(alloc, "answers")?;
-    stage.submit(waiting(alloc)?)?;
-    poll(rt, alloc, stage, &mut NoClock, &mut text)?;
-    work(rt, alloc, stage, 3, &mut text)?;
-    let went = poll_again(rt, alloc, stage, &mut text)?;
-    stage.submit(serving(alloc)?)?;
-    poll(rt, alloc, stage, &mut NoClock, &mut text)?;
-    work(rt, alloc, stage, 6, &mut text)?;
-    poll(rt, alloc, stage, &mut NoClock, &mut text)?;
-    work(rt, alloc, stage, 3, &mut text)?;
-    poll(rt, alloc, stage, &mut Once { to: Some(5) }, &mut text)?;
-    Ok((text, went))
-}
-
-/// How the desk was made, and how its turns go.
-fn tell_stage<R: Wait + Print>(rt: &R, alloc: Global, stage: &mut Stage, made: Went) -> Result<()> {
-    let gave = format!(in alloc; "{} places", stage.places())?;
-    tell(rt, "PollDesk::new", made, gave.as_str())?;
-    let (gave, went) = turns_of(rt, alloc, stage)?;
-    tell(rt, "poll_turn", went, gave.as_str())?;
-    Ok(())
-}
-
-/// A poller's desk, and its turns.
-pub(crate) fn tell_turns<R: Wait + Print>(rt: &R, alloc: Global) -> Result<()> {
-    let (mut stage, made) = Stage::new(alloc)?;
-    tell_stage(rt, alloc, &mut stage, made)
 }
