@@ -22,26 +22,16 @@ impl Figure {
         nanos.checked_div(self.units).unwrap_or(0)
     }
 
-    /// How often the time of a unit of the other goes into that of a unit of this.
-    pub fn ratio_to(&self, other: &Figure) -> Hundredths {
+    /// The time of a unit in hundredths of that of the other.
+    pub fn percent_of(&self, other: &Figure) -> u64 {
         let nanos = self.hundredths().saturating_mul(100);
-        Hundredths(nanos.checked_div(other.hundredths()).unwrap_or(0))
-    }
-}
-
-/// A number of hundredths, printed with a point.
-#[derive(Clone, Copy)]
-pub(crate) struct Hundredths(u64);
-
-impl fmt::Display for Hundredths {
-    fn fmt<W: fmt::Write>(&self, f: &mut fmt::Formatter<W>) -> fmt::Result {
-        let (whole, part) = (self.0 / 100, self.0 % 100);
-        write!(f, "{whole}.{part:02}")
+        nanos.checked_div(other.hundredths()).unwrap_or(0)
     }
 }
 
 impl fmt::Display for Figure {
     fn fmt<W: fmt::Write>(&self, f: &mut fmt::Formatter<W>) -> fmt::Result {
-        write!(f, "{} ns", Hundredths(self.hundredths()))
+        let (whole, part) = (self.hundredths() / 100, self.hundredths() % 100);
+        write!(f, "{whole}.{part:02} ns")
     }
 }

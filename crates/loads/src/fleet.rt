@@ -36,11 +36,8 @@ impl Controls for Ticking {
 
     fn tell(&mut self, now: u32, _phase: Option<Phase>) -> Option<u32> {
         self.turns = self.turns.wrapping_add(1);
-        if self.turns.checked_rem(self.every) == Some(0) {
-            now.checked_add(1)
-        } else {
-            None
-        }
+        let is_time = self.turns.checked_rem(self.every) == Some(0);
+        if is_time { now.checked_add(1) } else { None }
     }
 }
 

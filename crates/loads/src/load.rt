@@ -69,14 +69,17 @@ impl Load {
 
     /// Notes a completion that was taken.
     pub fn take(&mut self, completion: Completion) -> Result<()> {
-        on_load!(self, it => it.take(completion))
+        match self {
+            Load::Units(units) => units.take(completion),
+            Load::Mix(mix) => mix.tell(&completion, false, false),
+        }
     }
 
     /// Notes a line of the report, and whether the end cut it off.
     pub fn report(&mut self, completion: &Completion, is_cut: bool) -> Result<()> {
         match self {
             Load::Units(_) => bail!("request {} was left over", completion.req.k),
-            Load::Mix(mix) => mix.report(completion, is_cut),
+            Load::Mix(mix) => mix.tell(completion, true, is_cut),
         }
     }
 }

@@ -59,7 +59,7 @@ fn setup_figure<R: Machine>(rt: &R, setup: &Setup, count: usize, units: u64) -> 
     Ok(Figure::of(rounds, units.saturating_mul(u64::from(setup.clients))))
 }
 
-/// Prints a figure, and how many hand-overs take as long; or that it was tried.
+/// Prints a figure, and how much of a hand-over it takes; or that it was tried.
 fn show<R: Machine, N: fmt::Display + Drop>(
     rt: &R,
     name: N,
@@ -70,8 +70,8 @@ fn show<R: Machine, N: fmt::Display + Drop>(
     if !is_timed {
         return println!(rt; "{name}: done");
     }
-    let ratio = figure.ratio_to(hand_over);
-    println!(rt; "{name}: {figure}, {ratio} hand-overs")
+    let percent = figure.percent_of(hand_over);
+    println!(rt; "{name}: {figure}, {percent} % of a hand-over")
 }
 
 /// Measures everything and prints it, or only tries it.

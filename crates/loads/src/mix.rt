@@ -72,9 +72,8 @@ impl Mix {
 
     /// Counts a turn. Whether the round is over.
     pub fn is_over(&mut self) -> bool {
-        let is_over = self.turns == 0;
         self.turns = self.turns.saturating_sub(1);
-        is_over
+        self.turns == 0
     }
 
     /// The next batch. It may be empty.
@@ -169,20 +168,8 @@ impl Mix {
         self.drawn.clear();
     }
 
-    /// Notes a completion that was taken.
-    pub fn take(&mut self, completion: Completion) -> Result<()> {
-        self.reaped = self.reaped.saturating_add(1);
-        self.tell(&completion, false)
-    }
-
-    /// Notes a line of the report, and whether the end cut it off.
-    pub fn report(&mut self, completion: &Completion, is_cut: bool) -> Result<()> {
-        self.reported = self.reported.saturating_add(1);
-        self.tell(completion, is_cut)
-    }
-
-    /// Looks at a reply: its request had none before, and may have this one, with this buffer.
-    fn tell(&mut self, completion: &Completion, is_cut: bool) -> Result<()> {
+    /// Notes a completion that was taken or reported. Its request had none before, and may have this one, with this buffer.
+    pub fn tell(&mut self, completion: &Completion, is_report: bool, is_cut: bool) -> Result<()> {
         let (number, cqe) = (completion.req.k, completion.cqe);
         let Some(Record { sqe, from, .. }) = self.close(number) else {
             bail!("request {number} was told twice, or never submitted");
@@ -195,6 +182,11 @@ impl Mix {
             bail!("the buffer of request {number}, {op:?}, with reply {res}, is wrong");
         }
         self.flow.finish(op, res);
+        if is_report {
+            self.reported = self.reported.saturating_add(1);
+        } else {
+            self.reaped = self.reaped.saturating_add(1);
+        }
         Ok(())
     }
 }

@@ -10,9 +10,6 @@ use std::alloc::{AllocError, Global};
 /// IOSQE_IO_LINK.
 const LINK: u8 = 4;
 
-/// -ECANCELED.
-const CANCELED: i32 = -125;
-
 /// How many bytes go through a pipe of a pair's own at once.
 const BYTES: u32 = 8;
 
@@ -71,10 +68,7 @@ impl Units {
         let in_flight = self.begun.saturating_sub(self.done);
         let room = u64::from(self.setup.depth).saturating_sub(in_flight);
         let room = room.min(self.end.saturating_sub(self.begun));
-        let mut batch = Vec::new(self.alloc);
-        if room > 0 {
-            batch.reserve(2 * room.min(1_024) as usize)?;
-        }
+        let mut batch = Vec::with_capacity(self.alloc, 2 * room.min(1_024) as usize)?;
         for _unit in 0..room {
             let (first, second) = self.entries();
             self.add(&mut batch, first, 0)?;
@@ -139,7 +133,7 @@ impl Units {
         let is_second = cqe.user_data % 2 == 1;
         let res = match self.setup.kind {
             Kind::Pair => BYTES as i32,
-            Kind::ReadCancel | Kind::TimeoutRemove if !is_second => CANCELED,
+            Kind::ReadCancel | Kind::TimeoutRemove if !is_second => -125, // ECANCELED
             Kind::Byte if buffer.first().copied() == Some(byte_of(self.done)) => 1,
             _ => 0,
         };
