@@ -14,7 +14,7 @@
 
 static _Noreturn void usage(void)
 {
-    fprintf(stderr, "usage: kernelrun [--mode enter|defer|sqpoll|shared|joined|peek] [--times N] [--patience MS] FILE\n");
+    fprintf(stderr, "usage: kernelrun [--mode enter|defer|sqpoll|shared|joined|peek] [--times N] [--patience MS] [--exact] FILE\n");
     exit(3);
 }
 
@@ -79,6 +79,8 @@ int main(int argc, char **argv)
     for (int i = 1; i < argc; i++) {
         if (!strcmp(argv[i], "--mode") && i + 1 < argc)
             plan.mode = mode_of(argv[++i]);
+        else if (!strcmp(argv[i], "--exact"))
+            plan.exact = true;
         else if (!strcmp(argv[i], "--times") && i + 1 < argc)
             times = number_of(argv[++i]);
         else if (!strcmp(argv[i], "--patience") && i + 1 < argc)

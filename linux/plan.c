@@ -44,6 +44,8 @@ static const char *choose_unit(const struct script *script, struct plan *plan)
     static char why[80];
     uint64_t page = (uint64_t)sysconf(_SC_PAGESIZE);
     plan->unit = 1;
+    if (plan->exact)
+        return NULL;
     for (int pipe = 0; pipe < script->pipes; pipe++)
         if (most_into(script, pipe) >= script->capacity[pipe])
             plan->unit = page;

@@ -12,6 +12,7 @@ enum mode { ENTER, DEFER, SQPOLL, SHARED, JOINED, PEEK };
 
 struct plan {
     enum mode mode;
+    bool exact;              /* a byte is a byte, and each pipe has room for exactly its bytes */
     unsigned patience_ms;    /* what has made no progress for that long stands still */
     uint64_t unit;           /* how many bytes stand for one of the script: 1, or a page */
     uint64_t margin_ns;      /* what a thing that is due may be late */

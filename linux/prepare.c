@@ -47,6 +47,8 @@ static bool make_pipe(const struct stage *stage, int pipe, int ends[2])
         if (ends[end] < 0)
             return false;
     }
+    if (stage->plan->exact)
+        return fcntl(ends[1], F_SETPIPE_SZ, capacity) == (int)capacity;
     if (stage->plan->unit == 1) {
         fcntl(ends[1], F_SETPIPE_SZ, PAGES * page);
         return true;

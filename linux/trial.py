@@ -1,0 +1,116 @@
+"""Carries a script out in one mode, and sorts its tries: tables that the rules list, tables that they don't, standing still."""
+import collections
+
+import kernel
+import rules
+
+# How long nothing may go on before a script stands still, in milliseconds. What stands still, or leaves an entry without a
+# completion in a table that isn't listed, counts only where it comes again with each longer time.
+PATIENCE = [10, 50, 250]
+# runs of the program that are looked at where the kernel stands still
+RUNS = 12
+
+
+class Trial:
+    """`seen` counts the listed tables, `unlisted` the others, `stands` the labels at which it stands still; `shaky` says what
+    didn't come again with longer times."""
+
+    def __init__(self):
+        self.times = 0
+        self.seen, self.unlisted, self.stands = collections.Counter(), collections.Counter(), collections.Counter()
+        self.shaky, self.cannot, self.signals, self.unknown = [], None, 0, False
+
+    def differs(self):
+        return bool(self.unlisted or self.stands)
+
+    def evidence(self):
+        """All that differs, as (rows, stands, how often)."""
+        for table, count in self.unlisted.most_common():
+            yield table, (), count
+        for labels, count in self.stands.most_common():
+            yield (), labels, count
+
+
+def labels_of(text):
+    """The labels of the entry lines."""
+    others = {"pipe", "ring", "on", "submit", "wait", "armed", "tick"}
+    lines = [line.split() for line in text.splitlines()]
+    return [words[1] for words in lines if len(words) > 1 and words[0] not in others and not words[0].startswith("#")]
+
+
+def sort_tries(tries, listed, labels):
+    """The tries as (kind, what): `seen` and `unlisted` tables, `cut` ones, which are unlisted and lack a completion, `stands`."""
+    for one in tries:
+        if one.state == "done" and one.stands:
+            yield ("unknown" if one.unknown else "stands"), tuple(one.stands), one
+            continue
+        if one.state != "done":
+            yield one.state, one.why, one
+            continue
+        rows = one.rows(labels)
+        known = [table for table in rows if table in listed]
+        if known:
+            yield "seen", known[0], one
+        else:
+            yield ("cut" if one.cut(labels) else "unlisted"), (rows or [("more completions than fit the entries",)])[0], one
+
+
+def carry_out(path, mode, times, listed, exact=False, patience=PATIENCE):
+    """The trial of the script; `listed` are its tables by the rules."""
+    with open(path, encoding="ascii") as file:
+        labels = labels_of(file.read())
+    listed, trial = set(listed), Trial()
+    trial.times = times
+    first, doubtful, wanted = collections.Counter(), collections.Counter(), times
+    for level, milliseconds in enumerate(patience):
+        before, doubtful = doubtful, collections.Counter()
+        for kind, what, one in sort_tries(kernel.carry_out(path, mode, wanted, milliseconds, exact), listed, labels):
+            trial.signals += one.signal
+            if kind == "cannot":
+                trial.cannot = what
+                return trial
+            if kind == "unknown":
+                trial.unknown = True
+            elif kind == "seen":
+                trial.seen[what] += 1
+            elif kind == "unlisted":
+                trial.unlisted[what] += 1
+            else:
+                doubtful[(kind, what)] += 1
+        if level:
+            trial.shaky += [describe(key) for key in before if key not in doubtful and key[0] in ("stands", "cut")]
+        else:
+            first = doubtful
+        if not doubtful:
+            return trial
+        # Enough tries to see again what came as often as this.
+        wanted = min(times, max(3, 3 * wanted // sum(doubtful.values())))
+    for (kind, what), count in doubtful.items():
+        count = max(count, first[(kind, what)])
+        if kind == "stands":
+            trial.stands[what] = count
+        elif kind == "cut":
+            trial.unlisted[what] = count
+        else:
+            trial.shaky.append(describe((kind, what)))
+    return trial
+
+
+def describe(key):
+    kind, what = key
+    if kind == "stands":
+        return "stands still at " + " and ".join(what)
+    if kind == "cut":
+        return ", ".join(what)
+    return {"late": "too slow for its ticks", "ended": "not over in its time"}.get(kind, kind)
+
+
+def forgive(trial, program, path, listed):
+    """Takes out the standing still that the rules have, too: they list no table, or a run of the program stands still there.
+    Answers what was taken out."""
+    forgiven = []
+    for labels in list(trial.stands):
+        if not listed or any(rules.stands_still(program, path, label, RUNS) for label in labels):
+            forgiven.append(labels)
+            del trial.stands[labels]
+    return forgiven

@@ -1,0 +1,176 @@
+"""The verdict on each script in each mode, and what compare prints."""
+import argparse
+import collections
+import concurrent.futures
+import os
+import subprocess
+import sys
+import tempfile
+
+import kernel
+import least
+import names
+import rules
+import stated
+import trial
+
+USUAL = ["enter", "defer", "sqpoll"]
+
+
+class Verdict:
+    """`kind`: agrees, stated (a difference that is stated), differs, missing (one that is stated and doesn't show), cannot
+    (can't be had here), unstable, fault. `name`: of the difference."""
+
+    def __init__(self, kind, text, name=None, notes=()):
+        self.kind, self.text, self.name, self.notes = kind, text, name, notes
+
+
+def rows_text(rows, stands):
+    return "stands still at " + " and ".join(stands) if stands else ", ".join(rows)
+
+
+def evidence_text(found):
+    return "; ".join(f"{rows_text(rows, stands)} ({count} of {found.times} tries)" for rows, stands, count in found.evidence())
+
+
+def agrees(found, listed, still):
+    text = f"agrees: {found.times} tries, {len(found.seen)} of {len(listed)} tables seen"
+    if still:
+        text += ", stands still as the rules do"
+    return Verdict("agrees", text)
+
+
+def of_stated(says, mode, found, listed):
+    """The verdict on a script whose first lines state a difference, in a mode that they name."""
+    shown, other = 0, []
+    for rows, stands, count in found.evidence():
+        if any(stated.fits(pattern, rows, stands, found.signals) for pattern in says.linux):
+            shown += count
+        else:
+            other.append(f"{rows_text(rows, stands)} ({count} of {found.times} tries)")
+    if any(stated.fits(pattern, table, (), True) for pattern in says.linux for table in found.seen) and found.signals:
+        shown += found.signals
+    if other:
+        return Verdict("differs", f"differs otherwise than stated ({says.name}): " + "; ".join(other))
+    if shown:
+        return Verdict("stated", f"differs as stated ({says.name}): {evidence_text(found) or 'SIGPIPE'}", says.name)
+    if says.seldom:
+        return Verdict("agrees", f"agrees: {found.times} tries; the difference that is stated ({says.name}) shows seldom")
+    return Verdict("missing", f"agrees, and is stated to differ ({says.name}): {found.times} tries, {len(found.seen)} of {len(listed)} tables seen")
+
+
+def of_unstated(program, lines, mode, found, folder):
+    """The verdict on a script that differs and states nothing: made as small as it can be, it shows which difference it is."""
+    small = least.least(program, lines, folder, mode, found)
+    name = names.name(small, mode)
+    if name:
+        return Verdict("stated", f"differs as stated ({name}): {evidence_text(found)}", name, ["least: " + " / ".join(small)])
+    return Verdict("differs", f"differs: {evidence_text(found)}", None, ["least: " + " / ".join(small)])
+
+
+def judge(options, path, mode, folder):
+    with open(path, encoding="ascii") as file:
+        lines = file.read().splitlines()
+    says = stated.Stated(path, lines)
+    try:
+        listed = rules.outcomes(options.ringrun, path)
+    except rules.Fault as fault:
+        return Verdict("fault", f"the program lists no tables: {fault}")
+    if says.name and stated.wrong_rules(says, listed):
+        return Verdict("differs", stated.wrong_rules(says, listed))
+    found = trial.carry_out(path, mode, options.times, listed, says.exact)
+    if found.cannot:
+        return Verdict("cannot", f"can't be had here: {found.cannot}")
+    if says.name and mode in says.modes:
+        if not found.differs() and found.shaky:
+            return Verdict("unstable", "not stable: " + "; ".join(found.shaky))
+        return of_stated(says, mode, found, listed)
+    still = trial.forgive(found, options.ringrun, path, listed)
+    if found.differs():
+        if says.name:
+            return Verdict("differs", f"differs, and is stated to agree in this mode: {evidence_text(found)}")
+        return of_unstated(options.ringrun, [line for line in lines if line.split() and not line.startswith("#")], mode, found, folder)
+    if found.unknown:
+        return Verdict("cannot", "can't be had here: which of the entries with one user_data has replied can't be told")
+    if found.shaky:
+        return Verdict("unstable", "not stable: " + "; ".join(sorted(set(found.shaky))))
+    return agrees(found, listed, still)
+
+
+def scripts_in(paths):
+    for path in paths:
+        if os.path.isdir(path):
+            yield from (os.path.join(path, name) for name in sorted(os.listdir(path)) if name.endswith(".ring"))
+        else:
+            yield path
+
+
+def random_scripts(count, seed, folder):
+    """The scripts that .ci/random_scripts draws."""
+    words = [sys.executable, os.path.join(rules.ROOT, ".ci", "random_scripts"), "drawn", str(count), str(seed)]
+    drawn = subprocess.run(words, capture_output=True, text=True, check=True).stdout.splitlines()
+    for i, line in enumerate(drawn):
+        path = os.path.join(folder, f"random-{seed}-{i}.ring")
+        with open(path, "w", encoding="ascii") as file:
+            file.write(line.removeprefix("drawn ").split(" => ")[0].replace("/", "\n"))
+        yield path
+
+
+def modes_of(options, path):
+    if options.mode:
+        return [options.mode]
+    with open(path, encoding="ascii") as file:
+        says = stated.Stated(path, file.read().splitlines())
+    return USUAL + [mode for mode in says.modes if mode not in USUAL]
+
+
+def read_options(words, text):
+    parser = argparse.ArgumentParser(prog="linux/compare", description=text, formatter_class=argparse.RawDescriptionHelpFormatter)
+    parser.add_argument("--times", type=int, default=20, help="tries of each script (20)")
+    parser.add_argument("--mode", choices=kernel.MODES)
+    parser.add_argument("--jobs", type=int, default=4, help="scripts at a time (4)")
+    parser.add_argument("--ringrun", help="a program in place of ringrun")
+    parser.add_argument("--random", nargs=2, type=int, metavar=("COUNT", "SEED"))
+    parser.add_argument("files", nargs="*", metavar="FILE")
+    options = parser.parse_args(words)
+    if bool(options.random) == bool(options.files):
+        parser.error("either files or --random")
+    return options
+
+
+def main(words, text):
+    options = read_options(words, text)
+    if not os.path.exists(kernel.PROGRAM):
+        print("linux/compare: build kernelrun first: make -C linux", file=sys.stderr)
+        return 1
+    options.ringrun = options.ringrun or rules.find_program()
+    with tempfile.TemporaryDirectory() as folder:
+        paths = list(random_scripts(*options.random, folder) if options.random else scripts_in(options.files))
+        try:
+            return print_verdicts(options, [(path, mode) for path in paths for mode in modes_of(options, path)], folder)
+        except kernel.NoRing as why:
+            print(f"linux/compare: {why}", file=sys.stderr)
+            return 2
+
+
+def print_verdicts(options, pairs, folder):
+    counts, named = collections.Counter(), collections.Counter()
+    pool = concurrent.futures.ThreadPoolExecutor(options.jobs)
+    try:
+        verdicts = pool.map(lambda pair: judge(options, *pair, folder), pairs)
+        for (path, mode), verdict in zip(pairs, verdicts):
+            shown = os.path.basename(path) if path.startswith(folder) else path
+            print(f"{shown} {mode}: {verdict.text}", flush=True)
+            for note in verdict.notes:
+                print(f"    {note}", flush=True)
+            counts[verdict.kind] += 1
+            if verdict.kind == "stated":
+                named[verdict.name] += 1
+    finally:
+        pool.shutdown(cancel_futures=True)
+    words = {"agrees": "agree", "stated": "differ as stated", "differs": "differ", "missing": "don't show what is stated",
+             "cannot": "can't be had here", "unstable": "not stable", "fault": "can't be judged"}
+    print(", ".join(f"{counts[kind]} {word}" for kind, word in words.items() if counts[kind]))
+    for name, count in sorted(named.items()):
+        print(f"    {name} {count}")
+    return 1 if counts["differs"] or counts["missing"] or counts["fault"] else 0
