@@ -6,19 +6,19 @@ import rules
 
 # How long nothing may go on before a script stands still, in milliseconds. What stands still, or leaves an entry without a
 # completion in a table that isn't listed, counts only where it comes again with each longer time.
-PATIENCE = [10, 50, 250]
+PATIENCE = [15, 60, 250]
 # runs of the program that are looked at where the kernel stands still
 RUNS = 12
 
 
 class Trial:
     """`seen` counts the listed tables, `unlisted` the others, `stands` the labels at which it stands still; `shaky` says what
-    didn't come again with longer times."""
+    didn't come again with longer times, `slow` what took too long each time."""
 
     def __init__(self):
         self.times = 0
         self.seen, self.unlisted, self.stands = collections.Counter(), collections.Counter(), collections.Counter()
-        self.shaky, self.cannot, self.signals, self.unknown = [], None, 0, False
+        self.shaky, self.slow, self.cannot, self.signals, self.unknown = [], [], None, 0, False
 
     def differs(self):
         return bool(self.unlisted or self.stands)
@@ -74,7 +74,7 @@ def carry_out(path, mode, times, listed, exact=False, patience=PATIENCE):
             elif kind == "seen":
                 trial.seen[what] += 1
             elif kind == "unlisted":
-                trial.unlisted[what] += 1
+                trial.unlisted[what] += level == 0 or what not in trial.unlisted
             else:
                 doubtful[(kind, what)] += 1
         if level:
@@ -92,7 +92,7 @@ def carry_out(path, mode, times, listed, exact=False, patience=PATIENCE):
         elif kind == "cut":
             trial.unlisted[what] = count
         else:
-            trial.shaky.append(describe((kind, what)))
+            trial.slow.append(describe((kind, what)))
     return trial
 
 

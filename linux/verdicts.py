@@ -37,6 +37,8 @@ def agrees(found, listed, still):
     text = f"agrees: {found.times} tries, {len(found.seen)} of {len(listed)} tables seen"
     if still:
         text += ", stands still as the rules do"
+    if found.shaky:
+        text += "; with more time not again: " + "; ".join(sorted(set(found.shaky)))
     return Verdict("agrees", text)
 
 
@@ -82,8 +84,8 @@ def judge(options, path, mode, folder):
     if found.cannot:
         return Verdict("cannot", f"can't be had here: {found.cannot}")
     if says.name and mode in says.modes:
-        if not found.differs() and found.shaky:
-            return Verdict("unstable", "not stable: " + "; ".join(found.shaky))
+        if not found.differs() and found.slow:
+            return Verdict("unstable", "not stable: " + "; ".join(sorted(set(found.slow))))
         return of_stated(says, mode, found, listed)
     still = trial.forgive(found, options.ringrun, path, listed)
     if found.differs():
@@ -92,8 +94,8 @@ def judge(options, path, mode, folder):
         return of_unstated(options.ringrun, [line for line in lines if line.split() and not line.startswith("#")], mode, found, folder)
     if found.unknown:
         return Verdict("cannot", "can't be had here: which of the entries with one user_data has replied can't be told")
-    if found.shaky:
-        return Verdict("unstable", "not stable: " + "; ".join(sorted(set(found.shaky))))
+    if found.slow:
+        return Verdict("unstable", "not stable: " + "; ".join(sorted(set(found.slow))))
     return agrees(found, listed, still)
 
 

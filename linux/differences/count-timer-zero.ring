@@ -1,0 +1,10 @@
+# But not one of 0 ticks that is right before it.
+# difference count in enter defer sqpoll
+# rules: t -62, u -125 | t -62, u -62
+# linux: t -62, u 0
+ring 8
+on 0
+timeout t 0
+timeout u 100 count=1
+submit
+wait t

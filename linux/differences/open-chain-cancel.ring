@@ -1,0 +1,21 @@
+# A READ in such a place isn't parked: its cancel replies -114, or with a polling thread -2, and the READ -4.
+# difference open-chain in enter defer sqpoll
+# rules: r -125, c 0
+# linux: r -4, c -114 | r -4, c -2
+pipe 16
+ring 8
+ring 8
+on 0
+read r 0 4 link
+submit
+wait a
+cancel c r
+submit
+wait c
+wait r
+on 1
+timeout a 1
+submit
+on clock
+armed a
+tick 1
