@@ -1,35 +1,43 @@
 """Makes a script that differs as small as it can be: takes away one thing after the other, as long as it differs all the same."""
 import os
 
+import names
 import rules
 import trial
 
 # tries of each smaller script, and how long nothing may go on before one stands still
-TIMES, PATIENCE = 6, [10, 60]
-OPTIONS = ("link", "hard", "drain", "etime-ok", "all")
+TIMES, MOST_TIMES, PATIENCE = 6, 60, [15, 80]
 
 
 def smaller(lines):
     """Scripts that are a little smaller, as lists of lines."""
-    own = {"pipe", "ring", "on"}
     for i, line in enumerate(lines):
-        words = line.split()
-        if words[0] in own:
-            continue
-        rest = lines[:i] + lines[i + 1:]
-        if words[0] not in ("submit", "wait", "armed", "tick"):
-            label = words[1]
-            rest = [other for other in rest if other.split()[1:] != [label] or other.split()[0] not in ("wait", "armed")]
-        yield without_empty(rest)
+        if line.split()[0] not in ("pipe", "ring", "on"):
+            yield without_empty(without_line(lines, i))
     for i, line in enumerate(lines):
-        words = line.split()
-        for j in range(2, len(words)):
-            if words[j] in OPTIONS or words[j].startswith(("ud=", "count=")) and j > 2:
-                yield lines[:i] + [" ".join(words[:j] + words[j + 1:])] + lines[i + 1:]
-        if words[0] == "write" and len(words[3]) > 1:
-            yield lines[:i] + [" ".join(words[:3] + [words[3][1:]] + words[4:])] + lines[i + 1:]
-        if words[0] in ("cancel", "poll", "timeout", "close", "read", "write", "splice", "remove"):
-            yield lines[:i] + [" ".join(["nop", words[1]] + [word for word in words[2:] if word in OPTIONS[:3] or word.startswith("ud=")][:4])] + lines[i + 1:]
+        for shorter in shorter_lines(line.split()):
+            yield lines[:i] + [" ".join(shorter)] + lines[i + 1:]
+
+
+def without_line(lines, i):
+    """Without the line, and where it is an entry without what waits for it."""
+    words, rest = lines[i].split(), lines[:i] + lines[i + 1:]
+    if words[0] not in names.ARGUMENTS:
+        return rest
+    return [line for line in rest if line.split() not in (["wait", words[1]], ["armed", words[1]])]
+
+
+def shorter_lines(words):
+    """The entry line without one of its options, with a shorter text, or as a NOP."""
+    if words[0] not in names.ARGUMENTS:
+        return
+    options = 2 + names.ARGUMENTS[words[0]]
+    for j in range(options, len(words)):
+        yield words[:j] + words[j + 1:]
+    if words[0] == "write" and len(words[3]) > 1:
+        yield words[:3] + [words[3][1:]] + words[4:]
+    if words[0] not in ("nop", "raw"):
+        yield ["nop", words[1]] + [word for word in words[options:] if word in ("link", "hard", "drain") or word.startswith("ud=")]
 
 
 def without_empty(lines):
@@ -43,7 +51,7 @@ def without_empty(lines):
             if not filled.get(actor):
                 continue
             filled[actor] = False
-        elif words[0] not in ("pipe", "ring", "wait", "armed", "tick"):
+        elif words[0] in names.ARGUMENTS:
             filled[actor] = True
         kept.append(line)
     while kept and kept[-1].startswith("on "):
@@ -51,31 +59,31 @@ def without_empty(lines):
     return kept
 
 
-def differs(program, lines, path, mode, kinds, times):
-    """Whether the script differs in one of these kinds: by a table, or by standing still."""
+def differs(program, lines, path, mode, kind, times):
+    """How the script differs in this kind, by a table or by standing still: each as (rows, stands, how often)."""
+    if not trial.labels_of("\n".join(lines)):
+        return []
     with open(path, "w", encoding="ascii") as file:
         file.write("\n".join(lines) + "\n")
     try:
         listed = rules.outcomes(program, path)
     except rules.Fault:
-        return False
-    if not trial.labels_of("\n".join(lines)):
-        return False
+        return []
     found = trial.carry_out(path, mode, times, listed, patience=PATIENCE)
     if found.cannot:
-        return False
+        return []
     trial.forgive(found, program, path, listed)
-    return bool("table" in kinds and found.unlisted or "stands" in kinds and found.stands)
+    return [each for each in found.evidence() if bool(each[1]) == (kind == "stands")]
 
 
-def least(program, lines, folder, mode, found):
-    """The lines of the least script, from the lines of one that differs as `found` says."""
-    kinds = {"table"} if found.unlisted else {"stands"}
-    rate = max(count for _, _, count in found.evidence()) / found.times
-    times = TIMES if rate > 0.5 else min(60, int(TIMES / rate))
-    path = os.path.join(folder, f"least-{mode}-{os.getpid()}-{id(lines)}.ring")
-    tried = set()
-    again = True
+def least(program, lines, folder, mode, found, kind):
+    """The lines of the least script that differs in this kind, from those of one that differs as `found` says, and how it does."""
+    counts = (found.unlisted if kind == "table" else found.stands).values()
+    rate = min(1, max(counts) / found.times)
+    times = TIMES if rate > 0.5 else min(MOST_TIMES, int(TIMES / rate))
+    path = os.path.join(folder, f"least-{mode}-{kind}-{id(lines)}.ring")
+    evidence = list(each for each in found.evidence() if bool(each[1]) == (kind == "stands"))
+    tried, again = set(), True
     while again:
         again = False
         for candidate in smaller(lines):
@@ -83,7 +91,8 @@ def least(program, lines, folder, mode, found):
             if key in tried or candidate == lines:
                 continue
             tried.add(key)
-            if differs(program, candidate, path, mode, kinds, times):
-                lines, again = candidate, True
+            shown = differs(program, candidate, path, mode, kind, times)
+            if shown:
+                lines, evidence, again = candidate, shown, True
                 break
-    return lines
+    return lines, evidence

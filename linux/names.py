@@ -1,33 +1,51 @@
-"""Names a difference by what its least script needs. Nothing can be taken away from a least script without its kernel's tables
-being listed, so that what it still has is what the difference hangs on. Each name is that of a script in differences/."""
-import os
+"""Names a difference by what its least script has, and by what came out of it. Nothing can be taken away from a least script
+without its tables on the kernel being listed, so what it still has is what the difference hangs on. Each name is that of scripts
+in differences/, and stands in docs/DEFINITIONS.md."""
 
-FOLDER = os.path.join(os.path.dirname(os.path.abspath(__file__)), "differences")
+# How many arguments the kinds of entry lines have after their label.
+ARGUMENTS = {"nop": 0, "read": 2, "write": 2, "close": 1, "poll": 2, "timeout": 1, "link-timeout": 1, "cancel": 1, "remove": 1,
+             "splice": 3, "raw": 1}
 
 
 class Entry:
     def __init__(self, words, ring, batch, number):
         self.kind, self.label, self.ring, self.batch, self.number = words[0], words[1], ring, batch, number
-        self.args = [word for word in words[2:] if "=" not in word or word.startswith("ud=") and words[0] in ("cancel", "remove")]
-        self.options = words[2:]
+        options = 2 + ARGUMENTS[self.kind]
+        self.args, self.options = words[2:options], words[options:]
         self.link = "link" in self.options or "hard" in self.options
         self.drain = "drain" in self.options
-        own = [word for word in words[3 if words[0] in ("cancel", "remove") else 2:] if word.startswith("ud=")]
-        self.user_data = own[0][3:] if own else str(number)
-        if words[0] == "raw":
-            self.link, self.user_data = False, "0"
-        self.chain, self.place, self.invalid = [], 0, words[0] == "raw"
+        own = [word[3:] for word in self.options if word.startswith("ud=")]
+        self.user_data = own[0] if own else str(number)
+        if self.kind == "raw":
+            byte = bytes.fromhex(self.args[0])
+            self.link, self.drain = bool(byte[1] & 12), bool(byte[1] & 2)
+            self.user_data = str(int.from_bytes(byte[32:40], "little"))
+        self.chain, self.place, self.invalid = [], 0, self.kind == "raw"
 
-    def before(self):
+    def earlier(self):
         """The members of its chain before it."""
         return self.chain[:self.place]
+
+    def later(self):
+        return self.chain[self.place + 1:]
+
+    def ends(self):
+        """The ends of pipes that it uses, by their numbers."""
+        count = {"read": 1, "write": 1, "close": 1, "poll": 1, "splice": 2}.get(self.kind, 0)
+        return {int(word) for word in self.args[:count]}
+
+    def length(self):
+        return 0 if self.args[1] == "-" else len(self.args[1])
+
+    def count(self):
+        return any(word.startswith("count=") for word in self.options)
 
 
 class Script:
     """The entries of a script, with their chains."""
 
     def __init__(self, lines):
-        self.entries, self.capacity = [], []
+        self.entries = []
         ring, batch = None, {}
         for line in lines:
             words = line.split()
@@ -35,11 +53,9 @@ class Script:
                 continue
             if words[0] == "on":
                 ring = words[1]
-            elif words[0] == "pipe":
-                self.capacity.append(int(words[1]))
             elif words[0] == "submit":
                 batch[ring] = batch.get(ring, 0) + 1
-            elif words[0] not in ("ring", "wait", "armed", "tick"):
+            elif words[0] in ARGUMENTS:
                 self.entries.append(Entry(words, ring, batch.get(ring, 0), len(self.entries) + 1))
         self.by_label = {entry.label: entry for entry in self.entries}
         self.make_chains()
@@ -59,122 +75,202 @@ class Script:
     def kinds(self, *kinds):
         return [entry for entry in self.entries if entry.kind in kinds]
 
-    def ends(self, entry):
-        """The ends of pipes that it uses, by their numbers."""
-        count = {"read": 1, "write": 1, "close": 1, "poll": 1, "splice": 2}.get(entry.kind, 0)
-        return {int(word) for word in entry.args[:count]}
-
-    def matches(self, cancel):
+    def targets(self, cancel):
         """The entries that have the user_data which a cancel names."""
         word = cancel.args[0]
         wanted = word[3:] if word.startswith("ud=") else self.by_label[word].user_data
-        return [entry for entry in self.entries if entry.user_data == wanted and entry.ring == cancel.ring]
+        return [entry for entry in self.entries if entry.user_data == wanted and entry.ring == cancel.ring and entry is not cancel]
 
-    def open_chains(self):
-        """The entries with a link flag that end their batch."""
-        ends = {}
-        for entry in self.entries:
-            ends[(entry.ring, entry.batch)] = entry
-        return [entry for entry in ends.values() if entry.link]
+    def pairs(self):
+        """Each cancel with each of the earlier entries that it may mean."""
+        return [(cancel, target) for cancel in self.kinds("cancel", "remove") for target in self.targets(cancel) if target.number < cancel.number]
+
+    def drained(self, entry):
+        return any(other.drain for other in self.entries if other.ring == entry.ring and other.number < entry.number)
 
 
-def name_of_cancel(script):
-    """Of a script whose difference is a cancel's."""
+# Each test is given the script, its rows on the kernel by label (empty where it stands still), and the labels it stands still at.
+
+def invalid_member(script, rows, stands):
+    """A chain in which each Invalid member replied -22, and the others -125."""
+    chains = [entry.chain for entry in script.entries if entry.invalid and len(entry.chain) > 1]
+    return not stands and any(all(rows[entry.label] == (-22 if entry.invalid else -125) for entry in chain) for chain in chains)
+
+
+def invalid_drained(script, rows, stands):
+    """An Invalid entry after a drain, or with one, replied -22."""
+    return not stands and any(entry.invalid and (entry.drain or script.drained(entry)) and rows[entry.label] == -22 for entry in script.entries)
+
+
+def open_chain(script, rows, stands):
+    """An entry ends its batch with a link flag, and then blocks, is found running, or comes late."""
+    last = {(entry.ring, entry.batch): entry for entry in script.entries}
+    ends = [entry for entry in last.values() if entry.link]
+    if stands or not ends:
+        return bool(ends)
+    blocked = any(rows[entry.label] in (-4, -512) for entry in ends)
+    missed = any(rows[cancel.label] in (-114, -2, 0) for cancel, target in script.pairs() if target in ends)
+    late = any(later.number > entry.number for entry in ends for later in script.entries)
+    return blocked or missed or late
+
+
+def after_splice(script, rows, stands):
+    """What is linked after a SPLICE blocks: it stands still, replies -4, or is found running."""
+    follows = [entry for splice in script.kinds("splice") for entry in splice.later()]
+    names = {entry.label for entry in follows}
+    if stands:
+        return bool(follows)
+    return any(rows[name] in (-4, -512) for name in names) or any(rows[cancel.label] in (-114, -2) for cancel, target in script.pairs() if target in follows)
+
+
+def splice_nothing(script, rows, stands):
+    return not stands and any(splice.args[2] == "0" and rows[splice.label] == 0 for splice in script.kinds("splice"))
+
+
+def link_timeout_splice(script, rows, stands):
+    """A SPLICE with a LINK_TIMEOUT waits."""
+    timed = [splice for splice in script.kinds("splice") if splice.later() and splice.later()[0].kind == "link-timeout"]
+    return bool(timed) and (bool(stands) or any(rows[splice.later()[0].label] != -62 for splice in timed))
+
+
+def splice_waits(script, rows, stands, fits):
+    closed = {int(entry.args[0]) for entry in script.kinds("close")}
+    waiting = [splice for splice in script.kinds("splice") if fits(*(int(word) for word in splice.args[:2]), closed)]
+    return bool(waiting) and (bool(stands) or any(rows[splice.label] != -32 for splice in waiting))
+
+
+def splice_no_reader(script, rows, stands):
+    return splice_waits(script, rows, stands, lambda source, target, closed: target ^ 1 in closed and source ^ 1 not in closed)
+
+
+def splice_full(script, rows, stands):
+    return splice_waits(script, rows, stands, lambda source, target, closed: source ^ 1 in closed and target ^ 1 not in closed)
+
+
+def cancel_itself(script, rows, stands):
+    """A cancel with IO_DRAIN that names its own user_data replied -114."""
+    return not stands and any(cancel.drain and cancel.args[0] == "ud=" + cancel.user_data and rows[cancel.label] == -114 for cancel in script.kinds("cancel"))
+
+
+def cancel_splice(script, rows, stands):
+    """The cancel of a SPLICE found it running, or not at all, and the SPLICE was signalled."""
+    pairs = [(cancel, target) for cancel, target in script.pairs() if target.kind == "splice"]
+    return not stands and any(rows[cancel.label] in (-114, -2, 0) and rows[target.label] in (-512, -4, -125) for cancel, target in pairs)
+
+
+def cancel_later(script, rows, stands):
+    """A cancel took an entry that was submitted after it."""
+    pairs = [(cancel, target) for cancel in script.kinds("cancel", "remove") for target in script.targets(cancel) if target.number > cancel.number]
+    return not stands and any(rows[cancel.label] >= 0 and rows[target.label] == -125 for cancel, target in pairs)
+
+
+def cancel_twice(script, rows, stands):
+    """Two cancels that mean one request both took it."""
     cancels = script.kinds("cancel", "remove")
-    for cancel in cancels:
-        matches = script.matches(cancel)
-        if cancel in matches and cancel.drain:
-            return "cancel-itself"
-        if any(match.kind == "splice" for match in matches):
-            return "cancel-splice"
-        if any(match.number > cancel.number for match in matches):
-            return "cancel-later"
-    targets = [match for cancel in cancels for match in script.matches(cancel) if match.number < cancel.number]
-    if len(cancels) > 1 and len(targets) > len(set(targets)):
-        return "cancel-twice"
-    if any(target.place for target in targets):
-        return "cancel-waiting"
-    if any(earlier.drain for target in targets for earlier in script.entries if earlier.number <= target.number):
-        return "cancel-drained"
-    kinds = {target.kind for target in targets}
-    if "timeout" in kinds and len(kinds) > 1:
-        return "cancel-mixed"
-    return "cancel-newest" if len(targets) > 1 else None
+    both = [(one, other) for one in cancels for other in cancels if one is not other and set(script.targets(one)) & set(script.targets(other))]
+    return bool(both) and (bool(stands) or any(rows[one.label] >= 0 and rows[other.label] >= 0 for one, other in both))
 
 
-def name_of_splice(script, splices):
-    for splice in splices:
-        source, target = (int(word) for word in splice.args[:2])
-        follows = splice.chain[splice.place + 1:]
-        if any(entry.kind == "link-timeout" for entry in follows[:1]):
-            return "link-timeout-splice"
-        if follows:
-            return "after-splice"
-        if splice.args[2] == "0":
-            return "splice-nothing"
-        closed = {int(entry.args[0]) for entry in script.kinds("close")}
-        if target ^ 1 in closed and source ^ 1 not in closed:
-            return "splice-no-reader"
-        if closed & {source, target}:
-            return "close-parked"
-        if source ^ 1 in closed:
-            return "splice-full"
-    return None
+def cancel_waiting(script, rows, stands):
+    """A cancel didn't find a member of a chain that waited."""
+    pairs = [(cancel, target) for cancel, target in script.pairs() if target.place]
+    return bool(pairs) and (bool(stands) or any(rows[cancel.label] in (-2, 0) for cancel, _ in pairs))
 
 
-def name_of_drain(script):
-    if any(entry.drain and (entry.place or len(entry.chain) > 1) for entry in script.entries):
-        return "drain-in-chain"
-    return "drain-linger" if any(entry.drain for entry in script.entries) else None
+def cancel_mixed(script, rows, stands):
+    """A cancel that means a TIMEOUT and others took another one."""
+    for cancel, target in script.pairs():
+        kinds = {other.kind for other in script.targets(cancel)}
+        if target.kind == "timeout" and len(kinds) > 1 and (stands or rows[cancel.label] >= 0):
+            return True
+    return False
 
 
-def name_of_timer(script):
-    if any(word.startswith("count=") for entry in script.kinds("timeout") for word in entry.options):
-        return "count"
-    for timer in script.kinds("link-timeout"):
-        if timer.invalid:
-            continue
-        target = timer.chain[timer.place - 1]
-        if any(entry.user_data == target.user_data and entry is not target and entry.ring == target.ring for entry in script.entries):
-            return "link-timeout-other"
-        return "link-timeout-late"
-    return None
+def cancel_newest(script, rows, stands):
+    """A cancel that means several took a later one."""
+    for cancel in script.kinds("cancel"):
+        targets = [target for target in script.targets(cancel) if target.number < cancel.number]
+        if len(targets) > 1 and (stands or rows[cancel.label] >= 0 and any(rows[target.label] == -125 for target in targets[1:])):
+            return True
+    return False
 
 
-def name_of_close(script):
+def drain_in_chain(script, rows, stands):
+    """A drain on a later member of a chain, and something waits."""
+    return any(entry.drain and entry.place for entry in script.entries) and (bool(stands) or -125 in rows.values())
+
+
+def drain_linger(script, rows, stands):
+    """What comes after a drain waits."""
+    return any(entry.drain for entry in script.entries) and (bool(stands) or -125 in rows.values())
+
+
+def close_late(script, rows, stands):
+    """What is linked after a CLOSE finds the pipe as it was before."""
     for close in script.kinds("close"):
-        ends = script.ends(close)
-        for entry in script.entries:
-            if entry.kind != "close" and close in entry.before() and script.ends(entry) & {min(ends) ^ 1}:
-                return "close-late"
-        if any(entry.kind != "close" and script.ends(entry) & ends for entry in script.entries):
-            return "close-parked"
-    return None
+        other = int(close.args[0]) ^ 1
+        if any(other in entry.ends() and (stands or rows[entry.label] not in (-32, -9)) for entry in close.later()):
+            return True
+    return False
 
 
-def name(lines, mode):
-    """The name of the difference that a least script shows, or None where no difference that is stated has that form."""
+def close_parked(script, rows, stands):
+    """A request whose own end is closed waits, or completes."""
+    for close in script.kinds("close"):
+        uses = [entry for entry in script.entries if entry.kind != "close" and entry.ends() & close.ends()]
+        if any(stands or rows[entry.label] != -9 for entry in uses):
+            return True
+    return False
+
+
+def link_timeout_other(script, rows, stands):
+    """A LINK_TIMEOUT ended an entry that has its target's user_data."""
+    for timer in script.kinds("link-timeout"):
+        target = timer.chain[timer.place - 1] if timer.place else timer
+        others = [entry for entry in script.entries if entry.user_data == target.user_data and entry is not target and entry.ring == timer.ring]
+        if any(stands or rows[other.label] == -125 for other in others):
+            return True
+    return False
+
+
+def link_timeout_late(script, rows, stands):
+    """A LINK_TIMEOUT replied -2."""
+    return not stands and any(rows[timer.label] == -2 for timer in script.kinds("link-timeout"))
+
+
+def count(script, rows, stands):
+    """A TIMEOUT with a count counted others than here: it replied 0, or didn't."""
+    counted = [timer for timer in script.kinds("timeout") if timer.count()]
+    return bool(counted) and (bool(stands) or any(rows[timer.label] in (0, -62, -125) for timer in counted))
+
+
+def write_what_fits(script, rows, stands):
+    """A WRITE of several bytes moved some of them."""
+    return not stands and any(0 < rows[write.label] < write.length() for write in script.kinds("write"))
+
+
+# In the order in which they are tried: first those that need most.
+TESTS = [
+    invalid_member, invalid_drained, open_chain, cancel_itself, splice_nothing, link_timeout_splice, after_splice, cancel_splice,
+    splice_no_reader, splice_full, cancel_later, link_timeout_other, link_timeout_late, cancel_twice, cancel_waiting, cancel_mixed,
+    cancel_newest, drain_in_chain, drain_linger, close_late, close_parked, count, write_what_fits,
+]
+
+
+def name(lines, evidence):
+    """The name of the difference that a least script shows, by each (rows, stands, how often) that isn't listed; None where no
+    difference that is stated looks like that."""
     script = Script(lines)
-    if any(entry.invalid and len(entry.chain) > 1 for entry in script.entries):
-        return "invalid-member"
-    if script.open_chains():
-        return "open-chain"
-    found = None
-    if script.kinds("cancel", "remove"):
-        found = name_of_cancel(script)
-    found = found or name_of_splice(script, script.kinds("splice"))
-    found = found or name_of_drain(script) or name_of_close(script) or name_of_timer(script)
-    if not found and any(len(write.args[1]) > 1 for write in script.kinds("write")):
-        found = "write-what-fits"
-    return found if found in known() else None
-
-
-def known():
-    """The names of the differences that are stated."""
-    if not os.path.isdir(FOLDER):
-        return set()
-    names = set()
-    for file in sorted(os.listdir(FOLDER)):
-        with open(os.path.join(FOLDER, file), encoding="ascii") as opened:
-            names |= {line.split()[2] for line in opened if line.startswith("# difference ")}
-    return names
+    for rows, stands, _ in evidence:
+        replies = {}
+        for row in rows:
+            words = row.split()
+            if len(words) < 2 or not words[1].lstrip("-").isdigit():
+                return None
+            replies[words[0]] = int(words[1])
+        if not replies and not stands:
+            return None
+        for test in TESTS:
+            if test(script, replies, stands):
+                return test.__name__.replace("_", "-")
+    return None

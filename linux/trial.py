@@ -2,6 +2,7 @@
 import collections
 
 import kernel
+import names
 import rules
 
 # How long nothing may go on before a script stands still, in milliseconds. What stands still, or leaves an entry without a
@@ -33,9 +34,7 @@ class Trial:
 
 def labels_of(text):
     """The labels of the entry lines."""
-    others = {"pipe", "ring", "on", "submit", "wait", "armed", "tick"}
-    lines = [line.split() for line in text.splitlines()]
-    return [words[1] for words in lines if len(words) > 1 and words[0] not in others and not words[0].startswith("#")]
+    return [line.split()[1] for line in text.splitlines() if line.split()[:1] and line.split()[0] in names.ARGUMENTS]
 
 
 def sort_tries(tries, listed, labels):

@@ -62,12 +62,19 @@ def of_stated(says, mode, found, listed):
 
 
 def of_unstated(program, lines, mode, found, folder):
-    """The verdict on a script that differs and states nothing: made as small as it can be, it shows which difference it is."""
-    small = least.least(program, lines, folder, mode, found)
-    name = names.name(small, mode)
-    if name:
-        return Verdict("stated", f"differs as stated ({name}): {evidence_text(found)}", name, ["least: " + " / ".join(small)])
-    return Verdict("differs", f"differs: {evidence_text(found)}", None, ["least: " + " / ".join(small)])
+    """The verdict on a script that differs and states nothing. For each kind of what differs, a table or a standing still, the
+    script is made as small as it can be, and then shows which difference it is."""
+    found_names, notes = [], []
+    for kind in [kind for kind, differs in (("table", found.unlisted), ("stands", found.stands)) if differs]:
+        small, evidence = least.least(program, lines, folder, mode, found, kind)
+        name = names.name(small, evidence)
+        found_names.append(name)
+        what = "; ".join(rows_text(rows, stands) for rows, stands, _ in evidence)
+        notes.append(f"least: {' / '.join(small)} -> {what}")
+    if None in found_names:
+        return Verdict("differs", f"differs: {evidence_text(found)}", None, notes)
+    name = " and ".join(sorted(set(found_names)))
+    return Verdict("stated", f"differs as stated ({name}): {evidence_text(found)}", name, notes)
 
 
 def judge(options, path, mode, folder):

@@ -7,7 +7,6 @@ submit
 cancel c ud=9
 submit
 wait c
-wait a
 on clock
 armed a
 armed b

@@ -1,6 +1,6 @@
 # So of two READs with one user_data they take one, and the other gets the bytes.
 # difference cancel-twice in enter defer sqpoll
-# rules: x 0, y 0, a -125, b -125 | x -114 | y -114 | x -2 | y -2
+# rules: x 0, y 0, a -125, b -125 | x -114 | y -114
 # linux: x 0, y 0, a 2, b -125
 pipe 16
 ring 8

@@ -1,6 +1,6 @@
 # A CLOSE of the end of a parked READ lets it complete.
 # difference close-parked in enter defer sqpoll
-# rules: r -9, w -32 | r 1, w 1
+# rules: r -9, w -32
 # linux: r 1, w 1
 pipe 16
 ring 8

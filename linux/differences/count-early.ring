@@ -1,6 +1,6 @@
 # A race: with a polling thread a count of 1023 may be answered after three completions.
 # difference count-early in sqpoll (seldom)
-# rules: u -125 | u -62
+# rules: u -125
 # linux: u 0
 ring 16
 on 0

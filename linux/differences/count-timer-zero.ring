@@ -1,6 +1,6 @@
 # But not one of 0 ticks that is right before it.
 # difference count in enter defer sqpoll
-# rules: t -62, u -125 | t -62, u -62
+# rules: u -125
 # linux: t -62, u 0
 ring 8
 on 0

@@ -1,6 +1,6 @@
 # A LINK_TIMEOUT ends whatever it finds by its target's user_data, here the newer READ.
 # difference link-timeout-other in enter defer sqpoll
-# rules: b -125, a 2, t -62 | b 2, t -62 | b 2, t -125
+# rules: a 2, t -62
 # linux: b 2, a -125, t -62
 pipe 16
 pipe 16
