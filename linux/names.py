@@ -37,7 +37,7 @@ class Entry:
     def length(self):
         return 0 if self.args[1] == "-" else len(self.args[1])
 
-    def count(self):
+    def counts(self):
         return any(word.startswith("count=") for word in self.options)
 
 
@@ -89,6 +89,17 @@ class Script:
         return any(other.drain for other in self.entries if other.ring == entry.ring and other.number < entry.number)
 
 
+def took(cancel, rows):
+    """How many requests the cancel says that it took."""
+    return max(0, rows[cancel.label]) if "all" in cancel.options else int(rows[cancel.label] == 0)
+
+
+def waits(script, ring, rows, stands):
+    """Whether an entry of the ring stands still, or is cut."""
+    own = [entry.label for entry in script.entries if entry.ring == ring]
+    return any(label in stands if stands else rows[label] == -125 for label in own)
+
+
 # Each test is given the script, its rows on the kernel by label (empty where it stands still), and the labels it stands still at.
 
 def invalid_member(script, rows, stands):
@@ -103,24 +114,24 @@ def invalid_drained(script, rows, stands):
 
 
 def open_chain(script, rows, stands):
-    """An entry ends its batch with a link flag, and then blocks, is found running, or comes late."""
+    """An entry that ends its batch with a link flag blocks, is found running, or comes so late that a count or cancel shows it."""
     last = {(entry.ring, entry.batch): entry for entry in script.entries}
     ends = [entry for entry in last.values() if entry.link]
-    if stands or not ends:
-        return bool(ends)
+    if stands:
+        return any(entry.label in stands for entry in ends)
     blocked = any(rows[entry.label] in (-4, -512) for entry in ends)
-    missed = any(rows[cancel.label] in (-114, -2, 0) for cancel, target in script.pairs() if target in ends)
-    late = any(later.number > entry.number for entry in ends for later in script.entries)
-    return blocked or missed or late
+    missed = any(rows[cancel.label] in (-114, -2) for cancel, target in script.pairs() if target in ends)
+    counted = any(timer.counts() and rows[timer.label] == 0 for timer in script.kinds("timeout")) and bool(ends)
+    return blocked or missed or counted or any(took(end, rows) for end in ends if end.kind in ("cancel", "remove"))
 
 
 def after_splice(script, rows, stands):
     """What is linked after a SPLICE blocks: it stands still, replies -4, or is found running."""
     follows = [entry for splice in script.kinds("splice") for entry in splice.later()]
-    names = {entry.label for entry in follows}
     if stands:
-        return bool(follows)
-    return any(rows[name] in (-4, -512) for name in names) or any(rows[cancel.label] in (-114, -2) for cancel, target in script.pairs() if target in follows)
+        return any(entry.label in stands for entry in follows)
+    blocked = any(rows[entry.label] in (-4, -512) for entry in follows)
+    return blocked or any(rows[cancel.label] in (-114, -2) for cancel, target in script.pairs() if target in follows)
 
 
 def splice_nothing(script, rows, stands):
@@ -130,13 +141,15 @@ def splice_nothing(script, rows, stands):
 def link_timeout_splice(script, rows, stands):
     """A SPLICE with a LINK_TIMEOUT waits."""
     timed = [splice for splice in script.kinds("splice") if splice.later() and splice.later()[0].kind == "link-timeout"]
-    return bool(timed) and (bool(stands) or any(rows[splice.later()[0].label] != -62 for splice in timed))
+    if stands:
+        return any({splice.label, splice.later()[0].label} & set(stands) for splice in timed)
+    return any(rows[splice.later()[0].label] != -62 for splice in timed)
 
 
 def splice_waits(script, rows, stands, fits):
     closed = {int(entry.args[0]) for entry in script.kinds("close")}
     waiting = [splice for splice in script.kinds("splice") if fits(*(int(word) for word in splice.args[:2]), closed)]
-    return bool(waiting) and (bool(stands) or any(rows[splice.label] != -32 for splice in waiting))
+    return any(splice.label in stands if stands else rows[splice.label] not in (0, -32) for splice in waiting)
 
 
 def splice_no_reader(script, rows, stands):
@@ -153,56 +166,66 @@ def cancel_itself(script, rows, stands):
 
 
 def cancel_splice(script, rows, stands):
-    """The cancel of a SPLICE found it running, or not at all, and the SPLICE was signalled."""
-    pairs = [(cancel, target) for cancel, target in script.pairs() if target.kind == "splice"]
-    return not stands and any(rows[cancel.label] in (-114, -2, 0) and rows[target.label] in (-512, -4, -125) for cancel, target in pairs)
+    """The cancel of a SPLICE signalled it."""
+    return not stands and any(target.kind == "splice" and rows[target.label] in (-512, -4) for _, target in script.pairs())
 
 
 def cancel_later(script, rows, stands):
     """A cancel took an entry that was submitted after it."""
     pairs = [(cancel, target) for cancel in script.kinds("cancel", "remove") for target in script.targets(cancel) if target.number > cancel.number]
-    return not stands and any(rows[cancel.label] >= 0 and rows[target.label] == -125 for cancel, target in pairs)
+    return not stands and any(took(cancel, rows) and rows[target.label] == -125 for cancel, target in pairs)
 
 
 def cancel_twice(script, rows, stands):
-    """Two cancels that mean one request both took it."""
+    """Cancels that mean the same requests took more than were ended."""
     cancels = script.kinds("cancel", "remove")
-    both = [(one, other) for one in cancels for other in cancels if one is not other and set(script.targets(one)) & set(script.targets(other))]
-    return bool(both) and (bool(stands) or any(rows[one.label] >= 0 and rows[other.label] >= 0 for one, other in both))
+    for cancel in cancels:
+        targets = script.targets(cancel)
+        alike = [other for other in cancels if set(script.targets(other)) & set(targets)]
+        if len(alike) > 1 and stands:
+            return True
+        if len(alike) > 1 and sum(took(other, rows) for other in alike) > sum(rows[target.label] == -125 for target in targets):
+            return True
+    return False
 
 
 def cancel_waiting(script, rows, stands):
     """A cancel didn't find a member of a chain that waited."""
     pairs = [(cancel, target) for cancel, target in script.pairs() if target.place]
-    return bool(pairs) and (bool(stands) or any(rows[cancel.label] in (-2, 0) for cancel, _ in pairs))
+    return not stands and any(rows[cancel.label] == -2 or "all" in cancel.options for cancel, _ in pairs)
 
 
 def cancel_mixed(script, rows, stands):
-    """A cancel that means a TIMEOUT and others took another one."""
+    """Of a TIMEOUT and others a cancel took another one."""
     for cancel, target in script.pairs():
-        kinds = {other.kind for other in script.targets(cancel)}
-        if target.kind == "timeout" and len(kinds) > 1 and (stands or rows[cancel.label] >= 0):
+        others = [other for other in script.targets(cancel) if other.kind != "timeout"]
+        ended = any(other.label in stands if stands else rows[other.label] == -125 for other in others)
+        if target.kind == "timeout" and ended and "all" not in cancel.options and (stands or rows[target.label] != -125 and took(cancel, rows)):
             return True
     return False
 
 
 def cancel_newest(script, rows, stands):
-    """A cancel that means several took a later one."""
+    """Of several requests a cancel took a later one."""
     for cancel in script.kinds("cancel"):
         targets = [target for target in script.targets(cancel) if target.number < cancel.number]
-        if len(targets) > 1 and (stands or rows[cancel.label] >= 0 and any(rows[target.label] == -125 for target in targets[1:])):
+        if len(targets) < 2 or "all" in cancel.options:
+            continue
+        if any(target.label in stands for target in targets[1:]):
+            return True
+        if rows and took(cancel, rows) and rows[targets[0].label] != -125 and any(rows[target.label] == -125 for target in targets[1:]):
             return True
     return False
 
 
 def drain_in_chain(script, rows, stands):
-    """A drain on a later member of a chain, and something waits."""
-    return any(entry.drain and entry.place for entry in script.entries) and (bool(stands) or -125 in rows.values())
+    """A drain on a later member of a chain, and something of its ring waits."""
+    return any(entry.drain and entry.place and waits(script, entry.ring, rows, stands) for entry in script.entries)
 
 
 def drain_linger(script, rows, stands):
     """What comes after a drain waits."""
-    return any(entry.drain for entry in script.entries) and (bool(stands) or -125 in rows.values())
+    return any(entry.drain and waits(script, entry.ring, rows, stands) for entry in script.entries)
 
 
 def close_late(script, rows, stands):
@@ -239,9 +262,14 @@ def link_timeout_late(script, rows, stands):
 
 
 def count(script, rows, stands):
-    """A TIMEOUT with a count counted others than here: it replied 0, or didn't."""
-    counted = [timer for timer in script.kinds("timeout") if timer.count()]
-    return bool(counted) and (bool(stands) or any(rows[timer.label] in (0, -62, -125) for timer in counted))
+    """A TIMEOUT counted what came before it in its ring, or left out a timer, or what came before it was armed."""
+    for timer in script.kinds("timeout"):
+        ring = [entry for entry in script.entries if entry.ring == timer.ring and entry is not timer]
+        earlier = any(entry.number < timer.number for entry in ring)
+        others = any(entry.kind in ("timeout", "link-timeout") for entry in ring)
+        if timer.counts() and (earlier if not stands and rows[timer.label] == 0 else others or timer.place or script.drained(timer)):
+            return True
+    return False
 
 
 def write_what_fits(script, rows, stands):

@@ -21,10 +21,10 @@ def find_program():
 def outcomes(program, path):
     """The tables that the rules list, each a tuple of lines."""
     run = subprocess.run([program, "outcomes", path], capture_output=True, text=True, check=False)
-    if run.returncode:
-        raise Fault(run.stderr.strip().splitlines()[-1] if run.stderr.strip() else f"status {run.returncode}")
-    blocks = run.stdout.split("\n\n")
-    return [tuple(block.splitlines()) for block in blocks[:-1]]
+    *blocks, last = run.stdout.split("\n\n")
+    if run.returncode or last != f"tables {len(blocks)}\n":
+        raise Fault((run.stderr.strip().splitlines() or ["no tables were printed"])[-1])
+    return [tuple(block.splitlines()) for block in blocks]
 
 
 def stands_still(program, path, label, runs):
