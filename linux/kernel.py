@@ -13,6 +13,10 @@ class NoRing(Exception):
     """The kernel gives no io_uring."""
 
 
+class Fault(Exception):
+    """kernelrun refuses the script."""
+
+
 class Try:
     """One try. `state` is done, late, ended (by its limit of time) or cannot."""
 
@@ -84,5 +88,5 @@ def carry_out(path, mode, times, patience, exact=False):
     if run.returncode == 2:
         raise NoRing(run.stderr.strip().removeprefix("kernelrun: "))
     if run.returncode:
-        raise RuntimeError(run.stderr.strip() or f"kernelrun ended with {run.returncode}")
+        raise Fault(run.stderr.strip() or f"kernelrun ended with {run.returncode}")
     return read_tries(run.stdout)

@@ -78,13 +78,18 @@ def of_unstated(program, lines, mode, found, folder):
 
 
 def judge(options, path, mode, folder):
+    try:
+        return judge_listed(options, path, mode, folder, rules.outcomes(options.ringrun, path))
+    except rules.Fault as fault:
+        return Verdict("fault", f"the program lists no tables: {fault}")
+    except kernel.Fault as fault:
+        return Verdict("fault", f"kernelrun: {fault}")
+
+
+def judge_listed(options, path, mode, folder, listed):
     with open(path, encoding="ascii") as file:
         lines = file.read().splitlines()
     says = stated.Stated(path, lines)
-    try:
-        listed = rules.outcomes(options.ringrun, path)
-    except rules.Fault as fault:
-        return Verdict("fault", f"the program lists no tables: {fault}")
     if says.name and stated.wrong_rules(says, listed):
         return Verdict("differs", stated.wrong_rules(says, listed))
     found = trial.carry_out(path, mode, options.times, listed, says.exact)
@@ -133,17 +138,33 @@ def modes_of(options, path):
     return USUAL + [mode for mode in says.modes if mode not in USUAL]
 
 
+def positive(word):
+    if not word.isdecimal() or int(word) == 0:
+        raise argparse.ArgumentTypeError(f"{word} is no number above 0")
+    return int(word)
+
+
+class Parser(argparse.ArgumentParser):
+    """A fault of the command line ends with status 1: 2 says that there is no io_uring."""
+
+    def error(self, message):
+        self.exit(1, f"{self.format_usage()}{self.prog}: {message}\n")
+
+
 def read_options(words, text):
-    parser = argparse.ArgumentParser(prog="linux/compare", description=text, formatter_class=argparse.RawDescriptionHelpFormatter)
-    parser.add_argument("--times", type=int, default=20, help="tries of each script (20)")
+    parser = Parser(prog="linux/compare", description=text, formatter_class=argparse.RawDescriptionHelpFormatter)
+    parser.add_argument("--times", type=positive, default=20, help="tries of each script (20)")
     parser.add_argument("--mode", choices=kernel.MODES)
-    parser.add_argument("--jobs", type=int, default=4, help="scripts at a time (4)")
+    parser.add_argument("--jobs", type=positive, default=4, help="scripts at a time (4)")
     parser.add_argument("--ringrun", help="a program in place of ringrun")
     parser.add_argument("--random", nargs=2, type=int, metavar=("COUNT", "SEED"))
     parser.add_argument("files", nargs="*", metavar="FILE")
     options = parser.parse_args(words)
     if bool(options.random) == bool(options.files):
         parser.error("either files or --random")
+    for path in options.files:
+        if not os.path.exists(path):
+            parser.error(f"there is no {path}")
     return options
 
 
