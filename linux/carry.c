@@ -345,6 +345,21 @@ static void print_waits(const struct world *world, const struct place *place)
     printf("stands %s%s\n", its->label, may_have_replied(&world->ring[its->ring].replies, entry) ? " unknown" : "");
 }
 
+/* Prints the entries that the completion may be of; where none can reply so, those that have its user_data. */
+static void print_owners(const struct replies *replies, const struct got *got)
+{
+    const struct script *script = replies->stage->script;
+    bool any = false;
+    for (int at = 0; at < script->entries; at++)
+        any = any || may_own(replies, got, at);
+    for (int at = 0; at < script->entries; at++) {
+        const struct entry *entry = &script->entry[at];
+        if (may_own(replies, got, at) || (!any && entry->ring == replies->ring && entry->user_data == got->user_data))
+            printf(" %s", entry->label);
+    }
+    printf("\n");
+}
+
 /* Prints each completion with the entries that it may be of, and the data of each READ. An entry that gets none of them had no
    completion by the end: it is cut. */
 static void print_replies(const struct world *world, const struct replies *replies)
@@ -355,10 +370,7 @@ static void print_replies(const struct world *world, const struct replies *repli
         const struct got *got = &replies->got[i];
         bool is_bytes = unit > 1 && got->res >= (int)unit;
         printf("cqe %s%d", is_bytes && got->res % (int)unit ? "odd" : "", is_bytes && got->res % (int)unit == 0 ? got->res / (int)unit : got->res);
-        for (int at = 0; at < script->entries; at++)
-            if (may_own(replies, got, at))
-                printf(" %s", script->entry[at].label);
-        printf("\n");
+        print_owners(replies, got);
     }
     for (int at = 0; at < script->entries; at++) {
         if (script->entry[at].kind != READ || script->entry[at].ring != replies->ring)

@@ -59,12 +59,30 @@ def without_empty(lines):
     return kept
 
 
+def write(lines, path):
+    with open(path, "w", encoding="ascii") as file:
+        file.write("\n".join(lines) + "\n")
+
+
+def without_entry(program, lines, label, path):
+    """The script without an entry, written to the path: or, where others name it, with a NOP in its place. None if there is none."""
+    at = next(i for i, line in enumerate(lines) if line.split()[0] in names.ARGUMENTS and line.split()[1] == label)
+    for rest in (without_empty(without_line(lines, at)), lines[:at] + [f"nop {label}"] + lines[at + 1:]):
+        write(rest, path)
+        try:
+            rules.outcomes(program, path)
+        except rules.Fault:
+            continue
+        if rest != lines and trial.labels_of("\n".join(rest)):
+            return rest
+    return None
+
+
 def differs(program, lines, path, mode, kind, times):
     """How the script differs in this kind, by a table or by standing still: each as (rows, stands, how often)."""
     if not trial.labels_of("\n".join(lines)):
         return []
-    with open(path, "w", encoding="ascii") as file:
-        file.write("\n".join(lines) + "\n")
+    write(lines, path)
     try:
         listed = rules.outcomes(program, path)
     except rules.Fault:
@@ -76,13 +94,13 @@ def differs(program, lines, path, mode, kind, times):
     return [each for each in found.evidence() if bool(each[1]) == (kind == "stands")]
 
 
-def least(program, lines, folder, mode, found, kind):
-    """The lines of the least script that differs in this kind, from those of one that differs as `found` says, and how it does."""
-    counts = (found.unlisted if kind == "table" else found.stands).values()
-    rate = min(1, max(counts) / found.times)
+def least(program, lines, folder, mode, found):
+    """The lines of the least script that differs in one kind, from those of one that differs as `found` says, and how it does."""
+    kind, counts = ("table", found.unlisted) if found.unlisted else ("stands", found.stands)
+    rate = min(1, max(counts.values()) / found.times)
     times = TIMES if rate > 0.5 else min(MOST_TIMES, int(TIMES / rate))
-    path = os.path.join(folder, f"least-{mode}-{kind}-{id(lines)}.ring")
-    evidence = list(each for each in found.evidence() if bool(each[1]) == (kind == "stands"))
+    path = os.path.join(folder, "least.ring")
+    evidence = [each for each in found.evidence() if bool(each[1]) == (kind == "stands")]
     tried, again = set(), True
     while again:
         again = False

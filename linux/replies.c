@@ -4,6 +4,7 @@
 #include "replies.h"
 
 #include <errno.h>
+#include <poll.h>
 #include <string.h>
 
 int place_of(const struct script *script, int entry)
@@ -24,6 +25,13 @@ static bool is_one_of(int res, const int *list, size_t len)
 
 #define AMONG(res, ...) is_one_of(res, (const int[]){__VA_ARGS__}, sizeof(const int[]){__VA_ARGS__} / sizeof(int))
 
+/* Whether the reply may be a number of bytes that the entry has moved: no more than asked for, and whole bytes of the script. */
+static bool is_moved(const struct replies *replies, const struct entry *entry, int res)
+{
+    uint64_t unit = replies->stage->plan->unit;
+    return res >= 0 && (uint64_t)res <= entry->len * unit && (uint64_t)res % unit == 0;
+}
+
 /* Whether an entry of this kind can reply so. -512 is what a SPLICE replies that was signalled. */
 static bool can_reply(const struct replies *replies, int at, int res)
 {
@@ -36,14 +44,14 @@ static bool can_reply(const struct replies *replies, int at, int res)
         uint64_t bytes = filled(replies->stage, at) * replies->stage->plan->unit;
         return bytes ? res == (int)bytes : AMONG(res, 0, -EBADF, -EINTR, -512);
     }
-    case WRITE: return (res > 0 && entry->len > 0) || (res == 0 && entry->len == 0) || AMONG(res, -EBADF, -EPIPE, -EINTR, -512);
+    case WRITE: return (is_moved(replies, entry, res) && (res > 0) == (entry->len > 0)) || AMONG(res, -EBADF, -EPIPE, -EINTR, -512);
     case CLOSE: return AMONG(res, 0, -EBADF);
-    case POLL: return res > 0 || res == -EBADF;
+    case POLL: return (res > 0 && !(res & ~(int)(entry->mask | POLLERR | POLLHUP))) || res == -EBADF;
     case TIMEOUT: return res == -ETIME || (res == 0 && entry->count > 0);
     case LINK_TIMEOUT: return AMONG(res, -ETIME, -ENOENT, -EALREADY);
     case CANCEL: return AMONG(res, -ENOENT, -EALREADY) || (entry->all ? res >= 0 : res == 0);
     case REMOVE: return AMONG(res, 0, -ENOENT, -EALREADY);
-    case SPLICE: return res >= 0 || AMONG(res, -EBADF, -EPIPE, -EINTR, -512);
+    case SPLICE: return is_moved(replies, entry, res) || AMONG(res, -EBADF, -EPIPE, -EINTR, -512);
     case RAW: return res == 0;
     }
     return false;

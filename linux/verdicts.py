@@ -19,10 +19,10 @@ USUAL = ["enter", "defer", "sqpoll"]
 
 class Verdict:
     """`kind`: agrees, stated (a difference that is stated), differs, missing (one that is stated and doesn't show), cannot
-    (can't be had here), unstable, fault. `name`: of the difference."""
+    (can't be had here), unstable, fault. `names`: of the differences."""
 
-    def __init__(self, kind, text, name=None, notes=()):
-        self.kind, self.text, self.name, self.notes = kind, text, name, notes
+    def __init__(self, kind, text, shown=None, notes=()):
+        self.kind, self.text, self.names, self.notes = kind, text, shown or [], notes
 
 
 def rows_text(rows, stands):
@@ -55,26 +55,34 @@ def of_stated(says, mode, found, listed):
     if other:
         return Verdict("differs", f"differs otherwise than stated ({says.name}): " + "; ".join(other))
     if shown:
-        return Verdict("stated", f"differs as stated ({says.name}): {evidence_text(found) or 'SIGPIPE'}", says.name)
+        return Verdict("stated", f"differs as stated ({says.name}): {evidence_text(found) or 'SIGPIPE'}", [says.name])
     if says.seldom:
         return Verdict("agrees", f"agrees: {found.times} tries; the difference that is stated ({says.name}) shows seldom")
     return Verdict("missing", f"agrees, and is stated to differ ({says.name}): {found.times} tries, {len(found.seen)} of {len(listed)} tables seen")
 
 
-def of_unstated(program, lines, mode, found, folder):
-    """The verdict on a script that differs and states nothing. For each kind of what differs, a table or a standing still, the
-    script is made as small as it can be, and then shows which difference it is."""
+def of_unstated(options, lines, mode, found, folder):
+    """The verdict on a script that differs and states nothing. Made as small as it can be, it shows which difference it is. Then
+    the last entry of the least script is taken out of the whole one, and what is left is looked at again, until it agrees: one
+    difference doesn't hide another."""
     found_names, notes = [], []
-    for kind in [kind for kind, differs in (("table", found.unlisted), ("stands", found.stands)) if differs]:
-        small, evidence = least.least(program, lines, folder, mode, found, kind)
+    folder = tempfile.mkdtemp(dir=folder)
+    text, path = evidence_text(found), os.path.join(folder, "rest.ring")
+    while found.differs():
+        small, evidence = least.least(options.ringrun, lines, folder, mode, found)
         name = names.name(small, evidence)
         found_names.append(name)
-        what = "; ".join(rows_text(rows, stands) for rows, stands, _ in evidence)
-        notes.append(f"least: {' / '.join(small)} -> {what}")
-    if None in found_names:
-        return Verdict("differs", f"differs: {evidence_text(found)}", None, notes)
+        notes.append(f"least: {' / '.join(small)} -> " + "; ".join(rows_text(rows, stands) for rows, stands, _ in evidence))
+        if not name:
+            return Verdict("differs", f"differs: {text}", None, notes)
+        lines = least.without_entry(options.ringrun, lines, trial.labels_of("\n".join(small))[-1], path)
+        if not lines:
+            break
+        listed = rules.outcomes(options.ringrun, path)
+        found = trial.carry_out(path, mode, options.times, listed)
+        trial.forgive(found, options.ringrun, path, listed)
     name = " and ".join(sorted(set(found_names)))
-    return Verdict("stated", f"differs as stated ({name}): {evidence_text(found)}", name, notes)
+    return Verdict("stated", f"differs as stated ({name}): {text}", found_names, notes)
 
 
 def judge(options, path, mode, folder):
@@ -103,7 +111,7 @@ def judge_listed(options, path, mode, folder, listed):
     if found.differs():
         if says.name:
             return Verdict("differs", f"differs, and is stated to agree in this mode: {evidence_text(found)}")
-        return of_unstated(options.ringrun, [line for line in lines if line.split() and not line.startswith("#")], mode, found, folder)
+        return of_unstated(options, [line for line in lines if line.split() and not line.startswith("#")], mode, found, folder)
     if found.unknown:
         return Verdict("cannot", "can't be had here: which of the entries with one user_data has replied can't be told")
     if found.slow:
@@ -194,8 +202,7 @@ def print_verdicts(options, pairs, folder):
             for note in verdict.notes:
                 print(f"    {note}", flush=True)
             counts[verdict.kind] += 1
-            if verdict.kind == "stated":
-                named[verdict.name] += 1
+            named.update(set(verdict.names))
     finally:
         pool.shutdown(cancel_futures=True)
     words = {"agrees": "agree", "stated": "differ as stated", "differs": "differ", "missing": "don't show what is stated",
