@@ -75,10 +75,14 @@ class Script:
     def kinds(self, *kinds):
         return [entry for entry in self.entries if entry.kind in kinds]
 
-    def targets(self, cancel):
-        """The entries that have the user_data which a cancel names."""
+    def wanted(self, cancel):
+        """The user_data that a cancel names."""
         word = cancel.args[0]
-        wanted = word[3:] if word.startswith("ud=") else self.by_label[word].user_data
+        return word[3:] if word.startswith("ud=") else self.by_label[word].user_data
+
+    def targets(self, cancel):
+        """The other entries that have the user_data which a cancel names."""
+        wanted = self.wanted(cancel)
         return [entry for entry in self.entries if entry.user_data == wanted and entry.ring == cancel.ring and entry is not cancel]
 
     def pairs(self):
@@ -162,7 +166,7 @@ def splice_full(script, rows, stands):
 
 def cancel_itself(script, rows, stands):
     """A cancel with IO_DRAIN that names its own user_data replied -114."""
-    return not stands and any(cancel.drain and cancel.args[0] == "ud=" + cancel.user_data and rows[cancel.label] == -114 for cancel in script.kinds("cancel"))
+    return not stands and any(cancel.drain and script.wanted(cancel) == cancel.user_data and rows[cancel.label] == -114 for cancel in script.kinds("cancel"))
 
 
 def cancel_splice(script, rows, stands):
