@@ -5,8 +5,8 @@ import names
 import rules
 import trial
 
-# tries of each smaller script, and how long nothing may go on before one stands still
-TIMES, MOST_TIMES, PATIENCE = 6, 60, [15, 80]
+# tries of each smaller script, of one that differs seldom, and how long nothing may go on before one stands still
+TIMES, MOST_TIMES, PATIENCE = 6, 36, [15, 80]
 
 
 def smaller(lines):
@@ -87,11 +87,15 @@ def differs(program, lines, path, mode, kind, times):
         listed = rules.outcomes(program, path)
     except rules.Fault:
         return []
-    found = trial.carry_out(path, mode, times, listed, patience=PATIENCE)
-    if found.cannot:
-        return []
-    trial.forgive(found, program, path, listed)
-    return [each for each in found.evidence() if bool(each[1]) == (kind == "stands")]
+    for _ in range(0, times, TIMES):
+        found = trial.carry_out(path, mode, TIMES, listed, patience=PATIENCE)
+        if found.cannot:
+            return []
+        trial.forgive(found, program, path, listed)
+        evidence = [each for each in found.evidence() if bool(each[1]) == (kind == "stands")]
+        if evidence:
+            return evidence
+    return []
 
 
 def least(program, lines, folder, mode, found):
