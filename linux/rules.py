@@ -2,6 +2,8 @@
 import os
 import subprocess
 
+# more ticks at once than that aren't taken one by one
+MOST_STEPS = 50
 ROOT = os.path.dirname(os.path.dirname(os.path.abspath(__file__)))
 
 
@@ -18,13 +20,32 @@ def find_program():
     return os.path.join(out, "ringrun") if proved else os.path.join(out, "unproved", "ringrun")
 
 
-def outcomes(program, path):
-    """The tables that the rules list, each a tuple of lines."""
-    run = subprocess.run([program, "outcomes", path], capture_output=True, text=True, check=False)
+def outcomes(program, path, text=None):
+    """The tables that the rules list for the script in the file, or in the text: each a tuple of lines."""
+    words = [program, "outcomes", "-" if text else path]
+    run = subprocess.run(words, input=text, capture_output=True, text=True, check=False)
     *blocks, last = run.stdout.split("\n\n")
     if run.returncode or last != f"tables {len(blocks)}\n":
         raise Fault((run.stderr.strip().splitlines() or ["no tables were printed"])[-1])
     return [tuple(block.splitlines()) for block in blocks]
+
+
+def stepwise_outcomes(program, path):
+    """The tables of the script where its clock comes by each tick, as a real one does: one that goes from 0 to 3 at once leaves no
+    time for a timer of one tick after another. None more where it goes by single ticks anyway, or has very far to go."""
+    with open(path, encoding="ascii") as file:
+        lines = file.read().splitlines()
+    stepwise, clock = [], 0
+    for line in lines:
+        if line.split()[:1] != ["tick"]:
+            stepwise.append(line)
+            continue
+        value = int(line.split()[1])
+        if value - clock > MOST_STEPS:
+            return []
+        stepwise += [f"tick {step}" for step in range(clock + 1, value)] + [line]
+        clock = value
+    return outcomes(program, path, "\n".join(stepwise) + "\n") if stepwise != lines else []
 
 
 def stands_still(program, path, label, runs):

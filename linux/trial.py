@@ -20,6 +20,7 @@ class Trial:
         self.times = 0
         self.seen, self.unlisted, self.stands = collections.Counter(), collections.Counter(), collections.Counter()
         self.shaky, self.slow, self.cannot, self.signals, self.unknown = [], [], None, 0, False
+        self.stepwise = 0
 
     def differs(self):
         return bool(self.unlisted or self.stands)
@@ -105,9 +106,12 @@ def describe(key):
 
 
 def forgive(trial, program, path, listed):
-    """Takes out the standing still that the rules have, too: they list no table, or a run of the program stands still there.
-    Answers what was taken out."""
+    """Takes out the tables that the rules list where the clock comes by each tick; and the standing still that they have, too: they
+    list no table, or a run of the program stands still there. Answers the labels of what stood still so."""
     forgiven = []
+    stepwise = rules.stepwise_outcomes(program, path) if trial.unlisted else []
+    for table in set(stepwise) & set(trial.unlisted):
+        trial.stepwise += trial.unlisted.pop(table)
     for labels in list(trial.stands):
         if not listed or any(rules.stands_still(program, path, label, RUNS) for label in labels):
             forgiven.append(labels)

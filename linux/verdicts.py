@@ -35,6 +35,8 @@ def evidence_text(found):
 
 def agrees(found, listed, still):
     text = f"agrees: {found.times} tries, {len(found.seen)} of {len(listed)} tables seen"
+    if found.stepwise:
+        text += f", in {found.stepwise} tries one that is listed where the clock comes by each tick"
     if still:
         text += ", stands still as the rules do"
     if found.shaky:
