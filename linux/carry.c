@@ -368,8 +368,8 @@ static void print_replies(const struct world *world, const struct replies *repli
     uint64_t unit = world->plan->unit;
     for (int i = 0; i < replies->len; i++) {
         const struct got *got = &replies->got[i];
-        bool is_bytes = unit > 1 && got->res >= (int)unit;
-        printf("cqe %s%d", is_bytes && got->res % (int)unit ? "odd" : "", is_bytes && got->res % (int)unit == 0 ? got->res / (int)unit : got->res);
+        bool is_bytes = unit > 1 && got->res >= (int)unit, is_odd = is_bytes && got->res % (int)unit;
+        printf("cqe %s%d", is_odd ? "odd" : "", is_bytes && !is_odd ? got->res / (int)unit : got->res);
         print_owners(replies, got);
     }
     for (int at = 0; at < script->entries; at++) {

@@ -98,6 +98,11 @@ def took(cancel, rows):
     return max(0, rows[cancel.label]) if "all" in cancel.options else int(rows[cancel.label] == 0)
 
 
+def missed_it(cancel, rows):
+    """Whether the cancel says that it took nothing."""
+    return rows[cancel.label] in (-114, -2) or ("all" in cancel.options and rows[cancel.label] == 0)
+
+
 def waits(script, ring, rows, stands):
     """Whether an entry of the ring stands still, or is cut."""
     own = [entry.label for entry in script.entries if entry.ring == ring]
@@ -114,7 +119,8 @@ def invalid_member(script, rows, stands):
 
 def invalid_drained(script, rows, stands):
     """An Invalid entry after a drain, or with one, replied -22."""
-    return not stands and any(entry.invalid and (entry.drain or script.drained(entry)) and rows[entry.label] == -22 for entry in script.entries)
+    drained = [entry for entry in script.entries if entry.invalid and (entry.drain or script.drained(entry))]
+    return not stands and any(rows[entry.label] == -22 for entry in drained)
 
 
 def open_chain(script, rows, stands):
@@ -124,7 +130,7 @@ def open_chain(script, rows, stands):
     if stands:
         return any(entry.label in stands for entry in ends)
     blocked = any(rows[entry.label] in (-4, -512) for entry in ends)
-    missed = any(rows[cancel.label] in (-114, -2) for cancel, target in script.pairs() if target in ends)
+    missed = any(missed_it(cancel, rows) for cancel, target in script.pairs() if target in ends)
     counted = any(timer.counts() and rows[timer.label] == 0 for timer in script.kinds("timeout")) and bool(ends)
     return blocked or missed or counted or any(took(end, rows) for end in ends if end.kind in ("cancel", "remove"))
 
@@ -135,7 +141,7 @@ def after_splice(script, rows, stands):
     if stands:
         return any(entry.label in stands for entry in follows)
     blocked = any(rows[entry.label] in (-4, -512) for entry in follows)
-    return blocked or any(rows[cancel.label] in (-114, -2) for cancel, target in script.pairs() if target in follows)
+    return blocked or any(missed_it(cancel, rows) for cancel, target in script.pairs() if target in follows)
 
 
 def splice_nothing(script, rows, stands):
@@ -166,7 +172,8 @@ def splice_full(script, rows, stands):
 
 def cancel_itself(script, rows, stands):
     """A cancel with IO_DRAIN that names its own user_data replied -114."""
-    return not stands and any(cancel.drain and script.wanted(cancel) == cancel.user_data and rows[cancel.label] == -114 for cancel in script.kinds("cancel"))
+    own = [cancel for cancel in script.kinds("cancel") if cancel.drain and script.wanted(cancel) == cancel.user_data]
+    return not stands and any(rows[cancel.label] == -114 for cancel in own)
 
 
 def cancel_splice(script, rows, stands):

@@ -125,7 +125,10 @@ void prepare(struct stage *stage, int at, uint64_t clock, struct io_uring_sqe *s
     case RAW: memcpy(sqe, entry->bytes, sizeof entry->bytes); return;
     }
     sqe->user_data = entry->user_data;
-    sqe->flags |= (entry->link && !entry->hard ? IOSQE_IO_LINK : 0) | (entry->hard ? IOSQE_IO_HARDLINK : 0) | (entry->drain ? IOSQE_IO_DRAIN : 0);
+    if (entry->link)
+        sqe->flags |= entry->hard ? IOSQE_IO_HARDLINK : IOSQE_IO_LINK;
+    if (entry->drain)
+        sqe->flags |= IOSQE_IO_DRAIN;
 }
 
 unsigned char data_at(const struct stage *stage, int at, uint64_t byte)
