@@ -12,11 +12,12 @@ class Fault(Exception):
 
 
 def find_program():
-    """The built program, which its launcher brings up to date first: the proved one where there is one."""
+    """The built program, which its launcher brings up to date first: the proved one where there is one. None if it can't."""
     out = os.path.join(ROOT, "crates", "ringrun", "out")
     proved = os.path.exists(os.path.join(out, "ringrun"))
     launch = [os.path.join(ROOT, "ringrun")] + ([] if proved else ["--unproved"])
-    subprocess.run(launch + ["--version"], stdout=subprocess.DEVNULL, stderr=subprocess.DEVNULL, check=False)
+    if subprocess.run(launch + ["--version"], stdout=subprocess.DEVNULL, check=False).returncode:
+        return None
     return os.path.join(out, "ringrun") if proved else os.path.join(out, "unproved", "ringrun")
 
 

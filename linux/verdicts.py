@@ -185,6 +185,8 @@ def main(words, text):
         print("linux/compare: build kernelrun first: make -C linux", file=sys.stderr)
         return 1
     options.ringrun = options.ringrun or rules.find_program()
+    if not options.ringrun:
+        return 1
     with tempfile.TemporaryDirectory() as folder:
         paths = list(random_scripts(*options.random, folder) if options.random else scripts_in(options.files))
         try:
@@ -192,6 +194,11 @@ def main(words, text):
         except kernel.NoRing as why:
             print(f"linux/compare: {why}", file=sys.stderr)
             return 2
+        except BrokenPipeError:
+            raise
+        except (OSError, ValueError) as why:
+            print(f"linux/compare: {why}", file=sys.stderr)
+            return 1
 
 
 def print_verdicts(options, pairs, folder):
