@@ -1,8 +1,9 @@
 """What a script's first lines state of a difference, in the one form that compare reads.
 
     # Any lines in words.
-    # difference NAME in MODE..            the modes it shows in; in the others of the three the script agrees
-    # difference NAME in MODE.. (seldom)   it may not show, where it hangs on a race
+    # difference NAME in MODE.. seldom in MODE..
+                                         the modes it shows in, and those where it shows in few tries, by a race; in the
+                                         others of the three the script agrees
     # rules: a 0, b -125 | a 0             what the rules list: each table fits one of these, and each of these a table
     # linux: b -2 | b waits | SIGPIPE      what the kernel does; of a row that `waits` a `wait` line stands still
     # bytes: exact                         a byte is a byte, and each pipe has room for exactly its bytes
@@ -13,15 +14,14 @@ import kernel
 
 class Stated:
     def __init__(self, path, lines):
-        self.name, self.modes, self.seldom, self.exact = None, [], False, False
+        self.name, self.modes, self.seldom, self.exact = None, [], [], False
         self.rules, self.linux = [], []
         for line in lines:
             words = line.removeprefix("#").split()
             if words[:1] == ["difference"]:
-                self.name = words[1]
-                self.seldom = words[-1] == "(seldom)"
-                self.modes = [word for word in words[3:] if word != "(seldom)"]
-                if words[2:3] != ["in"] or not self.modes or not set(self.modes) <= set(kernel.MODES):
+                always, _, seldom = " ".join(words[2:]).partition("seldom in")
+                self.name, self.modes, self.seldom = words[1], always.removeprefix("in").split(), seldom.split()
+                if not self.modes + self.seldom or not set(self.modes + self.seldom) <= set(kernel.MODES):
                     raise ValueError(f"{path}: {line.strip()}")
             elif words[:1] in (["rules:"], ["linux:"]):
                 patterns = [[row.strip() for row in part.split(",")] for part in " ".join(words[1:]).split("|")]

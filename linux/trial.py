@@ -8,6 +8,8 @@ import rules
 # How long nothing may go on before a script stands still, in milliseconds. What stands still, or leaves an entry without a
 # completion in a table that isn't listed, counts only where it comes again with each longer time.
 PATIENCE = [15, 60, 250]
+# tries with a longer time, at least
+FEWEST = 5
 # runs of the program that are looked at where the kernel stands still
 RUNS = 12
 
@@ -84,7 +86,7 @@ def carry_out(path, mode, times, listed, exact=False, patience=PATIENCE):
         if not doubtful:
             return trial
         # Enough tries to see again what came as often as this.
-        wanted = min(times, max(3, 3 * wanted // sum(doubtful.values())))
+        wanted = min(times, max(FEWEST, 4 * wanted // sum(doubtful.values())))
     for (kind, what), count in doubtful.items():
         count = max(count, first[(kind, what)])
         if kind == "stands":

@@ -59,7 +59,7 @@ def of_stated(says, mode, found, listed):
         return Verdict("differs", f"differs otherwise than stated ({says.name}): " + "; ".join(other))
     if shown:
         return Verdict("stated", f"differs as stated ({says.name}): {evidence_text(found) or 'SIGPIPE'}", [says.name])
-    if says.seldom:
+    if mode in says.seldom:
         return Verdict("agrees", f"agrees: {found.times} tries; the difference that is stated ({says.name}) shows seldom")
     return Verdict("missing", f"agrees, and is stated to differ ({says.name}): {found.times} tries, {len(found.seen)} of {len(listed)} tables seen")
 
@@ -106,7 +106,7 @@ def judge_listed(options, path, mode, folder, listed):
     found = trial.carry_out(path, mode, options.times, listed, says.exact)
     if found.cannot:
         return Verdict("cannot", f"can't be had here: {found.cannot}")
-    if says.name and mode in says.modes:
+    if says.name and mode in says.modes + says.seldom:
         if not found.differs() and found.slow:
             return Verdict("unstable", "not stable: " + "; ".join(sorted(set(found.slow))))
         return of_stated(says, mode, found, listed)
@@ -146,7 +146,7 @@ def modes_of(options, path):
         return [options.mode]
     with open(path, encoding="ascii") as file:
         says = stated.Stated(path, file.read().splitlines())
-    return USUAL + [mode for mode in says.modes if mode not in USUAL]
+    return USUAL + [mode for mode in says.modes + says.seldom if mode not in USUAL]
 
 
 def positive(word):

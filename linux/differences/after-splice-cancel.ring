@@ -1,5 +1,5 @@
 # Its cancel replies -114, or with a polling thread -2, and the READ -4.
-# difference after-splice in enter sqpoll
+# difference after-splice in enter sqpoll seldom in defer
 # rules: r -125, c 0
 # linux: r -4, c -114 | r -4, c -2
 pipe 16

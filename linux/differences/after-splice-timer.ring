@@ -1,5 +1,5 @@
 # Its LINK_TIMEOUT doesn't run out.
-# difference after-splice in enter sqpoll
+# difference after-splice in enter sqpoll seldom in defer
 # rules: r -125, t -62
 # linux: t waits
 pipe 16

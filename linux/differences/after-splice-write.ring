@@ -1,5 +1,5 @@
 # What is linked after a SPLICE runs in a worker thread that blocks: a WRITE waits until all of it is in.
-# difference after-splice in enter sqpoll
+# difference after-splice in enter sqpoll seldom in defer
 # rules: s -22, w 1
 # linux: w waits
 pipe 1

@@ -1,5 +1,5 @@
 # A race: a count of 1023 may be answered after three completions.
-# difference count-early in enter sqpoll (seldom)
+# difference count-early seldom in enter sqpoll
 # rules: u -125
 # linux: u 0
 ring 16
