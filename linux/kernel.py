@@ -50,6 +50,11 @@ class Try:
         data = self.data.get(label, "")
         return f"{label} {res} {data}" if data and not res.startswith("-") and res != "0" else f"{label} {res}"
 
+    def replied(self):
+        """The rows of the entries whose completions can be of no other, and of which there is just one."""
+        alone = [(res, candidates[0]) for res, candidates in self.completions if len(candidates) == 1]
+        return frozenset(self.row(label, {label: res}) for res, label in alone)
+
     def cut(self, labels):
         """Whether an entry has no completion."""
         return len(self.completions) < len(labels)

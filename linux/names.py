@@ -103,6 +103,13 @@ def missed_it(cancel, rows):
     return rows[cancel.label] in (-114, -2) or ("all" in cancel.options and rows[cancel.label] == 0)
 
 
+def blocks(entry, rows):
+    """Whether it ran in a thread that blocks: it was interrupted, or it is a WRITE of several bytes that all went in, or waits."""
+    if entry.kind == "write" and entry.length() > 1 and rows[entry.label] in (entry.length(), -125):
+        return True
+    return rows[entry.label] in (-4, -512)
+
+
 def waits(script, ring, rows, stands):
     """Whether an entry of the ring stands still, or is cut."""
     own = [entry.label for entry in script.entries if entry.ring == ring]
@@ -129,7 +136,7 @@ def open_chain(script, rows, stands):
     ends = [entry for entry in last.values() if entry.link]
     if stands:
         return any(entry.label in stands for entry in ends)
-    blocked = any(rows[entry.label] in (-4, -512) for entry in ends)
+    blocked = any(blocks(entry, rows) for entry in ends)
     missed = any(missed_it(cancel, rows) for cancel, target in script.pairs() if target in ends)
     counted = any(timer.counts() and rows[timer.label] == 0 for timer in script.kinds("timeout")) and bool(ends)
     return blocked or missed or counted or any(took(end, rows) for end in ends if end.kind in ("cancel", "remove"))
@@ -140,7 +147,7 @@ def after_splice(script, rows, stands):
     follows = [entry for splice in script.kinds("splice") for entry in splice.later()]
     if stands:
         return any(entry.label in stands for entry in follows)
-    blocked = any(rows[entry.label] in (-4, -512) for entry in follows)
+    blocked = any(blocks(entry, rows) for entry in follows)
     return blocked or any(missed_it(cancel, rows) for cancel, target in script.pairs() if target in follows)
 
 

@@ -49,6 +49,27 @@ def stepwise_outcomes(program, path):
     return outcomes(program, path, "\n".join(stepwise) + "\n") if stepwise != lines else []
 
 
+def leaves_no_reply(program, path, labels, rows):
+    """Whether the rules have no reply for one of the labels that are waited for, once others have replied as the rows say: where the
+    lines from those that wait for them on are left out, each table with these rows has -125 there, by the end."""
+    with open(path, encoding="ascii") as file:
+        lines = file.read().splitlines()
+    kept, actor, over = [], None, set()
+    for line in lines:
+        words = line.split()
+        if words[:1] == ["on"]:
+            actor = words[1]
+        if words[:1] in (["wait"], ["armed"]) and words[1] in labels:
+            over.add(actor)
+        if actor not in over or words[:1] == ["on"]:
+            kept.append(line)
+    try:
+        tables = [table for table in outcomes(program, path, "\n".join(kept) + "\n") if rows <= set(table)]
+    except Fault:
+        return False
+    return bool(tables) and any(all(f"{label} -125" in table for table in tables) for label in labels)
+
+
 def stands_still(program, path, label, runs):
     """Whether a run of the program stands still at the label, too."""
     for i in range(runs):

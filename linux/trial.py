@@ -22,7 +22,7 @@ class Trial:
         self.times = 0
         self.seen, self.unlisted, self.stands = collections.Counter(), collections.Counter(), collections.Counter()
         self.shaky, self.slow, self.cannot, self.signals, self.unknown = [], [], None, 0, False
-        self.stepwise = 0
+        self.stepwise, self.replied = 0, collections.defaultdict(set)
 
     def differs(self):
         return bool(self.unlisted or self.stands)
@@ -79,6 +79,7 @@ def carry_out(path, mode, times, listed, exact=False, patience=PATIENCE):
                 trial.unlisted[what] += level == 0 or what not in trial.unlisted
             else:
                 doubtful[(kind, what)] += 1
+                trial.replied[what].add(one.replied())
         if level:
             trial.shaky += [describe(key) for key in before if key not in doubtful and key[0] in ("stands", "cut")]
         else:
@@ -109,13 +110,15 @@ def describe(key):
 
 def forgive(trial, program, path, listed):
     """Takes out the tables that the rules list where the clock comes by each tick; and the standing still that they have, too: they
-    list no table, or a run of the program stands still there. Answers the labels of what stood still so."""
+    list no table, what has replied leaves no reply for what is waited for, or a run of the program stands still there. Answers
+    the labels of what stood still so."""
     forgiven = []
     stepwise = rules.stepwise_outcomes(program, path) if trial.unlisted else []
     for table in set(stepwise) & set(trial.unlisted):
         trial.stepwise += trial.unlisted.pop(table)
     for labels in list(trial.stands):
-        if not listed or any(rules.stands_still(program, path, label, RUNS) for label in labels):
+        bound = all(rules.leaves_no_reply(program, path, labels, rows) for rows in trial.replied[labels])
+        if not listed or bound or any(rules.stands_still(program, path, label, RUNS) for label in labels):
             forgiven.append(labels)
             del trial.stands[labels]
     return forgiven
