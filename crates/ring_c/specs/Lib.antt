@@ -1,2 +1,9 @@
+pub mod Codes
 pub mod Slots
 pub mod Sides
+pub mod Numbers
+pub mod Turns
+pub mod ClientCalls
+pub mod HandCalls
+pub mod DeskCalls
+pub mod Handles

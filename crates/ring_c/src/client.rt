@@ -1,11 +1,16 @@
 //! What the handle of a client leads to.
-ghost use Rattle.std.specs.Prelude.{◌≡◌, []};
+ghost use Rattle.std.specs.Prelude.{◌≡◌, [], length};
 ghost use Rattle.std.specs.Arc.{arc_value};
 ghost use Rattle.work.specs.Board.{IsOf};
 ghost use Rattle.board.specs.Calls.{Goes, Finds};
+ghost use Rattle.ring_c.specs.ClientCalls.{Reaps, Shows, Submits};
 
+use crate::batch::batch_of;
+use crate::code::Code;
 use board::{Board, Phase, Submitter};
+use entry::Cqe;
 use history::Req;
+use std::alloc::Global;
 use std::marker::Model;
 use std::sync::Arc;
 
@@ -30,6 +35,27 @@ impl Model for Client {
 }
 
 impl Client {
+    /// A client that has reaped nothing.
+    pub(crate) fn new(board: Arc<Board>, submitter: Submitter, bytes: Vec<u8>) -> Client
+        requires { IsOf (arc_value board) submitter }
+        ensures { result ≡ record { board = arc_value board; pass = submitter; bytes = bytes.items } }
+    {
+        Client {
+            board,
+            submitter,
+            bytes,
+        }
+    }
+
+    /// Its submitter. It gives up its board.
+    pub(crate) fn into_submitter(self) -> Submitter
+        ensures pass { result ≡ self.pass }
+        ensures own { IsOf self.board result }
+    {
+        let Client { submitter, .. } = self;
+        submitter
+    }
+
     /// Where a request stands.
     pub(crate) fn look(&mut self, req: Req) -> Phase
         ensures same { (self.new.board ≡ self.old.board) × (self.new.bytes ≡ self.old.bytes) }
@@ -37,5 +63,58 @@ impl Client {
         ensures finds { Finds self.old.board req result self.old.pass self.new.pass }
     {
         self.board.look(&mut self.submitter, req)
+    }
+
+    /// Submits these entries as a batch, with their buffers one after another.
+    pub(crate) fn submit(
+        &mut self,
+        alloc: Global,
+        entries: &[u8],
+        bytes: &[u8],
+    ) -> Result<u64, Code>
+        ensures submits { Submits entries.now bytes.now self.old self.new result }
+        ensures board { self.new.board ≡ self.old.board }
+    {
+        let batch = match batch_of(alloc, entries, bytes) {
+            Ok(batch) => batch,
+            Err(code) => return Err(code),
+        };
+        match self.board.submit_batch(&mut self.submitter, batch) {
+            Ok(req) => Ok(req.k),
+            Err((error, _batch)) => Err(Code::of_submit(error)),
+        }
+    }
+
+    /// Takes the request's completion, and keeps its buffer.
+    pub(crate) fn reap(&mut self, req: Req) -> Result<Cqe, Code>
+        ensures reaps { Reaps req self.old self.new result }
+        ensures board { self.new.board ≡ self.old.board }
+    {
+        match self.board.reap(&mut self.submitter, req) {
+            Ok(completion) => {
+                self.bytes = completion.buffer;
+                Ok(completion.cqe)
+            }
+            Err(error) => Err(Code::of_reap(error)),
+        }
+    }
+
+    /// How long the buffer is that it keeps.
+    pub(crate) fn length(&self) -> usize
+        ensures { result ≡ length self.now.bytes }
+    {
+        self.bytes.len()
+    }
+
+    /// Copies the buffer of the completion that it reaped last.
+    pub(crate) fn copy_bytes(&self, out: &mut [u8]) -> Result<usize, Code>
+        ensures shows { Shows self.now.bytes out.old out.new result }
+    {
+        let length = self.bytes.len();
+        if out.len() < length {
+            return Err(Code::Length);
+        }
+        out[..length].copy_from_slice(&self.bytes);
+        Ok(length)
     }
 }
