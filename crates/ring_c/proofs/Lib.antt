@@ -1,1 +1,5 @@
 pub mod AsBox
+pub mod Batches
+pub mod PassLists
+pub mod Through
+pub mod TurnLaws

@@ -1,5 +1,5 @@
 -- What a call makes of what a handle leads to.
-use Rattle.std.specs.Prelude.{◌≡◌, ◌⊎◌, ◌++◌, ℕ, Bool, [], ◌∷◌, List, Option, Some, None, Result, Ok, Err}
+use Rattle.std.specs.Prelude.{◌≡◌, ◌⊎◌, ◌++◌, ℕ, Bool, [], ◌∷◌, List, length, map, Option, Some, None, Result, Ok, Err}
 use Rattle.entry.specs.declared.cqe.Cqe.{Cqe}
 use Rattle.history.specs.declared.req.Req.{Req}
 use Rattle.work.specs.Board.{Facts}
@@ -13,8 +13,13 @@ use Rattle.ring_c.specs.declared.code.Code.TheVariants.{Closed, WrongKind, Memor
 use Rattle.ring_c.specs.declared.inside.Inside.{Inside}
 use Rattle.ring_c.specs.declared.inside.Inside.TheVariants.{Client, Hand, Desk, Report}
 use Rattle.ring_c.specs.Sides.{ClientFacts, DeskFacts, HandFacts}
+use Rattle.ring_c.specs.ClientCalls.{Reaps, Shows, Submits}
 use Rattle.ring_c.specs.HandCalls.{Works}
-use Rattle.ring_c.specs.DeskCalls.{IsFull, Ticks}
+use Rattle.ring_c.specs.DeskCalls.{IsFull, IsStill, Ticks}
+use Rattle.ring_c.specs.Turns.{IsTurn}
+use Rattle.ring_c.specs.Numbers.{number_for}
+use Rattle.ring_c.specs.declared.number.Number.{Number}
+use Rattle.ring_c.specs.declared.results.Turn.{Turn}
 
 module _ {X : Type 0} where
   -- through a handle that leads to nothing nothing is done
@@ -49,8 +54,29 @@ LooksIn r (Hand x) y a = (q : Pass) × (y ≡ Hand (record x { pass = q })) × F
 LooksIn r (Desk x) y a = (q : Pass) × (y ≡ Desk (record x { pass = q })) × Finding x.board r x.pass q a
 LooksIn r i y a = (a ≡ Err WrongKind) × (y ≡ i)
 
-abbrev pub WorksAt : Req → HandFacts → HandFacts → Result Cqe Code → Type 0
-WorksAt r x z a = Works x.board r x.pass z.pass a
+abbrev pub SubmitsThe : List ℕ → List ℕ → ClientFacts → ClientFacts → Result ℕ Code → Type 0
+SubmitsThe es bs x z a = (z.bytes ≡ x.bytes) × Submits es bs x.board x.pass z.pass a
+
+-- with the length of the buffer that is kept
+abbrev pub ReapsThe : Req → ClientFacts → ClientFacts → Result (Cqe × ℕ) Code → Type 0
+ReapsThe r x z (Ok t) = (t.1 ≡ length z.bytes) × Reaps x.board r x.pass z.pass x.bytes z.bytes (Ok t.0)
+ReapsThe r x z (Err code) = Reaps x.board r x.pass z.pass x.bytes z.bytes (Err code)
+
+abbrev pub GivesBytes : List ℕ → List ℕ → ClientFacts → ClientFacts → Result ℕ Code → Type 0
+GivesBytes old new x z a = (z ≡ x) × Shows x.bytes old new a
+
+abbrev pub GivesTook : List Number → List Number → HandFacts → HandFacts → Result ℕ Code → Type 0
+GivesTook old new x z a = (z ≡ x) × Shows (map number_for x.pass.took) old new a
+
+-- with how many requests the run ended besides
+abbrev pub WorksAt : Req → HandFacts → HandFacts → Result (Cqe × ℕ) Code → Type 0
+WorksAt r x z (Ok t) = (t.1 ≡ length z.pass.took) × Works x.board r x.pass z.pass (Ok t.0)
+WorksAt r x z (Err code) = Works x.board r x.pass z.pass (Err code)
+
+-- a turn, which the arrays then tell of
+abbrev pub PollsThe : List Number → List Number → List Number → List Number → DeskFacts → DeskFacts → Result Turn Code → Type 0
+PollsThe r s a b x z (Ok t) = IsStill x z × IsTurn x.board x.pass z.pass z.ready z.answered × Shows (map number_for z.ready) r s (Ok t.ready) × Shows (map number_for z.answered) a b (Ok t.answered)
+PollsThe r s a b x z (Err code) = ⊥
 
 abbrev pub TicksAt : ℕ → DeskFacts → DeskFacts → Result (Unit {0}) Code → Type 0
 TicksAt to x z a = (z ≡ record x { pass = z.pass }) × Ticks x.board to x.pass z.pass a

@@ -7,3 +7,5 @@ pub mod ClientCalls
 pub mod HandCalls
 pub mod DeskCalls
 pub mod Handles
+pub mod Results
+pub mod Lives

@@ -2,7 +2,7 @@
 ghost use Rattle.std.specs.Prelude.{◌≡◌, ℕ, ◌+◌, ◌*◌, ◌≤◌, take, drop, length, IfOk, IfErr};
 ghost use Rattle.history.specs.Legal.{FitsOp};
 ghost use Rattle.entry.specs.Text.{Says};
-ghost use Rattle.ring_c.specs.ClientCalls.{AreSaid, IsUnread};
+ghost use Rattle.ring_c.specs.ClientCalls.{AreSaid, IsUnread, Shows};
 
 use crate::code::Code;
 use entry::{Sqe, by_opcode};
@@ -81,4 +81,16 @@ pub(crate) fn batch_of(
         return Err(Code::BufferLength);
     }
     Ok(batch)
+}
+
+/// Copies bytes to the begin of others, where there is room. How many.
+pub(crate) fn copy_bytes(bytes: &[u8], out: &mut [u8]) -> Result<u64, Code>
+    ensures { Shows bytes.now out.old out.new result }
+{
+    let length = bytes.len();
+    if out.len() < length {
+        return Err(Code::Length);
+    }
+    out[..length].copy_from_slice(bytes);
+    Ok(length as u64)
 }

@@ -5,7 +5,7 @@ ghost use Rattle.work.specs.Board.{IsOf};
 ghost use Rattle.board.specs.Calls.{Goes, Finds};
 ghost use Rattle.ring_c.specs.ClientCalls.{Reaps, Shows, Submits};
 
-use crate::batch::batch_of;
+use crate::batch::{batch_of, copy_bytes};
 use crate::code::Code;
 use board::{Board, Phase, Submitter};
 use entry::Cqe;
@@ -32,6 +32,49 @@ impl Model for Client {
     ghost view = { λ c. record { board = arc_value c.board; pass = c.submitter; bytes = c.bytes.items } };
 
     ghost invariant = { λ c. IsOf (arc_value c.board) c.submitter };
+}
+
+/// Submits these entries as a batch, with their buffers one after another.
+fn submit(
+    board: &Board,
+    submitter: &mut Submitter,
+    alloc: Global,
+    entries: &[u8],
+    bytes: &[u8],
+) -> Result<u64, Code>
+    requires { IsOf board.now submitter.old }
+    ensures kept { IsOf board.now submitter.new }
+    ensures submits { Submits entries.now bytes.now board.now submitter.old submitter.new result }
+{
+    let batch = match batch_of(alloc, entries, bytes) {
+        Ok(batch) => batch,
+        Err(code) => return Err(code),
+    };
+    let _ring = submitter.ring();
+    match board.submit_batch(submitter, batch) {
+        Ok(req) => Ok(req.k),
+        Err((error, _batch)) => Err(Code::of_submit(error)),
+    }
+}
+
+/// Takes the request's completion. Its buffer takes the place of another.
+fn reap(
+    board: &Board,
+    submitter: &mut Submitter,
+    bytes: &mut Vec<u8>,
+    req: Req,
+) -> Result<Cqe, Code>
+    requires { IsOf board.now submitter.old }
+    ensures kept { IsOf board.now submitter.new }
+    ensures reaps { Reaps board.now req submitter.old submitter.new bytes.old.items bytes.new.items result }
+{
+    match board.reap(submitter, req) {
+        Ok(completion) => {
+            *bytes = completion.buffer;
+            Ok(completion.cqe)
+        }
+        Err(error) => Err(Code::of_reap(error)),
+    }
 }
 
 impl Client {
@@ -72,49 +115,31 @@ impl Client {
         entries: &[u8],
         bytes: &[u8],
     ) -> Result<u64, Code>
-        ensures submits { Submits entries.now bytes.now self.old self.new result }
-        ensures board { self.new.board ≡ self.old.board }
+        ensures same { self.new ≡ record self.old { pass = self.new.pass } }
+        ensures submits { Submits entries.now bytes.now self.old.board self.old.pass self.new.pass result }
     {
-        let batch = match batch_of(alloc, entries, bytes) {
-            Ok(batch) => batch,
-            Err(code) => return Err(code),
-        };
-        match self.board.submit_batch(&mut self.submitter, batch) {
-            Ok(req) => Ok(req.k),
-            Err((error, _batch)) => Err(Code::of_submit(error)),
-        }
+        submit(&self.board, &mut self.submitter, alloc, entries, bytes)
     }
 
     /// Takes the request's completion, and keeps its buffer.
     pub(crate) fn reap(&mut self, req: Req) -> Result<Cqe, Code>
-        ensures reaps { Reaps req self.old self.new result }
         ensures board { self.new.board ≡ self.old.board }
+        ensures reaps { Reaps self.old.board req self.old.pass self.new.pass self.old.bytes self.new.bytes result }
     {
-        match self.board.reap(&mut self.submitter, req) {
-            Ok(completion) => {
-                self.bytes = completion.buffer;
-                Ok(completion.cqe)
-            }
-            Err(error) => Err(Code::of_reap(error)),
-        }
+        reap(&self.board, &mut self.submitter, &mut self.bytes, req)
     }
 
     /// How long the buffer is that it keeps.
-    pub(crate) fn length(&self) -> usize
+    pub(crate) fn length(&self) -> u64
         ensures { result ≡ length self.now.bytes }
     {
-        self.bytes.len()
+        self.bytes.len() as u64
     }
 
     /// Copies the buffer of the completion that it reaped last.
-    pub(crate) fn copy_bytes(&self, out: &mut [u8]) -> Result<usize, Code>
+    pub(crate) fn copy_bytes(&self, out: &mut [u8]) -> Result<u64, Code>
         ensures shows { Shows self.now.bytes out.old out.new result }
     {
-        let length = self.bytes.len();
-        if out.len() < length {
-            return Err(Code::Length);
-        }
-        out[..length].copy_from_slice(&self.bytes);
-        Ok(length)
+        copy_bytes(self.bytes.as_slice(), out)
     }
 }

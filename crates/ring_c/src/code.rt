@@ -1,6 +1,6 @@
 //! What a call answers, as a number.
 ghost use Rattle.std.specs.Prelude.{◌≡◌};
-ghost use Rattle.ring_c.specs.Codes.{number_of, code_for, reap_code_for};
+ghost use Rattle.ring_c.specs.Codes.{answer_of, code_for, number_of, reap_code_for};
 
 use board::{ReapError, SubmitError};
 
@@ -89,5 +89,15 @@ impl Code {
             ReapError::Gone => Code::Gone,
             ReapError::Foreign => Code::Foreign,
         }
+    }
+}
+
+/// The number of an answer: 0 for success.
+pub(crate) fn answer_number(answer: Result<(), Code>) -> u32
+    ensures { result ≡ answer_of answer }
+{
+    match answer {
+        Ok(()) => 0,
+        Err(code) => code.number(),
     }
 }

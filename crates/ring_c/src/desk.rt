@@ -1,5 +1,5 @@
 //! What the handle of a poller leads to.
-ghost use Rattle.std.specs.Prelude.{◌≡◌, ◌⊎◌, ◌++◌, ◌∷◌, [], ◌≤◌, length, map, IfOk, IfErr};
+ghost use Rattle.std.specs.Prelude.{◌≡◌, ◌⊎◌, ◌++◌, ◌∷◌, [], length, map, Ok, IfOk, IfErr};
 ghost use Rattle.std.specs.Arc.{arc_value};
 ghost use Rattle.work.specs.Board.{IsOf};
 ghost use Rattle.board.specs.Calls.{Goes, Finds};
@@ -15,6 +15,7 @@ use crate::code::Code;
 use crate::hand::Hand;
 use crate::number::Number;
 use crate::out::Out;
+use crate::results::Turn;
 use crate::turn::{go_over, take_up};
 use board::{Board, Phase, Poller, Report, Submitter, Worker};
 use history::Req;
@@ -37,7 +38,7 @@ pub(crate) struct Desk {
 }
 
 impl Model for Desk {
-    ghost use Rattle.std.specs.Prelude.{◌≡◌, ◌≤◌, length};
+    ghost use Rattle.std.specs.Prelude.{◌≡◌, length};
     ghost use Rattle.std.specs.Arc.{arc_value};
     ghost use Rattle.work.specs.Board.{IsOf};
     ghost use Rattle.board.specs.Reports.{AreOf};
@@ -47,7 +48,7 @@ impl Model for Desk {
 
     ghost view = { λ d. record { board = arc_value d.board; pass = d.poller; clients = d.clients.items; workers = d.workers.items; ready = d.out.ready; answered = d.out.answered } };
 
-    ghost invariant = { λ d. IsOf (arc_value d.board) d.poller × AreOf (arc_value d.board) d.clients.items × AreOf (arc_value d.board) d.workers.items × (length d.next.items ≡ length (arc_value d.board).layout.cells) × (length d.next.items ≤ 16) × (d.crew ≡ (arc_value d.board).workers) };
+    ghost invariant = { λ d. IsOf (arc_value d.board) d.poller × AreOf (arc_value d.board) d.clients.items × AreOf (arc_value d.board) d.workers.items × (length d.next.items ≡ length (arc_value d.board).layout.cells) × (d.crew ≡ (arc_value d.board).workers) };
 }
 
 impl Desk {
@@ -61,7 +62,7 @@ impl Desk {
         places: usize,
     ) -> Result<Desk, Code>
         requires poller { IsOf board poller }
-        requires clients { AreOf board clients.items × (length clients.items ≡ length board.layout.cells) × (length clients.items ≤ 16) }
+        requires clients { AreOf board clients.items × (length clients.items ≡ length board.layout.cells) }
         requires workers { AreOf board workers.items × (length workers.items ≡ board.workers) }
         ensures new { IfOk result (λ d. d ≡ record { board = board; pass = poller; clients = clients.items; workers = workers.items; ready = []; answered = [] }) }
         ensures refused { IfErr result (λ c. c ≡ Code.Memory) }
@@ -106,32 +107,25 @@ impl Desk {
         }
     }
 
-    /// One turn, which tells at most so many requests that are to be run, and so many that it answered. Whether it did something.
-    pub(crate) fn poll(&mut self, ready_most: usize, answered_most: usize) -> bool
+    /// One turn, which tells the requests that are to be run and those that it answered, as many as there is room for.
+    pub(crate) fn poll(&mut self, ready: &mut [Number], answered: &mut [Number]) -> Turn
         ensures same { IsStill self.old self.new }
         ensures turn { IsTurn self.old.board self.old.pass self.new.pass self.new.ready self.new.answered }
-        ensures few { (length self.new.ready ≤ ready_most) × (length self.new.answered ≤ answered_most) }
+        ensures ready { Shows (map number_for self.new.ready) ready.old ready.new (Ok result.ready) }
+        ensures answered { Shows (map number_for self.new.answered) answered.old answered.new (Ok result.answered) }
     {
-        self.out.begin(ready_most, answered_most);
+        self.out.begin(ready.len(), answered.len());
         let board = &*self.board;
         go_over(board, &mut self.poller, &mut self.out, &mut self.held);
         let next = self.next.as_mut_slice();
         take_up(board, &mut self.poller, &mut self.out, &mut self.held, next);
-        self.out.has_moved()
-    }
-
-    /// Copies the numbers of the requests that the last turn moved to the workers.
-    pub(crate) fn copy_ready(&self, list: &mut [Number]) -> Result<usize, Code>
-        ensures { Shows (map number_for self.now.ready) list.old list.new result }
-    {
-        self.out.copy_ready(list)
-    }
-
-    /// Copies the numbers of the requests that the last turn answered.
-    pub(crate) fn copy_answered(&self, list: &mut [Number]) -> Result<usize, Code>
-        ensures { Shows (map number_for self.now.answered) list.old list.new result }
-    {
-        self.out.copy_answered(list)
+        let moved = self.out.has_moved();
+        let (ready, answered) = self.out.copy_out(ready, answered);
+        Turn {
+            moved,
+            ready,
+            answered,
+        }
     }
 
     /// Hands out the last of the clients that are here.

@@ -1,13 +1,13 @@
 //! What a handle leads to, and its calls.
-ghost use Rattle.std.specs.Prelude.{◌≡◌, [], length, map};
-ghost use Rattle.ring_c.specs.ClientCalls.{Reaps, Submits};
-ghost use Rattle.ring_c.specs.HandCalls.{Works};
-ghost use Rattle.ring_c.specs.Handles.{EndsIn, LooksIn, OfClient, OfDesk, OfHand, TicksAt, WorksAt};
+ghost use Rattle.std.specs.Prelude.{◌≡◌, IfErr};
+ghost use Rattle.ring_c.specs.Handles.{EndsIn, GivesBytes, GivesTook, LooksIn, OfClient, OfDesk, OfHand, PollsThe, ReapsThe, SubmitsThe, TicksAt, WorksAt};
 
 use crate::client::Client;
 use crate::code::Code;
 use crate::desk::Desk;
 use crate::hand::Hand;
+use crate::number::{Number, copy_numbers};
+use crate::results::Turn;
 use board::{Phase, Report};
 use entry::Cqe;
 use history::Req;
@@ -44,7 +44,7 @@ pub(crate) fn submit_in(
     entries: &[u8],
     bytes: &[u8],
 ) -> Result<u64, Code>
-    ensures { OfClient (Submits entries.now bytes.now) inside.old inside.new result }
+    ensures { OfClient (SubmitsThe entries.now bytes.now) inside.old inside.new result }
 {
     match inside {
         Inside::Client(client) => client.submit(alloc, entries, bytes),
@@ -52,12 +52,52 @@ pub(crate) fn submit_in(
     }
 }
 
-/// Takes a completion, by a client.
-pub(crate) fn reap_in(inside: &mut Inside, req: Req) -> Result<Cqe, Code>
-    ensures { OfClient (Reaps req) inside.old inside.new result }
+/// Takes a completion, by a client, which keeps its buffer. How long that is.
+pub(crate) fn reap_in(inside: &mut Inside, req: Req) -> Result<(Cqe, u64), Code>
+    ensures { OfClient (ReapsThe req) inside.old inside.new result }
+{
+    let Inside::Client(client) = inside else {
+        return Err(Code::WrongKind);
+    };
+    match client.reap(req) {
+        Ok(cqe) => Ok((cqe, client.length())),
+        Err(code) => Err(code),
+    }
+}
+
+/// Copies the buffer that a client keeps.
+pub(crate) fn bytes_in(inside: &Inside, out: &mut [u8]) -> Result<u64, Code>
+    ensures bytes { OfClient (GivesBytes out.old out.new) inside.now inside.now result }
+    ensures still { IfErr result (λ _. out.new ≡ out.old) }
 {
     match inside {
-        Inside::Client(client) => client.reap(req),
+        Inside::Client(client) => client.copy_bytes(out),
+        _ => Err(Code::WrongKind),
+    }
+}
+
+/// Copies which requests the last run of a worker ended.
+pub(crate) fn took_in(inside: &Inside, list: &mut [Number]) -> Result<u64, Code>
+    ensures took { OfHand (GivesTook list.old list.new) inside.now inside.now result }
+    ensures still { IfErr result (λ _. list.new ≡ list.old) }
+{
+    match inside {
+        Inside::Hand(hand) => copy_numbers(hand.took(), list),
+        _ => Err(Code::WrongKind),
+    }
+}
+
+/// One turn of a poller.
+pub(crate) fn poll_in(
+    inside: &mut Inside,
+    ready: &mut [Number],
+    answered: &mut [Number],
+) -> Result<Turn, Code>
+    ensures polled { OfDesk (PollsThe ready.old ready.new answered.old answered.new) inside.old inside.new result }
+    ensures still { IfErr result (λ _. (ready.new ≡ ready.old) × (answered.new ≡ answered.old)) }
+{
+    match inside {
+        Inside::Desk(desk) => Ok(desk.poll(ready, answered)),
         _ => Err(Code::WrongKind),
     }
 }
@@ -72,15 +112,19 @@ pub(crate) fn tick_in(inside: &mut Inside, to: u32) -> Result<(), Code>
     }
 }
 
-/// Begins a request and runs it, by a worker.
-pub(crate) fn run_in(inside: &mut Inside, req: Req) -> Result<Cqe, Code>
+/// Begins a request and runs it, by a worker. How many requests that ended besides.
+pub(crate) fn run_in(inside: &mut Inside, req: Req) -> Result<(Cqe, u64), Code>
     ensures { OfHand (WorksAt req) inside.old inside.new result }
 {
     match replace(inside, Inside::Away) {
         Inside::Hand(hand) => {
             let (hand, answer) = hand.run(req);
+            let count = hand.took().len() as u64;
             *inside = Inside::Hand(hand);
-            answer
+            match answer {
+                Ok(cqe) => Ok((cqe, count)),
+                Err(code) => Err(code),
+            }
         }
         other => {
             *inside = other;

@@ -2,13 +2,18 @@
 #![tactic(auto)]
 
 mod batch;
+pub mod calls;
 mod client;
 mod code;
 mod desk;
+pub mod handle;
 mod hand;
+mod homes;
 mod inside;
-mod number;
+pub mod life;
+pub mod number;
 mod out;
 mod parts;
+pub mod results;
 mod slot;
 mod turn;

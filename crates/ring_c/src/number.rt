@@ -28,7 +28,7 @@ pub(crate) fn put_number(list: &mut [Number], count: usize, req: Req)
 }
 
 /// Copies the numbers of these requests.
-pub(crate) fn copy_numbers(reqs: &[Req], list: &mut [Number]) -> Result<usize, Code>
+pub(crate) fn copy_numbers(reqs: &[Req], list: &mut [Number]) -> Result<u64, Code>
     ensures { Shows (map number_for reqs.now) list.old list.new result }
 {
     if list.len() < reqs.len() {
@@ -37,5 +37,5 @@ pub(crate) fn copy_numbers(reqs: &[Req], list: &mut [Number]) -> Result<usize, C
     for i in 0..reqs.len() {
         put_number(list, i, reqs[i]);
     }
-    Ok(reqs.len())
+    Ok(reqs.len() as u64)
 }

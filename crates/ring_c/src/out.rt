@@ -1,10 +1,9 @@
 //! What a turn of the poller tells: the requests that are to be run, and those that it answered.
-ghost use Rattle.std.specs.Prelude.{◌≡◌, ◌++◌, ◌∷◌, [], ◌≤◌, ◌<◌, ◌+◌, true, length, map, IfOk};
+ghost use Rattle.std.specs.Prelude.{◌≡◌, ◌++◌, ◌∷◌, [], ◌≤◌, ◌<◌, ◌+◌, true, length, map, Ok, IfOk};
 ghost use Rattle.ring_c.specs.Turns.{HasRoom};
 ghost use Rattle.ring_c.specs.ClientCalls.{Shows};
 ghost use Rattle.ring_c.specs.Numbers.{number_for};
 
-use crate::code::Code;
 use crate::number::{Number, copy_numbers};
 use history::Req;
 use std::alloc::{AllocError, Global};
@@ -29,12 +28,14 @@ impl Model for Out {
 
     ghost view = { λ o. record { ready = o.ready.items; answered = o.answered.items; ready_most = o.ready_most; answered_most = o.answered_most } };
 
-    ghost invariant = { λ o. (o.ready_most ≤ vec_capacity o.ready) × (o.answered_most ≤ vec_capacity o.answered) };
+    ghost invariant = { λ o. ((o.ready_most ≤ vec_capacity o.ready) × (o.answered_most ≤ vec_capacity o.answered)) × ((length o.ready.items ≤ o.ready_most) × (length o.answered.items ≤ o.answered_most)) };
 }
 
 impl Out {
     /// A list for each, with room for so many requests.
-    pub(crate) fn new(alloc: Global, places: usize) -> Result<Out, AllocError> {
+    pub(crate) fn new(alloc: Global, places: usize) -> Result<Out, AllocError>
+        ensures { IfOk result (λ o. (o.ready ≡ []) × (o.answered ≡ [])) }
+    {
         let ready = Vec::with_capacity(alloc, places)?;
         let answered = Vec::with_capacity(alloc, places)?;
         Ok(Out {
@@ -95,17 +96,20 @@ impl Out {
         self.moved = true;
     }
 
-    /// Copies the numbers of the requests that are to be run.
-    pub(crate) fn copy_ready(&self, list: &mut [Number]) -> Result<usize, Code>
-        ensures { Shows (map number_for self.now.ready) list.old list.new result }
+    /// Copies the numbers of the requests that are to be run, and of those that were answered. The arrays have room for them. How many
+    /// there are of each.
+    pub(crate) fn copy_out(&self, ready: &mut [Number], answered: &mut [Number]) -> (u64, u64)
+        requires ready { self.now.ready_most ≤ length ready.old }
+        requires answered { self.now.answered_most ≤ length answered.old }
+        ensures ready { Shows (map number_for self.now.ready) ready.old ready.new (Ok result.0) }
+        ensures answered { Shows (map number_for self.now.answered) answered.old answered.new (Ok result.1) }
     {
-        copy_numbers(self.ready.as_slice(), list)
-    }
-
-    /// Copies the numbers of the requests that were answered.
-    pub(crate) fn copy_answered(&self, list: &mut [Number]) -> Result<usize, Code>
-        ensures { Shows (map number_for self.now.answered) list.old list.new result }
-    {
-        copy_numbers(self.answered.as_slice(), list)
+        let (Ok(to_run), Ok(done)) = (
+            copy_numbers(self.ready.as_slice(), ready),
+            copy_numbers(self.answered.as_slice(), answered),
+        ) else {
+            unreachable!()
+        };
+        (to_run, done)
     }
 }

@@ -1,5 +1,5 @@
 //! A turn of the poller: it goes over what was submitted and isn't done.
-ghost use Rattle.std.specs.Prelude.{◌≡◌, ◌≤◌, false, length};
+ghost use Rattle.std.specs.Prelude.{◌≡◌, false};
 ghost use Rattle.history.specs.Chains.{previous};
 ghost use Rattle.work.specs.Board.{IsOf};
 ghost use Rattle.ring_c.specs.Turns.{HasRoom, Turned};
@@ -10,6 +10,9 @@ use history::Req;
 
 /// How many new requests of a ring a turn takes up at most.
 const MOST_NEW: u64 = 1024;
+
+/// How many rings a board has at most.
+const MAX_RINGS: u16 = 16;
 
 /// Lets a TIMEOUT run out, if its deadline has come. Whether it did.
 fn expire(board: &Board, poller: &mut Poller, out: &mut Out, req: Req) -> bool
@@ -23,7 +26,8 @@ fn expire(board: &Board, poller: &mut Poller, out: &mut Out, req: Req) -> bool
             out.put_answered(req);
             true
         }
-        Expiry::Early | Expiry::NotArmed => false,
+        Expiry::Early => false,
+        Expiry::NotArmed => false,
     }
 }
 
@@ -39,7 +43,9 @@ fn count(board: &Board, poller: &mut Poller, out: &mut Out, req: Req) -> bool
             out.put_answered(req);
             true
         }
-        Counting::Fewer | Counting::NotCounted | Counting::NotArmed => false,
+        Counting::Fewer => false,
+        Counting::NotCounted => false,
+        Counting::NotArmed => false,
     }
 }
 
@@ -70,7 +76,9 @@ fn fire(board: &Board, poller: &mut Poller, out: &mut Out, req: Req) -> bool
             out.put_answered(req);
             true
         }
-        Firing::TargetDone | Firing::Early | Firing::NotArmed => false,
+        Firing::TargetDone => false,
+        Firing::Early => false,
+        Firing::NotArmed => false,
     }
 }
 
@@ -78,14 +86,15 @@ fn fire(board: &Board, poller: &mut Poller, out: &mut Out, req: Req) -> bool
 fn settle(board: &Board, poller: &mut Poller, out: &mut Out, req: Req) -> bool
     requires own { IsOf board.now poller.old }
     requires room { HasRoom out.old }
-    ensures turned { Turned board.now poller.old out.old poller.new out.new }
+    ensures { Turned board.now poller.old out.old poller.new out.new }
 {
     match board.settle(poller, req) {
         Settling::Settled => {
             out.put_answered(req);
             true
         }
-        Settling::TargetOpen | Settling::NotArmed => false,
+        Settling::TargetOpen => false,
+        Settling::NotArmed => false,
     }
 }
 
@@ -93,7 +102,7 @@ fn settle(board: &Board, poller: &mut Poller, out: &mut Out, req: Req) -> bool
 fn ring(board: &Board, poller: &mut Poller, out: &mut Out, req: Req) -> bool
     requires own { IsOf board.now poller.old }
     requires room { HasRoom out.old }
-    ensures turned { Turned board.now poller.old out.old poller.new out.new }
+    ensures { Turned board.now poller.old out.old poller.new out.new }
 {
     if expire(board, poller, out, req) {
         return true;
@@ -110,11 +119,13 @@ fn ring(board: &Board, poller: &mut Poller, out: &mut Out, req: Req) -> bool
 /// Arms a timer that may start.
 fn arm(board: &Board, poller: &mut Poller, out: &mut Out, req: Req)
     requires own { IsOf board.now poller.old }
-    ensures turned { Turned board.now poller.old out.old poller.new out.new }
+    ensures { Turned board.now poller.old out.old poller.new out.new }
 {
     match board.arm(poller, req) {
         Arming::Armed(_) => out.note_move(),
-        Arming::NotHeld | Arming::NotTimer | Arming::Shut => {}
+        Arming::NotHeld => {}
+        Arming::NotTimer => {}
+        Arming::Shut => {}
     }
 }
 
@@ -122,7 +133,7 @@ fn arm(board: &Board, poller: &mut Poller, out: &mut Out, req: Req)
 fn release(board: &Board, poller: &mut Poller, out: &mut Out, req: Req) -> bool
     requires own { IsOf board.now poller.old }
     requires room { HasRoom out.old }
-    ensures turned { Turned board.now poller.old out.old poller.new out.new }
+    ensures { Turned board.now poller.old out.old poller.new out.new }
 {
     match board.release(poller, req) {
         Released::Freed => {
@@ -137,7 +148,8 @@ fn release(board: &Board, poller: &mut Poller, out: &mut Out, req: Req) -> bool
             arm(board, poller, out, req);
             false
         }
-        Released::Shut | Released::NotHeld => false,
+        Released::Shut => false,
+        Released::NotHeld => false,
     }
 }
 
@@ -145,7 +157,7 @@ fn release(board: &Board, poller: &mut Poller, out: &mut Out, req: Req) -> bool
 fn tend(board: &Board, poller: &mut Poller, out: &mut Out, req: Req, phase: Phase) -> bool
     requires own { IsOf board.now poller.old }
     requires room { HasRoom out.old }
-    ensures turned { Turned board.now poller.old out.old poller.new out.new }
+    ensures { Turned board.now poller.old out.old poller.new out.new }
 {
     match phase {
         Phase::Held => release(board, poller, out, req),
@@ -155,12 +167,14 @@ fn tend(board: &Board, poller: &mut Poller, out: &mut Out, req: Req, phase: Phas
     }
 }
 
-/// Looks at a request, and looks after it. Whether it is done with.
+/// Looks at a request, and looks after it, where there is room. Whether it is done with.
 fn look_after(board: &Board, poller: &mut Poller, out: &mut Out, req: Req) -> bool
     requires own { IsOf board.now poller.old }
-    requires room { HasRoom out.old }
-    ensures turned { Turned board.now poller.old out.old poller.new out.new }
+    ensures { Turned board.now poller.old out.old poller.new out.new }
 {
+    if !out.is_free() {
+        return false;
+    }
     let _clock = poller.clock();
     let phase = board.look(poller, req);
     tend(board, poller, out, req, phase)
@@ -169,13 +183,12 @@ fn look_after(board: &Board, poller: &mut Poller, out: &mut Out, req: Req) -> bo
 /// Goes over the requests that were taken up and aren't done with, in order, as long as there is room.
 pub(crate) fn go_over(board: &Board, poller: &mut Poller, out: &mut Out, held: &mut Vec<Req>)
     requires own { IsOf board.now poller.old }
-    ensures turned { Turned board.now poller.old out.old poller.new out.new }
+    ensures { Turned board.now poller.old out.old poller.new out.new }
 {
     let mut kept = 0usize;
     for i in 0..held.len() {
         let req = held[i];
-        let is_done = out.is_free() && look_after(board, poller, out, req);
-        if !is_done {
+        if !look_after(board, poller, out, req) {
             held[kept] = req;
             kept += 1;
         }
@@ -193,7 +206,7 @@ fn take_ring(
     next: u64,
 ) -> u64
     requires own { IsOf board.now poller.old }
-    ensures turned { Turned board.now poller.old out.old poller.new out.new }
+    ensures { Turned board.now poller.old out.old poller.new out.new }
 {
     for k in next..next.saturating_add(MOST_NEW) {
         if !out.is_free() {
@@ -222,10 +235,12 @@ pub(crate) fn take_up(
     next: &mut [u64],
 )
     requires own { IsOf board.now poller.old }
-    requires few { length next.old ≤ 16 }
-    ensures turned { Turned board.now poller.old out.old poller.new out.new }
+    ensures { Turned board.now poller.old out.old poller.new out.new }
 {
-    for ring in 0..next.len() as u16 {
+    for ring in 0..MAX_RINGS {
+        if next.len() <= usize::from(ring) {
+            break;
+        }
         let at = next[usize::from(ring)];
         next[usize::from(ring)] = take_ring(board, poller, out, held, ring, at);
     }
