@@ -1,5 +1,5 @@
 -- How a board is opened, how its passes leave its poller's desk and come back.
-use Rattle.std.specs.Prelude.{◌≡◌, ℕ, ◌++◌, [], ◌∷◌, List, map, false, Option, Some, None, Result, Ok, Err}
+use Rattle.std.specs.Prelude.{◌≡◌, ◌⊎◌, ℕ, ◌++◌, [], ◌∷◌, List, map, false, Option, Some, None, Result, Ok, Err}
 use Rattle.work.specs.Passes.{Pass}
 use Rattle.board.specs.declared.shape.Shape.{Shape}
 use Rattle.board.specs.New.{IsNew}
@@ -27,8 +27,7 @@ IsUnmade rings pipes workers code = ⊥
 -- the handle leads to the desk of a new board, or is the same
 abbrev pub Opens : List ℕ → List ℕ → ℕ → Option Inside → Option Inside → Result (Unit {0}) Code → Type 0
 Opens rings pipes workers old new (Ok u) = (x : DeskFacts) × (new ≡ Some (Desk x)) × IsMade rings pipes workers x
-Opens rings pipes workers old new (Err InUse) = new ≡ old
-Opens rings pipes workers old new (Err code) = (new ≡ old) × IsUnmade rings pipes workers code
+Opens rings pipes workers old new (Err code) = (new ≡ old) × ((code ≡ InUse) ⊎ IsUnmade rings pipes workers code)
 
 -- the last client at the desk leaves it
 abbrev pub GivesClient : Inside → Inside → Inside → Type 0

@@ -1,6 +1,7 @@
 //! The passes of a board leave its poller's desk, and come back.
 ghost use Rattle.std.specs.Prelude.{◌≡◌, [], IfOk, IfErr};
-ghost use Rattle.ring_c.specs.declared.inside.Inside.TheVariants.{Client as ClientIn, Hand as HandIn, Desk as DeskIn};
+ghost use Rattle.ring_c.specs.declared.inside.Inside.TheVariants.{Desk as DeskIn};
+ghost use Rattle.ring_c.specs.Sides.{DeskFacts};
 ghost use Rattle.ring_c.specs.declared.code.Code.TheVariants.{Memory, BadShape};
 ghost use Rattle.ring_c.specs.Lives.{AreOfTwo, GivesClient, GivesHand, IsMade, IsShapeOf, IsUnmade, TakesIn};
 
@@ -16,10 +17,7 @@ fn shape_of(alloc: Global, rings: &[u32], pipes: &[u32], workers: u32) -> Result
     ensures shape { IfOk result (λ s. IsShapeOf rings.now pipes.now workers s) }
     ensures refused { IfErr result (λ c. c ≡ Memory) }
 {
-    let (Ok(mut shapes), Ok(mut capacities)) = (
-        Vec::with_capacity(alloc, rings.len()),
-        Vec::with_capacity(alloc, pipes.len()),
-    ) else {
+    let Ok(mut shapes) = Vec::with_capacity(alloc, rings.len()) else {
         return Err(Code::Memory);
     };
     for cells in rings {
@@ -28,8 +26,9 @@ fn shape_of(alloc: Global, rings: &[u32], pipes: &[u32], workers: u32) -> Result
             posts: None,
         });
     }
-    for capacity in pipes {
-        capacities.push_reserved(*capacity);
+    let mut capacities = Vec::new(alloc);
+    if capacities.extend_from_slice(pipes).is_err() {
+        return Err(Code::Memory);
     }
     Ok(Shape {
         rings: shapes,
@@ -48,7 +47,7 @@ fn places_of(rings: &[u32]) -> usize {
 }
 
 /// The desk of a new board.
-pub(crate) fn desk_of(
+fn desk_of(
     alloc: Global,
     rings: &[u32],
     pipes: &[u32],
@@ -71,13 +70,47 @@ pub(crate) fn desk_of(
     }
 }
 
+/// A box with nothing in it yet.
+fn empty_box(alloc: Global) -> Result<Box<Inside>, Code>
+    ensures { IfErr result (λ c. c ≡ Memory) }
+{
+    match Box::new(alloc, Inside::Away) {
+        Ok(made) => Ok(made),
+        Err(_) => Err(Code::Memory),
+    }
+}
+
+/// The poller of a new board, in a box.
+pub(crate) fn poller_of(
+    alloc: Global,
+    rings: &[u32],
+    pipes: &[u32],
+    workers: u32,
+) -> Result<Box<Inside>, Code>
+    ensures made { IfOk result (λ m. (x : DeskFacts) × (m.value ≡ DeskIn x) × IsMade rings.now pipes.now workers x) }
+    ensures refused { IfErr result (λ c. IsUnmade rings.now pipes.now workers c) }
+{
+    let mut made = match empty_box(alloc) {
+        Ok(made) => made,
+        Err(code) => return Err(code),
+    };
+    match desk_of(alloc, rings, pipes, workers) {
+        Ok(desk) => {
+            *made = Inside::Desk(desk);
+            Ok(made)
+        }
+        Err(code) => Err(code),
+    }
+}
+
 /// A client of the poller's board, in a box.
 pub(crate) fn client_of(inside: &mut Inside, alloc: Global) -> Result<Box<Inside>, Code>
     ensures given { IfOk result (λ m. GivesClient inside.old inside.new m.value) }
     ensures refused { IfErr result (λ _. inside.new ≡ inside.old) }
 {
-    let Ok(mut made) = Box::new(alloc, Inside::Away) else {
-        return Err(Code::Memory);
+    let mut made = match empty_box(alloc) {
+        Ok(made) => made,
+        Err(code) => return Err(code),
     };
     let Inside::Desk(desk) = inside else {
         return Err(Code::WrongKind);
@@ -96,8 +129,9 @@ pub(crate) fn hand_of(inside: &mut Inside, alloc: Global) -> Result<Box<Inside>,
     ensures given { IfOk result (λ m. GivesHand inside.old inside.new m.value) }
     ensures refused { IfErr result (λ _. inside.new ≡ inside.old) }
 {
-    let Ok(mut made) = Box::new(alloc, Inside::Away) else {
-        return Err(Code::Memory);
+    let mut made = match empty_box(alloc) {
+        Ok(made) => made,
+        Err(code) => return Err(code),
     };
     let Inside::Desk(desk) = inside else {
         return Err(Code::WrongKind);

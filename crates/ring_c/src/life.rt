@@ -7,8 +7,8 @@ ghost use Rattle.ring_c.specs.Lives.{AreOfOne, GivesOut, GivesClient, GivesHand,
 
 use crate::code::{Code, answer_number};
 use crate::handle::Handle;
-use crate::homes::{client_of, desk_of, hand_of, take_back};
-use crate::inside::{Inside, finish_in};
+use crate::homes::{client_of, hand_of, poller_of, take_back};
+use crate::inside::finish_in;
 use std::alloc::Global;
 
 /// Opens a board of rings with so many cells, pipes with so many bytes, and so many workers. The handle leads to its poller, at
@@ -28,16 +28,13 @@ pub extern "C" fn ring_c_new(
     if poller.is_open() {
         return Code::InUse.number();
     }
-    let Ok(mut made) = Box::new(alloc, Inside::Away) else {
-        return Code::Memory.number();
-    };
-    let desk = match desk_of(alloc, rings, pipes, workers) {
-        Ok(desk) => desk,
-        Err(code) => return code.number(),
-    };
-    *made = Inside::Desk(desk);
-    poller.open(made, stamp);
-    0
+    match poller_of(alloc, rings, pipes, workers) {
+        Ok(made) => {
+            poller.open(made, stamp);
+            0
+        }
+        Err(code) => code.number(),
+    }
 }
 
 /// Hands out a client of the poller's board.
