@@ -9,3 +9,4 @@ pub mod DeskCalls
 pub mod Handles
 pub mod Results
 pub mod Lives
+pub mod Reports

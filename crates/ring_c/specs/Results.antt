@@ -5,6 +5,7 @@ use Rattle.board.specs.declared.phase.Phase.{Phase}
 use Rattle.board.specs.declared.phase.Phase.TheVariants.{Unborn, Held, Ready, Running, Armed, Done, Gone}
 use Rattle.ring_c.specs.declared.code.Code.{Code}
 use Rattle.ring_c.specs.declared.results.Counted.{Counted}
+use Rattle.ring_c.specs.declared.results.Line.{Line}
 use Rattle.ring_c.specs.declared.results.Looked.{Looked}
 use Rattle.ring_c.specs.declared.results.Reaped.{Reaped}
 use Rattle.ring_c.specs.declared.results.Polled.{Polled}
@@ -40,3 +41,7 @@ reaped_as (Err c) = record { code = number_of c; res = pos 0; user_data = 0; len
 abbrev pub polled_as : Result Turn Code → Polled
 polled_as (Ok t) = record { code = 0; moved = cond t.moved 1 0; ready = t.ready; answered = t.answered }
 polled_as (Err c) = record { code = number_of c; moved = 0; ready = 0; answered = 0 }
+
+abbrev pub line_as : Result Line Code → Line
+line_as (Ok x) = x
+line_as (Err c) = record { code = number_of c; res = pos 0; user_data = 0; k = 0; length = 0; ring = 0; is_cut = 0 }

@@ -14,6 +14,7 @@ pub mod life;
 pub mod number;
 mod out;
 mod parts;
+mod reports;
 pub mod results;
 mod slot;
 mod turn;

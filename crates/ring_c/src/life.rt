@@ -1,5 +1,8 @@
 //! How C opens a board, gets its passes, gives them back and ends it.
-ghost use Rattle.std.specs.Prelude.{◌≡◌, Result, None};
+ghost use Rattle.std.specs.Prelude.{◌≡◌, ◌≢◌, ℕ, Result, None};
+ghost use Rattle.ring_c.specs.declared.results.Line.{Line as Told};
+ghost use Rattle.ring_c.specs.Reports.{CountsLines, GivesLineBytes, TellsLine};
+ghost use Rattle.ring_c.specs.Results.{counted_as, line_as};
 ghost use Rattle.ring_c.specs.declared.code.Code.{Code as Why};
 ghost use Rattle.ring_c.specs.Codes.{answer_of};
 ghost use Rattle.ring_c.specs.Handles.{EndsIn, Through};
@@ -9,6 +12,8 @@ use crate::code::{Code, answer_number};
 use crate::handle::Handle;
 use crate::homes::{client_of, hand_of, poller_of, take_back};
 use crate::inside::finish_in;
+use crate::reports::{count_in, line_bytes_in, line_in};
+use crate::results::{Counted, Line};
 use std::alloc::Global;
 
 /// Opens a board of rings with so many cells, pipes with so many bytes, and so many workers. The handle leads to its poller, at
@@ -120,6 +125,54 @@ pub extern "C" fn ring_c_finish(alloc: Global, handle: &mut Handle) -> u32
     let answer = finish_in(&mut inside, alloc);
     handle.put(inside);
     answer_number(answer)
+}
+
+/// How many lines the report has that a handle leads to.
+#[unsafe(no_mangle)]
+pub extern "C" fn ring_c_count(alloc: Global, handle: &mut Handle) -> Counted
+    ensures counted { (a : Result ℕ Why) × (result ≡ counted_as a) × Through CountsLines handle.old.slot.inside handle.new.slot.inside a }
+    ensures stamp { handle.new.stamp ≡ handle.old.stamp }
+{
+    let Some(inside) = handle.take(alloc) else {
+        return Counted::of(Err(Code::Closed));
+    };
+    let answer = count_in(&inside);
+    handle.put(inside);
+    Counted::of(answer)
+}
+
+/// A line of a report: a request that was not reaped.
+#[unsafe(no_mangle)]
+pub extern "C" fn ring_c_line(alloc: Global, handle: &mut Handle, index: u64) -> Line
+    ensures line { (a : Result Told Why) × (result ≡ line_as a) × Through (TellsLine index) handle.old.slot.inside handle.new.slot.inside a }
+    ensures stamp { handle.new.stamp ≡ handle.old.stamp }
+{
+    let Some(inside) = handle.take(alloc) else {
+        return Line::of(Err(Code::Closed));
+    };
+    let answer = line_in(&inside, index);
+    handle.put(inside);
+    Line::of(answer)
+}
+
+/// Copies the buffer of a line of a report.
+#[unsafe(no_mangle)]
+pub extern "C" fn ring_c_line_bytes(
+    alloc: Global,
+    handle: &mut Handle,
+    index: u64,
+    out: &mut [u8],
+) -> Counted
+    ensures bytes { (a : Result ℕ Why) × (result ≡ counted_as a) × Through (GivesLineBytes index out.old out.new) handle.old.slot.inside handle.new.slot.inside a }
+    ensures still { result.code ≢ 0 → out.new ≡ out.old }
+    ensures stamp { handle.new.stamp ≡ handle.old.stamp }
+{
+    let Some(inside) = handle.take(alloc) else {
+        return Counted::of(Err(Code::Closed));
+    };
+    let answer = line_bytes_in(&inside, index, out);
+    handle.put(inside);
+    Counted::of(answer)
 }
 
 /// Closes a handle, and gives up what it leads to: a report that was read, or passes of a board that is not to be ended.

@@ -1,6 +1,6 @@
 //! What the calls give to C.
 ghost use Rattle.std.specs.Prelude.{◌≡◌};
-ghost use Rattle.ring_c.specs.Results.{counted_as, looked_as, phase_of, polled_as, reaped_as, value_of};
+ghost use Rattle.ring_c.specs.Results.{counted_as, line_as, looked_as, phase_of, polled_as, reaped_as, value_of};
 
 use crate::code::Code;
 use board::Phase;
@@ -147,6 +147,26 @@ fn phase_value(phase: Phase) -> i64
         Phase::Ready => 0,
         Phase::Running => 0,
         Phase::Gone => 0,
+    }
+}
+
+impl Line {
+    /// A line of a report.
+    pub(crate) fn of(answer: Result<Line, Code>) -> Line
+        ensures { result ≡ line_as answer }
+    {
+        match answer {
+            Ok(line) => line,
+            Err(code) => Line {
+                code: code.number(),
+                res: 0,
+                user_data: 0,
+                k: 0,
+                length: 0,
+                ring: 0,
+                is_cut: 0,
+            },
+        }
     }
 }
 
