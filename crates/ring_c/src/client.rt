@@ -16,7 +16,7 @@ use std::sync::Arc;
 
 /// The submitter of one ring, with its board, and the buffer of the completion that it reaped last.
 #[derive(Drop)]
-pub(crate) struct Client {
+pub struct Client {
     board: Arc<Board>,
     submitter: Submitter,
     bytes: Vec<u8>,

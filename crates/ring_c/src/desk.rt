@@ -26,7 +26,7 @@ use std::sync::Arc;
 /// The poller with its board, and the passes that no handle leads to: those of clients and of workers. Of each ring it keeps which
 /// request it takes up next, and it keeps which requests were taken up and aren't done with.
 #[derive(Drop)]
-pub(crate) struct Desk {
+pub struct Desk {
     board: Arc<Board>,
     poller: Poller,
     clients: Vec<Submitter>,

@@ -14,7 +14,7 @@ use std::sync::Arc;
 
 /// A worker, with its board.
 #[derive(Drop)]
-pub(crate) struct Hand {
+pub struct Hand {
     board: Arc<Board>,
     worker: Worker,
 }

@@ -16,7 +16,7 @@ use std::mem::replace;
 
 /// What a handle leads to.
 #[derive(Drop)]
-pub(crate) enum Inside {
+pub enum Inside {
     Client(Client),
     Hand(Hand),
     Desk(Desk),

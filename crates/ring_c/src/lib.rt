@@ -3,18 +3,18 @@
 
 mod batch;
 pub mod calls;
-mod client;
+pub mod client;
 mod code;
-mod desk;
+pub mod desk;
 pub mod handle;
-mod hand;
+pub mod hand;
 mod homes;
-mod inside;
+pub mod inside;
 pub mod life;
 pub mod number;
 mod out;
 mod parts;
 mod reports;
 pub mod results;
-mod slot;
+pub mod slot;
 mod turn;
