@@ -1,13 +1,12 @@
 -- A batch that is read, entry by entry.
-use Rattle.std.proofs.Common.{◌≡◌, ◌⊎◌, ℕ, zero, suc, ◌+◌, ◌*◌, List, [], ◌∷◌, ◌++◌, length, take, drop, sym, refl, ap, ◌∙◌, subst, inl, inr, ⊎_elim, Some, None}
+use Rattle.std.proofs.Common.{◌≡◌, ◌⊎◌, ℕ, zero, suc, ◌*◌, List, [], ◌∷◌, ◌++◌, length, take, drop, sym, refl, ap, ◌∙◌, subst, inl, inr, ⊎_elim, Some, None}
 use Rattle.std.specs.Prelude.{slice_get}
 use Rattle.std.specs.Global.{Vec}
-use Rattle.std.specs.List.{flat_map}
 use Rattle.std.proofs.lemmas.List.{append-nil}
 use Rattle.std.proofs.lemmas.List.Concat.{flat_map-append}
 use Rattle.entry.specs.Entry.{Entry}
 use Rattle.entry.specs.Text.{Says}
-use Rattle.history.specs.Legal.{Fits, FitsOp}
+use Rattle.history.specs.Legal.{Fits}
 use Rattle.board.specs.Batches.{Entries, AreFit}
 use Rattle.ring_c.specs.ClientCalls.{AreRead, buffers_of}
 

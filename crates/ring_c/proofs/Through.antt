@@ -1,5 +1,5 @@
 -- Calls through a handle.
-use Rattle.std.proofs.Common.{◌≡◌, sym, subst, refl, Option, Some, None, Result, Ok, Err}
+use Rattle.std.proofs.Common.{◌≡◌, sym, subst, refl, Option, Some, None, Result, Err}
 use Rattle.ring_c.specs.declared.code.Code.{Code}
 use Rattle.ring_c.specs.declared.code.Code.TheVariants.{Closed}
 use Rattle.ring_c.specs.declared.inside.Inside.{Inside}

@@ -11,7 +11,7 @@ use Rattle.work.specs.Board.{Facts, IsOf}
 use Rattle.work.specs.Passes.{Pass, own_of}
 use Rattle.board.specs.Calls.{Goes}
 use Rattle.board.specs.declared.poller.Released.{Released}
-use Rattle.board.specs.declared.poller.Released.TheVariants.{Severed, Freed, Shut, Timer, NotHeld}
+use Rattle.board.specs.declared.poller.Released.TheVariants.{Freed}
 use Rattle.board.proofs.GoesLaws.{own_both}
 use Rattle.ring_c.specs.Turns.{AreNew, GoesOn, IsTurn, Told, Turned, answered_by, answered_one, is_among}
 

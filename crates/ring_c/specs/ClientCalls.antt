@@ -1,5 +1,5 @@
 -- What a client's calls do.
-use Rattle.std.specs.Prelude.{◌≡◌, ◌≢◌, ◌⊎◌, ℕ, ◌+◌, ◌*◌, ◌<◌, ◌≤◌, List, [], ◌∷◌, length, take, drop, slice_get, Some, Result, Ok, Err}
+use Rattle.std.specs.Prelude.{◌≡◌, ◌≢◌, ◌⊎◌, ℕ, ◌*◌, ◌<◌, List, [], ◌∷◌, length, take, drop, slice_get, Some, Result, Ok, Err}
 use Rattle.std.specs.List.{flat_map}
 use Rattle.entry.specs.declared.cqe.Cqe.{Cqe}
 use Rattle.entry.specs.Entry.{Entry}

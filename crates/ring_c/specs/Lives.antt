@@ -1,6 +1,5 @@
 -- How a board is opened, how its passes leave its poller's desk and come back.
-use Rattle.std.specs.Prelude.{◌≡◌, ◌⊎◌, ℕ, ◌++◌, [], ◌∷◌, List, map, false, Option, Some, None, Result, Ok, Err}
-use Rattle.work.specs.Passes.{Pass}
+use Rattle.std.specs.Prelude.{◌≡◌, ◌⊎◌, ℕ, ◌++◌, [], ◌∷◌, List, false, Option, Some, None, Result, Ok, Err}
 use Rattle.board.specs.declared.shape.Shape.{Shape}
 use Rattle.board.specs.New.{IsNew}
 use Rattle.board.specs.ShapeLimits.{counts, is_shape}

@@ -1,7 +1,6 @@
 -- What a slot owns.
-use Rattle.std.specs.Prelude.{◌≡◌, ℕ, Option, Some, None}
+use Rattle.std.specs.Prelude.{ℕ, Option, Some, None}
 use base.Fml.{Fml, ftrue}
-use base.Stored.{Coded}
 use denote.RawPtr.{Ptr}
 use Rattle.std.specs.Box.Ownership.{box_owns}
 use Rattle.std.specs.Global.{Global}

@@ -47,12 +47,7 @@ fn places_of(rings: &[u32]) -> usize {
 }
 
 /// The desk of a new board.
-fn desk_of(
-    alloc: Global,
-    rings: &[u32],
-    pipes: &[u32],
-    workers: u32,
-) -> Result<Desk, Code>
+fn desk_of(alloc: Global, rings: &[u32], pipes: &[u32], workers: u32) -> Result<Desk, Code>
     ensures made { IfOk result (λ d. IsMade rings.now pipes.now workers d) }
     ensures refused { IfErr result (λ c. IsUnmade rings.now pipes.now workers c) }
 {

@@ -1,4 +1,4 @@
-use Rattle.std.proofs.Common.{◌≡◌, length, map, take, drop}
+use Rattle.std.proofs.Common.{◌≡◌, map, take, drop}
 use Rattle.ring_c.specs.Numbers.{number_for}
 use Rattle.ring_c.proofs.number.copy_numbers.Given as goal
 

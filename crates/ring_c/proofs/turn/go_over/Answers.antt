@@ -13,6 +13,7 @@ loop-i-preserved c = record {
   turned = turned_then _ _ _ _ _ _ _ c.loop-i.invariant.turned c.look_after.ensures;
   kept = let i = c.loop-i.invariant.kept in elim c.if-not-look_after.branch [ then-not-look_after w ↦ let e = w.kept-is in omega (arith, e, i) | else-not-look_after w ↦ let e = w.kept-is in omega (arith, e, i) ];
   many = elim c.if-not-look_after.branch [
-    then-not-look_after w ↦ ap (λ (v : Vec Req Global). length v.items) w.held-is ∙ (length-set c.loop-i.held.items c.loop-i.kept c.index-req.result.now ∙ c.loop-i.invariant.many)
-    | else-not-look_after w ↦ ap (λ (v : Vec Req Global). length v.items) w.held-is ∙ c.loop-i.invariant.many ];
+    | then-not-look_after w ↦ ap (λ (v : Vec Req Global). length v.items) w.held-is ∙ (length-set c.loop-i.held.items c.loop-i.kept c.index-req.result.now ∙ c.loop-i.invariant.many)
+    | else-not-look_after w ↦ ap (λ (v : Vec Req Global). length v.items) w.held-is ∙ c.loop-i.invariant.many
+  ];
 }

@@ -1,4 +1,3 @@
-use Rattle.std.proofs.Common.{refl}
 use Rattle.ring_c.proofs.TurnLaws.{turned_then}
 use Rattle.ring_c.proofs.turn.ring.Goals as goal
 

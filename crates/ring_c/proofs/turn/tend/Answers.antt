@@ -1,4 +1,3 @@
-use Rattle.std.proofs.Common.{refl}
 use Rattle.ring_c.proofs.TurnLaws.{turned_still}
 use Rattle.ring_c.proofs.turn.tend.Goals as goal
 

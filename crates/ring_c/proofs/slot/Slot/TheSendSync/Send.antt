@@ -2,7 +2,6 @@
 use mir.Raw.{raw}
 use base.Fraction.{full_share}
 use base.Shift.{Keyless}
-use denote.RattleType.{RattleType}
 use denote.Exit.{Exit, unchanged, leaves, hidden, under}
 use denote.Memory.{lone}
 use denote.RawPtr.{Ptr, block_ptr, null_ptr, lies_at}
