@@ -1,5 +1,5 @@
 //! A batch of entries, from bytes.
-ghost use Rattle.std.specs.Prelude.{◌≡◌, ℕ, ◌+◌, ◌*◌, ◌≤◌, take, drop, length, IfOk, IfErr};
+ghost use Rattle.std.specs.Prelude.{◌≡◌, ◌+◌, ◌*◌, ◌≤◌, [], ◌∷◌, take, drop, length, IfOk, IfErr};
 ghost use Rattle.history.specs.Legal.{FitsOp};
 ghost use Rattle.entry.specs.Text.{Says};
 ghost use Rattle.ring_c.specs.ClientCalls.{AreSaid, IsUnread, Shows};
@@ -48,6 +48,25 @@ fn copy_of(alloc: Global, bytes: &[u8], from: usize, count: usize) -> Result<Vec
         Ok(()) => Ok(copy),
         Err(_) => Err(Code::Memory),
     }
+}
+
+/// The entry that 64 bytes say, with its buffer, which is all of the other bytes.
+pub(crate) fn entry_of(
+    alloc: Global,
+    entries: &[u8],
+    bytes: &[u8],
+) -> Result<(Sqe, Vec<u8>), Code>
+    requires { length entries.now ≡ 64 }
+    ensures said { IfOk result (λ t. AreSaid entries.now bytes.now (t ∷ [])) }
+    ensures refused { IfErr result (λ c. IsUnread entries.now c) }
+{
+    let sqe = entry_at(entries, 0);
+    let length = length_of(&sqe);
+    if bytes.len() != length {
+        return Err(Code::BufferLength);
+    }
+    let buffer = copy_of(alloc, bytes, 0, length)?;
+    Ok((sqe, buffer))
 }
 
 /// The batch that the bytes of these entries say, with their buffers out of the other bytes, one after another.

@@ -5,7 +5,7 @@ ghost use Rattle.work.specs.Board.{IsOf};
 ghost use Rattle.board.specs.Calls.{Goes, Finds};
 ghost use Rattle.ring_c.specs.ClientCalls.{Reaps, Shows, Submits};
 
-use crate::batch::{batch_of, copy_bytes};
+use crate::batch::{batch_of, copy_bytes, entry_of};
 use crate::code::Code;
 use board::{Board, Phase, Submitter};
 use entry::Cqe;
@@ -35,7 +35,7 @@ impl Model for Client {
 }
 
 /// Submits these entries as a batch, with their buffers one after another.
-fn submit(
+fn submit_batch(
     board: &Board,
     submitter: &mut Submitter,
     alloc: Global,
@@ -54,6 +54,49 @@ fn submit(
     match board.submit_batch(submitter, batch) {
         Ok(req) => Ok(req.k),
         Err((error, _batch)) => Err(Code::of_submit(error)),
+    }
+}
+
+/// Submits one entry, with its buffer.
+fn submit_one(
+    board: &Board,
+    submitter: &mut Submitter,
+    alloc: Global,
+    entries: &[u8],
+    bytes: &[u8],
+) -> Result<u64, Code>
+    requires own { IsOf board.now submitter.old }
+    requires one { length entries.now ≡ 64 }
+    ensures kept { IsOf board.now submitter.new }
+    ensures submits { Submits entries.now bytes.now board.now submitter.old submitter.new result }
+{
+    let (sqe, buffer) = match entry_of(alloc, entries, bytes) {
+        Ok(entry) => entry,
+        Err(code) => return Err(code),
+    };
+    let _ring = submitter.ring();
+    match board.submit(submitter, sqe, buffer) {
+        Ok(req) => Ok(req.k),
+        Err((error, _buffer)) => Err(Code::of_submit(error)),
+    }
+}
+
+/// Submits these entries, with their buffers one after another.
+fn submit(
+    board: &Board,
+    submitter: &mut Submitter,
+    alloc: Global,
+    entries: &[u8],
+    bytes: &[u8],
+) -> Result<u64, Code>
+    requires { IsOf board.now submitter.old }
+    ensures kept { IsOf board.now submitter.new }
+    ensures submits { Submits entries.now bytes.now board.now submitter.old submitter.new result }
+{
+    if entries.len() == 64 {
+        submit_one(board, submitter, alloc, entries, bytes)
+    } else {
+        submit_batch(board, submitter, alloc, entries, bytes)
     }
 }
 

@@ -1,6 +1,6 @@
 use Rattle.std.proofs.Common.{ap, refl, inl, inr}
 use Rattle.history.specs.declared.req.Req.{Req}
-use Rattle.ring_c.proofs.client.submit.Goals as goal
+use Rattle.ring_c.proofs.client.submit_batch.Goals as goal
 
 pub returns-in-Ok-submit_batch-clause-submits : goal.returns-in-Ok-submit_batch-clause-submits
 returns-in-Ok-submit_batch-clause-submits c = (c.in-Ok.batch.items, c.in-Ok.ensures.said, λ ring role. let e = c.in-Ok-submit_batch.ensures.submitted ring role in (ap (λ (r : Req). r.k) e.0, e.1))
