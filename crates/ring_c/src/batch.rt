@@ -44,6 +44,9 @@ fn copy_of(alloc: Global, bytes: &[u8], from: usize, count: usize) -> Result<Vec
     ensures refused { IfErr result (λ c. c ≡ Code.Memory) }
 {
     let mut copy = Vec::new(alloc);
+    if count == 0 {
+        return Ok(copy);
+    }
     match copy.extend_from_slice(&bytes[from..from + count]) {
         Ok(()) => Ok(copy),
         Err(_) => Err(Code::Memory),
