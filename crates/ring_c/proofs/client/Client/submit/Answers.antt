@@ -1,0 +1,9 @@
+use Rattle.std.proofs.Common.{subst}
+use Rattle.work.specs.Board.{Facts}
+use Rattle.ring_c.specs.ClientCalls.{Submits}
+use Rattle.ring_c.specs.Sides.{ClientFacts}
+use Rattle.ring_c.proofs.client.Client.submit.Goals as goal
+
+pub returns-clause-submits : goal.returns-clause-submits
+returns-clause-submits c = subst (λ (x : ClientFacts). Submits c.args.entries.now c.args.bytes.now x.board x.pass c.submit.new.submitter c.submit.result) c.self.view_is
+    (subst (λ (b : Facts). Submits c.args.entries.now c.args.bytes.now b c.self.inside.submitter c.submit.new.submitter c.submit.result) c.deref.ensures c.submit.ensures.submits)

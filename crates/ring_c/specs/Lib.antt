@@ -1,0 +1,12 @@
+pub mod Codes
+pub mod Slots
+pub mod Sides
+pub mod Numbers
+pub mod Turns
+pub mod ClientCalls
+pub mod HandCalls
+pub mod DeskCalls
+pub mod Handles
+pub mod Results
+pub mod Lives
+pub mod Reports

@@ -1,0 +1,184 @@
+//! How C opens a board, gets its passes, gives them back and ends it.
+ghost use Rattle.std.specs.Prelude.{◌≡◌, ◌≢◌, ℕ, Result, None};
+ghost use Rattle.ring_c.specs.declared.results.Line.{Line as Told};
+ghost use Rattle.ring_c.specs.Reports.{CountsLines, GivesLineBytes, TellsLine};
+ghost use Rattle.ring_c.specs.Results.{counted_as, line_as};
+ghost use Rattle.ring_c.specs.declared.code.Code.{Code as Why};
+ghost use Rattle.ring_c.specs.Codes.{answer_of};
+ghost use Rattle.ring_c.specs.Handles.{EndsIn, Through};
+ghost use Rattle.ring_c.specs.Lives.{AreOfOne, GivesOut, GivesClient, GivesHand, Opens, TakesBack};
+
+use crate::code::{Code, answer_number};
+use crate::handle::Handle;
+use crate::homes::{client_of, hand_of, poller_of, take_back};
+use crate::inside::finish_in;
+use crate::reports::{count_in, line_bytes_in, line_in};
+use crate::results::{Counted, Line};
+use std::alloc::Global;
+
+/// Opens a board of rings with so many cells, pipes with so many bytes, and so many workers. The handle leads to its poller, at
+/// which all other passes are.
+#[unsafe(no_mangle)]
+pub extern "C" fn ring_c_new(
+    alloc: Global,
+    stamp: u64,
+    rings: &[u32],
+    pipes: &[u32],
+    workers: u32,
+    poller: &mut Handle,
+) -> u32
+    ensures opened { (a : Result (Unit {0}) Why) × (result ≡ answer_of a) × Opens rings.now pipes.now workers poller.old.slot.inside poller.new.slot.inside a }
+    ensures stamp { result ≡ 0 → poller.new.stamp ≡ stamp }
+{
+    if poller.is_open() {
+        return Code::InUse.number();
+    }
+    match poller_of(alloc, rings, pipes, workers) {
+        Ok(made) => {
+            poller.open(made, stamp);
+            0
+        }
+        Err(code) => code.number(),
+    }
+}
+
+/// Hands out a client of the poller's board.
+#[unsafe(no_mangle)]
+pub extern "C" fn ring_c_client(alloc: Global, poller: &mut Handle, client: &mut Handle) -> u32
+    ensures given { (a : Result (Unit {0}) Why) × (result ≡ answer_of a) × GivesOut GivesClient poller.old.slot.inside poller.new.slot.inside client.old.slot.inside client.new.slot.inside a }
+    ensures stamp { (poller.new.stamp ≡ poller.old.stamp) × (result ≡ 0 → client.new.stamp ≡ poller.old.stamp) }
+{
+    if client.is_open() {
+        return Code::InUse.number();
+    }
+    let Some(mut inside) = poller.take(alloc) else {
+        return Code::Closed.number();
+    };
+    let answer = client_of(&mut inside, alloc);
+    poller.put(inside);
+    match answer {
+        Ok(made) => {
+            client.open(made, poller.stamp());
+            0
+        }
+        Err(code) => code.number(),
+    }
+}
+
+/// Hands out a worker of the poller's board.
+#[unsafe(no_mangle)]
+pub extern "C" fn ring_c_worker(alloc: Global, poller: &mut Handle, worker: &mut Handle) -> u32
+    ensures given { (a : Result (Unit {0}) Why) × (result ≡ answer_of a) × GivesOut GivesHand poller.old.slot.inside poller.new.slot.inside worker.old.slot.inside worker.new.slot.inside a }
+    ensures stamp { (poller.new.stamp ≡ poller.old.stamp) × (result ≡ 0 → worker.new.stamp ≡ poller.old.stamp) }
+{
+    if worker.is_open() {
+        return Code::InUse.number();
+    }
+    let Some(mut inside) = poller.take(alloc) else {
+        return Code::Closed.number();
+    };
+    let answer = hand_of(&mut inside, alloc);
+    poller.put(inside);
+    match answer {
+        Ok(made) => {
+            worker.open(made, poller.stamp());
+            0
+        }
+        Err(code) => code.number(),
+    }
+}
+
+/// Takes a client or a worker back to the poller of its board.
+#[unsafe(no_mangle)]
+pub extern "C" fn ring_c_back(alloc: Global, poller: &mut Handle, pass: &mut Handle) -> u32
+    requires stamped { poller.old.stamp ≡ pass.old.stamp → AreOfOne poller.old.slot.inside pass.old.slot.inside }
+    ensures back { (a : Result (Unit {0}) Why) × (result ≡ answer_of a) × TakesBack poller.old.slot.inside poller.new.slot.inside pass.old.slot.inside pass.new.slot.inside a }
+    ensures stamp { poller.new.stamp ≡ poller.old.stamp }
+{
+    if poller.stamp() != pass.stamp() {
+        return Code::Foreign.number();
+    }
+    let Some(mut inside) = poller.take(alloc) else {
+        return Code::Closed.number();
+    };
+    let Some(mut other) = pass.take(alloc) else {
+        poller.put(inside);
+        return Code::Closed.number();
+    };
+    let answer = take_back(&mut inside, &mut other);
+    poller.put(inside);
+    if answer.is_err() {
+        pass.put(other);
+    }
+    answer_number(answer)
+}
+
+/// Ends the board of a poller that all passes have come back to. The handle leads to the report then.
+#[unsafe(no_mangle)]
+pub extern "C" fn ring_c_finish(alloc: Global, handle: &mut Handle) -> u32
+    ensures finished { (a : Result (Unit {0}) Why) × (result ≡ answer_of a) × Through EndsIn handle.old.slot.inside handle.new.slot.inside a }
+    ensures stamp { handle.new.stamp ≡ handle.old.stamp }
+{
+    let Some(mut inside) = handle.take(alloc) else {
+        return Code::Closed.number();
+    };
+    let answer = finish_in(&mut inside, alloc);
+    handle.put(inside);
+    answer_number(answer)
+}
+
+/// How many lines the report has that a handle leads to.
+#[unsafe(no_mangle)]
+pub extern "C" fn ring_c_count(alloc: Global, handle: &mut Handle) -> Counted
+    ensures counted { (a : Result ℕ Why) × (result ≡ counted_as a) × Through CountsLines handle.old.slot.inside handle.new.slot.inside a }
+    ensures stamp { handle.new.stamp ≡ handle.old.stamp }
+{
+    let Some(inside) = handle.take(alloc) else {
+        return Counted::of(Err(Code::Closed));
+    };
+    let answer = count_in(&inside);
+    handle.put(inside);
+    Counted::of(answer)
+}
+
+/// A line of a report: a request that was not reaped.
+#[unsafe(no_mangle)]
+pub extern "C" fn ring_c_line(alloc: Global, handle: &mut Handle, index: u64) -> Line
+    ensures line { (a : Result Told Why) × (result ≡ line_as a) × Through (TellsLine index) handle.old.slot.inside handle.new.slot.inside a }
+    ensures stamp { handle.new.stamp ≡ handle.old.stamp }
+{
+    let Some(inside) = handle.take(alloc) else {
+        return Line::of(Err(Code::Closed));
+    };
+    let answer = line_in(&inside, index);
+    handle.put(inside);
+    Line::of(answer)
+}
+
+/// Copies the buffer of a line of a report.
+#[unsafe(no_mangle)]
+pub extern "C" fn ring_c_line_bytes(
+    alloc: Global,
+    handle: &mut Handle,
+    index: u64,
+    out: &mut [u8],
+) -> Counted
+    ensures bytes { (a : Result ℕ Why) × (result ≡ counted_as a) × Through (GivesLineBytes index out.old out.new) handle.old.slot.inside handle.new.slot.inside a }
+    ensures still { result.code ≢ 0 → out.new ≡ out.old }
+    ensures stamp { handle.new.stamp ≡ handle.old.stamp }
+{
+    let Some(inside) = handle.take(alloc) else {
+        return Counted::of(Err(Code::Closed));
+    };
+    let answer = line_bytes_in(&inside, index, out);
+    handle.put(inside);
+    Counted::of(answer)
+}
+
+/// Closes a handle, and gives up what it leads to: a report that was read, or passes of a board that is not to be ended.
+#[unsafe(no_mangle)]
+pub extern "C" fn ring_c_close(alloc: Global, handle: &mut Handle)
+    ensures closed { handle.new.slot.inside ≡ None }
+{
+    let _inside = handle.take(alloc);
+}

@@ -1,0 +1,71 @@
+//! The report that a handle leads to, line by line.
+ghost use Rattle.std.specs.Prelude.{◌≡◌, IfErr};
+ghost use Rattle.ring_c.specs.Reports.{CountsLines, GivesLineBytes, TellsLine, line_for};
+
+use crate::batch::copy_bytes;
+use crate::code::Code;
+use crate::inside::Inside;
+use crate::results::Line;
+use board::Completion;
+
+/// What C gets of a line.
+fn line_of(line: &(Completion, bool)) -> Line
+    ensures { result ≡ line_for line.now }
+{
+    let (completion, is_cut) = line;
+    Line {
+        code: 0,
+        res: completion.cqe.res,
+        user_data: completion.cqe.user_data,
+        k: completion.req.k,
+        length: completion.buffer.len() as u64,
+        ring: completion.req.ring,
+        is_cut: u16::from(*is_cut),
+    }
+}
+
+/// The buffer of a line.
+fn bytes_of(line: &(Completion, bool)) -> &[u8]
+    ensures { result.now ≡ line.now.0.buffer.items }
+{
+    line.0.buffer.as_slice()
+}
+
+/// How many lines the report has.
+pub(crate) fn count_in(inside: &Inside) -> Result<u64, Code>
+    ensures { CountsLines inside.now inside.now result }
+{
+    match inside {
+        Inside::Report(report) => Ok(report.lines().len() as u64),
+        _ => Err(Code::WrongKind),
+    }
+}
+
+/// The report's line with this index.
+pub(crate) fn line_in(inside: &Inside, index: u64) -> Result<Line, Code>
+    ensures { TellsLine index inside.now inside.now result }
+{
+    let Inside::Report(report) = inside else {
+        return Err(Code::WrongKind);
+    };
+    let lines = report.lines();
+    if lines.len() as u64 <= index {
+        return Err(Code::Missing);
+    }
+    Ok(line_of(&lines[index as usize]))
+}
+
+/// Copies the buffer of the report's line with this index.
+pub(crate) fn line_bytes_in(inside: &Inside, index: u64, out: &mut [u8]) -> Result<u64, Code>
+    ensures bytes { GivesLineBytes index out.old out.new inside.now inside.now result }
+    ensures still { IfErr result (λ _. out.new ≡ out.old) }
+{
+    let Inside::Report(report) = inside else {
+        return Err(Code::WrongKind);
+    };
+    let lines = report.lines();
+    if lines.len() as u64 <= index {
+        return Err(Code::Missing);
+    }
+    copy_bytes(bytes_of(&lines[index as usize]), out)
+}

@@ -1,0 +1,247 @@
+//! A turn of the poller: it goes over what was submitted and isn't done.
+ghost use Rattle.std.specs.Prelude.{◌≡◌, false};
+ghost use Rattle.history.specs.Chains.{previous};
+ghost use Rattle.work.specs.Board.{IsOf};
+ghost use Rattle.ring_c.specs.Turns.{HasRoom, Turned};
+
+use crate::out::Out;
+use board::{Arming, Board, Counting, Expiry, Firing, Phase, Poller, Released, Settling};
+use history::Req;
+
+/// How many new requests of a ring a turn takes up at most.
+const MOST_NEW: u64 = 1024;
+
+/// How many rings a board has at most.
+const MAX_RINGS: u16 = 16;
+
+/// Lets a TIMEOUT run out, if its deadline has come. Whether it did.
+fn expire(board: &Board, poller: &mut Poller, out: &mut Out, req: Req) -> bool
+    requires own { IsOf board.now poller.old }
+    requires room { HasRoom out.old }
+    ensures turned { Turned board.now poller.old out.old poller.new out.new }
+    ensures room { result ≡ false → HasRoom out.new }
+{
+    match board.expire(poller, req) {
+        Expiry::Expired => {
+            out.put_answered(req);
+            true
+        }
+        Expiry::Early => false,
+        Expiry::NotArmed => false,
+    }
+}
+
+/// Answers a TIMEOUT that has counted enough completions. Whether it did.
+fn count(board: &Board, poller: &mut Poller, out: &mut Out, req: Req) -> bool
+    requires own { IsOf board.now poller.old }
+    requires room { HasRoom out.old }
+    ensures turned { Turned board.now poller.old out.old poller.new out.new }
+    ensures room { result ≡ false → HasRoom out.new }
+{
+    match board.count(poller, req) {
+        Counting::Counted => {
+            out.put_answered(req);
+            true
+        }
+        Counting::Fewer => false,
+        Counting::NotCounted => false,
+        Counting::NotArmed => false,
+    }
+}
+
+/// The request before this one, which is the target of a LINK_TIMEOUT.
+fn target_of(req: Req) -> Req
+    ensures { result ≡ previous req }
+{
+    Req {
+        ring: req.ring,
+        k: req.k.saturating_sub(1),
+    }
+}
+
+/// Fires a LINK_TIMEOUT, if its deadline has come. Whether it did.
+fn fire(board: &Board, poller: &mut Poller, out: &mut Out, req: Req) -> bool
+    requires own { IsOf board.now poller.old }
+    requires room { HasRoom out.old }
+    ensures turned { Turned board.now poller.old out.old poller.new out.new }
+    ensures room { result ≡ false → HasRoom out.new }
+{
+    match board.fire(poller, req) {
+        Firing::Took => {
+            out.put_answered(target_of(req));
+            out.put_answered(req);
+            true
+        }
+        Firing::Missed => {
+            out.put_answered(req);
+            true
+        }
+        Firing::TargetDone => false,
+        Firing::Early => false,
+        Firing::NotArmed => false,
+    }
+}
+
+/// Settles a LINK_TIMEOUT, if its target has replied. Whether it did.
+fn settle(board: &Board, poller: &mut Poller, out: &mut Out, req: Req) -> bool
+    requires own { IsOf board.now poller.old }
+    requires room { HasRoom out.old }
+    ensures { Turned board.now poller.old out.old poller.new out.new }
+{
+    match board.settle(poller, req) {
+        Settling::Settled => {
+            out.put_answered(req);
+            true
+        }
+        Settling::TargetOpen => false,
+        Settling::NotArmed => false,
+    }
+}
+
+/// Ends an armed timer, if it is time. Whether it is done with.
+fn ring(board: &Board, poller: &mut Poller, out: &mut Out, req: Req) -> bool
+    requires own { IsOf board.now poller.old }
+    requires room { HasRoom out.old }
+    ensures { Turned board.now poller.old out.old poller.new out.new }
+{
+    if expire(board, poller, out, req) {
+        return true;
+    }
+    if count(board, poller, out, req) {
+        return true;
+    }
+    if fire(board, poller, out, req) {
+        return true;
+    }
+    settle(board, poller, out, req)
+}
+
+/// Arms a timer that may start.
+fn arm(board: &Board, poller: &mut Poller, out: &mut Out, req: Req)
+    requires own { IsOf board.now poller.old }
+    ensures { Turned board.now poller.old out.old poller.new out.new }
+{
+    match board.arm(poller, req) {
+        Arming::Armed(_) => out.note_move(),
+        Arming::NotHeld => {}
+        Arming::NotTimer => {}
+        Arming::Shut => {}
+    }
+}
+
+/// Moves a request that waits to the workers, or answers or arms it, where that may be. Whether it is done with.
+fn release(board: &Board, poller: &mut Poller, out: &mut Out, req: Req) -> bool
+    requires own { IsOf board.now poller.old }
+    requires room { HasRoom out.old }
+    ensures { Turned board.now poller.old out.old poller.new out.new }
+{
+    match board.release(poller, req) {
+        Released::Freed => {
+            out.put_ready(req);
+            true
+        }
+        Released::Severed => {
+            out.put_answered(req);
+            true
+        }
+        Released::Timer => {
+            arm(board, poller, out, req);
+            false
+        }
+        Released::Shut => false,
+        Released::NotHeld => false,
+    }
+}
+
+/// Looks after a request that was found so. Whether it is done with.
+fn tend(board: &Board, poller: &mut Poller, out: &mut Out, req: Req, phase: Phase) -> bool
+    requires own { IsOf board.now poller.old }
+    requires room { HasRoom out.old }
+    ensures { Turned board.now poller.old out.old poller.new out.new }
+{
+    match phase {
+        Phase::Held => release(board, poller, out, req),
+        Phase::Armed(_) => ring(board, poller, out, req),
+        Phase::Unborn => false,
+        Phase::Ready | Phase::Running | Phase::Done(_) | Phase::Gone => true,
+    }
+}
+
+/// Looks at a request, and looks after it, where there is room. Whether it is done with.
+fn look_after(board: &Board, poller: &mut Poller, out: &mut Out, req: Req) -> bool
+    requires own { IsOf board.now poller.old }
+    ensures { Turned board.now poller.old out.old poller.new out.new }
+{
+    if !out.is_free() {
+        return false;
+    }
+    let _clock = poller.clock();
+    let phase = board.look(poller, req);
+    tend(board, poller, out, req, phase)
+}
+
+/// Goes over the requests that were taken up and aren't done with, in order, as long as there is room.
+pub(crate) fn go_over(board: &Board, poller: &mut Poller, out: &mut Out, held: &mut Vec<Req>)
+    requires own { IsOf board.now poller.old }
+    ensures { Turned board.now poller.old out.old poller.new out.new }
+{
+    let mut kept = 0usize;
+    for i in 0..held.len() {
+        let req = held[i];
+        if !look_after(board, poller, out, req) {
+            held[kept] = req;
+            kept += 1;
+        }
+    }
+    held.truncate(kept);
+}
+
+/// Takes up the ring's new requests from the `next`-th on, as long as there is room. The next one after those.
+fn take_ring(
+    board: &Board,
+    poller: &mut Poller,
+    out: &mut Out,
+    held: &mut Vec<Req>,
+    ring: u16,
+    next: u64,
+) -> u64
+    requires own { IsOf board.now poller.old }
+    ensures { Turned board.now poller.old out.old poller.new out.new }
+{
+    for k in next..next.saturating_add(MOST_NEW) {
+        if !out.is_free() {
+            return k;
+        }
+        let _clock = poller.clock();
+        let phase = board.look(poller, Req { ring, k });
+        if phase == Phase::Unborn {
+            return k;
+        }
+        let is_done = tend(board, poller, out, Req { ring, k }, phase);
+        if !is_done && held.push(Req { ring, k }).is_err() {
+            return k;
+        }
+        out.note_move();
+    }
+    next.saturating_add(MOST_NEW)
+}
+
+/// Takes up the new requests of all rings.
+pub(crate) fn take_up(
+    board: &Board,
+    poller: &mut Poller,
+    out: &mut Out,
+    held: &mut Vec<Req>,
+    next: &mut [u64],
+)
+    requires own { IsOf board.now poller.old }
+    ensures { Turned board.now poller.old out.old poller.new out.new }
+{
+    for ring in 0..MAX_RINGS {
+        if next.len() <= usize::from(ring) {
+            break;
+        }
+        let at = next[usize::from(ring)];
+        next[usize::from(ring)] = take_ring(board, poller, out, held, ring, at);
+    }
+}
