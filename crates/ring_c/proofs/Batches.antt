@@ -56,7 +56,10 @@ first_of i low = omega (arith, low)
 pub one_reason : (b : Facts) (e : Entry) (v : Vec ℕ) (ring k : ℕ) (p q : Pass) (error : SubmitError) → RefusesEntry b e v.items (nth ring k) p q error → RefusesBatch b ((e, v) ∷ []) ring k p q error
 one_reason b e v ring k p q BufferLength x = λ a. x a.0
 one_reason b e v ring k p q Full x = ((x.0, tt), inr ((0, lit< tt, subst (λ (n : ℕ). ¬ IsFree b.layout.cells (seen_of q) (nth ring n)) (sym (add-zero k)) x.1), x.2))
-one_reason b e v ring k p q Spent x = ((x.0, tt), (
-  (λ i low. subst (λ (n : ℕ). IsFree b.layout.cells (seen_of q) (nth ring (k + n))) (first_of i low) (subst (λ (n : ℕ). IsFree b.layout.cells (seen_of q) (nth ring n)) (sym (add-zero k)) x.1)),
-  (0, lit< tt, subst (λ (n : ℕ). n / cells_in b.layout.cells ring ≡ 16777215) (sym (add-zero k)) x.2),
-))
+one_reason b e v ring k p q Spent x = (
+  (x.0, tt),
+  (
+    (λ i low. subst (λ (n : ℕ). IsFree b.layout.cells (seen_of q) (nth ring (k + n))) (first_of i low) (subst (λ (n : ℕ). IsFree b.layout.cells (seen_of q) (nth ring n)) (sym (add-zero k)) x.1)),
+    (0, lit< tt, subst (λ (n : ℕ). n / cells_in b.layout.cells ring ≡ 16777215) (sym (add-zero k)) x.2),
+  ),
+)

@@ -54,11 +54,7 @@ fn copy_of(alloc: Global, bytes: &[u8], from: usize, count: usize) -> Result<Vec
 }
 
 /// The entry that 64 bytes say, with its buffer, which is all of the other bytes.
-pub(crate) fn entry_of(
-    alloc: Global,
-    entries: &[u8],
-    bytes: &[u8],
-) -> Result<(Sqe, Vec<u8>), Code>
+pub(crate) fn entry_of(alloc: Global, entries: &[u8], bytes: &[u8]) -> Result<(Sqe, Vec<u8>), Code>
     requires { length entries.now ≡ 64 }
     ensures said { IfOk result (λ t. AreSaid entries.now bytes.now (t ∷ [])) }
     ensures refused { IfErr result (λ c. IsUnread entries.now c) }
