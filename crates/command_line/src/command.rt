@@ -1,8 +1,9 @@
 //! The command line, as clap reads it.
-ghost use Rattle.std.specs.Prelude.{IfOk};
-ghost use Rattle.commands.specs.CommandLine.{file_rule, history_app, outcomes_app, ringrun, run_app, stats_rule, table_rule, turns_rule, workers_rule, IsApp, IsRead};
+ghost use Rattle.std.specs.Prelude.{IfOk, codes};
+ghost use Rattle.command_line.specs.CommandLine.{check_app, file_rule, flag_rule, history_app, limit_rule, outcomes_app, ringrun, run_app, table_rule, tables_rule, times_rule, turns_rule, workers_rule, IsApp, IsRead};
 
 use clap::{Arg, ArgAction, Command, value_parser};
+use crate::job::TIMES;
 use limits::WORKERS;
 use std::alloc::{AllocError, Global};
 
@@ -20,7 +21,8 @@ pub fn command<'a>(alloc: Global) -> Result<Command<'a>, AllocError>
         .arg_required_else_help(true)
         .subcommand(run(alloc)?)?
         .subcommand(outcomes(alloc)?)?
-        .subcommand(history(alloc)?)
+        .subcommand(history(alloc)?)?
+        .subcommand(check(alloc)?)
 }
 
 /// The command `run`.
@@ -39,6 +41,8 @@ fn run<'a>(alloc: Global) -> Result<Command<'a>, AllocError>
         )
         .arg(workers(alloc))?
         .arg(turns(alloc))?
+        .arg(times(alloc))?
+        .arg(json(alloc))?
         .arg(file(alloc))
 }
 
@@ -51,7 +55,18 @@ fn outcomes<'a>(alloc: Global) -> Result<Command<'a>, AllocError>
         .after_help(
             "Example:\n  printf 'ring 4\\non 0\\nnop a\\nsubmit\\nwait a\\n' | ringrun outcomes -\nprints\n  a 0\n\n  tables 1",
         )
-        .arg(stats(alloc))?
+        .arg(flag(
+            alloc,
+            "stats",
+            "Prints the number of states met, and the states a second, to standard error",
+        ))?
+        .arg(flag(
+            alloc,
+            "explain",
+            "Prints after each table a history that leads to it",
+        ))?
+        .arg(limit(alloc))?
+        .arg(json(alloc))?
         .arg(file(alloc))
 }
 
@@ -66,8 +81,39 @@ fn history<'a>(alloc: Global) -> Result<Command<'a>, AllocError>
         .after_help(
             "Example: with the line `a 0` in the file TABLE,\n  printf 'ring 4\\non 0\\nnop a\\nsubmit\\nwait a\\n' | ringrun history - TABLE\nprints\n  submit a\n  begin a\n  reply a 0\n  shut",
         )
+        .arg(flag(
+            alloc,
+            "lanes",
+            "Prints the history as a table with a column for each that takes steps",
+        ))?
+        .arg(flag(
+            alloc,
+            "mermaid",
+            "Prints the history as a sequence diagram for Mermaid; counts before --lanes",
+        ))?
+        .arg(limit(alloc))?
+        .arg(json(alloc))?
         .arg(file(alloc))?
         .arg(table(alloc))
+}
+
+/// The command `check`.
+fn check<'a>(alloc: Global) -> Result<Command<'a>, AllocError>
+    ensures { IfOk result (λ c. IsApp c check_app) }
+{
+    Command::new(alloc, "check")
+        .about("Says of each table whether it is one of those that a script can have.")
+        .long_about(
+            "Says of each file whether its table is one of those that a script can have, by one search: a line 'FILE: yes' or \
+             'FILE: no'. A file may have several tables, each followed by an empty line; then it is 'yes' where all are.",
+        )
+        .after_help(
+            "Example: with the line `a 0` in the file TABLE,\n  printf 'ring 4\\non 0\\nnop a\\nsubmit\\nwait a\\n' | ringrun check - TABLE\nprints\n  TABLE: yes\n\nStatus 0: each is. 3: one isn't.",
+        )
+        .arg(limit(alloc))?
+        .arg(json(alloc))?
+        .arg(file(alloc))?
+        .arg(tables(alloc))
 }
 
 fn workers<'a>(alloc: Global) -> Arg<'a>
@@ -92,13 +138,41 @@ fn turns<'a>(alloc: Global) -> Arg<'a>
         .help("How often a line that waits is tried, 1 to 4294967295")
 }
 
-fn stats<'a>(alloc: Global) -> Arg<'a>
-    ensures { IsRead result stats_rule }
+fn times<'a>(alloc: Global) -> Arg<'a>
+    ensures { IsRead result times_rule }
 {
-    Arg::new(alloc, "stats")
-        .long("stats")
+    Arg::new(alloc, "times")
+        .long("times")
+        .value_name("N")
+        .value_parser(value_parser!(u32).range(1..=i64::from(TIMES)))
+        .help("Carries the script out N times, 1 to 10000, and prints each table that came, with how often")
+}
+
+fn limit<'a>(alloc: Global) -> Arg<'a>
+    ensures { IsRead result limit_rule }
+{
+    Arg::new(alloc, "limit")
+        .long("limit")
+        .value_name("N")
+        .value_parser(value_parser!(u32).range(1..))
+        .default_value("200000")
+        .help("How many states a search may meet, 1 to 4294967295")
+}
+
+fn json<'a>(alloc: Global) -> Arg<'a>
+    ensures { IsRead result (flag_rule (codes "json")) }
+{
+    flag(alloc, "json", "Prints the answer as one JSON value")
+}
+
+/// A flag with this name and this help.
+fn flag<'a>(alloc: Global, name: &'a str, help: &'a str) -> Arg<'a>
+    ensures { IsRead result (flag_rule name.now) }
+{
+    Arg::new(alloc, name)
+        .long(name)
         .action(ArgAction::SetTrue)
-        .help("Prints the number of states met, and the states a second, to standard error")
+        .help(help)
 }
 
 fn file<'a>(alloc: Global) -> Arg<'a>
@@ -117,4 +191,13 @@ fn table<'a>(alloc: Global) -> Arg<'a>
         .required(true)
         .action(ArgAction::Set)
         .help("The file with the table")
+}
+
+fn tables<'a>(alloc: Global) -> Arg<'a>
+    ensures { IsRead result tables_rule }
+{
+    Arg::new(alloc, "TABLE")
+        .required(true)
+        .action(ArgAction::Append)
+        .help("The files with the tables")
 }
