@@ -7,12 +7,12 @@ use Rattle.script.specs.declared.table.Table.{Table}
 use Rattle.script.specs.Rows.{rows_of}
 
 -- tables with histories
-abbrev pub explained_of : Table × Vec Event → List (ℤ × List ℕ) × List Event
-explained_of x = (rows_of x.0, x.1.items)
+abbrev pub explained_of : Bor Table × Vec Event → List (ℤ × List ℕ) × List Event
+explained_of x = (rows_of x.0.now, x.1.items)
 
 -- tables with numbers
-abbrev pub tallied_of : Table × ℕ → List (ℤ × List ℕ) × ℕ
-tallied_of x = (rows_of x.0, x.1)
+abbrev pub tallied_of : Bor Table × ℕ → List (ℤ × List ℕ) × ℕ
+tallied_of x = (rows_of x.0.now, x.1)
 
 -- names with verdicts
 abbrev pub verdict_of : Bor (List ℕ) × Bool → List ℕ × Bool

@@ -49,11 +49,11 @@ pub fn write_tables(
 fn explained_value(
     alloc: Global,
     script: &Script,
-    one: &(Table, Vec<Event>),
+    one: &(&Table, Vec<Event>),
 ) -> Result<Value, AllocError>
     ensures { IfOk result (λ value. view value ≡ explained_data script.now (explained_of one.now)) }
 {
-    let table = table_value(alloc, script, &one.0)?;
+    let table = table_value(alloc, script, one.0)?;
     let history = history_value(alloc, script, &one.1)?;
     json!(in alloc; {"history": history, "table": table})
 }
@@ -62,7 +62,7 @@ fn explained_value(
 pub fn write_explained(
     alloc: Global,
     script: &Script,
-    explained: &[(Table, Vec<Event>)],
+    explained: &[(&Table, Vec<Event>)],
 ) -> Result<Vec<u8>, AllocError>
     ensures { IfOk result (λ text. text.items ≡ json_text (listed (map (explained_data script.now) (map explained_of explained.now)))) }
 {
@@ -77,11 +77,11 @@ pub fn write_explained(
 fn tallied_value(
     alloc: Global,
     script: &Script,
-    one: &(Table, u32),
+    one: &(&Table, usize),
 ) -> Result<Value, AllocError>
     ensures { IfOk result (λ value. view value ≡ tallied_data script.now (tallied_of one.now)) }
 {
-    let table = table_value(alloc, script, &one.0)?;
+    let table = table_value(alloc, script, one.0)?;
     json!(in alloc; {"table": table, "times": one.1})
 }
 
@@ -89,7 +89,7 @@ fn tallied_value(
 pub fn write_tally(
     alloc: Global,
     script: &Script,
-    tally: &[(Table, u32)],
+    tally: &[(&Table, usize)],
 ) -> Result<Vec<u8>, AllocError>
     ensures { IfOk result (λ text. text.items ≡ json_text (listed (map (tallied_data script.now) (map tallied_of tally.now)))) }
 {

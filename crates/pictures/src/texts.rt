@@ -12,13 +12,13 @@ use std::alloc::{AllocError, Global};
 pub fn explained_text(
     alloc: Global,
     script: &Script,
-    explained: &[(Table, Vec<Event>)],
+    explained: &[(&Table, Vec<Event>)],
 ) -> Result<Vec<u8>, Memory>
     ensures { IfOk result (λ text. text.items ≡ explained_text script.now (map explained_of explained.now)) }
 {
     let mut out = Vec::new(alloc);
     for one in explained {
-        out.extend_from_slice(&write_table(alloc, script, &one.0)?)?;
+        out.extend_from_slice(&write_table(alloc, script, one.0)?)?;
         out.push(b'\n')?;
         out.extend_from_slice(write_history(alloc, script, &one.1)?.as_bytes())?;
         out.push(b'\n')?;
@@ -29,7 +29,7 @@ pub fn explained_text(
 }
 
 /// Writes how often a table came, after an empty line, and another one.
-fn push_times(alloc: Global, out: &mut Vec<u8>, times: u32) -> Result<(), AllocError>
+fn push_times(alloc: Global, out: &mut Vec<u8>, times: usize) -> Result<(), AllocError>
     ensures { OnOk result (out.new.items ≡ out.old.items ++ (codes "\ntimes " ++ (decimal times ++ codes "\n\n"))) }
 {
     let told = format!(in alloc; "\ntimes {times}\n\n")?;
@@ -40,14 +40,14 @@ fn push_times(alloc: Global, out: &mut Vec<u8>, times: u32) -> Result<(), AllocE
 pub fn tally_text(
     alloc: Global,
     script: &Script,
-    tally: &[(Table, u32)],
-    runs: u32,
+    tally: &[(&Table, usize)],
+    runs: usize,
 ) -> Result<Vec<u8>, Memory>
     ensures { IfOk result (λ text. text.items ≡ tally_text script.now (map tallied_of tally.now) runs) }
 {
     let mut out = Vec::new(alloc);
     for one in tally {
-        out.extend_from_slice(&write_table(alloc, script, &one.0)?)?;
+        out.extend_from_slice(&write_table(alloc, script, one.0)?)?;
         push_times(alloc, &mut out, one.1)?;
     }
     out.extend_from_slice(format!(in alloc; "runs {runs}\n")?.as_bytes())?;
