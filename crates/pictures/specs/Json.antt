@@ -2,7 +2,7 @@
 use Rattle.std.specs.Prelude.{ℕ, ℤ, Bool, true, false, if◌then◌else◌, List, [], ◌∷◌, ◌++◌, map, codes, Option, Some, None}
 use Rattle.std.specs.String.{string_bytes}
 use Rattle.hex.specs.Hex.{encode_lower}
-use Rattle.serde_json.specs.Data.{Data, Items, Members, no_items, item, no_members, member, null, boolean, number, string, array, object, unsigned}
+use Rattle.serde_json.specs.Data.{Data, Items, Members, no_items, item, no_members, member, boolean, number, string, array, object, unsigned}
 use Rattle.serde_json.specs.Find.{of_integer}
 use Rattle.serde_json.specs.View.{items_of}
 use Rattle.serde_json.specs.Written.{compact_text}
@@ -88,11 +88,6 @@ events_after c before (e ∷ es) = event_data c before e ∷ events_after c (bef
 
 abbrev pub history_data : Script → List Event → Data
 history_data c events = listed (events_after c [] events)
-
--- a history, or null where there is none
-abbrev pub found_data : Script → Option (List Event) → Data
-found_data c None = null
-found_data c (Some events) = history_data c events
 
 -- ---- what is told of tables
 

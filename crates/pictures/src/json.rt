@@ -1,9 +1,10 @@
 //! Tables, histories and verdicts as JSON texts: one value in one line.
-ghost use Rattle.std.specs.Prelude.{◌≡◌, ◌++◌, false, map, option_map, IfOk};
+ghost use Rattle.std.specs.Prelude.{◌≡◌, ◌++◌, false, map, IfOk};
 ghost use Rattle.script.specs.Rows.{rows_of};
+ghost use Rattle.serde_json.specs.Data.{null};
 ghost use Rattle.serde_json.specs.View.{view};
 ghost use Rattle.serde_json.specs.Written.{has_float};
-ghost use Rattle.pictures.specs.Json.{explained_data, found_data, json_text, listed, table_data, tables_data, tallied_data, verdict_data};
+ghost use Rattle.pictures.specs.Json.{explained_data, history_data, json_text, listed, table_data, tables_data, tallied_data, verdict_data};
 ghost use Rattle.pictures.specs.Shown.{explained_of, tallied_of, verdict_of};
 
 use crate::values::{history_value, table_value};
@@ -119,19 +120,21 @@ pub fn write_verdicts(alloc: Global, verdicts: &[(&str, bool)]) -> Result<Vec<u8
     text_of(alloc, &Value::Array(list))
 }
 
-/// A history, or null where there is none.
-pub fn write_found(
+/// A history.
+pub fn write_history(
     alloc: Global,
     script: &Script,
-    found: &Option<Vec<Event>>,
+    events: &[Event],
 ) -> Result<Vec<u8>, AllocError>
-    ensures { IfOk result (λ text. text.items ≡ json_text (found_data script.now (option_map (λ v. v.items) found.now))) }
+    ensures { IfOk result (λ text. text.items ≡ json_text (history_data script.now events.now)) }
 {
-    match found {
-        Some(events) => {
-            let value = history_value(alloc, script, events)?;
-            text_of(alloc, &value)
-        }
-        None => text_of(alloc, &Value::Null),
-    }
+    let value = history_value(alloc, script, events)?;
+    text_of(alloc, &value)
+}
+
+/// That there is none.
+pub fn write_none(alloc: Global) -> Result<Vec<u8>, AllocError>
+    ensures { IfOk result (λ text. text.items ≡ json_text null) }
+{
+    text_of(alloc, &Value::Null)
 }
