@@ -67,7 +67,11 @@ fn last_fault(alloc: Global, script: &Script, part: &[u8], before: usize) -> Scr
 {
     match read_part(alloc, script, part, before) {
         Ok(_) => ScriptFault::Line {
-            line: number_of(before, script.entries.len(), script.entries.len() as u64 + 1),
+            line: number_of(
+                before,
+                script.entries.len(),
+                script.entries.len() as u64 + 1,
+            ),
             fault: Fault::BadTable,
         },
         Err(fault) => fault,
@@ -76,11 +80,7 @@ fn last_fault(alloc: Global, script: &Script, part: &[u8], before: usize) -> Scr
 
 /// The tables of a file: one alone, or several, each followed by an empty line, and then maybe their number, as `outcomes`
 /// prints it.
-pub fn read_tables(
-    alloc: Global,
-    script: &Script,
-    bytes: &[u8],
-) -> Result<Vec<Table>, ScriptFault>
+pub fn read_tables(alloc: Global, script: &Script, bytes: &[u8]) -> Result<Vec<Table>, ScriptFault>
     ensures found { IfOk result (λ tables. IsTablesText script.now (map rows_of tables.items) bytes.now) }
     ensures fault { IfErr result (IsTablesFault script.now bytes.now) }
 {

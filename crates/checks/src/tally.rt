@@ -34,10 +34,7 @@ fn has_rows(tables: &[Table], table: &Table) -> bool
 }
 
 /// The tables of these runs, each once, in the order in which they first came, and how often each did.
-pub fn tally_of<'a>(
-    alloc: Global,
-    runs: &'a [Table],
-) -> Result<Vec<(&'a Table, usize)>, AllocError>
+pub fn tally_of<'a>(alloc: Global, runs: &'a [Table]) -> Result<Vec<(&'a Table, usize)>, AllocError>
     ensures { IfOk result (λ made. map tallied_of made.items ≡ tally_of (map rows_of runs.now)) }
 {
     let mut made = Vec::new(alloc);

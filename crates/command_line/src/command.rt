@@ -2,8 +2,8 @@
 ghost use Rattle.std.specs.Prelude.{IfOk, codes};
 ghost use Rattle.command_line.specs.CommandLine.{check_app, file_rule, flag_rule, history_app, limit_rule, outcomes_app, ringrun, run_app, table_rule, tables_rule, times_rule, turns_rule, workers_rule, IsApp, IsRead};
 
-use clap::{Arg, ArgAction, Command, value_parser};
 use crate::job::TIMES;
+use clap::{Arg, ArgAction, Command, value_parser};
 use limits::WORKERS;
 use std::alloc::{AllocError, Global};
 
@@ -145,7 +145,9 @@ fn times<'a>(alloc: Global) -> Arg<'a>
         .long("times")
         .value_name("N")
         .value_parser(value_parser!(u32).range(1..=i64::from(TIMES)))
-        .help("Carries the script out N times, 1 to 10000, and prints each table that came, with how often")
+        .help(
+            "Carries the script out N times, 1 to 10000, and prints each table that came, with how often",
+        )
 }
 
 fn limit<'a>(alloc: Global) -> Arg<'a>

@@ -45,9 +45,15 @@ pub enum Job {
         json: bool,
     },
     /// A history of a script with a given table is printed.
-    History { look: Look, limit: u32 },
+    History {
+        look: Look,
+        limit: u32,
+    },
     /// It is told whether each given table is one of the script's.
-    Check { limit: u32, json: bool },
+    Check {
+        limit: u32,
+        json: bool,
+    },
 }
 
 /// What is asked for, and of which files. A script `-` is standard input. A history has one table, a check one or more, always

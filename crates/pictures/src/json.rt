@@ -32,11 +32,7 @@ pub fn write_table(alloc: Global, script: &Script, table: &Table) -> Result<Vec<
 }
 
 /// Tables, in order.
-pub fn write_tables(
-    alloc: Global,
-    script: &Script,
-    tables: &[Table],
-) -> Result<Vec<u8>, AllocError>
+pub fn write_tables(alloc: Global, script: &Script, tables: &[Table]) -> Result<Vec<u8>, AllocError>
     ensures { IfOk result (λ text. text.items ≡ json_text (tables_data script.now (map rows_of tables.now))) }
 {
     let mut list = Vec::new(alloc);
@@ -75,11 +71,7 @@ pub fn write_explained(
 }
 
 /// A table and how often it came.
-fn tallied_value(
-    alloc: Global,
-    script: &Script,
-    one: &(&Table, usize),
-) -> Result<Value, AllocError>
+fn tallied_value(alloc: Global, script: &Script, one: &(&Table, usize)) -> Result<Value, AllocError>
     ensures { IfOk result (λ value. view value ≡ tallied_data script.now (tallied_of one.now)) }
 {
     let table = table_value(alloc, script, one.0)?;

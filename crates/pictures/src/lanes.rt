@@ -112,11 +112,7 @@ fn longest(columns: &Columns, column: usize, marks: &[Mark]) -> usize
 }
 
 /// The width of each column.
-fn widths_of(
-    alloc: Global,
-    columns: &Columns,
-    marks: &[Mark],
-) -> Result<Vec<usize>, AllocError>
+fn widths_of(alloc: Global, columns: &Columns, marks: &[Mark]) -> Result<Vec<usize>, AllocError>
     ensures { IfOk result (λ made. made.items ≡ widths columns.now.rings columns.now.workers (map shown marks.now)) }
 {
     let mut made = Vec::new(alloc);
@@ -205,11 +201,7 @@ fn picture(alloc: Global, columns: &Columns, marks: &[Mark]) -> Result<Vec<u8>, 
 
 /// A history as a table in text: a column for each submitter of a ring, the poller, each worker that runs at once, the clock
 /// and the end, and a row for each event, in order.
-pub fn write_lanes(
-    alloc: Global,
-    script: &Script,
-    events: &[Event],
-) -> Result<Vec<u8>, AllocError>
+pub fn write_lanes(alloc: Global, script: &Script, events: &[Event]) -> Result<Vec<u8>, AllocError>
     ensures { IfOk result (λ text. text.items ≡ lanes_text script.now events.now) }
 {
     let (marks, workers) = marks_of(alloc, script, events)?;

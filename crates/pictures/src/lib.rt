@@ -9,7 +9,10 @@ mod texts;
 mod values;
 mod workers;
 
-pub use json::{write_explained, write_history, write_none, write_table, write_tables, write_tally, write_verdicts};
+pub use json::{
+    write_explained, write_history, write_none, write_table, write_tables, write_tally,
+    write_verdicts,
+};
 pub use lanes::write_lanes;
 pub use marks::{Lane, Mark, marks_of};
 pub use mermaid::write_mermaid;

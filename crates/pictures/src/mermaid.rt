@@ -12,11 +12,7 @@ use std::alloc::{AllocError, Global};
 use std::fmt::Write;
 
 /// Writes the names of all lanes.
-fn push_participants(
-    alloc: Global,
-    out: &mut String,
-    columns: &Columns,
-) -> Result<(), AllocError>
+fn push_participants(alloc: Global, out: &mut String, columns: &Columns) -> Result<(), AllocError>
     ensures { OnOk result (string_bytes out.new ≡ string_bytes out.old ++ participants columns.now.rings columns.now.workers 0 (columns.now.rings + columns.now.workers + 2 + 1)) }
 {
     for column in 0..columns.last() + 1 {
@@ -51,11 +47,7 @@ fn push_steps(out: &mut String, columns: &Columns, marks: &[Mark]) -> Result<(),
 }
 
 /// A history as a sequence diagram in the language of Mermaid: each event over the lane of who takes the step, in order.
-pub fn write_mermaid(
-    alloc: Global,
-    script: &Script,
-    events: &[Event],
-) -> Result<String, AllocError>
+pub fn write_mermaid(alloc: Global, script: &Script, events: &[Event]) -> Result<String, AllocError>
     ensures { IfOk result (λ text. string_bytes text ≡ mermaid_text script.now events.now) }
 {
     let (marks, workers) = marks_of(alloc, script, events)?;

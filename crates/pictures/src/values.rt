@@ -107,21 +107,12 @@ fn event_value(
 }
 
 /// A history: its events in order.
-pub fn history_value(
-    alloc: Global,
-    script: &Script,
-    events: &[Event],
-) -> Result<Value, AllocError>
+pub fn history_value(alloc: Global, script: &Script, events: &[Event]) -> Result<Value, AllocError>
     ensures { IfOk result (λ value. view value ≡ history_data script.now events.now) }
 {
     let mut made = Vec::new(alloc);
     for place in 0..events.len() {
-        made.push(event_value(
-            alloc,
-            script,
-            &events[..place],
-            &events[place],
-        )?)?;
+        made.push(event_value(alloc, script, &events[..place], &events[place])?)?;
     }
     Ok(Value::Array(made))
 }

@@ -83,8 +83,8 @@ pub read_further : {X : Type 0} (known : X → Known) (all old left : List X) (x
 read_further {X} known all old left x made new y popped wrote is so_far gs are =
     let longer = subst (λ (l : List Known). AreRead l (gs ++ given_of y ∷ [])) (sym (ap (map known) popped ∙ map_push known left x)) (read_more (map known left) gs (known x) (given_of y) are is) in
     subst (AreRead (map known all)) (append_assoc gs (given_of y ∷ []) (map given_of (reverse made)) ∙ ap (λ (l : List (List ℕ × List ℕ)). gs ++ l) (sym (turned made new y wrote))) (so_far (gs ++ given_of y ∷ []) longer) where
-  turned : (old new : List (Bor (List ℕ) × Vec ℕ)) (y : Bor (List ℕ) × Vec ℕ) → new ≡ old ++ y ∷ [] → map given_of (reverse new) ≡ given_of y ∷ map given_of (reverse old)
-  turned old new y is = ap (λ (l : List (Bor (List ℕ) × Vec ℕ)). map given_of (reverse l)) is ∙ ap (map given_of) (reverse-append old (y ∷ []))
+      turned : (old new : List (Bor (List ℕ) × Vec ℕ)) (y : Bor (List ℕ) × Vec ℕ) → new ≡ old ++ y ∷ [] → map given_of (reverse new) ≡ given_of y ∷ map given_of (reverse old)
+      turned old new y is = ap (λ (l : List (Bor (List ℕ) × Vec ℕ)). map given_of (reverse l)) is ∙ ap (map given_of) (reverse-append old (y ∷ []))
 
 pub read_all_of : {X : Type 0} (known : X → Known) (all left : List X) (made turned : List (Bor (List ℕ) × Vec ℕ)) → left ≡ [] → turned ≡ reverse made → ReadsOn known all left made → AreRead (map known all) (map given_of turned)
 read_all_of {X} known all left made turned none is so_far =

@@ -59,6 +59,7 @@ pub of_first : {A : Type 0} (r : Result A Problem) (c : Script) (limit : ℕ) (g
 of_first r c limit given x le is why = IfErr-weaker r _ _ (λ p q. lifted p q) why where
   there : Among (given_of x) (map given_of given)
   there = rw (first_given given x le is) (inl refl)
+
   lifted : (p : Problem) → IsOfBytes c x.1.items p ⊎ IsOfLimit c limit p → IsOfTable c (map given_of given) p ⊎ IsOfLimit c limit p
   lifted p (inl q) = inl (of_table c (map given_of given) (given_of x) p there q)
   lifted p (inr q) = inr q

@@ -87,12 +87,7 @@ fn carry_out<
 }
 
 /// The whole answer to a query.
-fn answer<
-    'a,
-    R: Threads + Wait + Copy + Send + Sync + 'static + Clock,
-    S: Read,
-    T: Read + Drop,
->(
+fn answer<'a, R: Threads + Wait + Copy + Send + Sync + 'static + Clock, S: Read, T: Read + Drop>(
     rt: &R,
     alloc: Global,
     job: &Job,

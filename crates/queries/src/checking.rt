@@ -87,11 +87,7 @@ fn status_of(verdicts: &[(&str, bool)]) -> u8
 }
 
 /// What is told of these verdicts.
-fn verdicts_text(
-    alloc: Global,
-    verdicts: &[(&str, bool)],
-    json: bool,
-) -> Result<Vec<u8>, Problem>
+fn verdicts_text(alloc: Global, verdicts: &[(&str, bool)], json: bool) -> Result<Vec<u8>, Problem>
     ensures text { IfOk result (λ text. text.items ≡ verdicts_text json (map verdict_of verdicts.now)) }
     ensures memory { IfErr result IsOfMemory }
 {

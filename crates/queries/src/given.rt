@@ -1,7 +1,6 @@
 //! The bytes of the tables that a command is given.
 ghost use Rattle.std.specs.Prelude.{◌≡◌, ◌⊎◌, map, IfErr, IfOk};
 ghost use Rattle.queries.specs.Given.{given_of, AreRead};
-
 ghost use Rattle.commands.specs.declared.problem.Problem.{Problem};
 
 use commands::Problem;
