@@ -201,7 +201,26 @@ pub fn of_example<R: Machine>(rt: &R, kind: &str, name: &str) -> Told {
     yes(alloc, status == 0 && is_right)
 }
 
-/// What a query of these words answers to texts: the script, and the tables in the order of their names.
+/// What a query answers to these texts: a script, and tables in the order of their names.
+fn replied<R: Machine>(
+    rt: &R,
+    invocation: &queries::Invocation<'_>,
+    script: &[u8],
+    tables: &[Vec<u8>],
+) -> Told {
+    let alloc = rt.alloc();
+    let mut readers = Vec::new(alloc);
+    for (name, table) in invocation.tables.iter().zip(tables) {
+        readers.push((*name, table.as_slice()))?;
+    }
+    let (mut out, mut err) = (Vec::new(alloc), Vec::new(alloc));
+    let (job, mut script) = (&invocation.job, script);
+    let status = queries::perform(rt, alloc, job, &mut script, readers, &mut out, &mut err);
+    out.append(&mut err)?;
+    both(alloc, &(status, folded(alloc, &mut out)?))
+}
+
+/// What a query of these words answers to texts.
 pub fn queried<R: Machine>(rt: &R, line: &str, texts: &str) -> Told {
     let alloc = rt.alloc();
     let (script, rest) = texts.split_once(" ; ").unwrap_or((texts, ""));
@@ -211,26 +230,10 @@ pub fn queried<R: Machine>(rt: &R, line: &str, texts: &str) -> Told {
         tables.push(unfolded(alloc, text)?)?;
     }
     let words: Vec<&str> = line.split(' ').collect(alloc)?;
-    let Ok(invocation) = invocation_of(alloc, &words) else {
-        return said(alloc, "refused");
-    };
-    let mut readers = Vec::new(alloc);
-    for (name, table) in invocation.tables.iter().zip(&tables) {
-        readers.push((*name, table.as_slice()))?;
+    match invocation_of(alloc, &words) {
+        Ok(invocation) => replied(rt, &invocation, &script, &tables),
+        Err(_) => said(alloc, "refused"),
     }
-    let (mut out, mut err) = (Vec::new(alloc), Vec::new(alloc));
-    let mut script = script.as_slice();
-    let status = queries::perform(
-        rt,
-        alloc,
-        &invocation.job,
-        &mut script,
-        readers,
-        &mut out,
-        &mut err,
-    );
-    out.append(&mut err)?;
-    both(alloc, &(status, folded(alloc, &mut out)?))
 }
 
 /// What the program answers to these words, over files.
