@@ -60,6 +60,8 @@ fn told_of<R: Machine>(rt: &R, kept: &mut Kept, call: &str) -> Told {
         "carried" => runs::of_example(rt, "run", text),
         "files" => runs::of_files(rt, text, second),
         "words" => runs::asked(alloc, text, second),
+        "query" => runs::queried(rt, text, second),
+        "ringrun" => runs::commanded(rt, call),
         "problem" => runs::problem(alloc, text),
         "writes" | "reads" | "finds" => broken::told(rt, kind, text, second),
         "run" | "run-1" | "run-64" | "stuck" | "once" | "outcomes" | "history" => {

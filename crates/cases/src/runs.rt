@@ -1,8 +1,9 @@
 //! Commands over texts and over files.
 use crate::told::{Slip, Told, said, yes};
 use crate::words::Words;
-use commands::{Invocation, Job, Problem, invocation_of, perform, serve};
+use commands::{Invocation, Job, Problem, perform, serve};
 use explore::ExploreError;
+use queries::{invocation_of, plain_of};
 use script_run::RunFault;
 use script_text::{Fault, ScriptFault};
 use std::alloc::{AllocError, Global};
@@ -200,13 +201,86 @@ pub fn of_example<R: Machine>(rt: &R, kind: &str, name: &str) -> Told {
     yes(alloc, status == 0 && is_right)
 }
 
+/// What a query answers to these texts: a script, and tables in the order of their names.
+fn replied<R: Machine>(
+    rt: &R,
+    invocation: &queries::Invocation<'_>,
+    script: &[u8],
+    tables: &[Vec<u8>],
+) -> Told {
+    let alloc = rt.alloc();
+    let mut readers = Vec::new(alloc);
+    for (name, table) in invocation.tables.iter().zip(tables) {
+        readers.push((*name, table.as_slice()))?;
+    }
+    let (mut out, mut err) = (Vec::new(alloc), Vec::new(alloc));
+    let (job, mut script) = (&invocation.job, script);
+    let status = queries::perform(rt, alloc, job, &mut script, readers, &mut out, &mut err);
+    out.append(&mut err)?;
+    both(alloc, &(status, folded(alloc, &mut out)?))
+}
+
+/// What a query of these words answers to texts.
+pub fn queried<R: Machine>(rt: &R, line: &str, texts: &str) -> Told {
+    let alloc = rt.alloc();
+    let (script, rest) = texts.split_once(" ; ").unwrap_or((texts, ""));
+    let script = unfolded(alloc, script)?;
+    let mut tables = Vec::new(alloc);
+    for text in rest.split(" ; ") {
+        tables.push(unfolded(alloc, text)?)?;
+    }
+    let words: Vec<&str> = line.split(' ').collect(alloc)?;
+    match invocation_of(alloc, &words) {
+        Ok(invocation) => replied(rt, &invocation, &script, &tables),
+        Err(_) => said(alloc, "refused"),
+    }
+}
+
+/// What the program answers to these words, over files.
+pub fn commanded<R: Machine>(rt: &R, line: &str) -> Told {
+    let alloc = rt.alloc();
+    let words: Vec<&str> = line.split(' ').collect(alloc)?;
+    let Ok(invocation) = invocation_of(alloc, &words) else {
+        return said(alloc, "refused");
+    };
+    let (mut out, mut err) = (Vec::new(alloc), Vec::new(alloc));
+    let status = match plain_of(&invocation) {
+        Some(plain) => serve(rt, rt, &plain, &mut out, &mut err),
+        None => queries::serve(rt, rt, &invocation, &mut out, &mut err),
+    };
+    out.append(&mut err)?;
+    both(alloc, &(status, folded(alloc, &mut out)?))
+}
+
+/// The names of the tables of a command line, `none` where it has none.
+fn names_of(alloc: Global, tables: &[&str]) -> Result<String, AllocError> {
+    let mut names = String::new(alloc);
+    for name in tables {
+        if !names.is_empty() {
+            names.push(' ')?;
+        }
+        names.push_str(name)?;
+    }
+    if names.is_empty() {
+        names.push_str("none")?;
+    }
+    Ok(names)
+}
+
 /// What a command line asks for: its job, its file and its table, or `refused`, or `help` whose text has this part.
 pub fn asked(alloc: Global, line: &str, part: &str) -> Told {
     let words: Vec<&str> = line.split(' ').collect(alloc)?;
     match invocation_of(alloc, &words) {
-        Ok(Invocation { job, file, table }) => {
-            let table = table.unwrap_or("none");
-            Ok(format!(in alloc; "{job:?} of {file}, table {table}")?)
+        Ok(invocation) => {
+            let (job, file) = (invocation.job, invocation.file);
+            let names = names_of(alloc, &invocation.tables)?;
+            match plain_of(&invocation) {
+                Some(plain) => {
+                    let job = plain.job;
+                    Ok(format!(in alloc; "{job:?} of {file}, table {names}")?)
+                }
+                None => Ok(format!(in alloc; "{job:?} of {file}, table {names}")?),
+            }
         }
         Err(error) if error.use_stderr() => said(alloc, "refused"),
         Err(error) => {

@@ -1,6 +1,4 @@
-mod CommandLines
 mod Listings
 mod Printing
 mod Problems
 mod Telling
-mod Words

@@ -1,5 +1,3 @@
-pub mod CommandLine
-pub mod Jobs
 pub mod Opened
 pub mod Printed
 pub mod Status

@@ -95,7 +95,7 @@ fn carry_out<
 
 /// Writes a text out, and flushes. Where that fails, a beginning of the text went out, or all of it.
 #[tactic(auto, using(crate::proofs::Printing::some_begun, crate::proofs::Printing::whole_begun))]
-fn put_out<W: Write>(text: &[u8], out: &mut W) -> Result<(), Problem>
+pub fn put_out<W: Write>(text: &[u8], out: &mut W) -> Result<(), Problem>
     ensures all { OnOk result (Appends (W.contents out.old) (W.contents out.new) text.now) }
     ensures begun { OnErr result (AppendsSome (W.contents out.old) (W.contents out.new) text.now) }
     ensures output { IfErr result (λ problem. problem ≡ Problem.Output) }
@@ -201,7 +201,7 @@ fn survey_text<R: Clock>(rt: &R, alloc: Global, script: &Script) -> Result<FullA
 }
 
 /// The nanoseconds since a time, 0 where the clock can't tell.
-fn nanos_since<R: Clock>(rt: &R, start: io::Result<Instant>) -> u64 {
+pub fn nanos_since<R: Clock>(rt: &R, start: io::Result<Instant>) -> u64 {
     match start {
         Ok(start) => match start.elapsed(rt) {
             Ok(time) => u64::try_from(time.as_nanos()).unwrap_or(u64::MAX),
@@ -212,7 +212,7 @@ fn nanos_since<R: Clock>(rt: &R, start: io::Result<Instant>) -> u64 {
 }
 
 /// These tables, each followed by an empty line, and how many there are.
-fn tables_text(alloc: Global, script: &Script, tables: &[Table]) -> Result<Vec<u8>, Problem>
+pub fn tables_text(alloc: Global, script: &Script, tables: &[Table]) -> Result<Vec<u8>, Problem>
     ensures text { IfOk result (λ text. text.items ≡ counted_text script.now (map rows_of tables.now)) }
     ensures memory { IfErr result IsOfMemory }
 {

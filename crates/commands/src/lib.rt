@@ -2,15 +2,15 @@
 #![tactic(auto)]
 
 mod answer;
-mod command_line;
 mod files;
 mod inputs;
 mod job;
 mod problem;
 mod told;
 
-pub use answer::perform;
+pub use answer::{nanos_since, perform, put_out, tables_text};
 pub use files::serve;
 pub use inputs::Inputs;
-pub use job::{Invocation, Job, invocation_of};
+pub use job::{Invocation, Job};
 pub use problem::Problem;
+pub use told::{Stats, put_stats, tell};

@@ -12,7 +12,7 @@ use streams::{OutputFault, write_out};
 
 /// How many states a search met, and in how many nanoseconds.
 #[derive(Clone, Copy)]
-pub(crate) struct Stats {
+pub struct Stats {
     pub states: usize,
     pub nanos: u64,
 }
@@ -53,7 +53,7 @@ pub fn tell<E: Write>(problem: &Problem, err: &mut E) -> u8
 }
 
 /// Writes to `err` how many states were met, and how many in a second; nothing where it isn't told.
-pub(crate) fn put_stats<E: Write>(stats: &Option<Stats>, err: &mut E)
+pub fn put_stats<E: Write>(stats: &Option<Stats>, err: &mut E)
     ensures { PutsCounts stats.now (E.contents err.old) (E.contents err.new) }
 {
     let Some(stats) = stats else {

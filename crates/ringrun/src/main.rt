@@ -3,7 +3,7 @@
 
 use clap::Error;
 use clap::error::ErrorKind;
-use commands::{Invocation, invocation_of, serve};
+use queries::{Invocation, invocation_of, plain_of};
 use std::alloc::AllocError;
 use std::io;
 use std::process::ExitCode;
@@ -37,14 +37,17 @@ fn report(rt: &HostRuntime, error: Error) -> io::Result<u8> {
     Ok(if error.use_stderr() { 1 } else { 0 })
 }
 
-/// Carries an invocation out.
+/// Carries an invocation out: `commands` does where it has no word of `queries`.
 fn carry_out<T: Threads + Wait + Copy + Send + Sync + 'static + Clock>(
     threads: &T,
     rt: &HostRuntime,
     invocation: &Invocation,
 ) -> u8 {
     let (mut out, mut err) = (rt.stdout(), rt.stderr());
-    serve(threads, rt, invocation, &mut out, &mut err)
+    match plain_of(invocation) {
+        Some(plain) => commands::serve(threads, rt, &plain, &mut out, &mut err),
+        None => queries::serve(threads, rt, invocation, &mut out, &mut err),
+    }
 }
 
 /// Reads the command line and carries it out. The answer is the program's status.

@@ -29,7 +29,7 @@ pub fn write_history(alloc: Global, script: &Script, events: &[Event]) -> Result
 }
 
 /// Writes the line of an event that comes after these.
-fn write_event(
+pub fn write_event(
     out: &mut String,
     script: &Script,
     before: &[Event],
@@ -105,7 +105,7 @@ fn write_pair(
 
 /// What a LINK_TIMEOUT is answered that is settled after these events: -62 (ETIME) where it ran out in time, else -125
 /// (ECANCELED).
-fn settled(before: &[Event], timer: Req) -> i32
+pub fn settled(before: &[Event], timer: Req) -> i32
     ensures { result ≡ settled before.now timer }
 {
     if has_fired(before, timer) {
@@ -135,7 +135,7 @@ fn fires(event: &Event, asked: Req) -> bool
 
 /// The label of a request: that of the entry which its ring hands in after k others. A request that is none of the
 /// script's has no label.
-fn label_of(script: &Script, req: Req) -> &str
+pub fn label_of(script: &Script, req: Req) -> &str
     ensures { result.now ≡ label_of script.now req }
 {
     let Some(acts) = script.acts.get(req.ring as usize) else {

@@ -21,6 +21,6 @@ pub mod table;
 mod words;
 
 pub use fault::{Fault, Memory, ScriptFault};
-pub use history_text::write_history;
+pub use history_text::{label_of, settled, write_event, write_history};
 pub use reading::read_script;
 pub use table::{read_table, write_table};

@@ -1,0 +1,12 @@
+use Rattle.std.proofs.Common.{◌≡◌, ◌++◌, drop, map}
+use Rattle.std.specs.List.{AllByRecursion}
+use Rattle.script.specs.Rows.{rows_of}
+use Rattle.explore.specs.EventLogs.{IsHistoryOf}
+use Rattle.pictures.specs.Shown.{explained_of}
+use Rattle.checks.proofs.explained.explain.Given as goal
+
+abbrev pub invariant-loop-table : goal.invariant-loop-table
+invariant-loop-table l = record {
+  tables : map (λ x. x.0) (map explained_of l.made.items) ++ map rows_of (drop l.table-index l.tables) ≡ map rows_of l.tables;
+  histories : AllByRecursion (λ x. IsHistoryOf l.script x.0 x.1) (map explained_of l.made.items);
+}

@@ -1,0 +1,10 @@
+use Rattle.std.proofs.Common.{◌≡◌, ◌+◌, ◌≤◌, drop, map}
+use Rattle.script.specs.Rows.{rows_of}
+use Rattle.checks.specs.Tallies.{count_of}
+use Rattle.checks.proofs.tally.count_of.Given as goal
+
+abbrev pub invariant-loop-one : goal.invariant-loop-one
+invariant-loop-one l = record {
+  value : l.count + count_of (rows_of l.table) (map rows_of (drop l.one-index l.tables)) ≡ count_of (rows_of l.table) (map rows_of l.tables);
+  few : l.count ≤ l.one-index;
+}

@@ -1,0 +1,7 @@
+use Rattle.std.proofs.Common.{◌≡◌, drop, map}
+use Rattle.script.specs.Rows.{rows_of}
+use Rattle.checks.specs.Tallies.{has_rows}
+use Rattle.checks.proofs.tally.has_rows.Given as goal
+
+abbrev pub invariant-loop-one : goal.invariant-loop-one
+invariant-loop-one l = has_rows (rows_of l.table) (map rows_of (drop l.one-index l.tables)) ≡ has_rows (rows_of l.table) (map rows_of l.tables)

@@ -1,0 +1,3 @@
+pub mod TableFiles
+pub mod Tallies
+pub mod Verdicts

@@ -1,0 +1,3 @@
+mod JsonValues
+mod Tallies
+mod Turns

@@ -1,0 +1,15 @@
+use Rattle.std.proofs.Common.{◌≡◌, ◌∙◌, List, ap, map, subst, sym}
+use Rattle.std.specs.Prelude.{IfOk}
+use Rattle.serde_json.specs.Data.{Data}
+use Rattle.serde_json.specs.Written.{has_float}
+use Rattle.pictures.specs.Json.{json_text}
+use Rattle.pictures.specs.Shown.{explained_of}
+use Rattle.pictures.specs.Json.{explained_data}
+use Rattle.pictures.proofs.JsonValues.{list_ends, all_explained_plain}
+use Rattle.pictures.proofs.json.write_explained.Goals as goal
+
+pub text_of-requires : goal.text_of-requires
+text_of-requires c = ap has_float (list_ends (explained_data c.args.script.now) explained_of c.args.explained.now c.loop-one.one-index c.loop-one.list c.loop-one-test.false c.loop-one.invariant) ∙ all_explained_plain c.args.script.now (map explained_of c.args.explained.now)
+
+pub returns : goal.returns
+returns c = subst (λ (d : Data). IfOk c.text_of.result (λ text. text.items ≡ json_text d)) (list_ends (explained_data c.args.script.now) explained_of c.args.explained.now c.loop-one.one-index c.loop-one.list c.loop-one-test.false c.loop-one.invariant) c.text_of.ensures

@@ -1,0 +1,8 @@
+use Rattle.std.proofs.Common.{◌≡◌, ◌++◌, drop, map}
+use Rattle.pictures.specs.Shown.{explained_of}
+use Rattle.serde_json.specs.View.{view}
+use Rattle.pictures.specs.Json.{explained_data}
+use Rattle.pictures.proofs.json.write_explained.Given as goal
+
+abbrev pub invariant-loop-one : goal.invariant-loop-one
+invariant-loop-one l = map view l.list.items ++ map (explained_data l.script) (map explained_of (drop l.one-index l.explained)) ≡ map (explained_data l.script) (map explained_of l.explained)

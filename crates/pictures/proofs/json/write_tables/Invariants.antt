@@ -1,0 +1,8 @@
+use Rattle.std.proofs.Common.{◌≡◌, ◌++◌, drop, map}
+use Rattle.script.specs.Rows.{rows_of}
+use Rattle.serde_json.specs.View.{view}
+use Rattle.pictures.specs.Json.{table_data}
+use Rattle.pictures.proofs.json.write_tables.Given as goal
+
+abbrev pub invariant-loop-table : goal.invariant-loop-table
+invariant-loop-table l = map view l.list.items ++ map (λ lines. table_data l.script lines) (map rows_of (drop l.table-index l.tables)) ≡ map (λ lines. table_data l.script lines) (map rows_of l.tables)

@@ -1,0 +1,7 @@
+use Rattle.std.proofs.Common.{◌≡◌, ◌+◌, ◌-◌, ◌++◌}
+use Rattle.std.specs.String.{string_bytes}
+use Rattle.pictures.specs.Diagrams.{participants}
+use Rattle.pictures.proofs.mermaid.push_participants.Given as goal
+
+abbrev pub invariant-loop-column : goal.invariant-loop-column
+invariant-loop-column l = string_bytes l.out ++ participants l.columns.rings l.columns.workers l.column-counter (l.columns.rings + l.columns.workers + 2 + 1 - l.column-counter) ≡ string_bytes l.fn.out ++ participants l.columns.rings l.columns.workers 0 (l.columns.rings + l.columns.workers + 2 + 1)

@@ -1,0 +1,7 @@
+use Rattle.std.proofs.Common.{◌≡◌, ◌++◌, drop, map}
+use Rattle.pictures.specs.Shown.{explained_of}
+use Rattle.pictures.specs.Texts.{explained_lines}
+use Rattle.pictures.proofs.texts.explained_text.Given as goal
+
+abbrev pub invariant-loop-one : goal.invariant-loop-one
+invariant-loop-one l = l.out.items ++ explained_lines l.script (map explained_of (drop l.one-index l.explained)) ≡ explained_lines l.script (map explained_of l.explained)

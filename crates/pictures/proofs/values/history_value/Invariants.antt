@@ -1,0 +1,8 @@
+-- The events so far, and those that are left, are all.
+use Rattle.std.proofs.Common.{◌≡◌, [], ◌++◌, drop, map, take}
+use Rattle.serde_json.specs.View.{view}
+use Rattle.pictures.specs.Json.{events_after}
+use Rattle.pictures.proofs.values.history_value.Given as goal
+
+abbrev pub invariant-loop-place : goal.invariant-loop-place
+invariant-loop-place l = map view l.made.items ++ events_after l.script (take l.place l.events) (drop l.place l.events) ≡ events_after l.script [] l.events

@@ -1,0 +1,19 @@
+//! What a program prints of a script's tables and histories beside their plain texts: pictures, and JSON.
+#![tactic(auto)]
+
+mod json;
+mod lanes;
+mod marks;
+mod mermaid;
+mod texts;
+mod values;
+mod workers;
+
+pub use json::{
+    write_explained, write_history, write_none, write_table, write_tables, write_tally,
+    write_verdicts,
+};
+pub use lanes::write_lanes;
+pub use marks::{Lane, Mark, marks_of};
+pub use mermaid::write_mermaid;
+pub use texts::{explained_text, tally_text, verdicts_text};

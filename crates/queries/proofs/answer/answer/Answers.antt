@@ -1,0 +1,20 @@
+use Rattle.std.proofs.Common.{map}
+use Rattle.std.proofs.lemmas.Result.{err_from_is_err_and}
+use Rattle.queries.specs.Given.{given_of}
+use Rattle.queries.proofs.Problems.{answered, explained, of_script_fault}
+use Rattle.queries.proofs.answer.answer.Goals as goal
+
+pub returns-in_err-script-clause-explains : goal.returns-in_err-script-clause-explains
+returns-in_err-script-clause-explains g c =
+    let p = err_from_is_err_and c.from_residual-in_err-script.result c.from_residual-in_err-script.ensures.1 in
+    rw (p.1) (of_script_fault c.args.job.now _ _ _ c.deref.result.now _ p.0 c.in_ok-text.ensures.all c.deref.ensures.value c.in_err-script.ensures.told p.2)
+
+pub returns-clause-answer : goal.returns-clause-answer
+returns-clause-answer g c =
+    answered c.answer_to.result c.args.job.now _ _ _ c.deref.result.now c.in_ok-script.script (map given_of c.in_ok-given.given.items) c.in_ok-text.ensures.all c.deref.ensures.value c.in_ok-script.ensures.says c.in_ok-given.ensures.read
+    (rw c.deref-2.ensures.value at c.answer_to.ensures.prints) c.answer_to.ensures.counts
+
+pub returns-clause-explains : goal.returns-clause-explains
+returns-clause-explains g c =
+    explained c.answer_to.result c.args.job.now _ _ _ c.deref.result.now c.in_ok-script.script (map given_of c.in_ok-given.given.items) c.in_ok-text.ensures.all c.deref.ensures.value c.in_ok-script.ensures.says c.in_ok-given.ensures.read
+    (rw c.deref-2.ensures.value at c.answer_to.ensures.explains)

@@ -1,0 +1,6 @@
+pub mod Answers
+pub mod Ends
+pub mod Given
+pub mod Plain
+pub mod Reasons
+pub mod Served

@@ -1,0 +1,88 @@
+//! Outcomes, listed.
+ghost use Rattle.std.specs.Prelude.{◌≡◌, true, map, IfErr, IfOk};
+ghost use Rattle.script.specs.Rows.{rows_of};
+ghost use Rattle.explore.specs.Search.{HasStates};
+ghost use Rattle.checks.specs.Verdicts.{AreTablesOf};
+ghost use Rattle.queries.specs.Answers.{IsListText, IsTablesText};
+ghost use Rattle.queries.specs.Reasons.{IsOfLimit};
+
+use checks::explain;
+use commands::{Problem, Stats, nanos_since};
+use explore::{Script, Table, survey_script};
+use std::alloc::Global;
+use std::time::{Clock, Instant};
+
+/// How a list is asked for.
+#[derive(Clone, Copy)]
+pub(crate) struct Listing {
+    pub explain: bool,
+    pub limit: u32,
+    pub json: bool,
+}
+
+/// A list, and how it was found.
+#[derive(Drop)]
+pub(crate) struct Listed {
+    pub text: Vec<u8>,
+    pub stats: Stats,
+}
+
+/// These tables of a script with histories.
+fn explained_text(
+    alloc: Global,
+    script: &Script,
+    tables: &[Table],
+    listing: Listing,
+) -> Result<Vec<u8>, Problem>
+    requires { AreTablesOf script.now (map rows_of tables.now) }
+    ensures text { IfOk result (λ text. IsTablesText true listing.json script.now (map rows_of tables.now) text.items) }
+    ensures explains { IfErr result (IsOfLimit script.now listing.limit) }
+{
+    let explained = explain(alloc, script, tables, listing.limit)?;
+    if listing.json {
+        Ok(pictures::write_explained(alloc, script, &explained)?)
+    } else {
+        Ok(pictures::explained_text(alloc, script, &explained)?)
+    }
+}
+
+/// These tables of a script.
+fn tables_text(
+    alloc: Global,
+    script: &Script,
+    tables: &[Table],
+    listing: Listing,
+) -> Result<Vec<u8>, Problem>
+    requires { AreTablesOf script.now (map rows_of tables.now) }
+    ensures text { IfOk result (λ text. IsTablesText listing.explain listing.json script.now (map rows_of tables.now) text.items) }
+    ensures explains { IfErr result (IsOfLimit script.now listing.limit) }
+{
+    match (listing.explain, listing.json) {
+        (true, _) => explained_text(alloc, script, tables, listing),
+        (false, true) => Ok(pictures::write_tables(alloc, script, tables)?),
+        (false, false) => commands::tables_text(alloc, script, tables),
+    }
+}
+
+/// All tables of a script.
+pub(crate) fn list_text<R: Clock>(
+    rt: &R,
+    alloc: Global,
+    script: &Script,
+    listing: Listing,
+) -> Result<Listed, Problem>
+    ensures prints { IfOk result (λ listed. IsListText script.now listing.explain listing.json listed.text.items) }
+    ensures states { IfOk result (λ listed. HasStates script.now listed.stats.states) }
+    ensures explains { IfErr result (IsOfLimit script.now listing.limit) }
+{
+    let start = Instant::now(rt);
+    let survey = survey_script(alloc, script, listing.limit)?;
+    let stats = Stats {
+        states: survey.states,
+        nanos: nanos_since(rt, start),
+    };
+    Ok(Listed {
+        text: tables_text(alloc, script, &survey.tables, listing)?,
+        stats,
+    })
+}
