@@ -1,5 +1,5 @@
 //! A small program over clients. Ring 0 submits a WRITE into a pipe and a READ that is linked to it, and ring 1 a TIMEOUT. Their
-//! clients take the completions, and the runtime is ended.
+//! clients wait for the completions, and the runtime is ended.
 #![tactic(auto)]
 
 ghost use Rattle.std.specs.Prelude.{◌≡◌, None, IfOk};
@@ -14,7 +14,7 @@ use runtime::{Client, Runtime, join_all, start};
 use std::alloc::{AllocError, Global};
 use std::sync::Wait;
 use std::thread::Threads;
-use std::{io, str, thread};
+use std::{io, str};
 
 /// IOSQE_IO_LINK.
 const LINK: u8 = 4;
@@ -97,24 +97,11 @@ fn submit_timeout(alloc: Global, client: &mut Client) -> Result<()>
     submit(client, batch)
 }
 
-/// Takes the next completion, once it is there.
-fn next<R: Wait>(rt: &R, client: &mut Client) -> Completion
-    ensures { client.new.board ≡ client.old.board }
-{
-    for _ in rt.forever() {
-        if let Some(completion) = client.take(rt) {
-            return completion;
-        }
-        thread::yield_now();
-    }
-    unreachable!()
-}
-
-/// Takes two completions, and gives them in the order of submission.
+/// Waits for two completions, and gives them in the order of submission.
 fn next_two<R: Wait>(rt: &R, client: &mut Client) -> (Completion, Completion)
     ensures { client.new.board ≡ client.old.board }
 {
-    let (first, second) = (next(rt, client), next(rt, client));
+    let (first, second) = (client.wait(rt), client.wait(rt));
     if first.req.k < second.req.k {
         (first, second)
     } else {
@@ -151,7 +138,7 @@ fn end<R: Threads + Wait>(
     }
 }
 
-/// Submits the requests of both rings, takes their completions, and prints them.
+/// Submits the requests of both rings, waits for their completions, and prints them.
 fn serve<R: Wait + Print>(rt: &R, alloc: Global, zero: &mut Client, one: &mut Client) -> Result<()>
     ensures zero { zero.new.board ≡ zero.old.board }
     ensures one { one.new.board ≡ one.old.board }
@@ -159,7 +146,7 @@ fn serve<R: Wait + Print>(rt: &R, alloc: Global, zero: &mut Client, one: &mut Cl
     submit_hello(alloc, zero)?;
     submit_timeout(alloc, one)?;
     let (write, read) = next_two(rt, zero);
-    let timeout = next(rt, one);
+    let timeout = one.wait(rt);
     for completion in [write, read, timeout] {
         show(rt, &completion)?;
     }

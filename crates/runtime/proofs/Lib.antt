@@ -3,3 +3,4 @@ pub mod TurnLaws
 pub mod DeskLaws
 pub mod ShiftLaws
 pub mod RuntimeParts
+pub mod WaitLaws

@@ -1,5 +1,5 @@
 -- Passes and clients of a runtime, as they are taken out of their lists and put into them.
-use Rattle.std.proofs.Common.{◌≡◌, ℕ, zero, suc, ◌+◌, ◌<◌, List, [], ◌∷◌, ◌++◌, ◌⊎◌, All, length, map, reverse, slice_get, get_or, drop, None, Some, sym, refl, ap, ◌∙◌, subst, arith}
+use Rattle.std.proofs.Common.{◌≡◌, ℕ, zero, suc, ◌+◌, ◌<◌, List, [], ◌∷◌, ◌++◌, ◌⊎◌, All, length, map, reverse, slice_get, slice_index, get_or, drop, None, Some, sym, refl, ap, ◌∙◌, subst, arith}
 use mathlib.Core.Option.{some}
 use lib.ListN.{get_elem?}
 use Rattle.std.proofs.lemmas.List.{append_assoc, map-append, reverse-append}
@@ -18,6 +18,7 @@ use Rattle.board.specs.declared.shape.RingShape.{RingShape}
 use Rattle.board.specs.ShapeLimits.{counts}
 use Rattle.board.proofs.TakenCells.{some_get}
 use Rattle.bell.specs.BellPasses.{Facts as Bell, IsNew, IsRingerOf, Ringing, Sleeping, new_ringing}
+use Rattle.runtime.specs.PostLocks.{AreNumbered}
 use Rattle.runtime.specs.StartParts.{AreRingers, IsNewRinger}
 use Rattle.runtime.specs.Clients.{ClientFacts, AreClients, AreNewClients, HasTaken, IsNewClient, submitter_of, without_tail}
 
@@ -46,6 +47,22 @@ ringers_of rings b rs s new k d lt =
     let below : k < rings = subst (λ (n : ℕ). k < n) new.count lt in
     let found : get_or rs k d ≡ new_ringing b.table k = some_get rs k (new_ringing b.table k) d (new.each k below) in
     subst (λ (r : Ringing). IsRingerOf b r × (r.tail ≡ 0)) (sym found) ((refl, subst (λ (n : ℕ). k < n) (sym new.rings_are) below), refl)
+
+pushed_at : (xs : List ℕ) (x n : ℕ) → ((i : ℕ) → i < length xs → slice_index xs i ≡ n + i) → x ≡ n + length xs → (i : ℕ) → i < length (xs ++ x ∷ []) → slice_index (xs ++ x ∷ []) i ≡ n + i
+pushed_at [] x n k is zero lt = is
+pushed_at [] x n k is (suc i) lt = absurd (omega (arith, lt))
+pushed_at (y ∷ xs) x n k is zero lt = k zero (omega arith)
+pushed_at (y ∷ xs) x n k is (suc i) lt =
+    let each : (m : ℕ) → m < length xs → slice_index xs m ≡ suc n + m = λ m l. (let e : n + suc m ≡ suc n + m = omega arith in k (suc m) (omega (arith, l)) ∙ e) in
+    let last : x ≡ suc n + length xs = omega (arith, is) in
+    let e : suc n + i ≡ n + suc i = omega arith in
+    pushed_at xs x (suc n) each last i (omega (arith, lt)) ∙ e
+
+-- one lock more, that of the next ring
+pub numbered_push : (xs : List ℕ) (x : ℕ) → AreNumbered xs → x ≡ length xs → AreNumbered (xs ++ x ∷ [])
+numbered_push xs x all is i lt =
+    let e : 0 + i ≡ i = omega arith in
+    pushed_at xs x 0 (λ m l. (let z : m ≡ 0 + m = omega arith in all m l ∙ z)) (omega (arith, is)) i lt ∙ e
 
 -- the last of the ringers
 pub last_ringer : (b : Bell) (n : ℕ) (rs : List Ringing) (r : Ringing) → AreRingers b n (rs ++ r ∷ []) → AreRingers b n rs × IsNewRinger b (n + length rs) r

@@ -3,6 +3,7 @@ use Rattle.std.specs.Prelude.{◌≡◌, ◌⊎◌, ℕ, suc, max, nat_lt, cond,
 use Rattle.history.specs.declared.req.Req.{Req}
 use Rattle.history.specs.History.{submits}
 use Rattle.steps.specs.declared.view.Role.TheVariants.{Submitter}
+use Rattle.steps.specs.Rule.{Begins}
 use Rattle.work.specs.Board.{Facts}
 use Rattle.work.specs.Passes.{Pass, seen_of}
 use Rattle.board.specs.declared.completion.Completion.{Completion}
@@ -22,10 +23,11 @@ pub record ClientFacts : Type 0 where
   pub publishes : ℕ
   pub posts : List Req
 
--- the posts that the client of a ring holds
+-- the posts that the client of a ring holds, and how many it has places for
 pub record Holding : Type 0 where
   pub ring : ℕ
   pub posts : List Req
+  pub places : ℕ
 
 abbrev pub submitter_of : ClientFacts → Pass
 submitter_of c = c.submitter
@@ -51,6 +53,17 @@ pub record HasTaken (old new : ClientFacts) (result : Option Completion) : Type 
   pub none : first ≡ None → new.posts ≡ []
   pub gives : (x : Completion) → result ≡ Some x → first ≡ Some x.req
   pub refused : result ≡ None → (r : Req) → first ≡ Some r → (e : ReapError) × RefusesReap old.board.layout.cells r old.ring (submits (seen_of old.submitter) old.ring) old.submitter new.submitter e
+
+-- the request could not be reaped by this client, once that had seen what it saw before
+abbrev pub WasRefused : ClientFacts → Req → Type 0
+WasRefused c r = (p : Pass) × (q : Pass) × Begins p.view.seen c.submitter.view.seen × (e : ReapError) × RefusesReap c.board.layout.cells r c.ring (submits (seen_of p) c.ring) p q e
+
+-- a client waited, and took the completion of the request x: posts that it found came after those that it held, and before that of x there were none but of requests that could not be reaped
+pub record HasAwaited (old new : ClientFacts) (x : Req) : Type 0 where
+  pub found : List Req
+  pub passed : List Req
+  pub order : old.posts ++ found ≡ passed ++ (x ∷ new.posts)
+  pub refused : All (λ r. WasRefused old r) passed
 
 -- the client of ring n of a new runtime over this board, which has submitted nothing
 abbrev pub IsNewClient : Facts → ℕ → ClientFacts → Type 0

@@ -10,11 +10,12 @@ use std::marker::Model;
 use std::sync::Wait;
 
 /// Numbers that are to be put into the ready queue, in order: a span that may still grow, and where that found no place there, the number
-/// that came next.
+/// that came next. And how many spans found their places, modulo 2^32.
 #[derive(Drop)]
 pub(crate) struct Backlog {
     span: Option<Span>,
     next: Option<Span>,
+    puts: u32,
 }
 
 impl Model for Backlog {
@@ -39,7 +40,13 @@ impl Backlog {
         Backlog {
             span: None,
             next: None,
+            puts: 0,
         }
+    }
+
+    /// How many spans were put into the ready queue, modulo 2^32.
+    pub fn puts(&self) -> u32 {
+        self.puts
     }
 
     /// Whether it has no numbers.
@@ -80,7 +87,10 @@ impl Backlog {
             return;
         }
         match queue.put_span(rt, ready, span) {
-            Ok(()) => self.span = Some(Span::of(req)),
+            Ok(()) => {
+                self.puts = self.puts.wrapping_add(1);
+                self.span = Some(Span::of(req));
+            }
             Err(back) => {
                 self.span = Some(back);
                 self.next = Some(Span::of(req));
@@ -100,11 +110,13 @@ impl Backlog {
             self.span = Some(back);
             return;
         }
+        self.puts = self.puts.wrapping_add(1);
         let Some(next) = self.next.take() else {
             return;
         };
-        if let Err(back) = queue.put_span(rt, ready, next) {
-            self.span = Some(back);
+        match queue.put_span(rt, ready, next) {
+            Ok(()) => self.puts = self.puts.wrapping_add(1),
+            Err(back) => self.span = Some(back),
         }
     }
 }

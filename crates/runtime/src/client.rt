@@ -1,5 +1,5 @@
 //! The client of one ring.
-ghost use Rattle.std.specs.Prelude.{◌≡◌, ◌+◌, ◌<◌, ◌≤◌, ℕ, suc, [], ◌∷◌, length, IfOk, IfErr, IfSome, MatchOption};
+ghost use Rattle.std.specs.Prelude.{◌≡◌, ◌≢◌, ◌+◌, ◌<◌, ◌≤◌, ◌++◌, ℕ, suc, [], ◌∷◌, List, None, length, min, IfOk, IfErr, IfSome, MatchOption};
 ghost use Rattle.std.specs.Arc.{arc_value};
 ghost use Rattle.history.specs.declared.event.Event.TheVariants.{Reap};
 ghost use Rattle.history.specs.History.{phase, submits};
@@ -14,11 +14,13 @@ ghost use Rattle.board.specs.Calls.{Goes, Finds, next_of};
 ghost use Rattle.board.specs.Headline.{IsCompletion, HasOnce};
 ghost use Rattle.board.specs.Lanes.{nth, LinkedAreReaped};
 ghost use Rattle.board.specs.Refusals.{RefusesBatch};
-ghost use Rattle.runtime.specs.Clients.{HasTaken, HasTold, without_tail};
+ghost use Rattle.board.specs.ShapeLimits.{widest};
+ghost use Rattle.runtime.specs.Clients.{HasAwaited, HasTaken, HasTold, without_tail};
 
 use crate::held::Held;
 use crate::releasing::END;
 use crate::shared::Shared;
+use crate::sleeping::{Listener, await_posts};
 use bell::Ringer;
 use board::{Completion, Phase, SubmitError, Submitter};
 use entry::Sqe;
@@ -26,8 +28,8 @@ use history::Req;
 use std::marker::Model;
 use std::sync::{Arc, Wait};
 
-/// Submits to one ring and takes its completions. No call but `take` waits, and `take` only for the lock of its ring's completions,
-/// which it takes once for all posts that wait, up to 64.
+/// Submits to one ring and takes its completions. `wait` and `submit_and_wait` sleep until completions are there. `take` waits for
+/// nothing but the lock of its ring's completions, which it takes once for all posts that wait, up to 64, and only where there are any.
 /// Contracts see its board, its submitter's pass, its ring, the tail that it published last, how often it published one, and the posts
 /// that it holds.
 #[derive(Drop)]
@@ -37,11 +39,13 @@ pub struct Client {
     ringer: Ringer,
     tail: u64,
     held: Held,
+    listener: Option<Listener>,
 }
 
 impl Model for Client {
-    ghost use Rattle.std.specs.Prelude.{◌≡◌, length};
+    ghost use Rattle.std.specs.Prelude.{◌≡◌, ◌≢◌, None, length};
     ghost use Rattle.std.specs.Arc.{arc_value};
+    ghost use Rattle.board.specs.ShapeLimits.{widest};
     ghost use Rattle.steps.specs.declared.view.Role.TheVariants.{Submitter as SubmitterRole};
     ghost use Rattle.bell.specs.BellPasses.{IsRingerOf};
     ghost use Rattle.work.specs.Board.{IsOf};
@@ -51,7 +55,7 @@ impl Model for Client {
 
     ghost view = { λ c. record { board = (arc_value c.shared).board; submitter = c.submitter; ring = c.held.ring; tail = c.tail; publishes = length c.ringer.found; posts = c.held.posts } };
 
-    ghost invariant = { λ c. IsOf (arc_value c.shared).board c.submitter × IsRingerOf (arc_value c.shared).bell c.ringer × (c.ringer.tail ≡ c.tail) × (c.submitter.view.role ≡ SubmitterRole c.held.ring) × (c.ringer.ring ≡ c.held.ring) };
+    ghost invariant = { λ c. IsOf (arc_value c.shared).board c.submitter × IsRingerOf (arc_value c.shared).bell c.ringer × (c.ringer.tail ≡ c.tail) × (c.submitter.view.role ≡ SubmitterRole c.held.ring) × (c.ringer.ring ≡ c.held.ring) × (c.held.places ≡ widest (arc_value c.shared).board.layout.cells) × (c.listener ≢ None) };
 }
 
 impl Client {
@@ -61,10 +65,12 @@ impl Client {
         submitter: Submitter,
         ringer: Ringer,
         held: Held,
+        listener: Listener,
     ) -> Client
         requires submitter { IsOf (arc_value shared).board submitter }
         requires ringer { IsRingerOf (arc_value shared).bell ringer × ((ringer.tail ≡ 0) × (ringer.found ≡ [])) }
         requires ring { (submitter.view.role ≡ SubmitterRole held.ring) × (ringer.ring ≡ held.ring) }
+        requires places { held.places ≡ widest (arc_value shared).board.layout.cells }
         ensures board { result.board ≡ (arc_value shared).board }
         ensures submitter { result.submitter ≡ submitter }
         ensures ring { result.ring ≡ held.ring }
@@ -77,6 +83,7 @@ impl Client {
             ringer,
             tail: 0,
             held,
+            listener: Some(listener),
         }
     }
 
@@ -142,6 +149,65 @@ impl Client {
             Ok(completion) => Some(completion),
             Err(_) => None,
         }
+    }
+
+    /// Waits for the next completion of its ring, and takes it (io_uring_wait_cqe(3)). Until one is there it sleeps: for good, where no
+    /// request of its ring will be answered any more.
+    pub fn wait<R: Wait>(&mut self, rt: &R) -> Completion
+        ensures same { (self.new.board ≡ self.old.board) × (self.new.ring ≡ self.old.ring) × (self.new.tail ≡ self.old.tail) × (self.new.publishes ≡ self.old.publishes) }
+        ensures taken { HasAwaited self.old self.new result.req }
+        ensures reaped { Goes self.old.board self.old.submitter (Reap result.req ∷ []) self.new.submitter }
+        ensures completion { IsCompletion (seen_of self.new.submitter) result.req result × IsReaped (phase (seen_of self.new.submitter) result.req) }
+        ensures once { HasOnce (seen_of self.new.submitter) result.req }
+    {
+        for _ in rt.forever() {
+            self.await_held(rt, 1);
+            if let Some(completion) = self.take(rt) {
+                return completion;
+            }
+        }
+        unreachable!()
+    }
+
+    /// Submits a batch as `submit_batch` does, and then waits until so many completions can be taken without waiting, of those that
+    /// weren't taken before, too (io_uring_submit_and_wait(3)). More than the board's widest ring has cells can't be there at once, so
+    /// it waits for no more than that. Where fewer requests of its ring will be answered it sleeps for good.
+    pub fn submit_and_wait<R: Wait>(
+        &mut self,
+        rt: &R,
+        batch: Vec<(Sqe, Vec<u8>)>,
+        count: usize,
+    ) -> Result<Req, (SubmitError, Vec<(Sqe, Vec<u8>)>)>
+        ensures same { (self.new.board ≡ self.old.board) × (self.new.ring ≡ self.old.ring) }
+        ensures submitted { IfOk result (λ r. (r ≡ next_of self.old.submitter self.old.ring) × Goes self.old.board self.old.submitter (submits_of self.old.ring r.k batch.items) self.new.submitter) }
+        ensures told { IfOk result (λ r. HasTold (submits (seen_of self.new.submitter) self.old.ring) self.old self.new) }
+        ensures untold { IfErr result (λ e. (self.new.tail ≡ self.old.tail) × (self.new.publishes ≡ self.old.publishes)) }
+        ensures found { IfOk result (λ r. (found : List Req) × (self.new.posts ≡ self.old.posts ++ found)) }
+        ensures waited { IfOk result (λ r. min count (widest self.old.board.layout.cells) ≤ length self.new.posts) }
+        ensures free { IfOk result (λ r. (i : ℕ) → i < length batch.items → IsFree self.old.board.layout.cells (seen_of self.new.submitter) (nth r.ring (r.k + i))) }
+        ensures refused { IfErr result (λ e. Goes self.old.board self.old.submitter [] self.new.submitter × (e.1 ≡ batch) × (self.new.posts ≡ self.old.posts)) }
+        ensures reason { IfErr result (λ e. RefusesBatch self.old.board batch.items self.old.ring (next_of self.old.submitter self.old.ring).k self.old.submitter self.new.submitter e.0) }
+    {
+        let req = self.submit_batch(batch)?;
+        self.await_held(rt, count);
+        Ok(req)
+    }
+
+    /// Waits until it holds so many posts, or as many as the widest ring has cells.
+    fn await_held<R: Wait>(&mut self, rt: &R, count: usize)
+        ensures same { (self.new.board ≡ self.old.board) × (self.new.ring ≡ self.old.ring) × (self.new.tail ≡ self.old.tail) × (self.new.publishes ≡ self.old.publishes) × (self.new.submitter ≡ self.old.submitter) }
+        ensures found { (found : List Req) × (self.new.posts ≡ self.old.posts ++ found) }
+        ensures enough { min count (widest self.old.board.layout.cells) ≤ length self.new.posts }
+    {
+        let count = count.min(self.shared.board.widest() as usize);
+        if count <= self.held.len() {
+            return;
+        }
+        let Some(listener) = self.listener.take() else {
+            unreachable!()
+        };
+        let listener = await_posts(rt, &self.shared.posts, &mut self.held, count, listener);
+        self.listener = Some(listener);
     }
 
     /// Tells the poller how many requests were submitted, unless it was told a greater tail.

@@ -18,6 +18,7 @@ mod ringing;
 pub mod serving;
 mod shared;
 mod shelf;
+mod sleeping;
 #[cfg(test)]
 mod stage;
 pub mod started;

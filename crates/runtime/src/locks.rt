@@ -3,15 +3,26 @@ ghost use Rattle.std.specs.Prelude.{◌≡◌, IfSome, length};
 ghost use Rattle.std.specs.Sync.Mutex.{mutex_guard_value};
 ghost use Rattle.runtime.specs.PostLocks.{AreNumbered};
 
+use crate::sleeping::Caller;
 use compring::CompletionRing;
 use std::marker::Model;
+use std::sync::atomic::{AtomicU64, Ordering};
 use std::sync::{Mutex, MutexGuard, Wait};
 
-/// The completion ring of a ring, under its lock. Contracts see the number of the ring.
+/// What is under the lock of a ring: its completion ring, and the one who wakes its client.
+#[derive(Drop)]
+pub(crate) struct Posting {
+    pub ring: CompletionRing,
+    pub caller: Caller,
+}
+
+/// The completion ring of a ring, under its lock, and how many posts it was given, which is read without the lock. Contracts see the
+/// number of the ring.
 #[derive(Drop)]
 pub(crate) struct PostLock {
     owner: u16,
-    lock: Mutex<CompletionRing>,
+    lock: Mutex<Posting>,
+    posted: AtomicU64,
 }
 
 impl Model for PostLock {
@@ -23,24 +34,25 @@ impl Model for PostLock {
 }
 
 impl PostLock {
-    /// The lock of this completion ring.
-    pub(crate) fn new(ring: CompletionRing) -> PostLock
+    /// The lock of this completion ring, whose posts this one calls for.
+    pub(crate) fn new(ring: CompletionRing, caller: Caller) -> PostLock
         ensures { result ≡ ring.owner }
     {
         PostLock {
             owner: ring.owner(),
-            lock: Mutex::new(ring),
+            lock: Mutex::new(Posting { ring, caller }),
+            posted: AtomicU64::new(0),
         }
     }
 
     /// Takes the lock. That the completion ring under it is still the one that was put there is no clause of a lock, so it is asked.
-    fn lock<'a, R: Wait>(&'a self, rt: &R) -> MutexGuard<'a, CompletionRing>
-        ensures { (mutex_guard_value result).owner ≡ self.now }
+    fn lock<'a, R: Wait>(&'a self, rt: &R) -> MutexGuard<'a, Posting>
+        ensures { (mutex_guard_value result).ring.owner ≡ self.now }
     {
         for _ in rt.forever() {
-            let ring = self.lock.lock(rt);
-            if ring.owner() == self.owner {
-                return ring;
+            let posting = self.lock.lock(rt);
+            if posting.ring.owner() == self.owner {
+                return posting;
             }
         }
         unreachable!()
@@ -74,16 +86,27 @@ impl PostLocks {
     }
 
     /// Takes the lock of this ring's completion ring, if there is such a ring.
-    pub(crate) fn lock<'a, R: Wait>(
-        &'a self,
-        rt: &R,
-        ring: u16,
-    ) -> Option<MutexGuard<'a, CompletionRing>>
-        ensures { IfSome result (λ g. (mutex_guard_value g).owner ≡ ring) }
+    pub(crate) fn lock<'a, R: Wait>(&'a self, rt: &R, ring: u16) -> Option<MutexGuard<'a, Posting>>
+        ensures { IfSome result (λ g. (mutex_guard_value g).ring.owner ≡ ring) }
     {
         let Some(lock) = self.locks.get(usize::from(ring)) else {
             return None;
         };
         Some(lock.lock(rt))
+    }
+
+    /// How many posts the completion ring of this ring was given.
+    pub(crate) fn posted(&self, ring: u16) -> u64 {
+        match self.locks.get(usize::from(ring)) {
+            Some(lock) => lock.posted.load(Ordering::SeqCst),
+            None => 0,
+        }
+    }
+
+    /// Notes that the completion ring of this ring was given so many more posts.
+    pub(crate) fn note(&self, ring: u16, posts: u64) {
+        if let Some(lock) = self.locks.get(usize::from(ring)) {
+            lock.posted.fetch_add(posts, Ordering::SeqCst);
+        }
     }
 }

@@ -138,6 +138,33 @@ impl<C: Clock + Drop> Pair<C> {
         }
     }
 
+    /// Waits for the next completion of ring 0.
+    pub fn wait<R: Wait>(&mut self, rt: &R) -> Result<String, Fail> {
+        shown(self.alloc, self.zero.wait(rt))
+    }
+
+    /// Submits the entries to ring 0, and waits until so many completions can be taken.
+    pub fn submit_and_wait<R: Wait>(
+        &mut self,
+        rt: &R,
+        entries: &[Entry],
+        count: usize,
+    ) -> Result<Req, Fail> {
+        let batch = batch_of(self.alloc, entries)?;
+        match self.zero.submit_and_wait(rt, batch, count) {
+            Ok(req) => Ok(req),
+            Err(_) => Err(Fail::new("the batch was refused")),
+        }
+    }
+
+    /// Takes a completion of ring 0, where one is there.
+    pub fn take_now<R: Wait>(&mut self, rt: &R) -> Result<String, Fail> {
+        match self.zero.take(rt) {
+            Some(completion) => shown(self.alloc, completion),
+            None => Err(Fail::new("no completion is there")),
+        }
+    }
+
     /// Ends the runtime. The lines of its report: each request, its result, and whether the end cut it off.
     pub fn end<R: Threads + Wait>(self, rt: &R) -> Result<String, Fail> {
         let Pair {

@@ -145,6 +145,11 @@ impl PollDesk {
         self.places
     }
 
+    /// How many spans of numbers its turns have put into the ready queue, modulo 2^32.
+    pub(crate) fn puts(&self) -> u32 {
+        self.hands.kept.puts()
+    }
+
     /// Whether its last turn did something.
     pub(crate) fn has_moved(&self) -> bool {
         self.hands.moved

@@ -16,6 +16,21 @@ fn pass_all<G: Turnstile>(turnstile: &G, outbox: &Outbox) {
     }
 }
 
+/// Posts all answered requests of this ring, and wakes its client, where that may sleep. False where that found no memory: then the
+/// others are still in the outbox.
+fn post_ring<R: Wait>(rt: &R, posts: &PostLocks, outbox: &mut Outbox, ring: u16) -> bool
+    ensures places { outbox.new.places ≡ outbox.old.places }
+{
+    let Some(mut posting) = posts.lock(rt, ring) else {
+        return false;
+    };
+    let before = outbox.len();
+    let is_done = deliver_all(outbox, ring, &mut posting.ring).is_ok();
+    posts.note(ring, before.saturating_sub(outbox.len()) as u64);
+    posting.caller.call();
+    is_done
+}
+
 /// Posts all answered requests, each to the completion ring of its own ring, and takes the lock of a ring once for all that are its own.
 /// A post for which no memory is found is tried again, until it is: the ring has room again once its client takes, and a request
 /// that was answered and never posted would be found by no one.
@@ -33,10 +48,8 @@ pub(crate) fn post_all<R: Wait, G: Turnstile>(
         let Some(req) = outbox.first() else {
             return;
         };
-        if let Some(mut ring) = posts.lock(rt, req.ring) {
-            if deliver_all(outbox, req.ring, &mut *ring).is_ok() {
-                continue;
-            }
+        if post_ring(rt, posts, outbox, req.ring) {
+            continue;
         }
         thread::yield_now();
     }

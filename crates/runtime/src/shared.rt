@@ -6,7 +6,7 @@ use ready::ReadyQueue;
 use std::sync::atomic::AtomicBool;
 
 /// The board, its doorbell and its ready queue; the completion ring of each ring, each under a lock of its own; and whether the
-/// workers are to end.
+/// workers are to end, as the poller says once it was told to.
 #[derive(Drop)]
 pub(crate) struct Shared {
     pub board: Board,

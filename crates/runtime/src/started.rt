@@ -20,7 +20,6 @@ use std::alloc::{AllocError, Global};
 use std::marker::Model;
 use std::snapshot::Snapshot;
 use std::sync::Arc;
-use std::sync::atomic::Ordering;
 use std::thread::{Promise, PromisedHandle, Threads};
 
 /// The passes that a thread brings back are those of the board and of the ready queue that it shares, and the second has the shares of
@@ -206,7 +205,7 @@ impl<C: Clock> Runtime<C> {
         self.shared.board.make_room(alloc)
     }
 
-    /// Tells the workers to end, and waits for all threads. The poller was told by the client of ring 0.
+    /// Waits for all threads. The poller was told to end by the client of ring 0, and tells the workers.
     pub(crate) fn stop<R: Threads>(self, rt: &R) -> Stopped<C>
         ensures { result.shared.board ≡ self.board }
     {
@@ -219,7 +218,6 @@ impl<C: Clock> Runtime<C> {
             mut passes,
             room,
         } = self;
-        shared.is_over.store(true, Ordering::SeqCst);
         let (poller, ready, clock) = join_poller(rt, &shared, poller);
         join_workers(rt, &shared, &mut workers, &mut ended, &mut passes);
         Stopped {

@@ -7,6 +7,7 @@ ghost use Rattle.ready.specs.QueueParts.{IsRoom};
 ghost use Rattle.ready.specs.Ready.{IsOf as IsOfQueue};
 ghost use Rattle.ready.specs.Rule.{all_shares};
 ghost use Rattle.bell.specs.BellPasses.{IsSleeperOf};
+ghost use Rattle.event_count.specs.Passes.{IsWaiterOf};
 ghost use Rattle.board.specs.New.{AreSubmitters};
 ghost use Rattle.board.specs.ShapeLimits.{is_shape, widest};
 ghost use Rattle.runtime.specs.Clients.{AreClients, AreNewClients, IsStarted};
@@ -23,17 +24,19 @@ use crate::locks::{PostLock, PostLocks};
 use crate::poll::{PollDesk, places_of};
 use crate::serving::WorkDesk;
 use crate::shared::Shared;
+use crate::sleeping::{Caller, Listener};
 use crate::started::{Ours, Runtime, WorkThread, tell_end};
 use crate::threads::{poll, work};
 use bell::{Bell, Ringer, Sleeper};
 use board::{Board, BoardError, Poller, RingShape, Shape, Submitter, Worker};
 use compring::CompletionRing;
 use controls::{Clock, Turnstile};
+use event_count::{EventCount, Waiter};
 use outbox::Outbox;
 use ready::{GatherRoom, ReadyPass, ReadyQueue};
 use std::alloc::Global;
 use std::snapshot::Snapshot;
-use std::sync::atomic::{AtomicBool, Ordering};
+use std::sync::atomic::AtomicBool;
 use std::sync::{Arc, Wait};
 use std::thread;
 use std::thread::{PromisedHandle, Threads};
@@ -51,26 +54,29 @@ struct Parts {
     workers: WorkerParts,
 }
 
-/// The passes of the poller: of the board, of the bell and of the ready queue.
+/// The passes of the poller: of the board, of the bell and of the ready queue; and who wakes the workers.
 #[derive(Drop)]
 struct PollerParts {
     poller: Poller,
     sleeper: Sleeper,
     ready: ReadyPass,
+    caller: Caller,
 }
 
-/// The passes of the clients, of the board and of the bell, in the order of the rings.
+/// The passes of the clients, of the board, of the bell and of the event counts of their rings, in the order of the rings.
 #[derive(Drop)]
 struct ClientParts {
     submitters: Vec<Submitter>,
     ringers: Vec<Ringer>,
+    listeners: Vec<Listener>,
 }
 
-/// The passes of the workers, of the board and of the ready queue.
+/// The passes of the workers, of the board, of the ready queue and of the event count of the workers.
 #[derive(Drop)]
 struct WorkerParts {
     workers: Vec<Worker>,
     passes: Vec<ReadyPass>,
+    listeners: Vec<Listener>,
 }
 
 /// What is shared by all threads, and by the clients.
@@ -89,22 +95,63 @@ struct Rooms {
     gather: GatherRoom,
 }
 
-/// The completion ring of each ring, under its lock: of so many posts as it says, else of twice as many as it has cells.
-fn posts_of(alloc: Global, rings: &[RingShape]) -> Result<PostLocks, Memory>
+/// The listeners of these waiters, none of which has entered.
+fn listeners_of(
+    alloc: Global,
+    count: &Arc<EventCount>,
+    mut waiters: Vec<Waiter>,
+) -> Result<Vec<Listener>, Memory>
+    requires { All (λ w. IsWaiterOf (arc_value count.now) w × (w.entered ≡ false)) waiters.items }
+    ensures { IfOk result (λ v. length v.items ≡ length waiters.items) }
+{
+    let mut listeners = Vec::with_capacity(alloc, waiters.len())?;
+    while let Some(waiter) = waiters.pop() {
+        let theirs = Arc::try_clone(count)?;
+        listeners.push_reserved(Listener::new(theirs, waiter));
+    }
+    Ok(listeners)
+}
+
+/// An event count with so many listeners, and the one who calls them.
+fn event_count_of(alloc: Global, listeners: u16) -> Result<(Vec<Listener>, Caller), Memory>
+    ensures { IfOk result (λ t. length t.0.items ≡ listeners) }
+{
+    let Ok((count, waiters, mut notifiers)) = EventCount::new(alloc, listeners, 1) else {
+        return Err(Memory);
+    };
+    let Ok(count) = Arc::new(alloc, count) else {
+        return Err(Memory);
+    };
+    let Some(notifier) = notifiers.pop() else {
+        unreachable!()
+    };
+    let listeners = listeners_of(alloc, &count, waiters)?;
+    Ok((listeners, Caller::new(count, notifier)))
+}
+
+/// The completion ring of each ring, under its lock: of so many posts as it says, else of twice as many as it has cells. And the
+/// listener of each ring's client.
+fn posts_of(alloc: Global, rings: &[RingShape]) -> Result<(PostLocks, Vec<Listener>), Memory>
     requires { length rings.now ≤ 16 }
-    ensures { IfOk result (λ p. p ≡ length rings.now) }
+    ensures { IfOk result (λ t. (t.0 ≡ length rings.now) × (length t.1.items ≡ length rings.now)) }
 {
     let mut posts = Vec::with_capacity(alloc, rings.len())?;
+    let mut listeners = Vec::with_capacity(alloc, rings.len())?;
     let mut owner = 0u16;
     for ring in rings {
         let size = ring.posts.unwrap_or(ring.cells.saturating_mul(2));
         let Ok(completions) = CompletionRing::for_ring(alloc, size, owner) else {
             return Err(Memory);
         };
-        posts.push_reserved(PostLock::new(completions));
+        let (mut one, caller) = event_count_of(alloc, 1)?;
+        let Some(listener) = one.pop() else {
+            unreachable!()
+        };
+        listeners.push_reserved(listener);
+        posts.push_reserved(PostLock::new(completions, caller));
         owner += 1;
     }
-    Ok(PostLocks::new(posts))
+    Ok((PostLocks::new(posts), listeners))
 }
 
 /// A new bell and its passes.
@@ -158,7 +205,10 @@ fn parts_of(alloc: Global, shape: &Shape) -> Result<Parts, StartError>
     let Ok((queue, ready, passes)) = queue_of(alloc, places, shape.workers) else {
         return Err(StartError::Memory);
     };
-    let Ok(posts) = posts_of(alloc, shape.rings.as_slice()) else {
+    let Ok((posts, listeners)) = posts_of(alloc, shape.rings.as_slice()) else {
+        return Err(StartError::Memory);
+    };
+    let Ok((idle, caller)) = event_count_of(alloc, shape.workers as u16) else {
         return Err(StartError::Memory);
     };
     let shared = Shared {
@@ -174,12 +224,18 @@ fn parts_of(alloc: Global, shape: &Shape) -> Result<Parts, StartError>
             poller,
             sleeper,
             ready,
+            caller,
         },
         clients: ClientParts {
             submitters,
             ringers,
+            listeners,
         },
-        workers: WorkerParts { workers, passes },
+        workers: WorkerParts {
+            workers,
+            passes,
+            listeners: idle,
+        },
     })
 }
 
@@ -191,28 +247,37 @@ fn clients_of(
 ) -> Result<Vec<Client>, Memory>
     requires submitters { AreSubmitters (arc_value shared.now).board 0 parts.submitters.items }
     requires ringers { AreRingers (arc_value shared.now).bell 0 parts.ringers.items }
-    requires count { length parts.ringers.items ≡ length parts.submitters.items }
+    requires count { (length parts.ringers.items ≡ length parts.submitters.items) × (length parts.listeners.items ≡ length parts.submitters.items) }
     ensures clients { IfOk result (λ v. AreNewClients (arc_value shared.now).board 0 v.items × (length v.items ≡ length parts.submitters.items)) }
 {
     let ClientParts {
         mut submitters,
         mut ringers,
+        mut listeners,
     } = parts;
+    let places = shared.board.widest() as usize;
     let mut clients = Vec::with_capacity(alloc, submitters.len())?;
     while let Some(submitter) = submitters.pop() {
         let Some(ringer) = ringers.pop() else {
             unreachable!()
         };
+        let Some(listener) = listeners.pop() else {
+            unreachable!()
+        };
         let theirs = Arc::try_clone(shared)?;
-        let held = Held::empty(alloc, submitter.ring())?;
-        clients.push_reserved(Client::new(theirs, submitter, ringer, held));
+        let held = Held::empty(alloc, submitter.ring(), places)?;
+        clients.push_reserved(Client::new(theirs, submitter, ringer, held, listener));
     }
     clients.reverse();
     Ok(clients)
 }
 
 /// The poller's desk, and an outbox for its turns.
-fn desk_of(alloc: Global, shape: &Shape, parts: PollerParts) -> Result<(PollDesk, Outbox), Memory>
+fn desk_of(
+    alloc: Global,
+    shape: &Shape,
+    parts: PollerParts,
+) -> Result<(PollDesk, Outbox, Caller), Memory>
     ensures desk { IfOk result (λ t. IsNewDesk (length shape.now.rings.items) parts.poller parts.sleeper parts.ready t.0) }
     ensures outbox { IfOk result (λ t. (t.1.answered ≡ []) × (t.0.places ≤ t.1.places)) }
 {
@@ -220,6 +285,7 @@ fn desk_of(alloc: Global, shape: &Shape, parts: PollerParts) -> Result<(PollDesk
         poller,
         sleeper,
         ready,
+        caller,
     } = parts;
     let Ok(desk) = PollDesk::new(alloc, shape, poller, sleeper, ready) else {
         return Err(Memory);
@@ -228,7 +294,7 @@ fn desk_of(alloc: Global, shape: &Shape, parts: PollerParts) -> Result<(PollDesk
         return Err(Memory);
     };
     let outbox = Outbox::new(alloc, places)?;
-    Ok((desk, outbox))
+    Ok((desk, outbox, caller))
 }
 
 /// Starts the poller's thread, with this desk.
@@ -244,6 +310,7 @@ fn spawn_poller<
     turnstile: Arc<G>,
     idle: u32,
     outbox: Outbox,
+    caller: Caller,
 ) -> Result<PromisedHandle<(Poller, ReadyPass, C), Ours>, StartError>
     requires desk { IsPolling (arc_value theirs) desk }
     requires clock { C.follows clock (seen_of desk.poller) }
@@ -260,7 +327,7 @@ fn spawn_poller<
             requires clock { C.follows clock (seen_of desk.poller) }
             requires outbox { (outbox.answered ≡ []) × (desk.places ≤ outbox.places) }
             ensures { IsOf (arc_value theirs).board result.0 × IsOfQueue (arc_value theirs).queue result.1 × (result.1.share ≡ desk.ready.share) × C.follows result.2 (seen_of result.0) }
-        { poll(&rt, &theirs, desk, clock, &*turnstile, idle, outbox) },
+        { poll(&rt, &theirs, desk, clock, &*turnstile, idle, outbox, caller) },
     ) {
         Ok(handle) => Ok(handle),
         Err(_) => Err(StartError::Thread),
@@ -289,7 +356,7 @@ fn start_poller<
     ensures thread { IfOk result (λ h. (arc_value h.promise.0.value ≡ arc_value stage.now.shared) × (h.promise.1.value.share ≡ parts.ready.share)) }
     ensures refused { IfErr result (λ e. e ≢ BadShape) }
 {
-    let Ok((desk, outbox)) = desk_of(alloc, shape, parts) else {
+    let Ok((desk, outbox, caller)) = desk_of(alloc, shape, parts) else {
         return Err(StartError::Memory);
     };
     let (Ok(theirs), Ok(points)) = (
@@ -298,7 +365,7 @@ fn start_poller<
     ) else {
         return Err(StartError::Memory);
     };
-    spawn_poller(rt, theirs, desk, clock, points, idle, outbox)
+    spawn_poller(rt, theirs, desk, clock, points, idle, outbox, caller)
 }
 
 /// Starts the thread of a worker.
@@ -311,6 +378,7 @@ fn start_worker<
     shared: &Arc<Shared>,
     worker: Worker,
     ready: ReadyPass,
+    listener: Listener,
     turnstile: Arc<G>,
 ) -> Result<WorkThread, StartError>
     requires worker { IsOf (arc_value shared.now).board worker }
@@ -331,7 +399,7 @@ fn start_worker<
             requires desk { IsServing (arc_value theirs) desk worker }
             requires places { widest (arc_value theirs).board.layout.cells ≤ outbox.places }
             ensures { IsOf (arc_value theirs).board result.0 × IsOfQueue (arc_value theirs).queue result.1 × (result.1.share ≡ desk.ready.share) }
-        { work(&rt, &theirs, desk, worker, &*turnstile, outbox) },
+        { work(&rt, &theirs, desk, worker, &*turnstile, outbox, listener) },
     ) {
         Ok(handle) => Ok(WorkThread { handle }),
         Err(_) => Err(StartError::Thread),
@@ -346,28 +414,35 @@ fn start_workers<
     rt: R,
     alloc: Global,
     shared: &Arc<Shared>,
-    mut workers: Vec<Worker>,
-    mut passes: Vec<ReadyPass>,
+    parts: WorkerParts,
     turnstile: &Arc<G>,
     threads: &mut Vec<WorkThread>,
 ) -> Result<(), StartError>
-    requires workers { All (λ p. IsOf (arc_value shared.now).board p) workers.items }
-    requires passes { All (λ p. IsOfQueue (arc_value shared.now).queue p) passes.items }
-    requires count { length passes.items ≡ length workers.items }
-    requires room { (threads.old.items ≡ []) × (length workers.items ≤ vec_capacity threads.old) }
+    requires workers { All (λ p. IsOf (arc_value shared.now).board p) parts.workers.items }
+    requires passes { All (λ p. IsOfQueue (arc_value shared.now).queue p) parts.passes.items }
+    requires count { (length parts.passes.items ≡ length parts.workers.items) × (length parts.listeners.items ≡ length parts.workers.items) }
+    requires room { (threads.old.items ≡ []) × (length parts.workers.items ≤ vec_capacity threads.old) }
     ensures threads { AreWorking (arc_value shared.now) threads.new.items }
-    ensures count { IfOk result (λ _. length threads.new.items ≡ length workers.items) }
-    ensures shares { IfOk result (λ _. shares_of threads.new.items ≡ sum_by (λ p. p.share) passes.items) }
+    ensures count { IfOk result (λ _. length threads.new.items ≡ length parts.workers.items) }
+    ensures shares { IfOk result (λ _. shares_of threads.new.items ≡ sum_by (λ p. p.share) parts.passes.items) }
     ensures refused { IfErr result (λ e. e ≢ BadShape) }
 {
+    let WorkerParts {
+        mut workers,
+        mut passes,
+        mut listeners,
+    } = parts;
     while let Some(worker) = workers.pop() {
         let Some(ready) = passes.pop() else {
+            unreachable!()
+        };
+        let Some(listener) = listeners.pop() else {
             unreachable!()
         };
         let Ok(points) = Arc::try_clone(turnstile) else {
             return Err(StartError::Memory);
         };
-        match start_worker(rt, alloc, shared, worker, ready, points) {
+        match start_worker(rt, alloc, shared, worker, ready, listener, points) {
             Ok(thread) => threads.push_reserved(thread),
             Err(error) => return Err(error),
         }
@@ -378,12 +453,10 @@ fn start_workers<
 /// Stops the threads that were started, and waits for them.
 fn abandon<R: Threads, C: Clock + Drop>(
     rt: &R,
-    shared: &Shared,
     clients: &mut Vec<Client>,
     poller: PromisedHandle<(Poller, ReadyPass, C), Ours>,
     threads: Vec<WorkThread>,
 ) {
-    shared.is_over.store(true, Ordering::SeqCst);
     tell_end(clients);
     poller.join(rt);
     for thread in threads {
@@ -443,6 +516,7 @@ fn start_others<
     requires workers { All (λ p. IsOf (arc_value stage.shared).board p) parts.workers.items }
     requires pool { length parts.workers.items ≡ (arc_value stage.shared).board.workers }
     requires passes { All (λ p. IsOfQueue (arc_value stage.shared).queue p) parts.passes.items × (length parts.passes.items ≡ length parts.workers.items) }
+    requires listeners { length parts.listeners.items ≡ length parts.workers.items }
     requires shares { poller.promise.1.value.share + sum_by (λ p. p.share) parts.passes.items ≡ all_shares }
     requires threads { (rooms.threads.items ≡ []) × (length parts.workers.items ≤ vec_capacity rooms.threads) }
     requires ended { (rooms.ended.items ≡ []) × (length parts.workers.items ≤ vec_capacity rooms.ended) }
@@ -454,29 +528,20 @@ fn start_others<
     ensures refused { IfErr result (λ e. e ≢ BadShape) }
 {
     let Stage { shared, turnstile } = stage;
-    let WorkerParts { workers, passes } = parts;
     let Rooms {
         mut threads,
         ended,
         passes: back,
         gather,
     } = rooms;
-    match start_workers(
-        rt,
-        alloc,
-        &shared,
-        workers,
-        passes,
-        &turnstile,
-        &mut threads,
-    ) {
+    match start_workers(rt, alloc, &shared, parts, &turnstile, &mut threads) {
         Ok(()) => {
             let rings = clients.len();
             let runtime = Runtime::new(shared, rings, poller, threads, ended, back, gather);
             Ok((runtime, clients))
         }
         Err(error) => {
-            abandon(&rt, &shared, &mut clients, poller, threads);
+            abandon(&rt, &mut clients, poller, threads);
             Err(error)
         }
     }

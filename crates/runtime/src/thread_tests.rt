@@ -96,3 +96,44 @@ fn the_report_has_what_nobody_took(rt: HostRuntime) -> Result<(), Fail> {
     );
     Ok(())
 }
+
+/// A put between a worker's last look and its sleep, a post between a client's, and a tail between the poller's: each wakes who sleeps.
+#[test]
+fn a_client_waits_ten_thousand_times(rt: HostRuntime) -> Result<(), Fail> {
+    let mut pair = Pair::new(rt, rt.alloc(), 2, 0, Open, NoClock)?;
+    for round in 0..10_000u64 {
+        let batch = [entry(nop(), 0, round + 7, 0, 0)];
+        assert_eq!(rt; pair.submit(0, &batch)?, nth(0, round));
+        let wanted = format!(in rt.alloc(); "0.{round} {} 0", round + 7)?;
+        assert_eq!(rt; pair.wait(&rt)?.as_str(), wanted.as_str());
+    }
+    assert_eq!(rt; pair.end(&rt)?.as_str(), "");
+    Ok(())
+}
+
+#[test]
+fn a_submission_waits_for_so_many_completions(rt: HostRuntime) -> Result<(), Fail> {
+    let mut pair = Pair::new(rt, rt.alloc(), 1, 0, Open, NoClock)?;
+    let first = [entry(nop(), 0, 61, 0, 0), entry(nop(), LINK, 62, 0, 0)];
+    assert_eq!(rt; pair.submit_and_wait(&rt, &first, 2)?, nth(0, 0));
+    assert_eq!(rt; pair.take_now(&rt)?.as_str(), "0.0 61 0");
+    let second = [entry(nop(), 0, 63, 0, 0), entry(nop(), 0, 64, 0, 0)];
+    assert_eq!(rt; pair.submit_and_wait(&rt, &second, 3)?, nth(0, 2));
+    assert_eq!(rt; pair.take_now(&rt)?.as_str(), "0.1 62 0");
+    assert_eq!(rt; pair.take_now(&rt)?.as_str(), "0.2 63 0");
+    assert_eq!(rt; pair.take_now(&rt)?.as_str(), "0.3 64 0");
+    assert_eq!(rt; pair.end(&rt)?.as_str(), "");
+    Ok(())
+}
+
+#[test]
+fn a_runtime_whose_threads_sleep_is_ended(rt: HostRuntime) -> Result<(), Fail> {
+    for _runtime in 0..100u32 {
+        let pair = Pair::new(rt, rt.alloc(), 3, 0, Open, NoClock)?;
+        for _turn in 0..2_000 {
+            thread::yield_now();
+        }
+        assert_eq!(rt; pair.end(&rt)?.as_str(), "");
+    }
+    Ok(())
+}

@@ -14,6 +14,7 @@ use crate::poll::{PollDesk, poll_turn, rest};
 use crate::posting::post_all;
 use crate::serving::{WorkDesk, work_turn};
 use crate::shared::Shared;
+use crate::sleeping::{Caller, Listener, doze};
 use crate::turn::Turn;
 use board::{Poller, Worker};
 use controls::{Clock, Turnstile};
@@ -94,6 +95,13 @@ fn poll_round<R: Wait, G: Turnstile, C: Clock>(
     }
 }
 
+/// Wakes a worker for each put into the ready queue, while one may sleep.
+fn call_for(caller: &mut Caller, puts: u32) {
+    for _put in 0..puts {
+        caller.call();
+    }
+}
+
 /// The thread of the poller. It ends once it is told to. After `idle` idle turns in a row it sleeps until it is rung, unless its clock
 /// asks for something. It gives back its passes, and the clock, which has gone along with what the poller has seen.
 pub(crate) fn poll<R: Wait, G: Turnstile, C: Clock>(
@@ -104,6 +112,7 @@ pub(crate) fn poll<R: Wait, G: Turnstile, C: Clock>(
     turnstile: &G,
     idle: u32,
     mut outbox: Outbox,
+    mut caller: Caller,
 ) -> (Poller, ReadyPass, C)
     requires desk { IsPolling shared.now desk }
     requires clock { C.follows clock (seen_of desk.poller) }
@@ -117,9 +126,15 @@ pub(crate) fn poll<R: Wait, G: Turnstile, C: Clock>(
         count: 0,
     };
     let mut still = 0u32;
+    let mut called = 0u32;
     for _ in rt.forever() {
         let turn = poll_round(rt, shared, &mut desk, &mut clock, turnstile, &mut outbox);
+        let puts = desk.puts();
+        call_for(&mut caller, puts.wrapping_sub(called));
+        called = puts;
         if desk.is_over() {
+            shared.is_over.store(true, Ordering::SeqCst);
+            caller.call_all();
             let (poller, _sleeper, ready) = desk.parts();
             return (poller, ready, clock);
         }
@@ -177,6 +192,7 @@ pub(crate) fn work<R: Wait, G: Turnstile>(
     mut worker: Worker,
     turnstile: &G,
     mut outbox: Outbox,
+    mut listener: Listener,
 ) -> (Worker, ReadyPass)
     requires desk { IsServing shared.now desk worker }
     requires places { widest shared.now.board.layout.cells ≤ outbox.places }
@@ -195,8 +211,20 @@ pub(crate) fn work<R: Wait, G: Turnstile>(
         if shared.is_over.load(Ordering::SeqCst) {
             return (worker, desk.parts());
         }
-        silent = silent.saturating_add(1);
-        pause(silent);
+        if silent < SPINS {
+            silent += 1;
+            hint::spin_loop();
+        } else {
+            (worker, listener) = doze(
+                rt,
+                shared,
+                &mut desk,
+                worker,
+                turnstile,
+                &mut outbox,
+                listener,
+            );
+        }
     }
     unreachable!()
 }

@@ -1,4 +1,4 @@
-use Rattle.std.proofs.Common.{◌≡◌, ◌+◌, ◌∷◌, [], length, reverse, length-append, sym, ap, ◌∙◌, subst, arith}
+use Rattle.std.proofs.Common.{rules, ◌≡◌, ◌+◌, ◌∷◌, [], length, reverse, length-append, sym, ap, ◌∙◌, subst, arith}
 use Rattle.std.specs.Arc.{arc_value}
 use Rattle.bell.specs.BellPasses.{IsRingerOf}
 use Rattle.steps.specs.declared.view.Role.TheVariants.{Submitter}
@@ -60,6 +60,7 @@ loop-submitter-preserved c =
       submitters = last.0;
       ringers = ringers.0;
       pairs = omega (arith, one, other, inv.pairs);
+      listening = search rules;
       clients = subst (λ cs. AreNewClients s.board n (reverse cs)) (sym c.push_reserved.ensures.items) (more_clients s.board n c.loop-submitter.clients.items c.new.result new (subst (λ m. AreNewClients s.board m (reverse c.loop-submitter.clients.items)) (one ∙ (omega arith)) inv.clients));
       count = omega (arith, one, more, inv.count);
       room = rw c.push_reserved.ensures.capacity inv.room;

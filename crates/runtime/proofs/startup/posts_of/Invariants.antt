@@ -8,4 +8,6 @@ invariant-loop-ring l = record {
   count : length l.posts.items ≡ l.ring-index;
   numbered : AreNumbered l.posts.items;
   room : length l.rings ≤ vec_capacity l.posts;
+  pairs : length l.listeners.items ≡ l.ring-index;
+  space : length l.rings ≤ vec_capacity l.listeners;
 }

@@ -33,6 +33,7 @@ loop-worker-preserved g c =
       workers = (All-pop (λ (p : Pass). IsOf s.board p) c.loop-worker.workers.items c.pop.new.self.items (Some c.in-Some.worker) c.in-Some.ensures.items i.workers).0;
       passes = (All-pop (λ (p : Moves). IsOfQueue s.queue p) c.loop-worker.passes.items c.pop-in-Some.new.self.items (Some c.in-Some-pop.ready) c.in-Some-pop.ensures.items i.passes).0;
       pairs = omega (arith, i.pairs, fewer, one, fewer_passes, one_pass);
+      listening = search rules;
       threads = subst (λ (z : List WorkThread). All (λ t. arc_value t.handle.promise.0.value ≡ s) z) (sym c.push_reserved.ensures.items) (All-push (λ (t : WorkThread). arc_value t.handle.promise.0.value ≡ s) _ _ i.threads c.in-Ok-start_worker.ensures.thread.0);
       shares = omega (arith, i.shares, shares, sum, c.in-Ok-start_worker.ensures.thread.1, sum_by_push (λ (t : WorkThread). t.handle.promise.1.value.share) c.loop-worker.threads.items c.in-Ok-start_worker.thread, sum_by_push (λ (p : Moves). p.share) c.pop-in-Some.new.self.items c.in-Some-pop.ready);
       count = omega (arith, i.count, fewer, one, more, one_thread);

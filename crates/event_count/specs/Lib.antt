@@ -1,0 +1,4 @@
+pub mod Journal
+pub mod Plays
+pub mod Rule
+pub mod Passes

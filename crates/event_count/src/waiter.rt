@@ -1,0 +1,148 @@
+//! The one who enters before it may sleep, and leaves again.
+ghost use Rattle.std.specs.Prelude.{◌≡◌, true, false};
+ghost use Rattle.event_count.specs.Journal.{number_of, count_of, Enters, Stayed, Hears, Leaves};
+ghost use Rattle.event_count.specs.Passes.{is_in, HasEntered, HasLeft, HasWoken, IsSameSeat, IsWaiterAt, IsWaiterSeat};
+
+use crate::law::Law;
+use crate::plays::{AskCount, Enter, Leave, ReadCount};
+use crate::view::View;
+use atomic_table::{Seat, Shared};
+use std::marker::Model;
+use std::sync::Wait;
+
+/// The words of an event count.
+pub(crate) type Words = Shared<u8, View, (), Law>;
+
+/// The word that grows with each notice, and that waiters park on.
+pub(crate) const COUNT: usize = 0;
+
+/// The word that says how many waiters have entered.
+pub(crate) const INSIDE: usize = 1;
+
+/// The pass of one who may sleep. Contracts see its number, whether it has entered, the count that it read after it entered, its
+/// key, and what it has seen of the journal.
+#[derive(Drop)]
+pub struct Waiter {
+    seat: Seat<u8, View>,
+    entered: bool,
+    key: u64,
+}
+
+impl Model for Waiter {
+    ghost use Rattle.event_count.specs.Journal.{number_of};
+    ghost use Rattle.event_count.specs.Passes.{Waiting, IsWaiterSeat};
+
+    ghost Value = { Waiting };
+
+    ghost view = { λ w. record { table = w.seat.table_id; number = number_of w.seat.me.0.role; entered = w.entered; key = w.key; seen = w.seat.me.0.seen } };
+
+    ghost invariant = { λ w. IsWaiterSeat w.seat w.entered w.key };
+}
+
+/// Adds one to those who have entered.
+fn enter(words: &Words, seat: &mut Seat<u8, View>)
+    requires own { IsWaiterAt words.now.table_id seat.old }
+    requires outside { is_in seat.old.me.0 ≡ false }
+    ensures same { IsSameSeat seat.old seat.new }
+    ensures inside { is_in seat.new.me.0 ≡ true }
+    ensures entered { Enters (number_of seat.old.me.0.role) seat.old.me.0.seen seat.new.me.0.seen }
+{
+    words.fetch_add::<Enter>(seat, INSIDE, 1);
+}
+
+/// Reads the count.
+fn read_count(words: &Words, seat: &mut Seat<u8, View>) -> u64
+    requires own { IsWaiterAt words.now.table_id seat.old }
+    requires inside { is_in seat.old.me.0 ≡ true }
+    ensures same { IsSameSeat seat.old seat.new }
+    ensures inside { is_in seat.new.me.0 ≡ true }
+    ensures read { Stayed (number_of seat.old.me.0.role) seat.old.me.0.seen seat.new.me.0.seen × (result ≡ count_of seat.new.me.0.seen) }
+{
+    words.load::<ReadCount>(seat, COUNT)
+}
+
+/// Parks until the count is another than the key. A park looks at the low 32 bits alone.
+fn wait_for_notice<R: Wait>(rt: &R, words: &Words, seat: &mut Seat<u8, View>, key: u64)
+    requires own { IsWaiterAt words.now.table_id seat.old }
+    requires inside { is_in seat.old.me.0 ≡ true }
+    requires key { key ≡ count_of seat.old.me.0.seen }
+    ensures same { IsSameSeat seat.old seat.new }
+    ensures inside { is_in seat.new.me.0 ≡ true }
+    ensures heard { Hears (number_of seat.old.me.0.role) seat.old.me.0.seen seat.new.me.0.seen }
+{
+    for _ in rt.forever() {
+        if words.load::<AskCount>(seat, COUNT) != key {
+            return;
+        }
+        words.park(rt, COUNT, (key % 0x1_0000_0000) as u32);
+    }
+    unreachable!()
+}
+
+/// Takes one from those who have entered.
+fn leave(words: &Words, seat: &mut Seat<u8, View>)
+    requires own { IsWaiterAt words.now.table_id seat.old }
+    requires inside { is_in seat.old.me.0 ≡ true }
+    ensures same { IsSameSeat seat.old seat.new }
+    ensures outside { is_in seat.new.me.0 ≡ false }
+    ensures left { Leaves (number_of seat.old.me.0.role) seat.old.me.0.seen seat.new.me.0.seen }
+{
+    words.fetch_sub::<Leave>(seat, INSIDE, 1);
+}
+
+impl Waiter {
+    /// The pass of this seat.
+    pub(crate) fn new(seat: Seat<u8, View>) -> Waiter
+        requires { IsWaiterSeat seat false 0 }
+        ensures { result ≡ record { table = seat.table_id; number = number_of seat.me.0.role; entered = false; key = 0; seen = seat.me.0.seen } }
+    {
+        Waiter {
+            seat,
+            entered: false,
+            key: 0,
+        }
+    }
+
+    /// Whether it has entered, and not left since.
+    pub fn has_entered(&self) -> bool
+        ensures { result ≡ self.now.entered }
+    {
+        self.entered
+    }
+
+    /// Enters, and then reads the count.
+    pub(crate) fn prepare(&mut self, words: &Words)
+        requires own { self.old.table ≡ words.now.table_id }
+        requires outside { self.old.entered ≡ false }
+        ensures pass { self.new ≡ record self.old { entered = true; key = self.new.key; seen = self.new.seen } }
+        ensures entered { HasEntered self.old self.new }
+    {
+        enter(words, &mut self.seat);
+        self.key = read_count(words, &mut self.seat);
+        self.entered = true;
+    }
+
+    /// Leaves.
+    pub(crate) fn cancel(&mut self, words: &Words)
+        requires own { self.old.table ≡ words.now.table_id }
+        requires entered { self.old.entered ≡ true }
+        ensures pass { self.new ≡ record self.old { entered = false; seen = self.new.seen } }
+        ensures left { HasLeft self.old self.new }
+    {
+        leave(words, &mut self.seat);
+        self.entered = false;
+    }
+
+    /// Parks while the count is the key, and then leaves.
+    pub(crate) fn wait<R: Wait>(&mut self, rt: &R, words: &Words)
+        requires own { self.old.table ≡ words.now.table_id }
+        requires entered { self.old.entered ≡ true }
+        ensures pass { self.new ≡ record self.old { entered = false; seen = self.new.seen } }
+        ensures woken { HasWoken self.old self.new }
+    {
+        let seat = &mut self.seat;
+        wait_for_notice(rt, words, seat, self.key);
+        leave(words, seat);
+        self.entered = false;
+    }
+}

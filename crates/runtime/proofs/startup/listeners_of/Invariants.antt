@@ -1,0 +1,14 @@
+use Rattle.std.proofs.Common.{◌≡◌, ◌+◌, ◌≤◌, false, All, length, vec_capacity}
+use Rattle.std.specs.Arc.{arc_value}
+use Rattle.event_count.specs.Passes.{IsWaiterOf}
+use Rattle.runtime.proofs.startup.listeners_of.Given as goal
+
+abbrev pub invariant-loop-waiter : goal.invariant-loop-waiter
+invariant-loop-waiter l = record {
+  waiters : All (λ w. IsWaiterOf (arc_value l.count) w × (w.entered ≡ false)) l.waiters.items;
+  count : length l.listeners.items + length l.waiters.items ≡ length l.fn.waiters.items;
+  room : length l.fn.waiters.items ≤ vec_capacity l.listeners;
+}
+
+abbrev pub decreases-loop-waiter : goal.decreases-loop-waiter
+decreases-loop-waiter l = length l.waiters.items
