@@ -28,4 +28,4 @@ pub record IsParts (s : Shape) (p : Parts) : Type 0 where
   pub count : length p.workers.passes.items ≡ length p.workers.workers.items
   pub shares : p.poller.ready.share + sum_by (λ q. q.share) p.workers.passes.items ≡ all_shares
   pub posts : p.shared.posts ≡ length s.rings.items
-  pub listeners : (length p.clients.listeners.items ≡ length s.rings.items) × (length p.workers.listeners.items ≡ length p.workers.workers.items)
+  pub listeners : (length p.clients.listeners.items ≡ length s.rings.items) × (length p.workers.listeners.items ≡ length p.workers.workers.items) × (length p.workers.callers.items ≡ length p.workers.workers.items)

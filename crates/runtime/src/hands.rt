@@ -36,19 +36,24 @@ pub(crate) fn limit_of(requests: u64, workers: u32) -> u8 {
     (requests / parts).clamp(1, u64::from(MOST)) as u8
 }
 
-/// Puts the number that is kept into the ready queue, if there is one. Where that is full it stays.
+/// Puts the number that is kept into the ready queue, if there is one. Where that is full it stays. Whether one was put.
 pub(crate) fn put_kept<R: Wait>(
     rt: &R,
     queue: &ReadyQueue,
     ready: &mut ReadyPass,
     kept: &mut Option<Req>,
-)
+) -> bool
     requires own { IsOfQueue queue.now ready.old }
     ensures handed { HandedOver ready.old (kept_in kept.old) ready.new (kept_in kept.new) }
 {
-    if let Some(req) = kept.take() {
-        if let Err(back) = queue.put(rt, ready, req) {
+    let Some(req) = kept.take() else {
+        return false;
+    };
+    match queue.put(rt, ready, req) {
+        Ok(()) => true,
+        Err(back) => {
             *kept = Some(back);
+            false
         }
     }
 }

@@ -7,6 +7,7 @@ ghost use Rattle.work.specs.Board.{IsOf};
 ghost use Rattle.runtime.specs.WorkTurns.{FoundNone, IsWorkTurn, PutsBack, Shifts, Tried, new_desk};
 
 use crate::hands::put_kept;
+use crate::sleeping::Caller;
 use crate::turn::Turn;
 use board::{Board, Ran, Worker};
 use controls::{Point, Turnstile};
@@ -17,11 +18,13 @@ use std::marker::Model;
 use std::sync::Wait;
 
 /// What a worker's turns need: its pass of the ready queue, and up to two numbers that found no place there. Contracts see both.
+/// And who wakes another worker for each number that goes back there.
 #[derive(Drop)]
 pub struct WorkDesk {
     ready: ReadyPass,
     kept: Option<Req>,
     other: Option<Req>,
+    caller: Option<Caller>,
 }
 
 impl Model for WorkDesk {
@@ -34,6 +37,16 @@ impl Model for WorkDesk {
     ghost view = { λ d. record { ready = d.ready; kept = kept_in d.kept ++ kept_in d.other } };
 }
 
+/// Where a number was put, wakes a worker, if one may sleep.
+fn call_where(has_put: bool, caller: &mut Option<Caller>) {
+    if !has_put {
+        return;
+    }
+    if let Some(caller) = caller {
+        caller.call();
+    }
+}
+
 impl WorkDesk {
     /// The desk of a worker that has done nothing yet.
     pub fn new(ready: ReadyPass) -> WorkDesk
@@ -43,7 +56,27 @@ impl WorkDesk {
             ready,
             kept: None,
             other: None,
+            caller: None,
         }
+    }
+
+    /// The same, of a worker beside others, which may sleep.
+    pub(crate) fn with_caller(ready: ReadyPass, caller: Caller) -> WorkDesk
+        ensures { result ≡ new_desk ready }
+    {
+        WorkDesk {
+            ready,
+            kept: None,
+            other: None,
+            caller: Some(caller),
+        }
+    }
+
+    /// Its pass of the ready queue.
+    pub(crate) fn ready(&self) -> &ReadyPass
+        ensures { result.now ≡ self.now.ready }
+    {
+        &self.ready
     }
 
     /// Its pass of the ready queue, as the turns left it.
@@ -65,15 +98,18 @@ impl WorkDesk {
         }
     }
 
-    /// Tries once more to put the numbers that it keeps into the ready queue.
+    /// Tries once more to put the numbers that it keeps into the ready queue. For each that gets there it wakes another worker: this one
+    /// may be held before it comes to it.
     fn retry<R: Wait>(&mut self, rt: &R, queue: &ReadyQueue)
         requires { IsOfQueue queue.now self.old.ready }
         ensures shifts { Shifts self.old [] [] self.new }
         ensures back { PutsBack self.old self.new }
         ensures fewer { length self.new.kept ≤ length self.old.kept }
     {
-        put_kept(rt, queue, &mut self.ready, &mut self.kept);
-        put_kept(rt, queue, &mut self.ready, &mut self.other);
+        let has_put = put_kept(rt, queue, &mut self.ready, &mut self.kept);
+        let has_put_other = put_kept(rt, queue, &mut self.ready, &mut self.other);
+        call_where(has_put, &mut self.caller);
+        call_where(has_put_other, &mut self.caller);
     }
 
     /// One of two numbers that it keeps.

@@ -7,7 +7,7 @@ ghost use Rattle.ready.specs.QueueParts.{IsRoom};
 ghost use Rattle.ready.specs.Ready.{IsOf as IsOfQueue};
 ghost use Rattle.ready.specs.Rule.{all_shares};
 ghost use Rattle.bell.specs.BellPasses.{IsSleeperOf};
-ghost use Rattle.event_count.specs.Passes.{IsWaiterOf};
+ghost use Rattle.event_count.specs.Passes.{IsNotifierOf, IsWaiterOf};
 ghost use Rattle.board.specs.New.{AreSubmitters};
 ghost use Rattle.board.specs.ShapeLimits.{is_shape, widest};
 ghost use Rattle.runtime.specs.Clients.{AreClients, AreNewClients, IsStarted};
@@ -31,7 +31,7 @@ use bell::{Bell, Ringer, Sleeper};
 use board::{Board, BoardError, Poller, RingShape, Shape, Submitter, Worker};
 use compring::CompletionRing;
 use controls::{Clock, Turnstile};
-use event_count::{EventCount, Waiter};
+use event_count::{EventCount, Notifier, Waiter};
 use outbox::Outbox;
 use ready::{GatherRoom, ReadyPass, ReadyQueue};
 use std::alloc::Global;
@@ -71,12 +71,13 @@ struct ClientParts {
     listeners: Vec<Listener>,
 }
 
-/// The passes of the workers, of the board, of the ready queue and of the event count of the workers.
+/// The passes of the workers, of the board, of the ready queue and of the event count of the workers, by which each also calls the others.
 #[derive(Drop)]
 struct WorkerParts {
     workers: Vec<Worker>,
     passes: Vec<ReadyPass>,
     listeners: Vec<Listener>,
+    callers: Vec<Caller>,
 }
 
 /// What is shared by all threads, and by the clients.
@@ -112,21 +113,52 @@ fn listeners_of(
     Ok(listeners)
 }
 
-/// An event count with so many listeners, and the one who calls them.
-fn event_count_of(alloc: Global, listeners: u16) -> Result<(Vec<Listener>, Caller), Memory>
-    ensures { IfOk result (λ t. length t.0.items ≡ listeners) }
+/// The callers of these notifiers.
+fn callers_of(
+    alloc: Global,
+    count: &Arc<EventCount>,
+    mut notifiers: Vec<Notifier>,
+) -> Result<Vec<Caller>, Memory>
+    requires { All (λ n. IsNotifierOf (arc_value count.now) n) notifiers.items }
+    ensures { IfOk result (λ v. length v.items ≡ length notifiers.items) }
 {
-    let Ok((count, waiters, mut notifiers)) = EventCount::new(alloc, listeners, 1) else {
+    let mut callers = Vec::with_capacity(alloc, notifiers.len())?;
+    while let Some(notifier) = notifiers.pop() {
+        let theirs = Arc::try_clone(count)?;
+        callers.push_reserved(Caller::new(theirs, notifier));
+    }
+    Ok(callers)
+}
+
+/// An event count with so many listeners, and so many who call them.
+fn event_count_of(
+    alloc: Global,
+    listeners: u16,
+    callers: u16,
+) -> Result<(Vec<Listener>, Vec<Caller>), Memory>
+    ensures { IfOk result (λ t. (length t.0.items ≡ listeners) × (length t.1.items ≡ callers)) }
+{
+    let Ok((count, waiters, notifiers)) = EventCount::new(alloc, listeners, callers) else {
         return Err(Memory);
     };
     let Ok(count) = Arc::new(alloc, count) else {
         return Err(Memory);
     };
-    let Some(notifier) = notifiers.pop() else {
+    let listeners = listeners_of(alloc, &count, waiters)?;
+    let callers = callers_of(alloc, &count, notifiers)?;
+    Ok((listeners, callers))
+}
+
+/// The event count of the workers: their listeners, the poller's caller, and one for each worker.
+fn crew_of(alloc: Global, workers: u16) -> Result<(Vec<Listener>, Caller, Vec<Caller>), Memory>
+    requires { workers < 65535 }
+    ensures { IfOk result (λ t. (length t.0.items ≡ workers) × (length t.2.items ≡ workers)) }
+{
+    let (listeners, mut callers) = event_count_of(alloc, workers, workers + 1)?;
+    let Some(caller) = callers.pop() else {
         unreachable!()
     };
-    let listeners = listeners_of(alloc, &count, waiters)?;
-    Ok((listeners, Caller::new(count, notifier)))
+    Ok((listeners, caller, callers))
 }
 
 /// The completion ring of each ring, under its lock: of so many posts as it says, else of twice as many as it has cells. And the
@@ -143,8 +175,8 @@ fn posts_of(alloc: Global, rings: &[RingShape]) -> Result<(PostLocks, Vec<Listen
         let Ok(completions) = CompletionRing::for_ring(alloc, size, owner) else {
             return Err(Memory);
         };
-        let (mut one, caller) = event_count_of(alloc, 1)?;
-        let Some(listener) = one.pop() else {
+        let (mut listening, mut calling) = event_count_of(alloc, 1, 1)?;
+        let (Some(listener), Some(caller)) = (listening.pop(), calling.pop()) else {
             unreachable!()
         };
         listeners.push_reserved(listener);
@@ -208,7 +240,7 @@ fn parts_of(alloc: Global, shape: &Shape) -> Result<Parts, StartError>
     let Ok((posts, listeners)) = posts_of(alloc, shape.rings.as_slice()) else {
         return Err(StartError::Memory);
     };
-    let Ok((idle, caller)) = event_count_of(alloc, shape.workers as u16) else {
+    let Ok((idle, caller, callers)) = crew_of(alloc, shape.workers as u16) else {
         return Err(StartError::Memory);
     };
     let shared = Shared {
@@ -235,6 +267,7 @@ fn parts_of(alloc: Global, shape: &Shape) -> Result<Parts, StartError>
             workers,
             passes,
             listeners: idle,
+            callers,
         },
     })
 }
@@ -377,21 +410,19 @@ fn start_worker<
     alloc: Global,
     shared: &Arc<Shared>,
     worker: Worker,
-    ready: ReadyPass,
+    desk: WorkDesk,
     listener: Listener,
     turnstile: Arc<G>,
 ) -> Result<WorkThread, StartError>
-    requires worker { IsOf (arc_value shared.now).board worker }
-    requires ready { IsOfQueue (arc_value shared.now).queue ready }
-    ensures thread { IfOk result (λ t. (arc_value t.handle.promise.0.value ≡ arc_value shared.now) × (t.handle.promise.1.value.share ≡ ready.share)) }
+    requires { IsServing (arc_value shared.now) desk worker }
+    ensures thread { IfOk result (λ t. (arc_value t.handle.promise.0.value ≡ arc_value shared.now) × (t.handle.promise.1.value.share ≡ desk.ready.share)) }
     ensures refused { IfErr result (λ e. e ≢ BadShape) }
 {
     let places = shared.board.widest() + KEPT;
     let (Ok(theirs), Ok(outbox)) = (Arc::try_clone(shared), Outbox::new(alloc, places)) else {
         return Err(StartError::Memory);
     };
-    let promise = Ours(Snapshot::of(shared), Snapshot::of(&ready));
-    let desk = WorkDesk::new(ready);
+    let promise = Ours(Snapshot::of(shared), Snapshot::of(desk.ready()));
     match thread::spawn_with(
         &rt,
         promise,
@@ -420,7 +451,7 @@ fn start_workers<
 ) -> Result<(), StartError>
     requires workers { All (λ p. IsOf (arc_value shared.now).board p) parts.workers.items }
     requires passes { All (λ p. IsOfQueue (arc_value shared.now).queue p) parts.passes.items }
-    requires count { (length parts.passes.items ≡ length parts.workers.items) × (length parts.listeners.items ≡ length parts.workers.items) }
+    requires count { (length parts.passes.items ≡ length parts.workers.items) × (length parts.listeners.items ≡ length parts.workers.items) × (length parts.callers.items ≡ length parts.workers.items) }
     requires room { (threads.old.items ≡ []) × (length parts.workers.items ≤ vec_capacity threads.old) }
     ensures threads { AreWorking (arc_value shared.now) threads.new.items }
     ensures count { IfOk result (λ _. length threads.new.items ≡ length parts.workers.items) }
@@ -431,18 +462,20 @@ fn start_workers<
         mut workers,
         mut passes,
         mut listeners,
+        mut callers,
     } = parts;
     while let Some(worker) = workers.pop() {
         let Some(ready) = passes.pop() else {
             unreachable!()
         };
-        let Some(listener) = listeners.pop() else {
+        let (Some(listener), Some(caller)) = (listeners.pop(), callers.pop()) else {
             unreachable!()
         };
         let Ok(points) = Arc::try_clone(turnstile) else {
             return Err(StartError::Memory);
         };
-        match start_worker(rt, alloc, shared, worker, ready, listener, points) {
+        let desk = WorkDesk::with_caller(ready, caller);
+        match start_worker(rt, alloc, shared, worker, desk, listener, points) {
             Ok(thread) => threads.push_reserved(thread),
             Err(error) => return Err(error),
         }
@@ -516,7 +549,7 @@ fn start_others<
     requires workers { All (λ p. IsOf (arc_value stage.shared).board p) parts.workers.items }
     requires pool { length parts.workers.items ≡ (arc_value stage.shared).board.workers }
     requires passes { All (λ p. IsOfQueue (arc_value stage.shared).queue p) parts.passes.items × (length parts.passes.items ≡ length parts.workers.items) }
-    requires listeners { length parts.listeners.items ≡ length parts.workers.items }
+    requires callers { (length parts.listeners.items ≡ length parts.workers.items) × (length parts.callers.items ≡ length parts.workers.items) }
     requires shares { poller.promise.1.value.share + sum_by (λ p. p.share) parts.passes.items ≡ all_shares }
     requires threads { (rooms.threads.items ≡ []) × (length parts.workers.items ≤ vec_capacity rooms.threads) }
     requires ended { (rooms.ended.items ≡ []) × (length parts.workers.items ≤ vec_capacity rooms.ended) }

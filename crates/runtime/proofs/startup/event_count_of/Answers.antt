@@ -1,7 +1,10 @@
 use Rattle.std.proofs.Common.{◌≡◌, false, All, sym, subst}
-use Rattle.event_count.specs.Passes.{IsWaiterOf}
-use Rattle.event_count.proofs.NewPasses.{waiters_outside}
+use Rattle.event_count.specs.Passes.{IsNotifierOf, IsWaiterOf}
+use Rattle.event_count.proofs.NewPasses.{notifiers_own, waiters_outside}
 use Rattle.runtime.proofs.startup.event_count_of.Goals as goal
 
 pub listeners_of-requires : goal.listeners_of-requires
 listeners_of-requires c = subst (λ t. All (λ w. IsWaiterOf t w × (w.entered ≡ false)) c.in-Ok.waiters.items) (sym c.in-Ok-new.ensures.ok) (waiters_outside _ _ _ c.in-Ok.ensures.new.all_waiters)
+
+pub callers_of-requires : goal.callers_of-requires
+callers_of-requires c = subst (λ t. All (λ n. IsNotifierOf t n) c.in-Ok.notifiers.items) (sym c.in-Ok-new.ensures.ok) (notifiers_own _ _ _ c.in-Ok.ensures.new.all_notifiers)

@@ -1,0 +1,14 @@
+use Rattle.std.proofs.Common.{◌≡◌, ◌+◌, ◌≤◌, All, length, vec_capacity}
+use Rattle.std.specs.Arc.{arc_value}
+use Rattle.event_count.specs.Passes.{IsNotifierOf}
+use Rattle.runtime.proofs.startup.callers_of.Given as goal
+
+abbrev pub invariant-loop-notifier : goal.invariant-loop-notifier
+invariant-loop-notifier l = record {
+  notifiers : All (λ n. IsNotifierOf (arc_value l.count) n) l.notifiers.items;
+  count : length l.callers.items + length l.notifiers.items ≡ length l.fn.notifiers.items;
+  room : length l.fn.notifiers.items ≤ vec_capacity l.callers;
+}
+
+abbrev pub decreases-loop-notifier : goal.decreases-loop-notifier
+decreases-loop-notifier l = length l.notifiers.items
