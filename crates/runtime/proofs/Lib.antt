@@ -4,3 +4,4 @@ pub mod DeskLaws
 pub mod ShiftLaws
 pub mod RuntimeParts
 pub mod WaitLaws
+pub mod CrewLaws

@@ -1,5 +1,5 @@
 -- The threads of a runtime.
-use Rattle.std.specs.Prelude.{◌≡◌, ℕ, ◌+◌, ◌<◌, ◌≤◌, List, [], All, length, sum_by}
+use Rattle.std.specs.Prelude.{◌≡◌, ℕ, ◌+◌, ◌==◌, ◌<◌, ◌≤◌, cond, Option, Some, None, List, [], All, length, sum_by}
 use Rattle.history.specs.declared.event.Event.{Event}
 use Rattle.std.specs.Arc.{arc_value}
 use Rattle.work.specs.Board.{Facts, IsOf}
@@ -11,6 +11,8 @@ use Rattle.runtime.specs.declared.shared.Shared.{Shared}
 use Rattle.runtime.specs.declared.started.PollThread.{PollThread}
 use Rattle.runtime.specs.declared.started.PollThread.TheVariants.{Runs, Ended}
 use Rattle.runtime.specs.declared.started.WorkThread.{WorkThread}
+use Rattle.runtime.specs.declared.started.OwnEnd.{OwnEnd}
+use Rattle.runtime.specs.declared.threads.OwnWorker.{OwnWorker}
 
 -- a runtime: its board, and how many of its threads were not waited for yet
 pub record RuntimeFacts : Type 0 where
@@ -27,10 +29,36 @@ abbrev pub IsPollThread : {C : Type 0} → (C → List Event → Type 0) → Sha
 IsPollThread follows s (Runs thread) = arc_value thread.promise.0.value ≡ s
 IsPollThread follows s (Ended poller ready clock) = IsOf s.board poller × IsOfQueue s.queue ready × follows clock (seen_of poller)
 
--- the shares of the ready queue that the poller's pass has
+-- how many threads serve so many workers: an only worker is served by the poller's
+abbrev pub threads_for : ℕ → ℕ
+threads_for n = cond (n == 1) 1 (n + 1)
+
+-- whether it is 1 worker that the poller's thread serves itself, or none
+abbrev pub own_in : Option OwnWorker → ℕ
+own_in None = 0
+own_in (Some own) = 1
+
+-- how many workers the poller's thread brings back
+abbrev pub owns_of : {C : Type 0} → PollThread C → ℕ
+owns_of (Runs thread) = own_in thread.promise.2.value
+owns_of (Ended poller ready clock) = 0
+
+-- the shares of the ready queue that the worker of the poller's thread has
+abbrev pub own_share : Option OwnWorker → ℕ
+own_share None = 0
+own_share (Some own) = own.desk.ready.share
+
+-- the shares that the passes have which the poller's thread brings back
 abbrev pub share_of : {C : Type 0} → PollThread C → ℕ
-share_of (Runs thread) = thread.promise.1.value.share
+share_of (Runs thread) = thread.promise.1.value.share + own_share thread.promise.2.value
 share_of (Ended poller ready clock) = ready.share
+
+-- the worker that came back, where there was one, with its pass of the ready queue and its shares
+abbrev pub IsBack : Shared → Option OwnWorker → Option OwnEnd → Type 0
+IsBack s None None = Unit {0}
+IsBack s None (Some end) = ⊥
+IsBack s (Some own) None = ⊥
+IsBack s (Some own) (Some end) = IsOf s.board end.worker × IsOfQueue s.queue end.ready × (end.ready.share ≡ own.desk.ready.share)
 
 -- and those that the workers' passes have
 abbrev pub shares_of : List WorkThread → ℕ
@@ -46,15 +74,15 @@ pub record HasThreads {C : Type 0} (follows : C → List Event → Type 0) (s : 
   pub poller_is : IsPollThread follows s poller
   pub workers_are : AreWorking s workers
   pub ended_are : All (λ p. IsOf s.board p) ended
-  pub count : length workers + length ended ≡ s.board.workers
-  pub room : length workers + length ended ≤ capacity
+  pub count : length workers + (owns_of poller + length ended) ≡ s.board.workers
+  pub room : length workers + (owns_of poller + length ended) ≤ capacity
 
 -- the passes of the ready queue, with the threads or back from them, have all its shares, and there is room for them and for the end of the queue
 pub record HasPasses {C : Type 0} (s : Shared) (poller : PollThread C) (workers : List WorkThread) (passes : List Moves) (capacity : ℕ) (room : Room) : Type 0 where
   pub own : All (λ p. IsOfQueue s.queue p) passes
-  pub pairs : length workers + length passes ≡ s.board.workers
+  pub pairs : length workers + (owns_of poller + length passes) ≡ s.board.workers
   pub shares : share_of poller + (shares_of workers + sum_by (λ p. p.share) passes) ≡ all_shares
-  pub places : length workers + length passes < capacity
+  pub places : length workers + (owns_of poller + length passes) < capacity
   pub gather : IsRoom s.queue.places (s.board.workers + 1) room
 
 -- all passes of the ready queue are back: the poller's, and those of the workers

@@ -9,10 +9,11 @@ ghost use Rattle.runtime.specs.Clients.{without_tail};
 ghost use Rattle.ready.specs.Ready.{AreAll, IsOf as IsOfQueue};
 ghost use Rattle.ready.specs.Rule.{all_shares};
 ghost use Rattle.ready.specs.QueueParts.{IsRoom};
-ghost use Rattle.runtime.specs.Crews.{IsPollThread, AreWorking, share_of, shares_of};
+ghost use Rattle.runtime.specs.Crews.{IsPollThread, AreWorking, own_in, own_share, owns_of, share_of, shares_of};
 
 use crate::client::Client;
 use crate::shared::Shared;
+use crate::threads::OwnWorker;
 use board::{Poller, ReportRoom, Worker};
 use controls::Clock;
 use ready::{GatherRoom, ReadyPass};
@@ -23,18 +24,35 @@ use std::sync::Arc;
 use std::thread::{Promise, PromisedHandle, Threads};
 
 /// The passes that a thread brings back are those of the board and of the ready queue that it shares, and the second has the shares of
-/// the queue that the thread was given. The clock that the poller's thread brings back has gone along with what the poller has seen.
+/// the queue that the thread was given.
 #[derive(Drop)]
 pub(crate) struct Ours(pub Snapshot<Arc<Shared>>, pub Snapshot<ReadyPass>);
 
-impl<C: Clock> Promise<(Poller, ReadyPass, C)> for Ours {
+/// The same of the poller's thread, and of the worker that it serves itself. The clock that it brings back has gone along with what the
+/// poller has seen.
+#[derive(Drop)]
+pub(crate) struct Polls(
+    pub Snapshot<Arc<Shared>>,
+    pub Snapshot<ReadyPass>,
+    pub Snapshot<Option<OwnWorker>>,
+);
+
+/// The passes of a worker that the poller's thread has served.
+#[derive(Drop)]
+pub(crate) struct OwnEnd {
+    pub worker: Worker,
+    pub ready: ReadyPass,
+}
+
+impl<C: Clock> Promise<(Poller, ReadyPass, C, Option<OwnEnd>)> for Polls {
     ghost use Rattle.std.specs.Prelude.{◌≡◌};
     ghost use Rattle.std.specs.Arc.{arc_value};
     ghost use Rattle.ready.specs.Ready.{IsOf as IsOfQueue};
+    ghost use Rattle.runtime.specs.Crews.{IsBack};
     ghost use Rattle.work.specs.Board.{IsOf};
     ghost use Rattle.work.specs.Passes.{seen_of};
 
-    ghost kept_by = { λ p r. IsOf (arc_value p.0.value).board r.0 × IsOfQueue (arc_value p.0.value).queue r.1 × (r.1.share ≡ p.1.value.share) × C.follows r.2 (seen_of r.0) };
+    ghost kept_by = { λ p r. IsOf (arc_value p.0.value).board r.0 × IsOfQueue (arc_value p.0.value).queue r.1 × (r.1.share ≡ p.1.value.share) × C.follows r.2 (seen_of r.0) × IsBack (arc_value p.0.value) p.2.value r.3 };
 }
 
 impl Promise<(Worker, ReadyPass)> for Ours {
@@ -55,7 +73,7 @@ pub(crate) struct WorkThread {
 /// The poller's thread, or its passes and the clock once that was joined.
 #[derive(Drop)]
 pub(crate) enum PollThread<C: Clock> {
-    Runs(PromisedHandle<(Poller, ReadyPass, C), Ours>),
+    Runs(PromisedHandle<(Poller, ReadyPass, C, Option<OwnEnd>), Polls>),
     Ended(Poller, ReadyPass, C),
 }
 
@@ -111,20 +129,38 @@ impl<C: Clock> Model for Stopped<C> {
     ghost invariant = { λ s. HasStopped (arc_value s.shared) s.rings s.poller s.workers.items (vec_capacity s.workers) s.threads.items × C.follows s.clock (seen_of s.poller) × HasAllPasses (arc_value s.shared) s.ready s.passes.items (vec_capacity s.passes) s.room };
 }
 
-/// Waits for the poller's thread.
+/// Waits for the poller's thread. The worker that it has served goes to those that came back before. There is room for it.
 fn join_poller<R: Threads, C: Clock>(
     rt: &R,
     shared: &Shared,
     poller: PollThread<C>,
+    ended: &mut Vec<Worker>,
+    passes: &mut Vec<ReadyPass>,
 ) -> (Poller, ReadyPass, C)
-    requires { IsPollThread C.follows shared.now poller }
+    requires thread { IsPollThread C.follows shared.now poller }
+    requires ended { All (λ p. IsOf shared.now.board p) ended.old.items }
+    requires passes { All (λ p. IsOfQueue shared.now.queue p) passes.old.items }
+    requires room { owns_of poller + length ended.old.items ≤ vec_capacity ended.old }
+    requires places { owns_of poller + length passes.old.items ≤ vec_capacity passes.old }
     ensures own { IsOf shared.now.board result.0 × C.follows result.2 (seen_of result.0) }
-    ensures ready { IsOfQueue shared.now.queue result.1 × (result.1.share ≡ share_of poller) }
+    ensures ready { IsOfQueue shared.now.queue result.1 }
+    ensures ended { All (λ p. IsOf shared.now.board p) ended.new.items × (length ended.new.items ≡ owns_of poller + length ended.old.items) }
+    ensures passes { All (λ p. IsOfQueue shared.now.queue p) passes.new.items × (length passes.new.items ≡ owns_of poller + length passes.old.items) }
+    ensures shares { result.1.share + sum_by (λ p. p.share) passes.new.items ≡ share_of poller + sum_by (λ p. p.share) passes.old.items }
+    ensures room { (vec_capacity ended.new ≡ vec_capacity ended.old) × (vec_capacity passes.new ≡ vec_capacity passes.old) }
 {
     let _ = shared;
     match poller {
-        PollThread::Runs(handle) => handle.join(rt),
-        PollThread::Ended(poller, ready, clock) => (poller, ready, clock),
+        PollThread::Runs(handle) => {
+            let (poller, pass, clock, own) = handle.join(rt);
+            let Some(OwnEnd { worker, ready }) = own else {
+                return (poller, pass, clock);
+            };
+            ended.push_reserved(worker);
+            passes.push_reserved(ready);
+            (poller, pass, clock)
+        }
+        PollThread::Ended(poller, pass, clock) => (poller, pass, clock),
     }
 }
 
@@ -164,7 +200,7 @@ impl<C: Clock> Runtime<C> {
     pub(crate) fn new(
         shared: Arc<Shared>,
         rings: usize,
-        poller: PromisedHandle<(Poller, ReadyPass, C), Ours>,
+        poller: PromisedHandle<(Poller, ReadyPass, C, Option<OwnEnd>), Polls>,
         workers: Vec<WorkThread>,
         ended: Vec<Worker>,
         passes: Vec<ReadyPass>,
@@ -172,10 +208,10 @@ impl<C: Clock> Runtime<C> {
     ) -> Runtime<C>
         requires rings { rings ≡ length (arc_value shared).board.layout.cells }
         requires poller { arc_value poller.promise.0.value ≡ arc_value shared }
-        requires workers { AreWorking (arc_value shared) workers.items × (length workers.items ≡ (arc_value shared).board.workers) }
-        requires room { (length ended.items ≡ 0) × (length workers.items ≤ vec_capacity ended) }
-        requires places { (length passes.items ≡ 0) × (length workers.items < vec_capacity passes) }
-        requires shares { poller.promise.1.value.share + shares_of workers.items ≡ all_shares }
+        requires workers { AreWorking (arc_value shared) workers.items × (length workers.items + own_in poller.promise.2.value ≡ (arc_value shared).board.workers) }
+        requires room { (length ended.items ≡ 0) × (length workers.items + own_in poller.promise.2.value ≤ vec_capacity ended) }
+        requires places { (length passes.items ≡ 0) × (length workers.items + own_in poller.promise.2.value < vec_capacity passes) }
+        requires shares { poller.promise.1.value.share + own_share poller.promise.2.value + shares_of workers.items ≡ all_shares }
         requires gather { IsRoom (arc_value shared).queue.places ((arc_value shared).board.workers + 1) room }
         ensures board { result.board ≡ (arc_value shared).board }
         ensures threads { result.threads ≡ length workers.items + 1 }
@@ -218,7 +254,7 @@ impl<C: Clock> Runtime<C> {
             mut passes,
             room,
         } = self;
-        let (poller, ready, clock) = join_poller(rt, &shared, poller);
+        let (poller, ready, clock) = join_poller(rt, &shared, poller, &mut ended, &mut passes);
         join_workers(rt, &shared, &mut workers, &mut ended, &mut passes);
         Stopped {
             shared,

@@ -11,10 +11,10 @@ ghost use Rattle.event_count.specs.Passes.{IsNotifierOf, IsWaiterOf};
 ghost use Rattle.board.specs.New.{AreSubmitters};
 ghost use Rattle.board.specs.ShapeLimits.{is_shape, widest};
 ghost use Rattle.runtime.specs.Clients.{AreClients, AreNewClients, IsStarted};
-ghost use Rattle.runtime.specs.Crews.{AreWorking, shares_of};
-ghost use Rattle.runtime.specs.Loops.{IsPolling, IsServing};
+ghost use Rattle.runtime.specs.Crews.{AreWorking, IsBack, own_in, own_share, shares_of, threads_for};
+ghost use Rattle.runtime.specs.Loops.{IsPolling, IsServing, MayOwn};
 ghost use Rattle.runtime.specs.PollTurns.{IsNewDesk, IsPollers};
-ghost use Rattle.runtime.specs.StartParts.{AreRingers, IsParts};
+ghost use Rattle.runtime.specs.StartParts.{AreRingers, HavePairs, IsParts};
 ghost use Rattle.runtime.specs.declared.error.StartError.TheVariants.{BadShape};
 
 use crate::client::Client;
@@ -25,8 +25,8 @@ use crate::poll::{PollDesk, places_of};
 use crate::serving::WorkDesk;
 use crate::shared::Shared;
 use crate::sleeping::{Caller, Listener};
-use crate::started::{Ours, Runtime, WorkThread, tell_end};
-use crate::threads::{poll, work};
+use crate::started::{OwnEnd, Ours, Polls, Runtime, WorkThread, tell_end};
+use crate::threads::{OwnWorker, PollSide, poll, work};
 use bell::{Bell, Ringer, Sleeper};
 use board::{Board, BoardError, Poller, RingShape, Shape, Submitter, Worker};
 use compring::CompletionRing;
@@ -305,14 +305,17 @@ fn clients_of(
     Ok(clients)
 }
 
-/// The poller's desk, and an outbox for its turns.
-fn desk_of(
+/// What the poller's thread is to have: its desk, with an outbox for its turns, its clock, and the worker that it serves itself.
+fn side_of<C: Clock + Drop>(
     alloc: Global,
     shape: &Shape,
     parts: PollerParts,
-) -> Result<(PollDesk, Outbox, Caller), Memory>
-    ensures desk { IfOk result (λ t. IsNewDesk (length shape.now.rings.items) parts.poller parts.sleeper parts.ready t.0) }
-    ensures outbox { IfOk result (λ t. (t.1.answered ≡ []) × (t.0.places ≤ t.1.places)) }
+    clock: C,
+    own: Option<OwnWorker>,
+) -> Result<PollSide<C>, Memory>
+    ensures desk { IfOk result (λ t. IsNewDesk (length shape.now.rings.items) parts.poller parts.sleeper parts.ready t.desk) }
+    ensures outbox { IfOk result (λ t. (t.outbox.answered ≡ []) × (t.desk.places ≤ t.outbox.places)) }
+    ensures same { IfOk result (λ t. (t.clock ≡ clock) × (t.own ≡ own)) }
 {
     let PollerParts {
         poller,
@@ -327,10 +330,16 @@ fn desk_of(
         return Err(Memory);
     };
     let outbox = Outbox::new(alloc, places)?;
-    Ok((desk, outbox, caller))
+    Ok(PollSide {
+        desk,
+        clock,
+        outbox,
+        caller,
+        own,
+    })
 }
 
-/// Starts the poller's thread, with this desk.
+/// Starts the poller's thread.
 fn spawn_poller<
     R: Threads + Wait + Copy + Send + 'static,
     G: Turnstile + Send + Sync + Drop + 'static,
@@ -338,36 +347,39 @@ fn spawn_poller<
 >(
     rt: R,
     theirs: Arc<Shared>,
-    desk: PollDesk,
-    clock: C,
     turnstile: Arc<G>,
     idle: u32,
-    outbox: Outbox,
-    caller: Caller,
-) -> Result<PromisedHandle<(Poller, ReadyPass, C), Ours>, StartError>
-    requires desk { IsPolling (arc_value theirs) desk }
-    requires clock { C.follows clock (seen_of desk.poller) }
-    requires outbox { (outbox.answered ≡ []) × (desk.places ≤ outbox.places) }
-    ensures thread { IfOk result (λ h. (arc_value h.promise.0.value ≡ arc_value theirs) × (h.promise.1.value.share ≡ desk.ready.share)) }
+    side: PollSide<C>,
+) -> Result<PromisedHandle<(Poller, ReadyPass, C, Option<OwnEnd>), Polls>, StartError>
+    requires desk { IsPolling (arc_value theirs) side.desk }
+    requires clock { C.follows side.clock (seen_of side.desk.poller) }
+    requires outbox { (side.outbox.answered ≡ []) × (side.desk.places ≤ side.outbox.places) }
+    requires worker { MayOwn (arc_value theirs) side.own }
+    ensures thread { IfOk result (λ h. (arc_value h.promise.0.value ≡ arc_value theirs) × (h.promise.1.value.share ≡ side.desk.ready.share) × (h.promise.2.value ≡ side.own)) }
     ensures refused { IfErr result (λ e. e ≢ BadShape) }
 {
-    let promise = Ours(Snapshot::of(&theirs), Snapshot::of(desk.ready()));
+    let promise = Polls(
+        Snapshot::of(&theirs),
+        Snapshot::of(side.desk.ready()),
+        Snapshot::of(&side.own),
+    );
     match thread::spawn_with(
         &rt,
         promise,
-        move || -> (Poller, ReadyPass, C)
-            requires desk { IsPolling (arc_value theirs) desk }
-            requires clock { C.follows clock (seen_of desk.poller) }
-            requires outbox { (outbox.answered ≡ []) × (desk.places ≤ outbox.places) }
-            ensures { IsOf (arc_value theirs).board result.0 × IsOfQueue (arc_value theirs).queue result.1 × (result.1.share ≡ desk.ready.share) × C.follows result.2 (seen_of result.0) }
-        { poll(&rt, &theirs, desk, clock, &*turnstile, idle, outbox, caller) },
+        move || -> (Poller, ReadyPass, C, Option<OwnEnd>)
+            requires desk { IsPolling (arc_value theirs) side.desk }
+            requires clock { C.follows side.clock (seen_of side.desk.poller) }
+            requires outbox { (side.outbox.answered ≡ []) × (side.desk.places ≤ side.outbox.places) }
+            requires worker { MayOwn (arc_value theirs) side.own }
+            ensures { IsOf (arc_value theirs).board result.0 × IsOfQueue (arc_value theirs).queue result.1 × (result.1.share ≡ side.desk.ready.share) × C.follows result.2 (seen_of result.0) × IsBack (arc_value theirs) side.own result.3 }
+        { poll(&rt, &theirs, &*turnstile, idle, side) },
     ) {
         Ok(handle) => Ok(handle),
         Err(_) => Err(StartError::Thread),
     }
 }
 
-/// Starts the poller's thread: makes its desk, and hands it the clock and the turnstile.
+/// Starts the poller's thread: makes its desk, and hands it the clock, the turnstile, and the worker that it serves itself.
 fn start_poller<
     R: Threads + Wait + Copy + Send + 'static,
     G: Turnstile + Send + Sync + Drop + 'static,
@@ -380,16 +392,18 @@ fn start_poller<
     stage: &Stage<G>,
     clock: C,
     parts: PollerParts,
-) -> Result<PromisedHandle<(Poller, ReadyPass, C), Ours>, StartError>
+    own: Option<OwnWorker>,
+) -> Result<PromisedHandle<(Poller, ReadyPass, C, Option<OwnEnd>), Polls>, StartError>
     requires board { IsOf (arc_value stage.now.shared).board parts.poller × IsPollers parts.poller }
     requires rings { (0 < length shape.now.rings.items) × ((arc_value stage.now.shared).bell.rings ≡ length shape.now.rings.items) }
     requires sleeper { IsSleeperOf (arc_value stage.now.shared).bell parts.sleeper }
     requires ready { IsOfQueue (arc_value stage.now.shared).queue parts.ready }
     requires clock { C.follows clock (seen_of parts.poller) }
-    ensures thread { IfOk result (λ h. (arc_value h.promise.0.value ≡ arc_value stage.now.shared) × (h.promise.1.value.share ≡ parts.ready.share)) }
+    requires worker { MayOwn (arc_value stage.now.shared) own }
+    ensures thread { IfOk result (λ h. (arc_value h.promise.0.value ≡ arc_value stage.now.shared) × (h.promise.1.value.share ≡ parts.ready.share) × (h.promise.2.value ≡ own)) }
     ensures refused { IfErr result (λ e. e ≢ BadShape) }
 {
-    let Ok((desk, outbox, caller)) = desk_of(alloc, shape, parts) else {
+    let Ok(side) = side_of(alloc, shape, parts, clock, own) else {
         return Err(StartError::Memory);
     };
     let (Ok(theirs), Ok(points)) = (
@@ -398,7 +412,7 @@ fn start_poller<
     ) else {
         return Err(StartError::Memory);
     };
-    spawn_poller(rt, theirs, desk, clock, points, idle, outbox, caller)
+    spawn_poller(rt, theirs, points, idle, side)
 }
 
 /// Starts the thread of a worker.
@@ -451,7 +465,7 @@ fn start_workers<
 ) -> Result<(), StartError>
     requires workers { All (λ p. IsOf (arc_value shared.now).board p) parts.workers.items }
     requires passes { All (λ p. IsOfQueue (arc_value shared.now).queue p) parts.passes.items }
-    requires count { (length parts.passes.items ≡ length parts.workers.items) × (length parts.listeners.items ≡ length parts.workers.items) × (length parts.callers.items ≡ length parts.workers.items) }
+    requires count { HavePairs parts }
     requires room { (threads.old.items ≡ []) × (length parts.workers.items ≤ vec_capacity threads.old) }
     ensures threads { AreWorking (arc_value shared.now) threads.new.items }
     ensures count { IfOk result (λ _. length threads.new.items ≡ length parts.workers.items) }
@@ -487,7 +501,7 @@ fn start_workers<
 fn abandon<R: Threads, C: Clock + Drop>(
     rt: &R,
     clients: &mut Vec<Client>,
-    poller: PromisedHandle<(Poller, ReadyPass, C), Ours>,
+    poller: PromisedHandle<(Poller, ReadyPass, C, Option<OwnEnd>), Polls>,
     threads: Vec<WorkThread>,
 ) {
     tell_end(clients);
@@ -538,7 +552,7 @@ fn start_others<
     rt: R,
     alloc: Global,
     stage: Stage<G>,
-    poller: PromisedHandle<(Poller, ReadyPass, C), Ours>,
+    poller: PromisedHandle<(Poller, ReadyPass, C, Option<OwnEnd>), Polls>,
     parts: WorkerParts,
     rooms: Rooms,
     mut clients: Vec<Client>,
@@ -547,14 +561,14 @@ fn start_others<
     requires poller { arc_value poller.promise.0.value ≡ arc_value stage.shared }
     requires clients { AreClients (arc_value stage.shared).board clients.items }
     requires workers { All (λ p. IsOf (arc_value stage.shared).board p) parts.workers.items }
-    requires pool { length parts.workers.items ≡ (arc_value stage.shared).board.workers }
-    requires passes { All (λ p. IsOfQueue (arc_value stage.shared).queue p) parts.passes.items × (length parts.passes.items ≡ length parts.workers.items) }
-    requires callers { (length parts.listeners.items ≡ length parts.workers.items) × (length parts.callers.items ≡ length parts.workers.items) }
-    requires shares { poller.promise.1.value.share + sum_by (λ p. p.share) parts.passes.items ≡ all_shares }
+    requires pool { length parts.workers.items + own_in poller.promise.2.value ≡ (arc_value stage.shared).board.workers }
+    requires passes { All (λ p. IsOfQueue (arc_value stage.shared).queue p) parts.passes.items }
+    requires count { HavePairs parts }
+    requires shares { poller.promise.1.value.share + own_share poller.promise.2.value + sum_by (λ p. p.share) parts.passes.items ≡ all_shares }
     requires threads { (rooms.threads.items ≡ []) × (length parts.workers.items ≤ vec_capacity rooms.threads) }
-    requires ended { (rooms.ended.items ≡ []) × (length parts.workers.items ≤ vec_capacity rooms.ended) }
-    requires back { (rooms.passes.items ≡ []) × (length parts.workers.items < vec_capacity rooms.passes) }
-    requires gather { IsRoom (arc_value stage.shared).queue.places (length parts.workers.items + 1) rooms.gather }
+    requires ended { (rooms.ended.items ≡ []) × ((arc_value stage.shared).board.workers ≤ vec_capacity rooms.ended) }
+    requires back { (rooms.passes.items ≡ []) × ((arc_value stage.shared).board.workers < vec_capacity rooms.passes) }
+    requires gather { IsRoom (arc_value stage.shared).queue.places ((arc_value stage.shared).board.workers + 1) rooms.gather }
     ensures started { IfOk result (λ t. (t.0.board ≡ (arc_value stage.shared).board) × (t.1.items ≡ clients.items)) }
     ensures threads { IfOk result (λ t. t.0.threads ≡ length parts.workers.items + 1) }
     ensures own { IfOk result (λ t. AreClients t.0.board t.1.items) }
@@ -580,6 +594,39 @@ fn start_others<
     }
 }
 
+/// The worker that the poller's thread serves itself, where it is the only one. It has no thread then.
+fn own_of(
+    alloc: Global,
+    shared: &Shared,
+    parts: &mut WorkerParts,
+) -> Result<Option<OwnWorker>, Memory>
+    requires workers { All (λ p. IsOf shared.now.board p) parts.old.workers.items }
+    requires passes { All (λ p. IsOfQueue shared.now.queue p) parts.old.passes.items }
+    requires count { HavePairs parts.old }
+    ensures own { IfOk result (λ o. MayOwn shared.now o × (own_in o + length parts.new.workers.items ≡ length parts.old.workers.items)) }
+    ensures shares { IfOk result (λ o. own_share o + sum_by (λ p. p.share) parts.new.passes.items ≡ sum_by (λ p. p.share) parts.old.passes.items) }
+    ensures workers { All (λ p. IsOf shared.now.board p) parts.new.workers.items }
+    ensures passes { All (λ p. IsOfQueue shared.now.queue p) parts.new.passes.items }
+    ensures count { HavePairs parts.new }
+    ensures threads { IfOk result (λ _. length parts.new.workers.items + 1 ≡ threads_for (length parts.old.workers.items)) }
+{
+    if parts.workers.len() != 1 {
+        return Ok(None);
+    }
+    let places = shared.board.widest() + KEPT;
+    let outbox = Outbox::new(alloc, places)?;
+    let (Some(worker), Some(ready)) = (parts.workers.pop(), parts.passes.pop()) else {
+        unreachable!()
+    };
+    parts.listeners.pop();
+    parts.callers.pop();
+    Ok(Some(OwnWorker {
+        desk: WorkDesk::new(ready),
+        worker,
+        outbox,
+    }))
+}
+
 /// Starts all threads of a new runtime.
 fn start_threads<
     R: Threads + Wait + Copy + Send + 'static,
@@ -597,7 +644,7 @@ fn start_threads<
     requires parts { IsParts shape.now parts }
     requires clock { C.follows clock [] }
     ensures started { IfOk result (λ t. IsStarted shape.now t.0.board t.1.items) }
-    ensures threads { IfOk result (λ t. t.0.threads ≡ shape.now.workers + 1) }
+    ensures threads { IfOk result (λ t. t.0.threads ≡ threads_for shape.now.workers) }
     ensures own { IfOk result (λ t. AreClients t.0.board t.1.items) }
     ensures refused { IfErr result (λ e. e ≢ BadShape) }
 {
@@ -605,9 +652,12 @@ fn start_threads<
         shared,
         poller,
         clients,
-        workers,
+        mut workers,
     } = parts;
     let Ok(rooms) = rooms_of(alloc, &shared.queue, &workers.workers) else {
+        return Err(StartError::Memory);
+    };
+    let Ok(own) = own_of(alloc, &shared, &mut workers) else {
         return Err(StartError::Memory);
     };
     let Ok(stage) = stage_of(alloc, shared, turnstile) else {
@@ -616,14 +666,14 @@ fn start_threads<
     let Ok(clients) = clients_of(alloc, &stage.shared, clients) else {
         return Err(StartError::Memory);
     };
-    match start_poller(rt, alloc, shape, idle, &stage, clock, poller) {
+    match start_poller(rt, alloc, shape, idle, &stage, clock, poller, own) {
         Ok(poller) => start_others(rt, alloc, stage, poller, workers, rooms, clients),
         Err(error) => Err(error),
     }
 }
 
 /// Starts a runtime: a board of this shape, its poller and its workers, each in a thread of its own, and gives it with a client for each
-/// ring, in order. After `idle` idle turns in a row, 0 counting as 1, the poller sleeps until a batch is submitted, while its clock asks
+/// ring, in order. An only worker has no thread: that of the poller makes its turns between its own. After `idle` idle turns in a row, 0 counting as 1, the poller sleeps until a batch is submitted, while its clock asks
 /// for nothing (IORING_SETUP_SQPOLL of io_uring_setup(2), with turns in the place of `sq_thread_idle` milliseconds).
 ///
 /// The clock is one that may stand so where nothing has happened yet. `join_with_clock` gives it back.
@@ -643,7 +693,7 @@ pub fn start<
 ) -> Result<(Runtime<C>, Vec<Client>), StartError>
     requires clock { C.follows clock [] }
     ensures started { IfOk result (λ t. IsStarted shape.now t.0.board t.1.items) }
-    ensures threads { IfOk result (λ t. t.0.threads ≡ shape.now.workers + 1) }
+    ensures threads { IfOk result (λ t. t.0.threads ≡ threads_for shape.now.workers) }
     ensures own { IfOk result (λ t. AreClients t.0.board t.1.items) }
     ensures bad_shape { result ≡ Err BadShape → is_shape shape.now ≡ false }
     ensures refused { is_shape shape.now ≡ false → result ≡ Err BadShape }

@@ -6,7 +6,9 @@ ghost use Rattle.ready.specs.Ready.{IsOf as IsOfQueue};
 ghost use Rattle.bell.specs.BellPasses.{HasLoaded};
 ghost use Rattle.board.specs.ShapeLimits.{widest};
 ghost use Rattle.outbox.specs.Outbox.{Waiting};
-ghost use Rattle.runtime.specs.Loops.{IsPolling, IsServing};
+ghost use Rattle.runtime.specs.Crews.{IsBack, own_in, own_share};
+ghost use Rattle.runtime.specs.Loops.{IsOwn, IsPolling, IsServing, MayOwn};
+ghost use Rattle.runtime.specs.declared.shared.Shared.{Shared};
 ghost use Rattle.runtime.specs.PollTurns.{IsPollTurn};
 ghost use Rattle.runtime.specs.WorkTurns.{IsWorkTurn};
 
@@ -15,6 +17,7 @@ use crate::posting::post_all;
 use crate::serving::{WorkDesk, work_turn};
 use crate::shared::Shared;
 use crate::sleeping::{Caller, Listener, doze};
+use crate::started::OwnEnd;
 use crate::turn::Turn;
 use board::{Poller, Worker};
 use controls::{Clock, Turnstile};
@@ -28,6 +31,9 @@ use std::{hint, thread};
 /// A call of the system after each would take longer than most requests. Pauses that double, as the kit's `Backoff` makes them, would
 /// let a request wait as long again as the thread had been idle.
 const SPINS: u32 = 256;
+
+/// How many turns the worker of the poller's thread makes at most between two turns of the poller.
+const RUNS: u32 = 64;
 
 /// Between a turn that did nothing and the next, after so many such turns in a row.
 fn pause(still: u32) {
@@ -58,6 +64,16 @@ impl Idling {
             Turn::Moved => 0,
         };
         self.most <= self.count
+    }
+}
+
+/// Idle where both are.
+fn both(one: Turn, other: Turn) -> Turn
+    ensures { result ≡ Turn.Idle → (one ≡ Turn.Idle) × (other ≡ Turn.Idle) }
+{
+    match one {
+        Turn::Idle => other,
+        Turn::Moved => one,
     }
 }
 
@@ -102,55 +118,8 @@ fn call_for(caller: &mut Caller, puts: u32) {
     }
 }
 
-/// The thread of the poller. It ends once it is told to. After `idle` idle turns in a row it sleeps until it is rung, unless its clock
-/// asks for something. It gives back its passes, and the clock, which has gone along with what the poller has seen.
-pub(crate) fn poll<R: Wait, G: Turnstile, C: Clock>(
-    rt: &R,
-    shared: &Shared,
-    mut desk: PollDesk,
-    mut clock: C,
-    turnstile: &G,
-    idle: u32,
-    mut outbox: Outbox,
-    mut caller: Caller,
-) -> (Poller, ReadyPass, C)
-    requires desk { IsPolling shared.now desk }
-    requires clock { C.follows clock (seen_of desk.poller) }
-    requires outbox { (outbox.answered ≡ []) × (desk.places ≤ outbox.places) }
-    ensures own { IsOf shared.now.board result.0 }
-    ensures ready { IsOfQueue shared.now.queue result.1 × (result.1.share ≡ desk.ready.share) }
-    ensures follows { C.follows result.2 (seen_of result.0) }
-{
-    let mut idling = Idling {
-        most: idle.max(1),
-        count: 0,
-    };
-    let mut still = 0u32;
-    let mut called = 0u32;
-    for _ in rt.forever() {
-        let turn = poll_round(rt, shared, &mut desk, &mut clock, turnstile, &mut outbox);
-        let puts = desk.puts();
-        call_for(&mut caller, puts.wrapping_sub(called));
-        called = puts;
-        if desk.is_over() {
-            shared.is_over.store(true, Ordering::SeqCst);
-            caller.call_all();
-            let (poller, _sleeper, ready) = desk.parts();
-            return (poller, ready, clock);
-        }
-        if idling.note(turn) && clock.ask().is_none() {
-            rest(rt, &shared.bell, &mut desk);
-        } else if desk.has_moved() {
-            still = 0;
-        } else {
-            still = still.saturating_add(1);
-            pause(still);
-        }
-    }
-    unreachable!()
-}
-
-/// One turn of a worker. What it answered stays in the outbox while that has room for another turn. Whether it answered nothing.
+/// One turn of a worker. What it answered stays in the outbox while that has room for another turn. What it came to, and
+/// whether it answered nothing.
 fn work_round<R: Wait, G: Turnstile>(
     rt: &R,
     shared: &Shared,
@@ -158,11 +127,11 @@ fn work_round<R: Wait, G: Turnstile>(
     worker: Worker,
     turnstile: &G,
     outbox: &mut Outbox,
-) -> (Worker, bool)
+) -> (Worker, Turn, bool)
     requires desk { IsServing shared.now desk.old worker }
     requires places { widest shared.now.board.layout.cells ≤ outbox.old.places }
     ensures desk { IsServing shared.now desk.new result.0 }
-    ensures turned { (o : Waiting) × ((o ≡ outbox.old) ⊎ (o ≡ record outbox.old { answered = [] })) × IsWorkTurn shared.now.board desk.old desk.new worker result.0 o outbox.new × (result.1 ≡ (length outbox.new.answered == length o.answered)) }
+    ensures turned { (o : Waiting) × ((o ≡ outbox.old) ⊎ (o ≡ record outbox.old { answered = [] })) × IsWorkTurn shared.now.board desk.old desk.new worker result.0 o outbox.new × (result.2 ≡ (length outbox.new.answered == length o.answered)) }
     ensures places { outbox.new.places ≡ outbox.old.places }
     ensures share { desk.new.ready.share ≡ desk.old.ready.share }
 {
@@ -170,7 +139,7 @@ fn work_round<R: Wait, G: Turnstile>(
         post_all(rt, &shared.posts, turnstile, outbox);
     }
     let before = outbox.len();
-    let (worker, _turn) = work_turn(
+    let (worker, turn) = work_turn(
         rt,
         &shared.board,
         &shared.queue,
@@ -180,7 +149,153 @@ fn work_round<R: Wait, G: Turnstile>(
         outbox,
     );
     let is_silent = outbox.len() == before;
-    (worker, is_silent)
+    (worker, turn, is_silent)
+}
+
+/// A worker that the poller's thread serves, with its desk and the outbox of its turns.
+#[derive(Drop)]
+pub(crate) struct OwnWorker {
+    pub desk: WorkDesk,
+    pub worker: Worker,
+    pub outbox: Outbox,
+}
+
+/// What the poller's thread has: its desk, its clock, its outbox, who wakes the workers, and the worker that it serves itself where
+/// that is the only one.
+#[derive(Drop)]
+pub(crate) struct PollSide<C> {
+    pub desk: PollDesk,
+    pub clock: C,
+    pub outbox: Outbox,
+    pub caller: Caller,
+    pub own: Option<OwnWorker>,
+}
+
+impl OwnWorker {
+    /// Work turns, until one finds nothing to do, `RUNS` of them at most. What they answered is posted. Whether the last was idle.
+    fn serve<R: Wait, G: Turnstile>(self, rt: &R, shared: &Shared, turnstile: &G) -> (OwnWorker, Turn)
+        requires { IsOwn shared.now self }
+        ensures own { IsOwn shared.now result.0 }
+        ensures share { result.0.desk.ready.share ≡ self.desk.ready.share }
+    {
+        let OwnWorker {
+            mut desk,
+            mut worker,
+            mut outbox,
+        } = self;
+        let mut last = Turn::Moved;
+        for _run in 0..RUNS {
+            let (next, turn, _is_silent) = work_round(rt, shared, &mut desk, worker, turnstile, &mut outbox);
+            worker = next;
+            last = turn;
+            if turn == Turn::Idle {
+                break;
+            }
+        }
+        post_all(rt, &shared.posts, turnstile, &mut outbox);
+        let own = OwnWorker {
+            desk,
+            worker,
+            outbox,
+        };
+        (own, last)
+    }
+
+    /// The passes, once it is served no more.
+    fn end(self) -> OwnEnd
+        ensures { (result.worker ≡ self.worker) × (result.ready ≡ self.desk.ready) }
+    {
+        let OwnWorker { desk, worker, .. } = self;
+        OwnEnd {
+            worker,
+            ready: desk.parts(),
+        }
+    }
+}
+
+/// Serves the worker of the poller's thread, where it has one. Whether there was nothing to do.
+fn serve_own<R: Wait, G: Turnstile>(
+    rt: &R,
+    shared: &Shared,
+    turnstile: &G,
+    own: Option<OwnWorker>,
+) -> (Option<OwnWorker>, Turn)
+    requires { MayOwn shared.now own }
+    ensures own { MayOwn shared.now result.0 }
+    ensures same { (own_in result.0 ≡ own_in own) × (own_share result.0 ≡ own_share own) }
+{
+    match own {
+        Some(own) => {
+            let (own, turn) = own.serve(rt, shared, turnstile);
+            (Some(own), turn)
+        }
+        None => (None, Turn::Idle),
+    }
+}
+
+/// The passes of the worker that the poller's thread has served, where it has one.
+fn end_of(own: Option<OwnWorker>) -> Option<OwnEnd>
+    ensures { (s : Shared) → MayOwn s own → IsBack s own result }
+{
+    match own {
+        Some(own) => Some(own.end()),
+        None => None,
+    }
+}
+
+/// The thread of the poller. It ends once it is told to. After `idle` idle turns in a row it sleeps until it is rung, unless its clock
+/// asks for something. It gives back its passes, and the clock, which has gone along with what the poller has seen.
+pub(crate) fn poll<R: Wait, G: Turnstile, C: Clock>(
+    rt: &R,
+    shared: &Shared,
+    turnstile: &G,
+    idle: u32,
+    side: PollSide<C>,
+) -> (Poller, ReadyPass, C, Option<OwnEnd>)
+    requires desk { IsPolling shared.now side.desk }
+    requires clock { C.follows side.clock (seen_of side.desk.poller) }
+    requires outbox { (side.outbox.answered ≡ []) × (side.desk.places ≤ side.outbox.places) }
+    requires worker { MayOwn shared.now side.own }
+    ensures own { IsOf shared.now.board result.0 }
+    ensures ready { IsOfQueue shared.now.queue result.1 × (result.1.share ≡ side.desk.ready.share) }
+    ensures follows { C.follows result.2 (seen_of result.0) }
+    ensures worker { IsBack shared.now side.own result.3 }
+{
+    let PollSide {
+        mut desk,
+        mut clock,
+        mut outbox,
+        mut caller,
+        mut own,
+    } = side;
+    let mut idling = Idling {
+        most: idle.max(1),
+        count: 0,
+    };
+    let (mut still, mut called) = (0u32, 0u32);
+    for _ in rt.forever() {
+        let turn = poll_round(rt, shared, &mut desk, &mut clock, turnstile, &mut outbox);
+        let puts = desk.puts();
+        call_for(&mut caller, puts.wrapping_sub(called));
+        called = puts;
+        let (next, served) = serve_own(rt, shared, turnstile, own);
+        own = next;
+        if desk.is_over() {
+            shared.is_over.store(true, Ordering::SeqCst);
+            caller.call_all();
+            let (poller, _sleeper, ready) = desk.parts();
+            return (poller, ready, clock, end_of(own));
+        }
+        if idling.note(both(turn, served)) && clock.ask().is_none() {
+            rest(rt, &shared.bell, &mut desk);
+        } else if desk.has_moved() || served == Turn::Moved {
+            still = 0;
+        } else {
+            still = still.saturating_add(1);
+            pause(still);
+        }
+    }
+    unreachable!()
 }
 
 /// The thread of a worker. What it answered is posted at the first turn that answers nothing, or once the outbox lacks room for
@@ -201,7 +316,7 @@ pub(crate) fn work<R: Wait, G: Turnstile>(
 {
     let mut silent = 0u32;
     for _ in rt.forever() {
-        let (next, is_silent) = work_round(rt, shared, &mut desk, worker, turnstile, &mut outbox);
+        let (next, _turn, is_silent) = work_round(rt, shared, &mut desk, worker, turnstile, &mut outbox);
         worker = next;
         if !is_silent {
             silent = 0;

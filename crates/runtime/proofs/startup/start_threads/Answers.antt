@@ -10,4 +10,7 @@ start_others-requires-clause-clients g c κs within = new_clients _ 0 _ c.in-Ok-
 
 pub start_others-requires-clause-workers : goal.start_others-requires-clause-workers
 start_others-requires-clause-workers g c κs within =
-    subst (λ (t : Shared). All (λ p. IsOf t.board p) c.args.parts.workers.workers.items) (sym c.in-Ok-stage_of.ensures) (workers_of _ _ c.requires.parts.board.workers_are.1)
+    subst (λ (t : Shared). All (λ p. IsOf t.board p) c.own_of.new.parts.workers.items) (sym c.in-Ok-stage_of.ensures) c.own_of.ensures.workers
+
+pub own_of-requires-clause-workers : goal.own_of-requires-clause-workers
+own_of-requires-clause-workers g c = workers_of _ _ c.requires.parts.board.workers_are.1

@@ -7,13 +7,17 @@ use Rattle.work.specs.Board.{IsOf}
 use Rattle.work.specs.Passes.{Pass}
 use Rattle.runtime.specs.declared.started.WorkThread.{WorkThread}
 use Rattle.runtime.specs.Crews.{shares_of}
+use Rattle.runtime.specs.Loops.{IsServing}
+use Rattle.runtime.specs.WorkTurns.{Desk}
 use Rattle.runtime.proofs.startup.start_workers.Goals as goal
 
-pub start_worker-requires-clause-worker : goal.start_worker-requires-clause-worker
-start_worker-requires-clause-worker g c κs within = (All-pop (λ (p : Pass). IsOf (arc_value c.args.shared.now).board p) c.loop-worker.workers.items c.pop.new.self.items (Some c.in-Some.worker) c.in-Some.ensures.items c.loop-worker.invariant.workers).1
-
-pub start_worker-requires-clause-ready : goal.start_worker-requires-clause-ready
-start_worker-requires-clause-ready g c κs within = (All-pop (λ (p : Moves). IsOfQueue (arc_value c.args.shared.now).queue p) c.loop-worker.passes.items c.pop-in-Some.new.self.items (Some c.in-Some-pop.ready) c.in-Some-pop.ensures.items c.loop-worker.invariant.passes).1
+pub start_worker-requires-after_bounds : goal.start_worker-requires-after_bounds
+start_worker-requires-after_bounds g c κs within =
+    let s = arc_value c.args.shared.now in
+    subst (λ (d : Desk). IsServing s d c.in-Some.worker) (sym c.with_caller-desk.ensures) (record {
+      worker_is = (All-pop (λ (p : Pass). IsOf s.board p) c.loop-worker.workers.items c.pop.new.self.items (Some c.in-Some.worker) c.in-Some.ensures.items c.loop-worker.invariant.workers).1;
+      ready = (All-pop (λ (p : Moves). IsOfQueue s.queue p) c.loop-worker.passes.items c.pop-in-Some.new.self.items (Some c.in-Some-pop.ready) c.in-Some-pop.ensures.items c.loop-worker.invariant.passes).1;
+    })
 
 pub loop-worker-preserved : goal.loop-worker-preserved
 loop-worker-preserved g c =
@@ -28,14 +32,16 @@ loop-worker-preserved g c =
     let more = ap (λ (z : List WorkThread). length z) c.push_reserved.ensures.items in
     let one_thread = length-append c.loop-worker.threads.items (c.in-Ok-start_worker.thread ∷ []) in
     let shares = ap (λ (z : List Moves). sum_by (λ (p : Moves). p.share) z) passes_left in
+    let own_share = ap (λ (d : Desk). d.ready.share) c.with_caller-desk.ensures in
     let sum = ap (λ (z : List WorkThread). shares_of z) c.push_reserved.ensures.items in
     record {
       workers = (All-pop (λ (p : Pass). IsOf s.board p) c.loop-worker.workers.items c.pop.new.self.items (Some c.in-Some.worker) c.in-Some.ensures.items i.workers).0;
       passes = (All-pop (λ (p : Moves). IsOfQueue s.queue p) c.loop-worker.passes.items c.pop-in-Some.new.self.items (Some c.in-Some-pop.ready) c.in-Some-pop.ensures.items i.passes).0;
       pairs = omega (arith, i.pairs, fewer, one, fewer_passes, one_pass);
       listening = search rules;
+      calling = search rules;
       threads = subst (λ (z : List WorkThread). All (λ t. arc_value t.handle.promise.0.value ≡ s) z) (sym c.push_reserved.ensures.items) (All-push (λ (t : WorkThread). arc_value t.handle.promise.0.value ≡ s) _ _ i.threads c.in-Ok-start_worker.ensures.thread.0);
-      shares = omega (arith, i.shares, shares, sum, c.in-Ok-start_worker.ensures.thread.1, sum_by_push (λ (t : WorkThread). t.handle.promise.1.value.share) c.loop-worker.threads.items c.in-Ok-start_worker.thread, sum_by_push (λ (p : Moves). p.share) c.pop-in-Some.new.self.items c.in-Some-pop.ready);
+      shares = omega (arith, i.shares, shares, sum, c.in-Ok-start_worker.ensures.thread.1, own_share, sum_by_push (λ (t : WorkThread). t.handle.promise.1.value.share) c.loop-worker.threads.items c.in-Ok-start_worker.thread, sum_by_push (λ (p : Moves). p.share) c.pop-in-Some.new.self.items c.in-Some-pop.ready);
       count = omega (arith, i.count, fewer, one, more, one_thread);
       room = search rules;
     }

@@ -11,6 +11,7 @@ invariant-loop-worker g l = record {
   passes : All (λ p. IsOfQueue (arc_value l.shared).queue p) l.passes.items;
   pairs : length l.passes.items ≡ length l.workers.items;
   listening : length l.listeners.items ≡ length l.workers.items;
+  calling : length l.callers.items ≡ length l.workers.items;
   threads : AreWorking (arc_value l.shared) l.threads.items;
   shares : shares_of l.threads.items + sum_by (λ p. p.share) l.passes.items ≡ sum_by (λ p. p.share) l.fn.parts.passes.items;
   count : length l.threads.items + length l.workers.items ≡ length l.fn.parts.workers.items;

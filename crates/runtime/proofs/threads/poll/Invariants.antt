@@ -1,12 +1,14 @@
 use Rattle.std.proofs.Common.{◌≡◌, [], ◌≤◌}
 use Rattle.work.specs.Passes.{seen_of}
-use Rattle.runtime.specs.Loops.{IsPolling}
+use Rattle.runtime.specs.Crews.{own_in, own_share}
+use Rattle.runtime.specs.Loops.{IsPolling, MayOwn}
 use Rattle.runtime.proofs.threads.poll.Given as goal
 
 abbrev pub invariant-loop : goal.invariant-loop
 invariant-loop g l = record {
   desk : IsPolling l.shared l.desk;
   follows : g.C.Clock.follows l.clock (seen_of l.desk.poller);
-  share : l.desk.ready.share ≡ l.fn.desk.ready.share;
+  share : l.desk.ready.share ≡ l.fn.side.desk.ready.share;
+  worker : MayOwn l.shared l.own × (own_in l.own ≡ own_in l.fn.side.own) × (own_share l.own ≡ own_share l.fn.side.own);
   outbox : (l.outbox.answered ≡ []) × (l.desk.places ≤ l.outbox.places);
 }

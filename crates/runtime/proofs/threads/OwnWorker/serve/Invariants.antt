@@ -1,0 +1,11 @@
+use Rattle.std.proofs.Common.{◌≡◌, ◌≤◌}
+use Rattle.board.specs.ShapeLimits.{widest}
+use Rattle.runtime.specs.Loops.{IsServing}
+use Rattle.runtime.proofs.threads.OwnWorker.serve.Given as goal
+
+abbrev pub invariant-loop-run : goal.invariant-loop-run
+invariant-loop-run g l = record {
+  desk : IsServing l.shared l.desk l.worker;
+  places : widest l.shared.board.layout.cells ≤ l.outbox.places;
+  share : l.desk.ready.share ≡ l.fn.self.desk.ready.share;
+}
