@@ -52,23 +52,18 @@ impl WorkDesk {
     pub fn new(ready: ReadyPass) -> WorkDesk
         ensures { result ≡ new_desk ready }
     {
-        WorkDesk {
-            ready,
-            kept: None,
-            other: None,
-            caller: None,
-        }
+        WorkDesk::beside(ready, None)
     }
 
-    /// The same, of a worker beside others, which may sleep.
-    pub(crate) fn with_caller(ready: ReadyPass, caller: Caller) -> WorkDesk
+    /// The same, of a worker beside others that may sleep, which are woken by this one.
+    pub(crate) fn beside(ready: ReadyPass, caller: Option<Caller>) -> WorkDesk
         ensures { result ≡ new_desk ready }
     {
         WorkDesk {
             ready,
             kept: None,
             other: None,
-            caller: Some(caller),
+            caller,
         }
     }
 

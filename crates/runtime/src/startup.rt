@@ -25,7 +25,7 @@ use crate::poll::{PollDesk, places_of};
 use crate::serving::WorkDesk;
 use crate::shared::Shared;
 use crate::sleeping::{Caller, Listener};
-use crate::started::{OwnEnd, Ours, Polls, Runtime, WorkThread, tell_end};
+use crate::started::{Ours, OwnEnd, Polls, Runtime, WorkThread, tell_end};
 use crate::threads::{OwnWorker, PollSide, poll, work};
 use bell::{Bell, Ringer, Sleeper};
 use board::{Board, BoardError, Poller, RingShape, Shape, Submitter, Worker};
@@ -415,6 +415,15 @@ fn start_poller<
     spawn_poller(rt, theirs, points, idle, side)
 }
 
+/// The outbox of a worker.
+fn outbox_of(alloc: Global, shared: &Shared) -> Result<Outbox, Memory>
+    ensures { IfOk result (λ o. widest shared.now.board.layout.cells ≤ o.places) }
+{
+    let places = shared.board.widest() + KEPT;
+    let outbox = Outbox::new(alloc, places)?;
+    Ok(outbox)
+}
+
 /// Starts the thread of a worker.
 fn start_worker<
     R: Threads + Wait + Copy + Send + 'static,
@@ -432,8 +441,7 @@ fn start_worker<
     ensures thread { IfOk result (λ t. (arc_value t.handle.promise.0.value ≡ arc_value shared.now) × (t.handle.promise.1.value.share ≡ desk.ready.share)) }
     ensures refused { IfErr result (λ e. e ≢ BadShape) }
 {
-    let places = shared.board.widest() + KEPT;
-    let (Ok(theirs), Ok(outbox)) = (Arc::try_clone(shared), Outbox::new(alloc, places)) else {
+    let (Ok(theirs), Ok(outbox)) = (Arc::try_clone(shared), outbox_of(alloc, shared)) else {
         return Err(StartError::Memory);
     };
     let promise = Ours(Snapshot::of(shared), Snapshot::of(desk.ready()));
@@ -488,7 +496,7 @@ fn start_workers<
         let Ok(points) = Arc::try_clone(turnstile) else {
             return Err(StartError::Memory);
         };
-        let desk = WorkDesk::with_caller(ready, caller);
+        let desk = WorkDesk::beside(ready, Some(caller));
         match start_worker(rt, alloc, shared, worker, desk, listener, points) {
             Ok(thread) => threads.push_reserved(thread),
             Err(error) => return Err(error),
@@ -613,8 +621,7 @@ fn own_of(
     if parts.workers.len() != 1 {
         return Ok(None);
     }
-    let places = shared.board.widest() + KEPT;
-    let outbox = Outbox::new(alloc, places)?;
+    let outbox = outbox_of(alloc, shared)?;
     let (Some(worker), Some(ready)) = (parts.workers.pop(), parts.passes.pop()) else {
         unreachable!()
     };

@@ -173,7 +173,12 @@ pub(crate) struct PollSide<C> {
 
 impl OwnWorker {
     /// Work turns, until one finds nothing to do, `RUNS` of them at most. What they answered is posted. Whether the last was idle.
-    fn serve<R: Wait, G: Turnstile>(self, rt: &R, shared: &Shared, turnstile: &G) -> (OwnWorker, Turn)
+    fn serve<R: Wait, G: Turnstile>(
+        self,
+        rt: &R,
+        shared: &Shared,
+        turnstile: &G,
+    ) -> (OwnWorker, Turn)
         requires { IsOwn shared.now self }
         ensures own { IsOwn shared.now result.0 }
         ensures share { result.0.desk.ready.share ≡ self.desk.ready.share }
@@ -185,7 +190,14 @@ impl OwnWorker {
         } = self;
         let mut last = Turn::Moved;
         for _run in 0..RUNS {
-            let (next, turn, _is_silent) = work_round(rt, shared, &mut desk, worker, turnstile, &mut outbox);
+            let (next, turn, _is_silent) = work_round(
+                rt,
+                shared,
+                &mut desk,
+                worker,
+                turnstile,
+                &mut outbox,
+            );
             worker = next;
             last = turn;
             if turn == Turn::Idle {
@@ -316,7 +328,14 @@ pub(crate) fn work<R: Wait, G: Turnstile>(
 {
     let mut silent = 0u32;
     for _ in rt.forever() {
-        let (next, _turn, is_silent) = work_round(rt, shared, &mut desk, worker, turnstile, &mut outbox);
+        let (next, _turn, is_silent) = work_round(
+            rt,
+            shared,
+            &mut desk,
+            worker,
+            turnstile,
+            &mut outbox,
+        );
         worker = next;
         if !is_silent {
             silent = 0;

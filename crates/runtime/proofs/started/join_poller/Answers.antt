@@ -16,9 +16,10 @@ returns-in-Some-clause-ended g c =
     let own = came_back s c.in-Runs.handle.promise.2.value c.in-Some.field-0 back in
     let one : owns_of c.args.poller ≡ 1 = search rules in
     let more = ap (λ (z : List Pass). length z) c.push_reserved.ensures.items in
-    let worker = own.0 in
-    (subst (λ (z : List Pass). All (λ p. IsOf s.board p) z) (sym c.push_reserved.ensures.items) (All-push (λ (p : Pass). IsOf s.board p) _ _ c.requires.ended worker),
-     omega (arith, one, more, length-append c.args.ended.now.items (c.in-Some.field-0.worker ∷ [])))
+    let worker = own.0 in (
+      subst (λ (z : List Pass). All (λ p. IsOf s.board p) z) (sym c.push_reserved.ensures.items) (All-push (λ (p : Pass). IsOf s.board p) _ _ c.requires.ended worker),
+      omega (arith, one, more, length-append c.args.ended.now.items (c.in-Some.field-0.worker ∷ [])),
+    )
 
 pub returns-in-Some-clause-passes : goal.returns-in-Some-clause-passes
 returns-in-Some-clause-passes g c =
@@ -27,6 +28,7 @@ returns-in-Some-clause-passes g c =
     let own = came_back s c.in-Runs.handle.promise.2.value c.in-Some.field-0 back in
     let one : owns_of c.args.poller ≡ 1 = search rules in
     let more = ap (λ (z : List Moves). length z) c.push_reserved-in-Runs.ensures.items in
-    let ready = own.1 in
-    (subst (λ (z : List Moves). All (λ p. IsOfQueue s.queue p) z) (sym c.push_reserved-in-Runs.ensures.items) (All-push (λ (p : Moves). IsOfQueue s.queue p) _ _ c.requires.passes ready),
-     omega (arith, one, more, length-append c.args.passes.now.items (c.in-Some.field-0.ready ∷ [])))
+    let ready = own.1 in (
+      subst (λ (z : List Moves). All (λ p. IsOfQueue s.queue p) z) (sym c.push_reserved-in-Runs.ensures.items) (All-push (λ (p : Moves). IsOfQueue s.queue p) _ _ c.requires.passes ready),
+      omega (arith, one, more, length-append c.args.passes.now.items (c.in-Some.field-0.ready ∷ [])),
+    )
