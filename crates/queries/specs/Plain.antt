@@ -9,6 +9,6 @@ use Rattle.commands.specs.declared.job.Job.TheVariants as job
 
 abbrev pub plain_job : Job → Option plain.Job
 plain_job (Run workers turns None false) = Some (job.Run workers turns)
-plain_job (Outcomes stats false limit false) = if limit == STATES then Some (job.Outcomes stats) else None
-plain_job (History Lines limit) = if limit == STATES then Some job.History else None
+plain_job (Outcomes stats false limit false false) = if limit == STATES then Some (job.Outcomes stats) else None
+plain_job (History Lines limit false) = if limit == STATES then Some job.History else None
 plain_job _ = None
