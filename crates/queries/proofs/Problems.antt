@@ -1,6 +1,6 @@
 -- Which problems there are, kind by kind, and what a history is told as.
-use Rattle.std.proofs.Common.{◌≡◌, ◌↔◌, ◌⊎◌, ℕ, ℤ, Bool, List, [], ◌∷◌, ◌++◌, drop, get_or, length, map, take, refl, sym, ap, ◌∙◌, subst, inl, inr, arith, ◌≤◌}
-use Rattle.std.specs.Prelude.{Option, Some, None, Result, Ok, Err, IfErr, IfOk, IsTrue, unwrap_or}
+use Rattle.std.proofs.Common.{◌≡◌, ◌↔◌, ◌⊎◌, ℕ, ℤ, Bool, List, [], ◌∷◌, drop, get_or, length, map, refl, sym, ap, ◌∙◌, subst, inl, inr, arith, ◌≤◌}
+use Rattle.std.specs.Prelude.{Option, Some, Result, Ok, Err, IfErr, IfOk, IsTrue, unwrap_or}
 use Rattle.std.specs.Io.KnownBytes.{Keeps}
 use Rattle.std.specs.Borrow.{Bor}
 use Rattle.std.specs.Global.{Vec}
@@ -16,7 +16,7 @@ use Rattle.commands.specs.declared.problem.Problem.{Problem}
 use Rattle.commands.specs.declared.problem.Problem.TheVariants.{Input, Output, Stuck, Line, Workers, TooManyStates, Memory, Shared}
 use Rattle.command_line.specs.declared.job.Job.{Job}
 use Rattle.command_line.specs.declared.job.Job.TheVariants.{Run, Outcomes, History, Check}
-use Rattle.commands.specs.Printed.{AppendsSome, AreAll, Reads}
+use Rattle.commands.specs.Printed.{AreAll, Reads}
 use Rattle.commands.specs.Status.{of_script}
 use Rattle.script.specs.Rows.{rows_of}
 use Rattle.script.specs.declared.table.Table.{Table}

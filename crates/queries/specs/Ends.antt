@@ -1,5 +1,5 @@
 -- How a query ends: with an answer, or with a problem that is told.
-use Rattle.std.specs.Prelude.{◌≡◌, ◌⊎◌, ℕ, Bool, true, List, Option, Some, None}
+use Rattle.std.specs.Prelude.{◌≡◌, ◌⊎◌, ℕ, true, List, Option, Some, None}
 use Rattle.std.specs.Io.KnownBytes.{Appends, Keeps}
 use Rattle.script.specs.declared.script.Script.{Script}
 use Rattle.explore.specs.Search.{HasStates}

@@ -1,8 +1,8 @@
 -- Which jobs have no words of queries: they are left to `commands`.
-use Rattle.std.specs.Prelude.{ℕ, Bool, true, false, ◌==◌, ◌&&◌, if◌then◌else◌, not, is_none, Option, Some, None}
+use Rattle.std.specs.Prelude.{false, ◌==◌, if◌then◌else◌, Option, Some, None}
 use Rattle.limits.specs.declared.TheConstants.{STATES}
 use Rattle.command_line.specs.declared.job.Job.{Job}
-use Rattle.command_line.specs.declared.job.Job.TheVariants.{Run, Outcomes, History, Check}
+use Rattle.command_line.specs.declared.job.Job.TheVariants.{Run, Outcomes, History}
 use Rattle.command_line.specs.declared.job.Look.TheVariants.{Lines}
 use Rattle.commands.specs.declared.job.Job as plain
 use Rattle.commands.specs.declared.job.Job.TheVariants as job

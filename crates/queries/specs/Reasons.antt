@@ -1,5 +1,5 @@
 -- Why a query has no answer.
-use Rattle.std.specs.Prelude.{◌≡◌, ◌⊎◌, ℕ, List, Option}
+use Rattle.std.specs.Prelude.{◌⊎◌, ℕ, List, Option}
 use Rattle.script.specs.declared.script.Script.{Script}
 use Rattle.script_text.specs.TableText.{IsTableFault}
 use Rattle.script_text.specs.declared.fault.ScriptFault.TheVariants.{Line as FaultyLine}
