@@ -9,7 +9,6 @@ mod cast;
 mod drawn;
 mod entries;
 mod judge;
-mod paces;
 mod pipes;
 mod runs;
 mod scripts;
@@ -64,7 +63,6 @@ fn told_of<R: Machine>(rt: &R, kept: &mut Kept, call: &str) -> Told {
         "query" => runs::queried(rt, text, second),
         "ringrun" => runs::commanded(rt, call),
         "problem" => runs::problem(alloc, text),
-        "paces" => paces::told(alloc, &mut Words::of(alloc, text)),
         "writes" | "reads" | "finds" => broken::told(rt, kind, text, second),
         "run" | "run-1" | "run-64" | "stuck" | "once" | "outcomes" | "history" => {
             runs::told(rt, kind, text, second)
