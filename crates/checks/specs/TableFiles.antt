@@ -1,5 +1,5 @@
 -- Files of one table, or of several.
-use Rattle.std.specs.Prelude.{◌≡◌, ◌⊎◌, ℕ, ℤ, ◌<◌, ◌+◌, ◌*◌, min, List, [], ◌∷◌, ◌++◌, length, map, codes, decimal}
+use Rattle.std.specs.Prelude.{◌≡◌, ◌⊎◌, ℕ, ℤ, ◌<◌, ◌+◌, ◌*◌, min, List, [], ◌∷◌, ◌++◌, length, codes, decimal}
 use Rattle.script.specs.declared.script.Script.{Script}
 use Rattle.script_text.specs.TableText.{table_text, AreLines, IsBadLine, IsTableText}
 use Rattle.script_text.specs.declared.fault.Fault.TheVariants.{BadTable}

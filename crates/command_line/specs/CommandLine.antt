@@ -51,7 +51,7 @@ limit_rule = record (new_rule (codes "limit")) {
   parser = Some (parser.Signed (pos 1) (pos 4294967295));
 }
 
--- a flag, `--stats`, `--explain`, `--json`, `--lanes` or `--mermaid`
+-- a flag, `--stats`, `--explain`, `--progress`, `--json`, `--lanes` or `--mermaid`
 abbrev pub flag_rule : Text → Rule
 flag_rule name = record (new_rule name) { long = Some name; action = Some SetTrue }
 
@@ -79,13 +79,13 @@ abbrev pub run_app : App
 run_app = with_rule (with_rule (with_rule (with_rule (with_rule (new_app (codes "run")) workers_rule) turns_rule) times_rule) (flag_rule (codes "json"))) file_rule
 
 abbrev pub outcomes_app : App
-outcomes_app = with_rule (with_rule (with_rule (with_rule (with_rule (new_app (codes "outcomes")) (flag_rule (codes "stats"))) (flag_rule (codes "explain"))) limit_rule) (flag_rule (codes "json"))) file_rule
+outcomes_app = with_rule (with_rule (with_rule (with_rule (with_rule (with_rule (new_app (codes "outcomes")) (flag_rule (codes "stats"))) (flag_rule (codes "explain"))) limit_rule) (flag_rule (codes "progress"))) (flag_rule (codes "json"))) file_rule
 
 abbrev pub history_app : App
-history_app = with_rule (with_rule (with_rule (with_rule (with_rule (with_rule (new_app (codes "history")) (flag_rule (codes "lanes"))) (flag_rule (codes "mermaid"))) limit_rule) (flag_rule (codes "json"))) file_rule) table_rule
+history_app = with_rule (with_rule (with_rule (with_rule (with_rule (with_rule (with_rule (new_app (codes "history")) (flag_rule (codes "lanes"))) (flag_rule (codes "mermaid"))) limit_rule) (flag_rule (codes "progress"))) (flag_rule (codes "json"))) file_rule) table_rule
 
 abbrev pub check_app : App
-check_app = with_rule (with_rule (with_rule (with_rule (new_app (codes "check")) limit_rule) (flag_rule (codes "json"))) file_rule) tables_rule
+check_app = with_rule (with_rule (with_rule (with_rule (with_rule (new_app (codes "check")) limit_rule) (flag_rule (codes "progress"))) (flag_rule (codes "json"))) file_rule) tables_rule
 
 -- the program's name, without its commands: one of them has to be given
 abbrev pub bare_app : App
@@ -118,13 +118,14 @@ pub record IsRun (rows : List Row) (workers turns : ℕ) (times : Option ℕ) (j
   pub times_are : IsTimes rows times
   pub json_is : IsFlag (codes "json") rows json
 
-pub record IsOutcomes (rows : List Row) (stats explain : Bool) (limit : ℕ) (json : Bool) : Type 0 where
+pub record IsOutcomes (rows : List Row) (stats explain : Bool) (limit : ℕ) (progress json : Bool) : Type 0 where
   pub stats_is : IsFlag (codes "stats") rows stats
   pub explain_is : IsFlag (codes "explain") rows explain
   pub limit_is : IsNumber (codes "limit") rows 4294967295 limit
+  pub progress_is : IsFlag (codes "progress") rows progress
   pub json_is : IsFlag (codes "json") rows json
 
-pub record IsHistory (rows : List Row) (look : Look) (limit : ℕ) : Type 0 where
+pub record IsHistory (rows : List Row) (look : Look) (limit : ℕ) (progress : Bool) : Type 0 where
   pub json : Bool
   pub mermaid : Bool
   pub lanes : Bool
@@ -133,9 +134,11 @@ pub record IsHistory (rows : List Row) (look : Look) (limit : ℕ) : Type 0 wher
   pub lanes_is : IsFlag (codes "lanes") rows lanes
   pub look_is : look ≡ look_by json mermaid lanes
   pub limit_is : IsNumber (codes "limit") rows 4294967295 limit
+  pub progress_is : IsFlag (codes "progress") rows progress
 
-pub record IsCheck (rows : List Row) (limit : ℕ) (json : Bool) : Type 0 where
+pub record IsCheck (rows : List Row) (limit : ℕ) (progress json : Bool) : Type 0 where
   pub limit_is : IsNumber (codes "limit") rows 4294967295 limit
+  pub progress_is : IsFlag (codes "progress") rows progress
   pub json_is : IsFlag (codes "json") rows json
 
 abbrev pub IsRunFor : List Row → Job → Type 0
@@ -143,15 +146,15 @@ IsRunFor rows (Run workers turns times json) = IsRun rows workers turns times js
 IsRunFor rows _ = ⊥
 
 abbrev pub IsOutcomesFor : List Row → Job → Type 0
-IsOutcomesFor rows (Outcomes stats explain limit json) = IsOutcomes rows stats explain limit json
+IsOutcomesFor rows (Outcomes stats explain limit progress json) = IsOutcomes rows stats explain limit progress json
 IsOutcomesFor rows _ = ⊥
 
 abbrev pub IsHistoryFor : List Row → Job → Type 0
-IsHistoryFor rows (History look limit) = IsHistory rows look limit
+IsHistoryFor rows (History look limit progress) = IsHistory rows look limit progress
 IsHistoryFor rows _ = ⊥
 
 abbrev pub IsCheckFor : List Row → Job → Type 0
-IsCheckFor rows (Check limit json) = IsCheck rows limit json
+IsCheckFor rows (Check limit progress json) = IsCheck rows limit progress json
 IsCheckFor rows _ = ⊥
 
 -- the job of the command of this name, with these words after it

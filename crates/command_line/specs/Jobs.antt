@@ -14,9 +14,9 @@ IsRunWithin workers turns times = ((1 ≤ workers) × (workers ≤ WORKERS)) × 
 -- and a search meets at least one state
 abbrev pub IsWithin : Job → Type 0
 IsWithin (Run workers turns times json) = IsRunWithin workers turns times
-IsWithin (Outcomes stats explain limit json) = 1 ≤ limit
-IsWithin (History look limit) = 1 ≤ limit
-IsWithin (Check limit json) = 1 ≤ limit
+IsWithin (Outcomes stats explain limit progress json) = 1 ≤ limit
+IsWithin (History look limit progress) = 1 ≤ limit
+IsWithin (Check limit progress json) = 1 ≤ limit
 
 -- how a history is shown, by the three flags: the first of them that is given
 abbrev pub look_by : Bool → Bool → Bool → Look

@@ -66,6 +66,7 @@ fn outcomes<'a>(alloc: Global) -> Result<Command<'a>, AllocError>
             "Prints after each table a history that leads to it",
         ))?
         .arg(limit(alloc))?
+        .arg(progress(alloc))?
         .arg(json(alloc))?
         .arg(file(alloc))
 }
@@ -92,6 +93,7 @@ fn history<'a>(alloc: Global) -> Result<Command<'a>, AllocError>
             "Prints the history as a sequence diagram for Mermaid; counts before --lanes",
         ))?
         .arg(limit(alloc))?
+        .arg(progress(alloc))?
         .arg(json(alloc))?
         .arg(file(alloc))?
         .arg(table(alloc))
@@ -111,6 +113,7 @@ fn check<'a>(alloc: Global) -> Result<Command<'a>, AllocError>
             "Example: with the line `a 0` in the file TABLE,\n  printf 'ring 4\\non 0\\nnop a\\nsubmit\\nwait a\\n' | ringrun check - TABLE\nprints\n  TABLE: yes\n\nStatus 0: each is. 3: one isn't.",
         )
         .arg(limit(alloc))?
+        .arg(progress(alloc))?
         .arg(json(alloc))?
         .arg(file(alloc))?
         .arg(tables(alloc))
@@ -159,6 +162,16 @@ fn limit<'a>(alloc: Global) -> Arg<'a>
         .value_parser(value_parser!(u32).range(1..))
         .default_value("200000")
         .help("How many states a search may meet, 1 to 4294967295")
+}
+
+fn progress<'a>(alloc: Global) -> Arg<'a>
+    ensures { IsRead result (flag_rule (codes "progress")) }
+{
+    flag(
+        alloc,
+        "progress",
+        "Prints to standard error how many states a search has met, after two seconds and then once a second",
+    )
 }
 
 fn json<'a>(alloc: Global) -> Arg<'a>

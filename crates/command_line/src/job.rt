@@ -25,7 +25,8 @@ pub enum Look {
     Json,
 }
 
-/// What is asked for. With `json` the answer is one JSON value. A search meets at most `limit` states.
+/// What is asked for. With `json` the answer is one JSON value. A search meets at most `limit` states; with `progress` it is told
+/// meanwhile how many it has met.
 #[derive(Clone, Copy, PartialEq, Eq, Debug)]
 pub enum Job {
     /// A script is carried out on a board with so many workers, once or so many times. Each waiting line is tried at most
@@ -42,16 +43,19 @@ pub enum Job {
         stats: bool,
         explain: bool,
         limit: u32,
+        progress: bool,
         json: bool,
     },
     /// A history of a script with a given table is printed.
     History {
         look: Look,
         limit: u32,
+        progress: bool,
     },
     /// It is told whether each given table is one of the script's.
     Check {
         limit: u32,
+        progress: bool,
         json: bool,
     },
 }
@@ -140,6 +144,7 @@ fn outcomes_of(given: &ArgMatches<'_>) -> Job
         stats: given.get_flag("stats"),
         explain: given.get_flag("explain"),
         limit: number_of(given, "limit", u32::MAX),
+        progress: given.get_flag("progress"),
         json: given.get_flag("json"),
     }
 }
@@ -157,6 +162,7 @@ fn history_of(given: &ArgMatches<'_>) -> Job
     Job::History {
         look: look_by(json, mermaid, lanes),
         limit: number_of(given, "limit", u32::MAX),
+        progress: given.get_flag("progress"),
     }
 }
 
@@ -179,6 +185,7 @@ fn check_of(given: &ArgMatches<'_>) -> Job
 {
     Job::Check {
         limit: number_of(given, "limit", u32::MAX),
+        progress: given.get_flag("progress"),
         json: given.get_flag("json"),
     }
 }

@@ -61,6 +61,10 @@ number_line lead number = lead ++ (decimal number ++ codes "\n")
 abbrev pub stats_text : ℕ → ℕ → List ℕ
 stats_text states nanos = number_line (codes "states ") states ++ number_line (codes "states a second ") (rate_in states nanos)
 
+-- a line of `--progress`
+abbrev pub states_line : ℕ → List ℕ
+states_line states = number_line (codes "states so far ") states
+
 -- those of a search over the script that was read went to the end, or a beginning of them, and nothing else
 pub record HasCounts (script old new : Option (List ℕ)) : Type 0 where
   pub says : Script

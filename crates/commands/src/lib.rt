@@ -13,4 +13,4 @@ pub use files::serve;
 pub use inputs::Inputs;
 pub use job::{Invocation, Job};
 pub use problem::Problem;
-pub use told::{Stats, put_stats, tell};
+pub use told::{Stats, put_states, put_stats, tell};

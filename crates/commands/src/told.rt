@@ -3,7 +3,7 @@ ghost use Rattle.std.specs.Prelude.{◌≡◌, ◌*◌, ◌/◌, [], min, max, O
 ghost use Rattle.std.specs.Io.KnownBytes.{Appends};
 ghost use Rattle.commands.specs.Printed.{AppendsSome};
 ghost use Rattle.commands.specs.Status.{status_of};
-ghost use Rattle.commands.specs.Told.{line_of, number_line, stats_text, text_of, PutsCounts};
+ghost use Rattle.commands.specs.Told.{line_of, number_line, states_line, stats_text, text_of, PutsCounts};
 
 use crate::problem::Problem;
 use itoa::Buffer;
@@ -60,6 +60,15 @@ pub fn put_stats<E: Write>(stats: &Option<Stats>, err: &mut E)
         return;
     };
     let _ = put_counts(stats, err);
+    let _ = err.flush();
+}
+
+/// Writes to `err` how many states a search has met so far.
+pub fn put_states<E: Write>(states: usize, err: &mut E)
+    ensures { AppendsSome (E.contents err.old) (E.contents err.new) (states_line states) }
+{
+    let mut digits = Buffer::new();
+    let _ = put_number("states so far ", states as u64, &mut digits, err);
     let _ = err.flush();
 }
 

@@ -1,8 +1,7 @@
 -- Lists of JSON values, and that none of them has a float.
-use Rattle.std.proofs.Common.{◌≡◌, ℕ, ℤ, pos, negsuc, codes, Bool, true, false, List, [], ◌∷◌, ◌++◌, ◌≤◌, length, drop, map, refl, sym, ap, ap₂, ◌∙◌, inl, inr, rules}
+use Rattle.std.proofs.Common.{◌≡◌, ℕ, ℤ, pos, negsuc, codes, Bool, false, List, [], ◌∷◌, ◌++◌, ◌≤◌, length, drop, map, refl, sym, ap, ap₂, ◌∙◌, inl, inr, rules}
 use Rattle.std.specs.Prelude.{◌⊎◌, ◌||◌}
 use Rattle.std.specs.Global.{Vec}
-use Rattle.std.specs.List.{list_any}
 use Rattle.std.proofs.lemmas.List.{append-nil}
 use Rattle.pictures.proofs.Turns.{ends_here}
 use Rattle.history.specs.declared.event.Event.{Event}

@@ -1,8 +1,7 @@
 -- A history as a sequence diagram in the language of Mermaid.
-use Rattle.std.specs.Prelude.{ℕ, zero, suc, ◌+◌, List, [], ◌∷◌, ◌++◌, length, codes, decimal, Option, Some, None}
+use Rattle.std.specs.Prelude.{ℕ, zero, suc, ◌+◌, List, [], ◌∷◌, ◌++◌, length, codes, decimal, Some, None}
 use Rattle.history.specs.declared.event.Event.{Event}
 use Rattle.script.specs.declared.script.Script.{Script}
-use Rattle.pictures.specs.declared.marks.Lane.{Lane}
 use Rattle.pictures.specs.declared.marks.Lane.TheVariants.{Ring}
 use Rattle.pictures.specs.Marks.{Shown, marks, workers_in}
 use Rattle.pictures.specs.Pictures.{column_of, last_column, name_of}

@@ -1,5 +1,5 @@
 -- What contracts see of lists of tables with what belongs to them.
-use Rattle.std.specs.Prelude.{ℕ, ℤ, Bool, List, map}
+use Rattle.std.specs.Prelude.{ℕ, ℤ, Bool, List}
 use Rattle.std.specs.Global.{Vec}
 use Rattle.std.specs.Borrow.{Bor}
 use Rattle.history.specs.declared.event.Event.{Event}

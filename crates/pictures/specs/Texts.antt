@@ -1,5 +1,5 @@
 -- Plain texts of explained outcomes, of many runs, and of verdicts.
-use Rattle.std.specs.Prelude.{ℕ, ℤ, Bool, true, false, if◌then◌else◌, List, [], ◌∷◌, ◌++◌, length, codes, decimal}
+use Rattle.std.specs.Prelude.{ℕ, ℤ, Bool, true, false, List, [], ◌∷◌, ◌++◌, length, codes, decimal}
 use Rattle.history.specs.declared.event.Event.{Event}
 use Rattle.script.specs.declared.script.Script.{Script}
 use Rattle.script_text.specs.HistoryText.{history_text}

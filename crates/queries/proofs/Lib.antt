@@ -1,2 +1,3 @@
 mod Gone
+mod Lines
 mod Problems

@@ -1,6 +1,6 @@
 -- Which problems there are, kind by kind, and what a history is told as.
-use Rattle.std.proofs.Common.{◌≡◌, ◌↔◌, ◌⊎◌, ℕ, ℤ, Bool, List, [], ◌∷◌, ◌++◌, drop, get_or, length, map, take, refl, sym, ap, ◌∙◌, subst, inl, inr, arith, ◌≤◌}
-use Rattle.std.specs.Prelude.{Option, Some, None, Result, Ok, Err, IfErr, IfOk, IsTrue, unwrap_or}
+use Rattle.std.proofs.Common.{◌≡◌, ◌↔◌, ◌⊎◌, ℕ, ℤ, Bool, List, [], ◌∷◌, drop, get_or, length, map, refl, sym, ap, ◌∙◌, subst, inl, inr, arith, ◌≤◌}
+use Rattle.std.specs.Prelude.{Option, Some, Result, Ok, Err, IfErr, IfOk, IsTrue, unwrap_or}
 use Rattle.std.specs.Io.KnownBytes.{Keeps}
 use Rattle.std.specs.Borrow.{Bor}
 use Rattle.std.specs.Global.{Vec}
@@ -16,7 +16,7 @@ use Rattle.commands.specs.declared.problem.Problem.{Problem}
 use Rattle.commands.specs.declared.problem.Problem.TheVariants.{Input, Output, Stuck, Line, Workers, TooManyStates, Memory, Shared}
 use Rattle.command_line.specs.declared.job.Job.{Job}
 use Rattle.command_line.specs.declared.job.Job.TheVariants.{Run, Outcomes, History, Check}
-use Rattle.commands.specs.Printed.{AppendsSome, AreAll, Reads}
+use Rattle.commands.specs.Printed.{AreAll, Reads}
 use Rattle.commands.specs.Status.{of_script}
 use Rattle.script.specs.Rows.{rows_of}
 use Rattle.script.specs.declared.table.Table.{Table}
@@ -83,7 +83,7 @@ many_runs r c workers times n json tables is are many told =
 
 -- ---- what is told of what was read
 
-reads_of : (known : Option (List ℕ)) (bytes now : List ℕ) (c : Script) → AreAll known bytes → now ≡ bytes → SaysScript now c → Reads known c
+pub reads_of : (known : Option (List ℕ)) (bytes now : List ℕ) (c : Script) → AreAll known bytes → now ≡ bytes → SaysScript now c → Reads known c
 reads_of known bytes now c all is says = record { bytes = now; all = subst (AreAll known) (sym is) all; says = says }
 
 pub of_script_fault : (job : Job) (s : Option (List ℕ)) (ts : List Known) (bytes now : List ℕ) (e : ScriptFault) (p : Problem) → AreAll s bytes → now ≡ bytes → IsToldOfText now e → p ≡ of_script e → Explains job s ts p
@@ -103,11 +103,11 @@ explained (Err p) job s ts bytes now c given all is says are why = inr (record {
 
 no_output : (job : Job) (c : Script) (given : List (List ℕ × List ℕ)) → IsOfQuery job c given Output → ⊥
 no_output (Run workers turns times json) c given h = h
-no_output (Outcomes stats explain limit json) c given h = h
-no_output (History look limit) c given (inl h) = h
-no_output (History look limit) c given (inr h) = h
-no_output (Check limit json) c given (inl h) = h
-no_output (Check limit json) c given (inr h) = h
+no_output (Outcomes stats explain limit progress json) c given h = h
+no_output (History look limit progress) c given (inl h) = h
+no_output (History look limit progress) c given (inr h) = h
+no_output (Check limit progress json) c given (inl h) = h
+no_output (Check limit progress json) c given (inr h) = h
 
 pub ends_by : (job : Job) (s : Option (List ℕ)) (ts : List Known) (old new : Option (List ℕ)) (p : Problem) → Explains job s ts p → Keeps old new → EndsBy job s ts old new p
 ends_by job s ts old new Output (inl h) kept = absurd h
@@ -119,12 +119,6 @@ ends_by job s ts old new Workers h kept = (h, kept)
 ends_by job s ts old new TooManyStates h kept = (h, kept)
 ends_by job s ts old new (Stuck label) h kept = (h, kept)
 ends_by job s ts old new (Line fault) h kept = (h, kept)
-
-pub kept_some : (a b c : Option (List ℕ)) (text : List ℕ) → Keeps a b → AppendsSome b c text → AppendsSome a c text
-kept_some None b c text kept it = (it.0, it.1, tt)
-kept_some (Some xs) None c text kept it = absurd kept
-kept_some (Some xs) (Some ys) None text kept it = absurd it.2
-kept_some (Some xs) (Some ys) (Some zs) text kept it = (it.0, it.1, it.2 ∙ ap (λ (l : List ℕ). l ++ take it.0 text) kept)
 
 -- the second of two cases, as another
 pub right_as : {A B C : Type 0} → A ⊎ B → (B → C) → A ⊎ C

@@ -125,6 +125,6 @@ pub record IsCheckText (c : Script) (json : Bool) (given : List (List ℕ × Lis
 
 abbrev pub PrintsOf : Job → Script → List (List ℕ × List ℕ) → ℕ → List ℕ → Type 0
 PrintsOf (Run workers turns times json) c given status text = (status ≡ 0) × IsRunsText c workers times json text
-PrintsOf (Outcomes stats explain limit json) c given status text = (status ≡ 0) × IsListText c explain json text
-PrintsOf (History look limit) c given status text = (status ≡ 0) × IsLookFor look c given text
-PrintsOf (Check limit json) c given status text = IsCheckText c json given status text
+PrintsOf (Outcomes stats explain limit progress json) c given status text = (status ≡ 0) × IsListText c explain json text
+PrintsOf (History look limit progress) c given status text = (status ≡ 0) × IsLookFor look c given text
+PrintsOf (Check limit progress json) c given status text = IsCheckText c json given status text

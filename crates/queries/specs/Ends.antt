@@ -1,5 +1,5 @@
 -- How a query ends: with an answer, or with a problem that is told.
-use Rattle.std.specs.Prelude.{◌≡◌, ◌⊎◌, ℕ, Bool, true, List, Option, Some, None}
+use Rattle.std.specs.Prelude.{◌≡◌, ◌⊎◌, ℕ, true, List, Option, Some, None}
 use Rattle.std.specs.Io.KnownBytes.{Appends, Keeps}
 use Rattle.script.specs.declared.script.Script.{Script}
 use Rattle.explore.specs.Search.{HasStates}
@@ -13,11 +13,12 @@ use Rattle.command_line.specs.declared.job.Job.{Job}
 use Rattle.command_line.specs.declared.job.Job.TheVariants.{Outcomes}
 use Rattle.queries.specs.Answers.{PrintsOf}
 use Rattle.queries.specs.Given.{AreRead, Known}
+use Rattle.queries.specs.Progress.{is_observed, SaysOf}
 use Rattle.queries.specs.Reasons.{Explains}
 
 -- the statistics of a search over the script, where they are asked for
 abbrev pub CountsFor : Job → Script → Option Stats → Type 0
-CountsFor (Outcomes true explain limit json) c stats = (counts : Stats) × (stats ≡ Some counts) × HasStates c counts.states
+CountsFor (Outcomes true explain limit progress json) c stats = (counts : Stats) × (stats ≡ Some counts) × HasStates c counts.states
 CountsFor _ c stats = stats ≡ None
 
 -- what a job answers to what was read
@@ -29,13 +30,16 @@ pub record IsAnswer (job : Job) (script : Option (List ℕ)) (tables : List Know
   pub prints : PrintsOf job says given status text
   pub counts : CountsFor job says stats
 
--- just an answer went to standard output, with its status; and to standard error its statistics, if they are asked for, or a beginning
+-- just an answer went to standard output, with its status; and to standard error how far its searches were and its statistics, if they
+-- are asked for, or a beginning
 pub record HasAnswered (job : Job) (script : Option (List ℕ)) (tables : List Known) (out-old out-new err-old err-new : Option (List ℕ)) (status : ℕ) : Type 0 where
   pub text : List ℕ
   pub stats : Option Stats
   pub is_answer : IsAnswer job script tables status text stats
   pub went : Appends out-old out-new text
-  pub told : PutsCounts stats err-old err-new
+  pub err-said : Option (List ℕ)
+  pub said : SaysOf (is_observed job) script err-old err-said
+  pub told : PutsCounts stats err-said err-new
 
 -- a beginning of an answer went out, or all of it, and the writing failed
 pub record HasBegun (job : Job) (script : Option (List ℕ)) (tables : List Known) (out-old out-new : Option (List ℕ)) : Type 0 where
@@ -50,12 +54,15 @@ abbrev pub EndsBy : Job → Option (List ℕ) → List Known → Option (List �
 EndsBy job script tables old new Output = HasBegun job script tables old new
 EndsBy job script tables old new p = Explains job script tables p × Keeps old new
 
--- the line of a problem went to standard error, or a beginning of it, and the status is the problem's
+-- the line of a problem went to standard error, or a beginning of it, and before it how far the searches were, if that is asked for;
+-- and the status is the problem's
 pub record HasTold (job : Job) (script : Option (List ℕ)) (tables : List Known) (out-old out-new err-old err-new : Option (List ℕ)) (status : ℕ) : Type 0 where
   pub problem : Problem
   pub status_is : status ≡ status_of problem
   pub ends : EndsBy job script tables out-old out-new problem
-  pub line : AppendsSome err-old err-new (line_of problem)
+  pub err-said : Option (List ℕ)
+  pub said : SaysOf (is_observed job) script err-old err-said
+  pub line : AppendsSome err-said err-new (line_of problem)
 
 abbrev pub Ends : Job → Option (List ℕ) → List Known → Option (List ℕ) → Option (List ℕ) → Option (List ℕ) → Option (List ℕ) → ℕ → Type 0
 Ends job script tables out-old out-new err-old err-new status =

@@ -1,14 +1,14 @@
 -- Which jobs have no words of queries: they are left to `commands`.
-use Rattle.std.specs.Prelude.{ℕ, Bool, true, false, ◌==◌, ◌&&◌, if◌then◌else◌, not, is_none, Option, Some, None}
+use Rattle.std.specs.Prelude.{false, ◌==◌, if◌then◌else◌, Option, Some, None}
 use Rattle.limits.specs.declared.TheConstants.{STATES}
 use Rattle.command_line.specs.declared.job.Job.{Job}
-use Rattle.command_line.specs.declared.job.Job.TheVariants.{Run, Outcomes, History, Check}
+use Rattle.command_line.specs.declared.job.Job.TheVariants.{Run, Outcomes, History}
 use Rattle.command_line.specs.declared.job.Look.TheVariants.{Lines}
 use Rattle.commands.specs.declared.job.Job as plain
 use Rattle.commands.specs.declared.job.Job.TheVariants as job
 
 abbrev pub plain_job : Job → Option plain.Job
 plain_job (Run workers turns None false) = Some (job.Run workers turns)
-plain_job (Outcomes stats false limit false) = if limit == STATES then Some (job.Outcomes stats) else None
-plain_job (History Lines limit) = if limit == STATES then Some job.History else None
+plain_job (Outcomes stats false limit false false) = if limit == STATES then Some (job.Outcomes stats) else None
+plain_job (History Lines limit false) = if limit == STATES then Some job.History else None
 plain_job _ = None

@@ -1,5 +1,5 @@
 -- Why a query has no answer.
-use Rattle.std.specs.Prelude.{◌≡◌, ◌⊎◌, ℕ, List, Option}
+use Rattle.std.specs.Prelude.{◌⊎◌, ℕ, List, Option}
 use Rattle.script.specs.declared.script.Script.{Script}
 use Rattle.script_text.specs.TableText.{IsTableFault}
 use Rattle.script_text.specs.declared.fault.ScriptFault.TheVariants.{Line as FaultyLine}
@@ -47,9 +47,9 @@ IsOfTable c given _ = ⊥
 
 abbrev pub IsOfQuery : Job → Script → List (List ℕ × List ℕ) → Problem → Type 0
 IsOfQuery (Run workers turns times json) c given p = IsOfRun c workers turns p
-IsOfQuery (Outcomes stats explain limit json) c given p = IsOfLimit c limit p
-IsOfQuery (History look limit) c given p = IsOfTable c given p ⊎ IsOfLimit c limit p
-IsOfQuery (Check limit json) c given p = IsOfFiles c given p ⊎ IsOfLimit c limit p
+IsOfQuery (Outcomes stats explain limit progress json) c given p = IsOfLimit c limit p
+IsOfQuery (History look limit progress) c given p = IsOfTable c given p ⊎ IsOfLimit c limit p
+IsOfQuery (Check limit progress json) c given p = IsOfFiles c given p ⊎ IsOfLimit c limit p
 
 -- of the reading: it failed, memory ran out, or the script has this first fault
 abbrev pub IsOfReading : Option (List ℕ) → Problem → Type 0

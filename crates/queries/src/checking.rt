@@ -3,6 +3,8 @@ ghost use Rattle.std.specs.Prelude.{◌≡◌, ◌↔◌, ◌⊎◌, ℕ, ℤ, L
 ghost use Rattle.script.specs.Rows.{rows_of};
 ghost use Rattle.script.specs.Tables.{IsTableOf};
 ghost use Rattle.explore.specs.Courses.{Among};
+ghost use Rattle.explore.specs.Noted.{Noted};
+ghost use Rattle.explore.specs.Search.{HasStates};
 ghost use Rattle.commands.specs.Status.{IsOfMemory};
 ghost use Rattle.checks.specs.Verdicts.{IsVerdict};
 ghost use Rattle.pictures.specs.Shown.{verdict_of};
@@ -12,7 +14,7 @@ ghost use Rattle.queries.specs.Reasons.{IsOfFile, IsOfFiles, IsOfLimit};
 
 use checks::{are_listed, read_tables};
 use commands::Problem;
-use explore::{Script, Table, outcomes};
+use explore::{Observer, Script, Survey, Table, survey_script_observed};
 use std::alloc::Global;
 
 /// What is told of tables, and the status.
@@ -99,19 +101,21 @@ fn verdicts_text(alloc: Global, verdicts: &[(&str, bool)], json: bool) -> Result
 }
 
 /// Whether the tables of each file are the script's, by one search.
-pub(crate) fn check_text(
+pub(crate) fn check_text<O: Observer>(
     alloc: Global,
     script: &Script,
     given: &[(&str, Vec<u8>)],
     limit: u32,
     json: bool,
+    observer: &mut O,
 ) -> Result<Checked, Problem>
     ensures prints { IfOk result (λ checked. IsCheckText script.now json (map given_of given.now) checked.status checked.text.items) }
     ensures explains { IfErr result (λ p. IsOfFiles script.now (map given_of given.now) p ⊎ IsOfLimit script.now limit p) }
+    ensures noted { Noted O.notes (HasStates script.now) observer.old observer.new }
 {
     are_files(alloc, script, given)?;
-    let listed = outcomes(alloc, script, limit)?;
-    let verdicts = verdicts_on(alloc, script, &listed, given)?;
+    let Survey { tables, .. } = survey_script_observed(alloc, script, limit, observer)?;
+    let verdicts = verdicts_on(alloc, script, &tables, given)?;
     let text = verdicts_text(alloc, &verdicts, json)?;
     Ok(Checked {
         text,

@@ -9,9 +9,11 @@ mod given;
 mod listing;
 mod looking;
 mod plain;
+mod progress;
 mod runs;
 
 pub use answer::perform;
 pub use command_line::{Invocation, Job, Look, invocation_of};
 pub use files::serve;
 pub use plain::plain_of;
+pub use progress::Progress;

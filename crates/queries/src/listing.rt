@@ -1,6 +1,7 @@
 //! Outcomes, listed.
 ghost use Rattle.std.specs.Prelude.{◌≡◌, true, map, IfErr, IfOk};
 ghost use Rattle.script.specs.Rows.{rows_of};
+ghost use Rattle.explore.specs.Noted.{Noted};
 ghost use Rattle.explore.specs.Search.{HasStates};
 ghost use Rattle.checks.specs.Verdicts.{AreTablesOf};
 ghost use Rattle.queries.specs.Answers.{IsListText, IsTablesText};
@@ -8,7 +9,7 @@ ghost use Rattle.queries.specs.Reasons.{IsOfLimit};
 
 use checks::explain;
 use commands::{Problem, Stats, nanos_since};
-use explore::{Script, Table, survey_script};
+use explore::{Observer, Script, Table, survey_script_observed};
 use std::alloc::Global;
 use std::time::{Clock, Instant};
 
@@ -28,17 +29,19 @@ pub(crate) struct Listed {
 }
 
 /// These tables of a script with histories.
-fn explained_text(
+fn explained_text<O: Observer>(
     alloc: Global,
     script: &Script,
     tables: &[Table],
     listing: Listing,
+    observer: &mut O,
 ) -> Result<Vec<u8>, Problem>
     requires { AreTablesOf script.now (map rows_of tables.now) }
     ensures text { IfOk result (λ text. IsTablesText true listing.json script.now (map rows_of tables.now) text.items) }
     ensures explains { IfErr result (IsOfLimit script.now listing.limit) }
+    ensures noted { Noted O.notes (HasStates script.now) observer.old observer.new }
 {
-    let explained = explain(alloc, script, tables, listing.limit)?;
+    let explained = explain(alloc, script, tables, listing.limit, observer)?;
     if listing.json {
         Ok(pictures::write_explained(alloc, script, &explained)?)
     } else {
@@ -47,42 +50,46 @@ fn explained_text(
 }
 
 /// These tables of a script.
-fn tables_text(
+fn tables_text<O: Observer>(
     alloc: Global,
     script: &Script,
     tables: &[Table],
     listing: Listing,
+    observer: &mut O,
 ) -> Result<Vec<u8>, Problem>
     requires { AreTablesOf script.now (map rows_of tables.now) }
     ensures text { IfOk result (λ text. IsTablesText listing.explain listing.json script.now (map rows_of tables.now) text.items) }
     ensures explains { IfErr result (IsOfLimit script.now listing.limit) }
+    ensures noted { Noted O.notes (HasStates script.now) observer.old observer.new }
 {
     match (listing.explain, listing.json) {
-        (true, _) => explained_text(alloc, script, tables, listing),
+        (true, _) => explained_text(alloc, script, tables, listing, observer),
         (false, true) => Ok(pictures::write_tables(alloc, script, tables)?),
         (false, false) => commands::tables_text(alloc, script, tables),
     }
 }
 
 /// All tables of a script.
-pub(crate) fn list_text<R: Clock>(
+pub(crate) fn list_text<R: Clock, O: Observer>(
     rt: &R,
     alloc: Global,
     script: &Script,
     listing: Listing,
+    observer: &mut O,
 ) -> Result<Listed, Problem>
     ensures prints { IfOk result (λ listed. IsListText script.now listing.explain listing.json listed.text.items) }
     ensures states { IfOk result (λ listed. HasStates script.now listed.stats.states) }
     ensures explains { IfErr result (IsOfLimit script.now listing.limit) }
+    ensures noted { Noted O.notes (HasStates script.now) observer.old observer.new }
 {
     let start = Instant::now(rt);
-    let survey = survey_script(alloc, script, listing.limit)?;
+    let survey = survey_script_observed(alloc, script, listing.limit, observer)?;
     let stats = Stats {
         states: survey.states,
         nanos: nanos_since(rt, start),
     };
     Ok(Listed {
-        text: tables_text(alloc, script, &survey.tables, listing)?,
+        text: tables_text(alloc, script, &survey.tables, listing, observer)?,
         stats,
     })
 }

@@ -20,6 +20,7 @@ fn plain_job(job: Job) -> Option<commands::Job>
             stats,
             explain: false,
             limit,
+            progress: false,
             json: false,
         } => {
             if limit == STATES {
@@ -31,6 +32,7 @@ fn plain_job(job: Job) -> Option<commands::Job>
         Job::History {
             look: Look::Lines,
             limit,
+            progress: false,
         } => {
             if limit == STATES {
                 Some(commands::Job::History)

@@ -1,7 +1,7 @@
 use Rattle.std.proofs.Common.{List, ℕ, ℤ, map, refl, subst, sym}
 use Rattle.script.specs.Rows.{rows_of}
 use Rattle.explore.specs.Courses.{Among}
-use Rattle.checks.proofs.Members.{among_at, not_here, nowhere}
+use Rattle.checks.proofs.Members.{among_at}
 use Rattle.checks.proofs.listed.is_listed.Goals as goal
 
 pub returns-then-are_same : goal.returns-then-are_same

@@ -11,6 +11,7 @@ returns c =
     let w1 = adds_word _ _ _ _ _ w0 c.flag.ensures c.in_ok-arg.ensures in
     let w2 = adds_word _ _ _ _ _ w1 c.flag-2.ensures c.in_ok-arg-2.ensures in
     let w3 = adds_word _ _ _ _ _ w2 c.limit.ensures c.in_ok-arg-3.ensures in
-    let w4 = adds_word _ _ _ _ _ w3 c.json.ensures c.in_ok-arg-4.ensures in
-    let w5 = adds_word _ _ _ _ _ w4 c.file.ensures c.in_ok-arg-5.ensures in
-    IfOk-weaker c.arg-6.result _ _ (λ z adds. adds_word _ _ z _ _ w5 c.table.ensures adds) c.arg-6.ensures
+    let w4 = adds_word _ _ _ _ _ w3 c.progress.ensures c.in_ok-arg-4.ensures in
+    let w5 = adds_word _ _ _ _ _ w4 c.json.ensures c.in_ok-arg-5.ensures in
+    let w6 = adds_word _ _ _ _ _ w5 c.file.ensures c.in_ok-arg-6.ensures in
+    IfOk-weaker c.arg-7.result _ _ (λ z adds. adds_word _ _ z _ _ w6 c.table.ensures adds) c.arg-7.ensures

@@ -1,4 +1,4 @@
-use Rattle.std.proofs.Common.{codes, rules}
+use Rattle.std.proofs.Common.{codes}
 use Rattle.clap.specs.Words.{found_of}
 use Rattle.command_line.proofs.Words.{flag_is}
 use Rattle.command_line.proofs.job.history_of.Goals as goal
@@ -13,4 +13,5 @@ returns-clause-job c = record {
   lanes_is = flag_is (found_of c.args.given.now) (codes "lanes") _ c.get_flag-lanes.ensures.value c.get_flag-lanes.ensures.other;
   look_is = c.look_by.ensures;
   limit_is = c.number_of.ensures.number;
+  progress_is = flag_is (found_of c.args.given.now) (codes "progress") _ c.get_flag.ensures.value c.get_flag.ensures.other;
 }

@@ -1,4 +1,4 @@
-use Rattle.std.proofs.Common.{codes, rules}
+use Rattle.std.proofs.Common.{codes}
 use Rattle.clap.specs.Words.{found_of}
 use Rattle.command_line.proofs.Words.{flag_is}
 use Rattle.command_line.proofs.job.outcomes_of.Goals as goal
@@ -8,5 +8,6 @@ returns-clause-job c = record {
   stats_is = flag_is (found_of c.args.given.now) (codes "stats") _ c.get_flag.ensures.value c.get_flag.ensures.other;
   explain_is = flag_is (found_of c.args.given.now) (codes "explain") _ c.get_flag-2.ensures.value c.get_flag-2.ensures.other;
   limit_is = c.number_of.ensures.number;
-  json_is = flag_is (found_of c.args.given.now) (codes "json") _ c.get_flag-3.ensures.value c.get_flag-3.ensures.other;
+  progress_is = flag_is (found_of c.args.given.now) (codes "progress") _ c.get_flag-3.ensures.value c.get_flag-3.ensures.other;
+  json_is = flag_is (found_of c.args.given.now) (codes "json") _ c.get_flag-4.ensures.value c.get_flag-4.ensures.other;
 }

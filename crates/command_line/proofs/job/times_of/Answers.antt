@@ -1,4 +1,4 @@
-use Rattle.std.proofs.Common.{◌≡◌, ◌^◌, ◌<◌, ℕ, Some, None, refl, ap, sym, ◌∙◌, codes, arith}
+use Rattle.std.proofs.Common.{◌≡◌, ◌^◌, ◌<◌, ℕ, Some, refl, ap, sym, ◌∙◌, codes, arith}
 use Rattle.std.specs.Prelude.{decimal}
 use Rattle.std.specs.Str.Parse.{ParsesUnsigned, ExplainsUnsignedError, HasUnsignedDigitsIfOk}
 use Rattle.std.proofs.lemmas.Option.{none-some}

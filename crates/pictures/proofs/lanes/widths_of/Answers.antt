@@ -1,4 +1,4 @@
-use Rattle.std.proofs.Common.{◌≡◌, ◌+◌, ◌++◌, ◌∷◌, [], ℕ, ap, ap₂, ◌∙◌, length, map, max, sym, arith}
+use Rattle.std.proofs.Common.{◌≡◌, ◌+◌, ◌∷◌, [], ℕ, ap, ap₂, ◌∙◌, length, map, max, sym, arith}
 use Rattle.pictures.specs.Marks.{shown}
 use Rattle.pictures.specs.Pictures.{width_of, widths_from}
 use Rattle.pictures.proofs.Turns.{counts}

@@ -1,8 +1,4 @@
-use Rattle.std.proofs.Common.{ap, ◌∙◌, rules}
 use Rattle.std.proofs.lemmas.Slice.Zip.{either_empty_from_Zip}
-use Rattle.serde_json.specs.Data.{Data}
-use Rattle.serde_json.specs.declared.value.Value.{the_lemmas}
-use Rattle.pictures.specs.Json.{listed}
 use Rattle.pictures.proofs.JsonValues.{rows_end, view_array}
 use Rattle.pictures.proofs.values.table_value.Goals as goal
 

@@ -1,7 +1,8 @@
 use Rattle.std.proofs.Common.{map}
 use Rattle.std.proofs.lemmas.Result.{err_from_is_err_and}
 use Rattle.queries.specs.Given.{given_of}
-use Rattle.queries.proofs.Problems.{answered, explained, of_script_fault}
+use Rattle.queries.proofs.Lines.{said_of, unsaid}
+use Rattle.queries.proofs.Problems.{answered, explained, of_script_fault, reads_of}
 use Rattle.queries.proofs.answer.answer.Goals as goal
 
 pub returns-in_err-script-clause-explains : goal.returns-in_err-script-clause-explains
@@ -18,3 +19,16 @@ pub returns-clause-explains : goal.returns-clause-explains
 returns-clause-explains g c =
     explained c.answer_to.result c.args.job.now _ _ _ c.deref.result.now c.in_ok-script.script (map given_of c.in_ok-given.given.items) c.in_ok-text.ensures.all c.deref.ensures.value c.in_ok-script.ensures.says c.in_ok-given.ensures.read
     (rw c.deref-2.ensures.value at c.answer_to.ensures.explains)
+
+pub returns-in_err-text-clause-said : goal.returns-in_err-text-clause-said
+returns-in_err-text-clause-said g c = unsaid _ _ _
+
+pub returns-in_err-script-clause-said : goal.returns-in_err-script-clause-said
+returns-in_err-script-clause-said g c = unsaid _ _ _
+
+pub returns-in_err-given-clause-said : goal.returns-in_err-given-clause-said
+returns-in_err-given-clause-said g c = unsaid _ _ _
+
+pub returns-clause-said : goal.returns-clause-said
+returns-clause-said g c =
+    said_of _ _ c.in_ok-script.script _ _ (reads_of _ _ c.deref.result.now c.in_ok-script.script c.in_ok-text.ensures.all c.deref.ensures.value c.in_ok-script.ensures.says) c.answer_to.ensures.said

@@ -28,5 +28,7 @@ returns-clause-answered g c = record {
   stats = c.in_ok-answer.answer.stats;
   is_answer = c.in_ok-answer.ensures.answer;
   went = subst (Appends (g.W.Write.contents c.args.out.now) (g.W.Write.contents c.put_out.new.out)) c.deref.ensures.value c.in_ok-put_out.ensures.all;
+  err-said = g.E.Write.contents c.answer.new.err;
+  said = c.answer.ensures.said;
   told = c.put_stats.ensures;
 }
