@@ -67,6 +67,26 @@ fn taken<R: Wait>(rt: &R, alloc: Global, client: &mut Client) -> Result<String, 
     Err(Fail::new("no completion comes"))
 }
 
+/// The next completions of the client, which are there, each with a semicolon.
+fn taken_now<R: Wait>(
+    rt: &R,
+    alloc: Global,
+    client: &mut Client,
+    count: usize,
+) -> Result<String, Fail>
+    ensures { client.new.board ≡ client.old.board }
+{
+    let mut text = String::new(alloc);
+    for _look in 0..count {
+        let Some(completion) = client.take(rt) else {
+            return Err(Fail::new("no completion is there"));
+        };
+        let one = shown(alloc, completion)?;
+        write!(text, "{};", one.as_str())?;
+    }
+    Ok(text)
+}
+
 /// A completion, as text.
 fn shown(alloc: Global, completion: Completion) -> Result<String, Fail> {
     let Completion { req, cqe, buffer } = completion;
@@ -157,12 +177,9 @@ impl<C: Clock + Drop> Pair<C> {
         }
     }
 
-    /// Takes a completion of ring 0, where one is there.
-    pub fn take_now<R: Wait>(&mut self, rt: &R) -> Result<String, Fail> {
-        match self.zero.take(rt) {
-            Some(completion) => shown(self.alloc, completion),
-            None => Err(Fail::new("no completion is there")),
-        }
+    /// Takes so many completions of ring 0, which are there.
+    pub fn take_now<R: Wait>(&mut self, rt: &R, count: usize) -> Result<String, Fail> {
+        taken_now(rt, self.alloc, &mut self.zero, count)
     }
 
     /// Ends the runtime. The lines of its report: each request, its result, and whether the end cut it off.
