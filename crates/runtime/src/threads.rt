@@ -32,6 +32,9 @@ use std::{hint, thread};
 /// let a request wait as long again as the thread had been idle.
 const SPINS: u32 = 256;
 
+/// How many silent turns in a row a worker makes before it sleeps. To sleep and to be woken takes longer than most requests.
+const AWAKE: u32 = 1024;
+
 /// How many turns the worker of the poller's thread makes at most between two turns of the poller.
 const RUNS: u32 = 64;
 
@@ -345,9 +348,9 @@ pub(crate) fn work<R: Wait, G: Turnstile>(
         if shared.is_over.load(Ordering::SeqCst) {
             return (worker, desk.parts());
         }
-        if silent < SPINS {
+        if silent < AWAKE {
+            pause(silent);
             silent += 1;
-            hint::spin_loop();
         } else {
             (worker, listener) = doze(
                 rt,
