@@ -8,7 +8,7 @@ use entry::{Op, by_opcode};
 use pipe::End;
 
 /// The pipes of a board that an operation is answered from.
-#[derive(Clone, Copy, PartialEq, Eq, Debug)]
+#[derive(Clone, Copy)]
 pub enum NamedPipes {
     /// None of them.
     Nothing,

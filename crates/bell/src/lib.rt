@@ -8,8 +8,6 @@ pub mod law;
 mod plays;
 pub mod ringer;
 pub mod sleeper;
-#[cfg(test)]
-mod tests;
 pub mod view;
 pub mod wakes;
 

@@ -90,7 +90,7 @@ not_freed role mine (Did e) j n q = refl
 not_freed role mine (Lent r word value) j n q = refl
 not_freed role mine (Noted r word value) j n q = refl
 not_freed role mine (Hold r p) j n q = refl
-not_freed role mine (Free r p) j n q = refl
+not_freed role mine (Free r p laid) j n q = refl
 
 pub same_freed : (role : Role) → stands_for role pollers ≡ true → (later seen : List Line) → NoneOf role later → (q : Req) → freed (later ++ seen) q ≡ freed seen q
 same_freed role mine [] seen n q = refl

@@ -25,7 +25,7 @@ use steps::{TableSeat, seat, timers};
 use work::Spot;
 
 /// What the poller keeps of a timer that it armed, so that the calls which end it need no look at the notes.
-#[derive(Clone, Copy, PartialEq, Eq, Debug)]
+#[derive(Clone, Copy)]
 pub(crate) enum Alarm {
     /// It is a LINK_TIMEOUT.
     Linked,
@@ -35,7 +35,7 @@ pub(crate) enum Alarm {
 }
 
 /// A timer's ticks, and what is kept of it.
-#[derive(Clone, Copy, PartialEq, Eq, Debug)]
+#[derive(Clone, Copy)]
 pub(crate) struct Timer {
     pub ticks: u32,
     pub alarm: Alarm,

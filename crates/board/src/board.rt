@@ -6,7 +6,7 @@ ghost use Rattle.history.specs.declared.event.Event.TheVariants.{Submit, Begin, 
 ghost use Rattle.history.specs.History.{same, phase, submits};
 ghost use Rattle.steps.specs.declared.line.Line.TheVariants.{Did};
 ghost use Rattle.steps.specs.declared.view.Role.TheVariants.{Poller as PollerRole, Submitter as SubmitterRole, Busy as BusyRole};
-ghost use Rattle.steps.specs.Cells.{cells_in};
+ghost use Rattle.steps.specs.Cells.{cells_in, total};
 ghost use Rattle.steps.specs.Fairness.{IsFree, IsReaped};
 ghost use Rattle.steps.specs.Journal.{freed};
 ghost use Rattle.steps.specs.Rule.{Looks, Extends, Begins};
@@ -35,7 +35,7 @@ use history::Req;
 use std::alloc::{AllocError, Global};
 use std::marker::Model;
 use steps::{BoardTable, Parcel, TableSeat, Words, table};
-use work::{Busy, Grid, Pass, Worker};
+use work::{Busy, Grid, Lists, Pass, Worker};
 
 /// Rings, pipes and workers over one shared table. Its passes may be used by several threads at once.
 #[derive(Drop)]
@@ -107,15 +107,17 @@ fn cut_submitters(
 }
 
 /// So many workers, whose seats leave the poller's, with room for what each of them takes in a run: a cancel can take all other
-/// requests that its ring has cells for.
+/// requests that its ring has cells for, and from a pipe a run takes along as many as there are cells.
 fn cut_workers(
     alloc: Global,
     words: &Words,
     seat: &mut TableSeat,
+    grid: &Grid,
     count: u32,
     widest: u32,
 ) -> Result<Vec<Worker>, AllocError>
     requires seat { (n : ℕ) × IsCutting seat.old.me.0.layout words.now.table_id n 0 seat.old × (n ≤ 16) }
+    requires grid { grid.now ≡ seat.old.me.0.layout.cells }
     requires count { count ≤ 64 }
     requires widest { (ring : ℕ) → cells_in seat.old.me.0.layout.cells ring ≤ widest }
     requires words { 0 < words.now.table_id.words }
@@ -126,9 +128,9 @@ fn cut_workers(
     let others = widest.saturating_sub(1) as usize;
     let mut workers = Vec::new(alloc);
     for _ in 0..count {
-        let room = Vec::with_capacity(alloc, others)?;
+        let lists = Lists::new(alloc, others, grid.total())?;
         let cut = table::next_worker(words, seat);
-        workers.push(Worker::new(cut, room))?;
+        workers.push(Worker::new(cut, lists))?;
     }
     Ok(workers)
 }
@@ -167,7 +169,14 @@ impl Board {
         let (table, mut seat) = table::set_up(alloc, &cells, &shape.pipes, grid.total())?;
         let submitters = cut_submitters(alloc, &table.shared, &mut seat, &grid)?;
         let widest = widest_of(shape.rings.as_slice());
-        let workers = cut_workers(alloc, &table.shared, &mut seat, shape.workers, widest)?;
+        let workers = cut_workers(
+            alloc,
+            &table.shared,
+            &mut seat,
+            &grid,
+            shape.workers,
+            widest,
+        )?;
         let rows = rows_of(alloc, &grid)?;
         let alarms = Vec::from_elem(alloc, Alarm::Linked, grid.total())?;
         let board = Board {
@@ -188,12 +197,21 @@ impl Board {
         self.width
     }
 
+    /// How many cells its rings have together.
+    pub fn cells(&self) -> usize
+        ensures cells { result ≡ total self.now.layout.cells }
+        ensures few { result ≤ 16384 }
+    {
+        self.grid.total()
+    }
+
     /// Where the request stands.
     pub fn look<P: Pass>(&self, pass: &mut P, req: Req) -> Phase
         requires { IsOf self.now (P.knows pass.old) }
         ensures looks { Goes self.now (P.knows pass.old) [] (P.knows pass.new) }
         ensures finds { Finds self.now req result (P.knows pass.old) (P.knows pass.new) }
         ensures took { (P.knows pass.new).took ≡ (P.knows pass.old).took }
+        ensures woken { (P.knows pass.new).woken ≡ (P.knows pass.old).woken }
         ensures alone { KeepsFreed (P.knows pass.old) (P.knows pass.new) }
     {
         let Some(spot) = self.grid.locate(req) else {
@@ -212,6 +230,7 @@ impl Board {
         ensures told { Begins (Q.knows other.new).view.seen (P.knows pass.new).view.seen }
         ensures looked { HasLooked (P.knows pass.old) (P.knows pass.new) × HasLooked (Q.knows other.old) (Q.knows other.new) }
         ensures took { ((P.knows pass.new).took ≡ (P.knows pass.old).took) × ((Q.knows other.new).took ≡ (Q.knows other.old).took) }
+        ensures woken { ((P.knows pass.new).woken ≡ (P.knows pass.old).woken) × ((Q.knows other.new).woken ≡ (Q.knows other.old).woken) }
         ensures alone { KeepsFreed (P.knows pass.old) (P.knows pass.new) × KeepsFreed (Q.knows other.old) (Q.knows other.new) }
     {
         let words = &self.table.shared;
@@ -228,6 +247,7 @@ impl Board {
         ensures begun { IfOk result (λ b. (b.req ≡ req) × IsOf self.now b.pass × Extends worker.view (Did (Begin req)) (BusyRole req) b.pass.view) }
         ensures refused { IfErr result (λ w. IsOf self.now w × ((w.view ≡ worker.view) ⊎ Looks worker.view w.view) × ((length self.now.layout.cells ≤ req.ring) ⊎ FoundNotReady self.now.layout.cells req worker.view w.view)) }
         ensures took { IfOk result (λ b. b.took ≡ worker.took) × IfErr result (λ w. w.took ≡ worker.took) }
+        ensures woken { IfOk result (λ b. b.woken ≡ worker.woken) × IfErr result (λ w. w.woken ≡ worker.woken) }
     {
         worker.begin(&self.table.shared, &self.grid, self.pipes, req)
     }

@@ -23,7 +23,7 @@ use steps::{TableSeat, seat, timers};
 use work::Spot;
 
 /// What came of the target of a LINK_TIMEOUT whose deadline has come.
-#[derive(Clone, Copy, PartialEq, Eq, Debug)]
+#[derive(Clone, Copy)]
 pub(crate) enum Struck {
     /// It was ended.
     Took,

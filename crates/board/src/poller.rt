@@ -171,7 +171,7 @@ impl Poller {
         ensures looks { Looks self.old.view self.new.view }
         ensures shown { Shown self.old.view.layout.cells self.new.view.seen cell result }
         ensures step { IsStep (claim_at cell) result self.old.view self.new.view }
-        ensures took { self.new.took ≡ self.old.took }
+        ensures took { (self.new.took ≡ self.old.took) × (self.new.woken ≡ self.old.woken) }
     {
         seat::look(words, &mut self.seat, cell)
     }

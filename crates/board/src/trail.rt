@@ -28,7 +28,7 @@ use steps::{TableSeat, seat};
 use work::Spot;
 
 /// What looks at a request tell of its reply.
-#[derive(Clone, Copy, PartialEq, Eq, Debug)]
+#[derive(Clone, Copy)]
 pub(crate) enum Outcome {
     /// It has none.
     Pending,
@@ -39,7 +39,7 @@ pub(crate) enum Outcome {
 }
 
 /// What a look at a request that is in the way of another one came to.
-#[derive(Clone, Copy, PartialEq, Eq, Debug)]
+#[derive(Clone, Copy)]
 pub(crate) enum Passing {
     /// It has no reply.
     Waits,
@@ -50,7 +50,7 @@ pub(crate) enum Passing {
 }
 
 /// Whether a request that waits may start.
-#[derive(Clone, Copy, PartialEq, Eq, Debug)]
+#[derive(Clone, Copy)]
 pub(crate) enum Gating {
     /// An earlier member of its chain failed.
     Severed,
@@ -65,7 +65,7 @@ pub(crate) enum Gating {
 }
 
 /// What a look towards whether a request may start came to.
-#[derive(Clone, Copy, PartialEq, Eq, Debug)]
+#[derive(Clone, Copy)]
 enum Round {
     /// That is decided.
     Decided(Gating),

@@ -9,6 +9,7 @@ mod cast;
 mod drawn;
 mod entries;
 mod judge;
+mod paced;
 mod pipes;
 mod runs;
 mod scripts;
@@ -60,7 +61,8 @@ fn told_of<R: Machine>(rt: &R, kept: &mut Kept, call: &str) -> Told {
         "carried" => runs::of_example(rt, "run", text),
         "files" => runs::of_files(rt, text, second),
         "words" => runs::asked(alloc, text, second),
-        "query" => runs::queried(rt, text, second),
+        "query" => runs::queried(rt, alloc, text, second),
+        "paced" => paced::told(rt, &mut Words::of(alloc, text), second),
         "ringrun" => runs::commanded(rt, call),
         "problem" => runs::problem(alloc, text),
         "writes" | "reads" | "finds" => broken::told(rt, kind, text, second),

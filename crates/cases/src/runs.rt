@@ -201,14 +201,14 @@ pub fn of_example<R: Machine>(rt: &R, kind: &str, name: &str) -> Told {
     yes(alloc, status == 0 && is_right)
 }
 
-/// What a query answers to these texts: a script, and tables in the order of their names.
-fn replied<R: Machine>(
+/// What a query answers to these texts: a script, and tables in the order of their names. What it tells on standard error comes first.
+fn replied<R: Threads + Wait + Copy + Send + Sync + Clock + 'static>(
     rt: &R,
+    alloc: Global,
     invocation: &queries::Invocation<'_>,
     script: &[u8],
     tables: &[Vec<u8>],
 ) -> Told {
-    let alloc = rt.alloc();
     let mut readers = Vec::new(alloc);
     for (name, table) in invocation.tables.iter().zip(tables) {
         readers.push((*name, table.as_slice()))?;
@@ -216,13 +216,17 @@ fn replied<R: Machine>(
     let (mut out, mut err) = (Vec::new(alloc), Vec::new(alloc));
     let (job, mut script) = (&invocation.job, script);
     let status = queries::perform(rt, alloc, job, &mut script, readers, &mut out, &mut err);
-    out.append(&mut err)?;
-    both(alloc, &(status, folded(alloc, &mut out)?))
+    err.append(&mut out)?;
+    both(alloc, &(status, folded(alloc, &mut err)?))
 }
 
 /// What a query of these words answers to texts.
-pub fn queried<R: Machine>(rt: &R, line: &str, texts: &str) -> Told {
-    let alloc = rt.alloc();
+pub fn queried<R: Threads + Wait + Copy + Send + Sync + Clock + 'static>(
+    rt: &R,
+    alloc: Global,
+    line: &str,
+    texts: &str,
+) -> Told {
     let (script, rest) = texts.split_once(" ; ").unwrap_or((texts, ""));
     let script = unfolded(alloc, script)?;
     let mut tables = Vec::new(alloc);
@@ -231,7 +235,7 @@ pub fn queried<R: Machine>(rt: &R, line: &str, texts: &str) -> Told {
     }
     let words: Vec<&str> = line.split(' ').collect(alloc)?;
     match invocation_of(alloc, &words) {
-        Ok(invocation) => replied(rt, &invocation, &script, &tables),
+        Ok(invocation) => replied(rt, alloc, &invocation, &script, &tables),
         Err(_) => said(alloc, "refused"),
     }
 }

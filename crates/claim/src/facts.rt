@@ -7,7 +7,7 @@ use std::marker::Model;
 /// What others need of a cell's request: its generation (24 bits), the number of its row in the table of opcodes (4 bits), the
 /// flags of its entry, whether it ends its batch, whether it is a TIMEOUT with ETIME_SUCCESS, and 31 bits more: a timer's
 /// ticks, or once the request is reaped 1 where its reply was a failure.
-#[derive(Clone, Copy, PartialEq, Eq, Debug)]
+#[derive(Clone, Copy)]
 pub struct FactsWord {
     pub generation: u32,
     pub row: u8,

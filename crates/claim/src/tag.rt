@@ -20,7 +20,7 @@ pub enum Tag {
 }
 
 /// The event that answered a request.
-#[derive(Clone, Copy, PartialEq, Eq, Debug)]
+#[derive(Clone, Copy, Debug)]
 pub enum Cause {
     /// The worker's own answer.
     Reply,

@@ -34,7 +34,7 @@ fn run<'a>(alloc: Global) -> Result<Command<'a>, AllocError>
         .long_about(
             "Carries a script out by threads, and prints its table of completions: a line for each entry, with its label and \
              its reply. Each ring has a thread of its own, and so have the poller, which carries out the clock's lines, and \
-             each worker.",
+             each of several workers.",
         )
         .after_help(
             "Example:\n  printf 'ring 4\\non 0\\nnop a\\nsubmit\\nwait a\\n' | ringrun run -\nprints\n  a 0\n\nStatus 0: the table was printed. 1: one line 'fault: ..' says why not. 2: the script has a fault, printed as\n'line N: ..'. 3: a line ran out of turns, printed as\n'stuck L' with the label that it waits for, or of the first entry that it submits.",
@@ -127,7 +127,7 @@ fn workers<'a>(alloc: Global) -> Arg<'a>
         .value_name("N")
         .value_parser(value_parser!(u32).range(1..=i64::from(WORKERS)))
         .default_value("2")
-        .help("How many workers the board has, 1 to 64, each a thread")
+        .help("How many workers the board has, 1 to 64; each of several has a thread")
 }
 
 fn turns<'a>(alloc: Global) -> Arg<'a>

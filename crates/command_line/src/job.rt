@@ -13,7 +13,7 @@ use std::alloc::{AllocError, Global};
 pub(crate) const TIMES: u32 = 10_000;
 
 /// How a history is shown.
-#[derive(Clone, Copy, PartialEq, Eq, Debug)]
+#[derive(Clone, Copy, Debug)]
 pub enum Look {
     /// One event a line.
     Lines,
@@ -27,7 +27,7 @@ pub enum Look {
 
 /// What is asked for. With `json` the answer is one JSON value. A search meets at most `limit` states; with `progress` it is told
 /// meanwhile how many it has met.
-#[derive(Clone, Copy, PartialEq, Eq, Debug)]
+#[derive(Clone, Copy, Debug)]
 pub enum Job {
     /// A script is carried out on a board with so many workers, once or so many times. Each waiting line is tried at most
     /// `turns` times.

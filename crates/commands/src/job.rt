@@ -1,7 +1,7 @@
 //! What the program is asked for without any of the words of queries.
 
 /// What is asked for.
-#[derive(Clone, Copy, PartialEq, Eq, Debug)]
+#[derive(Clone, Copy, Debug)]
 pub enum Job {
     /// A script is carried out on a board with so many workers. Each waiting line is tried at most `turns` times.
     Run { workers: u32, turns: u32 },

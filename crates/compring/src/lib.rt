@@ -3,8 +3,6 @@
 
 pub mod error;
 pub mod ring;
-#[cfg(test)]
-mod tests;
 
 pub use error::PostError;
 pub use ring::{CompletionRing, Place};

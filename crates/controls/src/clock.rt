@@ -32,7 +32,7 @@ pub trait Clock {
 }
 
 /// A clock that asks for nothing and never goes on.
-#[derive(Clone, Copy, PartialEq, Eq, Debug)]
+#[derive(Clone, Copy)]
 pub struct NoClock;
 
 impl Clock for NoClock {

@@ -3,8 +3,6 @@
 
 pub mod clock;
 pub mod hold;
-#[cfg(test)]
-mod tests;
 pub mod turnstile;
 
 pub use clock::{Clock, NoClock};

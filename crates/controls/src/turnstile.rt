@@ -21,7 +21,7 @@ pub trait Turnstile {
 }
 
 /// Lets everything through at once.
-#[derive(Clone, Copy, PartialEq, Eq, Debug)]
+#[derive(Clone, Copy)]
 pub struct Open;
 
 impl Turnstile for Open {

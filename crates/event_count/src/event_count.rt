@@ -20,7 +20,7 @@ use std::sync::ledger::{Blank, Ledger};
 pub const MAX_PASSES: u16 = 1024;
 
 /// Whom a notice wakes of those who are parked.
-#[derive(Clone, Copy, PartialEq, Eq, Debug)]
+#[derive(Clone, Copy)]
 pub enum Reach {
     /// One of them.
     One,

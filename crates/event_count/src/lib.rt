@@ -7,8 +7,6 @@ pub mod event_count;
 pub mod law;
 pub mod notifier;
 mod plays;
-#[cfg(test)]
-mod tests;
 pub mod view;
 pub mod waiter;
 pub mod wakes;

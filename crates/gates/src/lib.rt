@@ -6,8 +6,6 @@ mod cells;
 pub mod error;
 pub mod gate;
 pub mod row;
-#[cfg(test)]
-mod tests;
 pub mod traits;
 
 pub use error::{Memory, RowFull};

@@ -16,7 +16,7 @@ macro_rules! is_invalid_entry {
 /// What chains, drains and link timeouts hang on: what the entry is, and its flags (IOSQE_IO_DRAIN, IOSQE_IO_LINK and
 /// IOSQE_IO_HARDLINK of io_uring_enter(2)).
 /// So much fits into the word that a submitter notes of a request: a poller that has this word alone can feed a row.
-#[derive(Clone, Copy, PartialEq, Eq, Debug)]
+#[derive(Clone, Copy)]
 pub struct Traits {
     /// It is none of the profile's entries.
     pub invalid: bool,

@@ -30,26 +30,43 @@ fn end<R: Machine>(rt: &R, fleet: Fleet, mut loads: Vec<Load>) -> Result<(u64, u
     Ok((submitted, reported))
 }
 
+/// Keeps the runtime under the load until so much time has gone by since the start.
+fn go_on<R: Machine>(
+    rt: &R,
+    mut fleet: Fleet,
+    loads: &mut Vec<Load>,
+    start: Instant,
+    until: Duration,
+) -> Result<Fleet> {
+    for _ in rt.forever() {
+        let (next, _nanos) = fleet.round(rt, loads, 5_000)?;
+        fleet = next;
+        if until <= start.elapsed(rt)? {
+            break;
+        }
+    }
+    Ok(fleet)
+}
+
+/// Prints what was counted until a tenth of the time had gone by, or so many of them.
+fn print_part<R: Machine>(rt: &R, part: u64, loads: &Vec<Load>) -> Result<()> {
+    let (submitted, reaped, _) = told_of(loads);
+    let memory = resident(rt).unwrap_or(0);
+    println!(rt; "{part}0 %: {submitted} submitted, {reaped} reaped, {memory} kB resident")?;
+    Ok(())
+}
+
 /// Puts one runtime, with three workers, under the load for so many seconds. It prints what was counted, ten times, and at the end.
 pub(crate) fn run_mixed<R: Machine>(rt: &R, seconds: u64) -> Result<()> {
     let mut setup = Setup::new(Kind::Mixed { seed: 2_026 }, 0, 3, 2);
     (setup.cells, setup.idle, setup.every) = (256, 8, 4);
-    let (mut fleet, mut loads) = (Fleet::start(rt, &setup)?, loads_of(rt.alloc(), &setup)?);
-    let (start, mut part) = (Instant::now(rt)?, 1u64);
-    for _ in rt.forever() {
-        let (next, _nanos) = fleet.round(rt, &mut loads, 5_000)?;
-        fleet = next;
-        let due = seconds.saturating_mul(100).saturating_mul(part);
-        if start.elapsed(rt)? < Duration::from_millis(due) {
-            continue;
-        }
-        let (submitted, reaped, _) = told_of(&loads);
-        let memory = resident(rt).unwrap_or(0);
-        println!(rt; "{part}0 %: {submitted} submitted, {reaped} reaped, {memory} kB resident")?;
-        if part == 10 {
-            break;
-        }
-        part = part.saturating_add(1);
+    let start = Instant::now(rt)?;
+    let mut loads = loads_of(rt.alloc(), &setup)?;
+    let mut fleet = Fleet::start(rt, &setup)?;
+    for part in 1..=10u64 {
+        let until = Duration::from_millis(seconds.saturating_mul(100).saturating_mul(part));
+        fleet = go_on(rt, fleet, &mut loads, start, until)?;
+        print_part(rt, part, &loads)?;
     }
     let (submitted, reported) = end(rt, fleet, loads)?;
     println!(rt; "{submitted} submitted, each taken once, but {reported} reported once")?;

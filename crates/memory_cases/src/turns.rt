@@ -92,6 +92,37 @@ impl Handed<Shape> for Passes {
     }
 }
 
+/// A board of this shape.
+fn board_of(alloc: Global, shape: &Shape) -> Option<Board> {
+    let (board, _, _, _) = ground_of(alloc, shape)?;
+    Some(board)
+}
+
+/// A pass of a ready queue.
+fn pass_of(alloc: Global) -> Option<ReadyPass> {
+    let (_, _, pass) = lane_of(alloc)?;
+    Some(pass)
+}
+
+impl Handed<Board> for ReadyPass {
+    fn hand(self, board: &Board, alloc: Global, gave: &mut Shown) -> Option<ReadyPass> {
+        match WorkDesk::new(alloc, board, self) {
+            Ok(_desk) => {
+                gave.text(" a desk");
+                None
+            }
+            Err((memory, ready)) => {
+                gave.refused(&memory);
+                Some(ready)
+            }
+        }
+    }
+
+    fn show_parts(&self, shown: &mut Shown) {
+        shown.text(" a pass");
+    }
+}
+
 /// A board with its poller's and its worker's desks, and who submits to its ring: the passes, and the tail that was published last. Each
 /// turn takes one of the outboxes.
 #[derive(Drop)]
@@ -148,13 +179,16 @@ impl Stage {
         let (board, poller, submitter, worker) = ground_of(alloc, shape)?;
         let (bell, ringer, sleeper) = signals_of(alloc)?;
         let (queue, one, other) = lane_of(alloc)?;
+        let Ok(work) = WorkDesk::new(alloc, &board, other) else {
+            return None;
+        };
         match PollDesk::new(alloc, shape, poller, sleeper, one) {
             Ok(desk) => Some(Stage {
                 board,
                 bell,
                 queue,
                 desk,
-                work: WorkDesk::new(other),
+                work,
                 worker: Some(worker),
                 submitter,
                 ringer,
@@ -291,12 +325,17 @@ fn turns<R: Wait>(rt: &R, lines: &mut Lines, mut stage: Stage) -> Stage {
     stage
 }
 
-/// A poller's desk, and turns.
+/// The desks, and turns.
 pub(crate) fn tell_turns<R: Wait>(rt: &R, lines: &mut Lines) {
     if let Some(shape) = shape_of(lines.alloc, 1, CELLS, 1) {
         let mut passes = passes_of(lines.alloc, &shape);
         lines.tell(&shape, "PollDesk::new", &mut passes);
         drop(passes);
+        let mut pass = pass_of(lines.alloc);
+        if let Some(board) = board_of(lines.alloc, &shape) {
+            lines.tell(&board, "WorkDesk::new", &mut pass);
+        }
+        drop(pass);
         if let Some(stage) = Stage::new(lines.alloc, &shape) {
             drop(turns(rt, lines, stage));
         }

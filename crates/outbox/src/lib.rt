@@ -4,8 +4,6 @@
 pub mod delivery;
 pub mod error;
 pub mod requests;
-#[cfg(test)]
-mod tests;
 
 pub use delivery::{deliver, deliver_all};
 pub use error::Memory;

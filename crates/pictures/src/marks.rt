@@ -12,7 +12,7 @@ use script_text::write_event;
 use std::alloc::{AllocError, Global};
 
 /// Who takes a step.
-#[derive(Clone, Copy, PartialEq, Eq, Debug)]
+#[derive(Clone, Copy)]
 pub enum Lane {
     /// The submitter of a ring.
     Ring(u16),

@@ -1,5 +1,8 @@
 //! Plain texts of explained outcomes, of many runs, and of verdicts.
 ghost use Rattle.std.specs.Prelude.{◌≡◌, ◌++◌, codes, decimal, map, IfOk, OnOk};
+ghost use Rattle.script.specs.Rows.{rows_of};
+ghost use Rattle.script_text.specs.HistoryText.{history_text};
+ghost use Rattle.script_text.specs.TableText.{table_text};
 ghost use Rattle.pictures.specs.Shown.{explained_of, tallied_of, verdict_of};
 ghost use Rattle.pictures.specs.Texts.{explained_lines, explained_text, tally_lines, tally_text, verdict_lines, verdict_word};
 
@@ -7,6 +10,25 @@ use history::Event;
 use script::{Script, Table};
 use script_text::{Memory, write_history, write_table};
 use std::alloc::{AllocError, Global};
+
+/// Writes a table and its history, each followed by an empty line.
+fn push_explained(
+    alloc: Global,
+    script: &Script,
+    out: &mut Vec<u8>,
+    table: &Table,
+    history: &[Event],
+) -> Result<(), Memory>
+    ensures { OnOk result (out.new.items ≡ out.old.items ++ (table_text script.now.entries.items (rows_of table.now) ++ (codes "\n" ++ (history_text script.now history.now ++ codes "\n")))) }
+{
+    let table = write_table(alloc, script, table)?;
+    out.extend_from_slice(&table)?;
+    out.push(b'\n')?;
+    let history = write_history(alloc, script, history)?;
+    out.extend_from_slice(history.as_bytes())?;
+    out.push(b'\n')?;
+    Ok(())
+}
 
 /// Each table with its history, each followed by an empty line, and how many tables there are.
 pub fn explained_text(
@@ -18,10 +40,7 @@ pub fn explained_text(
 {
     let mut out = Vec::new(alloc);
     for one in explained {
-        out.extend_from_slice(&write_table(alloc, script, one.0)?)?;
-        out.push(b'\n')?;
-        out.extend_from_slice(write_history(alloc, script, &one.1)?.as_bytes())?;
-        out.push(b'\n')?;
+        push_explained(alloc, script, &mut out, one.0, &one.1)?;
     }
     let count = explained.len();
     out.extend_from_slice(format!(in alloc; "tables {count}\n")?.as_bytes())?;

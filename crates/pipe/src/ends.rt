@@ -1,7 +1,7 @@
 //! The two ends of a pipe.
 
 /// An end of a pipe (pipe(7)).
-#[derive(Clone, Copy, PartialEq, Eq, Debug)]
+#[derive(Clone, Copy)]
 pub enum End {
     /// The end that bytes come out of.
     Read,

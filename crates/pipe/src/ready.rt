@@ -1,7 +1,7 @@
 //! What a call of a pipe answers.
 
 /// An answer, an error, or no answer now.
-#[derive(Clone, Copy, PartialEq, Eq, Debug)]
+#[derive(Clone, Copy, Debug)]
 pub enum Ready<T> {
     /// The answer.
     Now(T),

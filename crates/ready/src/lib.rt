@@ -9,8 +9,6 @@ pub mod queue;
 pub mod room;
 pub mod span;
 pub mod tally;
-#[cfg(test)]
-mod tests;
 
 pub use error::{GatherError, Memory, Ungathered};
 pub use law::Law;

@@ -5,7 +5,7 @@ ghost use Rattle.ring_c.specs.Codes.{answer_of, code_for, number_of, reap_code_f
 use board::{ReapError, SubmitError};
 
 /// Why a call is refused. A refused call changes nothing.
-#[derive(Clone, Copy, PartialEq, Eq, Debug)]
+#[derive(Clone, Copy)]
 pub(crate) enum Code {
     /// The handle leads to nothing.
     Closed,

@@ -196,6 +196,21 @@ pub(crate) fn go_over(board: &Board, poller: &mut Poller, out: &mut Out, held: &
     held.truncate(kept);
 }
 
+/// Takes up the `next`-th request of the ring without a look, where it may start and there is room. The next one after that.
+fn take_first(board: &Board, poller: &mut Poller, out: &mut Out, ring: u16, next: u64) -> u64
+    requires own { IsOf board.now poller.old }
+    ensures { Turned board.now poller.old out.old poller.new out.new }
+{
+    if !out.is_free() {
+        return next;
+    }
+    if release(board, poller, out, Req { ring, k: next }) {
+        next.saturating_add(1)
+    } else {
+        next
+    }
+}
+
 /// Takes up the ring's new requests from the `next`-th on, as long as there is room. The next one after those.
 fn take_ring(
     board: &Board,
@@ -242,6 +257,7 @@ pub(crate) fn take_up(
             break;
         }
         let at = next[usize::from(ring)];
-        next[usize::from(ring)] = take_ring(board, poller, out, held, ring, at);
+        let after = take_first(board, poller, out, ring, at);
+        next[usize::from(ring)] = take_ring(board, poller, out, held, ring, after);
     }
 }

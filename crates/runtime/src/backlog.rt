@@ -10,12 +10,13 @@ use std::marker::Model;
 use std::sync::Wait;
 
 /// Numbers that are to be put into the ready queue, in order: a span that may still grow, and where that found no place there, the number
-/// that came next. And how many spans found their places, modulo 2^32.
+/// that came next. And how many spans found their places, and how many numbers were added, modulo 2^32.
 #[derive(Drop)]
 pub(crate) struct Backlog {
     span: Option<Span>,
     next: Option<Span>,
     puts: u32,
+    added: u32,
 }
 
 impl Model for Backlog {
@@ -41,12 +42,18 @@ impl Backlog {
             span: None,
             next: None,
             puts: 0,
+            added: 0,
         }
     }
 
     /// How many spans were put into the ready queue, modulo 2^32.
     pub fn puts(&self) -> u32 {
         self.puts
+    }
+
+    /// How many numbers were added, modulo 2^32.
+    pub fn added(&self) -> u32 {
+        self.added
     }
 
     /// Whether it has no numbers.
@@ -78,6 +85,7 @@ impl Backlog {
         requires free { self.old.is_full ≡ false }
         ensures { HandedOver ready.old (self.old.numbers ++ req ∷ []) ready.new self.new.numbers }
     {
+        self.added = self.added.wrapping_add(1);
         let Some(mut span) = self.span.take() else {
             self.span = Some(Span::of(req));
             return;

@@ -4,7 +4,7 @@ ghost use Rattle.outbox.specs.Outbox.{with_answered};
 ghost use Rattle.ready.specs.Ready.{IsOf as IsOfQueue};
 ghost use Rattle.runtime.specs.PollTurns.{HasRoom};
 ghost use Rattle.runtime.specs.Parts.{IsStuck};
-ghost use Rattle.runtime.specs.Turns.{HandedOver, kept_in};
+ghost use Rattle.runtime.specs.Turns.{HandedOver};
 
 use crate::backlog::Backlog;
 use board::Poller;
@@ -34,28 +34,6 @@ pub(crate) fn limit_of(requests: u64, workers: u32) -> u8 {
     }
     let parts = u64::from(workers) * 2;
     (requests / parts).clamp(1, u64::from(MOST)) as u8
-}
-
-/// Puts the number that is kept into the ready queue, if there is one. Where that is full it stays. Whether one was put.
-pub(crate) fn put_kept<R: Wait>(
-    rt: &R,
-    queue: &ReadyQueue,
-    ready: &mut ReadyPass,
-    kept: &mut Option<Req>,
-) -> bool
-    requires own { IsOfQueue queue.now ready.old }
-    ensures handed { HandedOver ready.old (kept_in kept.old) ready.new (kept_in kept.new) }
-{
-    let Some(req) = kept.take() else {
-        return false;
-    };
-    match queue.put(rt, ready, req) {
-        Ok(()) => true,
-        Err(back) => {
-            *kept = Some(back);
-            false
-        }
-    }
 }
 
 impl Hands {

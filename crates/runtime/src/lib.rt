@@ -9,8 +9,6 @@ mod held;
 pub mod join;
 mod lists;
 mod locks;
-#[cfg(test)]
-mod pair;
 pub mod poll;
 mod posting;
 mod releasing;
@@ -19,14 +17,8 @@ pub mod serving;
 mod shared;
 mod shelf;
 mod sleeping;
-#[cfg(test)]
-mod stage;
 pub mod started;
 pub mod startup;
-#[cfg(test)]
-mod tests;
-#[cfg(test)]
-mod thread_tests;
 mod threads;
 pub mod turn;
 

@@ -67,7 +67,7 @@ impl Lists {
             self.waiting.put(req);
             return Err(Memory);
         };
-        let Ok(()) = self.watchers.make_place() else {
+        let Ok(()) = self.watchers.make_places(1) else {
             self.waiting.put(req);
             return Err(Memory);
         };

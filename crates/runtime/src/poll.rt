@@ -150,6 +150,11 @@ impl PollDesk {
         self.hands.kept.puts()
     }
 
+    /// How many numbers it handed over to the ready queue, modulo 2^32.
+    pub(crate) fn handed(&self) -> u32 {
+        self.hands.kept.added()
+    }
+
     /// Whether its last turn did something.
     pub(crate) fn has_moved(&self) -> bool {
         self.hands.moved

@@ -1,70 +1,87 @@
 //! A worker's desk, and its turns.
-ghost use Rattle.std.specs.Prelude.{◌≡◌, ◌≤◌, ◌+◌, [], ◌∷◌, ◌++◌, List, cond, true, length, MatchOption};
+ghost use Rattle.std.specs.Prelude.{◌≡◌, ◌<◌, ◌≤◌, ◌+◌, ◌*◌, [], ◌∷◌, ◌++◌, List, None, true, cond, length, IfOk, IfErr, MatchOption};
 ghost use Rattle.board.specs.ShapeLimits.{widest};
 ghost use Rattle.history.specs.declared.req.Req.{Req};
 ghost use Rattle.ready.specs.Ready.{IsOf as IsOfQueue};
+ghost use Rattle.steps.specs.Cells.{total};
+ghost use Rattle.work.specs.declared.run.Ran.TheVariants.{Parked as HasParked};
 ghost use Rattle.work.specs.Board.{IsOf};
-ghost use Rattle.runtime.specs.WorkTurns.{FoundNone, IsWorkTurn, PutsBack, Shifts, Tried, new_desk};
+ghost use Rattle.runtime.specs.WorkTurns.{Desk, FoundNone, IsWorkTurn, PutsBack, Shifts, Tried, ended_in, most_kept, past_in};
 
-use crate::hands::put_kept;
+use crate::error::Memory;
+use crate::shared::Tally;
+use crate::shelf::Shelf;
 use crate::sleeping::Caller;
 use crate::turn::Turn;
-use board::{Board, Ran, Worker};
+use board::{Board, Parked, Phase, Ran, Worker};
 use controls::{Point, Turnstile};
 use history::Req;
 use outbox::Outbox;
 use ready::{ReadyPass, ReadyQueue};
+use std::alloc::Global;
 use std::marker::Model;
 use std::sync::Wait;
 
-/// What a worker's turns need: its pass of the ready queue, and up to two numbers that found no place there. Contracts see both.
-/// And who wakes another worker for each number that goes back there.
+/// What a worker's turns need: its pass of the ready queue, and the numbers that are still to go there, with room for all that a run
+/// may take along from its pipes. Contracts see these. And who wakes another worker for each number that goes there; and how many
+/// numbers came from the pipes, and with how many it is done, that were not told yet.
 #[derive(Drop)]
 pub struct WorkDesk {
     ready: ReadyPass,
-    kept: Option<Req>,
-    other: Option<Req>,
+    kept: Shelf,
     caller: Option<Caller>,
+    woken: u64,
+    done: u64,
 }
 
 impl Model for WorkDesk {
-    ghost use Rattle.std.specs.Prelude.{◌++◌};
-    ghost use Rattle.runtime.specs.Turns.{kept_in};
     ghost use Rattle.runtime.specs.WorkTurns.{Desk};
 
     ghost Value = { Desk };
 
-    ghost view = { λ d. record { ready = d.ready; kept = kept_in d.kept ++ kept_in d.other } };
+    ghost view = { λ d. record { ready = d.ready; kept = d.kept.items; places = d.kept.places } };
 }
 
-/// Where a number was put, wakes a worker, if one may sleep.
-fn call_where(has_put: bool, caller: &mut Option<Caller>) {
-    if !has_put {
-        return;
-    }
+/// Wakes a worker, if one may sleep.
+fn call_by(caller: &mut Option<Caller>) {
     if let Some(caller) = caller {
         caller.call();
     }
 }
 
 impl WorkDesk {
-    /// The desk of a worker that has done nothing yet.
-    pub fn new(ready: ReadyPass) -> WorkDesk
-        ensures { result ≡ new_desk ready }
+    /// The desk of a worker of this board that has done nothing yet. Without memory the pass comes back.
+    pub fn new(
+        alloc: Global,
+        board: &Board,
+        ready: ReadyPass,
+    ) -> Result<WorkDesk, (Memory, ReadyPass)>
+        ensures new { IfOk result (λ d. (d.ready ≡ ready) × (d.kept ≡ []) × (d.places ≡ most_kept board.now.layout.cells)) }
+        ensures refused { IfErr result (λ e. e.1 ≡ ready) }
     {
-        WorkDesk::beside(ready, None)
+        WorkDesk::beside(alloc, board, ready, None)
     }
 
     /// The same, of a worker beside others that may sleep, which are woken by this one.
-    pub(crate) fn beside(ready: ReadyPass, caller: Option<Caller>) -> WorkDesk
-        ensures { result ≡ new_desk ready }
+    pub(crate) fn beside(
+        alloc: Global,
+        board: &Board,
+        ready: ReadyPass,
+        caller: Option<Caller>,
+    ) -> Result<WorkDesk, (Memory, ReadyPass)>
+        ensures new { IfOk result (λ d. (d.ready ≡ ready) × (d.kept ≡ []) × (d.places ≡ most_kept board.now.layout.cells)) }
+        ensures refused { IfErr result (λ e. e.1 ≡ ready) }
     {
-        WorkDesk {
+        let Ok(kept) = Shelf::new(alloc, most_kept(board)) else {
+            return Err((Memory, ready));
+        };
+        Ok(WorkDesk {
             ready,
-            kept: None,
-            other: None,
+            kept,
             caller,
-        }
+            woken: 0,
+            done: 0,
+        })
     }
 
     /// Its pass of the ready queue.
@@ -82,54 +99,48 @@ impl WorkDesk {
         ready
     }
 
-    /// What a turn came to that found no number to run.
-    fn turn(&self) -> Turn
-        ensures { result ≡ Turn.Idle → self.now.kept ≡ [] }
+    /// Counts what its turns came to. What they answered was posted.
+    pub(crate) fn tell(&mut self, tally: &Tally)
+        ensures { self.new ≡ self.old }
     {
-        if self.kept.is_none() && self.other.is_none() {
-            Turn::Idle
-        } else {
-            Turn::Moved
+        tally.give(self.woken);
+        tally.finish(self.done);
+        self.woken = 0;
+        self.done = 0;
+    }
+
+    /// Puts the numbers that it keeps into the ready queue, as long as that has places. For each it wakes another worker: this one may
+    /// be held before it comes to it.
+    fn put_kept<R: Wait>(&mut self, rt: &R, queue: &ReadyQueue)
+        requires { IsOfQueue queue.now self.old.ready }
+        ensures back { PutsBack self.old self.new }
+        ensures few { (length self.new.kept ≤ length self.old.kept) × (self.new.places ≡ self.old.places) }
+    {
+        while let Some(req) = self.kept.take() {
+            if let Err(back) = queue.put(rt, &mut self.ready, req) {
+                self.kept.put(back);
+                return;
+            }
+            call_by(&mut self.caller);
         }
     }
 
-    /// Tries once more to put the numbers that it keeps into the ready queue. For each that gets there it wakes another worker: this one
-    /// may be held before it comes to it.
-    fn retry<R: Wait>(&mut self, rt: &R, queue: &ReadyQueue)
-        requires { IsOfQueue queue.now self.old.ready }
-        ensures shifts { Shifts self.old [] [] self.new }
-        ensures back { PutsBack self.old self.new }
-        ensures fewer { length self.new.kept ≤ length self.old.kept }
+    /// Makes room for all that one turn may have to keep. Whether there is room.
+    fn make_room(&mut self, board: &Board) -> bool
+        ensures same { (self.new.ready ≡ self.old.ready) × (self.new.kept ≡ self.old.kept) }
+        ensures room { result ≡ true → length self.new.kept + most_kept board.now.layout.cells ≤ self.new.places }
     {
-        let has_put = put_kept(rt, queue, &mut self.ready, &mut self.kept);
-        let has_put_other = put_kept(rt, queue, &mut self.ready, &mut self.other);
-        call_where(has_put, &mut self.caller);
-        call_where(has_put_other, &mut self.caller);
+        self.kept.make_places(most_kept(board)).is_ok()
     }
 
-    /// One of two numbers that it keeps.
-    fn spare(&mut self) -> Option<Req>
-        ensures shifts { MatchOption result (self.new ≡ self.old) (λ req. Shifts self.old [] (req ∷ []) self.new) }
-        ensures few { length self.new.kept ≤ 1 }
-        ensures ready { self.new.ready ≡ self.old.ready }
-    {
-        let Some(_) = self.kept else {
-            return None;
-        };
-        let Some(req) = self.other else {
-            return None;
-        };
-        self.other = None;
-        Some(req)
-    }
-
-    /// The next number to run: one of two that it keeps, else one from the ready queue.
+    /// The next number to try: one that found no place in the ready queue, else one from there.
     fn next<R: Wait>(&mut self, rt: &R, queue: &ReadyQueue) -> Option<Req>
         requires { IsOfQueue queue.now self.old.ready }
         ensures shifts { MatchOption result (self.new ≡ self.old) (λ req. Shifts self.old [] (req ∷ []) self.new) }
-        ensures few { length self.new.kept ≤ 1 }
+        ensures none { result ≡ None → self.new.kept ≡ [] }
+        ensures few { (length self.new.kept ≤ length self.old.kept) × (self.new.places ≡ self.old.places) }
     {
-        if let Some(req) = self.spare() {
+        if let Some(req) = self.kept.take() {
             return Some(req);
         }
         let Some(req) = queue.next(rt, &mut self.ready) else {
@@ -138,55 +149,125 @@ impl WorkDesk {
         Some(req)
     }
 
-    /// Keeps the number of a request that parked.
+    /// Keeps a number. There is room for it.
     fn keep(&mut self, req: Req)
-        requires few { length self.old.kept ≤ 1 }
-        ensures { Shifts self.old (req ∷ []) [] self.new }
+        requires room { length self.old.kept < self.old.places }
+        ensures { self.new ≡ record self.old { kept = self.old.kept ++ req ∷ [] } }
     {
-        match self.kept {
-            None => self.kept = Some(req),
-            Some(_) => self.other = Some(req),
-        }
+        self.kept.put(req);
+    }
+
+    /// It is done with a number.
+    fn finish(&mut self)
+        ensures { self.new ≡ self.old }
+    {
+        self.done = self.done.wrapping_add(1);
+    }
+
+    /// Keeps what the worker's last run took along. There is room for all of it.
+    fn keep_woken(&mut self, worker: &Worker)
+        requires room { length self.old.kept + 2 * total worker.now.view.layout.cells ≤ self.old.places }
+        ensures kept { self.new ≡ record self.old { kept = self.old.kept ++ worker.now.woken } }
+        ensures few { length worker.now.woken ≤ 2 * total worker.now.view.layout.cells }
+    {
+        let (source, target) = worker.woken();
+        self.woken = self.woken.wrapping_add(source.len() as u64);
+        self.woken = self.woken.wrapping_add(target.len() as u64);
+        self.kept.put_all(source);
+        self.kept.put_all(target);
     }
 }
 
-/// Begins the request and runs it, where it is Ready. What was answered goes into the outbox. Whether the request parked.
+/// The most numbers that a turn has to keep: its own, and those that its run took along, of a SPLICE two for each cell of the board.
+fn most_kept(board: &Board) -> usize
+    ensures { result ≡ most_kept board.now.layout.cells }
+{
+    2 * board.cells() + 1
+}
+
+/// What is left to do with a number that was tried.
+#[derive(Clone, Copy)]
+struct Left {
+    /// Its request parked.
+    parked: bool,
+    /// It has to be tried again: another worker has its pipe, or still runs it.
+    again: bool,
+}
+
+/// Whether a number can't be begun any more: its request has its reply, or doesn't have the cell.
+fn is_past(phase: Phase) -> bool
+    ensures { (r : Req) → past_in r phase ≡ cond result (r ∷ []) [] }
+{
+    matches!(phase, Phase::Unborn | Phase::Done(_) | Phase::Gone)
+}
+
+/// Whether a request that parked has to be tried again: it doesn't lie with its pipes.
+fn goes_round(why: Parked) -> bool
+    ensures { (r : Req) → ended_in r (HasParked why) ≡ cond result [] (r ∷ []) }
+{
+    match why {
+        Parked::NotReady => false,
+        Parked::PipeBusy => true,
+    }
+}
+
+/// Begins the request and runs it, where it is Ready. What was answered goes into the outbox, and what the run took along from its
+/// pipes is kept. Where it isn't Ready, a look tells whether its number is still good.
 fn serve<G: Turnstile>(
     board: &Board,
+    desk: &mut WorkDesk,
     worker: Worker,
     turnstile: &G,
     outbox: &mut Outbox,
     req: Req,
-) -> (Worker, bool)
+) -> (Worker, Left)
     requires own { IsOf board.now worker }
     requires room { length outbox.old.answered + widest board.now.layout.cells ≤ outbox.old.places }
+    requires places { length desk.old.kept + most_kept board.now.layout.cells ≤ desk.old.places }
     ensures own { IsOf board.now result.0 }
-    ensures tried { (answered : List Req) × Tried board.now req worker result.0 answered (cond result.1 [] (req ∷ [])) × (outbox.new ≡ record outbox.old { answered = outbox.old.answered ++ answered }) }
+    ensures tried { (answered : List Req) × (woken : List Req) × Tried board.now req worker result.0 answered (cond result.1.again [] (req ∷ [])) woken × (outbox.new ≡ record outbox.old { answered = outbox.old.answered ++ answered }) × (desk.new ≡ record desk.old { kept = desk.old.kept ++ woken }) × (length woken + 1 ≤ most_kept board.now.layout.cells) }
 {
     let busy = match board.begin(worker, req) {
         Ok(busy) => busy,
-        Err(worker) => return (worker, false),
+        Err(mut worker) => {
+            let left = Left {
+                parked: false,
+                again: !is_past(board.look(&mut worker, req)),
+            };
+            return (worker, left);
+        }
     };
     turnstile.pass(Point::Run, req);
     let (worker, ran) = busy.run();
+    desk.keep_woken(&worker);
     match ran {
         Ran::Replied { .. } => {
             outbox.put_all(worker.took());
             outbox.put(req);
-            (worker, false)
+            let left = Left {
+                parked: false,
+                again: false,
+            };
+            (worker, left)
         }
-        Ran::Parked(_) => {
-            turnstile.pass(Point::Park, req);
-            (worker, true)
+        Ran::Parked(why) => {
+            let left = Left {
+                parked: true,
+                again: goes_round(why),
+            };
+            (worker, left)
         }
     }
 }
 
 /// One turn of a worker: it takes a number from the ready queue, begins that request and runs it. What it answered is in the outbox,
 /// first what a cancel took, in the order of submission, and then the request that it ran. The outbox has room for as many as the
-/// board's widest ring has cells. A number whose request isn't Ready any more is dropped. That of a request that parked goes back into the
-/// queue in the next turn, so that what the worker does until then leaves the request to a cancel. The turn is `Idle` only where it
-/// found no number, and keeps none.
+/// board's widest ring has cells.
+///
+/// A request without an answer lies with its pipes, and its number is done with. What the run took along from its pipes goes into the
+/// queue. A number whose request has its reply, or doesn't have its cell any more, is dropped; one whose request another worker still
+/// runs, or whose pipe another worker has, goes back into the queue in the next turn, so that what the worker does until then leaves the
+/// request to a cancel. The turn is `Idle` only where it found no number, and keeps none.
 pub fn work_turn<R: Wait, G: Turnstile>(
     rt: &R,
     board: &Board,
@@ -204,15 +285,23 @@ pub fn work_turn<R: Wait, G: Turnstile>(
     ensures idle { result.1 ≡ Turn.Idle → (desk.new.kept ≡ []) × (outbox.new ≡ outbox.old) × (result.0 ≡ worker) }
     ensures none { result.1 ≡ Turn.Idle → FoundNone desk.old desk.new }
 {
-    desk.retry(rt, queue);
+    desk.put_kept(rt, queue);
+    if !desk.make_room(board) {
+        return (worker, Turn::Moved);
+    }
     let Some(req) = desk.next(rt, queue) else {
-        desk.retry(rt, queue);
-        return (worker, desk.turn());
+        return (worker, Turn::Idle);
     };
     turnstile.pass(Point::Begin, req);
-    let (worker, is_parked) = serve(board, worker, turnstile, outbox, req);
-    if is_parked {
+    let (worker, left) = serve(board, desk, worker, turnstile, outbox, req);
+    desk.put_kept(rt, queue);
+    if left.parked {
+        turnstile.pass(Point::Park, req);
+    }
+    if left.again {
         desk.keep(req);
+    } else {
+        desk.finish();
     }
     (worker, Turn::Moved)
 }

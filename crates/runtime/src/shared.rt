@@ -3,7 +3,7 @@ use crate::locks::PostLocks;
 use bell::Bell;
 use board::Board;
 use ready::ReadyQueue;
-use std::sync::atomic::AtomicBool;
+use std::sync::atomic::{AtomicBool, AtomicU64, Ordering};
 
 /// The board, its doorbell and its ready queue; the completion ring of each ring, each under a lock of its own; and whether the
 /// workers are to end, as the poller says once it was told to.
@@ -14,4 +14,57 @@ pub(crate) struct Shared {
     pub queue: ReadyQueue,
     pub posts: PostLocks,
     pub is_over: AtomicBool,
+    pub tally: Tally,
+}
+
+/// How many numbers went to the workers, from the poller and from the pipes, and with how many of these they are done. What was answered
+/// is posted before it is counted. The poller counts its numbers in the turn in which it hands them over, and how often a turn began or ended:
+/// where that is odd it is in a turn.
+#[derive(Drop)]
+pub(crate) struct Tally {
+    given: AtomicU64,
+    done: AtomicU64,
+    turns: AtomicU64,
+}
+
+impl Tally {
+    /// None yet.
+    pub fn new() -> Tally {
+        Tally {
+            given: AtomicU64::new(0),
+            done: AtomicU64::new(0),
+            turns: AtomicU64::new(0),
+        }
+    }
+
+    /// More numbers went to the workers.
+    pub fn give(&self, count: u64) {
+        if count > 0 {
+            self.given.fetch_add(count, Ordering::SeqCst);
+        }
+    }
+
+    /// The workers are done with more of them.
+    pub fn finish(&self, count: u64) {
+        if count > 0 {
+            self.done.fetch_add(count, Ordering::SeqCst);
+        }
+    }
+
+    /// A turn of the poller begins, or ends.
+    pub fn turn(&self) {
+        self.turns.fetch_add(1, Ordering::SeqCst);
+    }
+
+    /// How many numbers had gone to the workers at a moment between two turns of the poller, where they were done with all of them.
+    pub fn evened(&self) -> Option<u64> {
+        let turns = self.turns.load(Ordering::SeqCst);
+        let done = self.done.load(Ordering::SeqCst);
+        let given = self.given.load(Ordering::SeqCst);
+        if turns % 2 == 0 && given == done && self.turns.load(Ordering::SeqCst) == turns {
+            Some(given)
+        } else {
+            None
+        }
+    }
 }

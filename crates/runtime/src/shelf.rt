@@ -1,5 +1,5 @@
 //! A list of requests with so many places, whose room is made once.
-ghost use Rattle.std.specs.Prelude.{◌≡◌, ◌<◌, ◌==◌, ◌∷◌, ◌++◌, [], length, false, IfOk, IfSome, MatchOption};
+ghost use Rattle.std.specs.Prelude.{◌≡◌, ◌<◌, ◌≤◌, ◌+◌, ◌==◌, ◌∷◌, ◌++◌, [], length, false, IfOk, IfSome, MatchOption};
 ghost use Rattle.runtime.specs.Shelves.{no_requests, with_request};
 
 use history::Req;
@@ -49,13 +49,13 @@ impl Shelf {
         self.items.len() == self.places
     }
 
-    /// Makes a place for one request more, where all are taken.
-    pub fn make_place(&mut self) -> Result<(), AllocError>
+    /// Makes places for so many requests more, where there are too few.
+    pub fn make_places(&mut self, more: usize) -> Result<(), AllocError>
         ensures same { self.new.items ≡ self.old.items }
-        ensures place { IfOk result (λ _. length self.new.items < self.new.places) }
+        ensures places { IfOk result (λ _. length self.new.items + more ≤ self.new.places) }
     {
-        self.items.reserve(1)?;
-        self.places = self.places.max(self.items.len() + 1);
+        self.items.reserve(more)?;
+        self.places = self.places.max(self.items.len() + more);
         Ok(())
     }
 
@@ -65,6 +65,16 @@ impl Shelf {
         ensures { self.new ≡ with_request req self.old }
     {
         self.items.push_back_reserved(req);
+    }
+
+    /// Puts requests in, in order, after all others.
+    pub fn put_all(&mut self, reqs: &[Req])
+        requires room { length self.old.items + length reqs.now ≤ self.old.places }
+        ensures { self.new ≡ record self.old { items = self.old.items ++ reqs.now } }
+    {
+        for req in reqs {
+            self.put(*req);
+        }
     }
 
     /// Takes the oldest request out.

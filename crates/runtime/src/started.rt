@@ -234,6 +234,13 @@ impl<C: Clock> Runtime<C> {
         self.rings
     }
 
+    /// None while the workers have something to do. Else how many numbers have gone to them: of requests that the poller moved to Ready, and
+    /// of those that a reply took along from a pipe. They are done with all of these, and what they answered is posted. Where the answer
+    /// is the same a second time, each request that was Ready meanwhile lies with its pipes.
+    pub fn rest(&self) -> Option<u64> {
+        self.shared.tally.evened()
+    }
+
     /// The room that the report of its board needs.
     pub(crate) fn make_room(&self, alloc: Global) -> Result<ReportRoom, AllocError>
         ensures { IfOk result (λ r. r ≡ total self.now.board.layout.cells) }

@@ -12,7 +12,7 @@ ghost use Rattle.board.specs.New.{AreSubmitters};
 ghost use Rattle.board.specs.ShapeLimits.{is_shape, widest};
 ghost use Rattle.runtime.specs.Clients.{AreClients, AreNewClients, IsStarted};
 ghost use Rattle.runtime.specs.Crews.{AreWorking, IsBack, own_in, own_share, shares_of, threads_for};
-ghost use Rattle.runtime.specs.Loops.{IsPolling, IsServing, MayOwn};
+ghost use Rattle.runtime.specs.Loops.{IsOwn, IsPolling, IsServing, MayOwn};
 ghost use Rattle.runtime.specs.PollTurns.{IsNewDesk, IsPollers};
 ghost use Rattle.runtime.specs.StartParts.{AreRingers, HavePairs, IsParts};
 ghost use Rattle.runtime.specs.declared.error.StartError.TheVariants.{BadShape};
@@ -23,7 +23,7 @@ use crate::held::Held;
 use crate::locks::{PostLock, PostLocks};
 use crate::poll::{PollDesk, places_of};
 use crate::serving::WorkDesk;
-use crate::shared::Shared;
+use crate::shared::{Shared, Tally};
 use crate::sleeping::{Caller, Listener};
 use crate::started::{Ours, OwnEnd, Polls, Runtime, WorkThread, tell_end};
 use crate::threads::{OwnWorker, PollSide, poll, work};
@@ -249,6 +249,7 @@ fn parts_of(alloc: Global, shape: &Shape) -> Result<Parts, StartError>
         queue,
         posts,
         is_over: AtomicBool::new(false),
+        tally: Tally::new(),
     };
     Ok(Parts {
         shared,
@@ -496,7 +497,9 @@ fn start_workers<
         let Ok(points) = Arc::try_clone(turnstile) else {
             return Err(StartError::Memory);
         };
-        let desk = WorkDesk::beside(ready, Some(caller));
+        let Ok(desk) = WorkDesk::beside(alloc, &shared.board, ready, Some(caller)) else {
+            return Err(StartError::Memory);
+        };
         match start_worker(rt, alloc, shared, worker, desk, listener, points) {
             Ok(thread) => threads.push_reserved(thread),
             Err(error) => return Err(error),
@@ -602,6 +605,29 @@ fn start_others<
     }
 }
 
+/// A worker that the poller's thread serves, with a desk and an outbox.
+fn own_worker(
+    alloc: Global,
+    shared: &Shared,
+    worker: Worker,
+    ready: ReadyPass,
+) -> Result<OwnWorker, Memory>
+    requires worker { IsOf shared.now.board worker }
+    requires ready { IsOfQueue shared.now.queue ready }
+    ensures own { IfOk result (λ o. IsOwn shared.now o) }
+    ensures share { IfOk result (λ o. o.desk.ready.share ≡ ready.share) }
+{
+    let outbox = outbox_of(alloc, shared)?;
+    match WorkDesk::new(alloc, &shared.board, ready) {
+        Ok(desk) => Ok(OwnWorker {
+            desk,
+            worker,
+            outbox,
+        }),
+        Err((memory, _ready)) => Err(memory),
+    }
+}
+
 /// The worker that the poller's thread serves itself, where it is the only one. It has no thread then.
 fn own_of(
     alloc: Global,
@@ -621,17 +647,13 @@ fn own_of(
     if parts.workers.len() != 1 {
         return Ok(None);
     }
-    let outbox = outbox_of(alloc, shared)?;
     let (Some(worker), Some(ready)) = (parts.workers.pop(), parts.passes.pop()) else {
         unreachable!()
     };
     parts.listeners.pop();
     parts.callers.pop();
-    Ok(Some(OwnWorker {
-        desk: WorkDesk::new(ready),
-        worker,
-        outbox,
-    }))
+    let own = own_worker(alloc, shared, worker, ready)?;
+    Ok(Some(own))
 }
 
 /// Starts all threads of a new runtime.

@@ -208,6 +208,7 @@ impl OwnWorker {
             }
         }
         post_all(rt, &shared.posts, turnstile, &mut outbox);
+        desk.tell(&shared.tally);
         let own = OwnWorker {
             desk,
             worker,
@@ -287,9 +288,14 @@ pub(crate) fn poll<R: Wait, G: Turnstile, C: Clock>(
         most: idle.max(1),
         count: 0,
     };
-    let (mut still, mut called) = (0u32, 0u32);
+    let (mut still, mut called, mut given) = (0u32, 0u32, 0u32);
     for _ in rt.forever() {
+        shared.tally.turn();
         let turn = poll_round(rt, shared, &mut desk, &mut clock, turnstile, &mut outbox);
+        let handed = desk.handed();
+        shared.tally.give(u64::from(handed.wrapping_sub(given)));
+        given = handed;
+        shared.tally.turn();
         let puts = desk.puts();
         call_for(&mut caller, puts.wrapping_sub(called));
         called = puts;
@@ -345,6 +351,7 @@ pub(crate) fn work<R: Wait, G: Turnstile>(
             continue;
         }
         post_all(rt, &shared.posts, turnstile, &mut outbox);
+        desk.tell(&shared.tally);
         if shared.is_over.load(Ordering::SeqCst) {
             return (worker, desk.parts());
         }

@@ -113,7 +113,7 @@ carried_by c s i acts n (Freed r ∷ later) seen l z k = carried_by c s i acts n
 carried_by c s i acts n (Lent r word value ∷ later) seen l z k = carried_by c s i acts n later seen l (ap (λ h. submits h i) (sym (both_same (owns (Submitter i) (Lent r word value)) (own_of (Submitter i) later))) ∙ z) k
 carried_by c s i acts n (Noted r word value ∷ later) seen l z k = carried_by c s i acts n later seen l (ap (λ h. submits h i) (sym (both_same (owns (Submitter i) (Noted r word value)) (own_of (Submitter i) later))) ∙ z) k
 carried_by c s i acts n (Hold r p ∷ later) seen l z k = carried_by c s i acts n later seen l (ap (λ h. submits h i) (sym (both_same (owns (Submitter i) (Hold r p)) (own_of (Submitter i) later))) ∙ z) k
-carried_by c s i acts n (Free r p ∷ later) seen l z k = carried_by c s i acts n later seen l (ap (λ h. submits h i) (sym (both_same (owns (Submitter i) (Free r p)) (own_of (Submitter i) later))) ∙ z) k
+carried_by c s i acts n (Free r p laid ∷ later) seen l z k = carried_by c s i acts n later seen l (ap (λ h. submits h i) (sym (both_same (owns (Submitter i) (Free r p laid)) (own_of (Submitter i) later))) ∙ z) k
 
 none_own : (role : Role) (later : List Line) → NoneOf role later → own_of role later ≡ []
 none_own role [] n = refl
@@ -232,7 +232,7 @@ module _ (c : Script) (s : Setup) (i k : ℕ) (v : Vec Act) (acts left : List Ac
   handed_by (Lent r word value ∷ later) m n sum l q carried = handed_by later m n sum l (sym (both_same (owns (Submitter i) (Lent r word value)) (own_of (Submitter i) later)) ∙ q) carried
   handed_by (Noted r word value ∷ later) m n sum l q carried = handed_by later m n sum l (sym (both_same (owns (Submitter i) (Noted r word value)) (own_of (Submitter i) later)) ∙ q) carried
   handed_by (Hold r p ∷ later) m n sum l q carried = handed_by later m n sum l (sym (both_same (owns (Submitter i) (Hold r p)) (own_of (Submitter i) later)) ∙ q) carried
-  handed_by (Free r p ∷ later) m n sum l q carried = handed_by later m n sum l (sym (both_same (owns (Submitter i) (Free r p)) (own_of (Submitter i) later)) ∙ q) carried
+  handed_by (Free r p laid ∷ later) m n sum l q carried = handed_by later m n sum l (sym (both_same (owns (Submitter i) (Free r p laid)) (own_of (Submitter i) later)) ∙ q) carried
 
   -- all of them are
   pub batch_handed : (later : List Line) → Legal s (events_of (later ++ seen)) → own_of (Submitter i) later ≡ S → HasCarried c i acts 0 (events_of seen) → HasCarried c i acts (length places.items) (events_of (later ++ seen))

@@ -6,12 +6,9 @@ mod clock;
 pub mod fault;
 mod hand;
 mod lines;
-mod parks;
 mod rows;
 pub mod run;
 mod stage;
-#[cfg(test)]
-mod tests;
 mod threads;
 mod watch;
 

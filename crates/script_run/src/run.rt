@@ -19,11 +19,10 @@ ghost use Rattle.script_run.specs.Tries.{IsLowest};
 ghost use Rattle.script_run.specs.declared.lines.Halt.TheVariants.{Stuck};
 
 use crate::barrier::Barrier;
-use crate::clock::{ClockLine, Ended, LineClock, lines_of};
+use crate::clock::{ClockLine, Ended, LineClock, Progress, lines_of};
 use crate::fault::RunFault;
 use crate::hand::Hand;
 use crate::lines::Halt;
-use crate::parks::{Counted, Parks};
 use crate::rows::table_of;
 use crate::stage::Stage;
 use crate::threads::carry_all;
@@ -63,8 +62,13 @@ pub fn run_script<
     let shape = shape_of(alloc, script, workers)?;
     let room = room_of(alloc, script.rings.len())?;
     let lines = lines_of(alloc, script, homes.as_slice())?;
-    let (counted, clock, watch) = controls_of(alloc, script, homes.as_slice(), turns, turnstile)?;
-    let (runtime, clients) = start(*rt, alloc, &shape, IDLE, counted, clock)?;
+    let (clock, progress) = clock_of(alloc, script, homes.as_slice(), turns)?;
+    let watch = Watch {
+        progress,
+        turns: 0,
+        rest: None,
+    };
+    let (runtime, clients) = start(*rt, alloc, &shape, IDLE, turnstile, clock)?;
     let barrier = Barrier::new(script.rings.len() as u64);
     let stage = Stage {
         alloc,
@@ -85,32 +89,20 @@ pub fn run_script<
     )
 }
 
-/// The turnstile and the clock of a run, and what watches them.
-fn controls_of<G: Turnstile + Drop>(
+/// The clock of a run, and how far it has come.
+fn clock_of(
     alloc: Global,
     script: &Script,
     homes: &[Option<Req>],
     turns: u32,
-    turnstile: G,
-) -> Result<(Counted<G>, LineClock, Watch), RunFault>
+) -> Result<(LineClock, Arc<Progress>), RunFault>
     requires { AreHomes script.now homes.now }
-    ensures clock { IfOk result (λ t. IsAtLine t.1.lines.items t.1.next t.1.tries t.1.most t.1.is_stuck []) }
+    ensures clock { IfOk result (λ t. IsAtLine t.0.lines.items t.0.next t.0.tries t.0.most t.0.is_stuck []) }
     ensures unstuck { IfErr result IsUnstuck }
 {
     let lines = lines_of(alloc, script, homes)?;
-    let (clock, progress) = LineClock::new(alloc, lines, turns)?;
-    let parks = Arc::new(alloc, Parks::new(alloc, script)?)?;
-    let theirs = Arc::try_clone(&parks)?;
-    let counted = Counted {
-        parks: theirs,
-        turnstile,
-    };
-    let watch = Watch {
-        progress,
-        parks,
-        turns: 0,
-    };
-    Ok((counted, clock, watch))
+    let made = LineClock::new(alloc, lines, turns)?;
+    Ok(made)
 }
 
 /// Empty lists with room for the hands of all rings, and for their clients, so that once the threads have started no list of them
@@ -221,7 +213,7 @@ fn play<R: Threads + Wait + Sync>(
     ensures stuck { IfErr result (IfStuckOn (IsStuckOn stage.now.script.now stage.now.turns runtime.board)) }
 {
     let mut hands = carry_all(rt, stage, hands);
-    let halt = finish_lines(rt, &mut watch, &mut hands);
+    let halt = finish_lines(rt, &runtime, &mut watch, &mut hands);
     let (clients, taken) = parts_of(stage.alloc, hands, clients);
     let joined = end(rt, stage.alloc, runtime, clients);
     if let Some(halt) = halt {
@@ -239,7 +231,12 @@ fn play<R: Threads + Wait + Sync>(
 }
 
 /// Waits until no request can go on, unless a ring stopped. Why the run gives no table, if it gives none.
-fn finish_lines<R: Wait>(rt: &R, watch: &mut Watch, hands: &mut Vec<Hand>) -> Option<Halt>
+fn finish_lines<R: Wait>(
+    rt: &R,
+    runtime: &Runtime<LineClock>,
+    watch: &mut Watch,
+    hands: &mut Vec<Hand>,
+) -> Option<Halt>
     ensures went { AllWent hands.old.items hands.new.items }
     ensures through { result ≡ None → All (λ h. h.halt ≡ None) hands.old.items }
     ensures stuck { (p : ℕ) → result ≡ Some (Stuck p) → IsLowest hands.old.items (length hands.old.items) p }
@@ -248,7 +245,7 @@ fn finish_lines<R: Wait>(rt: &R, watch: &mut Watch, hands: &mut Vec<Hand>) -> Op
     if halt.is_some() {
         return halt;
     }
-    match go_on(rt, watch, hands) {
+    match go_on(rt, runtime, watch, hands) {
         Ok(()) => None,
         Err(_) => Some(Halt::Memory),
     }

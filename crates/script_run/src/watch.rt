@@ -1,32 +1,37 @@
 //! How long a run goes on after its last line.
 ghost use Rattle.script_run.specs.Hands.{Went, AllWent};
 
-use crate::clock::Progress;
+use crate::clock::{LineClock, Progress};
 use crate::hand::Hand;
-use crate::parks::Parks;
 use board::Phase;
 use history::Req;
+use runtime::Runtime;
 use std::alloc::AllocError;
 use std::sync::{Arc, Wait};
 use std::thread;
 
-/// After how many parks, or turns of the poller, since the last completion a request is taken to wait for what doesn't come.
+/// After how many turns of the poller since the last completion a request that waits for it is taken to wait for what doesn't come.
 const ROUNDS: u64 = 16;
 
-/// What a run is watched by: how far its clock has come, how often requests were parked since the last completion, and how many
-/// turns the poller had made by then.
+/// What a run is watched by: how far its clock has come, how many turns the poller had made when something came last, and how many
+/// numbers had gone to the workers by then, where they were done with them.
 #[derive(Drop)]
 pub(crate) struct Watch {
     pub progress: Arc<Progress>,
-    pub parks: Arc<Parks>,
     pub turns: u64,
+    pub rest: Option<u64>,
 }
 
 impl Watch {
     /// From here on it counts again.
-    fn begin_again(&mut self) {
-        self.parks.clear();
+    fn begin_again(&mut self, rest: Option<u64>) {
         self.turns = self.progress.turns();
+        self.rest = rest;
+    }
+
+    /// Whether the workers have nothing to do, and got nothing since something came last.
+    fn has_rested(&self, rest: Option<u64>) -> bool {
+        rest.is_some() && rest == self.rest
     }
 
     /// Whether the poller has gone round often since the last completion.
@@ -34,13 +39,13 @@ impl Watch {
         self.turns.saturating_add(ROUNDS) <= self.progress.turns()
     }
 
-    /// Whether a request where it stands has its completion, or has had its chances since the last one came.
-    fn is_settled(&self, req: Req, phase: Phase) -> bool {
+    /// Whether a request where it stands has its completion, or has had its chances since the last one came. The workers have nothing
+    /// to do: so one that is Ready waits for what comes through its pipes.
+    fn is_settled(&self, phase: Phase) -> bool {
         match phase {
-            Phase::Unborn | Phase::Gone => true,
-            Phase::Done(_) => false,
+            Phase::Unborn | Phase::Gone | Phase::Ready => true,
+            Phase::Done(_) | Phase::Running => false,
             Phase::Held | Phase::Armed(_) => self.has_turned(),
-            Phase::Ready | Phase::Running => ROUNDS <= self.parks.of(req),
         }
     }
 
@@ -52,7 +57,7 @@ impl Watch {
         for k in 0..hand.submitted {
             let req = Req { ring, k: k as u64 };
             let phase = hand.client.look(req);
-            if !self.is_settled(req, phase) {
+            if !self.is_settled(phase) {
                 return false;
             }
         }
@@ -69,6 +74,14 @@ impl Watch {
             all = all && is_still;
         }
         all
+    }
+
+    /// The same, and the workers got nothing meanwhile.
+    fn are_at_rest(&self, runtime: &Runtime<LineClock>, hands: &mut Vec<Hand>) -> bool
+        ensures { AllWent hands.old.items hands.new.items }
+    {
+        let are_still = self.are_still(hands);
+        are_still && self.has_rested(runtime.rest())
     }
 }
 
@@ -87,20 +100,22 @@ fn take_all<R: Wait>(rt: &R, hands: &mut Vec<Hand>) -> Result<bool, AllocError>
     if is_short { Err(AllocError) } else { Ok(some) }
 }
 
-/// Takes completions until the clock has come to its end, and no request can go on.
+/// Takes completions until the clock has come to its end, the runtime rests, and no request can go on.
 pub(crate) fn go_on<R: Wait>(
     rt: &R,
+    runtime: &Runtime<LineClock>,
     watch: &mut Watch,
     hands: &mut Vec<Hand>,
 ) -> Result<(), AllocError>
     ensures { AllWent hands.old.items hands.new.items }
 {
-    watch.begin_again();
+    watch.begin_again(None);
     for _ in rt.forever() {
-        let is_over = watch.progress.is_over();
-        if take_all(rt, hands)? || !is_over {
-            watch.begin_again();
-        } else if watch.are_still(hands) {
+        let rest = runtime.rest();
+        let has_rested = watch.progress.is_over() && watch.has_rested(rest);
+        if take_all(rt, hands)? || !has_rested {
+            watch.begin_again(rest);
+        } else if watch.are_at_rest(runtime, hands) {
             return Ok(());
         }
         thread::yield_now();

@@ -5,7 +5,7 @@ ghost use Rattle.script_text.specs.Keywords.{arguments_of, is_raw, is_timer, key
 use crate::words::is_same;
 
 /// The kind of an entry line.
-#[derive(Clone, Copy, PartialEq, Eq)]
+#[derive(Clone, Copy)]
 pub enum Kind {
     Nop,
     Read,

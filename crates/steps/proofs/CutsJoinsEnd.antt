@@ -120,7 +120,7 @@ module _ (L : Layout) where
 
   -- START: the slots of the cells are empty, and those of the pipes have new pipes
   pub starts : (rows words : ℕ) (slots : List (Option Thing)) → rows ≡ total L.cells → words ≡ words_of rows → length slots ≡ slots_of rows
-      → ((x : ℕ) → x < rows → get_elem? slots (slot_at x) ≡ some None) → ((p : ℕ) → p < 64 → (o : Option Thing) × (get_elem? slots p ≡ some o) × PipeIs L.caps p o untouched)
+      → ((x : ℕ) → x < rows → get_elem? slots (slot_at x) ≡ some None) → ((p : ℕ) → p < 64 → (o : Option Thing) × (get_elem? slots p ≡ some o) × PipeIs L p o (untouched, []))
       → Ruled L (opening (replicate words 0) slots (opening_view L))
   starts rows words slots most wide deep empty pipes = record {
     past = [];

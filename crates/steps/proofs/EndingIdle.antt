@@ -143,7 +143,7 @@ module _ (slots id : ℕ) (me : Seated) where
             adds_else L s r id v w (set s.words i n) s.homes l (quiet.plain.fair' L r.past) legal live at
                 (seat_sees L (l ∷ r.past) t v v.role refl (λ q is. (let b = busy_now slots id me s r at q is in (b.0, stays q ∙ b.1))) (λ q is. (let b = left_now L s r id v at q is in (b.0, subst IsReplied (sym (stays q)) b.1))) (λ q is. has s r at) (made_with L s r id v l t at (i, get_or s.words i 0, refl))) refl (gone_same v.role l own) (λ y h. absurd h)
                 (owned L s r id v l at own) (λ y h k. quiet.concerns' (request_at K y k)) (length-set s.words i n) (λ y. words (claim_at y) (omega arith)) (λ y k h small. words (note_at y k) (omega arith) ∙ r.notes y k h small) clock refl (λ y. refl)
-                (λ p small. subst (λ (m : ℕ). PipeOk L.caps (l ∷ r.past) p m (get_elem? s.homes p)) (sym (words (pipe_at p) (omega arith))) (pipe_stays L.caps l r.past p _ _ refl (λ _. quiet.plain.flow' (events_of r.past) p) (r.pipes p small)))
+                (λ p small. subst (λ (m : ℕ). PipeOk L (l ∷ r.past) p m (get_elem? s.homes p)) (sym (words (pipe_at p) (omega arith))) (pipe_stays L l r.past p _ _ (quiet.plain.fair' L r.past) refl (λ _. quiet.plain.flow' (events_of r.past) p) (r.pipes p small)))
                 (λ q is. run_set s.views id v w q at (λ z. z) (r.run q (sym (stays q) ∙ is)))
                 (λ p q is. held_set s.views id v w q p at (λ z. z) (r.held_by p q is))
                 (λ q is. lent_set s.views id v w q at (λ z. z) (r.lent_by q (sym (quiet.plain.lent' r.past q) ∙ is)))

@@ -1,8 +1,9 @@
 -- A line about one request leaves all other cells and pipes as they were.
 use Rattle.std.specs.Prelude.{◌==◌}
-use Rattle.std.proofs.Common.{◌≡◌, ◌≢◌, ℕ, ◌<◌, Bool, true, false, cond, List, [], ◌∷◌, ◌++◌, Option, Some, None, sym, refl, ap, ◌∙◌, subst, ⊎_elim, arith, true≢false, eqb-true}
+use Rattle.std.proofs.Common.{◌≡◌, ◌≢◌, ℕ, ◌<◌, Bool, true, false, cond, List, [], ◌∷◌, ◌++◌, Option, Some, None, sym, refl, ap, ◌∙◌, subst, ⊎_elim, arith, true≢false, eqb-true, ne_eqb}
 use Rattle.history.specs.declared.req.Req.{Req}
 use Rattle.history.specs.declared.event.Event.{Event}
+use Rattle.history.specs.declared.event.Event.TheVariants.{Reply}
 use Rattle.history.specs.History.{Phase, unborn, waits, runs, armed, replied, same, answers, data_in, data_of, phase, submission, submits}
 use Rattle.history.specs.Chains.{is_timer, IsPlaced, Open}
 use Rattle.history.specs.Pipes.{flow}
@@ -12,9 +13,11 @@ use Rattle.claim.specs.declared.tag.Tag.TheVariants.{Empty, Held, Ready, Running
 use Rattle.claim.specs.declared.tag.Tag.{Tag}
 use Rattle.steps.specs.declared.line.Line.{Line}
 use Rattle.steps.specs.declared.line.Line.TheVariants.{Did, Hold, Free}
+use Rattle.steps.specs.declared.view.Layout.{Layout}
 use Rattle.steps.specs.declared.view.Role.{Role}
-use Rattle.steps.specs.Journal.{events_of, holder}
-use Rattle.steps.specs.Cells.{request_at, Home, IsParcel, Keeps, Ages, MayBegin, Says, CellOk, PipeIs, PipeSays, PipeOk}
+use Rattle.steps.specs.Fairness.{Fair}
+use Rattle.steps.specs.Journal.{events_of, holder, is_holder, lays, lying}
+use Rattle.steps.specs.Cells.{request_at, Home, IsParcel, Keeps, Ages, MayBegin, Says, CellOk, stands, PipeIs, PipeSays, PipeOk}
 use Rattle.steps.specs.Rule.{holders, stands_for, NoneOf}
 use Rattle.steps.proofs.JournalGrowth.{about, phase_stays, data_stays, freed_stays, lent_stays, counted_in, lasts_by, lasts, submission_lasts, placed_lasts, open_lasts, kind_lasts}
 
@@ -74,14 +77,21 @@ module _ (s : Setup) (l : Line) (j : List Line) (legal : Legal s (events_of (l �
     ages = ages_stay K y c.gen (λ n _. q n) c.ages;
   }
 
+-- with a pipe at home lie those that did
+pub same_lying : (L : Layout) (l : Line) (j : List Line) (p : ℕ) → Fair L j l → holder j p ≡ None → lying (l ∷ j) p ≡ lying j p
+same_lying L (Free q n laid) j p f none = ap (λ (b : Bool). cond b (lays laid q (lying j p)) (lying j p)) (ne_eqb n p (λ e. (let z = sym f.0 ∙ (ap (holder j) e ∙ none) in cc)))
+same_lying L (Did (Reply q res data')) j p f none = ap (λ (o : Option Req). cond (is_holder o q) [] (lying j p)) none
+same_lying L (Did e) j p f none = refl
+same_lying L l j p f none = refl
+
 -- of a pipe at home the content stays
-module _ (caps : List ℕ) (l : Line) (j : List Line) (p word : ℕ) (home : Home) where
-  by_holder : (o : Option Req) → (o ≡ None → flow (events_of (l ∷ j)) p ≡ flow (events_of j) p) → PipeSays caps j p word home o → PipeSays caps (l ∷ j) p word home o
-  by_holder None f s = (s.0, s.1, s.2, subst (PipeIs caps p s.1) (sym (f refl)) s.3)
+module _ (L : Layout) (l : Line) (j : List Line) (p word : ℕ) (home : Home) where
+  by_holder : (o : Option Req) → (o ≡ None → stands (l ∷ j) p ≡ stands j p) → PipeSays L j p word home o → PipeSays L (l ∷ j) p word home o
+  by_holder None f s = (s.0, s.1, s.2, subst (PipeIs L p s.1) (sym (f refl)) s.3)
   by_holder (Some r) f s = s
 
-  pub pipe_stays : holder (l ∷ j) p ≡ holder j p → (holder j p ≡ None → flow (events_of (l ∷ j)) p ≡ flow (events_of j) p) → PipeOk caps j p word home → PipeOk caps (l ∷ j) p word home
-  pipe_stays same f ok = subst (PipeSays caps (l ∷ j) p word home) (sym same) (by_holder (holder j p) f ok)
+  pub pipe_stays : Fair L j l → holder (l ∷ j) p ≡ holder j p → (holder j p ≡ None → flow (events_of (l ∷ j)) p ≡ flow (events_of j) p) → PipeOk L j p word home → PipeOk L (l ∷ j) p word home
+  pipe_stays fair same f ok = subst (PipeSays L (l ∷ j) p word home) (sym same) (by_holder (holder j p) (λ none i. (f none i, same_lying L l j p fair none i)) ok)
 
 -- while a seat that may have the pipe p for r does nothing, it doesn't get it
 module _ (role : Role) (r : Req) (p : ℕ) (mine : stands_for role (holders r p) ≡ true) where
@@ -95,7 +105,7 @@ module _ (role : Role) (r : Req) (p : ℕ) (mine : stands_for role (holders r p)
   lacks_by (Hold q m) j n h = λ is. ⊎_elim
       (λ (t : (m == p) ≡ true). not_else q (subst (λ (z : ℕ). stands_for role (holders q z) ≡ false) (eqb-true m p t) n) (sym is ∙ ap (λ (b : Bool). cond b (Some q) (holder j p)) t))
       (λ (t : (m == p) ≡ false). h (sym (ap (λ (b : Bool). cond b (Some q) (holder j p)) t) ∙ is)) (bool_cases (m == p))
-  lacks_by (Free q m) j n h = λ is. ⊎_elim
+  lacks_by (Free q m laid) j n h = λ is. ⊎_elim
       (λ (t : (m == p) ≡ true). let z = sym is ∙ ap (λ (b : Bool). cond b None (holder j p)) t in cc)
       (λ (t : (m == p) ≡ false). h (sym (ap (λ (b : Bool). cond b None (holder j p)) t) ∙ is)) (bool_cases (m == p))
   lacks_by l j n h = h

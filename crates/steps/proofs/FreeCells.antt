@@ -59,7 +59,7 @@ module _ (L : Layout) (role : Role) (x k : ℕ) (small : k < 7) (inside : IsCell
   noted_by (Did e) j f n = refl
   noted_by (Freed r) j f n = refl
   noted_by (Hold r p) j f n = refl
-  noted_by (Free r p) j f n = refl
+  noted_by (Free r p laid) j f n = refl
 
   pub same_noted : (later seen : List Line) → Orderly L (later ++ seen) → NoneOf role later → noted (later ++ seen) (note_at x k) ≡ noted seen (note_at x k)
   same_noted [] seen o n = refl

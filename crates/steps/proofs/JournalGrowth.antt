@@ -25,7 +25,7 @@ about (Freed r) q = same r q
 about (Lent r word value) q = same r q
 about (Noted r word value) q = false
 about (Hold r p) q = false
-about (Free r p) q = false
+about (Free r p laid) q = false
 
 -- an event that answers a request changes where it stands
 pub answers_concerns : (e : Event) (q : Req) → concerns e q ≡ false → answers e q ≡ false

@@ -29,3 +29,4 @@ pub mod CancelOnce
 pub mod MatchesKept
 pub mod IdleWords
 pub mod CountsRead
+pub mod Sleepers

@@ -23,9 +23,11 @@ use Rattle.entry.specs.Entry.{Entry}
 use Rattle.history.proofs.Requests.{same_itself, same_true}
 use Rattle.history.proofs.Contents.{flows_as_by}
 use Rattle.history.specs.declared.event.Event.TheVariants.{Reply}
-use Rattle.pipe.specs.Pipe.{Conduit}
+use Rattle.steps.specs.declared.line.Laid.{Laid}
+use Rattle.steps.specs.declared.line.Laid.TheVariants.{NoRequest}
 use Rattle.steps.specs.declared.line.Line.{Line}
 use Rattle.steps.specs.declared.line.Line.TheVariants.{Did, Hold, Free}
+use Rattle.steps.specs.declared.parcel.WaitedPipe.{WaitedPipe}
 use Rattle.steps.specs.declared.parcel.Thing.{Thing}
 use Rattle.steps.specs.declared.parcel.Thing.TheVariants.{Full, Piped}
 use Rattle.steps.specs.declared.view.Heard.{Heard}
@@ -34,31 +36,31 @@ use Rattle.steps.specs.declared.view.Role.{Role}
 use Rattle.steps.specs.declared.view.Role.TheVariants.{Idle, Busy, Leaving, Parting, Lending}
 use Rattle.steps.specs.declared.view.Step.{Step}
 use Rattle.steps.specs.declared.view.View.{View}
-use Rattle.steps.specs.Fairness.{Fair, Orderly}
-use Rattle.steps.specs.Journal.{events_of, lent, noted, holder}
-use Rattle.steps.specs.Cells.{setup_of, request_at, claim_at, note_at, pipe_at, slot_at, Home, PipeIs, PipeSays, PipeOk}
+use Rattle.steps.specs.Fairness.{Fair, Orderly, HasWaited, MayLay}
+use Rattle.steps.specs.Journal.{events_of, lent, noted, holder, is_holder, lays, lying}
+use Rattle.steps.specs.Cells.{setup_of, request_at, claim_at, note_at, pipe_at, slot_at, Home, stands, PipeIs, PipeSays, PipeOk}
 use Rattle.steps.specs.Rule.{Owner, holders, stands_for, is_leaving, owns, apart, IsHeard, Saw, SeatOk, IsHeldBy, Knows, Ruled, seeing, Looks, Extends, IsStep, leaves_one}
 use Rattle.steps.specs.Plays.{Seated, HasAlone, HasBoth, HasPipe, HasPipeAfter, IsSamePipe, pipe_taken, pipe_returned, pipe_left, pipe_left_first, pipe_left_last}
 use Rattle.steps.proofs.Roles.{same_sym, idle_hands, idle_apart, idle_owns, none_of, parting_apart, parting_owns}
 use Rattle.steps.proofs.JournalGrowth.{about, lasts, legal_before, submitted_in, submission_lasts, placed_lasts}
 use Rattle.steps.proofs.Frames.{pipe_stays, still_lacks}
-use Rattle.steps.proofs.PipesKept.{still_has}
+use Rattle.steps.proofs.PipesKept.{still_has, still_waits}
 use Rattle.steps.proofs.RuleKept.{IsTick, LeavesGone, heard_more, heard_begin, gone_own, gone_same, at_now, run_set, held_set, lent_set, known_set, IsKnown, adds_else, owned, seat_sees, looks, made_at, made_with}
 use Rattle.steps.proofs.StepKinds.{tick, Does, There, shaped, busy_now, lacks_now, extends}
 
 -- what stands at a pipe's word and in its slot
-at_home : (caps : List ℕ) (j : List Line) (p word : ℕ) (home : Home) (o : Option Req) → PipeSays caps j p word home o → word ≡ 0 → (o ≡ None) × (x : Option Thing) × (home ≡ some (some x)) × PipeIs caps p x (flow (events_of j) p)
-at_home caps j p word home None s z = (refl, s.1, s.2, s.3)
-at_home caps j p word home (Some r) s z = absurd (let one : word ≡ 1 = s in omega arith)
+at_home : (L : Layout) (j : List Line) (p word : ℕ) (home : Home) (o : Option Req) → PipeSays L j p word home o → word ≡ 0 → (o ≡ None) × (x : Option Thing) × (home ≡ some (some x)) × PipeIs L p x (stands j p)
+at_home L j p word home None s z = (refl, s.1, s.2, s.3)
+at_home L j p word home (Some r) s z = absurd (let one : word ≡ 1 = s in omega arith)
 
-is_out : (caps : List ℕ) (j : List Line) (p word : ℕ) (home : Home) (o : Option Req) → PipeSays caps j p word home o → word ≢ 0 → (c : Req) × (o ≡ Some c)
-is_out caps j p word home None s n = absurd (n s.0)
-is_out caps j p word home (Some r) s n = (r, refl)
+is_out : (L : Layout) (j : List Line) (p word : ℕ) (home : Home) (o : Option Req) → PipeSays L j p word home o → word ≢ 0 → (c : Req) × (o ≡ Some c)
+is_out L j p word home None s n = absurd (n s.0)
+is_out L j p word home (Some r) s n = (r, refl)
 
-a_pipe : (caps : List ℕ) (p : ℕ) (o : Option Thing) (w : Flow) → p < length caps → PipeIs caps p o w → (c : Conduit) × (o ≡ Some (Piped c))
-a_pipe caps p None w there is = absurd (let past : length caps < suc p = is in omega arith)
-a_pipe caps p (Some (Full x)) w there is = absurd is
-a_pipe caps p (Some (Piped c)) w there is = (c, refl)
+a_pipe : (L : Layout) (p : ℕ) (o : Option Thing) (w : Flow × List Req) → p < length L.caps → PipeIs L p o w → (c : WaitedPipe) × (o ≡ Some (Piped c))
+a_pipe L p None w there is = absurd (let past : length L.caps < suc p = is in omega arith)
+a_pipe L p (Some (Full x)) w there is = absurd is
+a_pipe L p (Some (Piped c)) w there is = (c, refl)
 
 -- whom a worker works for is known, and which pipes it has
 pub one_worker : (a b : Req) → Busy a ≡ Busy b → a ≡ b
@@ -83,7 +85,7 @@ module _ (L : Layout) (s : State (Option Thing) View) (r : Ruled L s) (id : ℕ)
     (aside : (c : Req) → about l c ≡ false) (else : (n : ℕ) → n ≢ p → holder (l ∷ r.past) n ≡ holder r.past n) where
   pipe_line : (n : ℕ) (h : maybe.Option (Option Thing)) → Fair L r.past l → SeatOk L (l ∷ r.past) w → w.parts ≡ v.parts → LeavesGone v.role l w.role → ((x : Heard) → IsHeard x w.heard → IsHeard x v.heard)
       → ((i : ℕ) (u : View) → ¬ (i ≡ id) → get_elem? s.views i ≡ some u → (owns u.role l ≡ false) × (apart w.role u.role ≡ true))
-      → PipeOk L.caps (l ∷ r.past) p n (some h)
+      → PipeOk L (l ∷ r.past) p n (some h)
       → ((c : Req) → v.role ≡ Busy c → w.role ≡ Busy c) → ((c : Req) → v.role ≡ Lending c → w.role ≡ Lending c)
       → ((c : Req) → holder (l ∷ r.past) p ≡ Some c → IsHeldBy (set s.views id w) c p)
       → ((m : ℕ) (c : Req) → m ≢ p → holder r.past m ≡ Some c → stands_for v.role (holders c m) ≡ true → stands_for w.role (holders c m) ≡ true)
@@ -97,10 +99,10 @@ module _ (L : Layout) (s : State (Option Thing) View) (r : Ruled L s) (id : ℕ)
       (get_or-set_other s.words (pipe_at p) 0 n 0 (omega arith) ∙ (r.clock ∙ sym (ap clock_of same)))
       (length-set s.homes p h) (λ y. set_else s.homes p (slot_at y) h (omega arith))
       (λ m few. dite (ℕ_discrete m p)
-      (λ one. subst (λ (z : ℕ). PipeOk L.caps (l ∷ r.past) z (get_or (set s.words (pipe_at p) n) (pipe_at z) 0) (get_elem? (set s.homes p h) z)) (sym one)
-      (subst (λ (z : ℕ × Home). PipeOk L.caps (l ∷ r.past) p z.0 z.1) (λ i. (sym (get_or-set_same s.words (pipe_at p) n 0 (omega arith)) i, sym (set_here s.homes p h (omega arith)) i)) pipe))
-      (λ ne. subst (λ (z : ℕ × Home). PipeOk L.caps (l ∷ r.past) m z.0 z.1) (λ i. (sym (get_or-set_other s.words (pipe_at p) (pipe_at m) n 0 (omega arith)) i, sym (set_else s.homes p m h ne) i))
-      (pipe_stays L.caps l r.past m _ _ (else m ne) (λ _. ap (λ h. flow h m) same) (r.pipes m few))))
+      (λ one. subst (λ (z : ℕ). PipeOk L (l ∷ r.past) z (get_or (set s.words (pipe_at p) n) (pipe_at z) 0) (get_elem? (set s.homes p h) z)) (sym one)
+      (subst (λ (z : ℕ × Home). PipeOk L (l ∷ r.past) p z.0 z.1) (λ i. (sym (get_or-set_same s.words (pipe_at p) n 0 (omega arith)) i, sym (set_here s.homes p h (omega arith)) i)) pipe))
+      (λ ne. subst (λ (z : ℕ × Home). PipeOk L (l ∷ r.past) m z.0 z.1) (λ i. (sym (get_or-set_other s.words (pipe_at p) (pipe_at m) n 0 (omega arith)) i, sym (set_else s.homes p m h ne) i))
+      (pipe_stays L l r.past m _ _ fair (else m ne) (λ _. ap (λ h. flow h m) same) (r.pipes m few))))
       (λ q is. run_set s.views id v w q at (runner q) (r.run q (sym (ap (λ h. phase h q) same) ∙ is)))
       (λ m c is. dite (ℕ_discrete m p) (λ one. subst (IsHeldBy (set s.views id w) c) (sym one) (holds c (ap (holder (l ∷ r.past)) (sym one) ∙ is))) (λ ne. let was : holder r.past m ≡ Some c = sym (else m ne) ∙ is in held_set s.views id v w c m at (keeper m c ne was) (r.held_by m c was)))
       (λ q is. lent_set s.views id v w q at (lender q) (r.lent_by q (sym (unlent r.past q) ∙ is)))
@@ -117,9 +119,13 @@ module _ (slots id : ℕ) (me : Seated) where
   St = State (Option Thing) View
 
   -- what the worker of q has is still its own
-  pub has_now : (s : St) (r : Ruled L s) → There slots id me s → (q : Req) (p : ℕ) → stands_for v.role (holders q p) ≡ true → is_pipe L.caps p ≡ true → holder v.seen p ≡ Some q → (holder r.past p ≡ Some q) × (flow (events_of r.past) p ≡ flow (events_of v.seen) p)
-  has_now s r at q p mine there h = let seat = r.seats id v at in let x = still_has L v.role q p mine there (flow (events_of v.seen) p) seat.saw.later v.seen (subst (Orderly L) seat.saw.is r.orderly) seat.saw.none (h, refl) in
-      (ap (λ z. holder z p) seat.saw.is ∙ x.0, ap (λ z. flow (events_of z) p) seat.saw.is ∙ x.1)
+  pub has_now : (s : St) (r : Ruled L s) → There slots id me s → (q : Req) (p : ℕ) → stands_for v.role (holders q p) ≡ true → is_pipe L.caps p ≡ true → holder v.seen p ≡ Some q → (holder r.past p ≡ Some q) × (stands r.past p ≡ stands v.seen p)
+  has_now s r at q p mine there h = let seat = r.seats id v at in let x = still_has L v.role q p mine there (stands v.seen p) seat.saw.later v.seen (subst (Orderly L) seat.saw.is r.orderly) seat.saw.none (h, refl) in
+      (ap (λ z. holder z p) seat.saw.is ∙ x.0, ap (λ (z : List Line). stands z p) seat.saw.is ∙ x.1)
+
+  -- and what waits for it does so still
+  waits_now : (s : St) (r : Ruled L s) → There slots id me s → (q : Req) (p : ℕ) → stands_for v.role (holders q p) ≡ true → is_pipe L.caps p ≡ true → holder v.seen p ≡ Some q → (c : Req) → HasWaited L.caps c p (events_of v.seen) → HasWaited L.caps c p (events_of r.past)
+  waits_now s r at q p mine there h c k = let seat = r.seats id v at in subst (λ (j : List Line). HasWaited L.caps c p (events_of j)) (sym seat.saw.is) (still_waits L v.role q p mine there c seat.saw.later v.seen (subst (Orderly L) seat.saw.is r.orderly) seat.saw.none h k)
 
   held_here : (j : List Line) (q : Req) (p : ℕ) → holder (Hold q p ∷ j) p ≡ Some q
   held_here j q p = ap (λ b. cond b (Some q) (holder j p)) (eq-eqb p p refl)
@@ -127,11 +133,14 @@ module _ (slots id : ℕ) (me : Seated) where
   held_else : (j : List Line) (q : Req) (p n : ℕ) → n ≢ p → holder (Hold q p ∷ j) n ≡ holder j n
   held_else j q p n ne = ap (λ b. cond b (Some q) (holder j n)) (ne_eqb p n (λ z. ne (sym z)))
 
-  freed_here : (j : List Line) (q : Req) (p : ℕ) → holder (Free q p ∷ j) p ≡ None
-  freed_here j q p = ap (λ b. cond b None (holder j p)) (eq-eqb p p refl)
+  laid_here : (j : List Line) (q : Req) (p : ℕ) (laid : Laid) → stands (Free q p laid ∷ j) p ≡ (flow (events_of j) p, lays laid q (lying j p))
+  laid_here j q p laid = λ i. (flow (events_of j) p, ap (λ b. cond b (lays laid q (lying j p)) (lying j p)) (eq-eqb p p refl) i)
 
-  freed_else : (j : List Line) (q : Req) (p n : ℕ) → n ≢ p → holder (Free q p ∷ j) n ≡ holder j n
-  freed_else j q p n ne = ap (λ b. cond b None (holder j n)) (ne_eqb p n (λ z. ne (sym z)))
+  freed_here : (j : List Line) (q : Req) (p : ℕ) (laid : Laid) → holder (Free q p laid ∷ j) p ≡ None
+  freed_here j q p laid = ap (λ b. cond b None (holder j p)) (eq-eqb p p refl)
+
+  freed_else : (j : List Line) (q : Req) (p : ℕ) (laid : Laid) (n : ℕ) → n ≢ p → holder (Free q p laid ∷ j) n ≡ holder j n
+  freed_else j q p laid n ne = ap (λ b. cond b None (holder j n)) (ne_eqb p n (λ z. ne (sym z)))
 
   -- HOLD
   module _ (q : Req) (p : ℕ) (busy : v.role ≡ Busy q) (small : p < 64) where
@@ -145,16 +154,16 @@ module _ (slots id : ℕ) (me : Seated) where
 
     hold_does : p < length L.caps → (s : St) (r : Ruled L s) → There slots id me s → get_or s.words (pipe_at p) 0 ≡ 0 → Does slots id me L s (pipe_at p) 1 (λ m'. Extends v (Hold q p) v.role m'.0 × HasPipe m' p me.1)
     hold_does there s r at is =
-        let l : Line = Hold q p in let home = at_home L.caps r.past p _ _ (holder r.past p) (r.pipes p small) is in let t = tick slots id me (pipe_at p) s (l ∷ r.past) in
-        let w : View = seeing v v.role (l ∷ r.past) t in let c = a_pipe L.caps p home.1 (flow (events_of r.past) p) there home.3 in (
+        let l : Line = Hold q p in let home = at_home L r.past p _ _ (holder r.past p) (r.pipes p small) is in let t = tick slots id me (pipe_at p) s (l ∷ r.past) in
+        let w : View = seeing v v.role (l ∷ r.past) t in let c = a_pipe L p home.1 (stands r.past p) there home.3 in (
           w,
           takes p home.1,
           home.2,
           pipe_line L s r id v w at p small l (λ j. refl) (λ j i. refl) (λ j c. refl) (λ c. refl) (held_else r.past q p) 1 maybe.none home.0 (goes_on s r at l refl t (pipe_at p, get_or s.words (pipe_at p) 0, refl)) refl (gone_same v.role l mine) (λ y k. absurd k) (owned L s r id v l at mine)
-              (subst (PipeSays L.caps (l ∷ r.past) p 1 (some maybe.none)) (sym (held_here r.past q p)) refl) (λ c is'. is') (λ c is'. is')
+              (subst (PipeSays L (l ∷ r.past) p 1 (some maybe.none)) (sym (held_here r.past q p)) refl) (λ c is'. is') (λ c is'. is')
               (λ c is'. (let one : q ≡ c = (let z = sym (held_here r.past q p) ∙ is' in cc) in (id, w, at_now s.views id v w at, subst (λ (z : Req). stands_for v.role (holders z p) ≡ true) one mine))) (λ m c ne was own. own)
               (λ has k. (has, Rattle.std.proofs.Common.inl refl)),
-          (extends slots id me s r at l v.role r.legal r.live home.0 t (pipe_at p, get_or s.words (pipe_at p) 0, refl), (c.0, ap (λ (o : Option Thing). (p, o) ∷ me.1) c.1, subst (λ (o : Option Thing). PipeIs L.caps p o (flow (events_of r.past) p)) c.1 home.3)),
+          (extends slots id me s r at l v.role r.legal r.live home.0 t (pipe_at p, get_or s.words (pipe_at p) 0, refl), (c.0, ap (λ (o : Option Thing). (p, o) ∷ me.1) c.1, subst (λ (o : Option Thing). PipeIs L p o (stands r.past p)) c.1 home.3)),
           refl,
         )
 
@@ -165,7 +174,7 @@ module _ (slots id : ℕ) (me : Seated) where
       keeps,
       tt,
       looks L s r id v (pipe_at p) (get_or s.words (pipe_at p) 0) t (pipe_at p, get_or s.words (pipe_at p) 0, refl) at refl (busy_now slots id me s r at) (set-get_or s.words (pipe_at p) 0),
-      (let o = is_out L.caps r.past p _ _ (holder r.past p) (r.pipes p small) ne in (record { now = r.past; saw = seat.saw; heard = heard_begin r.past v.heard seat.heard; legal = r.legal; live = r.live; orderly = r.orderly; steps = t; made = made_at L s r id v t at (pipe_at p, get_or s.words (pipe_at p) 0, refl); is = refl }, refl, o.0, o.1)),
+      (let o = is_out L r.past p _ _ (holder r.past p) (r.pipes p small) ne in (record { now = r.past; saw = seat.saw; heard = heard_begin r.past v.heard seat.heard; legal = r.legal; live = r.live; orderly = r.orderly; steps = t; made = made_at L s r id v t at (pipe_at p, get_or s.words (pipe_at p) 0, refl); is = refl }, refl, o.0, o.1)),
       refl,
     )
 
@@ -194,25 +203,29 @@ module _ (slots id : ℕ) (me : Seated) where
         )))
 
     -- FREE, before a reply
-    module _ (c : Conduit) (there : is_pipe L.caps p ≡ true) (has : holder v.seen p ≡ Some q) (out : me.1 ≡ (p, Some (Piped c)) ∷ rest me.1) (good : PipeIs L.caps p (Some (Piped c)) (flow (events_of v.seen) p)) where
-      free_does : (s : St) (r : Ruled L s) → There slots id me s → Does slots id me L s (pipe_at p) 0 (pipe_returned (step slots (pipe_at p) 0 0 none) me 0)
+    module _ (laid : Laid) (c : WaitedPipe) (there : is_pipe L.caps p ≡ true) (has : holder v.seen p ≡ Some q) (may : MayLay L.caps (events_of v.seen) q p laid) (out : me.1 ≡ (p, Some (Piped c)) ∷ rest me.1) (good : PipeIs L p (Some (Piped c)) (flow (events_of v.seen) p, lays laid q (lying v.seen p))) where
+      may_now : (s : St) (r : Ruled L s) → There slots id me s → (how : Laid) → MayLay L.caps (events_of v.seen) q p how → MayLay L.caps (events_of r.past) q p how
+      may_now s r at NoRequest k = tt
+      may_now s r at how k = waits_now s r at q p mine there has q k
+
+      free_does : (s : St) (r : Ruled L s) → There slots id me s → Does slots id me L s (pipe_at p) 0 (pipe_returned laid (step slots (pipe_at p) 0 0 none) me 0)
       free_does s r at =
-          let l : Line = Free q p in let t = tick slots id me (pipe_at p) s (l ∷ r.past) in let w : View = seeing v v.role (l ∷ r.past) t in let now' = has_now s r at q p mine there has in
-          let none' = freed_here r.past q p in (
+          let l : Line = Free q p laid in let t = tick slots id me (pipe_at p) s (l ∷ r.past) in let w : View = seeing v v.role (l ∷ r.past) t in let now' = has_now s r at q p mine there has in
+          let none' = freed_here r.past q p laid in let fair : Fair L r.past l = (now'.0, may_now s r at laid may) in (
             w,
             gives,
             tt,
             subst (λ (cs : List (ℕ × Option Thing)). Ruled L (stepped s (pipe_at p) 0 id cs w gives)) (sym out)
-                (pipe_line L s r id v w at p small l (λ j. refl) (λ j i. refl) (λ j c. refl) (λ c. refl) (freed_else r.past q p) 0 (some (Some (Piped c))) now'.0 (goes_on s r at l refl t (pipe_at p, get_or s.words (pipe_at p) 0, refl)) refl (gone_same v.role l mine) (λ y k. absurd k) (owned L s r id v l at mine)
-                (subst (PipeSays L.caps (l ∷ r.past) p 0 (some (some (Some (Piped c))))) (sym none') (refl, Some (Piped c), refl, subst (PipeIs L.caps p (Some (Piped c))) (sym now'.1) good)) (λ c is'. is') (λ c is'. is')
+                (pipe_line L s r id v w at p small l (λ j. refl) (λ j i. refl) (λ j c. refl) (λ c. refl) (freed_else r.past q p laid) 0 (some (Some (Piped c))) fair (goes_on s r at l refl t (pipe_at p, get_or s.words (pipe_at p) 0, refl)) refl (gone_same v.role l mine) (λ y k. absurd k) (owned L s r id v l at mine)
+                (subst (PipeSays L (l ∷ r.past) p 0 (some (some (Some (Piped c))))) (sym none') (refl, Some (Piped c), refl, subst (PipeIs L p (Some (Piped c))) (sym (laid_here r.past q p laid ∙ ap (λ (z : Flow × List Req). (z.0, lays laid q z.1)) now'.1)) good)) (λ c is'. is') (λ c is'. is')
                 (λ c is'. absurd (let z = sym none' ∙ is' in cc)) (λ m c ne was own. own) (λ has' k. (has', Rattle.std.proofs.Common.inl refl))),
             (λ n d here is has'. let one : p ≡ n = omega arith in let who : q ≡ d = (let z = sym busy ∙ is in cc) in
-                subst (λ (z : ℕ × Req). Extends v (Free z.1 z.0) v.role w × (rest me.1 ≡ rest me.1) × ((found : ℕ) × IsStep (pipe_at p) found v w)) (λ i. (one i, who i)) (extends slots id me s r at l v.role r.legal r.live now'.0 t (pipe_at p, get_or s.words (pipe_at p) 0, refl), refl, (get_or s.words (pipe_at p) 0, refl))),
+                subst (λ (z : ℕ × Req). Extends v (Free z.1 z.0 laid) v.role w × (rest me.1 ≡ rest me.1) × ((found : ℕ) × IsStep (pipe_at p) found v w)) (λ i. (one i, who i)) (extends slots id me s r at l v.role r.legal r.live fair t (pipe_at p, get_or s.words (pipe_at p) 0, refl), refl, (get_or s.words (pipe_at p) 0, refl))),
             refl,
           )
 
-      pub free_allows : (M : Layout) → Allows (Ruled M) slots id me (pipe_at p) (λ _. 0) (λ _. pipe_returned (step slots (pipe_at p) 0 0 none) me 0)
-      free_allows M = shaped slots id me M (pipe_at p) (λ _. 0) (λ _. pipe_returned (step slots (pipe_at p) 0 0 none) me 0) (λ z. (let y = sym busy ∙ z in cc)) free_does
+      pub free_allows : (M : Layout) → Allows (Ruled M) slots id me (pipe_at p) (λ _. 0) (λ _. pipe_returned laid (step slots (pipe_at p) 0 0 none) me 0)
+      free_allows M = shaped slots id me M (pipe_at p) (λ _. 0) (λ _. pipe_returned laid (step slots (pipe_at p) 0 0 none) me 0) (λ z. (let y = sym busy ∙ z in cc)) free_does
 
   -- FREE, after a reply: as it gives the pipe p back the seat goes on to the role `next`, which owns no line that the seat doesn't own now, and none about p
   record GivesUp (q : Req) (p : ℕ) (next : Role) : Type 0 where
@@ -224,7 +237,7 @@ module _ (slots id : ℕ) (me : Seated) where
     over : (d : Req) → (v.role ≢ Busy d) × (next ≢ Busy d) × (v.role ≢ Lending d) × (next ≢ Lending d)
     others : (m : ℕ) (d : Req) → m ≢ p → stands_for v.role (holders d m) ≡ true → (stands_for next (holders d m) ≡ true) ⊎ (holder v.seen m ≢ Some d)
 
-  module _ (q : Req) (p : ℕ) (next : Role) (k : GivesUp q p next) (small : p < 64) (c : Conduit) (there : is_pipe L.caps p ≡ true) (has : holder v.seen p ≡ Some q) (out : me.1 ≡ (p, Some (Piped c)) ∷ rest me.1) (good : PipeIs L.caps p (Some (Piped c)) (flow (events_of v.seen) p)) where
+  module _ (q : Req) (p : ℕ) (next : Role) (k : GivesUp q p next) (small : p < 64) (c : WaitedPipe) (there : is_pipe L.caps p ≡ true) (has : holder v.seen p ≡ Some q) (out : me.1 ≡ (p, Some (Piped c)) ∷ rest me.1) (good : PipeIs L p (Some (Piped c)) (stands v.seen p)) where
     -- the view after it, which has seen no more
     abbrev given_up : ℕ → View
     given_up found = record v { role = next; steps = record { word = pipe_at p; found = found; seen = v.seen } ∷ v.steps }
@@ -232,8 +245,8 @@ module _ (slots id : ℕ) (me : Seated) where
     abbrev GivenUp : Seated → Type 0
     GivenUp m' = (found : ℕ) × (m'.0 ≡ given_up found) × (m'.1 ≡ rest me.1)
 
-    given_up_ok : (s : St) (r : Ruled L s) → There slots id me s → SeatOk L (Free q p ∷ r.past) (given_up (get_or s.words (pipe_at p) 0))
-    given_up_ok s r at = let l : Line = Free q p in let seat = r.seats id v at in record {
+    given_up_ok : (s : St) (r : Ruled L s) → There slots id me s → SeatOk L (Free q p NoRequest ∷ r.past) (given_up (get_or s.words (pipe_at p) 0))
+    given_up_ok s r at = let l : Line = Free q p NoRequest in let seat = r.seats id v at in record {
       layout = λ _. refl;
       saw = record { later = l ∷ seat.saw.later; is = ap (λ (j : List Line). l ∷ j) seat.saw.is; none = (k.off, none_of v.role next k.fewer seat.saw.later seat.saw.none) };
       made = (([], refl), seat.made);
@@ -245,14 +258,14 @@ module _ (slots id : ℕ) (me : Seated) where
 
     gives_up : (s : St) (r : Ruled L s) → There slots id me s → Does slots id me L s (pipe_at p) 0 GivenUp
     gives_up s r at =
-        let l : Line = Free q p in let n : ℕ = get_or s.words (pipe_at p) 0 in let w : View = given_up n in let now' = has_now s r at q p k.works there has in let none' = freed_here r.past q p in (
+        let l : Line = Free q p NoRequest in let n : ℕ = get_or s.words (pipe_at p) 0 in let w : View = given_up n in let now' = has_now s r at q p k.works there has in let none' = freed_here r.past q p NoRequest in (
           w,
           gives,
           tt,
           subst (λ (cs : List (ℕ × Option Thing)). Ruled L (stepped s (pipe_at p) 0 id cs w gives)) (sym out)
-              (pipe_line L s r id v w at p small l (λ j. refl) (λ j i. refl) (λ j c. refl) (λ c. refl) (freed_else r.past q p) 0 (some (Some (Piped c))) now'.0 (given_up_ok s r at) refl (gone_own v.role next l k.works k.spread) (λ y h. h)
+              (pipe_line L s r id v w at p small l (λ j. refl) (λ j i. refl) (λ j c. refl) (λ c. refl) (freed_else r.past q p NoRequest) 0 (some (Some (Piped c))) (now'.0, tt) (given_up_ok s r at) refl (gone_own v.role next l k.works k.spread) (λ y h. h)
               (λ i u other at'. (let o = owned L s r id v l at k.works i u other at' in (o.0, k.spread u.role o.1)))
-              (subst (PipeSays L.caps (l ∷ r.past) p 0 (some (some (Some (Piped c))))) (sym none') (refl, Some (Piped c), refl, subst (PipeIs L.caps p (Some (Piped c))) (sym now'.1) good))
+              (subst (PipeSays L (l ∷ r.past) p 0 (some (some (Some (Piped c))))) (sym none') (refl, Some (Piped c), refl, subst (PipeIs L p (Some (Piped c))) (sym (laid_here r.past q p NoRequest ∙ now'.1)) good))
               (λ d is'. absurd ((k.over d).0 is')) (λ d is'. absurd ((k.over d).2 is'))
               (λ d is'. absurd (let z = sym none' ∙ is' in cc))
               (λ m d ne was own. ⊎_elim (λ (y : stands_for next (holders d m) ≡ true). y) (λ (lacks : holder v.seen m ≢ Some d). absurd (lacks_now slots id me s r at d m own lacks was)) (k.others m d ne own)) (λ has' h. (has', h))),
@@ -281,11 +294,11 @@ module _ (slots id : ℕ) (me : Seated) where
       others = λ m d ne own. inr (subst (λ (z : Req). holder v.seen m ≢ Some z) (only d m own) (has.1 m ne));
     }
 
-    leave_does : (p : ℕ) (small : p < 64) (c : Conduit) (there : is_pipe L.caps p ≡ true) (has : HasAlone v.seen p q) (out : me.1 ≡ (p, Some (Piped c)) ∷ rest me.1) (good : PipeIs L.caps p (Some (Piped c)) (flow (events_of v.seen) p))
+    leave_does : (p : ℕ) (small : p < 64) (c : WaitedPipe) (there : is_pipe L.caps p ≡ true) (has : HasAlone v.seen p q) (out : me.1 ≡ (p, Some (Piped c)) ∷ rest me.1) (good : PipeIs L p (Some (Piped c)) (stands v.seen p))
         → (s : St) (r : Ruled L s) → There slots id me s → Does slots id me L s (pipe_at p) 0 (pipe_left (step slots (pipe_at p) 0 0 none) me 0)
     leave_does p small c there has out good s r at = let d = gives_up q p Idle (gives_alone p has) small c there has.0 out good s r at in (d.0, d.1, d.2, d.3, (λ m e here is has'. d.4), d.5)
 
-    pub leave_allows : (p : ℕ) (small : p < 64) (c : Conduit) (there : is_pipe L.caps p ≡ true) (has : HasAlone v.seen p q) (out : me.1 ≡ (p, Some (Piped c)) ∷ rest me.1) (good : PipeIs L.caps p (Some (Piped c)) (flow (events_of v.seen) p))
+    pub leave_allows : (p : ℕ) (small : p < 64) (c : WaitedPipe) (there : is_pipe L.caps p ≡ true) (has : HasAlone v.seen p q) (out : me.1 ≡ (p, Some (Piped c)) ∷ rest me.1) (good : PipeIs L p (Some (Piped c)) (stands v.seen p))
         → (M : Layout) → Allows (Ruled M) slots id me (pipe_at p) (λ _. 0) (λ _. pipe_left (step slots (pipe_at p) 0 0 none) me 0)
     leave_allows p small c there has out good M = shaped slots id me M (pipe_at p) (λ _. 0) (λ _. pipe_left (step slots (pipe_at p) 0 0 none) me 0) (λ z. (let y = sym leaving ∙ z in cc)) (leave_does p small c there has out good)
 
@@ -303,7 +316,7 @@ module _ (slots id : ℕ) (me : Seated) where
           (λ other. inr (subst (λ (z : Req). holder v.seen m ≢ Some z) (only d m own) (has.3 m ne other)));
     }
 
-    pub leave_first_allows : (p n : ℕ) (small : p < 64) (c : Conduit) (there : is_pipe L.caps p ≡ true) (has : HasBoth v.seen p n q) (out : me.1 ≡ (p, Some (Piped c)) ∷ rest me.1) (good : PipeIs L.caps p (Some (Piped c)) (flow (events_of v.seen) p))
+    pub leave_first_allows : (p n : ℕ) (small : p < 64) (c : WaitedPipe) (there : is_pipe L.caps p ≡ true) (has : HasBoth v.seen p n q) (out : me.1 ≡ (p, Some (Piped c)) ∷ rest me.1) (good : PipeIs L p (Some (Piped c)) (stands v.seen p))
         → (M : Layout) → Allows (Ruled M) slots id me (pipe_at p) (λ _. 0) (λ _. pipe_left_first (step slots (pipe_at p) 0 0 none) me 0)
     leave_first_allows p n small c there has out good M = shaped slots id me M (pipe_at p) (λ _. 0) (λ _. pipe_left_first (step slots (pipe_at p) 0 0 none) me 0) (λ z. (let y = sym leaving ∙ z in cc))
         (λ s r at. (let d = gives_up q p (Parting q n) (gives_one p n has) small c there has.1 out good s r at in (
@@ -330,7 +343,7 @@ module _ (slots id : ℕ) (me : Seated) where
       others = λ m d ne own. absurd (ne (sym (eqb-true p m (and_parts (same d q) (p == m) (subst (λ (z : Role). stands_for z (holders d m) ≡ true) parting own)).1)));
     }
 
-    pub leave_last_allows : (small : p < 64) (c : Conduit) (there : is_pipe L.caps p ≡ true) (has : holder v.seen p ≡ Some q) (out : me.1 ≡ (p, Some (Piped c)) ∷ rest me.1) (good : PipeIs L.caps p (Some (Piped c)) (flow (events_of v.seen) p))
+    pub leave_last_allows : (small : p < 64) (c : WaitedPipe) (there : is_pipe L.caps p ≡ true) (has : holder v.seen p ≡ Some q) (out : me.1 ≡ (p, Some (Piped c)) ∷ rest me.1) (good : PipeIs L p (Some (Piped c)) (stands v.seen p))
         → (M : Layout) → Allows (Ruled M) slots id me (pipe_at p) (λ _. 0) (λ _. pipe_left_last (step slots (pipe_at p) 0 0 none) me 0)
     leave_last_allows small c there has out good M = shaped slots id me M (pipe_at p) (λ _. 0) (λ _. pipe_left_last (step slots (pipe_at p) 0 0 none) me 0) (λ z. (let y = sym parting ∙ z in cc))
         (λ s r at. (let d = gives_up q p Idle gives_last small c there has out good s r at in (d.0, d.1, d.2, d.3, (λ m e here is. d.4), d.5)))
@@ -346,9 +359,9 @@ module _ (v w : View) (q : Req) (p : ℕ) (busy : v.role ≡ Busy q) where
   lacks_on n j saw lacks is = still_lacks v.role q n (acts n) saw.later v.seen saw.none lacks (sym (ap (λ (j : List Line). holder j n) saw.is) ∙ is)
 
   -- what it has, they leave
-  keeps_on : (n : ℕ) (j : List Line) → Saw v.role v.seen j → Orderly v.layout j → is_pipe v.layout.caps n ≡ true → holder v.seen n ≡ Some q → (holder j n ≡ Some q) × (flow (events_of j) n ≡ flow (events_of v.seen) n)
-  keeps_on n j saw orderly there has = let k = still_has v.layout v.role q n (acts n) there (flow (events_of v.seen) n) saw.later v.seen (subst (Orderly v.layout) saw.is orderly) saw.none (has, refl) in
-      subst (λ (j : List Line). (holder j n ≡ Some q) × (flow (events_of j) n ≡ flow (events_of v.seen) n)) (sym saw.is) k
+  keeps_on : (n : ℕ) (j : List Line) → Saw v.role v.seen j → Orderly v.layout j → is_pipe v.layout.caps n ≡ true → holder v.seen n ≡ Some q → (holder j n ≡ Some q) × (stands j n ≡ stands v.seen n)
+  keeps_on n j saw orderly there has = let k = still_has v.layout v.role q n (acts n) there (stands v.seen n) saw.later v.seen (subst (Orderly v.layout) saw.is orderly) saw.none (has, refl) in
+      subst (λ (j : List Line). (holder j n ≡ Some q) × (stands j n ≡ stands v.seen n)) (sym saw.is) k
 
   -- who had no pipe, and looked, has none
   pub lacks_after : holder v.seen p ≢ Some q → Looks v w → holder w.seen p ≢ Some q
@@ -356,7 +369,7 @@ module _ (v w : View) (q : Req) (p : ℕ) (busy : v.role ≡ Busy q) where
 
   -- who had one, and looked, has it as it was
   pub same_looked : is_pipe v.layout.caps p ≡ true → holder v.seen p ≡ Some q → Looks v w → (holder w.seen p ≡ Some q) × IsSamePipe v w p
-  same_looked there has x = subst (λ (j : List Line). (holder j p ≡ Some q) × (flow (events_of j) p ≡ flow (events_of v.seen) p)) (sym (ap (λ (z : View). z.seen) x.is)) (keeps_on p x.now x.saw x.orderly there has)
+  same_looked there has x = subst (λ (j : List Line). (holder j p ≡ Some q) × (stands j p ≡ stands v.seen p)) (sym (ap (λ (z : View). z.seen) x.is)) (keeps_on p x.now x.saw x.orderly there has)
 
   pub alone_looked : is_pipe v.layout.caps p ≡ true → HasAlone v.seen p q → Looks v w → HasAlone w.seen p q
   alone_looked there has x = ((same_looked there has.0 x).0, λ n ne is. lacks_on n x.now x.saw (has.1 n ne) (sym (ap (λ (j : List Line). holder j n) (ap (λ (z : View). z.seen) x.is)) ∙ is))
@@ -371,7 +384,7 @@ module _ (v w : View) (q : Req) (p : ℕ) (busy : v.role ≡ Busy q) where
 
   -- who had one alone, and took another, has both, and the first as it was
   module _ (first : ℕ) (other : first ≢ p) (there : is_pipe v.layout.caps first ≡ true) (has : HasAlone v.seen first q) (x : Extends v (Hold q p) (Busy q) w) where
-    kept_first : (holder x.mid first ≡ Some q) × (flow (events_of x.mid) first ≡ flow (events_of v.seen) first)
+    kept_first : (holder x.mid first ≡ Some q) × (stands x.mid first ≡ stands v.seen first)
     kept_first = keeps_on first x.mid x.saw x.orderly.1 there has.0
 
     pub both_after : HasBoth w.seen first p q
@@ -384,31 +397,36 @@ module _ (v w : View) (q : Req) (p : ℕ) (busy : v.role ≡ Busy q) where
         )
 
     pub first_after : IsSamePipe v w first
-    first_after = ap (λ (j : List Line). flow (events_of j) first) (ap (λ (z : View). z.seen) x.is) ∙ kept_first.1
+    first_after = ap (λ (j : List Line). stands j first) (ap (λ (z : View). z.seen) x.is) ∙ kept_first.1
 
   -- who had one alone, and gave it back, has none
-  pub bare_after : HasAlone v.seen p q → Extends v (Free q p) (Busy q) w → (n : ℕ) → holder w.seen n ≢ Some q
-  bare_after has x n is = let seen : w.seen ≡ Free q p ∷ x.mid = ap (λ (z : View). z.seen) x.is in let is' : holder (Free q p ∷ x.mid) n ≡ Some q = sym (ap (λ (j : List Line). holder j n) seen) ∙ is in
+  pub bare_after : (laid : Laid) → HasAlone v.seen p q → Extends v (Free q p laid) (Busy q) w → (n : ℕ) → holder w.seen n ≢ Some q
+  bare_after laid has x n is = let seen : w.seen ≡ Free q p laid ∷ x.mid = ap (λ (z : View). z.seen) x.is in let is' : holder (Free q p laid ∷ x.mid) n ≡ Some q = sym (ap (λ (j : List Line). holder j n) seen) ∙ is in
       dite (ℕ_discrete n p)
-      (λ one. (let z = sym (ap (λ (m : ℕ). holder (Free q p ∷ x.mid) m) one) ∙ is' in let y = sym (ap (λ b. cond b None (holder x.mid p)) (eq-eqb p p refl)) ∙ z in absurd (cc)))
+      (λ one. (let z = sym (ap (λ (m : ℕ). holder (Free q p laid ∷ x.mid) m) one) ∙ is' in let y = sym (ap (λ b. cond b None (holder x.mid p)) (eq-eqb p p refl)) ∙ z in absurd (cc)))
       (λ ne. lacks_on n x.mid x.saw (has.1 n ne) (sym (ap (λ b. cond b None (holder x.mid n)) (ne_eqb p n (λ z. ne (sym z)))) ∙ is'))
 
   -- who had two, and gave one back, has the other alone, as it was
-  module _ (kept : ℕ) (there : is_pipe v.layout.caps kept ≡ true) (has : HasBoth v.seen p kept q) (x : Extends v (Free q p) (Busy q) w) where
-    kept_other : (holder x.mid kept ≡ Some q) × (flow (events_of x.mid) kept ≡ flow (events_of v.seen) kept)
+  module _ (laid : Laid) (kept : ℕ) (there : is_pipe v.layout.caps kept ≡ true) (has : HasBoth v.seen p kept q) (x : Extends v (Free q p laid) (Busy q) w) where
+    kept_other : (holder x.mid kept ≡ Some q) × (stands x.mid kept ≡ stands v.seen kept)
     kept_other = keeps_on kept x.mid x.saw x.orderly.1 there has.2
 
     pub alone_freed : HasAlone w.seen kept q
-    alone_freed = let seen : w.seen ≡ Free q p ∷ x.mid = ap (λ (z : View). z.seen) x.is in
+    alone_freed = let seen : w.seen ≡ Free q p laid ∷ x.mid = ap (λ (z : View). z.seen) x.is in
         subst (λ (j : List Line). HasAlone j kept q) (sym seen) (
           ap (λ b. cond b None (holder x.mid kept)) (ne_eqb p kept has.0) ∙ kept_other.0,
           λ n ne is. dite (ℕ_discrete n p)
-              (λ one. (let z = sym (ap (λ (m : ℕ). holder (Free q p ∷ x.mid) m) one) ∙ is in let y = sym (ap (λ b. cond b None (holder x.mid p)) (eq-eqb p p refl)) ∙ z in absurd (cc)))
+              (λ one. (let z = sym (ap (λ (m : ℕ). holder (Free q p laid ∷ x.mid) m) one) ∙ is in let y = sym (ap (λ b. cond b None (holder x.mid p)) (eq-eqb p p refl)) ∙ z in absurd (cc)))
               (λ other. lacks_on n x.mid x.saw (has.3 n other ne) (sym (ap (λ b. cond b None (holder x.mid n)) (ne_eqb p n (λ z. other (sym z)))) ∙ is)),
         )
 
     pub other_freed : IsSamePipe v w kept
-    other_freed = ap (λ (j : List Line). flow (events_of j) kept) (ap (λ (z : View). z.seen) x.is) ∙ kept_other.1
+    other_freed = ap (λ (j : List Line). stands j kept) (ap (λ (z : View). z.seen) x.is) ∙ ((λ i. (flow (events_of x.mid) kept, ap (λ b. cond b (lays laid q (lying x.mid kept)) (lying x.mid kept)) (ne_eqb p kept has.0) i)) ∙ kept_other.1)
+
+    -- and what waited for it does so still
+    pub waits_freed : (c : Req) → HasWaited v.layout.caps c kept (events_of v.seen) → HasWaited v.layout.caps c kept (events_of w.seen)
+    waits_freed c k = subst (λ (j : List Line). HasWaited v.layout.caps c kept (events_of j)) (sym (ap (λ (z : View). z.seen) x.is ∙ ap (λ (j : List Line). Free q p laid ∷ j) x.saw.is))
+        (still_waits v.layout v.role q kept (acts kept) there c x.saw.later v.seen (subst (Orderly v.layout) x.saw.is x.orderly.1) x.saw.none has.2 k)
 
   -- who replies has its pipes still, and each is what the reply makes of it
   module _ (role : Role) (res : Rattle.std.proofs.Common.ℤ) (data' : List ℕ) (there : is_pipe v.layout.caps p ≡ true) (x : Extends v (Did (Reply q res data')) role w) where
@@ -421,7 +439,7 @@ module _ (v w : View) (q : Req) (p : ℕ) (busy : v.role ≡ Busy q) where
     seen_is : w.seen ≡ Did e ∷ x.mid
     seen_is = ap (λ (z : View). z.seen) x.is
 
-    kept : holder v.seen p ≡ Some q → (holder x.mid p ≡ Some q) × (flow (events_of x.mid) p ≡ flow (events_of v.seen) p)
+    kept : holder v.seen p ≡ Some q → (holder x.mid p ≡ Some q) × (stands x.mid p ≡ stands v.seen p)
     kept = keeps_on p x.mid x.saw x.orderly.1 there
 
     pub alone_replied : HasAlone v.seen p q → HasAlone w.seen p q
@@ -438,11 +456,15 @@ module _ (v w : View) (q : Req) (p : ℕ) (busy : v.role ≡ Busy q) where
         let born : q.k < submits (events_of v.seen) q.ring = submitted_in S v.seen q y (legal_before S x.saw.later v.seen legal) given in
         let is' : IsPlaced (events_of x.mid) q d = subst (λ (j : List Line). IsPlaced (events_of j) q d) (sym x.saw.is) (lasts S (λ h. IsPlaced h q d) q (placed_lasts S q d) x.saw.later v.seen legal born is) in
         let given' : submission (events_of x.mid) q ≡ Some y = subst (λ (j : List Line). submission (events_of j) q ≡ Some y) (sym x.saw.is) (lasts S (λ h. submission h q ≡ Some y) q (submission_lasts S q y) x.saw.later v.seen legal born given) in
-        ap (λ (j : List Line). flow (events_of j) p) seen_is ∙ (λ i. flows_as (is' i) ((given' ∙ sym given) i) (contents (events_of x.mid)) res p ((kept has).1 i))
+        ap (λ (j : List Line). flow (events_of j) p) seen_is ∙ (λ i. flows_as (is' i) ((given' ∙ sym given) i) (contents (events_of x.mid)) res p ((kept has).1 i).0)
         ∙ flows_as_by v.layout.caps (events_of v.seen) q (contents (events_of x.mid)) (contents (events_of v.seen)) res data' d (submission (events_of v.seen) q) p (flow (events_of v.seen) p) answers
-        (λ n there' u. ap (λ (z : Flow). content z) (keeps_on n x.mid x.saw x.orderly.1 there' (held n there' u)).1)
+        (λ n there' u. ap (λ (z : Flow × List Req). content z.0) (keeps_on n x.mid x.saw x.orderly.1 there' (held n there' u)).1)
+
+    -- nobody lies there any more
+    none_lie : holder v.seen p ≡ Some q → lying w.seen p ≡ []
+    none_lie has = ap (λ (j : List Line). lying j p) seen_is ∙ (ap (λ (o : Option Req). cond (is_holder o q) [] (lying x.mid p)) (kept has).0 ∙ ap (λ b. cond b [] (lying x.mid p)) (same_itself q))
 
     pub pipe_replied : (hand : List (ℕ × Option Thing)) → holder v.seen p ≡ Some q → (d : Entry) (y : Submission) → IsPlaced (events_of v.seen) q d → submission (events_of v.seen) q ≡ Some y → OpAnswers v.layout.caps (events_of v.seen) q d.op res data'
         → ((n : ℕ) → is_pipe v.layout.caps n ≡ true → uses_at d.op n ≡ true → holder v.seen n ≡ Some q)
         → HasPipeAfter (v, hand) p q d res → HasPipe (w, rest hand) p (rest (rest hand))
-    pipe_replied hand has d y is given answers held a = (a.0, a.1, subst (λ (z : List ℕ × Flow). PipeIs z.0 p (Some (Piped a.0)) z.1) (λ i. (sym (ap (λ (z : View). z.layout.caps) x.is) i, sym (flow_replied has d y is given answers held) i)) a.2)
+    pipe_replied hand has d y is given answers held a = (a.0, a.1, subst (λ (z : Layout × (Flow × List Req)). PipeIs z.0 p (Some (Piped a.0)) z.1) (λ i. (sym (ap (λ (z : View). z.layout) x.is) i, (sym (flow_replied has d y is given answers held) i, sym (none_lie has) i))) a.2)

@@ -1,6 +1,6 @@
 -- A pipe that a worker has stays with it, and nobody else changes what is in it. A reply hangs on the pipe that its entry names, and changes no other.
 use Rattle.std.specs.Prelude.{◌==◌, ◌&&◌, ◌||◌}
-use Rattle.std.proofs.Common.{◌≡◌, ℕ, ◌+◌, Bool, true, false, cond, not, ℤ, pos, negsuc, List, [], ◌∷◌, ◌++◌, slice_index, take, Option, Some, None, sym, refl, ap, ◌∙◌, subst, ⊎_elim, arith, true≢false, eqb-true, eq-eqb, ne_eqb, append-nil}
+use Rattle.std.proofs.Common.{◌≡◌, ◌≢◌, inr, ℕ, ◌+◌, Bool, true, false, cond, not, ℤ, pos, negsuc, List, [], ◌∷◌, ◌++◌, slice_index, take, Option, Some, None, sym, refl, ap, ◌∙◌, subst, ⊎_elim, arith, true≢false, eqb-true, eq-eqb, ne_eqb, append-nil}
 use Rattle.entry.specs.declared.op.Op.{Op}
 use Rattle.entry.specs.declared.op.Op.TheVariants.{Nop, Close, Read, Write, Splice, PollAdd, AsyncCancel, TimeoutRemove, Invalid}
 use Rattle.entry.specs.Entry.{Entry}
@@ -11,14 +11,15 @@ use Rattle.history.specs.History.{Submission, submission, hit}
 use Rattle.history.specs.Chains.{placed, IsPlaced}
 use Rattle.history.specs.Pipes.{Flow, contents, flow, offered, flows, flows_as, moves, End, no_end, read_end, write_end, end_of, reads, writes, closes, is_zero}
 use Rattle.history.specs.Answers.{Answer, now, bad_end, is_pipe, answer_read, answer_write, answer_splice, answer_poll, read_events, write_events, read_from, write_to, splice_of, close_of, poll_of, CancelBy, OpAnswers}
-use Rattle.history.specs.Users.{is_at, uses_at, uses_at_in}
-use Rattle.history.proofs.Requests.{bool_cases}
+use Rattle.history.specs.Users.{is_at, uses_at, uses_at_in, is_steady}
+use Rattle.history.proofs.Requests.{bool_cases, same_false}
 use Rattle.steps.specs.declared.line.Line.{Line}
 use Rattle.steps.specs.declared.line.Line.TheVariants.{Did, Hold, Free}
 use Rattle.steps.specs.declared.view.Layout.{Layout}
 use Rattle.steps.specs.declared.view.Role.{Role}
-use Rattle.steps.specs.Fairness.{Fair, Orderly}
-use Rattle.steps.specs.Journal.{events_of, holder}
+use Rattle.steps.specs.Fairness.{Fair, Orderly, HasWaited}
+use Rattle.steps.specs.Journal.{events_of, holder, is_holder, lays, lying}
+use Rattle.steps.specs.Cells.{stands}
 use Rattle.steps.specs.Rule.{holders, stands_for, owns, NoneOf}
 use Rattle.steps.proofs.Roles.{idle_hands}
 
@@ -80,7 +81,7 @@ all_flows (Some e) None before res p w k = refl
 all_flows (Some e) (Some s) before res p w k = k e (offered e.op before s.bytes) refl
 
 -- a reply leaves the pipes that its request doesn't name
-untouched_flow : (h : List Event) (q : Req) (res : ℤ) (p : ℕ) (w : Flow) → uses_at_in (placed h q) p ≡ false → flows_as (placed h q) (submission h q) (contents h) res p w ≡ w
+pub untouched_flow : (h : List Event) (q : Req) (res : ℤ) (p : ℕ) (w : Flow) → uses_at_in (placed h q) p ≡ false → flows_as (placed h q) (submission h q) (contents h) res p w ≡ w
 untouched_flow h q res p w t = all_flows (placed h q) (submission h q) (contents h) res p w (λ e bytes is. unused e.op bytes res p w (sym (ap (λ o. uses_at_in o p) is) ∙ t))
 
 -- ---- what a reply hangs on
@@ -191,7 +192,7 @@ module _ (caps : List ℕ) (f : ℕ → Flow) where
 
 module _ (caps : List ℕ) (h : List Event) (r : Req) where
   -- an answer stays where the pipes that the entry names are as they were, and that of a cancel does
-  pub answer_stays : (h' : List Event) (op : Op) (res : ℤ) (data' : List ℕ) → ((all : Bool) → CancelBy all h r (hit h r) res → CancelBy all h' r (hit h' r) res) → ((p : ℕ) → is_pipe caps p ≡ true → uses_at op p ≡ true → flow h' p ≡ flow h p) → OpAnswers caps h r op res data' → OpAnswers caps h' r op res data'
+  pub answer_stays : (h' : List Event) (op : Op) (res : ℤ) (data' : List ℕ) → (is_steady op ≡ false → (all : Bool) → CancelBy all h r (hit h r) res → CancelBy all h' r (hit h' r) res) → ((p : ℕ) → is_pipe caps p ≡ true → uses_at op p ≡ true → flow h' p ≡ flow h p) → OpAnswers caps h r op res data' → OpAnswers caps h' r op res data'
   answer_stays h' Nop res d s k a = a
   answer_stays h' Invalid res d s k a = a
   answer_stays h' (Read fd offset len) res d s k a = read_same caps (flow h) (flow h') (end_of fd) len k ∙ a
@@ -200,8 +201,8 @@ module _ (caps : List ℕ) (h : List Event) (r : Req) where
   answer_stays h' (PollAdd fd mask) res d s k a = poll_same caps (flow h) (flow h') (end_of fd) mask k ∙ a
   answer_stays h' (Splice fd_in fd_out len) res d s k a = splice_same caps (flow h) (flow h') (end_of fd_in) (end_of fd_out) len
       (λ p t u. k p t (ap (λ (b : Bool). b || is_at (end_of fd_out) p) u)) (λ p t u. k p t (ap (λ (b : Bool). is_at (end_of fd_in) p || b) u ∙ or_true (is_at (end_of fd_in) p))) ∙ a
-  answer_stays h' (AsyncCancel u all) res d s k a = (s all a.0, a.1)
-  answer_stays h' (TimeoutRemove u) res d s k a = (s false a.0, a.1)
+  answer_stays h' (AsyncCancel u all) res d s k a = (s refl all a.0, a.1)
+  answer_stays h' (TimeoutRemove u) res d s k a = (s refl false a.0, a.1)
   answer_stays h' op res d s k a = absurd a
 
   one_answer : (x : Answer) (res : ℤ) (c d : List ℕ) → x ≡ now res c → x ≡ now res d → c ≡ d
@@ -242,21 +243,33 @@ module _ (L : Layout) (role : Role) (q : Req) (p : ℕ) (mine : stands_for role 
   others : (c : Req) → stands_for role (holders c p) ≡ false → Some q ≡ Some c → ⊥
   others c n e = let same' : q ≡ c = cc in true≢false (sym mine ∙ (ap (λ (z : Req). stands_for role (holders z p)) same' ∙ n))
 
-  abbrev Has : List Line → Flow → Type 0
-  Has j w = (holder j p ≡ Some q) × (flow (events_of j) p ≡ w)
+  abbrev Has : List Line → Flow × List Req → Type 0
+  Has j w = (holder j p ≡ Some q) × (stands j p ≡ w)
 
-  has_by : (w : Flow) (l : Line) (j : List Line) → Fair L j l → owns role l ≡ false → Has j w → Has (l ∷ j) w
+  has_by : (w : Flow × List Req) (l : Line) (j : List Line) → Fair L j l → owns role l ≡ false → Has j w → Has (l ∷ j) w
   has_by w (Hold c n) j f o h = (ap (λ b. cond b (Some c) (holder j p)) (ne_eqb n p (λ e. (let z = sym f ∙ (ap (holder j) e ∙ h.0) in cc))) ∙ h.0, h.1)
-  has_by w (Free c n) j f o h = (ap (λ b. cond b None (holder j p)) (ne_eqb n p (λ e. others c (subst (λ (z : ℕ). stands_for role (holders c z) ≡ false) e o) (sym h.0 ∙ (ap (holder j) (sym e) ∙ f)))) ∙ h.0, h.1)
-  has_by w (Did (Reply c res data')) j f o h = (
-    h.0,
-    ⊎_elim
-        (λ (t : uses_at_in (placed (events_of j) c) p ≡ true). absurd (others c (idle_hands role c p o) (sym h.0 ∙ f p there t)))
-        (λ (t : uses_at_in (placed (events_of j) c) p ≡ false). untouched_flow (events_of j) c res p (flow (events_of j) p) t ∙ h.1) (bool_cases (uses_at_in (placed (events_of j) c) p)),
-  )
+  has_by w (Free c n laid) j f o h = let else : (n == p) ≡ false = ne_eqb n p (λ e. others c (subst (λ (z : ℕ). stands_for role (holders c z) ≡ false) e o) (sym h.0 ∙ (ap (holder j) (sym e) ∙ f.0))) in
+      (ap (λ b. cond b None (holder j p)) else ∙ h.0, (λ i. (flow (events_of j) p, ap (λ b. cond b (lays laid c (lying j p)) (lying j p)) else i)) ∙ h.1)
+  has_by w (Did (Reply c res data')) j f o h = let other : q ≢ c = λ e. others c (idle_hands role c p o) (ap Some e) in
+      let lie : lying (Did (Reply c res data') ∷ j) p ≡ lying j p = ap (λ (z : Option Req). cond (is_holder z c) [] (lying j p)) h.0 ∙ ap (λ b. cond b [] (lying j p)) (same_false q c other) in (
+        h.0,
+        ⊎_elim
+            (λ (t : uses_at_in (placed (events_of j) c) p ≡ true). absurd (others c (idle_hands role c p o) (sym h.0 ∙ f p there t)))
+            (λ (t : uses_at_in (placed (events_of j) c) p ≡ false). (λ i. (untouched_flow (events_of j) c res p (flow (events_of j) p) t i, lie i)) ∙ h.1) (bool_cases (uses_at_in (placed (events_of j) c) p)),
+      )
   has_by w (Did e) j f o h = h
   has_by w l j f o h = h
 
-  pub still_has : (w : Flow) (later seen : List Line) → Orderly L (later ++ seen) → NoneOf role later → Has seen w → Has (later ++ seen) w
+  pub still_has : (w : Flow × List Req) (later seen : List Line) → Orderly L (later ++ seen) → NoneOf role later → Has seen w → Has (later ++ seen) w
   still_has w [] seen o n h = h
   still_has w (l ∷ later) seen o n h = has_by w l (later ++ seen) o.0 n.0 (still_has w later seen o.1 n.1 h)
+
+  -- and what waited for it does so still
+  waited_by : (c : Req) (l : Line) (j : List Line) → flow (events_of (l ∷ j)) p ≡ flow (events_of j) p → HasWaited L.caps c p (events_of j) → HasWaited L.caps c p (events_of (l ∷ j))
+  waited_by c (Did e) j same' k = inr (same', k)
+  waited_by c l j same' k = k
+
+  pub still_waits : (c : Req) (later seen : List Line) → Orderly L (later ++ seen) → NoneOf role later → holder seen p ≡ Some q → HasWaited L.caps c p (events_of seen) → HasWaited L.caps c p (events_of (later ++ seen))
+  still_waits c [] seen o n h k = k
+  still_waits c (l ∷ later) seen o n h k = let on = still_has (stands seen p) (l ∷ later) seen o n (h, refl) in let before = still_has (stands seen p) later seen o.1 n.1 (h, refl) in
+      waited_by c l (later ++ seen) (ap (λ (z : Flow × List Req). z.0) (on.1 ∙ sym before.1)) (still_waits c later seen o.1 n.1 h k)

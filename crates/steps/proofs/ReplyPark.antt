@@ -23,7 +23,7 @@ use Rattle.steps.specs.declared.view.Role.{Role}
 use Rattle.steps.specs.declared.view.View.{View}
 use Rattle.atomic_table.specs.Table.{State}
 use Rattle.history.specs.Legal.{Setup}
-use Rattle.history.specs.Pipes.{flow}
+use Rattle.history.specs.Pipes.{Flow, flow}
 use Rattle.history.specs.Answers.{is_pipe, OpAnswers}
 use Rattle.history.specs.Users.{uses_at, uses_at_in}
 use Rattle.steps.specs.Cells.{setup_of}
@@ -102,10 +102,10 @@ module _ (slots id : ℕ) (me : Seated) where
 
       -- the pipes that the entry names are as the seat left them
       has_pipe : (s : St) (r : Ruled L s) → There slots id me s → (n : ℕ) → is_pipe L.caps n ≡ true → uses_at e.op n ≡ true → (holder r.past n ≡ Some q) × (flow (events_of r.past) n ≡ flow (events_of v.seen) n)
-      has_pipe s r at n there u = has_now slots id me s r at q n (subst (λ (z : Role). stands_for z (holders q n) ≡ true) (sym busy) (same_itself q)) there (may.has n there u)
+      has_pipe s r at n there u = let k = has_now slots id me s r at q n (subst (λ (z : Role). stands_for z (holders q n) ≡ true) (sym busy) (same_itself q)) there (may.has n there u) in (k.0, ap (λ (z : Flow × List Req). z.0) k.1)
 
       answer_now : (s : St) (r : Ruled L s) → There slots id me s → OpAnswers L.caps (events_of r.past) q e.op res data'
-      answer_now s r at = answer_stays L.caps (events_of v.seen) q (events_of r.past) e.op res data' (cancel_now slots id me q busy res s r at) (λ n there u. (has_pipe s r at n there u).1) may.answers
+      answer_now s r at = answer_stays L.caps (events_of v.seen) q (events_of r.past) e.op res data' (λ _. cancel_now slots id me q busy res s r at) (λ n there u. (has_pipe s r at n there u).1) may.answers
 
       calm : (s : St) (r : Ruled L s) → There slots id me s → Calm L r.past (Did (Reply q res data'))
       calm s r at = let k = entry_now s r at in let a = answer_now s r at in record {

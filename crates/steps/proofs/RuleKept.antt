@@ -198,7 +198,7 @@ module _ (L : Layout) where
         (λ other. subst (λ (z : ℕ × Home). CellOk K (l ∷ r.past) y z.0 z.1) (λ i. (sym (words y other) i, sym (slots (slot_at y) (omega arith)) i)) (cell_stays (setup_of L) l r.past legal K y _ _ (quiet y h other) (r.cells y h)));
     notes = notes;
     clock = low 0 (omega arith) ∙ (r.clock ∙ sym calm.clock);
-    pipes = λ p h. subst (λ (z : ℕ × Home). PipeOk L.caps (l ∷ r.past) p z.0 z.1) (λ i. (sym (low (pipe_at p) (omega arith)) i, sym (slots p (omega arith)) i)) (pipe_stays L.caps l r.past p _ _ (calm.pipes p).0 (calm.pipes p).1 (r.pipes p h));
+    pipes = λ p h. subst (λ (z : ℕ × Home). PipeOk L (l ∷ r.past) p z.0 z.1) (λ i. (sym (low (pipe_at p) (omega arith)) i, sym (slots p (omega arith)) i)) (pipe_stays L l r.past p _ _ calm.fair (calm.pipes p).0 (calm.pipes p).1 (r.pipes p h));
     seats = seats_set s.views id (seeing v role (l ∷ r.past) t) (l ∷ r.past) (seat_sees (l ∷ r.past) t v role layout (λ q is. (turns.has, turns.busy q is)) (λ q is. (turns.has, turns.leaving q is)) (λ q is. turns.has) (made_with s r id v l t there tick)) (λ i u apart' at. seat_stays l r.past u (others i u apart' at).0 (λ y h. (turns.gone y.role (r.gone i id u v at there y h)).0) (r.seats i u at));
     roles = roles_set s.views id (seeing v role (l ∷ r.past) t) r.roles (λ i u apart' at. (others i u apart' at).1);
     gone = gone_set s.views id v (seeing v role (l ∷ r.past) t) there r.gone (λ y h. absurd h) (λ a g. (turns.gone a g).1);
@@ -234,7 +234,7 @@ module _ (L : Layout) where
       → length words' ≡ length s.words → ((y : ℕ) → get_or words' (claim_at y) 0 ≡ get_or s.words (claim_at y) 0) → ((y i : ℕ) → IsCell K y → i < 7 → get_or words' (note_at y i) 0 ≡ noted (l ∷ r.past) (note_at y i))
       → get_or words' 0 0 ≡ clock_of (events_of (l ∷ r.past))
       → length homes' ≡ length s.homes → ((y : ℕ) → get_elem? homes' (slot_at y) ≡ get_elem? s.homes (slot_at y))
-      → ((p : ℕ) → p < 64 → PipeOk L.caps (l ∷ r.past) p (get_or words' (pipe_at p) 0) (get_elem? homes' p))
+      → ((p : ℕ) → p < 64 → PipeOk L (l ∷ r.past) p (get_or words' (pipe_at p) 0) (get_elem? homes' p))
       → ((q : Req) → phase (events_of (l ∷ r.past)) q ≡ runs → IsRunBy (set s.views id w) q)
       → ((p : ℕ) (q : Req) → holder (l ∷ r.past) p ≡ Some q → IsHeldBy (set s.views id w) q p)
       → ((q : Req) → lent (l ∷ r.past) q ≡ true → IsLentBy (set s.views id w) q)
@@ -282,7 +282,7 @@ module _ (L : Layout) where
     cells = λ y h. subst (λ (m : ℕ). CellOk K r.past y m (get_elem? s.homes (slot_at y))) (sym (ap (λ z. get_or z (claim_at y) 0) same)) (r.cells y h);
     notes = λ y k h small. ap (λ z. get_or z (note_at y k) 0) same ∙ r.notes y k h small;
     clock = ap (λ z. get_or z 0 0) same ∙ r.clock;
-    pipes = λ p h. subst (λ z. PipeOk L.caps r.past p (get_or z (pipe_at p) 0) (get_elem? s.homes p)) (sym same) (r.pipes p h);
+    pipes = λ p h. subst (λ z. PipeOk L r.past p (get_or z (pipe_at p) 0) (get_elem? s.homes p)) (sym same) (r.pipes p h);
     seats = seats_set s.views id (seeing v v.role r.past t) r.past (seat_sees r.past t v v.role layout busy (left_now s r id v at) (r.seats id v at).lending (made_at s r id v t at tick)) (λ l u _ there. r.seats l u there);
     roles = roles_set s.views id (seeing v v.role r.past t) r.roles (λ l u other there. r.roles id l v u at there (λ e. other (sym e)));
     gone = gone_set s.views id v (seeing v v.role r.past t) at r.gone (λ y h. absurd h) (λ a g. g.0);

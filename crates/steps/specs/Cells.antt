@@ -1,6 +1,6 @@
 -- Where the cells of the rings and the pipes lie in the table, and what their words and slots say.
 -- Word 0 is the clock, the words 1 to 64 are the pipes', and from word 72 on each cell has a line of eight: its claim word and seven note words. The slots 0 to 63 are the pipes', and then comes one a cell.
-use Rattle.std.specs.Prelude.{◌≡◌, ℕ, suc, ◌+◌, ◌-◌, ◌*◌, ◌<◌, nat_lt, cond, Bool, true, false, List, [], ◌∷◌, ◌++◌, drop, length, ℤ, pos, negsuc, slice_index, Option, Some, None}
+use Rattle.std.specs.Prelude.{◌≡◌, ℕ, suc, ◌+◌, ◌-◌, ◌*◌, ◌<◌, nat_lt, cond, Bool, true, false, List, [], ◌∷◌, ◌++◌, drop, length, ℤ, pos, negsuc, slice_index, vec_capacity, Option, Some, None}
 use mathlib.Core.Option as maybe
 use mathlib.Core.Option.{some}
 use lib.ListN.{get_elem?}
@@ -18,7 +18,7 @@ use Rattle.steps.specs.declared.parcel.Parcel.{Parcel}
 use Rattle.steps.specs.declared.parcel.Thing.{Thing}
 use Rattle.steps.specs.declared.parcel.Thing.TheVariants.{Full, Piped}
 use Rattle.steps.specs.declared.view.Layout.{Layout}
-use Rattle.steps.specs.Journal.{events_of, freed, lent, holder}
+use Rattle.steps.specs.Journal.{events_of, freed, lent, holder, lying}
 
 -- the group of rings that the board is
 abbrev pub setup_of : Layout → Setup
@@ -150,19 +150,26 @@ pub record CellOk (K : List ℕ) (j : List Line) (x word : ℕ) (home : Home) : 
   pub says : Says j (request_at K x gen) home cause payload tag
   pub ages : Ages K j x gen
 
--- the pipe in the slot is the pipe that the history tells; there is none where the layout has none
-abbrev pub PipeIs : List ℕ → ℕ → Option Thing → Flow → Type 0
-PipeIs caps p None w = length caps < suc p
-PipeIs caps p (Some (Full x)) w = ⊥
-PipeIs caps p (Some (Piped v)) w = (v.cap ≡ slice_index caps p) × (v.content ≡ content w) × (v.read_shut ≡ w.read_shut) × (v.write_shut ≡ w.write_shut)
+-- what the journal tells of the pipe p: what is in it, and who lies there
+abbrev pub stands : List Line → ℕ → Flow × List Req
+stands j p = (flow (events_of j) p, lying j p)
+
+-- of these pipes, and of boards with so many cells, the slot of p has the pipe that is told, and those that are told to lie there, with a place for each cell; there is none where the layout has none
+abbrev pub PipeIn : List ℕ → ℕ → ℕ → Option Thing → Flow × List Req → Type 0
+PipeIn caps cells p None w = length caps < suc p
+PipeIn caps cells p (Some (Full x)) w = ⊥
+PipeIn caps cells p (Some (Piped v)) w = (v.pipe.cap ≡ slice_index caps p) × (v.pipe.content ≡ content w.0) × (v.pipe.read_shut ≡ w.0.read_shut) × (v.pipe.write_shut ≡ w.0.write_shut) × (v.lying.items ≡ w.1) × (vec_capacity v.lying ≡ cells)
+
+abbrev pub PipeIs : Layout → ℕ → Option Thing → Flow × List Req → Type 0
+PipeIs L p o w = PipeIn L.caps (total L.cells) p o w
 
 -- what a pipe's word says: 0 at home, 1 out
-abbrev pub PipeSays : List ℕ → List Line → ℕ → ℕ → Home → Option Req → Type 0
-PipeSays caps j p word home None = (word ≡ 0) × (o : Option Thing) × (home ≡ some (some o)) × PipeIs caps p o (flow (events_of j) p)
-PipeSays caps j p word home (Some r) = word ≡ 1
+abbrev pub PipeSays : Layout → List Line → ℕ → ℕ → Home → Option Req → Type 0
+PipeSays L j p word home None = (word ≡ 0) × (o : Option Thing) × (home ≡ some (some o)) × PipeIs L p o (stands j p)
+PipeSays L j p word home (Some r) = word ≡ 1
 
-abbrev pub PipeOk : List ℕ → List Line → ℕ → ℕ → Home → Type 0
-PipeOk caps j p word home = PipeSays caps j p word home (holder j p)
+abbrev pub PipeOk : Layout → List Line → ℕ → ℕ → Home → Type 0
+PipeOk L j p word home = PipeSays L j p word home (holder j p)
 
 abbrev pub IsCapacity : ℕ → Type 0
 IsCapacity n = (0 < n) × (n < 65537)
@@ -171,4 +178,4 @@ IsCapacity n = (0 < n) × (n < 65537)
 pub record AreNewSlots (caps : List ℕ) (rows : ℕ) (slots : List (Option Thing)) : Type 0 where
   pub long : length slots ≡ slots_of rows
   pub empty : (x : ℕ) → x < rows → get_elem? slots (slot_at x) ≡ some None
-  pub pipes : (p : ℕ) → p < 64 → (o : Option Thing) × (get_elem? slots p ≡ some o) × PipeIs caps p o untouched
+  pub pipes : (p : ℕ) → p < 64 → (o : Option Thing) × (get_elem? slots p ≡ some o) × PipeIn caps rows p o (untouched, [])

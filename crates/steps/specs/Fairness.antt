@@ -1,14 +1,17 @@
 -- What each line of the journal asks for, beside that its history is legal: who may change a pipe, who is moved to Ready, when a cell goes on to its next request, and what stands in its notes.
-use Rattle.std.specs.Prelude.{◌≡◌, ℕ, ◌+◌, ◌*◌, ◌%◌, ◌<◌, Bool, true, false, ℤ, List, [], ◌∷◌, Some, None}
+use Rattle.std.specs.Prelude.{◌≡◌, ◌⊎◌, ℕ, ◌+◌, ◌*◌, ◌%◌, ◌<◌, Bool, true, false, ℤ, List, [], ◌∷◌, Some, None}
 use Rattle.entry.specs.Entry.{Entry, fails}
 use Rattle.history.specs.declared.req.Req.{Req}
 use Rattle.history.specs.declared.event.Event.{Event}
 use Rattle.history.specs.declared.event.Event.TheVariants.{Submit, Park, Reply, Reap}
 use Rattle.history.specs.History.{Cause, Phase, unborn, waits, replied, reaped, Submission, submission, phase, reply, hit, nothing}
 use Rattle.history.specs.Chains.{placed, Open, is_timer, is_timeout, IsPlaced, IsChainDone}
-use Rattle.history.specs.Answers.{is_pipe}
-use Rattle.history.specs.Users.{uses_at_in}
+use Rattle.history.specs.Answers.{OpAnswers, is_pipe}
+use Rattle.history.specs.Users.{uses_at, uses_at_in}
+use Rattle.history.specs.Pipes.{flow}
 use Rattle.history.specs.Legal.{IsOf, count_of}
+use Rattle.steps.specs.declared.line.Laid.{Laid}
+use Rattle.steps.specs.declared.line.Laid.TheVariants.{NoRequest}
 use Rattle.steps.specs.declared.line.Line.{Line}
 use Rattle.steps.specs.declared.line.Line.TheVariants.{Did, Freed, Lent, Noted, Hold, Free}
 use Rattle.steps.specs.declared.view.Layout.{Layout}
@@ -62,7 +65,21 @@ IsFactsNote K j r word value unborn = (x : ℕ) × (g : ℕ) × (n : ℕ) × IsI
 IsFactsNote K j r word value (replied c res) = (x : ℕ) × (g : ℕ) × (e : Entry) × IsIn K r x g × (g < 16777216) × (word ≡ facts_at x) × IsPlaced (events_of j) r e × (value ≡ outcome_of (noted j (facts_at x)) (fails e res))
 IsFactsNote K j r word value _ = ⊥
 
--- only who has a pipe of the board changes it or gives it back, and nobody takes it from him; only what waits, is open and is a worker's to run is moved to Ready, and once; a cell goes on only when it is free, and its notes go on with it; a request is reaped by who has its slot; a cancel that took a request, or found one running, is not put back
+-- the request has no answer, and its entry names the pipe p
+abbrev pub HasNone : List ℕ → List Event → Req → ℕ → Type 0
+HasNone caps h r p = (e : Entry) × IsPlaced h r e × (uses_at e.op p ≡ true) × ((res : ℤ) (data' : List ℕ) → ¬ OpAnswers caps h r e.op res data')
+
+-- at some moment it had none, and since then the pipe p is as it was
+abbrev pub HasWaited : List ℕ → Req → ℕ → List Event → Type 0
+HasWaited caps r p [] = ⊥
+HasWaited caps r p (e ∷ h) = HasNone caps (e ∷ h) r p ⊎ ((flow (e ∷ h) p ≡ flow h p) × HasWaited caps r p h)
+
+-- what may be laid down with the pipe p, as its worker gives it back
+abbrev pub MayLay : List ℕ → List Event → Req → ℕ → Laid → Type 0
+MayLay caps h r p NoRequest = Unit {0}
+MayLay caps h r p _ = HasWaited caps r p h
+
+-- only who has a pipe of the board changes it or gives it back, and nobody takes it from him; with it a request is laid down that waits for it; only what waits, is open and is a worker's to run is moved to Ready, and once; a cell goes on only when it is free, and its notes go on with it; a request is reaped by who has its slot; a cancel that took a request, or found one running, is not put back
 abbrev pub Fair : Layout → List Line → Line → Type 0
 Fair L j (Did (Submit r e bytes last)) = IsFree L.cells (events_of j) r × AreNoted L.cells j r e bytes last
 Fair L j (Did (Reply r res data')) = (p : ℕ) → is_pipe L.caps p ≡ true → uses_at_in (placed (events_of j) r) p ≡ true → holder j p ≡ Some r
@@ -72,7 +89,7 @@ Fair L j (Freed r) = (phase (events_of j) r ≡ waits) × Open (events_of j) r �
 Fair L j (Lent r word value) = IsFactsNote L.cells j r word value (phase (events_of j) r)
 Fair L j (Noted r word value) = (x : ℕ) × (g : ℕ) × (i : ℕ) × IsIn L.cells r x g × ((0 < i) × (i < 3)) × (word ≡ note_at x i) × (phase (events_of j) r ≡ unborn) × IsFree L.cells (events_of j) r
 Fair L j (Hold r p) = holder j p ≡ None
-Fair L j (Free r p) = holder j p ≡ Some r
+Fair L j (Free r p laid) = (holder j p ≡ Some r) × MayLay L.caps (events_of j) r p laid
 Fair L j _ = Unit {0}
 
 abbrev pub Orderly : Layout → List Line → Type 0

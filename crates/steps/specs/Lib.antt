@@ -4,4 +4,5 @@ pub mod Journal
 pub mod Notes
 pub mod Plays
 pub mod Rule
+pub mod Sleepers
 pub mod FactsTold

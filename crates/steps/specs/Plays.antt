@@ -10,20 +10,22 @@ use Rattle.history.specs.declared.req.Req.{Req}
 use Rattle.history.specs.declared.event.Event.TheVariants.{Submit, Begin, Park, Reply, Take, Miss, Tick, Arm, Expire, Count, Fire, FireMiss, Settle, Sever, Reap}
 use Rattle.history.specs.History.{Cause, phase, replied, data_of, submission}
 use Rattle.history.specs.Chains.{IsPlaced}
-use Rattle.history.specs.Pipes.{contents, flow, flows_as}
+use Rattle.history.specs.Pipes.{Flow, contents, flow, flows_as}
 use Rattle.history.specs.Answers.{OpAnswers, is_pipe}
 use Rattle.history.specs.Users.{uses_at}
-use Rattle.pipe.specs.Pipe.{Conduit}
+use Rattle.steps.specs.declared.line.Laid.{Laid}
 use Rattle.steps.specs.declared.line.Line.{Line}
 use Rattle.steps.specs.declared.line.Line.TheVariants.{Did, Freed, Lent, Noted, Hold, Free}
 use Rattle.steps.specs.declared.parcel.Parcel.{Parcel}
+use Rattle.steps.specs.declared.parcel.WaitedPipe.{WaitedPipe}
 use Rattle.steps.specs.declared.parcel.Thing.{Thing}
 use Rattle.steps.specs.declared.parcel.Thing.TheVariants.{Full, Piped}
+use Rattle.steps.specs.declared.view.Layout.{Layout}
 use Rattle.steps.specs.declared.view.Role.{Role}
 use Rattle.steps.specs.declared.view.Role.TheVariants.{Submitter, Lending, Idle, Busy, Leaving, Parting}
 use Rattle.steps.specs.declared.view.View.{View}
-use Rattle.steps.specs.Journal.{events_of, noted, holder}
-use Rattle.steps.specs.Cells.{IsCell, request_at, word_of, claim_at, note_at, facts_at, pipe_at, slot_at, reply_bits, IsParcel, PipeIs}
+use Rattle.steps.specs.Journal.{events_of, noted, holder, lays, lying}
+use Rattle.steps.specs.Cells.{IsCell, request_at, word_of, claim_at, note_at, facts_at, pipe_at, slot_at, reply_bits, IsParcel, stands, PipeIs}
 use Rattle.steps.specs.Rule.{Looks, Extends, Shown, Vacant, IsStep, leaves, leaves_one}
 
 abbrev pub Seated : Type 0
@@ -150,17 +152,25 @@ HasAlone j p q = (holder j p ≡ Some q) × ((n : ℕ) → n ≢ p → holder j 
 abbrev pub HasBoth : List Line → ℕ → ℕ → Req → Type 0
 HasBoth j p n q = (p ≢ n) × (holder j p ≡ Some q) × (holder j n ≡ Some q) × ((m : ℕ) → m ≢ p → m ≢ n → holder j m ≢ Some q)
 
--- by what was seen the pipe is what it was
+-- by what was seen the pipe is what it was, and those lie there that did
 abbrev pub IsSamePipe : View → View → ℕ → Type 0
-IsSamePipe v w p = flow (events_of w.seen) p ≡ flow (events_of v.seen) p
+IsSamePipe v w p = stands w.seen p ≡ stands v.seen p
 
--- the pipe lies in the seat's hand, as what it has seen tells
+-- the pipe is in this hand, above those, and is this
+abbrev pub HasPipeAs : Layout → List (ℕ × Option Thing) → ℕ → List (ℕ × Option Thing) → Flow × List Req → Type 0
+HasPipeAs L hand p others w = (c : WaitedPipe) × (hand ≡ (p, Some (Piped c)) ∷ others) × PipeIs L p (Some (Piped c)) w
+
+-- the pipe is in the seat's hand, as what it has seen tells
 abbrev pub HasPipe : Seated → ℕ → List (ℕ × Option Thing) → Type 0
-HasPipe m p others = (c : Conduit) × (m.1 ≡ (p, Some (Piped c)) ∷ others) × PipeIs m.0.layout.caps p (Some (Piped c)) (flow (events_of m.0.seen) p)
+HasPipe m p others = HasPipeAs m.0.layout m.1 p others (stands m.0.seen p)
 
--- the same, as the reply res to q, placed as e, will make it
+-- the same with what the worker of q lays down there
+abbrev pub HasPipeLaid : Seated → ℕ → Req → Laid → Type 0
+HasPipeLaid m p q laid = HasPipeAs m.0.layout m.1 p (rest m.1) (flow (events_of m.0.seen) p, lays laid q (lying m.0.seen p))
+
+-- the same, as the reply res to q, placed as e, will make it: nobody lies there
 abbrev pub HasPipeAfter : Seated → ℕ → Req → Entry → ℤ → Type 0
-HasPipeAfter m p q e res = (c : Conduit) × (rest m.1 ≡ (p, Some (Piped c)) ∷ rest (rest m.1)) × PipeIs m.0.layout.caps p (Some (Piped c)) (flows_as (Some e) (submission (events_of m.0.seen) q) (contents (events_of m.0.seen)) res p (flow (events_of m.0.seen) p))
+HasPipeAfter m p q e res = HasPipeAs m.0.layout (rest m.1) p (rest (rest m.1)) (flows_as (Some e) (submission (events_of m.0.seen) q) (contents (events_of m.0.seen)) res p (flow (events_of m.0.seen) p), [])
 
 -- the same of two pipes, of which n lies under p
 abbrev pub HasPipesAfter : Seated → ℕ → ℕ → Req → Entry → ℤ → Type 0
@@ -180,9 +190,9 @@ pipe_taken st m n m' =
     (n ≡ st.first → (p : ℕ) (q : Req) → st.word ≡ pipe_at p → p < length m.0.layout.caps → m.0.role ≡ Busy q → Extends m.0 (Hold q p) m.0.role m'.0 × HasPipe m' p m.1)
     × (n ≢ st.first → Looks m.0 m'.0 × (m'.1 ≡ m.1) × ((p : ℕ) → st.word ≡ pipe_at p → (o : Req) × (holder m'.0.seen p ≡ Some o))) × IsStep st.word n m.0 m'.0
 
--- of a store at a pipe's word by a worker that has the pipe and has not replied: it is given back
-abbrev pub pipe_returned : At → Seated → ℕ → Seated → Type 0
-pipe_returned st m n m' = (p : ℕ) (q : Req) → st.word ≡ pipe_at p → m.0.role ≡ Busy q → holder m.0.seen p ≡ Some q → Extends m.0 (Free q p) m.0.role m'.0 × (m'.1 ≡ rest m.1) × ((found : ℕ) × IsStep st.word found m.0 m'.0)
+-- of a store at a pipe's word by a worker that has the pipe and has not replied: it is given back, with its request or without
+abbrev pub pipe_returned : Laid → At → Seated → ℕ → Seated → Type 0
+pipe_returned laid st m n m' = (p : ℕ) (q : Req) → st.word ≡ pipe_at p → m.0.role ≡ Busy q → holder m.0.seen p ≡ Some q → Extends m.0 (Free q p laid) m.0.role m'.0 × (m'.1 ≡ rest m.1) × ((found : ℕ) × IsStep st.word found m.0 m'.0)
 
 -- the same by a worker that has replied: it saw no more than its reply
 abbrev pub pipe_left : At → Seated → ℕ → Seated → Type 0

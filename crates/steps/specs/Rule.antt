@@ -48,7 +48,7 @@ owner (Freed r) = pollers
 owner (Lent r word value) = rings r.ring
 owner (Noted r word value) = rings r.ring
 owner (Hold r p) = holders r p
-owner (Free r p) = holders r p
+owner (Free r p laid) = holders r p
 
 -- from the ring n on the poller stands in for the submitters
 abbrev pub stands_for : Role → Owner → Bool
@@ -174,7 +174,7 @@ pub record Ruled (L : Layout) (s : State (Option Thing) View) : Type 0 where
   pub cells : (x : ℕ) → IsCell L.cells x → CellOk L.cells past x (slice_index s.words (claim_at x)) (get_elem? s.homes (slot_at x))
   pub notes : (x i : ℕ) → IsCell L.cells x → i < 7 → slice_index s.words (note_at x i) ≡ noted past (note_at x i)
   pub clock : slice_index s.words 0 ≡ clock_of (events_of past)
-  pub pipes : (p : ℕ) → p < 64 → PipeOk L.caps past p (slice_index s.words (pipe_at p)) (get_elem? s.homes p)
+  pub pipes : (p : ℕ) → p < 64 → PipeOk L past p (slice_index s.words (pipe_at p)) (get_elem? s.homes p)
   pub seats : (i : ℕ) (v : View) → get_elem? s.views i ≡ some v → SeatOk L past v
   pub roles : (i l : ℕ) (v w : View) → get_elem? s.views i ≡ some v → get_elem? s.views l ≡ some w → ¬ (i ≡ l) → apart v.role w.role ≡ true
   pub gone : (i l : ℕ) (v w : View) → get_elem? s.views i ≡ some v → get_elem? s.views l ≡ some w → (x : Heard) → IsHeard x v.heard → IsGone x.role w.role

@@ -115,7 +115,7 @@ pub(crate) fn settled(generation: u32, in_time: bool) -> u64
 }
 
 /// Where a request stands for one that would end it before it runs.
-#[derive(Clone, Copy, PartialEq, Eq, Debug)]
+#[derive(Clone, Copy)]
 pub enum Standing {
     /// It waits or is armed.
     Idle,

@@ -17,7 +17,7 @@ pub mod timers;
 pub mod view;
 
 pub use law::{About, Law};
-pub use line::Line;
-pub use parcel::{Parcel, Thing};
+pub use line::{Laid, Line};
+pub use parcel::{Parcel, Thing, WaitedPipe};
 pub use table::{BoardTable, TableSeat, Words};
 pub use view::{Layout, Role, Step, View};

@@ -1,6 +1,17 @@
 //! What the journal of the table is made of.
 use history::{Event, Req};
 
+/// Which request a worker laid down with the pipe that it gave back.
+#[derive(Clone, Copy)]
+pub enum Laid {
+    /// None: those that lie there stay.
+    NoRequest,
+    /// Its own, behind those that lie there.
+    Behind,
+    /// Its own alone: there was no place, and all that lay there went out with the worker.
+    Alone,
+}
+
 /// A line of the journal: an event, or what else a seat did that others can tell. No value of it is made.
 pub enum Line {
     /// An event of the history.
@@ -14,6 +25,6 @@ pub enum Line {
     Noted { req: Req, word: u64, value: u64 },
     /// The worker of the request took the pipe.
     Hold { req: Req, pipe: u64 },
-    /// The worker of the request gave the pipe back.
-    Free { req: Req, pipe: u64 },
+    /// The worker of the request gave the pipe back, and may have laid its request down there.
+    Free { req: Req, pipe: u64, laid: Laid },
 }

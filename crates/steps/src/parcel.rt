@@ -1,10 +1,11 @@
 //! What lies in a slot of the table.
 ghost use Rattle.std.specs.Prelude.{◌≡◌, Some};
 ghost use Rattle.steps.specs.declared.parcel.Parcel.{Parcel};
-ghost use Rattle.pipe.specs.Pipe.{Conduit};
+ghost use Rattle.steps.specs.declared.parcel.WaitedPipe.{WaitedPipe};
 ghost use Rattle.steps.specs.declared.parcel.Thing.TheVariants.{Full, Piped};
 
 use entry::Sqe;
+use history::Req;
 use pipe::Pipe;
 
 /// A request as it was handed in: its entry, its buffer, and whether it ends its batch. Once a READ was answered, its
@@ -16,11 +17,19 @@ pub struct Parcel {
     pub last: bool,
 }
 
-/// What a slot has: the slot of a cell a request, the slot of a pipe the pipe.
+/// A pipe with its wait queue: the requests that found no answer there, the one that was laid down last at the end. There
+/// is a place for each cell of the board.
+#[derive(Drop)]
+pub struct WaitedPipe {
+    pub pipe: Pipe,
+    pub lying: Vec<Req>,
+}
+
+/// What a slot has: the slot of a cell a request, the slot of a pipe the pipe and who waits for it.
 #[derive(Drop)]
 pub enum Thing {
     Full(Parcel),
-    Piped(Pipe),
+    Piped(WaitedPipe),
 }
 
 /// What a slot with a request has.
@@ -36,8 +45,8 @@ pub fn parcel_of(thing: Option<Thing>) -> Parcel
 }
 
 /// The pipe that a slot has.
-pub fn pipe_of(thing: Option<Thing>) -> Pipe
-    requires piped { (c : Conduit) × (thing ≡ Some (Piped c)) }
+pub fn pipe_of(thing: Option<Thing>) -> WaitedPipe
+    requires piped { (c : WaitedPipe) × (thing ≡ Some (Piped c)) }
     ensures is { thing ≡ Some (Piped result) }
 {
     let Some(thing) = thing else { unreachable!() };

@@ -1,4 +1,5 @@
-//! The steps of a worker on its pipes: it takes one, or two of them, and gives them back, or replies and then gives them back.
+//! The steps of a worker on its pipes: it takes one, or two of them, and gives them back, with its request or without, or replies and
+//! then gives them back.
 ghost use Rattle.std.specs.Prelude.{◌≡◌, ◌≢◌, ℕ, ◌+◌, ◌<◌, true, List, length, Some};
 ghost use Rattle.atomic_table.specs.Table.{rest};
 ghost use Rattle.claim.specs.declared.tag.Tag.TheVariants.{Running};
@@ -8,12 +9,14 @@ ghost use Rattle.history.specs.declared.req.Req.{Req};
 ghost use Rattle.steps.specs.declared.line.Line.TheVariants.{Did, Hold, Free};
 ghost use Rattle.steps.specs.declared.view.Role.TheVariants.{Idle, Busy, Leaving, Parting};
 ghost use Rattle.steps.specs.declared.view.View.{View};
-ghost use Rattle.steps.specs.Journal.{holder};
+ghost use Rattle.steps.specs.Fairness.{HasWaited, MayLay};
+ghost use Rattle.steps.specs.Journal.{events_of, holder};
 ghost use Rattle.steps.specs.Cells.{request_at, claim_at, pipe_at, word_of};
 ghost use Rattle.steps.specs.Rule.{Looks, Extends, IsStep, IsTwoSteps, IsThreeSteps, Fits, IsSameSeat, leaves, leaves_one};
-ghost use Rattle.steps.specs.Plays.{HasAlone, HasBoth, HasPipe, HasPipeAfter, HasPipesAfter, IsSamePipe, MayReply, FitsPipe};
+ghost use Rattle.steps.specs.Plays.{HasAlone, HasBoth, HasPipe, HasPipeLaid, HasPipeAfter, HasPipesAfter, IsSamePipe, MayReply, FitsPipe};
 
 use crate::layout::{claim_word, pipe_word};
+use crate::line::Laid;
 use crate::table::{TableSeat, Words};
 use crate::{claims, plays};
 
@@ -65,40 +68,46 @@ pub fn hold_second(words: &Words, seat: &mut TableSeat, second: usize) -> bool
     take(words, seat, second)
 }
 
-/// Gives the pipe back, as it was taken, by a worker that has not replied.
-fn give_back(words: &Words, seat: &mut TableSeat, pipe: usize)
+/// Gives the pipe back, as it was taken, by a worker that has not replied. Its request lies there then, or not.
+fn give_back(words: &Words, seat: &mut TableSeat, pipe: usize, laid: Laid)
     requires fits { FitsPipe words.now.table_id seat.old pipe }
     requires busy { (q : Req) × (seat.old.me.0.role ≡ Busy q) × (holder seat.old.me.0.seen pipe ≡ Some q) }
-    requires pipe { HasPipe seat.old.me pipe (rest seat.old.me.1) }
+    requires pipe { (q : Req) → seat.old.me.0.role ≡ Busy q → HasPipeLaid seat.old.me pipe q laid × MayLay seat.old.me.0.layout.caps (events_of seat.old.me.0.seen) q pipe laid }
     ensures seat { IsSameSeat seat.old seat.new × (seat.new.me.1 ≡ rest seat.old.me.1) }
-    ensures frees { (q : Req) → seat.old.me.0.role ≡ Busy q → Extends seat.old.me.0 (Free q pipe) (Busy q) seat.new.me.0 }
+    ensures frees { (q : Req) → seat.old.me.0.role ≡ Busy q → Extends seat.old.me.0 (Free q pipe laid) (Busy q) seat.new.me.0 }
     ensures step { (found : ℕ) × IsStep (pipe_at pipe) found seat.old.me.0 seat.new.me.0 }
 {
-    words.store::<plays::Free>(seat, pipe_word(pipe), AT_HOME);
+    let word = pipe_word(pipe);
+    match laid {
+        Laid::NoRequest => words.store::<plays::Free>(seat, word, AT_HOME),
+        Laid::Behind => words.store::<plays::Lay>(seat, word, AT_HOME),
+        Laid::Alone => words.store::<plays::LayAlone>(seat, word, AT_HOME),
+    }
 }
 
-/// Gives the only pipe back, as it was taken, by a worker that has not replied.
-pub fn free(words: &Words, seat: &mut TableSeat, pipe: usize)
+/// Gives the only pipe back, as it was taken, by a worker that has not replied, and lays its request down there, or not.
+pub fn free(words: &Words, seat: &mut TableSeat, pipe: usize, laid: Laid)
     requires fits { FitsPipe words.now.table_id seat.old pipe }
     requires busy { (q : Req) × (seat.old.me.0.role ≡ Busy q) × (0 < seat.old.me.0.parts) × HasAlone seat.old.me.0.seen pipe q }
-    requires pipe { HasPipe seat.old.me pipe (rest seat.old.me.1) }
+    requires pipe { (q : Req) → seat.old.me.0.role ≡ Busy q → HasPipeLaid seat.old.me pipe q laid × MayLay seat.old.me.0.layout.caps (events_of seat.old.me.0.seen) q pipe laid }
     ensures seat { IsSameSeat seat.old seat.new × (seat.new.me.1 ≡ rest seat.old.me.1) }
-    ensures frees { (q : Req) → seat.old.me.0.role ≡ Busy q → Extends seat.old.me.0 (Free q pipe) (Busy q) seat.new.me.0 × ((n : ℕ) → holder seat.new.me.0.seen n ≢ Some q) }
+    ensures frees { (q : Req) → seat.old.me.0.role ≡ Busy q → Extends seat.old.me.0 (Free q pipe laid) (Busy q) seat.new.me.0 × ((n : ℕ) → holder seat.new.me.0.seen n ≢ Some q) }
     ensures step { (found : ℕ) × IsStep (pipe_at pipe) found seat.old.me.0 seat.new.me.0 }
 {
-    give_back(words, seat, pipe);
+    give_back(words, seat, pipe, laid);
 }
 
-/// Gives one of two pipes back, as it was taken, by a worker that has not replied. The other one stays as it was.
-pub fn free_one(words: &Words, seat: &mut TableSeat, one: usize)
+/// Gives one of two pipes back, as it was taken, by a worker that has not replied, and lays its request down there, or not. The
+/// other one stays as it was, and what waited for it does so still.
+pub fn free_one(words: &Words, seat: &mut TableSeat, one: usize, laid: Laid)
     requires fits { FitsPipe words.now.table_id seat.old one }
     requires busy { (q : Req) × (kept : ℕ) × (seat.old.me.0.role ≡ Busy q) × (kept < length seat.old.me.0.layout.caps) × HasBoth seat.old.me.0.seen one kept q }
-    requires pipe { HasPipe seat.old.me one (rest seat.old.me.1) }
+    requires pipe { (q : Req) → seat.old.me.0.role ≡ Busy q → HasPipeLaid seat.old.me one q laid × MayLay seat.old.me.0.layout.caps (events_of seat.old.me.0.seen) q one laid }
     ensures seat { IsSameSeat seat.old seat.new × (seat.new.me.1 ≡ rest seat.old.me.1) }
-    ensures frees { (q : Req) (kept : ℕ) → seat.old.me.0.role ≡ Busy q → HasBoth seat.old.me.0.seen one kept q → Extends seat.old.me.0 (Free q one) (Busy q) seat.new.me.0 × HasAlone seat.new.me.0.seen kept q × IsSamePipe seat.old.me.0 seat.new.me.0 kept }
+    ensures frees { (q : Req) (kept : ℕ) → seat.old.me.0.role ≡ Busy q → HasBoth seat.old.me.0.seen one kept q → Extends seat.old.me.0 (Free q one laid) (Busy q) seat.new.me.0 × HasAlone seat.new.me.0.seen kept q × IsSamePipe seat.old.me.0 seat.new.me.0 kept × (HasWaited seat.old.me.0.layout.caps q kept (events_of seat.old.me.0.seen) → HasWaited seat.old.me.0.layout.caps q kept (events_of seat.new.me.0.seen)) }
     ensures step { (found : ℕ) × IsStep (pipe_at one) found seat.old.me.0 seat.new.me.0 }
 {
-    give_back(words, seat, one);
+    give_back(words, seat, one, laid);
 }
 
 /// Replies to the request that this seat runs, whose pipe it has, or whose two pipes.

@@ -1,5 +1,6 @@
 //! What each kind of step tells its seat, as the table takes it.
 ghost use Rattle.claim.specs.declared.tag.Tag.TheVariants.{Empty, Held, Ready, Running, Armed, Done};
+ghost use Rattle.steps.specs.declared.line.Laid.TheVariants.{NoRequest, Behind, Alone};
 ghost use Rattle.steps.specs.declared.view.Role.TheVariants.{Idle, Leaving};
 ghost use Rattle.steps.specs.Plays.{looked, tried, tried_idle, sure, released, severed, armed_for, expired, counted, settled, fired_at, fired_late, taken, missed, clock_set, began, submitted, replied_with, parked, reaps, noticed, opened, noted_more, emptied, pipe_taken, pipe_returned, pipe_left, pipe_left_first, pipe_left_last};
 ghost use Rattle.steps.specs.Rule.{without_next, without_one, next_submitter, idle_one, messenger, hearing, spent_view};
@@ -107,7 +108,19 @@ impl Play<Option<Thing>, View> for Hold {
 pub(crate) struct Free;
 
 impl Play<Option<Thing>, View> for Free {
-    ghost then = { pipe_returned };
+    ghost then = { pipe_returned NoRequest };
+}
+
+pub(crate) struct Lay;
+
+impl Play<Option<Thing>, View> for Lay {
+    ghost then = { pipe_returned Behind };
+}
+
+pub(crate) struct LayAlone;
+
+impl Play<Option<Thing>, View> for LayAlone {
+    ghost then = { pipe_returned Alone };
 }
 
 pub(crate) struct Leave;

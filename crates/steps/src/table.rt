@@ -1,5 +1,5 @@
 //! The table, from its making to its end, and how seats are cut and joined.
-ghost use Rattle.std.specs.Prelude.{◌≡◌, ◌≢◌, ℕ, ◌+◌, ◌*◌, ◌<◌, ◌≤◌, false, [], IfOk, length, slice_index};
+ghost use Rattle.std.specs.Prelude.{◌≡◌, ◌≢◌, ℕ, ◌+◌, ◌*◌, ◌<◌, ◌≤◌, false, [], IfOk, length, slice_index, vec_capacity};
 ghost use Rattle.std.specs.Mem.Slots.{slots_items, slots_len, IsFull};
 ghost use Rattle.history.specs.declared.req.Req.{Req};
 ghost use Rattle.steps.specs.declared.view.Role.TheVariants.{Poller, Lending, Spent};
@@ -9,7 +9,7 @@ ghost use Rattle.steps.specs.Rule.{stands_for, workers, IsSameSeat, Ended, openi
 
 use crate::law::{About, Law};
 use crate::layout::{PIPES, words_of};
-use crate::parcel::Thing;
+use crate::parcel::{Thing, WaitedPipe};
 use crate::plays::{CutMessenger, CutSubmitter, CutWorker, Hear};
 use crate::view::View;
 use atomic_table::{Closed, Seat, Shared, Table};
@@ -26,8 +26,8 @@ pub type Words = Shared<Option<Thing>, View, About, Law>;
 /// A seat of the table.
 pub type TableSeat = Seat<Option<Thing>, View>;
 
-/// The slots of a new table: a pipe for each capacity, nothing in the slots of the other pipes, and nothing in those of
-/// the cells.
+/// The slots of a new table: a pipe for each capacity, with room for whom it keeps waiting, nothing in the slots of the other
+/// pipes, and nothing in those of the cells.
 fn new_slots(alloc: Global, caps: &[u32], rows: usize) -> Result<Vec<Option<Thing>>, AllocError>
     requires room { (length caps.now ≤ 64) × (rows ≤ 16384) }
     requires caps { (p : ℕ) → p < length caps.now → IsCapacity (slice_index caps.now p) }
@@ -36,7 +36,7 @@ fn new_slots(alloc: Global, caps: &[u32], rows: usize) -> Result<Vec<Option<Thin
     let mut slots = Vec::new(alloc);
     for p in 0..PIPES {
         let pipe = match caps.get(p) {
-            Some(cap) => Some(Thing::Piped(new_pipe(alloc, *cap)?)),
+            Some(cap) => Some(Thing::Piped(new_pipe(alloc, *cap, rows)?)),
             None => None,
         };
         slots.push(pipe)?;
@@ -47,16 +47,19 @@ fn new_slots(alloc: Global, caps: &[u32], rows: usize) -> Result<Vec<Option<Thin
     Ok(slots)
 }
 
-/// An empty pipe of this capacity.
-fn new_pipe(alloc: Global, cap: u32) -> Result<Pipe, AllocError>
-    requires { IsCapacity cap }
-    ensures { IfOk result (λ p. p ≡ new_conduit cap) }
+/// An empty pipe of this capacity, for which nobody waits, with room for so many that will.
+fn new_pipe(alloc: Global, cap: u32, rows: usize) -> Result<WaitedPipe, AllocError>
+    requires cap { IsCapacity cap }
+    requires rows { rows ≤ 16384 }
+    ensures { IfOk result (λ w. (w.pipe ≡ new_conduit cap) × (w.lying.items ≡ []) × (vec_capacity w.lying ≡ rows)) }
 {
-    match Pipe::new(alloc, cap) {
-        Ok(pipe) => Ok(pipe),
-        Err(PipeError::Memory) => Err(AllocError),
+    let pipe = match Pipe::new(alloc, cap) {
+        Ok(pipe) => pipe,
+        Err(PipeError::Memory) => return Err(AllocError),
         Err(PipeError::BadCapacity) => unreachable!(),
-    }
+    };
+    let lying = Vec::with_capacity(alloc, rows)?;
+    Ok(WaitedPipe { pipe, lying })
 }
 
 /// A table for rings with these numbers of cells, `rows` in all, and pipes of these capacities. The seat is the poller's,

@@ -5,8 +5,6 @@ pub mod fault;
 pub mod input;
 pub mod output;
 pub mod stream;
-#[cfg(test)]
-mod tests;
 
 pub use fault::{InputFault, OutputFault};
 pub use input::read_all;

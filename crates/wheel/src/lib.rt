@@ -7,8 +7,6 @@ pub mod looks;
 pub mod set;
 mod slots;
 pub mod sorted;
-#[cfg(test)]
-mod tests;
 pub mod timers;
 
 pub use calls::{Answer, Call, run};

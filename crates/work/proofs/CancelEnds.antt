@@ -76,9 +76,9 @@ went_more v n w r events q d = ⊎_elim (λ (e : w ≡ n). subst (λ (z : View).
 went_bare : (v w : View) (r : Req) (n : ℕ) → v.role ≡ Busy r → WentOn v w → holder v.seen n ≢ Some r → holder w.seen n ≢ Some r
 went_bare v w r n busy d bare = ⊎_elim (λ (e : w ≡ v). subst (λ (z : View). holder z.seen n ≢ Some r) (sym e) bare) (λ (x : Looks v w). lacks_after v w r n busy bare x) d
 
-went_of : (b : Facts) (p q : Pass) → IsOf b p → q.table ≡ p.table → q.took ≡ p.took → WentOn p.view q.view → IsOf b q
+went_of : (b : Facts) (p q : Pass) → IsOf b p → q.table ≡ p.table → (q.took ≡ p.took) × (q.woken ≡ p.woken) → WentOn p.view q.view → IsOf b q
 went_of b p q o same' lists d = ⊎_elim
-    (λ (e : q.view ≡ p.view). let one : q ≡ p = (λ i. record { table = same' i; view = e i; took = lists i }) in subst (IsOf b) (sym one) o)
+    (λ (e : q.view ≡ p.view). let one : q ≡ p = (λ i. record { table = same' i; view = e i; took = lists.0 i; woken = lists.1 i }) in subst (IsOf b) (sym one) o)
     (λ (x : Looks p.view q.view). looked_of b p q o same' x) d
 
 went_runs : (table : TableId) (v w : View) (x g : ℕ) (r : Req) (p : Parcel) (pipes : ℕ) → RunsIt table v x g r p pipes → WentOn v w → RunsIt table w x g r p pipes
@@ -111,11 +111,11 @@ module _ (r : Req) where
       went_bare d.1 w r n (role_after d.0 d.1 (Did e) (Busy r) d.3) d.4 (event_bare d.0 d.1 r n e role d.3 (by_bare v d.0 own n busy d.2 bare))
 
   -- the pass stays the board's
-  pub by_of : (b : Facts) (table : TableId) (v w : View) (own : List Event) → v.role ≡ Busy r → WentBy v w r own → IsOf b (record { table = table; view = v; took = [] }) → IsOf b (record { table = table; view = w; took = [] })
-  by_of b table v w [] busy d o = went_of b (record { table = table; view = v; took = [] }) (record { table = table; view = w; took = [] }) o refl refl d
+  pub by_of : (b : Facts) (table : TableId) (v w : View) (own : List Event) → v.role ≡ Busy r → WentBy v w r own → IsOf b (record { table = table; view = v; took = []; woken = [] }) → IsOf b (record { table = table; view = w; took = []; woken = [] })
+  by_of b table v w [] busy d o = went_of b (record { table = table; view = v; took = []; woken = [] }) (record { table = table; view = w; took = []; woken = [] }) o refl (refl, refl) d
   by_of b table v w (e ∷ own) busy d o =
-      let m : Pass = record { table = table; view = d.0; took = [] } in let n : Pass = record { table = table; view = d.1; took = [] } in
-      went_of b n (record { table = table; view = w; took = [] }) (worker_on b m n r (by_of b table v d.0 own busy d.2 o) refl (by_role r v d.0 own busy d.2) (Did e) d.3) refl refl d.4
+      let m : Pass = record { table = table; view = d.0; took = []; woken = [] } in let n : Pass = record { table = table; view = d.1; took = []; woken = [] } in
+      went_of b n (record { table = table; view = w; took = []; woken = [] }) (worker_on b m n r (by_of b table v d.0 own busy d.2 o) refl (by_role r v d.0 own busy d.2) (Did e) d.3) refl (refl, refl) d.4
 
   -- what it did before it replied
   pub by_events : (v w : View) (own : List Event) (k : ℕ) → v.role ≡ Busy r → AreHits r k own → WentBy v w r own → Went v w r own

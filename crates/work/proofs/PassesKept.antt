@@ -12,6 +12,8 @@ use Rattle.steps.specs.Fairness.{Orderly}
 use Rattle.steps.specs.Journal.{events_of}
 use Rattle.steps.specs.Cells.{setup_of}
 use Rattle.steps.specs.Rule.{AllBegin, AreMade, NoneOf, Looks, Extends, IsStep, seeing}
+use Rattle.steps.specs.Sleepers.{NoneSleeps}
+use Rattle.steps.proofs.Sleepers.{none_sleeps}
 use Rattle.work.specs.Board.{Facts, IsOf, share_of}
 use Rattle.work.specs.Passes.{Pass, Took}
 
@@ -40,6 +42,10 @@ extended_of b p q l role o same t x =
       looked = ap (λ (z : View). z.heard) x.is;
       made = subst (λ (z : View). AreMade z.seen z.steps) (sym x.is) x.made;
     }
+
+-- by what a pass of a board has seen, none sleeps at a pipe that could answer it
+pub awake_of : (b : Facts) (p : Pass) → IsOf b p → NoneSleeps b.layout p.view.seen
+awake_of b p o = none_sleeps b.layout p.view.seen o.legal o.orderly
 
 -- one step, with nothing before it
 pub took_one : (v m w u : View) (word n : ℕ) → m ≡ v → IsStep word n m w → u ≡ w → Took v u 1

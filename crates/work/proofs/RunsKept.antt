@@ -1,5 +1,5 @@
 -- What the single steps of a run come to: which events the pass went on by, how many steps it took, and whose pass it stays.
-use Rattle.std.proofs.Common.{◌≡◌, ℕ, suc, ◌+◌, ◌<◌, ◌≤◌, ◌&&◌, not, cond, Bool, true, false, ℤ, List, [], ◌∷◌, ◌++◌, length, slice_index, Option, Some, None, sym, refl, ap, ◌∙◌, subst, ⊎_elim, true≢false, ltb-true, eq-eqb, length-append, arith}
+use Rattle.std.proofs.Common.{◌≡◌, ℕ, suc, ◌+◌, ◌<◌, ◌≤◌, ◌&&◌, not, cond, Bool, true, false, ℤ, List, [], ◌∷◌, ◌++◌, length, slice_index, Option, Some, None, sym, refl, ap, ◌∙◌, subst, ⊎_elim, true≢false, ltb-true, eq-eqb, length-append, arith, vec_capacity}
 use Rattle.std.proofs.lemmas.Bool.{cases_eq}
 use Rattle.std.proofs.lemmas.List.{append_assoc}
 use Rattle.atomic_table.specs.Table.{rest, turned}
@@ -27,6 +27,7 @@ use Rattle.steps.specs.declared.line.Line.TheVariants.{Did, Hold}
 use Rattle.steps.specs.declared.parcel.Parcel.{Parcel}
 use Rattle.steps.specs.declared.parcel.Thing.{Thing}
 use Rattle.steps.specs.declared.parcel.Thing.TheVariants.{Full, Piped}
+use Rattle.steps.specs.declared.parcel.WaitedPipe.{WaitedPipe}
 use Rattle.steps.specs.declared.view.Layout.{Layout}
 use Rattle.steps.specs.declared.view.Role.{Role}
 use Rattle.steps.specs.declared.view.Role.TheVariants.{Idle, Busy, Leaving}
@@ -34,7 +35,7 @@ use Rattle.steps.specs.declared.view.Step.{Step}
 use Rattle.steps.specs.declared.view.View.{View}
 use Rattle.steps.specs.Fairness.{Orderly}
 use Rattle.steps.specs.Journal.{event_of, events_of, holder}
-use Rattle.steps.specs.Cells.{setup_of, IsCell, request_at, claim_at, pipe_at, slot_at, over, IsParcel, PipeIs}
+use Rattle.steps.specs.Cells.{setup_of, IsCell, request_at, claim_at, pipe_at, slot_at, over, total, IsParcel, PipeIs}
 use Rattle.steps.specs.Plays.{Seated, HasBoth, MayReply, IsSamePipe}
 use Rattle.steps.specs.Rule.{AreMade, NoneOf, owns, Begins, Looks, Extends, IsStep, leaves, leaves_one}
 use Rattle.steps.proofs.JournalGrowth.{lasts, placed_lasts, submission_lasts, submitted_in}
@@ -43,9 +44,10 @@ use Rattle.steps.proofs.OwnFacts.{same_hit}
 use Rattle.steps.proofs.Submissions.{fits_is}
 use Rattle.steps.proofs.ViewsKept.{layout_after, role_after, parts_after, parcel_after}
 use Rattle.work.specs.Board.{Facts, IsOf, share_of}
-use Rattle.work.specs.Passes.{Pass, Running, Took, HasRoom, RunsIt, IsGridOf, own_of}
+use Rattle.work.specs.Passes.{Pass, Running, Took, HasRooms, RunsIt, IsGridOf, own_of}
 use Rattle.work.specs.Searches.{wanted_in}
 use Rattle.work.specs.declared.cancel.Wanted.{Wanted}
+use Rattle.work.specs.declared.lists.Lists.{Lists}
 use Rattle.work.specs.declared.run.Ran.{Ran}
 use Rattle.work.specs.WorkerRuns.{AreFew, DidReply, EndsBy, FoundOut, HasStepped, MissedPipe, StepsAt, StepsBy, op_run, run_as}
 use Rattle.work.proofs.OwnEvents.{own_append, silent_line}
@@ -164,7 +166,7 @@ module _ (b : Facts) (p q : Pass) (r : Req) (o : IsOf b p) (same : q.table ≡ p
 -- also once it has replied and has given its pipes back
 worker_gone : (b : Facts) (p q : Pass) (r : Req) (mid : View) (l : Line) → IsOf b p → q.table ≡ p.table → p.view.role ≡ Busy r → Extends p.view l (Leaving r) mid → q.view.role ≡ Idle → q.view.layout ≡ mid.layout → q.view.parts ≡ mid.parts → q.view.seen ≡ mid.seen → q.view.heard ≡ mid.heard → (AreMade mid.seen mid.steps → AreMade q.view.seen q.view.steps) → IsOf b q
 worker_gone b p q r mid l o same busy x idle layout parts seen heard made =
-    let m : Pass = record { table = p.table; view = mid; took = [] } in let k = extended_of b p m l (Leaving r) o (ap (share_of b) (sym busy)) refl x in record {
+    let m : Pass = record { table = p.table; view = mid; took = []; woken = [] } in let k = extended_of b p m l (Leaving r) o (ap (share_of b) (sym busy)) refl x in record {
       table_is = same ∙ o.table_is;
       layout_is = layout ∙ k.layout_is;
       share_is = parts ∙ (k.share_is ∙ (ap (share_of b) (ap (λ (z : View). z.role) x.is) ∙ ap (share_of b) (sym idle)));
@@ -319,9 +321,9 @@ module _ (v w : View) (r : Req) (busy : v.role ≡ Busy r) where
 pub grid_on : (table : TableId) (K : List ℕ) (v w : View) → w.layout ≡ v.layout → IsGridOf table K v → IsGridOf table K w
 grid_on table K v w same o = record { cells_are = ap (λ (L : Layout). L.cells) same ∙ o.cells_are; wide = o.wide }
 
--- and so does the room of its list
-pub room_on : (table : TableId) (K : List ℕ) (v w : View) (room : ℕ) → IsGridOf table K v → w.layout ≡ v.layout → HasRoom K room → HasRoom w.layout.cells room
-room_on table K v w room grid same spare = subst (λ (L : List ℕ). HasRoom L room) (sym (ap (λ (L : Layout). L.cells) same ∙ grid.cells_are)) spare
+-- and so does the room of its lists
+pub room_on : (table : TableId) (K : List ℕ) (v w : View) (lists : Lists) → IsGridOf table K v → w.layout ≡ v.layout → HasRooms K lists → HasRooms w.layout.cells lists
+room_on table K v w lists grid same spare = subst (λ (L : List ℕ). HasRooms L lists) (sym (ap (λ (L : Layout). L.cells) same ∙ grid.cells_are)) spare
 
 -- ---- which pipe an operation names
 
@@ -337,6 +339,12 @@ plain_run (Timeout ticks etime_success count) t w = absurd (true≢false t)
 plain_run (LinkTimeout ticks) t w = absurd (true≢false t)
 plain_run (AsyncCancel u all) t w = absurd (let z = w in cc)
 plain_run (TimeoutRemove u) t w = absurd (let z = w in cc)
+
+-- a cancel names none
+pub wanted_bare : (op : Op) (u : Wanted) (n : ℕ) → wanted_in op ≡ Some u → UsesNone op n
+wanted_bare (AsyncCancel u all) w n is = λ q lt. refl
+wanted_bare (TimeoutRemove u) w n is = λ q lt. refl
+wanted_bare op w n is = absurd (let z = is in cc)
 
 -- what is placed is a cancel where what was handed in is one, and names no pipe then
 pub wanted_run : (op : Op) → wanted_in (op_run op) ≡ wanted_in op
@@ -368,6 +376,14 @@ has_both caps j op r s t joins first second n lt u = ⊎_elim
     (λ (e : n ≡ s). subst (λ (z : ℕ). holder j z ≡ Some r) (sym e) first)
     (λ (e : n ≡ t). subst (λ (z : ℕ). holder j z ≡ Some r) (sym e) second) (only_joined op s t n joins u)
 
+-- the pipe in hand, with those that lie there
+pub piped_in : (L : Layout) (n : ℕ) (c : WaitedPipe) (w : Flow) (rs : List Req) → IsPipe (slice_index L.caps n) c.pipe w → (c.lying.items ≡ rs) × (vec_capacity c.lying ≡ total L.cells) → PipeIs L n (Some (Piped c)) (w, rs)
+piped_in L n c w rs is lies = (is.cap_is, is.content_is, is.read_is, is.write_is, lies.0, lies.1)
+
+-- nobody lies there, and there is a place for each cell
+abbrev pub HasEmpty : Layout → WaitedPipe → Type 0
+HasEmpty L c = (c.lying.items ≡ []) × (vec_capacity c.lying ≡ total L.cells)
+
 -- ---- when a worker may reply
 
 module _ (table : TableId) (me : Seated) (x g : ℕ) (r : Req) (p : Parcel) (pipes : ℕ) (k : RunsIt table me.0 x g r p pipes) where
@@ -394,17 +410,17 @@ module _ (table : TableId) (me : Seated) (x g : ℕ) (r : Req) (p : Parcel) (pip
       (λ m there u. has m (is_below me.0.layout.caps m there) u)
 
   -- the pipe in hand is what the reply makes of it
-  pub pipe_after : (n : ℕ) (c : Conduit) (res : ℤ) → IsPipe (slice_index me.0.layout.caps n) c (flows p.sqe.op (offered p.sqe.op (contents (events_of me.0.seen)) p.buffer.items) res n (flow (events_of me.0.seen) n)) → PipeIs me.0.layout.caps n (Some (Piped c)) (flows_as (Some p.sqe) (submission (events_of me.0.seen) q) (contents (events_of me.0.seen)) res n (flow (events_of me.0.seen) n))
-  pipe_after n c res is =
+  pub pipe_after : (n : ℕ) (c : WaitedPipe) (res : ℤ) → HasEmpty me.0.layout c → IsPipe (slice_index me.0.layout.caps n) c.pipe (flows p.sqe.op (offered p.sqe.op (contents (events_of me.0.seen)) p.buffer.items) res n (flow (events_of me.0.seen) n)) → PipeIs me.0.layout n (Some (Piped c)) (flows_as (Some p.sqe) (submission (events_of me.0.seen) q) (contents (events_of me.0.seen)) res n (flow (events_of me.0.seen) n), [])
+  pipe_after n c res none is =
       let given : submission (events_of me.0.seen) q ≡ Some (record { entry = p.sqe; bytes = p.buffer.items; last = p.last }) = subst (λ (z : Req). submission (events_of me.0.seen) z ≡ Some (record { entry = p.sqe; bytes = p.buffer.items; last = p.last })) (sym k.req_is) (k.parcel.1 ∙ (λ i. Some (record { entry = p.sqe; bytes = sym k.parcel.2 i; last = p.last }))) in
-      subst (λ (o : Option Submission). PipeIs me.0.layout.caps n (Some (Piped c)) (flows_as (Some p.sqe) o (contents (events_of me.0.seen)) res n (flow (events_of me.0.seen) n))) (sym given) (is.cap_is, is.content_is, is.read_is, is.write_is)
+      subst (λ (o : Option Submission). PipeIs me.0.layout n (Some (Piped c)) (flows_as (Some p.sqe) o (contents (events_of me.0.seen)) res n (flow (events_of me.0.seen) n), [])) (sym given) (piped_in me.0.layout n c _ [] is none)
 
 pub both_turned : (j : List Line) (p n : ℕ) (r : Req) → HasBoth j p n r → HasBoth j n p r
 both_turned j p n r both = (λ e. both.0 (sym e), both.2, both.1, λ m ne nk. both.3 m nk ne)
 
 -- a pipe that others left alone is still the one in hand
 pub pipe_still : (v w : View) (n : ℕ) (c : Conduit) → w.layout ≡ v.layout → IsSamePipe v w n → IsPipe (slice_index v.layout.caps n) c (flow (events_of v.seen) n) → IsPipe (slice_index w.layout.caps n) c (flow (events_of w.seen) n)
-pipe_still v w n c layout same' is = subst (λ (z : Layout × Flow). IsPipe (slice_index z.0.caps n) c z.1) (λ i. (sym layout i, sym same' i)) is
+pipe_still v w n c layout same' is = subst (λ (z : Layout × Flow). IsPipe (slice_index z.0.caps n) c z.1) (λ i. (sym layout i, (sym same' i).0)) is
 
 -- what a worker has in hand once its pipe was put back, and then its parcel
 pub in_both_hands : (old a b c : Seated) (n s : ℕ) (x y : Option Thing) → old.1 ≡ (n, None) ∷ (s, None) ∷ [] → a ≡ (old.0, (n, x) ∷ rest old.1) → b ≡ (a.0, turned a.1) → c ≡ (b.0, (s, y) ∷ rest b.1) → c ≡ (old.0, (s, y) ∷ (n, x) ∷ [])

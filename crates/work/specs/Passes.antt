@@ -1,5 +1,5 @@
 -- What contracts see of a pass, and when it belongs to a board.
-use Rattle.std.specs.Prelude.{◌≡◌, ◌≢◌, ℕ, suc, ◌+◌, ◌<◌, ◌≤◌, cond, true, false, List, [], ◌∷◌, ◌++◌, length, slice_index, Option, Some, None}
+use Rattle.std.specs.Prelude.{◌≡◌, ◌≢◌, ℕ, suc, ◌+◌, ◌<◌, ◌≤◌, cond, true, false, List, [], ◌∷◌, ◌++◌, length, slice_index, vec_capacity, Bool, Option, Some, None}
 use Rattle.atomic_table.specs.Seated.{TableId}
 use Rattle.atomic_table.specs.declared.shared.Seat.{Seat}
 use Rattle.history.specs.declared.req.Req.{Req}
@@ -7,37 +7,42 @@ use Rattle.history.specs.declared.event.Event.{Event}
 use Rattle.history.specs.Chains.{is_timer}
 use Rattle.history.specs.History.{hit, nothing}
 use Rattle.history.specs.Pipes.{flow}
-use Rattle.pipe.specs.Pipe.{Conduit}
 use Rattle.history.specs.Users.{uses_at}
 use Rattle.answers.specs.Answered.{IsPipe}
 use Rattle.answers.specs.NamedEnds.{UsesBoth}
+use Rattle.steps.specs.declared.line.Laid.{Laid}
+use Rattle.steps.specs.declared.line.Laid.TheVariants.{NoRequest}
 use Rattle.steps.specs.declared.line.Line.{Line}
 use Rattle.steps.specs.declared.parcel.Parcel.{Parcel}
 use Rattle.steps.specs.declared.parcel.Thing.{Thing}
+use Rattle.steps.specs.declared.parcel.WaitedPipe.{WaitedPipe}
 use Rattle.steps.specs.declared.view.Role.{Role}
 use Rattle.steps.specs.declared.view.Role.TheVariants.{Idle, Busy}
 use Rattle.steps.specs.declared.view.Step.{Step}
 use Rattle.steps.specs.declared.view.View.{View}
 use Rattle.steps.specs.Fairness.{Orderly}
-use Rattle.steps.specs.Journal.{event_of, events_of, holder}
+use Rattle.steps.specs.Journal.{event_of, events_of, goes_out, holder, lays, lying}
 use Rattle.steps.specs.Cells.{setup_of, IsCell, cells_in, request_at, total, claim_at, slot_at, word_of, IsParcel, words_of}
 use Rattle.steps.specs.Plays.{HasAlone, HasBoth}
 use Rattle.steps.specs.Rule.{owns, IsStep}
+use Rattle.steps.specs.Sleepers.{LiesIn}
 use Rattle.history.specs.Legal.{Legal, IsOf}
 use Rattle.claim.specs.declared.tag.Tag.TheVariants.{Ready}
+use Rattle.work.specs.declared.lists.Lists.{Lists}
 
--- the table that a pass is of, what it knows, and, of a worker, which requests its last run took, in the order of their numbers
+-- the table that a pass is of, what it knows, and, of a worker, which requests its last run took, in the order of their numbers, and which it took along from the pipes that it gave back
 pub record Pass : Type 0 where
   pub table : TableId
   pub view : View
   pub took : List Req
+  pub woken : List Req
 
 -- what the pass has seen of the history
 abbrev pub seen_of : Pass → List Event
 seen_of p = events_of p.view.seen
 
 abbrev pub pass_of : Seat (Option Thing) View → Pass
-pass_of s = record { table = s.table_id; view = s.me.0; took = [] }
+pass_of s = record { table = s.table_id; view = s.me.0; took = []; woken = [] }
 
 -- the pass is of this table, whose rings have so many cells, and which has so many pipes
 pub record IsOn (table : TableId) (K : List ℕ) (pipes : ℕ) (p : Pass) : Type 0 where
@@ -57,6 +62,27 @@ pub record IsIdleSeat (s : Seat (Option Thing) View) : Type 0 where
 abbrev pub HasRoom : List ℕ → ℕ → Type 0
 HasRoom K room = (i : ℕ) → cells_in K i ≤ suc room
 
+-- and in the lists of those that are taken along from a pipe for all cells of the board
+abbrev pub HasRooms : List ℕ → Lists → Type 0
+HasRooms K lists = HasRoom K (vec_capacity lists.took) × (vec_capacity lists.source ≡ total K) × (vec_capacity lists.woken ≡ total K)
+
+-- which requests were taken along
+abbrev pub woken_of : Lists → List Req
+woken_of lists = lists.source.items ++ lists.woken.items
+
+-- none yet
+abbrev pub AreIdle : Lists → Type 0
+AreIdle lists = (lists.source.items ≡ []) × (lists.woken.items ≡ [])
+
+-- of those that lay with a pipe: where there was an answer all go out, else r is laid down so, and lies there from then on
+abbrev pub Settled : Laid → Req → Bool → List Req → List Req → List Req → Type 0
+Settled laid r true old new out = (new ≡ []) × (out ≡ old)
+Settled laid r false old new out = (new ≡ lays laid r old) × (out ≡ goes_out laid old) × LiesIn (lays laid r old) r
+
+-- who is among these is not laid down again
+abbrev pub IsLaidOnce : Laid → Req → List Req → Type 0
+IsLaidOnce laid r old = LiesIn old r → laid ≡ NoRequest
+
 -- a list of requests that is empty, and has that room
 abbrev pub IsSpare : List ℕ → List Req → ℕ → Type 0
 IsSpare K took room = (took ≡ []) × HasRoom K room
@@ -71,11 +97,12 @@ pub record CanReach (table : TableId) (p : Pass) (x : ℕ) : Type 0 where
   pub table_is : p.table ≡ table
   pub cell : (x < 16384) × IsCell p.view.layout.cells x × (claim_at x + 7 < table.words)
 
--- a worker that runs a request, as contracts see it, and the requests that its last run took
+-- a worker that runs a request, as contracts see it, the requests that its last run took, and those that it took along
 pub record Running : Type 0 where
   pub pass : Pass
   pub req : Req
   pub took : List Req
+  pub woken : List Req
 
 -- the view of a worker that runs the request r of this cell and generation, whose parcel is p, on a board of so many pipes; r is no timer
 pub record RunsIt (table : TableId) (v : View) (x g : ℕ) (r : Req) (p : Parcel) (pipes : ℕ) : Type 0 where
@@ -95,26 +122,32 @@ pub record IsGridOf (table : TableId) (K : List ℕ) (v : View) : Type 0 where
   pub wide : table.words ≡ words_of (total K)
 
 -- its seat, with the parcel in hand, and no pipe; if it runs a cancel, that has neither taken a request nor found one running, and there is room for a list of those that it takes
-pub record IsBusySeat (table : TableId) (K : List ℕ) (s : Seat (Option Thing) View) (x g : ℕ) (r : Req) (p : Parcel) (pipes : ℕ) (room : ℕ) : Type 0 where
+pub record IsBusySeat (table : TableId) (K : List ℕ) (s : Seat (Option Thing) View) (x g : ℕ) (r : Req) (p : Parcel) (pipes : ℕ) (lists : Lists) : Type 0 where
   pub table_is : s.table_id ≡ table
   pub grid : IsGridOf table K s.me.0
   pub runs : RunsIt table s.me.0 x g r p pipes
   pub unhit : hit (events_of s.me.0.seen) r ≡ nothing
-  pub spare : HasRoom K room
+  pub spare : HasRooms K lists
   pub out : s.me.1 ≡ (slot_at x, None) ∷ []
   pub bare : (n : ℕ) → holder s.me.0.seen n ≢ Some r
 
+-- those lie with the pipe in hand that do by what was seen, and there is a place for each cell
+abbrev pub LiesAs : List ℕ → View → ℕ → WaitedPipe → Type 0
+LiesAs K v n c = (c.lying.items ≡ lying v.seen n) × (vec_capacity c.lying ≡ total K)
+
 -- the same with a pipe in hand that the entry is answered from, as what was seen tells, and no other
-pub record IsHoldingSeat (table : TableId) (K : List ℕ) (s : Seat (Option Thing) View) (x g : ℕ) (r : Req) (p : Parcel) (pipes n : ℕ) (c : Conduit) (room : ℕ) : Type 0 where
+pub record IsHoldingSeat (table : TableId) (K : List ℕ) (s : Seat (Option Thing) View) (x g : ℕ) (r : Req) (p : Parcel) (pipes n : ℕ) (c : WaitedPipe) (lists : Lists) : Type 0 where
   pub table_is : s.table_id ≡ table
   pub grid : IsGridOf table K s.me.0
   pub runs : RunsIt table s.me.0 x g r p pipes
   pub unhit : hit (events_of s.me.0.seen) r ≡ nothing
-  pub spare : HasRoom K room
+  pub spare : HasRooms K lists
   pub out : s.me.1 ≡ (n, None) ∷ (slot_at x, None) ∷ []
   pub alone : HasAlone s.me.0.seen n r
   pub named : (uses_at p.sqe.op n ≡ true) × (n < pipes)
-  pub pipe_is : IsPipe (slice_index s.me.0.layout.caps n) c (flow (events_of s.me.0.seen) n)
+  pub pipe_is : IsPipe (slice_index s.me.0.layout.caps n) c.pipe (flow (events_of s.me.0.seen) n)
+  pub lying_is : LiesAs K s.me.0 n c
+  pub idle : AreIdle lists
 
 -- a worker that runs a request and has this pipe of the board in hand, as contracts see it
 pub record Holding : Type 0 where
@@ -123,17 +156,20 @@ pub record Holding : Type 0 where
   pub pipe : ℕ
 
 -- the same with both pipes in hand that the entry joins, and no other
-pub record IsJoiningSeat (table : TableId) (K : List ℕ) (s : Seat (Option Thing) View) (x g : ℕ) (r : Req) (p : Parcel) (pipes a b : ℕ) (c d : Conduit) (room : ℕ) : Type 0 where
+pub record IsJoiningSeat (table : TableId) (K : List ℕ) (s : Seat (Option Thing) View) (x g : ℕ) (r : Req) (p : Parcel) (pipes a b : ℕ) (c d : WaitedPipe) (lists : Lists) : Type 0 where
   pub table_is : s.table_id ≡ table
   pub grid : IsGridOf table K s.me.0
   pub runs : RunsIt table s.me.0 x g r p pipes
   pub unhit : hit (events_of s.me.0.seen) r ≡ nothing
-  pub spare : HasRoom K room
+  pub spare : HasRooms K lists
   pub out : s.me.1 ≡ (b, None) ∷ (a, None) ∷ (slot_at x, None) ∷ []
   pub both : HasBoth s.me.0.seen a b r
   pub named : UsesBoth p.sqe.op pipes a b
-  pub source_is : IsPipe (slice_index s.me.0.layout.caps a) c (flow (events_of s.me.0.seen) a)
-  pub target_is : IsPipe (slice_index s.me.0.layout.caps b) d (flow (events_of s.me.0.seen) b)
+  pub source_is : IsPipe (slice_index s.me.0.layout.caps a) c.pipe (flow (events_of s.me.0.seen) a)
+  pub target_is : IsPipe (slice_index s.me.0.layout.caps b) d.pipe (flow (events_of s.me.0.seen) b)
+  pub source_lies : LiesAs K s.me.0 a c
+  pub target_lies : LiesAs K s.me.0 b d
+  pub idle : AreIdle lists
 
 -- a worker that runs a request and has both of its pipes in hand, as contracts see it
 pub record Joining : Type 0 where

@@ -15,13 +15,15 @@ use Rattle.answers.specs.declared.named.NamedPipes.{NamedPipes}
 use Rattle.answers.specs.declared.named.NamedPipes.TheVariants.{Nothing, One, Both}
 use Rattle.answers.specs.NamedEnds.{AreNamed}
 use Rattle.steps.specs.declared.line.Line.{Line}
-use Rattle.steps.specs.declared.line.Line.TheVariants.{Did}
+use Rattle.steps.specs.declared.line.Laid.{Laid}
+use Rattle.steps.specs.declared.line.Line.TheVariants.{Did, Free}
 use Rattle.steps.specs.declared.view.Role.TheVariants.{Idle, Busy}
 use Rattle.steps.specs.declared.view.Step.{Step}
 use Rattle.steps.specs.declared.view.View.{View}
-use Rattle.steps.specs.Journal.{events_of, holder}
+use Rattle.steps.specs.Journal.{events_of, goes_out, holder, lays, lying}
 use Rattle.steps.specs.Cells.{cells_in, setup_of, pipe_at}
 use Rattle.steps.specs.Rule.{Begins, IsStep}
+use Rattle.steps.specs.Sleepers.{LiesIn}
 use Rattle.work.specs.declared.run.Parked.{Parked as Reason}
 use Rattle.work.specs.declared.run.Parked.TheVariants.{NotReady, PipeBusy}
 use Rattle.work.specs.declared.run.Ran.{Ran}
@@ -154,3 +156,32 @@ StepsBy None b w e ran = (named : NamedPipes) × AreNamed e.op (length b.pass.vi
 -- the steps of a run: a cancel takes at most four at each claim word, and at most five for each cell of its ring in all
 abbrev pub HasStepped : Running → View → Entry → Ran → Type 0
 HasStepped b w e ran = StepsBy (wanted_in e.op) b w e ran
+
+-- the run of r replied so with the pipe p in hand, and took along these: all that lay there
+abbrev pub TookAlong : Req → ℕ → ℤ → View → List Req → Type 0
+TookAlong r p res w out = (at : List Line) × (data' : List ℕ) × (w.seen ≡ Did (Reply r res data') ∷ at) × (out ≡ lying at p)
+
+-- the run of r gave the pipe p back, where its number lies since: laid down, or there already; and took along these: none, or all others, which had to make place
+pub record LaidDown (v w : View) (r : Req) (p : ℕ) (out : List Req) : Type 0 where
+  pub at : List Line
+  pub laid : Laid
+  pub after : Begins at v.seen
+  pub before : Begins w.seen (Free r p laid ∷ at)
+  pub lies : LiesIn (lays laid r (lying at p)) r
+  pub out_is : out ≡ goes_out laid (lying at p)
+
+-- it did so with two pipes
+abbrev pub LaidAtBoth : View → View → Req → ℕ → ℕ → List Req → Type 0
+LaidAtBoth v w r s t out = (a : List Req) × (b : List Req) × LaidDown v w r s a × LaidDown v w r t b × (out ≡ a ++ b)
+
+-- what a run took along, by the pipes of the board that its entry names: from each of them all that lay there, where it replied. Where there was no answer its number lies with each of them since. Nothing else was taken along, and nothing of this is lost
+abbrev pub WakesAt : NamedPipes → Running → Pass → Ran → Type 0
+WakesAt Nothing b w ran = w.woken ≡ []
+WakesAt (One p) b w (Replied cqe) = TookAlong b.req p cqe.res w.view w.woken
+WakesAt (One p) b w (Parked NotReady) = LaidDown b.pass.view w.view b.req p w.woken
+WakesAt (Both s t) b w (Replied cqe) = (x : List Req) × (y : List Req) × TookAlong b.req s cqe.res w.view x × TookAlong b.req t cqe.res w.view y × (w.woken ≡ x ++ y)
+WakesAt (Both s t) b w (Parked NotReady) = LaidAtBoth b.pass.view w.view b.req s t w.woken
+WakesAt named b w (Parked PipeBusy) = w.woken ≡ []
+
+abbrev pub HasWoken : Running → Pass → Entry → Ran → Type 0
+HasWoken b w e ran = (named : NamedPipes) × AreNamed e.op (length b.pass.view.layout.caps) named × WakesAt named b w ran

@@ -13,12 +13,14 @@ ghost use Rattle.steps.specs.declared.parcel.Thing.TheVariants.{Full};
 ghost use Rattle.steps.specs.declared.view.Role.TheVariants.{Idle, Busy as RoleBusy};
 ghost use Rattle.steps.specs.Cells.{cells_in, pipe_at, slot_at};
 ghost use Rattle.steps.specs.Rule.{Looks, Extends, IsStep};
+ghost use Rattle.steps.specs.Sleepers.{NoneSleeps};
 ghost use Rattle.work.specs.Board.{Facts, IsOf};
 
 use crate::cancel::{Wanted, wanted_of};
 use crate::grid::Grid;
 use crate::holding::Holding;
 use crate::hunt::hunt;
+use crate::lists::Lists;
 use crate::placed::{fails_placed, op_placed};
 use crate::run::{Parked, Ran};
 use crate::worker::Worker;
@@ -39,18 +41,17 @@ pub struct Busy<'a> {
     pub(crate) req: Req,
     pub(crate) parcel: Parcel,
     pub(crate) pipes: usize,
-    pub(crate) took: Vec<Req>,
+    pub(crate) lists: Lists,
 }
 
 impl<'a> Model for Busy<'a> {
-    ghost use Rattle.std.specs.Prelude.{vec_capacity};
-    ghost use Rattle.work.specs.Passes.{Running, pass_of, IsBusySeat};
+    ghost use Rattle.work.specs.Passes.{Running, pass_of, woken_of, IsBusySeat};
 
     ghost Value = { Running };
 
-    ghost view = { λ b. record { pass = pass_of b.seat; req = b.req; took = b.took.items } };
+    ghost view = { λ b. record { pass = pass_of b.seat; req = b.req; took = b.lists.took.items; woken = woken_of b.lists } };
 
-    ghost invariant = { λ b. IsBusySeat b.words.now.table_id b.grid.now b.seat b.cell b.generation b.req b.parcel b.pipes (vec_capacity b.took) };
+    ghost invariant = { λ b. IsBusySeat b.words.now.table_id b.grid.now b.seat b.cell b.generation b.req b.parcel b.pipes b.lists };
 }
 
 /// Puts the parcel back into the slot that the seat has.
@@ -68,12 +69,13 @@ pub(crate) fn put_back(words: &Words, seat: &mut TableSeat, cell: usize, parcel:
 impl<'a> Busy<'a> {
     ghost use Rattle.work.specs.Passes.{Took, seen_of};
     ghost use Rattle.work.specs.Searches.{FewSteps, wanted_in};
-    ghost use Rattle.work.specs.WorkerRuns.{AreFew, AreHits, EndsBy, HasStepped, StepsAt, IsRun, MissedPipe, taken_in};
+    ghost use Rattle.work.specs.WorkerRuns.{AreFew, AreHits, EndsBy, HasStepped, HasWoken, StepsAt, IsRun, MissedPipe, WakesAt, taken_in};
 
-    /// Puts the request back to Ready. The list of what its last run took stays.
+    /// Puts the request back to Ready. The lists of what its last run took, and took along, stay.
     pub fn park(self) -> Worker
         ensures kept { (b : Facts) → IsOf b self.entry.pass → IsOf b result }
         ensures took { result.took ≡ self.entry.took }
+        ensures woken { result.woken ≡ self.entry.woken }
         ensures steps { Took self.entry.pass.view result.view 1 }
         ensures parked { (result.table ≡ self.entry.pass.table) × Extends self.entry.pass.view (Did (Park self.entry.req)) Idle result.view }
     {
@@ -86,21 +88,22 @@ impl<'a> Busy<'a> {
             req: _,
             parcel,
             pipes: _,
-            took,
+            lists,
         } = self;
         put_back(words, &mut seat, cell, parcel);
         seat::park(words, &mut seat, cell, generation);
-        Worker::after(seat, took)
+        Worker::after(seat, lists)
     }
 
     /// Puts the request back to Ready, after a run that took nothing.
     pub(crate) fn give_up(mut self) -> Worker
         ensures kept { (b : Facts) → IsOf b self.entry.pass → IsOf b result }
         ensures took { result.took ≡ [] }
+        ensures woken { result.woken ≡ self.entry.woken }
         ensures steps { Took self.entry.pass.view result.view 1 }
         ensures parked { (result.table ≡ self.entry.pass.table) × Extends self.entry.pass.view (Did (Park self.entry.req)) Idle result.view }
     {
-        self.took.clear();
+        self.lists.took.clear();
         self.park()
     }
 
@@ -109,7 +112,7 @@ impl<'a> Busy<'a> {
         requires plain { (e : Entry) → IsPlaced (seen_of self.pass) self.req e → wanted_in e.op ≡ None }
         requires past { (e : Entry) → IsPlaced (seen_of self.pass) self.req e → UsesNone e.op (length self.pass.view.layout.caps) }
         ensures table { result.0.table ≡ self.entry.pass.table }
-        ensures took { result.0.took ≡ [] }
+        ensures took { (result.0.took ≡ []) × (result.0.woken ≡ []) }
         ensures step { (found : ℕ) × (word : ℕ) × IsStep word found self.entry.pass.view result.0.view }
         ensures replied { Extends self.entry.pass.view (Did (Reply self.entry.req result.1.res [])) Idle result.0.view }
         ensures user_data { (e : Entry) → IsPlaced (seen_of self.entry.pass) self.entry.req e → result.1.user_data ≡ e.user_data }
@@ -123,7 +126,7 @@ impl<'a> Busy<'a> {
             req: _,
             parcel,
             pipes,
-            took,
+            lists,
         } = self;
         let res = answer_without(op_placed(&parcel.sqe), pipes as u64);
         let fails = fails_placed(&parcel.sqe, res);
@@ -133,7 +136,7 @@ impl<'a> Busy<'a> {
         };
         put_back(words, &mut seat, cell, parcel);
         seat::reply(words, &mut seat, cell, generation, fails, res);
-        (Worker::new(seat, took), cqe)
+        (Worker::new(seat, lists), cqe)
     }
 
     /// Takes a pipe that the entry is answered from, or comes back where another worker has it.
@@ -141,6 +144,7 @@ impl<'a> Busy<'a> {
         requires named { (e : Entry) → IsPlaced (seen_of self.pass) self.req e → (uses_at e.op pipe ≡ true) × (pipe < length self.pass.view.layout.caps) }
         ensures held { IfOk result (λ h. (h.req ≡ self.entry.req) × (h.pipe ≡ pipe) × (h.pass.table ≡ self.entry.pass.table) × IsStep (pipe_at pipe) 0 self.entry.pass.view h.pass.view × Extends self.entry.pass.view (Hold self.entry.req pipe) (RoleBusy self.entry.req) h.pass.view) }
         ensures busy { IfErr result (λ b. (b.req ≡ self.entry.req) × (b.pass.table ≡ self.entry.pass.table) × Looks self.entry.pass.view b.pass.view × MissedPipe self.entry.pass.view b.pass.view pipe self.entry.req) }
+        ensures woken { IfErr result (λ b. b.woken ≡ []) }
     {
         let Busy {
             words,
@@ -151,8 +155,9 @@ impl<'a> Busy<'a> {
             req,
             parcel,
             pipes,
-            took,
+            mut lists,
         } = self;
+        lists.rest();
         if !pipes::hold(words, &mut seat, pipe) {
             return Err(Busy {
                 words,
@@ -163,7 +168,7 @@ impl<'a> Busy<'a> {
                 req,
                 parcel,
                 pipes,
-                took,
+                lists,
             });
         }
         let thing = words.exchange(&mut seat, pipe, None);
@@ -176,9 +181,9 @@ impl<'a> Busy<'a> {
             req,
             parcel,
             pipes,
-            took,
+            lists,
             pipe,
-            conduit: parcel::pipe_of(thing),
+            waited: parcel::pipe_of(thing),
         })
     }
 
@@ -189,6 +194,7 @@ impl<'a> Busy<'a> {
         ensures table { result.0.table ≡ self.entry.pass.table }
         ensures ended { (own : List Event) × EndsBy self.entry.pass.view result.0.view self.entry.req own (Reply self.entry.req result.1.res []) × AreHits self.entry.req self.entry.req.k own × (result.0.took ≡ taken_in own) × AreFew (Some wanted) own }
         ensures few { length result.0.took < cells_in self.entry.pass.view.layout.cells self.entry.req.ring }
+        ensures woken { result.0.woken ≡ [] }
         ensures kept { (b : Facts) → IsOf b self.entry.pass → IsOf b result.0 }
         ensures user_data { (e : Entry) → IsPlaced (seen_of self.entry.pass) self.entry.req e → result.1.user_data ≡ e.user_data }
         ensures steps { FewSteps self.entry.pass.view result.0.view 4 (5 * cells_in self.entry.pass.view.layout.cells self.entry.req.ring) }
@@ -202,10 +208,10 @@ impl<'a> Busy<'a> {
             req,
             parcel,
             pipes: _,
-            mut took,
+            mut lists,
         } = self;
-        took.clear();
-        let res = hunt(words, &mut seat, grid, req, wanted, &mut took);
+        lists.clear();
+        let res = hunt(words, &mut seat, grid, req, wanted, &mut lists.took);
         let fails = fails_placed(&parcel.sqe, res);
         let cqe = Cqe {
             user_data: parcel.sqe.user_data(),
@@ -213,7 +219,7 @@ impl<'a> Busy<'a> {
         };
         put_back(words, &mut seat, cell, parcel);
         seat::reply(words, &mut seat, cell, generation, fails, res);
-        (Worker::after(seat, took), cqe)
+        (Worker::after(seat, lists), cqe)
     }
 
     /// Answers the request, which is answered from one pipe of the board, or puts it back to Ready.
@@ -222,6 +228,7 @@ impl<'a> Busy<'a> {
         ensures worker { result.0.table ≡ self.entry.pass.table }
         ensures kept { (b : Facts) → IsOf b self.entry.pass → IsOf b result.0 }
         ensures took { result.0.took ≡ [] }
+        ensures woken { WakesAt (One pipe) self.entry result.0 result.1 }
         ensures steps { StepsAt (One pipe) self.entry.pass.view result.0.view self.entry.req result.1 }
         ensures ran { IsRun self.entry result.0 result.1 }
     {
@@ -237,11 +244,14 @@ impl<'a> Busy<'a> {
     }
 
     /// Answers the request. Where there is no answer now, or another worker has a pipe of it, it puts the request back to
-    /// Ready instead. A cancel takes at most four steps at each claim word, and at most five for each cell of its ring in all.
+    /// Ready instead. One that has no answer now lies with each pipe of the board that its entry names from then on, until the pipe
+    /// is in hand of a run that replies: that one takes all along that lie there. A cancel takes at most four steps at each claim word, and at most five for each cell of its ring in all.
     pub fn run(self) -> (Worker, Ran)
         ensures worker { result.0.table ≡ self.entry.pass.table }
         ensures kept { (b : Facts) → IsOf b self.entry.pass → IsOf b result.0 }
         ensures few { length result.0.took < cells_in self.entry.pass.view.layout.cells self.entry.req.ring }
+        ensures woken { (e : Entry) → IsPlaced (seen_of self.entry.pass) self.entry.req e → HasWoken self.entry result.0 e result.1 }
+        ensures awake { (b : Facts) → IsOf b self.entry.pass → NoneSleeps b.layout result.0.view.seen }
         ensures steps { (e : Entry) → IsPlaced (seen_of self.entry.pass) self.entry.req e → HasStepped self.entry result.0.view e result.1 }
         ensures ran { IsRun self.entry result.0 result.1 }
     {

@@ -25,7 +25,7 @@ use steps::{TableSeat, Words, cancels, seat};
 
 /// What a cancel asks for: the user_data of what it is meant for, whether that has to be a TIMEOUT, and whether it means all
 /// such requests (IORING_ASYNC_CANCEL_ALL).
-#[derive(Clone, Copy, PartialEq, Eq, Debug)]
+#[derive(Clone, Copy)]
 pub(crate) struct Wanted {
     pub user_data: u64,
     pub timeout: bool,
@@ -33,7 +33,7 @@ pub(crate) struct Wanted {
 }
 
 /// What came of one request.
-#[derive(Clone, Copy, PartialEq, Eq, Debug)]
+#[derive(Clone, Copy)]
 pub(crate) enum Tried {
     /// The cancel isn't meant for it, or it has replied.
     Passed,
@@ -44,7 +44,7 @@ pub(crate) enum Tried {
 }
 
 /// What came of a search.
-#[derive(Clone, Copy, PartialEq, Eq, Debug)]
+#[derive(Clone, Copy)]
 pub(crate) enum Searched {
     /// Each request that the cancel is meant for has replied, or there is none.
     NoneLeft,
@@ -55,7 +55,7 @@ pub(crate) enum Searched {
 }
 
 /// A request's cell and generation.
-#[derive(Clone, Copy, PartialEq, Eq, Debug)]
+#[derive(Clone, Copy)]
 pub(crate) struct Target {
     pub cell: usize,
     pub generation: u32,

@@ -7,7 +7,7 @@ use std::alloc::{AllocError, Global};
 use std::marker::Model;
 
 /// A request's cell, which generation of it the request is, and the cell's number within its ring.
-#[derive(Clone, Copy, PartialEq, Eq, Debug)]
+#[derive(Clone, Copy)]
 pub struct Spot {
     pub cell: usize,
     pub generation: u64,
@@ -15,7 +15,7 @@ pub struct Spot {
 }
 
 /// The cells of one ring: the number of its first one, and how many there are.
-#[derive(Clone, Copy, PartialEq, Eq, Debug)]
+#[derive(Clone, Copy)]
 pub struct Row {
     first: usize,
     cells: u64,

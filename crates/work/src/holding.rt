@@ -4,6 +4,7 @@ ghost use Rattle.entry.specs.Entry.{Entry};
 ghost use Rattle.history.specs.declared.event.Event.TheVariants.{Reply};
 ghost use Rattle.history.specs.Chains.{IsPlaced};
 ghost use Rattle.answers.specs.NamedEnds.{UsesOne};
+ghost use Rattle.steps.specs.declared.line.Laid.{Laid};
 ghost use Rattle.steps.specs.declared.line.Line.TheVariants.{Did, Free};
 ghost use Rattle.steps.specs.declared.view.Role.TheVariants.{Busy as RoleBusy, Leaving};
 ghost use Rattle.steps.specs.declared.view.View.{View};
@@ -12,13 +13,13 @@ ghost use Rattle.steps.specs.Rule.{Extends, IsStep, IsTwoSteps, leaves};
 
 use crate::busy::{Busy, put_back};
 use crate::grid::Grid;
+use crate::lists::{Lists, settle};
 use crate::worker::Worker;
 use answers::answer_with;
 use entry::{Cqe, fails};
 use history::Req;
-use pipe::Pipe;
 use std::marker::Model;
-use steps::{Parcel, TableSeat, Thing, Words, pipes};
+use steps::{Parcel, TableSeat, Thing, WaitedPipe, Words, pipes};
 
 /// A worker that runs a request, and has taken a pipe that its entry is answered from.
 pub(crate) struct Holding<'a> {
@@ -30,34 +31,35 @@ pub(crate) struct Holding<'a> {
     pub(crate) req: Req,
     pub(crate) parcel: Parcel,
     pub(crate) pipes: usize,
-    pub(crate) took: Vec<Req>,
+    pub(crate) lists: Lists,
     pub(crate) pipe: usize,
-    pub(crate) conduit: Pipe,
+    pub(crate) waited: WaitedPipe,
 }
 
 impl<'a> Model for Holding<'a> {
-    ghost use Rattle.std.specs.Prelude.{vec_capacity};
     ghost use Rattle.work.specs.Passes.{Holding as Held, pass_of, IsHoldingSeat};
 
     ghost Value = { Held };
 
     ghost view = { λ h. record { pass = pass_of h.seat; req = h.req; pipe = h.pipe } };
 
-    ghost invariant = { λ h. IsHoldingSeat h.words.now.table_id h.grid.now h.seat h.cell h.generation h.req h.parcel h.pipes h.pipe h.conduit (vec_capacity h.took) };
+    ghost invariant = { λ h. IsHoldingSeat h.words.now.table_id h.grid.now h.seat h.cell h.generation h.req h.parcel h.pipes h.pipe h.waited h.lists };
 }
 
 impl<'a> Holding<'a> {
     ghost use Rattle.work.specs.Passes.{seen_of};
-    ghost use Rattle.work.specs.WorkerRuns.{Unanswered};
+    ghost use Rattle.work.specs.WorkerRuns.{LaidDown, TookAlong, Unanswered};
 
-    /// Answers the request by its pipe, and gives the pipe back; or gives it back as it was, where there is no answer now.
+    /// Answers the request by its pipe, and gives the pipe back, from which it takes along all that lie there; or gives it back as it
+    /// was and lays the request down there, where there is no answer now.
     pub(crate) fn answer(self) -> Result<(Worker, Cqe), Busy<'a>>
         requires named { (e : Entry) → IsPlaced (seen_of self.pass) self.req e → UsesOne e.op (length self.pass.view.layout.caps) self.pipe }
         ensures replied { IfOk result (λ t. (t.0.table ≡ self.entry.pass.table) × (data' : List ℕ) × (mid : View) × Extends self.entry.pass.view (Did (Reply self.entry.req t.1.res data')) (Leaving self.entry.req) mid × (found : ℕ) × (t.0.view ≡ leaves (pipe_at self.entry.pipe) found mid)) }
         ensures took { IfOk result (λ t. t.0.took ≡ []) }
+        ensures woken { IfOk result (λ t. TookAlong self.entry.req self.entry.pipe t.1.res t.0.view t.0.woken) }
         ensures steps { IfOk result (λ t. (word : ℕ) × IsTwoSteps word (pipe_at self.entry.pipe) self.entry.pass.view t.0.view) }
         ensures user_data { IfOk result (λ t. (e : Entry) → IsPlaced (seen_of self.entry.pass) self.entry.req e → t.1.user_data ≡ e.user_data) }
-        ensures waits { IfErr result (λ b. (b.req ≡ self.entry.req) × (b.pass.table ≡ self.entry.pass.table) × Extends self.entry.pass.view (Free self.entry.req self.entry.pipe) (RoleBusy self.entry.req) b.pass.view × ((found : ℕ) × IsStep (pipe_at self.entry.pipe) found self.entry.pass.view b.pass.view)) }
+        ensures waits { IfErr result (λ b. (b.req ≡ self.entry.req) × (b.pass.table ≡ self.entry.pass.table) × (laid : Laid) × Extends self.entry.pass.view (Free self.entry.req self.entry.pipe laid) (RoleBusy self.entry.req) b.pass.view × LaidDown self.entry.pass.view b.pass.view self.entry.req self.entry.pipe b.woken × ((found : ℕ) × IsStep (pipe_at self.entry.pipe) found self.entry.pass.view b.pass.view)) }
         ensures unanswered { IfErr result (λ b. (e : Entry) → IsPlaced (seen_of self.entry.pass) self.entry.req e → Unanswered self.entry.pass.view self.entry.req e) }
     {
         let Holding {
@@ -69,16 +71,21 @@ impl<'a> Holding<'a> {
             req,
             mut parcel,
             pipes,
-            took,
+            mut lists,
             pipe,
-            mut conduit,
+            mut waited,
         } = self;
-        let answer = answer_with(parcel.sqe.op(), &mut conduit, parcel.buffer.as_mut_slice());
-        let None = words.exchange(&mut seat, pipe, Some(Thing::Piped(conduit))) else {
+        let answer = answer_with(
+            parcel.sqe.op(),
+            &mut waited.pipe,
+            parcel.buffer.as_mut_slice(),
+        );
+        let laid = settle(&mut waited.lying, &mut lists.woken, req, answer.is_some());
+        let None = words.exchange(&mut seat, pipe, Some(Thing::Piped(waited))) else {
             unreachable!()
         };
         let Some(res) = answer else {
-            pipes::free(words, &mut seat, pipe);
+            pipes::free(words, &mut seat, pipe, laid);
             return Err(Busy {
                 words,
                 grid,
@@ -88,7 +95,7 @@ impl<'a> Holding<'a> {
                 req,
                 parcel,
                 pipes,
-                took,
+                lists,
             });
         };
         seat.turn();
@@ -99,6 +106,7 @@ impl<'a> Holding<'a> {
         };
         put_back(words, &mut seat, cell, parcel);
         pipes::reply(words, &mut seat, cell, generation, fails, res, pipe);
-        Ok((Worker::new(seat, took), cqe))
+        lists.took.clear();
+        Ok((Worker::after(seat, lists), cqe))
     }
 }

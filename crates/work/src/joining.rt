@@ -1,14 +1,18 @@
 //! A worker that runs a SPLICE and has both of its pipes in hand.
-ghost use Rattle.std.specs.Prelude.{◌≡◌, ℕ, [], Some, None, length, IfOk, IfErr};
+ghost use Rattle.std.specs.Prelude.{◌≡◌, ℕ, ◌++◌, [], List, Some, None, length, IfOk, IfErr};
 ghost use Rattle.entry.specs.Entry.{Entry};
 ghost use Rattle.history.specs.declared.event.Event.TheVariants.{Reply};
+ghost use Rattle.history.specs.declared.req.Req.{Req as Request};
 ghost use Rattle.history.specs.Chains.{IsPlaced};
 ghost use Rattle.answers.specs.declared.named.NamedPipes.TheVariants.{Both};
 ghost use Rattle.answers.specs.NamedEnds.{UsesBoth};
+ghost use Rattle.steps.specs.declared.line.Laid.{Laid as LaidAs};
+ghost use Rattle.steps.specs.declared.line.Laid.TheVariants.{NoRequest};
 ghost use Rattle.steps.specs.declared.line.Line.TheVariants.{Did, Hold, Free};
 ghost use Rattle.steps.specs.declared.view.Role.TheVariants.{Busy as RoleBusy, Leaving};
 ghost use Rattle.steps.specs.declared.view.View.{View};
 ghost use Rattle.steps.specs.Cells.{pipe_at};
+ghost use Rattle.steps.specs.Journal.{lying};
 ghost use Rattle.steps.specs.Rule.{Looks, Extends, IsStep, IsThreeSteps, leaves, leaves_one};
 ghost use Rattle.steps.specs.Plays.{HasBoth};
 ghost use Rattle.work.specs.Board.{Facts, IsOf};
@@ -16,14 +20,14 @@ ghost use Rattle.work.specs.Board.{Facts, IsOf};
 use crate::busy::{Busy, put_back};
 use crate::grid::Grid;
 use crate::holding::Holding;
+use crate::lists::{Lists, settle_once};
 use crate::run::{Parked, Ran};
 use crate::worker::Worker;
 use answers::answer_both;
 use entry::{Cqe, fails};
 use history::Req;
-use pipe::Pipe;
 use std::marker::Model;
-use steps::{Parcel, TableSeat, Thing, Words, parcel, pipes};
+use steps::{Laid, Parcel, TableSeat, Thing, WaitedPipe, Words, parcel, pipes};
 
 /// A worker that runs a SPLICE, and has taken both pipes that its entry joins.
 pub(crate) struct Joining<'a> {
@@ -35,22 +39,21 @@ pub(crate) struct Joining<'a> {
     pub(crate) req: Req,
     pub(crate) parcel: Parcel,
     pub(crate) pipes: usize,
-    pub(crate) took: Vec<Req>,
+    pub(crate) lists: Lists,
     pub(crate) source: usize,
     pub(crate) target: usize,
-    pub(crate) from: Pipe,
-    pub(crate) into: Pipe,
+    pub(crate) from: WaitedPipe,
+    pub(crate) into: WaitedPipe,
 }
 
 impl<'a> Model for Joining<'a> {
-    ghost use Rattle.std.specs.Prelude.{vec_capacity};
     ghost use Rattle.work.specs.Passes.{Joining as Joined, pass_of, IsJoiningSeat};
 
     ghost Value = { Joined };
 
     ghost view = { λ k. record { pass = pass_of k.seat; req = k.req; source = k.source; target = k.target } };
 
-    ghost invariant = { λ k. IsJoiningSeat k.words.now.table_id k.grid.now k.seat k.cell k.generation k.req k.parcel k.pipes k.source k.target k.from k.into (vec_capacity k.took) };
+    ghost invariant = { λ k. IsJoiningSeat k.words.now.table_id k.grid.now k.seat k.cell k.generation k.req k.parcel k.pipes k.source k.target k.from k.into k.lists };
 }
 
 impl<'a> Holding<'a> {
@@ -61,7 +64,8 @@ impl<'a> Holding<'a> {
     fn hold(self, target: usize) -> Result<Joining<'a>, Busy<'a>>
         requires named { (e : Entry) → IsPlaced (seen_of self.pass) self.req e → UsesBoth e.op (length self.pass.view.layout.caps) self.pipe target }
         ensures held { IfOk result (λ k. (k.req ≡ self.entry.req) × (k.source ≡ self.entry.pipe) × (k.target ≡ target) × (k.pass.table ≡ self.entry.pass.table) × IsStep (pipe_at target) 0 self.entry.pass.view k.pass.view × Extends self.entry.pass.view (Hold self.entry.req target) (RoleBusy self.entry.req) k.pass.view × HasBoth k.pass.view.seen self.entry.pipe target self.entry.req) }
-        ensures busy { IfErr result (λ b. (b.req ≡ self.entry.req) × (b.pass.table ≡ self.entry.pass.table) × (mid : View) × Looks self.entry.pass.view mid × MissedPipe self.entry.pass.view mid target self.entry.req × Extends mid (Free self.entry.req self.entry.pipe) (RoleBusy self.entry.req) b.pass.view × ((found : ℕ) × IsStep (pipe_at self.entry.pipe) found mid b.pass.view)) }
+        ensures busy { IfErr result (λ b. (b.req ≡ self.entry.req) × (b.pass.table ≡ self.entry.pass.table) × (mid : View) × Looks self.entry.pass.view mid × MissedPipe self.entry.pass.view mid target self.entry.req × Extends mid (Free self.entry.req self.entry.pipe NoRequest) (RoleBusy self.entry.req) b.pass.view × ((found : ℕ) × IsStep (pipe_at self.entry.pipe) found mid b.pass.view)) }
+        ensures woken { IfErr result (λ b. b.woken ≡ []) }
     {
         let Holding {
             words,
@@ -72,15 +76,15 @@ impl<'a> Holding<'a> {
             req,
             parcel,
             pipes,
-            took,
+            lists,
             pipe,
-            conduit,
+            waited,
         } = self;
         if !pipes::hold_second(words, &mut seat, target) {
-            let None = words.exchange(&mut seat, pipe, Some(Thing::Piped(conduit))) else {
+            let None = words.exchange(&mut seat, pipe, Some(Thing::Piped(waited))) else {
                 unreachable!()
             };
-            pipes::free(words, &mut seat, pipe);
+            pipes::free(words, &mut seat, pipe, Laid::NoRequest);
             return Err(Busy {
                 words,
                 grid,
@@ -90,7 +94,7 @@ impl<'a> Holding<'a> {
                 req,
                 parcel,
                 pipes,
-                took,
+                lists,
             });
         }
         let thing = words.exchange(&mut seat, target, None);
@@ -103,26 +107,29 @@ impl<'a> Holding<'a> {
             req,
             parcel,
             pipes,
-            took,
+            lists,
             source: pipe,
             target,
-            from: conduit,
+            from: waited,
             into: parcel::pipe_of(thing),
         })
     }
 }
 
 impl<'a> Joining<'a> {
-    ghost use Rattle.work.specs.Passes.{seen_of};
-    ghost use Rattle.work.specs.WorkerRuns.{Unanswered};
+    ghost use Rattle.work.specs.Passes.{IsLaidOnce, seen_of};
+    ghost use Rattle.work.specs.WorkerRuns.{LaidAtBoth, TookAlong, Unanswered};
 
-    /// Answers the request by its pipes, and gives them back; or gives them back as they were, where there is no answer now.
+    /// Answers the request by its pipes, and gives them back, from which it takes along all that lie there; or gives them back as
+    /// they were and lays the request down at each where it does not lie already, where there is no answer now.
     fn answer(self) -> Result<(Worker, Cqe), Busy<'a>>
         ensures replied { IfOk result (λ t. (t.0.table ≡ self.entry.pass.table) × (mid : View) × Extends self.entry.pass.view (Did (Reply self.entry.req t.1.res [])) (Leaving self.entry.req) mid × (found : ℕ) × (last : ℕ) × (t.0.view ≡ leaves (pipe_at self.entry.source) last (leaves_one self.entry.req self.entry.source (pipe_at self.entry.target) found mid))) }
         ensures took { IfOk result (λ t. t.0.took ≡ []) }
+        ensures woken { IfOk result (λ t. (a : List Request) × (b : List Request) × TookAlong self.entry.req self.entry.source t.1.res t.0.view a × TookAlong self.entry.req self.entry.target t.1.res t.0.view b × (t.0.woken ≡ a ++ b)) }
         ensures steps { IfOk result (λ t. (word : ℕ) × IsThreeSteps word (pipe_at self.entry.target) (pipe_at self.entry.source) self.entry.pass.view t.0.view) }
         ensures user_data { IfOk result (λ t. (e : Entry) → IsPlaced (seen_of self.entry.pass) self.entry.req e → t.1.user_data ≡ e.user_data) }
-        ensures waits { IfErr result (λ b. (b.req ≡ self.entry.req) × (b.pass.table ≡ self.entry.pass.table) × (mid : View) × Extends self.entry.pass.view (Free self.entry.req self.entry.target) (RoleBusy self.entry.req) mid × Extends mid (Free self.entry.req self.entry.source) (RoleBusy self.entry.req) b.pass.view × ((found : ℕ) × IsStep (pipe_at self.entry.target) found self.entry.pass.view mid) × ((found : ℕ) × IsStep (pipe_at self.entry.source) found mid b.pass.view)) }
+        ensures waits { IfErr result (λ b. (b.req ≡ self.entry.req) × (b.pass.table ≡ self.entry.pass.table) × (mid : View) × (laid : LaidAs) × (under : LaidAs) × Extends self.entry.pass.view (Free self.entry.req self.entry.target laid) (RoleBusy self.entry.req) mid × Extends mid (Free self.entry.req self.entry.source under) (RoleBusy self.entry.req) b.pass.view × ((found : ℕ) × IsStep (pipe_at self.entry.target) found self.entry.pass.view mid) × ((found : ℕ) × IsStep (pipe_at self.entry.source) found mid b.pass.view) × IsLaidOnce laid self.entry.req (lying self.entry.pass.view.seen self.entry.target) × IsLaidOnce under self.entry.req (lying self.entry.pass.view.seen self.entry.source)) }
+        ensures lain { IfErr result (λ b. LaidAtBoth self.entry.pass.view b.pass.view self.entry.req self.entry.source self.entry.target b.woken) }
         ensures unanswered { IfErr result (λ b. (e : Entry) → IsPlaced (seen_of self.entry.pass) self.entry.req e → Unanswered self.entry.pass.view self.entry.req e) }
     {
         let Joining {
@@ -134,22 +141,25 @@ impl<'a> Joining<'a> {
             req,
             parcel,
             pipes,
-            took,
+            mut lists,
             source,
             target,
             mut from,
             mut into,
         } = self;
-        let answer = answer_both(parcel.sqe.op(), &mut from, &mut into);
+        let answer = answer_both(parcel.sqe.op(), &mut from.pipe, &mut into.pipe);
+        let answered = answer.is_some();
+        let under = settle_once(&mut from.lying, &mut lists.source, req, answered);
+        let laid = settle_once(&mut into.lying, &mut lists.woken, req, answered);
         let None = words.exchange(&mut seat, target, Some(Thing::Piped(into))) else {
             unreachable!()
         };
         let Some(res) = answer else {
-            pipes::free_one(words, &mut seat, target);
+            pipes::free_one(words, &mut seat, target, laid);
             let None = words.exchange(&mut seat, source, Some(Thing::Piped(from))) else {
                 unreachable!()
             };
-            pipes::free(words, &mut seat, source);
+            pipes::free(words, &mut seat, source, under);
             return Err(Busy {
                 words,
                 grid,
@@ -159,7 +169,7 @@ impl<'a> Joining<'a> {
                 req,
                 parcel,
                 pipes,
-                took,
+                lists,
             });
         };
         seat.turn();
@@ -176,13 +186,14 @@ impl<'a> Joining<'a> {
         pipes::reply_both(
             words, &mut seat, cell, generation, fails, res, target, source,
         );
-        Ok((Worker::new(seat, took), cqe))
+        lists.took.clear();
+        Ok((Worker::after(seat, lists), cqe))
     }
 }
 
 impl<'a> Busy<'a> {
     ghost use Rattle.work.specs.Passes.{seen_of};
-    ghost use Rattle.work.specs.WorkerRuns.{StepsAt, IsRun};
+    ghost use Rattle.work.specs.WorkerRuns.{StepsAt, IsRun, WakesAt};
 
     /// Answers the request, which is answered from two pipes of the board, or puts it back to Ready.
     pub(crate) fn run_between(self, source: usize, target: usize) -> (Worker, Ran)
@@ -190,6 +201,7 @@ impl<'a> Busy<'a> {
         ensures worker { result.0.table ≡ self.entry.pass.table }
         ensures kept { (b : Facts) → IsOf b self.entry.pass → IsOf b result.0 }
         ensures took { result.0.took ≡ [] }
+        ensures woken { WakesAt (Both source target) self.entry result.0 result.1 }
         ensures steps { StepsAt (Both source target) self.entry.pass.view result.0.view self.entry.req result.1 }
         ensures ran { IsRun self.entry result.0 result.1 }
     {

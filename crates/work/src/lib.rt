@@ -7,6 +7,7 @@ pub mod grid;
 mod holding;
 mod hunt;
 mod joining;
+pub mod lists;
 pub mod pass;
 mod placed;
 pub mod run;
@@ -15,6 +16,7 @@ pub mod worker;
 
 pub use busy::Busy;
 pub use grid::{Grid, Spot};
+pub use lists::Lists;
 pub use pass::{Messenger, Pass};
 pub use run::{Parked, Ran};
 pub use worker::Worker;

@@ -53,6 +53,7 @@ pub trait Pass {
         requires { CanReach words.now.table_id (knows self.old) cell }
         ensures table { (knows self.new).table ≡ (knows self.old).table }
         ensures took { (knows self.new).took ≡ (knows self.old).took }
+        ensures woken { (knows self.new).woken ≡ (knows self.old).woken }
         ensures looks { Looks (knows self.old).view (knows self.new).view }
         ensures shown { Shown (knows self.old).view.layout.cells (knows self.new).view.seen cell result }
         ensures step { IsStep (claim_at cell) result (knows self.old).view (knows self.new).view };
@@ -61,11 +62,11 @@ pub trait Pass {
     fn tell(&mut self, words: &Words) -> Messenger
         requires { CanReach words.now.table_id (knows self.old) 0 }
         ensures same { knows self.new ≡ knows self.old }
-        ensures told { result ≡ record { table = (knows self.old).table; view = messenger (knows self.old).view; took = [] } };
+        ensures told { result ≡ record { table = (knows self.old).table; view = messenger (knows self.old).view; took = []; woken = [] } };
 
     /// Hears the messenger. What it carries stands in what this pass has seen from its next look on.
     fn hear(&mut self, words: &Words, messenger: Messenger)
         requires reach { CanReach words.now.table_id (knows self.old) 0 }
         requires messenger { messenger.table ≡ words.now.table_id }
-        ensures heard { knows self.new ≡ record { table = (knows self.old).table; view = hearing (knows self.old).view messenger.view; took = (knows self.old).took } };
+        ensures heard { knows self.new ≡ record { table = (knows self.old).table; view = hearing (knows self.old).view messenger.view; took = (knows self.old).took; woken = (knows self.old).woken } };
 }

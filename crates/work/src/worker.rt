@@ -1,13 +1,15 @@
 //! A worker's pass.
-ghost use Rattle.std.specs.Prelude.{◌≡◌, ◌≤◌, ◌⊎◌, length, vec_capacity, IfOk, IfErr};
+ghost use Rattle.std.specs.Prelude.{◌≡◌, ◌≤◌, ◌⊎◌, ◌++◌, ◌*◌, length, IfOk, IfErr};
 ghost use Rattle.history.specs.declared.event.Event.TheVariants.{Begin};
 ghost use Rattle.steps.specs.declared.line.Line.TheVariants.{Did};
 ghost use Rattle.steps.specs.declared.view.Role.TheVariants.{Busy as RoleBusy};
+ghost use Rattle.steps.specs.Cells.{total};
 ghost use Rattle.steps.specs.Rule.{Looks, Extends};
 ghost use Rattle.work.specs.Board.{Facts, IsOf};
 
 use crate::busy::Busy;
 use crate::grid::Grid;
+use crate::lists::Lists;
 use crate::pass::{Messenger, Pass};
 use claim::GENERATIONS;
 use history::Req;
@@ -16,45 +18,44 @@ use steps::layout::slot;
 use steps::parcel::parcel_of;
 use steps::{TableSeat, Words, seat, table};
 
-/// A worker without a request. Contracts see its table, what it knows, and which requests its last run ended.
+/// A worker without a request. Contracts see its table, what it knows, which requests its last run ended, and which it took along
+/// from the pipes that it gave back.
 #[derive(Drop)]
 pub struct Worker {
     seat: TableSeat,
-    took: Vec<Req>,
+    lists: Lists,
 }
 
 impl Model for Worker {
-    ghost use Rattle.std.specs.Prelude.{vec_capacity};
-    ghost use Rattle.work.specs.Passes.{Pass, HasRoom, IsIdleSeat};
+    ghost use Rattle.work.specs.Passes.{Pass, HasRooms, IsIdleSeat, woken_of};
 
     ghost Value = { Pass };
 
-    ghost view = { λ w. record { table = w.seat.table_id; view = w.seat.me.0; took = w.took.items } };
+    ghost view = { λ w. record { table = w.seat.table_id; view = w.seat.me.0; took = w.lists.took.items; woken = woken_of w.lists } };
 
-    ghost invariant = { λ w. IsIdleSeat w.seat × HasRoom w.seat.me.0.layout.cells (vec_capacity w.took) };
+    ghost invariant = { λ w. IsIdleSeat w.seat × HasRooms w.seat.me.0.layout.cells w.lists };
 }
 
 impl Worker {
-    ghost use Rattle.work.specs.Passes.{pass_of, HasRoom, IsIdleSeat};
+    ghost use Rattle.work.specs.Passes.{pass_of, HasRooms, IsIdleSeat, woken_of};
 
-    /// The pass of an idle seat. The list is emptied, and is for the requests that a run of it ends: it has room for all cells of
-    /// a ring but one.
-    pub fn new(seat: TableSeat, mut room: Vec<Req>) -> Worker
+    /// The pass of an idle seat. The lists are emptied.
+    pub fn new(seat: TableSeat, mut lists: Lists) -> Worker
         requires seat { IsIdleSeat seat }
-        requires room { HasRoom seat.me.0.layout.cells (vec_capacity room) }
+        requires room { HasRooms seat.me.0.layout.cells lists }
         ensures { result ≡ pass_of seat }
     {
-        room.clear();
-        Self { seat, took: room }
+        lists.clear();
+        Self { seat, lists }
     }
 
-    /// The same after a run that ended these requests.
-    pub(crate) fn after(seat: TableSeat, took: Vec<Req>) -> Worker
+    /// The same after a run that listed these requests.
+    pub(crate) fn after(seat: TableSeat, lists: Lists) -> Worker
         requires seat { IsIdleSeat seat }
-        requires room { HasRoom seat.me.0.layout.cells (vec_capacity took) }
-        ensures { result ≡ record (pass_of seat) { took = took.items } }
+        requires room { HasRooms seat.me.0.layout.cells lists }
+        ensures { result ≡ record (pass_of seat) { took = lists.took.items; woken = woken_of lists } }
     {
-        Self { seat, took }
+        Self { seat, lists }
     }
 
     /// The requests that its last run ended, in the order of their numbers: none where that was no cancel's. The list stands until its
@@ -62,15 +63,26 @@ impl Worker {
     pub fn took(&self) -> &[Req]
         ensures { result.now ≡ self.now.took }
     {
-        self.took.as_slice()
+        self.lists.took.as_slice()
+    }
+
+    /// The requests that its last run took along from the pipes that it gave back: they found no answer there, and may have one now.
+    /// After a reply these are all that lay there, of a SPLICE those of its source, and then those of its target. After a park they
+    /// are those that had to make place. A number may be stale: its request was ended by a cancel or a timer, or lay with two pipes.
+    /// One whose request still runs isn't stale. The lists stand until its next run.
+    pub fn woken(&self) -> (&[Req], &[Req])
+        ensures lists { result.0.now ++ result.1.now ≡ self.now.woken }
+        ensures room { length self.now.woken ≤ 2 * total self.now.view.layout.cells }
+    {
+        (self.lists.source.as_slice(), self.lists.woken.as_slice())
     }
 
     /// Its seat.
     pub fn into_seat(self) -> TableSeat
         ensures seat { IsIdleSeat result }
-        ensures value { record (pass_of result) { took = self.took } ≡ self }
+        ensures value { record (pass_of result) { took = self.took; woken = self.woken } ≡ self }
     {
-        let Worker { seat, took: _ } = self;
+        let Worker { seat, lists: _ } = self;
         seat
     }
 }
@@ -107,19 +119,20 @@ impl Worker {
         ensures kept { (b : Facts) → IsOf b self → IfOk result (λ busy. IsOf b busy.pass) × IfErr result (λ w. IsOf b w) }
         ensures steps { IfOk result (λ b. Took self.view b.pass.view 1) }
         ensures took { IfOk result (λ b. b.took ≡ self.took) × IfErr result (λ w. w.took ≡ self.took) }
+        ensures woken { IfOk result (λ b. b.woken ≡ self.woken) × IfErr result (λ w. w.woken ≡ self.woken) }
         ensures refused { IfErr result (λ w. (w.table ≡ self.table) × ((w.view ≡ self.view) ⊎ Looks self.view w.view) × ((length grid.now ≤ req.ring) ⊎ FoundNotReady grid.now req self.view w.view)) }
     {
-        let Worker { mut seat, took } = self;
+        let Worker { mut seat, lists } = self;
         let Some(spot) = grid.locate(req) else {
-            return Err(Worker { seat, took });
+            return Err(Worker { seat, lists });
         };
         if spot.generation >= u64::from(GENERATIONS) {
             seat::look(words, &mut seat, spot.cell);
-            return Err(Worker { seat, took });
+            return Err(Worker { seat, lists });
         }
         let generation = spot.generation as u32;
         if !seat::begin(words, &mut seat, spot.cell, generation) {
-            return Err(Worker { seat, took });
+            return Err(Worker { seat, lists });
         }
         let thing = words.exchange(&mut seat, slot(spot.cell), None);
         Ok(Busy {
@@ -131,7 +144,7 @@ impl Worker {
             req,
             parcel: parcel_of(thing),
             pipes,
-            took,
+            lists,
         })
     }
 }

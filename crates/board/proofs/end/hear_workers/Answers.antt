@@ -14,7 +14,7 @@ hear-requires-clause-fits c =
 pub loop-worker-preserved : goal.loop-worker-preserved
 loop-worker-preserved c =
     let v = c.loop-worker.invariant in let b = v.ours in let p : Pass = c.in-Some.worker in let all = are_of_last b.0 c.pop.new.self.items p (subst (AreOf b.0) c.in-Some.ensures.items b.2) in let of : IsOf b.0 p = all.1 in
-    let same' : record (pass_of c.into_seat.result) { took = p.took } ≡ p = c.into_seat.ensures.value in let me = c.hear.ensures.seat.1 in record {
+    let same' : record (pass_of c.into_seat.result) { took = p.took; woken = p.woken } ≡ p = c.into_seat.ensures.value in let me = c.hear.ensures.seat.1 in record {
       ours = (b.0, b.1, all.0);
       table = c.hear.ensures.seat.0.0 ∙ v.table;
       role = heard_role c.loop-worker.seat.me.0 c.into_seat.result.me.0 c.loop-worker.seat.me.1 c.hear.new.seat.me me ∙ v.role;

@@ -1,40 +1,48 @@
-use Rattle.std.proofs.Common.{refl, sym, ap, subst, cond, Bool, List, inl, inr, [], ◌∷◌}
-use Rattle.std.proofs.lemmas.List.{append-nil}
+use Rattle.std.proofs.Common.{rules, ◌≡◌, ◌+◌, ◌<◌, ◌≤◌, refl, sym, ap, ◌∙◌, subst, cond, true, false, Bool, List, inl, inr, [], ◌∷◌, ◌++◌, length, arith}
+use Rattle.std.proofs.lemmas.List.{append-nil, length-append}
 use Rattle.history.specs.declared.req.Req.{Req}
-use Rattle.runtime.specs.WorkTurns.{Desk, PutsBack, Shifts}
-use Rattle.runtime.proofs.ShiftLaws.{put_twice, shifts_back, shifts_then}
+use Rattle.runtime.specs.WorkTurns.{Desk, Shifts}
+use Rattle.runtime.proofs.ShiftLaws.{back_same, shifts_again, shifts_put, shifts_tried}
 use Rattle.runtime.proofs.serving.work_turn.Goals as goal
-use Rattle.runtime.proofs.serving.work_turn.Goals.{then-is_parked, else-is_parked}
+use Rattle.runtime.proofs.serving.work_turn.Goals.{then-left-2, else-left-2}
+
+pub keep-requires : goal.keep-requires
+keep-requires g c =
+    let tried = c.serve-worker.ensures.tried in
+    let fit = c.make_room.ensures.room (search rules) in
+    let given = c.in-Some.ensures.few in
+    let woken : length c.serve-worker.new.desk.kept ≡ length c.next.new.self.kept + length tried.1 = ap (λ (d : Desk). length d.kept) {y = record c.next.new.self { kept = c.next.new.self.kept ++ tried.1 }} tried.4 ∙ length-append c.next.new.self.kept tried.1 in
+    let places : c.serve-worker.new.desk.places ≡ c.next.new.self.places = ap (λ (d : Desk). d.places) tried.4 in
+    let put = c.put_kept-2.ensures.few in record { room = omega (arith, fit, given.0, given.1, woken, places, put.0, put.1, tried.5) }
 
 pub returns-in_default-clause-turned : goal.returns-in_default-clause-turned
 returns-in_default-clause-turned g c = record {
   of = c.requires.worker;
   answered = [];
   gone = [];
-  serves = inl (refl, refl, refl);
+  woken = [];
+  serves = inl (refl, refl, refl, refl);
   outbox = ap (λ (l : List Req). record c.args.outbox.now { answered = l }) (sym (append-nil c.args.outbox.now.answered));
-  numbers = shifts_then _ _ _ [] [] [] [] c.retry.ensures.shifts (subst (λ (d : Desk). Shifts d [] [] c.retry-in_default.new.self) c.in_default.ensures.shifts c.retry-in_default.ensures.shifts);
+  numbers = subst (λ (d : Desk). Shifts c.args.desk.now [] [] d) (sym c.in_default.ensures.shifts) (shifts_put _ _ (back_same _ _ _ c.put_kept.ensures.back c.make_room.ensures.same));
 }
-
-pub returns-in_default-clause-none : goal.returns-in_default-clause-none
-returns-in_default-clause-none g c = λ idle.
-    (put_twice _ _ _ c.retry.ensures.back (subst (λ (d : Desk). PutsBack d c.retry-in_default.new.self) c.in_default.ensures.shifts c.retry-in_default.ensures.back), c.turn.ensures idle)
 
 pub returns-clause-turned : goal.returns-clause-turned
 returns-clause-turned g c =
     let r = c.in-Some.req in
-    let took : Shifts c.args.desk.now [] (r ∷ []) c.next.new.self = shifts_then _ _ _ [] [] [] (r ∷ []) c.retry.ensures.shifts c.in-Some.ensures.shifts in
+    let tried = c.serve-worker.ensures.tried in
+    let done : Shifts c.args.desk.now tried.1 (r ∷ []) c.put_kept-2.new.self = shifts_tried _ c.make_room.new.self _ _ _ r tried.1 (back_same _ _ _ c.put_kept.ensures.back c.make_room.ensures.same) c.in-Some.ensures.shifts tried.4 c.put_kept-2.ensures.back in
     record {
       of = c.serve-worker.ensures.own;
-      answered = c.serve-worker.ensures.tried.0;
-      gone = cond c.serve-worker.result.1 [] (r ∷ []);
-      serves = inr (r, c.serve-worker.ensures.tried.1);
-      outbox = c.serve-worker.ensures.tried.2;
-      numbers = elim c.if-is_parked.branch [
-        | then-is_parked w ↦ subst (λ (d : Desk). Shifts c.args.desk.now [] (cond c.serve-worker.result.1 [] (r ∷ [])) d) (sym w.desk-is)
-            (subst (λ (b : Bool). Shifts c.args.desk.now [] (cond b [] (r ∷ [])) w.keep.new.self) (sym w.if-is_parked.true)
-            (shifts_back _ _ r (shifts_then _ _ _ [] (r ∷ []) (r ∷ []) [] took w.keep.ensures)))
-        | else-is_parked w ↦ subst (λ (d : Desk). Shifts c.args.desk.now [] (cond c.serve-worker.result.1 [] (r ∷ [])) d) (sym w.desk-is)
-            (subst (λ (b : Bool). Shifts c.args.desk.now [] (cond b [] (r ∷ [])) c.next.new.self) (sym w.if-is_parked.false) took)
+      answered = tried.0;
+      gone = cond c.serve-worker.result.1.again [] (r ∷ []);
+      woken = tried.1;
+      serves = inr (r, tried.2);
+      outbox = tried.3;
+      numbers = elim c.if-left-2.branch [
+        | then-left-2 w ↦ subst (λ (d : Desk). Shifts c.args.desk.now tried.1 (cond c.serve-worker.result.1.again [] (r ∷ [])) d) (sym w.desk-is)
+            (subst (λ (b : Bool). Shifts c.args.desk.now tried.1 (cond b [] (r ∷ [])) w.keep.new.self) (sym w.if-left-2.true)
+            (shifts_again _ _ _ r tried.1 done w.keep.ensures))
+        | else-left-2 w ↦ subst (λ (d : Desk). Shifts c.args.desk.now tried.1 (cond c.serve-worker.result.1.again [] (r ∷ [])) d) (sym (w.desk-is ∙ w.finish.ensures))
+            (subst (λ (b : Bool). Shifts c.args.desk.now tried.1 (cond b [] (r ∷ [])) c.put_kept-2.new.self) (sym w.if-left-2.false) done)
       ];
     }

@@ -7,17 +7,15 @@ use Rattle.work.specs.Board.{IsOf}
 use Rattle.work.specs.Passes.{Pass}
 use Rattle.runtime.specs.declared.started.WorkThread.{WorkThread}
 use Rattle.runtime.specs.Crews.{shares_of}
-use Rattle.runtime.specs.Loops.{IsServing}
-use Rattle.runtime.specs.WorkTurns.{Desk}
 use Rattle.runtime.proofs.startup.start_workers.Goals as goal
 
 pub start_worker-requires-after_bounds : goal.start_worker-requires-after_bounds
 start_worker-requires-after_bounds g c κs within =
     let s = arc_value c.args.shared.now in
-    subst (λ (d : Desk). IsServing s d c.in-Some.worker) (sym c.beside-desk.ensures) (record {
+    record {
       worker_is = (All-pop (λ (p : Pass). IsOf s.board p) c.loop-worker.workers.items c.pop.new.self.items (Some c.in-Some.worker) c.in-Some.ensures.items c.loop-worker.invariant.workers).1;
-      ready = (All-pop (λ (p : Moves). IsOfQueue s.queue p) c.loop-worker.passes.items c.pop-in-Some.new.self.items (Some c.in-Some-pop.ready) c.in-Some-pop.ensures.items c.loop-worker.invariant.passes).1;
-    })
+      ready = subst (λ (p : Moves). IsOfQueue s.queue p) (sym c.in-Ok-beside.ensures.new.0) (All-pop (λ (p : Moves). IsOfQueue s.queue p) c.loop-worker.passes.items c.pop-in-Some.new.self.items (Some c.in-Some-pop.ready) c.in-Some-pop.ensures.items c.loop-worker.invariant.passes).1;
+    }
 
 pub loop-worker-preserved : goal.loop-worker-preserved
 loop-worker-preserved g c =
@@ -32,7 +30,7 @@ loop-worker-preserved g c =
     let more = ap (λ (z : List WorkThread). length z) c.push_reserved.ensures.items in
     let one_thread = length-append c.loop-worker.threads.items (c.in-Ok-start_worker.thread ∷ []) in
     let shares = ap (λ (z : List Moves). sum_by (λ (p : Moves). p.share) z) passes_left in
-    let own_share = ap (λ (d : Desk). d.ready.share) c.beside-desk.ensures in
+    let own_share = ap (λ (p : Moves). p.share) c.in-Ok-beside.ensures.new.0 in
     let sum = ap (λ (z : List WorkThread). shares_of z) c.push_reserved.ensures.items in
     record {
       workers = (All-pop (λ (p : Pass). IsOf s.board p) c.loop-worker.workers.items c.pop.new.self.items (Some c.in-Some.worker) c.in-Some.ensures.items i.workers).0;

@@ -16,7 +16,7 @@ returns-in_err-runtime-clause-stuck g c =
     let p = err_from_is_err_and c.from_residual-in_err-runtime.result c.from_residual-in_err-runtime.ensures.1 in
     rw (p.1) (unstuck (IsStuck c.args.script.now c.args.workers c.args.turns) _ p.2)
 
-pub returns-in_err-counted-clause-stuck : goal.returns-in_err-counted-clause-stuck
-returns-in_err-counted-clause-stuck g c =
-    let p = err_from_is_err_and c.from_residual-in_err-counted.result c.from_residual-in_err-counted.ensures.1 in
-    rw (p.1, p.2) (unstuck (IsStuck c.args.script.now c.args.workers c.args.turns) _ c.in_err-counted.ensures.unstuck)
+pub returns-in_err-clock-clause-stuck : goal.returns-in_err-clock-clause-stuck
+returns-in_err-clock-clause-stuck g c =
+    let p = err_from_is_err_and c.from_residual-in_err-clock.result c.from_residual-in_err-clock.ensures.1 in
+    rw (p.1, p.2) (unstuck (IsStuck c.args.script.now c.args.workers c.args.turns) _ c.in_err-clock.ensures.unstuck)

@@ -4,7 +4,7 @@ use Rattle.script_run.specs.declared.hand.Hand.{Hand}
 use Rattle.script_run.specs.Hands.{AllWent}
 use Rattle.script_run.proofs.HandSteps.{all_still, all_then}
 use Rattle.script_run.proofs.watch.go_on.Goals as goal
-use Rattle.script_run.proofs.watch.go_on.Goals.{then-not-is_over, else-not-is_over+else-are_still}
+use Rattle.script_run.proofs.watch.go_on.Goals.{then-not-has_rested, else-not-has_rested+else-are_at_rest}
 
 pub loop-init : goal.loop-init
 loop-init g c = all_still c.args.hands.now.items
@@ -12,13 +12,13 @@ loop-init g c = all_still c.args.hands.now.items
 pub returns-in_err-take_all : goal.returns-in_err-take_all
 returns-in_err-take_all g c = all_then c.args.hands.now.items c.loop.hands.items c.take_all.new.hands.items c.loop.invariant c.take_all.ensures
 
-pub returns-then-are_still : goal.returns-then-are_still
-returns-then-are_still g c = all_then c.args.hands.now.items c.take_all.new.hands.items c.are_still.new.hands.items (all_then c.args.hands.now.items c.loop.hands.items c.take_all.new.hands.items c.loop.invariant c.take_all.ensures) c.are_still.ensures
+pub returns-then-are_at_rest : goal.returns-then-are_at_rest
+returns-then-are_at_rest g c = all_then c.args.hands.now.items c.take_all.new.hands.items c.are_at_rest.new.hands.items (all_then c.args.hands.now.items c.loop.hands.items c.take_all.new.hands.items c.loop.invariant c.take_all.ensures) c.are_at_rest.ensures
 
 pub loop-preserved : goal.loop-preserved
 loop-preserved g c =
     let taken = all_then c.args.hands.now.items c.loop.hands.items c.take_all.new.hands.items c.loop.invariant c.take_all.ensures in
-    elim c.if-not-is_over.branch [
-      | then-not-is_over w ↦ subst (λ (v : Vec Hand). AllWent c.args.hands.now.items v.items) (sym w.hands-is) taken
-      | else-not-is_over+else-are_still w ↦ subst (λ (v : Vec Hand). AllWent c.args.hands.now.items v.items) (sym w.hands-is) (all_then c.args.hands.now.items c.take_all.new.hands.items w.are_still.new.hands.items taken w.are_still.ensures)
+    elim c.if-not-has_rested.branch [
+      | then-not-has_rested w ↦ subst (λ (v : Vec Hand). AllWent c.args.hands.now.items v.items) (sym w.hands-is) taken
+      | else-not-has_rested+else-are_at_rest w ↦ subst (λ (v : Vec Hand). AllWent c.args.hands.now.items v.items) (sym w.hands-is) (all_then c.args.hands.now.items c.take_all.new.hands.items w.are_at_rest.new.hands.items taken w.are_at_rest.ensures)
     ]

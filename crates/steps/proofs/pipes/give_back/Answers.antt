@@ -1,18 +1,58 @@
-use Rattle.std.proofs.Common.{ℕ, sym, ◌∙◌, subst}
+use Rattle.std.proofs.Common.{◌≡◌, ◌<◌, ℕ, Some, length, sym, ◌∙◌, subst}
 use Rattle.std.proofs.lemmas.Bool.{lt-ltb}
+use Rattle.atomic_table.specs.Table.{Allows, step, rest}
+use mathlib.Core.Option.{none}
+use Rattle.history.specs.declared.req.Req.{Req}
+use Rattle.steps.specs.declared.line.Laid.{Laid}
 use Rattle.steps.specs.declared.line.Line.TheVariants.{Free}
+use Rattle.steps.specs.declared.view.Layout.{Layout}
 use Rattle.steps.specs.declared.view.Role.{Role}
-use Rattle.steps.specs.Rule.{Extends, IsStep}
+use Rattle.steps.specs.declared.view.Role.TheVariants.{Busy}
+use Rattle.steps.specs.Cells.{pipe_at}
+use Rattle.steps.specs.Fairness.{MayLay}
+use Rattle.steps.specs.Journal.{events_of, holder}
+use Rattle.steps.specs.Plays.{Seated, HasPipeLaid, pipe_returned}
+use Rattle.steps.specs.Rule.{Extends, IsStep, Ruled}
 use Rattle.steps.proofs.PipeSteps.{one_worker, free_allows}
 use Rattle.steps.proofs.pipes.give_back.Goals as goal
 
-pub store-requires : goal.store-requires
-store-requires c = let f = c.requires.fits in let b = c.requires.busy in let p = c.requires.pipe in
-    rw c.pipe_word.ensures (f.0, f.3, free_allows _ _ c.args.seat.now.me b.0 c.args.pipe b.1 f.1 p.0 (lt-ltb _ _ f.2) b.2 p.1 p.2 _)
+-- what the worker has in hand may be given back so
+abbrev Left : Seated → ℕ → Laid → Type 0
+Left me p laid = (q : Req) → me.0.role ≡ Busy q → HasPipeLaid me p q laid × MayLay me.0.layout.caps (events_of me.0.seen) q p laid
 
-pub returns : goal.returns
-returns c = let b = c.requires.busy in let v = c.args.seat.now.me.0 in let w = c.store.new.seat.me.0 in let d = c.store.ensures.2 c.args.pipe b.0 c.pipe_word.ensures b.1 b.2 in record {
-  seat = ((c.store.ensures.0, c.store.ensures.1), d.1);
-  frees = λ q is. subst (λ (z : Role). Extends v (Free q c.args.pipe) z w) is (subst (λ (z : _). Extends v (Free z c.args.pipe) v.role w) (one_worker b.0 q (sym b.1 ∙ is)) d.0);
-  step = subst (λ (i : ℕ). (found : ℕ) × IsStep i found v w) c.pipe_word.ensures d.2;
-}
+allowed : (slots id : ℕ) (me : Seated) (p : ℕ) (given laid : Laid) → given ≡ laid → (q : Req) → me.0.role ≡ Busy q → holder me.0.seen p ≡ Some q → p < 64 → p < length me.0.layout.caps → Left me p given → (M : Layout) → Allows (Ruled M) slots id me (pipe_at p) (λ _. 0) (λ _. pipe_returned laid (step slots (pipe_at p) 0 0 none) me 0)
+allowed slots id me p given laid same q busy has small there left M = let l = subst (Left me p) same left q busy in free_allows slots id me q p busy small laid l.0.0 (lt-ltb _ _ there) has l.1 l.0.1 l.0.2 M
+
+-- what the store tells, said of the worker's request
+told : (old new : Seated) (p word : ℕ) (given laid : Laid) → given ≡ laid → word ≡ pipe_at p → (q : Req) → old.0.role ≡ Busy q → holder old.0.seen p ≡ Some q
+    → ((n : ℕ) (d : Req) → word ≡ pipe_at n → old.0.role ≡ Busy d → holder old.0.seen n ≡ Some d → Extends old.0 (Free d n laid) old.0.role new.0 × (new.1 ≡ rest old.1) × ((found : ℕ) × IsStep word found old.0 new.0))
+    → ((d : Req) → old.0.role ≡ Busy d → Extends old.0 (Free d p given) (Busy d) new.0) × (new.1 ≡ rest old.1) × ((found : ℕ) × IsStep (pipe_at p) found old.0 new.0)
+told old new p word given laid same at q busy has k = let x = k p q at busy has in (
+  λ d is. subst (λ (z : Role). Extends old.0 (Free d p given) z new.0) is (subst (λ (z : Req × Laid). Extends old.0 (Free z.0 p z.1) old.0.role new.0) (λ i. (one_worker q d (sym busy ∙ is) i, sym same i)) x.0),
+  x.1,
+  subst (λ (i : ℕ). (found : ℕ) × IsStep i found old.0 new.0) at x.2,
+)
+
+pub store-requires : goal.store-requires
+store-requires c = let f = c.requires.fits in let b = c.requires.busy in
+    rw c.pipe_word-word.ensures (f.0, f.3, allowed _ _ c.args.seat.now.me c.args.pipe c.args.laid _ c.in-NoRequest.is b.0 b.1 b.2 f.1 f.2 c.requires.pipe _)
+
+pub store-requires-in-Behind : goal.store-requires-in-Behind
+store-requires-in-Behind c = let f = c.requires.fits in let b = c.requires.busy in
+    rw c.pipe_word-word.ensures (f.0, f.3, allowed _ _ c.args.seat.now.me c.args.pipe c.args.laid _ c.in-Behind.is b.0 b.1 b.2 f.1 f.2 c.requires.pipe _)
+
+pub store-requires-in-Alone : goal.store-requires-in-Alone
+store-requires-in-Alone c = let f = c.requires.fits in let b = c.requires.busy in
+    rw c.pipe_word-word.ensures (f.0, f.3, allowed _ _ c.args.seat.now.me c.args.pipe c.args.laid _ c.in-Alone.is b.0 b.1 b.2 f.1 f.2 c.requires.pipe _)
+
+pub returns-in-NoRequest : goal.returns-in-NoRequest
+returns-in-NoRequest c = let b = c.requires.busy in let s = c.store.ensures in let t = told c.args.seat.now.me c.store.new.seat.me c.args.pipe c.pipe_word-word.result c.args.laid _ c.in-NoRequest.is c.pipe_word-word.ensures b.0 b.1 b.2 s.2 in
+    record { seat = ((s.0, s.1), t.1); frees = t.0; step = t.2 }
+
+pub returns-in-Behind : goal.returns-in-Behind
+returns-in-Behind c = let b = c.requires.busy in let s = c.store-in-Behind.ensures in let t = told c.args.seat.now.me c.store-in-Behind.new.seat.me c.args.pipe c.pipe_word-word.result c.args.laid _ c.in-Behind.is c.pipe_word-word.ensures b.0 b.1 b.2 s.2 in
+    record { seat = ((s.0, s.1), t.1); frees = t.0; step = t.2 }
+
+pub returns-in-Alone : goal.returns-in-Alone
+returns-in-Alone c = let b = c.requires.busy in let s = c.store-in-Alone.ensures in let t = told c.args.seat.now.me c.store-in-Alone.new.seat.me c.args.pipe c.pipe_word-word.result c.args.laid _ c.in-Alone.is c.pipe_word-word.ensures b.0 b.1 b.2 s.2 in
+    record { seat = ((s.0, s.1), t.1); frees = t.0; step = t.2 }

@@ -45,6 +45,12 @@ returns-clause-told g c = let p = g.Q.Pass.knows c.args.other.now in let m = c.t
     let seen : m.view.seen ≡ (g.P.Pass.knows c.tell-messenger.new.self).view.seen = ap (λ (z : Pass). z.view.seen) c.tell-messenger.ensures.told ∙ ap (λ (z : Pass). z.view.seen) (sym c.tell-messenger.ensures.same) in
     subst (Begins q.view.seen) seen (begins_told p (g.Q.Pass.knows c.hear.new.self) q m.view c.hear.ensures.heard c.load-2.ensures.looks)
 
+pub returns-clause-woken : goal.returns-clause-woken
+returns-clause-woken g c = (
+  ap (λ (z : Pass). z.woken) c.tell-messenger.ensures.same ∙ c.load.ensures.woken,
+  c.load-2.ensures.woken ∙ ap (λ (z : Pass). z.woken) c.hear.ensures.heard,
+)
+
 pub returns-clause-took : goal.returns-clause-took
 returns-clause-took g c = (
   ap (λ (z : Pass). z.took) c.tell-messenger.ensures.same ∙ c.load.ensures.took,

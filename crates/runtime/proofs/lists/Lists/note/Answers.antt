@@ -13,12 +13,12 @@ same_cares c ws vs xs ys f g j a b e y = subst (λ (z : List Req × List Req × 
 pub returns-in_default-clause-cares : goal.returns-in_default-clause-cares
 returns-in_default-clause-cares c = λ j is y. same_cares (cares_of c.args.self.now) _ _ _ _ _ _ j (ap (λ (s : Places). s.items) c.put.ensures) (λ i. c.args.self.now.watchers.items) c.in_default.ensures.err (waits_on (cares_of c.args.self.now) c.args.req j y)
 
-pub returns-in_default-make_place-clause-cares : goal.returns-in_default-make_place-clause-cares
-returns-in_default-make_place-clause-cares c = λ j is y.
+pub returns-in_default-make_places-clause-cares : goal.returns-in_default-make_places-clause-cares
+returns-in_default-make_places-clause-cares c = λ j is y.
     let fits = c.ranges.deadline.fits in
-    same_cares (cares_of c.args.self.now) _ _ _ _ _ _ j (ap (λ (s : Places). s.items) c.put-in_default-make_place.ensures) c.make_place.ensures.same c.in-Ok.ensures.ok (half_sets_timer (cares_of c.args.self.now) c.args.req c.args.deadline j (omega (arith, fits)) is y)
+    same_cares (cares_of c.args.self.now) _ _ _ _ _ _ j (ap (λ (s : Places). s.items) c.put-in_default-make_places.ensures) c.make_places.ensures.same c.in-Ok.ensures.ok (half_sets_timer (cares_of c.args.self.now) c.args.req c.args.deadline j (omega (arith, fits)) is y)
 
 pub returns-clause-cares : goal.returns-clause-cares
 returns-clause-cares c = λ j is y.
     let fits = c.ranges.deadline.fits in
-    same_cares (cares_of c.args.self.now) _ _ _ _ _ _ j (λ i. c.args.self.now.waiting.items) (ap (λ (s : Places). s.items) c.put-2.ensures ∙ ap (λ (l : List Req). l ++ c.args.req ∷ []) c.make_place.ensures.same) c.in-Ok.ensures.ok (sets_timer (cares_of c.args.self.now) c.args.req c.args.deadline j (omega (arith, fits)) is y)
+    same_cares (cares_of c.args.self.now) _ _ _ _ _ _ j (λ i. c.args.self.now.waiting.items) (ap (λ (s : Places). s.items) c.put-2.ensures ∙ ap (λ (l : List Req). l ++ c.args.req ∷ []) c.make_places.ensures.same) c.in-Ok.ensures.ok (sets_timer (cares_of c.args.self.now) c.args.req c.args.deadline j (omega (arith, fits)) is y)

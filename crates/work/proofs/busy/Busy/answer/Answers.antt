@@ -1,6 +1,5 @@
 use Rattle.std.proofs.Common.{rules, ◌≡◌, ℕ, ◌<◌, true, ℤ, [], ◌∷◌, length, Some, None, sym, refl, ap, ◌∙◌, subst, to_z, of_z, w32}
 use Rattle.std.proofs.lemmas.Int.{to_z-of_z}
-use Rattle.std.specs.Prelude.{vec_capacity}
 use Rattle.atomic_table.specs.Table.{rest}
 use Rattle.answers.specs.Answered.{is_plain}
 use Rattle.answers.specs.NamedEnds.{UsesNone}
@@ -46,7 +45,7 @@ new-requires-clause-seat c = let i = c.self.invariant in let m = c.put_back.ensu
 
 pub new-requires-clause-room : goal.new-requires-clause-room
 new-requires-clause-room c = let b = c.self.inside in let i = c.self.invariant in let m = c.put_back.ensures.seat.2 in
-    room_on b.words.now.table_id b.grid.now b.seat.me.0 c.reply.new.seat.me.0 (vec_capacity b.took) i.grid (c.reply.ensures.ended.2 ∙ ap (λ (z : Seated). z.0.layout) m) i.spare
+    room_on b.words.now.table_id b.grid.now b.seat.me.0 c.reply.new.seat.me.0 b.lists i.grid (c.reply.ensures.ended.2 ∙ ap (λ (z : Seated). z.0.layout) m) i.spare
 
 pub returns-clause-step : goal.returns-clause-step
 returns-clause-step c = let b = c.self.inside in let m = c.put_back.ensures.seat.2 in

@@ -1,6 +1,5 @@
 use Rattle.std.proofs.Common.{rules, ◌≡◌, ◌≢◌, ℕ, ◌*◌, ◌-◌, ◌<◌, ℤ, List, [], length, Some, sym, refl, ap, ◌∙◌, subst, arith, to_z, of_z, w32}
 use Rattle.std.proofs.lemmas.Int.{to_z-of_z}
-use Rattle.std.specs.Prelude.{vec_capacity}
 use Rattle.atomic_table.specs.Table.{rest}
 use Rattle.claim.specs.declared.tag.Tag.TheVariants.{Running as RunningTag}
 use Rattle.entry.specs.Entry.{Entry}
@@ -17,7 +16,7 @@ use Rattle.steps.specs.Plays.{Seated, MayReply}
 use Rattle.steps.specs.Rule.{Extends, IsStep}
 use Rattle.steps.proofs.ViewsKept.{role_after}
 use Rattle.work.specs.Board.{IsOf}
-use Rattle.work.specs.Passes.{HasRoom, Pass, Running, seen_of}
+use Rattle.work.specs.Passes.{Pass, Running, seen_of}
 use Rattle.work.specs.Searches.{FewSteps, wanted_in}
 use Rattle.work.specs.WorkerRuns.{AreFew, AreHits, DidHunt, EndsBy, run_as, taken_in}
 use Rattle.work.proofs.CancelEnds.{by_bare, by_events, by_layout, by_of, by_runs, cancels_run, few_replied, may_hunt, ring_cells}
@@ -30,7 +29,7 @@ hunt-res-requires-clause-cancels c = let b = c.self.inside in let i = c.self.inv
     (cancels_run table b.seat b.cell b.generation b.req b.parcel b.pipes c.args.wanted i.runs i.table_is wants, i.unhit)
 
 pub hunt-res-requires-clause-spare : goal.hunt-res-requires-clause-spare
-hunt-res-requires-clause-spare c = (c.clear.ensures.items, subst (λ (n : ℕ). HasRoom c.self.inside.grid.now n) (sym c.clear.ensures.capacity) c.self.invariant.spare)
+hunt-res-requires-clause-spare c = (c.clear.ensures.emptied.0, (c.clear.ensures.rooms c.self.inside.grid.now c.self.invariant.spare).0)
 
 pub hunt-res-requires-clause-cell : goal.hunt-res-requires-clause-cell
 hunt-res-requires-clause-cell c = let b = c.self.inside in let i = c.self.invariant in
@@ -70,8 +69,9 @@ after-requires-clause-seat c = let b = c.self.inside in let i = c.self.invariant
     }
 
 pub after-requires-clause-room : goal.after-requires-clause-room
-after-requires-clause-room c = let b = c.self.inside in let i = c.self.invariant in let m = c.put_back.ensures.seat.2 in let h = c.hunt-res.ensures.hunted in λ n.
-    (let room = room_on b.words.now.table_id b.grid.now b.seat.me.0 c.reply.new.seat.me.0 (vec_capacity b.took) i.grid (c.reply.ensures.ended.2 ∙ (ap (λ (z : Seated). z.0.layout) m ∙ by_layout b.req b.seat.me.0 c.hunt-res.new.seat.me.0 h.own h.went)) i.spare n in let same = c.clear.ensures.capacity in let more = c.hunt-res.ensures.capacity in omega arith)
+after-requires-clause-room c = let b = c.self.inside in let i = c.self.invariant in let m = c.put_back.ensures.seat.2 in let h = c.hunt-res.ensures.hunted in
+    let rooms = room_on b.words.now.table_id b.grid.now b.seat.me.0 c.reply.new.seat.me.0 c.clear.new.self i.grid (c.reply.ensures.ended.2 ∙ (ap (λ (z : Seated). z.0.layout) m ∙ by_layout b.req b.seat.me.0 c.hunt-res.new.seat.me.0 h.own h.went)) (c.clear.ensures.rooms b.grid.now i.spare) in
+    ((λ n. (let room = rooms.0 n in let more = c.hunt-res.ensures.capacity in omega arith)), rooms.1, rooms.2)
 
 pub returns-clause-ended : goal.returns-clause-ended
 returns-clause-ended c = let b = c.self.inside in let i = c.self.invariant in let m = c.put_back.ensures.seat.2 in let table = b.words.now.table_id in let v : View = b.seat.me.0 in let w : View = c.hunt-res.new.seat.me.0 in let n : View = c.reply.new.seat.me.0 in let list = c.hunt-res.new.took.items in let res = to_z w32 (of_z w32 c.hunt-res.result) in
@@ -94,7 +94,7 @@ returns-clause-kept c = let b = c.self.inside in let i = c.self.invariant in let
     let may = subst (λ (y : Seated). MayReply y b.cell (request_at y.0.layout.cells b.cell b.generation) (run_as b.parcel.sqe) res []) (sym m) (may_hunt table v w (rest c.hunt-res.new.seat.me.1) b.cell b.generation b.req b.parcel b.pipes c.args.wanted list res i.runs wants h) in
     let x = subst (λ (y : Seated). Extends y.0 (Did (Reply (request_at y.0.layout.cells b.cell b.generation) res [])) Idle n) m (c.reply.ensures.replies (run_as b.parcel.sqe) [] may) in
     let runs = by_runs b.req table v w h.own b.cell b.generation b.parcel b.pipes i.runs h.went in let y = subst (λ (t : Req). Extends w (Did (Reply t res [])) Idle n) runs.req_is x in
-    λ f o. (let old : IsOf f (record { table = b.seat.table_id; view = v; took = [] }) = subst (λ (k : Running). IsOf f k.pass) (sym c.self.view_is) o in let after : Pass = record { table = b.seat.table_id; view = w; took = [] } in
+    λ f o. (let old : IsOf f (record { table = b.seat.table_id; view = v; took = []; woken = [] }) = subst (λ (k : Running). IsOf f k.pass) (sym c.self.view_is) o in let after : Pass = record { table = b.seat.table_id; view = w; took = []; woken = [] } in
     worker_idle f after c.after.result b.req (by_of b.req f b.seat.table_id v w h.own i.runs.role h.went old) (ap (λ (p : Pass). p.table) c.after.ensures ∙ (c.reply.ensures.seat.0.0 ∙ (c.put_back.ensures.seat.0 ∙ c.hunt-res.ensures.seat.0.0))) runs.role (Did (Reply b.req res []))
     (subst (λ (u : View). Extends w (Did (Reply b.req res [])) Idle u) (ap (λ (p : Pass). p.view) (sym c.after.ensures)) y))
 

@@ -1,4 +1,4 @@
-use Rattle.std.proofs.Common.{◌≡◌, ℕ, ◌<◌, List, [], length, inl, inr, sym, refl, ap, ◌∙◌, subst, arith}
+use Rattle.std.proofs.Common.{◌≡◌, ℕ, ◌<◌, List, [], ◌++◌, length, inl, inr, sym, refl, ap, ◌∙◌, subst, arith}
 use Rattle.answers.specs.NamedEnds.{UsesBoth}
 use Rattle.answers.proofs.Naming.{uses_joined}
 use Rattle.entry.specs.Entry.{Entry}
@@ -17,9 +17,11 @@ use Rattle.steps.specs.Journal.{events_of}
 use Rattle.steps.specs.Plays.{HasBoth}
 use Rattle.steps.specs.Rule.{Extends}
 use Rattle.steps.proofs.ViewsKept.{layout_after, role_after}
-use Rattle.work.specs.Passes.{Running, seen_of}
-use Rattle.work.specs.WorkerRuns.{MissedPipe, NoAnswer, Unanswered}
+use Rattle.work.specs.Passes.{Pass, Running, seen_of}
+use Rattle.work.specs.WorkerRuns.{LaidAtBoth, LaidDown, MissedPipe, NoAnswer, TookAlong, Unanswered}
 use Rattle.work.proofs.RunsKept.{bare_reply, both_handed, named_on, runs_on, placed_on, quiet_still, quiet_look, quiet_line, ends_by, took_none, took_more, took_both, missed_out, worker_on, worker_left_both, begins_on, begins_both, has_both}
+use Rattle.steps.specs.declared.line.Laid.TheVariants.{NoRequest}
+use Rattle.work.proofs.PipesWaited.{down_later, down_sooner}
 use Rattle.work.proofs.busy.Busy.run_between.Goals as goal
 
 pub prove-unreachable-requires : goal.prove-unreachable-requires
@@ -55,8 +57,8 @@ returns-in-Err-hold-clause-steps c = let v : View = c.args.self.pass.view in let
 -- the target was out
 pub returns-in-Err-hold-clause-ran : goal.returns-in-Err-hold-clause-ran
 returns-in-Err-hold-clause-ran c = let b = c.self.inside in let i = c.self.invariant in let table = b.words.now.table_id in let v : View = c.args.self.pass.view in let r : Req = c.args.self.req in let busy = subst (λ (k : Running). k.pass.view.role ≡ Busy k.req) c.self.view_is i.runs.role in let h = c.in-Ok.ensures.held in let m : View = c.in-Ok.holding.pass.view in let a = c.in-Err-hold.ensures.busy in let o : View = c.in-Err-hold.busy.pass.view in let w : View = c.give_up-in-Err-hold.result.view in let missed = subst (λ (q : Req). MissedPipe m a.2 c.args.target q) h.0 a.4 in let t = c.give_up-in-Err-hold.ensures.steps in let out = missed_out v m a.2 w c.args.target r 1 2 (took_more v v m 0 (pipe_at c.args.source) 0 (took_none v) h.3) missed (took_both a.2 o w 1 1 (took_more a.2 a.2 o 0 (pipe_at c.in-Ok.holding.pipe) a.6.0 (took_none a.2) a.6.1) t) in let held = quiet_line v v m r (quiet_still v r busy) (Hold r c.args.source) (λ l. refl) h.4 in
-    let free = subst (λ (q : Req). Extends a.2 (Free q c.in-Ok.holding.pipe) (Busy q) o) h.0 a.5 in let x = subst (λ (q : Req). Extends o (Did (Park q)) Idle w) (a.0 ∙ h.0) c.give_up-in-Err-hold.ensures.parked.1 in
-    let bare = quiet_line v a.2 o r (quiet_look v m a.2 r held a.3) (Free r c.in-Ok.holding.pipe) (λ l. refl) free in
+    let free = subst (λ (q : Req). Extends a.2 (Free q c.in-Ok.holding.pipe NoRequest) (Busy q) o) h.0 a.5 in let x = subst (λ (q : Req). Extends o (Did (Park q)) Idle w) (a.0 ∙ h.0) c.give_up-in-Err-hold.ensures.parked.1 in
+    let bare = quiet_line v a.2 o r (quiet_look v m a.2 r held a.3) (Free r c.in-Ok.holding.pipe NoRequest) (λ l. refl) free in
     (ends_by v o w r bare w (Park r) Idle x refl (role_after o w (Did (Park r)) Idle x), c.give_up-in-Err-hold.ensures.took, λ e is. (let both = c.requires.named e is in (c.args.target, both.target_there, (uses_joined e.op c.args.source c.args.target both.joins).1, out)))
 
 pub returns-in-Ok-answer-clause-kept : goal.returns-in-Ok-answer-clause-kept
@@ -80,13 +82,13 @@ returns-in-Ok-answer-clause-ran c = let b = c.self.inside in let i = c.self.inva
 
 pub returns-in-Err-answer-clause-steps : goal.returns-in-Err-answer-clause-steps
 returns-in-Err-answer-clause-steps c = let v : View = c.args.self.pass.view in let h = c.in-Ok.ensures.held in let m : View = c.in-Ok.holding.pass.view in let j = c.in-Ok-hold.ensures.held in let n : View = c.in-Ok-hold.joining.pass.view in let a = c.in-Err-answer.ensures.waits in let mid : View = a.2 in let o : View = c.in-Err-answer.busy.pass.view in let w : View = c.give_up-in-Err-answer.result.view in
-    took_both v o w 4 1 (took_more v mid o 3 (pipe_at c.in-Ok-hold.joining.source) a.6.0 (took_more v n mid 2 (pipe_at c.in-Ok-hold.joining.target) a.5.0 (took_more v m n 1 (pipe_at c.args.target) 0 (took_more v v m 0 (pipe_at c.args.source) 0 (took_none v) h.3) j.4) a.5.1) a.6.1) c.give_up-in-Err-answer.ensures.steps
+    took_both v o w 4 1 (took_more v mid o 3 (pipe_at c.in-Ok-hold.joining.source) a.8.0 (took_more v n mid 2 (pipe_at c.in-Ok-hold.joining.target) a.7.0 (took_more v m n 1 (pipe_at c.args.target) 0 (took_more v v m 0 (pipe_at c.args.source) 0 (took_none v) h.3) j.4) a.7.1) a.8.1) c.give_up-in-Err-answer.ensures.steps
 
 -- there was no answer while it had both pipes
 pub returns-in-Err-answer-clause-ran : goal.returns-in-Err-answer-clause-ran
 returns-in-Err-answer-clause-ran c = let b = c.self.inside in let i = c.self.invariant in let table = b.words.now.table_id in let v : View = c.args.self.pass.view in let r : Req = c.args.self.req in let busy = subst (λ (k : Running). k.pass.view.role ≡ Busy k.req) c.self.view_is i.runs.role in let h = c.in-Ok.ensures.held in let m : View = c.in-Ok.holding.pass.view in let j = c.in-Ok-hold.ensures.held in let n : View = c.in-Ok-hold.joining.pass.view in let second = subst (λ (q : Req). Extends m (Hold q c.args.target) (Busy q) n) h.0 j.5 in let mine = j.0 ∙ h.0 in let held = quiet_line v v m r (quiet_still v r busy) (Hold r c.args.source) (λ l. refl) h.4 in let both = quiet_line v m n r held (Hold r c.args.target) (λ l. refl) second in let a = c.in-Err-answer.ensures.waits in let mid : View = a.2 in let o : View = c.in-Err-answer.busy.pass.view in let w : View = c.give_up-in-Err-answer.result.view in let k = c.in-Ok-hold.joining in
-    let first = subst (λ (q : Req). Extends n (Free q k.target) (Busy q) mid) mine a.3 in let last = subst (λ (q : Req). Extends mid (Free q k.source) (Busy q) o) mine a.4 in let x = subst (λ (q : Req). Extends o (Did (Park q)) Idle w) (a.0 ∙ mine) c.give_up-in-Err-answer.ensures.parked.1 in
-    let bare = quiet_line v mid o r (quiet_line v n mid r both (Free r k.target) (λ l. refl) first) (Free r k.source) (λ l. refl) last in
+    let first = subst (λ (q : Req). Extends n (Free q k.target a.3) (Busy q) mid) mine a.5 in let last = subst (λ (q : Req). Extends mid (Free q k.source a.4) (Busy q) o) mine a.6 in let x = subst (λ (q : Req). Extends o (Did (Park q)) Idle w) (a.0 ∙ mine) c.give_up-in-Err-answer.ensures.parked.1 in
+    let bare = quiet_line v mid o r (quiet_line v n mid r both (Free r k.target a.3) (λ l. refl) first) (Free r k.source a.4) (λ l. refl) last in
     let on = subst (λ (k : Running). Extends k.pass.view (Hold k.req c.args.source) (Busy k.req) m → Extends m (Hold k.req c.args.target) (Busy k.req) n → (e : Entry) → IsPlaced (events_of k.pass.view.seen) k.req e → IsPlaced (events_of n.seen) k.req e) c.self.view_is
     (λ y z e is. placed_on table m n b.cell b.generation b.req b.parcel b.pipes (runs_on table b.seat.me.0 m b.cell b.generation b.req b.parcel b.pipes i.runs (Hold b.req c.args.source) y) (Hold b.req c.args.target) (Busy b.req) z e
     (placed_on table b.seat.me.0 m b.cell b.generation b.req b.parcel b.pipes i.runs (Hold b.req c.args.source) (Busy b.req) y e is)) h.4 second in
@@ -96,9 +98,28 @@ returns-in-Err-answer-clause-ran c = let b = c.self.inside in let i = c.self.inv
     let quiet : (e : Entry) → IsPlaced (events_of v.seen) r e → NoAnswer v w r e = λ e is. record {
       at = n.seen;
       after = begins_both v.seen m.seen n.seen (begins_on v m (Hold r c.args.source) (Busy r) h.4) (begins_on m n (Hold r c.args.target) (Busy r) second);
-      before = begins_both n.seen mid.seen w.seen (begins_on n mid (Free r k.target) (Busy r) first) (begins_both mid.seen o.seen w.seen (begins_on mid o (Free r k.source) (Busy r) last) (begins_on o w (Did (Park r)) Idle x));
+      before = begins_both n.seen mid.seen w.seen (begins_on n mid (Free r k.target a.3) (Busy r) first) (begins_both mid.seen o.seen w.seen (begins_on mid o (Free r k.source a.4) (Busy r) last) (begins_on o w (Did (Park r)) Idle x));
       legal = subst (λ (z : Layout × List Line). Legal (setup_of z.0) (events_of z.1)) (λ l. (layout_after v m (Hold r c.args.source) (Busy r) h.4 l, sym (ap (λ (z : View). z.seen) second.is) l)) second.legal;
       has = has_both v.layout.caps n.seen e.op r c.args.source c.args.target (c.requires.named e is).joins has.1 has.2;
       none = λ res d answers. none e (on e is) res d (subst (λ (L : Layout). OpAnswers L.caps (events_of n.seen) r e.op res d) (sym same) answers);
     } in
     (ends_by v o w r bare w (Park r) Idle x refl (role_after o w (Did (Park r)) Idle x), c.give_up-in-Err-answer.ensures.took, λ e is. (let both = c.requires.named e is in (c.args.source, both.source_there, (uses_joined e.op c.args.source c.args.target both.joins).0, quiet e is)))
+
+-- what was taken along, or lies there now
+pub returns-in-Err-clause-woken : goal.returns-in-Err-clause-woken
+returns-in-Err-clause-woken c = c.give_up.ensures.woken ∙ c.in-Err.ensures.woken
+
+pub returns-in-Err-hold-clause-woken : goal.returns-in-Err-hold-clause-woken
+returns-in-Err-hold-clause-woken c = c.give_up-in-Err-hold.ensures.woken ∙ c.in-Err-hold.ensures.woken
+
+pub returns-in-Ok-answer-clause-woken : goal.returns-in-Ok-answer-clause-woken
+returns-in-Ok-answer-clause-woken c = let h = c.in-Ok.ensures.held in let j = c.in-Ok-hold.ensures.held in let w : Pass = c.in-Ok-answer.worker in
+    subst (λ (z : Req × ℕ × ℕ). (x : List Req) × (y : List Req) × TookAlong z.0 z.1 c.in-Ok-answer.cqe.res w.view x × TookAlong z.0 z.2 c.in-Ok-answer.cqe.res w.view y × (w.woken ≡ x ++ y)) (λ i. ((j.0 ∙ h.0) i, (j.1 ∙ h.1) i, j.2 i)) c.in-Ok-answer.ensures.woken
+
+pub returns-in-Err-answer-clause-woken : goal.returns-in-Err-answer-clause-woken
+returns-in-Err-answer-clause-woken c = let v : View = c.args.self.pass.view in let r : Req = c.args.self.req in let h = c.in-Ok.ensures.held in let m : View = c.in-Ok.holding.pass.view in let j = c.in-Ok-hold.ensures.held in let n : View = c.in-Ok-hold.joining.pass.view in let second = subst (λ (q : Req). Extends m (Hold q c.args.target) (Busy q) n) h.0 j.5 in let a = c.in-Err-answer.ensures.waits in let o : View = c.in-Err-answer.busy.pass.view in let w : Pass = c.give_up-in-Err-answer.result in
+    let x = subst (λ (q : Req). Extends o (Did (Park q)) Idle w.view) (a.0 ∙ (j.0 ∙ h.0)) c.give_up-in-Err-answer.ensures.parked.1 in
+    let d = subst (λ (z : Req × ℕ × ℕ). LaidAtBoth n o z.0 z.1 z.2 c.in-Err-answer.busy.woken) (λ i. ((j.0 ∙ h.0) i, (j.1 ∙ h.1) i, j.2 i)) c.in-Err-answer.ensures.lain in
+    let before = begins_both v.seen m.seen n.seen (begins_on v m (Hold r c.args.source) (Busy r) h.4) (begins_on m n (Hold r c.args.target) (Busy r) second) in
+    let all = λ (p : ℕ) (out : List Req) (k : LaidDown n o r p out). down_sooner v n w.view r p out before (down_later n o w.view r p out (begins_on o w.view (Did (Park r)) Idle x) k) in
+    (d.0, d.1, all c.args.source d.0 d.2, all c.args.target d.1 d.3, c.give_up-in-Err-answer.ensures.woken ∙ d.4)

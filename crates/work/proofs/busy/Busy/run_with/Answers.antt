@@ -16,8 +16,9 @@ use Rattle.steps.specs.Journal.{events_of}
 use Rattle.steps.specs.Rule.{Extends}
 use Rattle.steps.proofs.ViewsKept.{layout_after, role_after}
 use Rattle.work.specs.Passes.{Pass, Running, seen_of}
-use Rattle.work.specs.WorkerRuns.{NoAnswer, Unanswered}
+use Rattle.work.specs.WorkerRuns.{LaidDown, NoAnswer, TookAlong, Unanswered}
 use Rattle.work.proofs.RunsKept.{bare_reply, one_handed, named_on, quiet_still, quiet_look, quiet_line, ends_by, took_none, took_more, took_both, missed_out, worker_on, worker_left, begins_on, begins_both, placed_on, has_one, held_now}
+use Rattle.work.proofs.PipesWaited.{down_later, down_sooner}
 use Rattle.work.proofs.busy.Busy.run_with.Goals as goal
 
 pub prove-unreachable-requires : goal.prove-unreachable-requires
@@ -61,23 +62,38 @@ returns-in-Ok-answer-clause-ran c = let b = c.self.inside in let i = c.self.inva
     (bare_reply c.args.self c.in-Ok-answer.worker c.in-Ok-answer.cqe.res a.1 (ends_by v m a.2 r (quiet_line v v m r (quiet_still v r busy) (Hold r c.args.pipe) (λ j. refl) h.4) w (Reply r c.in-Ok-answer.cqe.res a.1) (Leaving r) x (ap (λ (z : View). z.seen) a.5) (ap (λ (z : View). z.role) a.5)) c.in-Ok-answer.ensures.took, λ e is. user e (on e is))
 
 pub returns-in-Err-answer-clause-steps : goal.returns-in-Err-answer-clause-steps
-returns-in-Err-answer-clause-steps c = let b = c.self.inside in let i = c.self.invariant in let v : View = c.args.self.pass.view in let m : View = c.in-Ok.holding.pass.view in let n : View = c.in-Err-answer.busy.pass.view in let w : View = c.give_up-in-Err-answer.result.view in let h = c.in-Ok.ensures.held in let s = c.in-Err-answer.ensures.waits.3 in
+returns-in-Err-answer-clause-steps c = let b = c.self.inside in let i = c.self.invariant in let v : View = c.args.self.pass.view in let m : View = c.in-Ok.holding.pass.view in let n : View = c.in-Err-answer.busy.pass.view in let w : View = c.give_up-in-Err-answer.result.view in let h = c.in-Ok.ensures.held in let s = c.in-Err-answer.ensures.waits.5 in
     took_both v n w 2 1 (took_more v m n 1 (pipe_at c.in-Ok.holding.pipe) s.0 (took_more v v m 0 (pipe_at c.args.pipe) 0 (took_none v) h.3) s.1) c.give_up-in-Err-answer.ensures.steps
 
 -- there was no answer while it had the pipe
 pub returns-in-Err-answer-clause-ran : goal.returns-in-Err-answer-clause-ran
 returns-in-Err-answer-clause-ran c = let b = c.self.inside in let i = c.self.invariant in let v : View = c.args.self.pass.view in let r : Req = c.args.self.req in let m : View = c.in-Ok.holding.pass.view in let n : View = c.in-Err-answer.busy.pass.view in let w : View = c.give_up-in-Err-answer.result.view in let busy = subst (λ (k : Running). k.pass.view.role ≡ Busy k.req) c.self.view_is i.runs.role in let h = c.in-Ok.ensures.held in let a = c.in-Err-answer.ensures.waits in
-    let free = subst (λ (q : Req). Extends m (Free q c.in-Ok.holding.pipe) (Busy q) n) h.0 a.2 in let x = subst (λ (q : Req). Extends n (Did (Park q)) Idle w) (a.0 ∙ h.0) c.give_up-in-Err-answer.ensures.parked.1 in
+    let free = subst (λ (q : Req). Extends m (Free q c.in-Ok.holding.pipe a.2) (Busy q) n) h.0 a.3 in let x = subst (λ (q : Req). Extends n (Did (Park q)) Idle w) (a.0 ∙ h.0) c.give_up-in-Err-answer.ensures.parked.1 in
     let on = subst (λ (k : Running). Extends k.pass.view (Hold k.req c.args.pipe) (Busy k.req) m → (e : Entry) → IsPlaced (events_of k.pass.view.seen) k.req e → IsPlaced (events_of m.seen) k.req e) c.self.view_is (λ y. placed_on b.words.now.table_id b.seat.me.0 m b.cell b.generation b.req b.parcel b.pipes i.runs (Hold b.req c.args.pipe) (Busy b.req) y) h.4 in
     let none = subst (λ (q : Req). (e : Entry) → IsPlaced (events_of m.seen) q e → Unanswered m q e) h.0 c.in-Err-answer.ensures.unanswered in
-    let first = quiet_line v v m r (quiet_still v r busy) (Hold r c.args.pipe) (λ j. refl) h.4 in let second = quiet_line v m n r first (Free r c.in-Ok.holding.pipe) (λ j. refl) free in
+    let first = quiet_line v v m r (quiet_still v r busy) (Hold r c.args.pipe) (λ j. refl) h.4 in let second = quiet_line v m n r first (Free r c.in-Ok.holding.pipe a.2) (λ j. refl) free in
     let same : m.layout ≡ v.layout = layout_after v m (Hold r c.args.pipe) (Busy r) h.4 in
     let quiet : (e : Entry) → IsPlaced (events_of v.seen) r e → NoAnswer v w r e = λ e is. record {
       at = m.seen;
       after = begins_on v m (Hold r c.args.pipe) (Busy r) h.4;
-      before = begins_both m.seen n.seen w.seen (begins_on m n (Free r c.in-Ok.holding.pipe) (Busy r) free) (begins_on n w (Did (Park r)) Idle x);
+      before = begins_both m.seen n.seen w.seen (begins_on m n (Free r c.in-Ok.holding.pipe a.2) (Busy r) free) (begins_on n w (Did (Park r)) Idle x);
       legal = subst (λ (j : List Line). Legal (setup_of v.layout) (events_of j)) (sym (ap (λ (z : View). z.seen) h.4.is)) h.4.legal;
       has = has_one v.layout.caps m.seen e.op r c.args.pipe (c.requires.named e is) (held_now v m r c.args.pipe (Busy r) h.4);
       none = λ res d k. none e (on e is) res d (subst (λ (L : Layout). OpAnswers L.caps (events_of m.seen) r e.op res d) (sym same) k);
     } in
     (ends_by v n w r second w (Park r) Idle x refl (role_after n w (Did (Park r)) Idle x), c.give_up-in-Err-answer.ensures.took, λ e is. (let one = c.requires.named e is in (c.args.pipe, one.there, one.used, quiet e is)))
+
+-- what was taken along, or lies there now
+pub returns-in-Err-clause-woken : goal.returns-in-Err-clause-woken
+returns-in-Err-clause-woken c = c.give_up.ensures.woken ∙ c.in-Err.ensures.woken
+
+pub returns-in-Ok-answer-clause-woken : goal.returns-in-Ok-answer-clause-woken
+returns-in-Ok-answer-clause-woken c = let h = c.in-Ok.ensures.held in let w : Pass = c.in-Ok-answer.worker in
+    subst (λ (z : Req × ℕ). TookAlong z.0 z.1 c.in-Ok-answer.cqe.res w.view w.woken) (λ i. (h.0 i, h.1 i)) c.in-Ok-answer.ensures.woken
+
+pub returns-in-Err-answer-clause-woken : goal.returns-in-Err-answer-clause-woken
+returns-in-Err-answer-clause-woken c = let v : View = c.args.self.pass.view in let r : Req = c.args.self.req in let m : View = c.in-Ok.holding.pass.view in let n : View = c.in-Err-answer.busy.pass.view in let w : Pass = c.give_up-in-Err-answer.result in let h = c.in-Ok.ensures.held in let a = c.in-Err-answer.ensures.waits in let out = c.in-Err-answer.busy.woken in
+    let x = subst (λ (q : Req). Extends n (Did (Park q)) Idle w.view) (a.0 ∙ h.0) c.give_up-in-Err-answer.ensures.parked.1 in
+    let down = subst (λ (z : Req × ℕ). LaidDown m n z.0 z.1 out) (λ i. (h.0 i, h.1 i)) a.4 in
+    subst (LaidDown v w.view r c.args.pipe) (sym c.give_up-in-Err-answer.ensures.woken)
+    (down_sooner v m w.view r c.args.pipe out (begins_on v m (Hold r c.args.pipe) (Busy r) h.4) (down_later m n w.view r c.args.pipe out (begins_on n w.view (Did (Park r)) Idle x) down))

@@ -6,25 +6,29 @@ use Rattle.entry.specs.Entry.{Entry}
 use Rattle.history.specs.Chains.{IsPlaced}
 use Rattle.history.specs.History.{hit}
 use Rattle.history.specs.Pipes.{flow}
-use Rattle.pipe.specs.Pipe.{Conduit}
+use Rattle.history.specs.declared.req.Req.{Req}
+use Rattle.steps.specs.declared.line.Laid.TheVariants.{NoRequest}
+use Rattle.steps.specs.declared.parcel.WaitedPipe.{WaitedPipe}
+use Rattle.steps.specs.Fairness.{MayLay}
 use Rattle.steps.specs.declared.line.Line.TheVariants.{Hold, Free}
 use Rattle.steps.specs.declared.parcel.Thing.{Thing}
 use Rattle.steps.specs.declared.parcel.Thing.TheVariants.{Piped}
 use Rattle.steps.specs.declared.view.Role.TheVariants.{Busy as RoleBusy}
 use Rattle.steps.specs.declared.view.View.{View}
-use Rattle.steps.specs.Cells.{pipe_at, PipeIs}
+use Rattle.steps.specs.Cells.{pipe_at, total}
 use Rattle.steps.specs.Journal.{events_of}
-use Rattle.steps.specs.Plays.{Seated, HasAlone, HasBoth}
+use Rattle.steps.specs.Plays.{Seated, HasAlone, HasBoth, HasPipeLaid}
 use Rattle.steps.specs.Rule.{Looks, Extends, IsStep}
 use Rattle.steps.proofs.StepKinds.{in_hand}
 use Rattle.steps.proofs.ViewsKept.{layout_after}
-use Rattle.work.specs.Passes.{Holding, RunsIt, seen_of}
+use Rattle.work.specs.Passes.{Holding, LiesAs, RunsIt, seen_of}
 use Rattle.work.specs.WorkerRuns.{MissedPipe}
-use Rattle.work.proofs.RunsKept.{runs_on, runs_look, both_handed, grid_on, same_hit_looked, same_hit_silent, pipe_still}
+use Rattle.work.proofs.RunsKept.{runs_on, runs_look, both_handed, grid_on, same_hit_looked, same_hit_silent, pipe_still, piped_in}
+use Rattle.work.proofs.PipesWaited.{lies_still}
 use Rattle.work.proofs.holding.Holding.hold.Goals as goal
 
-same_conduit : (a b : Conduit) → ◌≡◌ {A = Option Thing} (Some (Piped a)) (Some (Piped b)) → a ≡ b
-same_conduit a b e = cc
+same_pipe : (a b : WaitedPipe) → ◌≡◌ {A = Option Thing} (Some (Piped a)) (Some (Piped b)) → a ≡ b
+same_pipe a b e = cc
 
 -- the pipe in hand and this one are those that the entry joins
 abbrev Named : ℕ → Holding → Type 0
@@ -48,20 +52,21 @@ free-requires-clause-busy c = let b = c.self.inside in let i = c.self.invariant 
 
 pub free-requires-clause-pipe : goal.free-requires-clause-pipe
 free-requires-clause-pipe c = let b = c.self.inside in let i = c.self.invariant in let k = c.if-not-hold_second.ensures in let x = k.looks (λ e. true≢false (sym e)) in
-    let is = pipe_still b.seat.me.0 c.hold_second.new.seat.me.0 b.pipe b.conduit (ap (λ (z : View). z.layout) x.0.is) (k.same b.req b.pipe i.runs.role i.alone) i.pipe_is in
-    subst (λ (z : Seated). (d : Conduit) × (z.1 ≡ (b.pipe, Some (Piped d)) ∷ rest z.1) × PipeIs z.0.layout.caps b.pipe (Some (Piped d)) (flow (events_of z.0.seen) b.pipe)) (sym c.exchange.ensures.3) (b.conduit, refl, (is.cap_is, is.content_is, is.read_is, is.write_is))
+    let v : View = b.seat.me.0 in let n : View = c.hold_second.new.seat.me.0 in let m = c.exchange.ensures.3 in let layout = ap (λ (z : View). z.layout) x.0.is in let same = k.same b.req b.pipe i.runs.role i.alone in
+    let is = pipe_still v n b.pipe b.waited.pipe layout same i.pipe_is in let lies = lies_still b.grid.now v n b.pipe b.waited same i.lying_is in let cells = (grid_on b.words.now.table_id b.grid.now v n layout i.grid).cells_are in
+    λ q role. subst (λ (z : Seated × Req). HasPipeLaid z.0 b.pipe z.1 NoRequest × MayLay z.0.0.layout.caps (events_of z.0.0.seen) z.1 b.pipe NoRequest) (λ j. (sym m j, q)) ((b.waited, refl, piped_in n.layout b.pipe b.waited _ _ is (lies.0, lies.1 ∙ ap total (sym cells))), tt)
 
 pub invariant_of-result : goal.invariant_of-result
 invariant_of-result c = let b = c.self.inside in let i = c.self.invariant in let k = c.if-not-hold_second.ensures in let x = k.looks (λ e. true≢false (sym e)) in let role = ap (λ (z : View). z.role) x.0.is ∙ i.runs.role in let m = c.exchange.ensures.3 in let table = b.words.now.table_id in
     let v : View = b.seat.me.0 in let n : View = c.hold_second.new.seat.me.0 in let w : View = c.free.new.seat.me.0 in
     let frees = c.free.ensures.frees b.req (ap (λ (z : Seated). z.0.role) m ∙ role) in
-    let y = subst (λ (z : Seated). Extends z.0 (Free b.req b.pipe) (RoleBusy b.req) w) m frees.0 in
+    let y = subst (λ (z : Seated). Extends z.0 (Free b.req b.pipe NoRequest) (RoleBusy b.req) w) m frees.0 in
     let runs = runs_look table v n b.cell b.generation b.req b.parcel b.pipes i.runs x.0 in record {
       table_is = c.free.ensures.seat.0.0 ∙ (c.exchange.ensures.0 ∙ (k.seat.0 ∙ i.table_is));
-      grid = grid_on table b.grid.now v w (layout_after n w (Free b.req b.pipe) (RoleBusy b.req) y ∙ ap (λ (z : View). z.layout) x.0.is) i.grid;
-      unhit = same_hit_silent n w b.req role (Free b.req b.pipe) (RoleBusy b.req) (λ j. refl) y ∙ (same_hit_looked v n b.req i.runs.role x.0 ∙ i.unhit);
+      grid = grid_on table b.grid.now v w (layout_after n w (Free b.req b.pipe NoRequest) (RoleBusy b.req) y ∙ ap (λ (z : View). z.layout) x.0.is) i.grid;
+      unhit = same_hit_silent n w b.req role (Free b.req b.pipe NoRequest) (RoleBusy b.req) (λ j. refl) y ∙ (same_hit_looked v n b.req i.runs.role x.0 ∙ i.unhit);
       spare = i.spare;
-      runs = runs_on table n w b.cell b.generation b.req b.parcel b.pipes runs (Free b.req b.pipe) y;
+      runs = runs_on table n w b.cell b.generation b.req b.parcel b.pipes runs (Free b.req b.pipe NoRequest) y;
       out = c.free.ensures.seat.1 ∙ (ap (λ (z : Seated). rest z.1) m ∙ ap rest (x.1 ∙ i.out));
       bare = frees.1;
     }
@@ -70,9 +75,9 @@ pub returns-then-not-hold_second-clause-busy : goal.returns-then-not-hold_second
 returns-then-not-hold_second-clause-busy c = let b = c.self.inside in let i = c.self.invariant in let k = c.if-not-hold_second.ensures in let x = k.looks (λ e. true≢false (sym e)) in let role = ap (λ (z : View). z.role) x.0.is ∙ i.runs.role in let m = c.exchange.ensures.3 in let s = k.missed (λ e. true≢false (sym e)) in
     let n : View = c.hold_second.new.seat.me.0 in let w : View = c.free.new.seat.me.0 in
     let frees = c.free.ensures.frees b.req (ap (λ (z : Seated). z.0.role) m ∙ role) in
-    let y = subst (λ (z : Seated). Extends z.0 (Free b.req b.pipe) (RoleBusy b.req) w) m frees.0 in
+    let y = subst (λ (z : Seated). Extends z.0 (Free b.req b.pipe NoRequest) (RoleBusy b.req) w) m frees.0 in
     let step = subst (λ (z : Seated). (found : ℕ) × IsStep (pipe_at b.pipe) found z.0 w) m c.free.ensures.step in
-    subst (λ (h : Holding). (b.req ≡ h.req) × (c.free.new.seat.table_id ≡ h.pass.table) × (mid : View) × Looks h.pass.view mid × MissedPipe h.pass.view mid c.args.target h.req × Extends mid (Free h.req h.pipe) (RoleBusy h.req) w × ((found : ℕ) × IsStep (pipe_at h.pipe) found mid w)) c.self.view_is
+    subst (λ (h : Holding). (b.req ≡ h.req) × (c.free.new.seat.table_id ≡ h.pass.table) × (mid : View) × Looks h.pass.view mid × MissedPipe h.pass.view mid c.args.target h.req × Extends mid (Free h.req h.pipe NoRequest) (RoleBusy h.req) w × ((found : ℕ) × IsStep (pipe_at h.pipe) found mid w)) c.self.view_is
     (refl, c.free.ensures.seat.0.0 ∙ (c.exchange.ensures.0 ∙ k.seat.0), n, x.0, (s.0, s.1, s.2, s.3, s.4, λ e. s.5 (role ∙ ap RoleBusy (sym e))), y, step)
 
 pub exchange-thing-requires : goal.exchange-thing-requires
@@ -85,7 +90,7 @@ pipe_of-requires c = let b = c.self.inside in let i = c.self.invariant in let h 
 pub invariant_of-result-2 : goal.invariant_of-result-2
 invariant_of-result-2 c = let b = c.self.inside in let i = c.self.invariant in let k = c.if-not-hold_second.ensures in let x = k.holds refl b.req b.pipe i.runs.role i.alone in let h = x.2 in let m = c.exchange-thing.ensures.3 in let v : View = b.seat.me.0 in let w : View = c.hold_second.new.seat.me.0 in let table = b.words.now.table_id in
     let both = both_handed table v v b.cell b.generation b.req b.parcel b.pipes i.runs b.pipe c.args.target (subst (Named c.args.target) (sym c.self.view_is) c.requires.named) in
-    let same : h.0 ≡ c.pipe_of.result = same_conduit h.0 c.pipe_of.result (ap in_hand (sym h.1 ∙ c.exchange-thing.ensures.2) ∙ c.pipe_of.ensures.is) in
+    let same : h.0 ≡ c.pipe_of.result = same_pipe h.0 c.pipe_of.result (ap in_hand (sym h.1 ∙ c.exchange-thing.ensures.2) ∙ c.pipe_of.ensures.is) in
     let layout = layout_after v w (Hold b.req c.args.target) (RoleBusy b.req) x.0 in let runs = runs_on table v w b.cell b.generation b.req b.parcel b.pipes i.runs (Hold b.req c.args.target) x.0 in record {
       table_is = c.exchange-thing.ensures.0 ∙ (k.seat.0 ∙ i.table_is);
       grid = grid_on table b.grid.now v c.exchange-thing.new.seat.me.0 (ap (λ (z : Seated). z.0.layout) m ∙ layout) i.grid;
@@ -95,8 +100,11 @@ invariant_of-result-2 c = let b = c.self.inside in let i = c.self.invariant in l
       out = ap (λ (z : Seated). z.1) m ∙ ap (λ (cs : List (ℕ × Option Thing)). (c.args.target, None) ∷ cs) (ap rest h.1 ∙ i.out);
       both = subst (λ (z : Seated). HasBoth z.0.seen b.pipe c.args.target b.req) (sym m) x.1;
       named = subst (λ (n : ℕ). UsesBoth b.parcel.sqe.op n b.pipe c.args.target) i.runs.pipes_are.0 both;
-      source_is = subst (λ (z : Seated). IsPipe (slice_index z.0.layout.caps b.pipe) b.conduit (flow (events_of z.0.seen) b.pipe)) (sym m) (pipe_still v w b.pipe b.conduit layout (k.same b.req b.pipe i.runs.role i.alone) i.pipe_is);
-      target_is = subst (λ (z : Seated × Conduit). IsPipe (slice_index z.0.0.layout.caps c.args.target) z.1 (flow (events_of z.0.0.seen) c.args.target)) (λ j. (sym m j, same j)) (record { cap_is = h.2.0; content_is = h.2.1; read_is = h.2.2; write_is = h.2.3 });
+      source_is = subst (λ (z : Seated). IsPipe (slice_index z.0.layout.caps b.pipe) b.waited.pipe (flow (events_of z.0.seen) b.pipe)) (sym m) (pipe_still v w b.pipe b.waited.pipe layout (k.same b.req b.pipe i.runs.role i.alone) i.pipe_is);
+      target_is = subst (λ (z : Seated × WaitedPipe). IsPipe (slice_index z.0.0.layout.caps c.args.target) z.1.pipe (flow (events_of z.0.0.seen) c.args.target)) (λ j. (sym m j, same j)) (record { cap_is = h.2.0; content_is = h.2.1; read_is = h.2.2; write_is = h.2.3 });
+      source_lies = subst (λ (z : Seated). LiesAs b.grid.now z.0 b.pipe b.waited) (sym m) (lies_still b.grid.now v w b.pipe b.waited (k.same b.req b.pipe i.runs.role i.alone) i.lying_is);
+      target_lies = subst (λ (z : Seated × WaitedPipe). LiesAs b.grid.now z.0.0 c.args.target z.1) (λ j. (sym m j, same j)) (h.2.4, h.2.5 ∙ ap total (grid_on table b.grid.now v w layout i.grid).cells_are);
+      idle = i.idle;
     }
 
 pub returns-clause-held : goal.returns-clause-held

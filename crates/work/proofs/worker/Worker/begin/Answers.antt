@@ -1,4 +1,4 @@
-use Rattle.std.proofs.Common.{vec_capacity, ◌≡◌, ◌≢◌, ℕ, ◌<◌, List, [], ◌∷◌, length, Option, Some, None, sym, refl, ap, ◌∙◌, subst, arith}
+use Rattle.std.proofs.Common.{◌≡◌, ◌≢◌, ℕ, ◌<◌, List, [], ◌∷◌, length, Option, Some, None, sym, refl, ap, ◌∙◌, subst, arith}
 use Rattle.atomic_table.specs.Table.{rest}
 use Rattle.history.specs.declared.req.Req.{Req}
 use Rattle.history.specs.History.{hit}
@@ -14,7 +14,7 @@ use Rattle.steps.proofs.ViewsKept.{layout_after}
 use Rattle.steps.specs.Plays.{Seated}
 use Rattle.steps.specs.Rule.{Extends}
 use Rattle.steps.proofs.StepKinds.{in_hand}
-use Rattle.work.specs.Passes.{Pass, HasRoom, RunsIt}
+use Rattle.work.specs.Passes.{Pass, HasRooms, RunsIt}
 use Rattle.work.proofs.PassesKept.{took_one}
 use Rattle.work.proofs.RunsKept.{grid_on, runs_begun, unhit_begun}
 use Rattle.work.proofs.worker.Worker.begin.Goals as goal
@@ -47,7 +47,7 @@ invariant_of-result-2 c =
       table_is = c.exchange-thing.ensures.0 ∙ (k.seat.0 ∙ (ap (λ (p : Pass). p.table) c.self.view_is ∙ c.requires.on.table_is));
       grid = grid_on table c.args.grid.now s.me.0 c.exchange-thing.new.seat.me.0 (ap (λ (z : Seated). z.0.layout) m ∙ layout_after s.me.0 c.begin.new.seat.me.0 _ _ x.0) record { cells_are = cells; wide = c.requires.on.wide };
       unhit = ap (λ (z : Seated). hit (events_of z.0.seen) c.args.req) m ∙ unhit_begun s.me.0 c.begin.new.seat.me.0 c.args.req (subst (λ (q : Req). Extends s.me.0 (Did (Begin q)) (RoleBusy q) c.begin.new.seat.me.0) at x.0);
-      spare = subst (λ (K : List ℕ). HasRoom K (vec_capacity c.self.inside.took)) cells c.self.invariant.1;
+      spare = subst (λ (K : List ℕ). HasRooms K c.self.inside.lists) cells c.self.invariant.1;
       runs = subst (λ (z : Seated). RunsIt table z.0 spot.cell spot.generation c.args.req c.parcel_of.result c.args.pipes) (sym m) runs;
       out = ap (λ (z : Seated). z.1) m ∙ (ap (λ (n : ℕ). (n, None) ∷ rest c.begin.new.seat.me.1) c.slot.ensures ∙ ap (λ (cs : List (ℕ × Option Thing)). (slot_at spot.cell, None) ∷ cs) (ap rest x.1.1 ∙ c.self.invariant.0.bare));
       bare = λ n. (subst (λ (z : Seated × Req). holder z.0.0.seen n ≢ Some z.1) (λ i. (sym m i, at i)) (x.2 n));

@@ -1,5 +1,0 @@
-use Rattle.std.proofs.Common.{◌≡◌, false}
-use Rattle.event_count.proofs.tests.a_notice_after_prepare_ends_the_wait.Given as goal
-
-abbrev pub invariant-loop-meeting : goal.invariant-loop-meeting
-invariant-loop-meeting g l = (l.waiter.table ≡ l.event_count) × (l.waiter.entered ≡ false) × (l.notifier.table ≡ l.event_count)

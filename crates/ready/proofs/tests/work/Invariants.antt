@@ -1,5 +1,0 @@
-use Rattle.ready.specs.Ready.{IsOf}
-use Rattle.ready.proofs.tests.work.Given as goal
-
-abbrev pub invariant-loop-n : goal.invariant-loop-n
-invariant-loop-n g l = IsOf l.queue l.hand.pass

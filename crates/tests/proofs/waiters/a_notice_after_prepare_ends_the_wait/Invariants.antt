@@ -1,0 +1,5 @@
+use Rattle.std.proofs.Common.{◌≡◌, false}
+use Rattle.tests.proofs.waiters.a_notice_after_prepare_ends_the_wait.Given as goal
+
+abbrev pub invariant-loop-meeting : goal.invariant-loop-meeting
+invariant-loop-meeting g l = (l.waiter.table ≡ l.event_count) × (l.waiter.entered ≡ false) × (l.notifier.table ≡ l.event_count)
