@@ -15,6 +15,7 @@ use std::alloc::Global;
 use std::marker::{Brand, Model};
 use std::sync::Wait;
 use std::sync::ledger::{Blank, Ledger};
+use std::time::Duration;
 
 /// The most waiters of an event count, and the most notifiers.
 pub const MAX_PASSES: u16 = 1024;
@@ -156,6 +157,18 @@ impl EventCount {
         ensures woken { HasWoken waiter.old waiter.new }
     {
         waiter.wait(rt, &self.table.shared);
+    }
+
+    /// `wait`, for no longer than about `most`: it may also return sooner. The answer says whether it found the count to be another
+    /// than the key.
+    pub fn wait_timeout<R: Wait>(&self, rt: &R, waiter: &mut Waiter, most: Duration) -> bool
+        requires own { IsWaiterOf self.now waiter.old }
+        requires entered { waiter.old.entered ≡ true }
+        ensures pass { waiter.new ≡ record waiter.old { entered = false; seen = waiter.new.seen } }
+        ensures woken { result ≡ true → HasWoken waiter.old waiter.new }
+        ensures left { result ≡ false → HasLeft waiter.old waiter.new }
+    {
+        waiter.wait_timeout(rt, &self.table.shared, most)
     }
 
     /// Gives notice of what was done before: where a waiter has entered, the count grows, and one who is parked is woken. The

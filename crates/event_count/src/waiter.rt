@@ -9,6 +9,7 @@ use crate::view::View;
 use atomic_table::{Seat, Shared};
 use std::marker::Model;
 use std::sync::Wait;
+use std::time::Duration;
 
 /// The words of an event count.
 pub(crate) type Words = Shared<u8, View, (), Law>;
@@ -61,6 +62,19 @@ fn read_count(words: &Words, seat: &mut Seat<u8, View>) -> u64
     words.load::<ReadCount>(seat, COUNT)
 }
 
+/// Whether the count is another than the key.
+fn is_other(words: &Words, seat: &mut Seat<u8, View>, key: u64) -> bool
+    requires own { IsWaiterAt words.now.table_id seat.old }
+    requires inside { is_in seat.old.me.0 ≡ true }
+    requires key { key ≡ count_of seat.old.me.0.seen }
+    ensures same { IsSameSeat seat.old seat.new }
+    ensures inside { is_in seat.new.me.0 ≡ true }
+    ensures still { result ≡ false → seat.new.me.0.seen ≡ seat.old.me.0.seen }
+    ensures heard { result ≡ true → Hears (number_of seat.old.me.0.role) seat.old.me.0.seen seat.new.me.0.seen }
+{
+    words.load::<AskCount>(seat, COUNT) != key
+}
+
 /// Parks until the count is another than the key. A park looks at the low 32 bits alone.
 fn wait_for_notice<R: Wait>(rt: &R, words: &Words, seat: &mut Seat<u8, View>, key: u64)
     requires own { IsWaiterAt words.now.table_id seat.old }
@@ -71,12 +85,32 @@ fn wait_for_notice<R: Wait>(rt: &R, words: &Words, seat: &mut Seat<u8, View>, ke
     ensures heard { Hears (number_of seat.old.me.0.role) seat.old.me.0.seen seat.new.me.0.seen }
 {
     for _ in rt.forever() {
-        if words.load::<AskCount>(seat, COUNT) != key {
+        if is_other(words, seat, key) {
             return;
         }
         words.park(rt, COUNT, (key % 0x1_0000_0000) as u32);
     }
     unreachable!()
+}
+
+/// Parks while the count is the key, once, and no longer than about `most`. Whether the count is then another.
+fn wait_at_most<R: Wait>(
+    rt: &R,
+    words: &Words,
+    seat: &mut Seat<u8, View>,
+    key: u64,
+    most: Duration,
+) -> bool
+    requires own { IsWaiterAt words.now.table_id seat.old }
+    requires inside { is_in seat.old.me.0 ≡ true }
+    requires key { key ≡ count_of seat.old.me.0.seen }
+    ensures same { IsSameSeat seat.old seat.new }
+    ensures inside { is_in seat.new.me.0 ≡ true }
+    ensures still { result ≡ false → seat.new.me.0.seen ≡ seat.old.me.0.seen }
+    ensures heard { result ≡ true → Hears (number_of seat.old.me.0.role) seat.old.me.0.seen seat.new.me.0.seen }
+{
+    words.park_timeout(rt, COUNT, (key % 0x1_0000_0000) as u32, most);
+    is_other(words, seat, key)
 }
 
 /// Takes one from those who have entered.
@@ -144,5 +178,20 @@ impl Waiter {
         wait_for_notice(rt, words, seat, self.key);
         leave(words, seat);
         self.entered = false;
+    }
+
+    /// Parks while the count is the key, no longer than about `most`, and then leaves. Whether the count was another.
+    pub(crate) fn wait_timeout<R: Wait>(&mut self, rt: &R, words: &Words, most: Duration) -> bool
+        requires own { self.old.table ≡ words.now.table_id }
+        requires entered { self.old.entered ≡ true }
+        ensures pass { self.new ≡ record self.old { entered = false; seen = self.new.seen } }
+        ensures woken { result ≡ true → HasWoken self.old self.new }
+        ensures left { result ≡ false → HasLeft self.old self.new }
+    {
+        let inside = &mut self.seat;
+        let is_woken = wait_at_most(rt, words, inside, self.key, most);
+        leave(words, inside);
+        self.entered = false;
+        is_woken
     }
 }
