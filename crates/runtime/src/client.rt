@@ -1,5 +1,5 @@
 //! The client of one ring.
-ghost use Rattle.std.specs.Prelude.{◌≡◌, ◌≢◌, ◌+◌, ◌<◌, ◌≤◌, ◌++◌, ℕ, suc, [], ◌∷◌, List, None, length, min, IfOk, IfErr, IfSome, MatchOption};
+ghost use Rattle.std.specs.Prelude.{◌≡◌, ◌≢◌, ◌+◌, ◌<◌, ◌≤◌, ◌⊎◌, ◌++◌, ℕ, suc, [], ◌∷◌, List, None, length, min, IfOk, IfErr, IfSome, MatchOption};
 ghost use Rattle.std.specs.Arc.{arc_value};
 ghost use Rattle.history.specs.declared.event.Event.TheVariants.{Reap};
 ghost use Rattle.history.specs.History.{phase, submits};
@@ -20,13 +20,14 @@ ghost use Rattle.runtime.specs.Clients.{HasAwaited, HasTaken, HasTold, without_t
 use crate::held::Held;
 use crate::releasing::END;
 use crate::shared::Shared;
-use crate::sleeping::{Listener, await_posts};
+use crate::sleeping::{Listener, await_posts, await_posts_at_most};
 use bell::Ringer;
 use board::{Completion, Phase, SubmitError, Submitter};
 use entry::Sqe;
 use history::Req;
 use std::marker::Model;
 use std::sync::{Arc, Wait};
+use std::time::Duration;
 
 /// Submits to one ring and takes its completions. `wait` and `submit_and_wait` sleep until completions are there. `take` waits for
 /// nothing but the lock of its ring's completions, which it takes once for all posts that wait, up to 64, and only where there are any.
@@ -134,6 +135,11 @@ impl Client {
         self.shared.board.look(&mut self.submitter, req)
     }
 
+    /// `Runtime::rest` of its runtime.
+    pub fn rest(&self) -> Option<u64> {
+        self.shared.tally.evened()
+    }
+
     /// Takes the oldest completion of its ring, if there is one (io_uring_peek_cqe(3)).
     pub fn take<R: Wait>(&mut self, rt: &R) -> Option<Completion>
         ensures same { (self.new.board ≡ self.old.board) × (self.new.ring ≡ self.old.ring) × (self.new.tail ≡ self.old.tail) × (self.new.publishes ≡ self.old.publishes) }
@@ -167,6 +173,19 @@ impl Client {
             }
         }
         unreachable!()
+    }
+
+    /// Waits for the next completion of its ring, for no longer than about `most`, and takes it if there is one
+    /// (io_uring_wait_cqe_timeout(3)). Where it finds none it sleeps once, and then looks again: so `None` may come early.
+    pub fn wait_timeout<R: Wait>(&mut self, rt: &R, most: Duration) -> Option<Completion>
+        ensures same { (self.new.board ≡ self.old.board) × (self.new.ring ≡ self.old.ring) × (self.new.tail ≡ self.old.tail) × (self.new.publishes ≡ self.old.publishes) }
+        ensures taken { HasTaken self.old self.new result }
+        ensures reaped { MatchOption result (Goes self.old.board self.old.submitter [] self.new.submitter) (λ x. Goes self.old.board self.old.submitter (Reap x.req ∷ []) self.new.submitter) }
+        ensures completion { IfSome result (λ x. IsCompletion (seen_of self.new.submitter) x.req x × IsReaped (phase (seen_of self.new.submitter) x.req)) }
+        ensures once { IfSome result (λ x. HasOnce (seen_of self.new.submitter) x.req) }
+    {
+        self.await_one(rt, most);
+        self.take(rt)
     }
 
     /// Submits a batch as `submit_batch` does, and then waits until so many completions can be taken without waiting, of those that
@@ -208,6 +227,28 @@ impl Client {
         };
         let listener = await_posts(rt, &self.shared.posts, &mut self.held, count, listener);
         self.listener = Some(listener);
+    }
+
+    /// Looks for posts where it holds none. Where it finds none it sleeps once, for no longer than about `most`.
+    fn await_one<R: Wait>(&mut self, rt: &R, most: Duration)
+        ensures same { (self.new.board ≡ self.old.board) × (self.new.ring ≡ self.old.ring) × (self.new.tail ≡ self.old.tail) × (self.new.publishes ≡ self.old.publishes) × (self.new.submitter ≡ self.old.submitter) }
+        ensures found { (found : List Req) × ((self.old.posts ≡ []) ⊎ (found ≡ [])) × (self.new.posts ≡ self.old.posts ++ found) }
+    {
+        let count = self.shared.board.widest().min(1) as usize;
+        if count <= self.held.len() {
+            return;
+        }
+        let Some(listener) = self.listener.take() else {
+            unreachable!()
+        };
+        self.listener = Some(await_posts_at_most(
+            rt,
+            &self.shared.posts,
+            &mut self.held,
+            count,
+            most,
+            listener,
+        ));
     }
 
     /// Tells the poller how many requests were submitted, unless it was told a greater tail.

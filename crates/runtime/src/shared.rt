@@ -3,7 +3,11 @@ use crate::locks::PostLocks;
 use bell::Bell;
 use board::Board;
 use ready::ReadyQueue;
+use std::hint;
 use std::sync::atomic::{AtomicBool, AtomicU64, Ordering};
+
+/// How many looks find out whether the workers have something to do.
+const LOOKS: u32 = 16;
 
 /// The board, its doorbell and its ready queue; the completion ring of each ring, each under a lock of its own; and whether the
 /// workers are to end, as the poller says once it was told to.
@@ -56,8 +60,20 @@ impl Tally {
         self.turns.fetch_add(1, Ordering::SeqCst);
     }
 
-    /// How many numbers had gone to the workers at a moment between two turns of the poller, where they were done with all of them.
+    /// How many numbers had gone to the workers at a moment between two turns of the poller, where they were done with all of them. It
+    /// looks several times, since a poller that goes round is mostly in a turn.
     pub fn evened(&self) -> Option<u64> {
+        for _look in 0..LOOKS {
+            if let Some(given) = self.evened_now() {
+                return Some(given);
+            }
+            hint::spin_loop();
+        }
+        None
+    }
+
+    /// The same, of this moment.
+    fn evened_now(&self) -> Option<u64> {
         let turns = self.turns.load(Ordering::SeqCst);
         let done = self.done.load(Ordering::SeqCst);
         let given = self.given.load(Ordering::SeqCst);

@@ -1,6 +1,6 @@
 //! How a worker that has nothing to do sleeps, and a client that waits. Whoever sleeps has read the count of its event count, and has
 //! looked once more since then: a notice of what came after the look changes the count, and nobody sleeps while it has changed.
-ghost use Rattle.std.specs.Prelude.{◌≡◌, ◌≤◌, ◌<◌, ◌+◌, ◌++◌, false, List, length, IfOk, IfErr};
+ghost use Rattle.std.specs.Prelude.{◌≡◌, ◌⊎◌, ◌≤◌, ◌<◌, ◌+◌, ◌++◌, false, List, length, IfOk, IfErr};
 ghost use Rattle.board.specs.ShapeLimits.{widest};
 ghost use Rattle.event_count.specs.Passes.{HasEntered, HasLeft, HasNoticed, HasWoken, IsNotifierOf, IsWaiterOf};
 ghost use Rattle.std.specs.Arc.{arc_value};
@@ -20,6 +20,7 @@ use outbox::Outbox;
 use std::marker::Model;
 use std::sync::atomic::Ordering;
 use std::sync::{Arc, Wait};
+use std::time::Duration;
 
 /// One who may sleep until there is notice. Contracts see its pass of the event count.
 #[derive(Drop)]
@@ -121,6 +122,15 @@ impl Drowsy {
     {
         let Entered { count, mut waiter } = self.entered;
         count.wait(rt, &mut waiter);
+        Listener { count, waiter }
+    }
+
+    /// The same, for no longer than about `most`.
+    fn sleep_at_most<R: Wait>(self, rt: &R, most: Duration) -> Listener
+        ensures { HasWoken self.entered result ⊎ HasLeft self.entered result }
+    {
+        let Entered { count, mut waiter } = self.entered;
+        count.wait_timeout(rt, &mut waiter, most);
         Listener { count, waiter }
     }
 }
@@ -252,4 +262,24 @@ pub(crate) fn await_posts<R: Wait>(
         }
     }
     unreachable!()
+}
+
+/// Takes posts out of the completion ring. Where the client then holds fewer than `count` it sleeps once, for no longer than about
+/// `most`.
+pub(crate) fn await_posts_at_most<R: Wait>(
+    rt: &R,
+    posts: &PostLocks,
+    held: &mut Held,
+    count: usize,
+    most: Duration,
+    listener: Listener,
+) -> Listener
+    requires { count ≤ held.old.places }
+    ensures held { (held.new.ring ≡ held.old.ring) × (held.new.places ≡ held.old.places) }
+    ensures found { (found : List Req) × (held.new.posts ≡ held.old.posts ++ found) }
+{
+    match look_for(rt, posts, held, count, listener.enter()) {
+        Ok(drowsy) => drowsy.sleep_at_most(rt, most),
+        Err(listener) => listener,
+    }
 }
