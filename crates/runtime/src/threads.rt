@@ -311,7 +311,7 @@ pub(crate) fn poll<R: Wait, G: Turnstile, C: Clock>(
             rest(rt, &shared.bell, &mut desk);
         } else if desk.has_moved() || served == Turn::Moved {
             still = 0;
-        } else {
+        } else if !clock.is_in_haste() {
             still = still.saturating_add(1);
             pause(still);
         }

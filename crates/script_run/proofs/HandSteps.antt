@@ -193,6 +193,10 @@ all_set xs ys i h lt w a = (
 pub all_next : (xs ys : List Hand) (i : ℕ) (x h : Hand) → i < length ys → x ≡ get_or ys i x → Went x h → AllWent xs ys → AllWent xs (set ys i h)
 all_next xs ys i x h lt is w a = all_set xs ys i h lt (λ d. subst (λ (z : Hand). Went z h) (is ∙ same_at ys i d x lt) w) a
 
+-- the first of them did
+pub all_first : (xs : List Hand) (x h : Hand) → 0 < length xs → x ≡ get_or xs 0 x → Went x h → AllWent xs (set xs 0 h)
+all_first xs x h lt is w = all_next xs xs 0 x h lt is w (all_still xs)
+
 -- ---- a batch that was handed in
 
 pub handed : (old new : Hand) (r : Req) (xs : Entries) → new.client.board ≡ old.client.board → new.client.ring ≡ old.client.ring → new.taken ≡ old.taken → r ≡ next_of old.client.submitter old.client.ring
@@ -231,13 +235,9 @@ all_carried c v xs i h here below above at k w same =
 
 -- ---- a line that runs out of tries
 
--- one try more, after which it took completions
-pub tried_first : (c : Script) (act : Act) (n : ℕ) (old mid last new : Hand) → TriedInVain c act n old mid → IsInVain c act mid last → Went last new → TriedInVain c act (n + 1) old new
-tried_first c act n old mid last new tries vain after = subst (λ (k : ℕ). TriedInVain c act k old new) (sym (add-one n)) (mid, tries, record { first = mid; last = last; before = went_same mid mid refl; tried = vain; after = after })
-
--- one try more, before which it took completions
-pub tried_last : (c : Script) (act : Act) (n : ℕ) (old mid first new : Hand) → TriedInVain c act n old mid → Went mid first → IsInVain c act first new → TriedInVain c act (n + 1) old new
-tried_last c act n old mid first new tries before vain = subst (λ (k : ℕ). TriedInVain c act k old new) (sym (add-one n)) (mid, tries, record { first = first; last = new; before = before; tried = vain; after = went_same new new refl })
+-- one try more, before and after which it took completions
+pub tried_more : (c : Script) (act : Act) (n : ℕ) (old mid first last new : Hand) → TriedInVain c act n old mid → Went mid first → IsInVain c act first last → Went last new → TriedInVain c act (n + 1) old new
+tried_more c act n old mid first last new tries before vain after = subst (λ (k : ℕ). TriedInVain c act k old new) (sym (add-one n)) (mid, tries, record { first = first; last = last; before = before; tried = vain; after = after })
 
 pub ran_out : (c : Script) (act : Act) (turns tries p : ℕ) (old new : Hand) → tries ≤ turns → turns ≤ tries → IsFor act p → TriedInVain c act tries old new → RanOut c turns act p old new
 ran_out c act turns tries p old new below above is_for k = record { is_for = is_for; tried = subst (λ (n : ℕ). TriedInVain c act n old new) (let same : tries ≡ turns = omega arith in same) k }

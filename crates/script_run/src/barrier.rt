@@ -1,23 +1,27 @@
 //! Whether the threads of all rings have begun, and whether all are to stop.
-use std::sync::Wait;
+use crate::clock::Progress;
+use crate::pulse::Pulse;
 use std::sync::atomic::{AtomicBool, AtomicU64, Ordering};
+use std::sync::{Arc, Wait};
 use std::thread;
 
-/// How many rings a run has, the threads of how many have begun, and whether all are to stop.
+/// How many rings a run has, the threads of how many have begun, whether all are to stop, and how far the run has come.
 #[derive(Drop)]
 pub(crate) struct Barrier {
     rings: u64,
     begun: AtomicU64,
     is_stopped: AtomicBool,
+    pub pulse: Pulse,
 }
 
 impl Barrier {
-    /// Of a run with so many rings.
-    pub fn new(rings: u64) -> Barrier {
+    /// Of a run with so many rings, and such a clock.
+    pub fn new(rings: u64, clock: Arc<Progress>) -> Barrier {
         Barrier {
             rings,
             begun: AtomicU64::new(0),
             is_stopped: AtomicBool::new(false),
+            pulse: Pulse::new(rings, clock),
         }
     }
 

@@ -12,6 +12,7 @@ use history::Req;
 use runtime::Client;
 use std::alloc::{AllocError, Global};
 use std::sync::Wait;
+use std::time::Duration;
 
 /// The client of a ring, the completions that it has taken, how many requests it has submitted, and why its lines were stopped, if
 /// they were.
@@ -78,6 +79,18 @@ impl Hand {
             self.taken.push(completion)?;
         }
         unreachable!()
+    }
+
+    /// Takes the next completion, for which it waits no longer than about `most`. Whether there was one.
+    pub fn take_within<R: Wait>(&mut self, rt: &R, most: Duration) -> Result<bool, AllocError>
+        ensures { Went self.old self.new }
+    {
+        self.taken.reserve(1)?;
+        let Some(completion) = self.client.wait_timeout(rt, most) else {
+            return Ok(false);
+        };
+        self.taken.push(completion)?;
+        Ok(true)
     }
 
     /// Whether the request has its reply.

@@ -6,6 +6,7 @@ mod clock;
 pub mod fault;
 mod hand;
 mod lines;
+mod pulse;
 mod rows;
 pub mod run;
 mod stage;

@@ -8,10 +8,10 @@ ghost use Rattle.script_run.specs.declared.lines.Halt.TheVariants.{Memory as NoM
 
 use crate::hand::{Batch, Hand, Tried};
 use crate::stage::{Stage, home_of};
+use crate::watch::Watch;
 use script::Act;
 use std::alloc::{AllocError, AllocFailed};
 use std::sync::Wait;
-use std::thread;
 
 /// Why a ring or the clock stopped before the end of its lines.
 #[derive(Clone, Copy)]
@@ -90,6 +90,7 @@ fn carry_lines<R: Wait>(rt: &R, stage: &Stage<'_>, hand: &mut Hand) -> Result<()
     };
     for act in lines {
         carry_line(rt, stage, hand, act)?;
+        stage.barrier.pulse.go_on();
     }
     Ok(())
 }
@@ -109,7 +110,7 @@ fn carry_line<R: Wait>(rt: &R, stage: &Stage<'_>, hand: &mut Hand, act: &Act) ->
 }
 
 /// Submits the entries at these places as one batch. Where a cell isn't free it is tried again, and before each further try the
-/// completions that are there are taken. No try is made once all rings are to stop.
+/// completions that are there are taken: it waits as `Watch::wait` does. No try is made once all rings are to stop.
 fn submit_line<R: Wait>(
     rt: &R,
     stage: &Stage<'_>,
@@ -124,6 +125,7 @@ fn submit_line<R: Wait>(
         return Err(Halt::Refused);
     };
     let mut batch = batch_of(stage, places)?;
+    let mut watch = Watch::new();
     for _try in 0..stage.turns {
         if stage.barrier.is_stopped() {
             return Err(Halt::Stopped);
@@ -133,8 +135,8 @@ fn submit_line<R: Wait>(
             Tried::Refused => return Err(Halt::Refused),
             Tried::Full(batch) => batch,
         };
-        hand.take_all(rt)?;
-        thread::yield_now();
+        let has_taken = hand.take_all(rt)?;
+        watch.wait(rt, stage, hand, has_taken)?;
     }
     Err(Halt::Stuck(*first))
 }
@@ -155,8 +157,8 @@ fn batch_of(stage: &Stage<'_>, places: &[u32]) -> Result<Batch, Halt>
     Ok(batch)
 }
 
-/// Waits for the reply to the entry at a place. At each try the completions that are there are taken. No try is made once all rings
-/// are to stop.
+/// Waits for the reply to the entry at a place. At each try the completions that are there are taken, and between two tries it waits as
+/// `Watch::wait` does. No try is made once all rings are to stop.
 fn wait<R: Wait>(rt: &R, stage: &Stage<'_>, hand: &mut Hand, place: u32) -> Result<(), Halt>
     requires { AreHomes stage.now.script.now stage.now.homes.now }
     ensures same { (hand.new.client.board ≡ hand.old.client.board) × (hand.new.client.ring ≡ hand.old.client.ring) }
@@ -166,15 +168,16 @@ fn wait<R: Wait>(rt: &R, stage: &Stage<'_>, hand: &mut Hand, place: u32) -> Resu
     let Some(req) = home_of(stage.homes, place) else {
         return Err(Halt::Refused);
     };
+    let mut watch = Watch::new();
     for _try in 0..stage.turns {
         if stage.barrier.is_stopped() {
             return Err(Halt::Stopped);
         }
-        hand.take_all(rt)?;
+        let has_taken = hand.take_all(rt)?;
         if hand.sees_reply(req) {
             return Ok(());
         }
-        thread::yield_now();
+        watch.wait(rt, stage, hand, has_taken)?;
     }
     Err(Halt::Stuck(place))
 }

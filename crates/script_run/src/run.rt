@@ -26,7 +26,7 @@ use crate::lines::Halt;
 use crate::rows::table_of;
 use crate::stage::Stage;
 use crate::threads::carry_all;
-use crate::watch::{Watch, go_on};
+use crate::watch::go_on;
 use board::{Completion, Report, RingShape, Shape};
 use controls::Turnstile;
 use history::Req;
@@ -41,8 +41,9 @@ const IDLE: u32 = 64;
 
 /// Carries a script out on a runtime with so many workers, and gives its table. Each ring has a thread of its own, and the clock's
 /// lines are carried out by the poller's, one try a turn. A `wait` or `armed` line, and a `submit` line whose cells aren't all free,
-/// is tried at most `turns` times. After the last line the run ends once no request can go on; what has no reply by then is cut off
-/// with -125 (ECANCELED). Each thread goes through the turnstile with each request.
+/// is tried at most `turns` times: between two tries a ring's thread sleeps for a while, and not at all once nothing can go on. After
+/// the last line the run ends once no request can go on; what has no reply by then is cut off with -125 (ECANCELED). Each thread goes
+/// through the turnstile with each request.
 pub fn run_script<
     R: Threads + Wait + Copy + Send + Sync + 'static,
     G: Turnstile + Send + Sync + Drop + 'static,
@@ -63,13 +64,8 @@ pub fn run_script<
     let room = room_of(alloc, script.rings.len())?;
     let lines = lines_of(alloc, script, homes.as_slice())?;
     let (clock, progress) = clock_of(alloc, script, homes.as_slice(), turns)?;
-    let watch = Watch {
-        progress,
-        turns: 0,
-        rest: None,
-    };
     let (runtime, clients) = start(*rt, alloc, &shape, IDLE, turnstile, clock)?;
-    let barrier = Barrier::new(script.rings.len() as u64);
+    let barrier = Barrier::new(script.rings.len() as u64, progress);
     let stage = Stage {
         alloc,
         script,
@@ -80,7 +76,6 @@ pub fn run_script<
     run_lines(
         rt,
         &stage,
-        watch,
         workers,
         runtime,
         clients,
@@ -128,7 +123,6 @@ fn room_of(alloc: Global, rings: usize) -> Result<Room, AllocError>
 fn run_lines<R: Threads + Wait + Sync>(
     rt: &R,
     stage: &Stage<'_>,
-    watch: Watch,
     workers: u32,
     runtime: Runtime<LineClock>,
     clients: Vec<Client>,
@@ -150,7 +144,7 @@ fn run_lines<R: Threads + Wait + Sync>(
         clients: back,
     } = room;
     let hands = hands_of(stage.alloc, clients, hands);
-    let (taken, report) = play(rt, stage, watch, runtime, hands, back, lines)?;
+    let (taken, report) = play(rt, stage, runtime, hands, back, lines)?;
     table_of(
         stage.alloc,
         stage.script,
@@ -198,7 +192,6 @@ fn hands_of(alloc: Global, mut clients: Vec<Client>, mut hands: Vec<Hand>) -> Ve
 fn play<R: Threads + Wait + Sync>(
     rt: &R,
     stage: &Stage<'_>,
-    mut watch: Watch,
     runtime: Runtime<LineClock>,
     hands: Vec<Hand>,
     clients: Vec<Client>,
@@ -213,7 +206,7 @@ fn play<R: Threads + Wait + Sync>(
     ensures stuck { IfErr result (IfStuckOn (IsStuckOn stage.now.script.now stage.now.turns runtime.board)) }
 {
     let mut hands = carry_all(rt, stage, hands);
-    let halt = finish_lines(rt, &runtime, &mut watch, &mut hands);
+    let halt = finish_lines(rt, stage, &mut hands);
     let (clients, taken) = parts_of(stage.alloc, hands, clients);
     let joined = end(rt, stage.alloc, runtime, clients);
     if let Some(halt) = halt {
@@ -231,12 +224,7 @@ fn play<R: Threads + Wait + Sync>(
 }
 
 /// Waits until no request can go on, unless a ring stopped. Why the run gives no table, if it gives none.
-fn finish_lines<R: Wait>(
-    rt: &R,
-    runtime: &Runtime<LineClock>,
-    watch: &mut Watch,
-    hands: &mut Vec<Hand>,
-) -> Option<Halt>
+fn finish_lines<R: Wait>(rt: &R, stage: &Stage<'_>, hands: &mut Vec<Hand>) -> Option<Halt>
     ensures went { AllWent hands.old.items hands.new.items }
     ensures through { result ≡ None → All (λ h. h.halt ≡ None) hands.old.items }
     ensures stuck { (p : ℕ) → result ≡ Some (Stuck p) → IsLowest hands.old.items (length hands.old.items) p }
@@ -245,7 +233,7 @@ fn finish_lines<R: Wait>(
     if halt.is_some() {
         return halt;
     }
-    match go_on(rt, runtime, watch, hands) {
+    match go_on(rt, stage, hands) {
         Ok(()) => None,
         Err(_) => Some(Halt::Memory),
     }

@@ -25,7 +25,7 @@ impl Promise<Hand> for Carried {
     ghost kept_by = { λ p r. CarriedOut p.0.value p.1.value p.2.value r };
 }
 
-/// `carry_out`, of the stage's parts: what a thread is given names no struct of references.
+/// `carry_out`, of the stage's parts: what a thread is given names no struct of references. Then the thread is at its end.
 fn carry_by<R: Wait>(
     rt: &R,
     alloc: Global,
@@ -45,7 +45,9 @@ fn carry_by<R: Wait>(
         turns,
         barrier,
     };
-    carry_out(rt, &stage, hand)
+    let hand = carry_out(rt, &stage, hand);
+    barrier.pulse.end();
+    hand
 }
 
 /// Carries the lines of a client out in a thread of its own. Where that is refused all rings are told to stop, and the hand comes back,

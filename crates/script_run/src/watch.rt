@@ -1,87 +1,222 @@
-//! How long a run goes on after its last line.
+//! How a thread waits for a run to go on, and how it finds that it can't.
 ghost use Rattle.script_run.specs.Hands.{Went, AllWent};
 
-use crate::clock::{LineClock, Progress};
 use crate::hand::Hand;
+use crate::stage::Stage;
 use board::Phase;
-use history::Req;
-use runtime::Runtime;
 use std::alloc::AllocError;
-use std::sync::{Arc, Wait};
-use std::thread;
+use std::sync::Wait;
+use std::time::Duration;
+use std::{hint, thread};
 
-/// After how many turns of the poller since the last completion a request that waits for it is taken to wait for what doesn't come.
+/// After how many turns of the poller since something went on a request that waits for it is taken to wait for what doesn't come.
 const ROUNDS: u64 = 16;
 
-/// What a run is watched by: how far its clock has come, how many turns the poller had made when something came last, and how many
-/// numbers had gone to the workers by then, where they were done with them.
+/// After how many tries in vain, one right after another, a thread naps.
+const QUICK: u32 = 64;
+
+/// How many pauses of the processor lie between two such tries.
+const PAUSES: u32 = 16;
+
+/// How long the first nap is, in microseconds. Each of the next ones is twice as long as that before it, up to sixteen times as long.
+const NAP: u64 = 64;
+
+/// How many naps a thread takes while nothing goes on. A run whose workers don't come to rest by then has no memory, say.
+const NAPS: u32 = 1024;
+
+/// After how many looks that found nothing that can go on a ring takes the run to be at rest, where all others do.
+const LOOKS: u32 = 4;
+
+/// The run's mark, where its workers have nothing to do.
+fn mark_of(stage: &Stage<'_>, hand: &Hand) -> Option<u64> {
+    let done = hand.client.rest()?;
+    Some(stage.barrier.pulse.mark(done))
+}
+
+/// What a thread has seen of a run that doesn't go on: the run's mark, how many turns the poller had made when it saw that first, and
+/// how many looks since then found nothing that can go on; how many tries and naps it has made; and whether the run is at rest.
 #[derive(Drop)]
 pub(crate) struct Watch {
-    pub progress: Arc<Progress>,
-    pub turns: u64,
-    pub rest: Option<u64>,
+    mark: Option<u64>,
+    turns: u64,
+    looks: u32,
+    tries: u32,
+    naps: u32,
+    is_at_rest: bool,
 }
 
 impl Watch {
-    /// From here on it counts again.
-    fn begin_again(&mut self, rest: Option<u64>) {
-        self.turns = self.progress.turns();
-        self.rest = rest;
-    }
-
-    /// Whether the workers have nothing to do, and got nothing since something came last.
-    fn has_rested(&self, rest: Option<u64>) -> bool {
-        rest.is_some() && rest == self.rest
-    }
-
-    /// Whether the poller has gone round often since the last completion.
-    fn has_turned(&self) -> bool {
-        self.turns.saturating_add(ROUNDS) <= self.progress.turns()
-    }
-
-    /// Whether a request where it stands has its completion, or has had its chances since the last one came. The workers have nothing
-    /// to do: so one that is Ready waits for what comes through its pipes.
-    fn is_settled(&self, phase: Phase) -> bool {
-        match phase {
-            Phase::Unborn | Phase::Gone | Phase::Ready => true,
-            Phase::Done(_) | Phase::Running => false,
-            Phase::Held | Phase::Armed(_) => self.has_turned(),
+    /// Of a run that goes on.
+    pub fn new() -> Watch {
+        Watch {
+            mark: None,
+            turns: 0,
+            looks: 0,
+            tries: 0,
+            naps: 0,
+            is_at_rest: false,
         }
     }
 
-    /// Whether none of the requests of a client can go on.
-    fn is_still(&self, hand: &mut Hand) -> bool
+    /// Whether the poller has gone round often since the run stood at its mark first.
+    fn has_turned(&self, stage: &Stage<'_>) -> bool {
+        self.turns.saturating_add(ROUNDS) <= stage.barrier.pulse.clock.turns()
+    }
+
+    /// Whether the clock has come to its end, or had its chances.
+    fn has_ticked(&self, stage: &Stage<'_>) -> bool {
+        stage.barrier.pulse.clock.is_over() || self.has_turned(stage)
+    }
+
+    /// Whether a request where it stands has its reply, or had its chances. The workers have nothing to do: so its completion is posted,
+    /// and where it is Ready it waits for what comes through its pipes.
+    fn is_settled(&self, stage: &Stage<'_>, phase: Phase) -> bool {
+        match phase {
+            Phase::Unborn | Phase::Gone | Phase::Ready | Phase::Done(_) => true,
+            Phase::Running => false,
+            Phase::Held | Phase::Armed(_) => self.has_turned(stage),
+        }
+    }
+
+    /// Whether no request of the script can go on.
+    fn are_settled(&self, stage: &Stage<'_>, hand: &mut Hand) -> bool
         ensures { Went hand.old hand.new }
     {
-        let ring = hand.client.ring();
-        for k in 0..hand.submitted {
-            let req = Req { ring, k: k as u64 };
-            let phase = hand.client.look(req);
-            if !self.is_settled(phase) {
+        for home in stage.homes {
+            let Some(req) = home else {
+                continue;
+            };
+            let phase = hand.client.look(*req);
+            if !self.is_settled(stage, phase) {
                 return false;
             }
         }
         true
     }
 
-    /// Whether no request can go on.
-    fn are_still(&self, hands: &mut Vec<Hand>) -> bool
-        ensures { AllWent hands.old.items hands.new.items }
+    /// Looks at the run where nothing was there to be taken. Whether it stands where it stood at the look before, and nothing can go on.
+    /// While the workers have something to do, or the poller is in a turn, that can't be told.
+    fn look(&mut self, stage: &Stage<'_>, hand: &mut Hand) -> bool
+        ensures { Went hand.old hand.new }
     {
-        let mut all = true;
-        for hand in hands.iter_mut() {
-            let is_still = self.is_still(hand);
-            all = all && is_still;
+        let mark = mark_of(stage, hand);
+        if mark.is_none() {
+            return false;
         }
-        all
+        if mark != self.mark {
+            self.mark = mark;
+            self.turns = stage.barrier.pulse.clock.turns();
+            self.looks = 0;
+            self.naps = 0;
+            return false;
+        }
+        if !self.has_ticked(stage) {
+            return false;
+        }
+        if !self.are_settled(stage, hand) || mark_of(stage, hand) != mark {
+            return false;
+        }
+        self.looks = self.looks.saturating_add(1);
+        true
     }
 
-    /// The same, and the workers got nothing meanwhile.
-    fn are_at_rest(&self, runtime: &Runtime<LineClock>, hands: &mut Vec<Hand>) -> bool
-        ensures { AllWent hands.old.items hands.new.items }
+    /// Looks at the run for a ring that waits, and notes where the run is at rest: each ring has ended, or waits in vain.
+    fn look_around<R: Wait>(&mut self, rt: &R, stage: &Stage<'_>, hand: &mut Hand)
+        ensures { Went hand.old hand.new }
     {
-        let are_still = self.are_still(hands);
-        are_still && self.has_rested(runtime.rest())
+        if !self.look(stage, hand) {
+            return;
+        }
+        let Some(mark) = self.mark else {
+            return;
+        };
+        if self.looks == 1 {
+            stage.barrier.pulse.give_up(rt, mark);
+        }
+        if self.looks < LOOKS || !stage.barrier.pulse.have_given_up(rt, mark) {
+            return;
+        }
+        self.is_at_rest = mark_of(stage, hand) == self.mark;
+    }
+
+    /// Begins again, since something went on.
+    fn begin_again(&mut self, stage: &Stage<'_>) {
+        stage.barrier.pulse.go_on();
+        *self = Watch::new();
+    }
+
+    /// Whether it makes its next try at once.
+    fn is_quick(&mut self) -> bool {
+        if QUICK <= self.tries {
+            return false;
+        }
+        self.tries += 1;
+        for _pause in 0..PAUSES {
+            hint::spin_loop();
+        }
+        true
+    }
+
+    /// Sleeps until a completion of the ring is posted, for a millisecond at most. One that is there it takes.
+    fn nap<R: Wait>(&mut self, rt: &R, stage: &Stage<'_>, hand: &mut Hand) -> Result<(), AllocError>
+        ensures { Went hand.old hand.new }
+    {
+        let most = Duration::from_micros(NAP << self.naps.min(4));
+        self.naps = self.naps.saturating_add(1);
+        if hand.take_within(rt, most)? {
+            self.begin_again(stage);
+        }
+        Ok(())
+    }
+
+    /// Waits between a try of a ring's line that was in vain, and the next. Where completions were taken, or the run is at rest, it
+    /// doesn't wait.
+    pub fn wait<R: Wait>(
+        &mut self,
+        rt: &R,
+        stage: &Stage<'_>,
+        hand: &mut Hand,
+        has_taken: bool,
+    ) -> Result<(), AllocError>
+        ensures { Went hand.old hand.new }
+    {
+        if has_taken {
+            self.begin_again(stage);
+            return Ok(());
+        }
+        if self.is_at_rest || self.is_quick() {
+            return Ok(());
+        }
+        self.look_around(rt, stage, hand);
+        if self.is_at_rest {
+            return Ok(());
+        }
+        if NAPS <= self.naps {
+            thread::yield_now();
+            return Ok(());
+        }
+        self.nap(rt, stage, hand)
+    }
+
+    /// A look after the last line, where no completion was there, and a pause. Whether the run is at its end. Where the clock alone
+    /// isn't, since its line waits for what doesn't come, that is in haste.
+    fn finish<R: Wait>(
+        &mut self,
+        rt: &R,
+        stage: &Stage<'_>,
+        hand: &mut Hand,
+    ) -> Result<bool, AllocError>
+        ensures { Went hand.old hand.new }
+    {
+        let clock = &stage.barrier.pulse.clock;
+        if self.look(stage, hand) && clock.is_over() {
+            return Ok(true);
+        }
+        clock.hurry(0 < self.looks);
+        if !self.is_quick() {
+            self.nap(rt, stage, hand)?;
+        }
+        Ok(false)
     }
 }
 
@@ -100,25 +235,36 @@ fn take_all<R: Wait>(rt: &R, hands: &mut Vec<Hand>) -> Result<bool, AllocError>
     if is_short { Err(AllocError) } else { Ok(some) }
 }
 
-/// Takes completions until the clock has come to its end, the runtime rests, and no request can go on.
+/// `Watch::finish`, by the first of the hands.
+fn finish_by_first<R: Wait>(
+    rt: &R,
+    stage: &Stage<'_>,
+    watch: &mut Watch,
+    hands: &mut Vec<Hand>,
+) -> Result<bool, AllocError>
+    ensures { AllWent hands.old.items hands.new.items }
+{
+    match hands.first_mut() {
+        Some(hand) => watch.finish(rt, stage, hand),
+        None => Ok(true),
+    }
+}
+
+/// Takes completions until the clock has come to its end, the workers have nothing to do, and no request can go on.
 pub(crate) fn go_on<R: Wait>(
     rt: &R,
-    runtime: &Runtime<LineClock>,
-    watch: &mut Watch,
+    stage: &Stage<'_>,
     hands: &mut Vec<Hand>,
 ) -> Result<(), AllocError>
     ensures { AllWent hands.old.items hands.new.items }
 {
-    watch.begin_again(None);
+    let mut watch = Watch::new();
     for _ in rt.forever() {
-        let rest = runtime.rest();
-        let has_rested = watch.progress.is_over() && watch.has_rested(rest);
-        if take_all(rt, hands)? || !has_rested {
-            watch.begin_again(rest);
-        } else if watch.are_at_rest(runtime, hands) {
+        if take_all(rt, hands)? {
+            watch.begin_again(stage);
+        } else if finish_by_first(rt, stage, &mut watch, hands)? {
             return Ok(());
         }
-        thread::yield_now();
     }
     unreachable!()
 }

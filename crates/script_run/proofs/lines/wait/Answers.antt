@@ -1,7 +1,7 @@
 use Rattle.std.proofs.Common.{Some, refl}
 use Rattle.script.specs.declared.act.Act.TheVariants as act
 use Rattle.script.proofs.HomesRead.{home_is}
-use Rattle.script_run.proofs.HandSteps.{carries_wait, went_then, went_same, tried_last, ran_out}
+use Rattle.script_run.proofs.HandSteps.{carries_wait, went_then, went_same, tried_more, ran_out}
 use Rattle.script_run.proofs.lines.wait.Goals as goal
 
 pub returns-then-sees_reply-clause-carried : goal.returns-then-sees_reply-clause-carried
@@ -18,9 +18,10 @@ pub loop-try-preserved : goal.loop-try-preserved
 loop-try-preserved g c =
     let script = c.args.stage.now.script.now in
     let home = home_is script c.args.stage.now.homes.now c.requires c.args.place (Some c.in-Some.req) c.in-Some.ensures in
+    let looked = went_then c.loop-try.hand c.take_all.new.self c.sees_reply.new.self c.take_all.ensures c.sees_reply.ensures.went in
     record {
-      went = went_then c.args.hand.now c.loop-try.hand c.sees_reply.new.self c.loop-try.invariant.went (went_then c.loop-try.hand c.take_all.new.self c.sees_reply.new.self c.take_all.ensures c.sees_reply.ensures.went);
-      tried = tried_last script (act.Wait c.args.place) c.loop-try._try c.args.hand.now c.loop-try.hand c.take_all.new.self c.sees_reply.new.self c.loop-try.invariant.tried c.take_all.ensures (c.in-Some.req, home, c.sees_reply.ensures.vain c.if-sees_reply.false);
+      went = went_then c.args.hand.now c.loop-try.hand c.wait.new.hand c.loop-try.invariant.went (went_then c.loop-try.hand c.sees_reply.new.self c.wait.new.hand looked c.wait.ensures);
+      tried = tried_more script (act.Wait c.args.place) c.loop-try._try c.args.hand.now c.loop-try.hand c.take_all.new.self c.sees_reply.new.self c.wait.new.hand c.loop-try.invariant.tried c.take_all.ensures (c.in-Some.req, home, c.sees_reply.ensures.vain c.if-sees_reply.false) c.wait.ensures;
     }
 
 pub returns-clause-stuck : goal.returns-clause-stuck
