@@ -1,4 +1,5 @@
-//! The start of a runtime.
+//! The start of a runtime. Where something is refused, what was made by then is dropped by a call: the prover goes through that sooner
+//! than through drops that nobody wrote.
 ghost use Rattle.std.specs.Prelude.{◌≡◌, ◌≢◌, ◌+◌, ◌<◌, ◌≤◌, [], All, false, length, sum_by, vec_capacity, Err, IfOk, IfErr};
 ghost use Rattle.std.specs.Arc.{arc_value};
 ghost use Rattle.work.specs.Board.{IsOf};
@@ -107,7 +108,10 @@ fn listeners_of(
 {
     let mut listeners = Vec::with_capacity(alloc, waiters.len())?;
     while let Some(waiter) = waiters.pop() {
-        let theirs = Arc::try_clone(count)?;
+        let Ok(theirs) = Arc::try_clone(count) else {
+            drop((waiter, waiters, listeners));
+            return Err(Memory);
+        };
         listeners.push_reserved(Listener::new(theirs, waiter));
     }
     Ok(listeners)
@@ -124,7 +128,10 @@ fn callers_of(
 {
     let mut callers = Vec::with_capacity(alloc, notifiers.len())?;
     while let Some(notifier) = notifiers.pop() {
-        let theirs = Arc::try_clone(count)?;
+        let Ok(theirs) = Arc::try_clone(count) else {
+            drop((notifier, notifiers, callers));
+            return Err(Memory);
+        };
         callers.push_reserved(Caller::new(theirs, notifier));
     }
     Ok(callers)
@@ -141,11 +148,21 @@ fn event_count_of(
     let Ok((count, waiters, notifiers)) = EventCount::new(alloc, listeners, callers) else {
         return Err(Memory);
     };
-    let Ok(count) = Arc::new(alloc, count) else {
+    let count = match Arc::new(alloc, count) {
+        Ok(count) => count,
+        Err(refused) => {
+            drop((refused, waiters, notifiers));
+            return Err(Memory);
+        }
+    };
+    let Ok(listeners) = listeners_of(alloc, &count, waiters) else {
+        drop((count, notifiers));
         return Err(Memory);
     };
-    let listeners = listeners_of(alloc, &count, waiters)?;
-    let callers = callers_of(alloc, &count, notifiers)?;
+    let Ok(callers) = callers_of(alloc, &count, notifiers) else {
+        drop((count, listeners));
+        return Err(Memory);
+    };
     Ok((listeners, callers))
 }
 
@@ -161,6 +178,15 @@ fn crew_of(alloc: Global, workers: u16) -> Result<(Vec<Listener>, Caller, Vec<Ca
     Ok((listeners, caller, callers))
 }
 
+/// An event count of one listener, and one who calls it.
+fn pair_of(alloc: Global) -> Result<(Listener, Caller), Memory> {
+    let (mut listeners, mut callers) = event_count_of(alloc, 1, 1)?;
+    let (Some(listener), Some(caller)) = (listeners.pop(), callers.pop()) else {
+        unreachable!()
+    };
+    Ok((listener, caller))
+}
+
 /// The completion ring of each ring, under its lock: of so many posts as it says, else of twice as many as it has cells. And the
 /// listener of each ring's client.
 fn posts_of(alloc: Global, rings: &[RingShape]) -> Result<(PostLocks, Vec<Listener>), Memory>
@@ -173,11 +199,12 @@ fn posts_of(alloc: Global, rings: &[RingShape]) -> Result<(PostLocks, Vec<Listen
     for ring in rings {
         let size = ring.posts.unwrap_or(ring.cells.saturating_mul(2));
         let Ok(completions) = CompletionRing::for_ring(alloc, size, owner) else {
+            drop((posts, listeners));
             return Err(Memory);
         };
-        let (mut listening, mut calling) = event_count_of(alloc, 1, 1)?;
-        let (Some(listener), Some(caller)) = (listening.pop(), calling.pop()) else {
-            unreachable!()
+        let Ok((listener, caller)) = pair_of(alloc) else {
+            drop((completions, posts, listeners));
+            return Err(Memory);
         };
         listeners.push_reserved(listener);
         posts.push_reserved(PostLock::new(completions, caller));
@@ -232,15 +259,22 @@ fn parts_of(alloc: Global, shape: &Shape) -> Result<Parts, StartError>
     };
     let places = places_of(shape.rings.as_slice()).clamp(1, 65_536) as u32;
     let Ok((bell, ringers, sleeper)) = bell_of(alloc, shape.rings.len() as u16) else {
+        drop((board, poller, submitters, workers));
         return Err(StartError::Memory);
     };
     let Ok((queue, ready, passes)) = queue_of(alloc, places, shape.workers) else {
+        drop((board, poller, submitters, workers, bell, ringers, sleeper));
         return Err(StartError::Memory);
     };
     let Ok((posts, listeners)) = posts_of(alloc, shape.rings.as_slice()) else {
+        drop((board, poller, submitters, workers, bell, ringers, sleeper));
+        drop((queue, ready, passes));
         return Err(StartError::Memory);
     };
     let Ok((idle, caller, callers)) = crew_of(alloc, shape.workers as u16) else {
+        drop((board, poller, submitters, workers, bell, ringers, sleeper));
+        drop((queue, ready, passes));
+        drop((posts, listeners));
         return Err(StartError::Memory);
     };
     let shared = Shared {
@@ -298,8 +332,16 @@ fn clients_of(
         let Some(listener) = listeners.pop() else {
             unreachable!()
         };
-        let theirs = Arc::try_clone(shared)?;
-        let held = Held::empty(alloc, submitter.ring(), places)?;
+        let Ok(theirs) = Arc::try_clone(shared) else {
+            drop((submitter, ringer, listener));
+            drop((submitters, ringers, listeners, clients));
+            return Err(Memory);
+        };
+        let Ok(held) = Held::empty(alloc, submitter.ring(), places) else {
+            drop((theirs, submitter, ringer, listener));
+            drop((submitters, ringers, listeners, clients));
+            return Err(Memory);
+        };
         clients.push_reserved(Client::new(theirs, submitter, ringer, held, listener));
     }
     clients.reverse();
@@ -324,13 +366,17 @@ fn side_of<C: Clock + Drop>(
         ready,
         caller,
     } = parts;
-    let Ok(desk) = PollDesk::new(alloc, shape, poller, sleeper, ready) else {
+    let desk = match PollDesk::new(alloc, shape, poller, sleeper, ready) {
+        Ok(desk) => desk,
+        Err(refused) => {
+            drop((refused, clock, caller, own));
+            return Err(Memory);
+        }
+    };
+    let Ok(outbox) = outbox_for(alloc, &desk) else {
+        drop((desk, clock, caller, own));
         return Err(Memory);
     };
-    let Ok(places) = u32::try_from(desk.places()) else {
-        return Err(Memory);
-    };
-    let outbox = Outbox::new(alloc, places)?;
     Ok(PollSide {
         desk,
         clock,
@@ -338,6 +384,17 @@ fn side_of<C: Clock + Drop>(
         caller,
         own,
     })
+}
+
+/// The outbox of the poller.
+fn outbox_for(alloc: Global, desk: &PollDesk) -> Result<Outbox, Memory>
+    ensures { IfOk result (λ o. (o.answered ≡ []) × (desk.now.places ≤ o.places)) }
+{
+    let Ok(places) = u32::try_from(desk.places()) else {
+        return Err(Memory);
+    };
+    let outbox = Outbox::new(alloc, places)?;
+    Ok(outbox)
 }
 
 /// Starts the poller's thread.
@@ -376,7 +433,10 @@ fn spawn_poller<
         { poll(&rt, &theirs, &*turnstile, idle, side) },
     ) {
         Ok(handle) => Ok(handle),
-        Err(_) => Err(StartError::Thread),
+        Err(refused) => {
+            drop(refused);
+            Err(StartError::Thread)
+        }
     }
 }
 
@@ -407,10 +467,12 @@ fn start_poller<
     let Ok(side) = side_of(alloc, shape, parts, clock, own) else {
         return Err(StartError::Memory);
     };
-    let (Ok(theirs), Ok(points)) = (
-        Arc::try_clone(&stage.shared),
-        Arc::try_clone(&stage.turnstile),
-    ) else {
+    let Ok(theirs) = Arc::try_clone(&stage.shared) else {
+        drop(side);
+        return Err(StartError::Memory);
+    };
+    let Ok(points) = Arc::try_clone(&stage.turnstile) else {
+        drop((side, theirs));
         return Err(StartError::Memory);
     };
     spawn_poller(rt, theirs, points, idle, side)
@@ -442,7 +504,12 @@ fn start_worker<
     ensures thread { IfOk result (λ t. (arc_value t.handle.promise.0.value ≡ arc_value shared.now) × (t.handle.promise.1.value.share ≡ desk.ready.share)) }
     ensures refused { IfErr result (λ e. e ≢ BadShape) }
 {
-    let (Ok(theirs), Ok(outbox)) = (Arc::try_clone(shared), outbox_of(alloc, shared)) else {
+    let Ok(theirs) = Arc::try_clone(shared) else {
+        drop((worker, desk, listener, turnstile));
+        return Err(StartError::Memory);
+    };
+    let Ok(outbox) = outbox_of(alloc, shared) else {
+        drop((worker, desk, listener, turnstile, theirs));
         return Err(StartError::Memory);
     };
     let promise = Ours(Snapshot::of(shared), Snapshot::of(desk.ready()));
@@ -456,7 +523,10 @@ fn start_worker<
         { work(&rt, &theirs, desk, worker, &*turnstile, outbox, listener) },
     ) {
         Ok(handle) => Ok(WorkThread { handle }),
-        Err(_) => Err(StartError::Thread),
+        Err(refused) => {
+            drop(refused);
+            Err(StartError::Thread)
+        }
     }
 }
 
@@ -495,14 +565,24 @@ fn start_workers<
             unreachable!()
         };
         let Ok(points) = Arc::try_clone(turnstile) else {
+            drop((worker, ready, listener, caller));
+            drop((workers, passes, listeners, callers));
             return Err(StartError::Memory);
         };
-        let Ok(desk) = WorkDesk::beside(alloc, &shared.board, ready, Some(caller)) else {
-            return Err(StartError::Memory);
+        let desk = match WorkDesk::beside(alloc, &shared.board, ready, Some(caller)) {
+            Ok(desk) => desk,
+            Err(refused) => {
+                drop((refused, worker, listener, points));
+                drop((workers, passes, listeners, callers));
+                return Err(StartError::Memory);
+            }
         };
         match start_worker(rt, alloc, shared, worker, desk, listener, points) {
             Ok(thread) => threads.push_reserved(thread),
-            Err(error) => return Err(error),
+            Err(error) => {
+                drop((workers, passes, listeners, callers));
+                return Err(error);
+            }
         }
     }
     Ok(())
@@ -533,9 +613,18 @@ fn rooms_of(alloc: Global, queue: &ReadyQueue, workers: &Vec<Worker>) -> Result<
     let Ok(gather) = queue.make_room(alloc, workers.len() + 1) else {
         return Err(Memory);
     };
-    let threads = Vec::with_capacity(alloc, workers.len())?;
-    let ended = Vec::with_capacity(alloc, workers.len())?;
-    let passes = Vec::with_capacity(alloc, workers.len() + 1)?;
+    let Ok(threads) = Vec::with_capacity(alloc, workers.len()) else {
+        drop(gather);
+        return Err(Memory);
+    };
+    let Ok(ended) = Vec::with_capacity(alloc, workers.len()) else {
+        drop((gather, threads));
+        return Err(Memory);
+    };
+    let Ok(passes) = Vec::with_capacity(alloc, workers.len() + 1) else {
+        drop((gather, threads, ended));
+        return Err(Memory);
+    };
     Ok(Rooms {
         threads,
         ended,
@@ -624,7 +713,10 @@ fn own_worker(
             worker,
             outbox,
         }),
-        Err((memory, _ready)) => Err(memory),
+        Err(refused) => {
+            drop((refused, worker, outbox));
+            Err(Memory)
+        }
     }
 }
 
@@ -684,20 +776,27 @@ fn start_threads<
         mut workers,
     } = parts;
     let Ok(rooms) = rooms_of(alloc, &shared.queue, &workers.workers) else {
+        drop((shared, poller, clients, workers, turnstile, clock));
         return Err(StartError::Memory);
     };
     let Ok(own) = own_of(alloc, &shared, &mut workers) else {
+        drop((shared, poller, clients, workers, turnstile, clock, rooms));
         return Err(StartError::Memory);
     };
     let Ok(stage) = stage_of(alloc, shared, turnstile) else {
+        drop((poller, clients, workers, clock, rooms, own));
         return Err(StartError::Memory);
     };
     let Ok(clients) = clients_of(alloc, &stage.shared, clients) else {
+        drop((stage, poller, workers, clock, rooms, own));
         return Err(StartError::Memory);
     };
     match start_poller(rt, alloc, shape, idle, &stage, clock, poller, own) {
         Ok(poller) => start_others(rt, alloc, stage, poller, workers, rooms, clients),
-        Err(error) => Err(error),
+        Err(error) => {
+            drop((stage, workers, rooms, clients));
+            Err(error)
+        }
     }
 }
 

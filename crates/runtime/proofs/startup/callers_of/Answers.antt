@@ -5,7 +5,7 @@ use Rattle.event_count.specs.Passes.{Notifying, IsNotifierOf}
 use Rattle.runtime.proofs.startup.callers_of.Goals as goal
 
 pub new-requires : goal.new-requires
-new-requires c = (All-pop (λ (n : Notifying). IsNotifierOf (arc_value c.args.count.now) n) c.loop-notifier.notifiers.items c.pop.new.self.items (Some c.in-Some.notifier) c.in-Some.ensures.items c.loop-notifier.invariant.notifiers).1 ∙ sym c.in_ok-theirs.ensures
+new-requires c = (All-pop (λ (n : Notifying). IsNotifierOf (arc_value c.args.count.now) n) c.loop-notifier.notifiers.items c.pop.new.self.items (Some c.in-Some.notifier) c.in-Some.ensures.items c.loop-notifier.invariant.notifiers).1 ∙ sym c.in-Ok.ensures
 
 pub loop-notifier-preserved : goal.loop-notifier-preserved
 loop-notifier-preserved c =

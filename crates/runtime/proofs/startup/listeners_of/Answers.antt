@@ -5,7 +5,7 @@ use Rattle.event_count.specs.Passes.{Waiting, IsWaiterOf}
 use Rattle.runtime.proofs.startup.listeners_of.Goals as goal
 
 pub new-requires-clause-own : goal.new-requires-clause-own
-new-requires-clause-own c = (All-pop (λ (w : Waiting). IsWaiterOf (arc_value c.args.count.now) w × (w.entered ≡ false)) c.loop-waiter.waiters.items c.pop.new.self.items (Some c.in-Some.waiter) c.in-Some.ensures.items c.loop-waiter.invariant.waiters).1.0 ∙ sym c.in_ok-theirs.ensures
+new-requires-clause-own c = (All-pop (λ (w : Waiting). IsWaiterOf (arc_value c.args.count.now) w × (w.entered ≡ false)) c.loop-waiter.waiters.items c.pop.new.self.items (Some c.in-Some.waiter) c.in-Some.ensures.items c.loop-waiter.invariant.waiters).1.0 ∙ sym c.in-Ok.ensures
 
 pub new-requires-clause-outside : goal.new-requires-clause-outside
 new-requires-clause-outside c = (All-pop (λ (w : Waiting). IsWaiterOf (arc_value c.args.count.now) w × (w.entered ≡ false)) c.loop-waiter.waiters.items c.pop.new.self.items (Some c.in-Some.waiter) c.in-Some.ensures.items c.loop-waiter.invariant.waiters).1.1

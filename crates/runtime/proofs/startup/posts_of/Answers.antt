@@ -6,7 +6,7 @@ use Rattle.runtime.proofs.startup.posts_of.Goals as goal
 pub loop-ring-preserved : goal.loop-ring-preserved
 loop-ring-preserved c =
     let i = c.loop-ring.invariant in
-    let more = ap length c.push_reserved.ensures.items ∙ length-append c.loop-ring.listeners.items (c.in-Some-Some.listener ∷ []) in
+    let more = ap length c.push_reserved.ensures.items ∙ length-append c.loop-ring.listeners.items (c.in-Ok-pair_of.listener ∷ []) in
     record {
       owner = search rules;
       count = search rules;
