@@ -1,11 +1,14 @@
-//! What a cancel's events make of the requests of a ring, and what it replies.
-ghost use Rattle.std.specs.Prelude.{◌≡◌, ◌<◌, true, cond, length, IfOk, OnErr};
+//! What a cancel's events make of the requests of a ring, and what it comes to.
+ghost use Rattle.std.specs.Prelude.{◌≡◌, ◌<◌, true, cond, length, List, IfOk, OnErr};
 ghost use Rattle.history.specs.State.{with_took, with_missed};
 ghost use Rattle.model.specs.Moves.{put_stage, put_found, cancelled};
-ghost use Rattle.model.specs.Cancels.{comes_upon, may_take, may_miss, cancel_reply};
+ghost use Rattle.model.specs.Content.{Content};
+ghost use Rattle.model.specs.Ready.{answer_as};
+ghost use Rattle.model.specs.Cancels.{comes_upon, may_take, may_miss, cancel_answer};
 
 use crate::errno::{ALREADY, CANCELLED, NOT_FOUND};
 use crate::kind::is_all;
+use crate::ready::Ready;
 use crate::request::Stage;
 use crate::ring::Ring;
 use entry::Op;
@@ -66,27 +69,27 @@ impl Ring {
         Ok(true)
     }
 
-    /// What the cancel `k` of this operation replies now, if it has a reply.
-    pub fn cancel_reply(&self, k: usize, op: Op) -> Option<i32>
+    /// What the cancel `k` of this operation comes to.
+    pub fn cancel_now(&self, k: usize, op: Op) -> Ready
         requires { k < length self.now }
-        ensures { result ≡ cancel_reply self.now k op }
+        ensures { (ps : List Content) → answer_as ps result ≡ cancel_answer self.now k op }
     {
         let found = self.found(k);
         if is_all(op) {
             if self.any_untried(op, found, k as u64) {
-                return None;
+                return Ready::Wait;
             }
-            return Some(found.ended());
+            return Ready::Now(found.ended());
         }
         if found.has_ended() {
-            return Some(0);
+            return Ready::Now(0);
         }
         if !found.is_none() {
-            return Some(ALREADY);
+            return Ready::Now(ALREADY);
         }
         if self.any_wanted(op, k as u64) {
-            return None;
+            return Ready::Wait;
         }
-        Some(NOT_FOUND)
+        Ready::Now(NOT_FOUND)
     }
 }
