@@ -1,5 +1,5 @@
 -- Writing one request of a ring.
-use Rattle.std.proofs.Common.{◌≡◌, ℕ, ◌<◌, true, List, length, Option, Some, None, refl, sym, true≢false, ℤ}
+use Rattle.std.proofs.Common.{◌≡◌, ℕ, ◌<◌, Bool, true, false, List, length, Option, Some, None, refl, sym, ◌∙◌, true≢false, ℤ}
 use Rattle.std.specs.List.{slice_get}
 use Rattle.std.proofs.lemmas.Option.{slice_get_within}
 use Rattle.model.specs.declared.request.Request.{Request}
@@ -9,6 +9,11 @@ use Rattle.std.proofs.Math.ListN.{length-set}
 use Rattle.history.specs.State.{Catch}
 use Rattle.model.specs.Seen.{stage_at}
 use Rattle.model.specs.Moves.{put, put_at, put_stage, put_found, put_fired, put_taken, put_reaped, taken_out, is_due}
+
+-- a request whose stage passes a test is there
+pub some_at : (p : Option Stage → Bool) → p None ≡ false → (o : Option Request) → p (stage_at o) ≡ true → (x : Request) × (o ≡ Some x)
+some_at p n None e = absurd (true≢false (sym e ∙ n))
+some_at p n (Some x) e = (x, refl)
 
 stage_some : (o : Option Request) (s : Stage) → stage_at o ≡ Some s → (x : Request) × (o ≡ Some x)
 stage_some None s e = cc

@@ -12,4 +12,5 @@ pub mod Ready
 pub mod Replies
 pub mod Run
 pub mod Seen
+pub mod Steps
 pub mod Worded
