@@ -17,15 +17,17 @@ use std::alloc::AllocError;
 impl Ring {
     /// The cancel runs and means `target`: one of all its matches where that has not escaped it, another one where that is
     /// the first, and as long as it has done nothing.
-    #[tactic(auto, using(crate::proofs::RequestWrites::stage_within))]
     fn comes_upon(&self, cancel: u64, target: u64) -> bool
-        ensures { result ≡ comes_upon self.now cancel target }
+        ensures comes { result ≡ comes_upon self.now cancel target }
+        ensures within { result ≡ true → cancel < length self.now }
     {
-        if !matches!(self.stage(cancel), Some(Stage::Runs)) {
+        let Some(request) = self.get(cancel) else {
+            return false;
+        };
+        if request.stage != Stage::Runs {
             return false;
         }
-        let op = self.op(cancel as usize);
-        let found = self.found(cancel as usize);
+        let (op, found) = (self.op(cancel as usize), &request.found);
         if target >= cancel || !self.is_wanted(op, target) {
             return false;
         }
@@ -37,16 +39,17 @@ impl Ring {
     }
 
     /// Nothing changes where memory is wanting.
-    #[tactic(auto, using(crate::proofs::RequestWrites::stage_within, crate::proofs::RequestWrites::found_length))]
+    #[tactic(auto, using(crate::proofs::RequestWrites::found_length))]
     pub fn take(&mut self, cancel: u64, target: u64) -> Result<bool, AllocError>
         ensures may { IfOk result (λ done. done ≡ may_take self.old cancel target) }
         ensures after { IfOk result (λ done. self.new ≡ cond done (put_stage (put_found self.old cancel with_took) target cancelled) self.old) }
         ensures wanting { OnErr result (may_take self.old cancel target ≡ true) }
         ensures same { OnErr result (self.new ≡ self.old) }
     {
-        if !self.comes_upon(cancel, target)
-            || !matches!(self.stage(target), Some(Stage::Waits | Stage::Armed(_)))
-        {
+        let Some(request) = self.get(target) else {
+            return Ok(false);
+        };
+        if !request.stage.is_idle() || !self.comes_upon(cancel, target) {
             return Ok(false);
         }
         self.add_ended(cancel as usize)?;
@@ -55,14 +58,16 @@ impl Ring {
     }
 
     /// Nothing changes where memory is wanting.
-    #[tactic(auto, using(crate::proofs::RequestWrites::stage_within))]
     pub fn miss(&mut self, cancel: u64, target: u64) -> Result<bool, AllocError>
         ensures may { IfOk result (λ done. done ≡ may_miss self.old cancel target) }
         ensures after { IfOk result (λ done. self.new ≡ cond done (put_found self.old cancel (with_missed target)) self.old) }
         ensures wanting { OnErr result (may_miss self.old cancel target ≡ true) }
         ensures same { OnErr result (self.new ≡ self.old) }
     {
-        if !self.comes_upon(cancel, target) || !matches!(self.stage(target), Some(Stage::Runs)) {
+        let Some(request) = self.get(target) else {
+            return Ok(false);
+        };
+        if request.stage != Stage::Runs || !self.comes_upon(cancel, target) {
             return Ok(false);
         }
         self.add_escaped(cancel as usize, target)?;
