@@ -75,20 +75,31 @@ module _ (m : Machine) (h : List Event) (a : Agrees h m) (i : ℕ) where
   abbrev pub at : ℕ → Req
   at k = record { ring = i; k = k }
 
+  -- the requests of the ring i are ys after the event e
+  module _ (e : Event) (ys : List Request) (lt : i < length m.rings) where
+    row_is : (j : ℕ) (b : Bool) → (i == j) ≡ b → row (set m.rings i ys) j ≡ cond b ys (row m.rings j)
+    row_is j b w = row_put m.rings i j ys lt ∙ ap (λ z. cond z ys (row m.rings j)) w
+
+    pub rows_kept : ((k : ℕ) → seen (e ∷ h) (at k) ≡ seen_of (slice_get ys k)) → ((q : Req) → (i == q.ring) ≡ false → seen (e ∷ h) q ≡ seen h q) → (q : Req) → seen (e ∷ h) q ≡ seen_of (slice_get (row (set m.rings i ys) q.ring) q.k)
+    rows_kept own others q = ⊎_elim
+        (λ (w : (i == q.ring) ≡ true). let one : i ≡ q.ring = eqb-true i q.ring w in let name : at q.k ≡ q = λ j. record { ring = one j; k = q.k } in
+        sym (ap (seen (e ∷ h)) name) ∙ own q.k ∙ sym (ap (λ (r : List Request). seen_of (slice_get r q.k)) (row_is q.ring true w)))
+        (λ (w : (i == q.ring) ≡ false). others q w ∙ a.requests q ∙ sym (ap (λ (r : List Request). seen_of (slice_get r q.k)) (row_is q.ring false w)))
+        (bool_cases (i == q.ring))
+
+    pub counts_kept : submits (e ∷ h) i ≡ length ys → ((j : ℕ) → (i == j) ≡ false → submits (e ∷ h) j ≡ submits h j) → (j : ℕ) → submits (e ∷ h) j ≡ length (row (set m.rings i ys) j)
+    counts_kept own others j = ⊎_elim
+        (λ (w : (i == j) ≡ true). ap (submits (e ∷ h)) (sym (eqb-true i j w)) ∙ own ∙ sym (ap length (row_is j true w)))
+        (λ (w : (i == j) ≡ false). others j w ∙ a.counts j ∙ sym (ap length (row_is j false w)))
+        (bool_cases (i == j))
+
   -- the event e touches the ring i alone, whose requests are ys after it
   pub ring_kept : (e : Event) (ys : List Request) → i < length m.rings → length ys ≡ length (row m.rings i) → MayCome (setup_of m) h e → m.shut ≡ shut_for e → Calm h e
       → ((k : ℕ) → seen (e ∷ h) (at k) ≡ seen_of (slice_get ys k)) → ((q : Req) → (i == q.ring) ≡ false → seen (e ∷ h) q ≡ seen h q) → Agrees (e ∷ h) (put_row m i ys)
   ring_kept e ys lt len may shut calm own others = record {
     legal = subst (λ (s : Setup). Legal s (e ∷ h)) (sym (same_setup m i ys)) ((a.shut ∙ shut, may), a.legal);
-    requests = λ q. ⊎_elim
-        (λ (w : (i == q.ring) ≡ true). let one : i ≡ q.ring = eqb-true i q.ring w in let name : at q.k ≡ q = λ j. record { ring = one j; k = q.k } in
-        sym (ap (seen (e ∷ h)) name) ∙ own q.k ∙ sym (ap (λ (r : List Request). seen_of (slice_get r q.k)) (row_put m.rings i q.ring ys lt ∙ ap (λ b. cond b ys (row m.rings q.ring)) w)))
-        (λ (w : (i == q.ring) ≡ false). others q w ∙ a.requests q ∙ sym (ap (λ (r : List Request). seen_of (slice_get r q.k)) (row_put m.rings i q.ring ys lt ∙ ap (λ b. cond b ys (row m.rings q.ring)) w)))
-        (bool_cases (i == q.ring));
-    counts = λ j. calm.counts j ∙ a.counts j ∙ ⊎_elim
-        (λ (w : (i == j) ≡ true). let one : i ≡ j = eqb-true i j w in ap (λ z. length (row m.rings z)) (sym one) ∙ sym len ∙ sym (ap length (row_put m.rings i j ys lt ∙ ap (λ b. cond b ys (row m.rings j)) w)))
-        (λ (w : (i == j) ≡ false). sym (ap length (row_put m.rings i j ys lt ∙ ap (λ b. cond b ys (row m.rings j)) w)))
-        (bool_cases (i == j));
+    requests = rows_kept e ys lt own others;
+    counts = counts_kept e ys lt (calm.counts i ∙ a.counts i ∙ sym len) (λ j w. calm.counts j);
     pipes = λ p x is. subst (λ w. PipeIs w x) (sym (calm.flows p)) (a.pipes p x is);
     clock = calm.clock ∙ a.clock;
     shut = calm.shut ∙ a.shut;
