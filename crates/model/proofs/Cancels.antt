@@ -12,11 +12,11 @@ use Rattle.history.specs.Answers.{is_all, AimsAt, MayHit}
 use Rattle.history.specs.State.{Catch, catch_in, with_took, with_missed}
 use Rattle.history.specs.Legal.{MayCome}
 use Rattle.model.specs.Machine.{Machine, setup_of}
-use Rattle.model.specs.Seen.{Seen, seen, seen_of, stage_of, stage_at, placed_in}
+use Rattle.model.specs.Seen.{found_in, Seen, seen, seen_of, stage_of, stage_at, placed_in}
 use Rattle.model.specs.Decides.{wanted, any_below}
 use Rattle.model.specs.Agrees.{Agrees}
 use Rattle.model.specs.Moves.{put_stage, put_found, is_running, is_idle, cancelled}
-use Rattle.model.specs.Cancels.{found_in, is_none, aims_at, aims_as, comes_upon, may_take, may_miss}
+use Rattle.model.specs.Cancels.{is_none, aims_at, aims_as, comes_upon, may_take, may_miss}
 use Rattle.history.proofs.Requests.{not_true, and_left, and_right}
 use Rattle.history.proofs.Catches.{missed_in}
 use Rattle.model.proofs.RequestLists.{apart}
@@ -35,10 +35,6 @@ aims_by : (xs : List Request) (x : Catch) (o : Option Entry) (t : ℕ) → aims_
 aims_by xs x None t w = absurd (true≢false (sym w))
 aims_by xs x (Some d) t w = (d, refl, and_left (wanted xs d.op t) _ w, and_right (wanted xs d.op t) _ w)
 
-found_seen : (o : Option Request) → (seen_of o).found ≡ found_in o
-found_seen None = refl
-found_seen (Some x) = refl
-
 module _ (m : Machine) (h : List Event) (a : Agrees h m) (i : ℕ) where
   abbrev xs : List Request
   xs = row m.rings i
@@ -50,7 +46,7 @@ module _ (m : Machine) (h : List Event) (a : Agrees h m) (i : ℕ) where
   told k = stage_is h i xs (reads m h a i) k
 
   pub found_told : (k : ℕ) → catch_in (hit h (at k)) ≡ found_in (slice_get xs k)
-  found_told k = ap (λ (z : Seen). z.found) (a.requests (at k)) ∙ found_seen (slice_get xs k)
+  found_told k = ap (λ (z : Seen). z.found) (a.requests (at k))
 
   -- the cancel is kept
   cancel_kept : (c t : ℕ) → comes_upon xs c t ≡ true → (x : Request) × (slice_get xs c ≡ Some x)

@@ -23,14 +23,6 @@ use Rattle.model.proofs.Phases.{answered_from, from_answered}
 use Rattle.model.proofs.NumberSearches.{any_at, any_found}
 use Rattle.model.proofs.ChainWalks.{severed_by, severed_from, done_by, done_from, severs_at_by, severs_at_from}
 
-seen_handed : (o : Option Request) → (seen_of o).handed ≡ handed_at o
-seen_handed None = refl
-seen_handed (Some x) = refl
-
-seen_stage : (o : Option Request) → (seen_of o).stage ≡ stage_at o
-seen_stage None = refl
-seen_stage (Some x) = refl
-
 abbrev reply_as : Option Stage → Option ℤ
 reply_as None = None
 reply_as (Some s) = reply_at s
@@ -61,10 +53,10 @@ module _ (h : List Event) (i : ℕ) (xs : List Request) (reads : (k : ℕ) → s
   at k = record { ring = i; k = k }
 
   pub handed_is : (k : ℕ) → submission h (at k) ≡ handed_in xs k
-  handed_is k = ap (λ (z : Seen). z.handed) (reads k) ∙ seen_handed (slice_get xs k)
+  handed_is k = ap (λ (z : Seen). z.handed) (reads k)
 
   pub stage_is : (k : ℕ) → stage_of (phase h (at k)) ≡ stage_at (slice_get xs k)
-  stage_is k = ap (λ (z : Seen). z.stage) (reads k) ∙ seen_stage (slice_get xs k)
+  stage_is k = ap (λ (z : Seen). z.stage) (reads k)
 
   pub placed_is : (k : ℕ) → placed h (at k) ≡ placed_in xs k
   placed_is k = ap (λ z. placed_from z (submission h (at k))) (ap (λ z. cond (k == 0) None z) (handed_is (k - 1))) ∙ ap (placed_from (cond (k == 0) None (handed_in xs (k - 1)))) (handed_is k)

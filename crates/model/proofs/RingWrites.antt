@@ -149,13 +149,6 @@ after_row m i r s false ys lt e f = unwritten m i s (f ∙ e)
 abbrev pub IsDecided : Event → ℕ → (Machine → List Request → Bool) → (List Request → List Request) → Type 0
 IsDecided e i may ys = (m n : Machine) (b : Bool) → m.shut ≡ shut_for e → b ≡ may m (row m.rings i) → n ≡ cond b (put_row m i (ys (row m.rings i))) m → Decided b m e n
 
-meets : (e : Event) (i : ℕ) (may : Machine → List Request → Bool) (ys : List Request → List Request) → IsDecided e i may ys
-    → (m now : Machine) → m ≡ now → (r s : List Request) (b : Bool) → now.shut ≡ shut_for e → i < length m.rings → r ≡ get_or m.rings i r → b ≡ may m r → s ≡ cond b (ys r) r → Decided b now e (put_row m i s)
-meets e i may ys dec m now v r s b sh lt is by-row after =
-    let one = row_of m.rings i r lt is in
-    subst (λ (z : Machine). Decided b z e (put_row m i s)) v
-    (dec m (put_row m i s) b (ap (λ (z : Machine). z.shut) v ∙ sh) (by-row ∙ ap (may m) one) (after_row m i r s b ys lt one after))
-
 -- no such ring
 no_row : (rings : List (List Request)) (i : ℕ) → length rings ≤ i → row rings i ≡ []
 no_row [] i le = refl
@@ -167,12 +160,15 @@ pub misses : (e : Event) (i : ℕ) (may : Machine → List Request → Bool) (ys
 misses e i may ys dec m now v sh le never =
     subst (λ (z : Machine). Decided false z e z) v (dec m m false (ap (λ (z : Machine). z.shut) v ∙ sh) (sym (ap (may m) (no_row m.rings i le) ∙ never)) refl)
 
--- the same, where memory may be wanting
+-- what the code decides of a row it decides of the whole; memory may be wanting
 module _ {E : Type 0} where
   pub meets_if : (answer : Result Bool E) (e : Event) (i : ℕ) (may : Machine → List Request → Bool) (ys : List Request → List Request) → IsDecided e i may ys
       → (m now : Machine) → m ≡ now → (r s : List Request) → now.shut ≡ shut_for e → i < length m.rings → r ≡ get_or m.rings i r → IfOk answer (λ b. b ≡ may m r) → IfOk answer (λ b. s ≡ cond b (ys r) r)
       → IfOk answer (λ b. Decided b now e (put_row m i s))
-  meets_if (Ok b) e i may ys dec m now v r s sh lt is x y = meets e i may ys dec m now v r s b sh lt is x y
+  meets_if (Ok b) e i may ys dec m now v r s sh lt is x y =
+      let one = row_of m.rings i r lt is in
+      subst (λ (z : Machine). Decided b z e (put_row m i s)) v
+      (dec m (put_row m i s) b (ap (λ (z : Machine). z.shut) v ∙ sh) (x ∙ ap (may m) one) (after_row m i r s b ys lt one y))
   meets_if (Err z) e i may ys dec m now v r s sh lt is x y = tt
 
   pub follows_if : (answer : Result Bool E) (e : Event) (i : ℕ) (may : Machine → List Request → Bool) → ((m : Machine) → may m (row m.rings i) ≡ true → MayFollow m e)

@@ -16,9 +16,9 @@ use Rattle.history.specs.Chains.{placed, placed_from, is_timeout, is_link_timeou
 use Rattle.history.specs.Legal.{MayCome, ticks_of, IsDue}
 use Rattle.history.specs.State.{catch_in}
 use Rattle.model.specs.Machine.{Machine, setup_of}
-use Rattle.model.specs.Seen.{Seen, seen, seen_of, stage_of, stage_at, placed_in, handed_at}
+use Rattle.model.specs.Seen.{fired_of, Seen, seen, seen_of, stage_of, stage_at, placed_in, handed_at}
 use Rattle.model.specs.Agrees.{Agrees}
-use Rattle.model.specs.Moves.{put, put_at, put_stage, put_fired, put_settled, is_waits, is_running, is_due, is_armed, is_idle, is_answered, placed_as, open_in, fired_of, falls_due, arms, may_arm, may_expire, runs_out, may_fire, may_fire_miss, may_settle, cancelled, timed_out}
+use Rattle.model.specs.Moves.{put, put_at, put_stage, put_fired, put_settled, is_waits, is_running, is_due, is_armed, is_idle, is_answered, placed_as, open_in, falls_due, arms, may_arm, may_expire, runs_out, may_fire, may_fire_miss, may_settle, cancelled, timed_out}
 use Rattle.history.proofs.Requests.{bool_cases, not_true, and_left, and_right}
 use Rattle.model.proofs.RequestLists.{slice_get-set, apart}
 use Rattle.model.proofs.RequestWrites.{some_at, put_length}
@@ -53,10 +53,6 @@ idle_unreplied runs i r = i
 idle_unreplied (replied c res) i r = i
 idle_unreplied (reaped c res) i r = i
 
-seen_fired : (o : Option Request) → (seen_of o).fired ≡ fired_of o
-seen_fired None = refl
-seen_fired (Some x) = refl
-
 head : (e : Entry) (b : Bool) → is_link_timeout e.op ≡ b → is_link_timeout (cond (b && true) (record e { op = Invalid }) e).op ≡ true → ⊥
 head e true is w = true≢false (sym w)
 head e false is w = true≢false (sym w ∙ is)
@@ -88,7 +84,7 @@ module _ (m : Machine) (h : List Event) (a : Agrees h m) (i : ℕ) where
   entry_is k = placed_is h i xs (reads m h a i) k
 
   fired_is : (k : ℕ) → fired h (at k) ≡ fired_of (slice_get xs k)
-  fired_is k = ap (λ (z : Seen). z.fired) (a.requests (at k)) ∙ seen_fired (slice_get xs k)
+  fired_is k = ap (λ (z : Seen). z.fired) (a.requests (at k))
 
   due_is : (k : ℕ) → is_due m.clock (stage_at (slice_get xs k)) ≡ true → IsDue h (at k)
   due_is k w = let d = due_from m.clock (phase h (at k)) (ap (is_due m.clock) (told k) ∙ w) in let le : d.0 ≤ clock_of h = subst (λ (z : ℕ). d.0 ≤ z) (sym a.clock) d.2 in (d.0, d.1, le)

@@ -9,7 +9,7 @@ use Rattle.model.specs.declared.request.Stage.TheVariants.{Waits, Runs, Armed, R
 use Rattle.history.specs.Chains.{is_timer, is_timeout, is_link_timeout, is_link_timeout_in}
 use Rattle.history.specs.Legal.{ticks_of, count_of}
 use Rattle.history.specs.State.{Catch, none_yet}
-use Rattle.model.specs.Seen.{is_pending, stage_at, placed_in}
+use Rattle.model.specs.Seen.{is_pending, stage_at, fired_of, placed_in}
 use Rattle.model.specs.Decides.{pending_of, severed_in, clear_in, any_below}
 
 abbrev pub put_at : List Request → ℕ → (Request → Request) → Option Request → List Request
@@ -76,10 +76,6 @@ is_replied _ = false
 abbrev pub is_answered : Option Stage → Bool
 is_answered None = false
 is_answered (Some s) = not (is_pending s)
-
-abbrev pub fired_of : Option Request → Bool
-fired_of None = false
-fired_of (Some x) = x.fired
 
 -- -125, -62 and 0
 abbrev pub cancelled : Stage

@@ -1,7 +1,6 @@
 //! What the events make of the requests of a ring.
-ghost use Rattle.std.specs.Prelude.{◌≡◌, ◌<◌, cond, length, slice_get};
-ghost use Rattle.model.specs.declared.request.Stage.TheVariants.{Waits, Runs, Armed, Replied, Reaped};
-ghost use Rattle.model.specs.Seen.{stage_at};
+ghost use Rattle.std.specs.Prelude.{◌≡◌, ◌<◌, cond, length};
+ghost use Rattle.model.specs.declared.request.Stage.TheVariants.{Waits, Runs, Replied, Reaped};
 ghost use Rattle.model.specs.Moves.{put_stage, put_reaped, may_begin, may_park, may_sever, may_reap, may_cut, open_in, cancelled};
 
 use crate::errno::CANCELLED;
