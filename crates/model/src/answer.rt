@@ -1,5 +1,5 @@
 //! What each operation comes to: the table of answers.
-ghost use Rattle.std.specs.Prelude.{◌≡◌, ◌<◌, true, length};
+ghost use Rattle.std.specs.Prelude.{◌≡◌, ◌<◌, true, Some, slice_get};
 ghost use Rattle.entry.specs.Table.{fits_op};
 ghost use Rattle.history.specs.Answers.{read_from, write_to, close_of, poll_of};
 ghost use Rattle.model.specs.Content.{caps_of, flow_in};
@@ -11,7 +11,7 @@ use crate::ends::{NamedEnd, named_end};
 use crate::errno::{BAD_END, INVALID};
 use crate::pipe::Pipe;
 use crate::ready::Ready;
-use crate::request::Stage;
+use crate::request::{Request, Stage};
 use crate::ring::Ring;
 use crate::splice::splice_at;
 use entry::{Op, by_opcode};
@@ -19,22 +19,22 @@ use entry::{Op, by_opcode};
 macro_rules! work_now {
     ((plain nothing) $args:tt) => { Ready::Now(0) };
     ((plain invalid) $args:tt) => { Ready::Now(INVALID) };
-    ((pipe read $fd:ident $len:ident) ($ring:ident, $pipes:ident, $k:ident, $op:ident)) => { read_at($pipes, named_end($fd), $len) };
-    ((pipe write $fd:ident $len:ident) ($ring:ident, $pipes:ident, $k:ident, $op:ident)) => { write_at($pipes, named_end($fd), $len) };
-    ((pipe splice $fd_in:ident $fd_out:ident $len:ident) ($ring:ident, $pipes:ident, $k:ident, $op:ident)) => { splice_at($pipes, named_end($fd_in), named_end($fd_out), $len) };
-    ((pipe close $fd:ident) ($ring:ident, $pipes:ident, $k:ident, $op:ident)) => { close_at($pipes, named_end($fd)) };
-    ((pipe poll $fd:ident $mask:ident) ($ring:ident, $pipes:ident, $k:ident, $op:ident)) => { poll_at($pipes, named_end($fd), $mask) };
+    ((pipe read $fd:ident $len:ident) ($ring:ident, $pipes:ident, $k:ident, $request:ident, $op:ident)) => { read_at($pipes, named_end($fd), $len) };
+    ((pipe write $fd:ident $len:ident) ($ring:ident, $pipes:ident, $k:ident, $request:ident, $op:ident)) => { write_at($pipes, named_end($fd), $len) };
+    ((pipe splice $fd_in:ident $fd_out:ident $len:ident) ($ring:ident, $pipes:ident, $k:ident, $request:ident, $op:ident)) => { splice_at($pipes, named_end($fd_in), named_end($fd_out), $len) };
+    ((pipe close $fd:ident) ($ring:ident, $pipes:ident, $k:ident, $request:ident, $op:ident)) => { close_at($pipes, named_end($fd)) };
+    ((pipe poll $fd:ident $mask:ident) ($ring:ident, $pipes:ident, $k:ident, $request:ident, $op:ident)) => { poll_at($pipes, named_end($fd), $mask) };
     ((timer $kind:ident $ticks:ident) $args:tt) => { Ready::Wait };
-    ((cancel $kind:ident $($field:ident)*) ($ring:ident, $pipes:ident, $k:ident, $op:ident)) => { $ring.cancel_now($k, $op) };
+    ((cancel $kind:ident $($field:ident)*) ($ring:ident, $pipes:ident, $k:ident, $request:ident, $op:ident)) => { $ring.cancel_now($k, $request, $op) };
 }
 
 /// What the running request `k` with this operation comes to.
-fn op_now(ring: &Ring, pipes: &[Pipe], k: usize, op: Op) -> Ready
-    requires within { k < length ring.now }
+fn op_now(ring: &Ring, pipes: &[Pipe], k: u64, request: &Request, op: Op) -> Ready
+    requires here { slice_get ring.now k ≡ Some request.now }
     requires fits { fits_op op ≡ true }
     ensures { answer_as pipes.now result ≡ op_answer pipes.now ring.now k op }
 {
-    by_opcode!(op => work_now!(ring, pipes, k, op))
+    by_opcode!(op => work_now!(ring, pipes, k, request, op))
 }
 
 impl Ring {
@@ -49,7 +49,7 @@ impl Ring {
             return Ready::Wait;
         }
         let _row = request.sqe.row();
-        op_now(self, pipes, k as usize, self.op(k as usize))
+        op_now(self, pipes, k, request, self.op(k as usize))
     }
 }
 

@@ -1,5 +1,5 @@
 //! What a cancel's events make of the requests of a ring, and what it comes to.
-ghost use Rattle.std.specs.Prelude.{◌≡◌, ◌<◌, true, cond, length, List, IfOk, OnErr};
+ghost use Rattle.std.specs.Prelude.{◌≡◌, ◌<◌, true, cond, length, List, Some, slice_get, IfOk, OnErr};
 ghost use Rattle.history.specs.State.{with_took, with_missed};
 ghost use Rattle.model.specs.Moves.{put_stage, put_found, cancelled};
 ghost use Rattle.model.specs.Content.{Content};
@@ -9,7 +9,7 @@ ghost use Rattle.model.specs.Cancels.{comes_upon, may_take, may_miss, cancel_ans
 use crate::errno::{ALREADY, CANCELLED, NOT_FOUND};
 use crate::kind::is_all;
 use crate::ready::Ready;
-use crate::request::Stage;
+use crate::request::{Request, Stage};
 use crate::ring::Ring;
 use entry::Op;
 use std::alloc::AllocError;
@@ -75,13 +75,13 @@ impl Ring {
     }
 
     /// What the cancel `k` of this operation comes to.
-    pub fn cancel_now(&self, k: usize, op: Op) -> Ready
-        requires { k < length self.now }
+    pub fn cancel_now(&self, k: u64, request: &Request, op: Op) -> Ready
+        requires { slice_get self.now k ≡ Some request.now }
         ensures { (ps : List Content) → answer_as ps result ≡ cancel_answer self.now k op }
     {
-        let found = self.found(k);
+        let found = &request.found;
         if is_all(op) {
-            if self.any_untried(op, found, k as u64) {
+            if self.any_untried(op, found, k) {
                 return Ready::Wait;
             }
             return Ready::Now(found.ended());
@@ -92,7 +92,7 @@ impl Ring {
         if !found.is_none() {
             return Ready::Now(ALREADY);
         }
-        if self.any_wanted(op, k as u64) {
+        if self.any_wanted(op, k) {
             return Ready::Wait;
         }
         Ready::Now(NOT_FOUND)

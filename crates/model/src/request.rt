@@ -2,7 +2,7 @@
 ghost use Rattle.std.specs.Prelude.{◌≡◌, Some};
 ghost use Rattle.history.specs.Chains.{joins, hosts};
 ghost use Rattle.model.specs.Seen.{handed_of, is_pending, reply_at};
-ghost use Rattle.model.specs.Moves.{is_idle, is_armed, is_due};
+ghost use Rattle.model.specs.Moves.{is_idle, is_due};
 
 use crate::found::Found;
 use crate::shared::Shared;
@@ -53,12 +53,6 @@ impl Stage {
         ensures { result ≡ is_idle (Some self) }
     {
         matches!(self, Stage::Waits | Stage::Armed(_))
-    }
-
-    pub fn is_armed(self) -> bool
-        ensures { result ≡ is_armed (Some self) }
-    {
-        matches!(self, Stage::Armed(_))
     }
 
     /// It is armed with a deadline that has come.

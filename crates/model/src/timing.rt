@@ -61,7 +61,7 @@ impl Ring {
         let Some(request) = self.get(k) else {
             return false;
         };
-        if !request.stage.is_armed() {
+        if !matches!(request.stage, Stage::Armed(_)) {
             return false;
         }
         let count = count_of(self.op(k as usize)) as usize;
@@ -123,7 +123,7 @@ impl Ring {
         let Some(request) = self.get(k) else {
             return false;
         };
-        if !request.stage.is_armed() || !self.op(k as usize).is_link_timeout() {
+        if !matches!(request.stage, Stage::Armed(_)) || !self.op(k as usize).is_link_timeout() {
             return false;
         }
         let fired = request.fired;
