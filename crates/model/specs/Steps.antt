@@ -28,6 +28,7 @@ ring_of (Reap r) = r.ring
 ring_of Shut = 0
 ring_of (Cut r) = r.ring
 
+-- it touches requests of one ring, and no pipe
 abbrev pub is_step : Event → Bool
 is_step (Submit r e bytes last) = false
 is_step (Reply r res data') = false

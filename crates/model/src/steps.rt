@@ -64,7 +64,7 @@ pub fn ring_of(event: &Event) -> u16
 }
 
 impl Ring {
-    /// An event of its requests.
+    /// An event of its requests is carried out where it may come. An error comes for one that may come, and changes nothing.
     pub fn step(&mut self, clock: u32, event: &Event) -> Result<bool, AllocError>
         ensures may { IfOk result (λ done. done ≡ may_step clock self.old event.now) }
         ensures after { IfOk result (λ done. self.new ≡ cond done (put_step self.old event.now) self.old) }
