@@ -12,21 +12,21 @@ use Rattle.history.specs.Answers.{is_all, AimsAt, MayHit}
 use Rattle.history.specs.State.{Catch, catch_in, with_took, with_missed}
 use Rattle.history.specs.Legal.{MayCome}
 use Rattle.model.specs.Machine.{Machine, setup_of}
-use Rattle.model.specs.Seen.{Seen, seen, seen_of, stage_of, stage_at, placed_in}
+use Rattle.model.specs.Seen.{found_in, Seen, seen, seen_of, stage_of, stage_at, placed_in}
 use Rattle.model.specs.Decides.{wanted, any_below}
-use Rattle.model.specs.Agrees.{Agrees, Decided, MayFollow}
+use Rattle.model.specs.Agrees.{Agrees}
 use Rattle.model.specs.Moves.{put_stage, put_found, is_running, is_idle, cancelled}
-use Rattle.model.specs.Cancels.{found_in, is_none, aims_at, aims_as, comes_upon, may_take, may_miss}
+use Rattle.model.specs.Cancels.{is_none, aims_at, aims_as, comes_upon, may_take, may_miss}
 use Rattle.history.proofs.Requests.{not_true, and_left, and_right}
 use Rattle.history.proofs.Catches.{missed_in}
 use Rattle.model.proofs.RequestLists.{apart}
-use Rattle.model.proofs.RequestWrites.{put_length}
+use Rattle.model.proofs.RequestWrites.{some_at, put_length}
 use Rattle.model.proofs.Phases.{runs_from, idle_from, from_idle}
 use Rattle.model.proofs.CatchReplies.{none_from, none_by}
 use Rattle.model.proofs.RequestReading.{stage_is, placed_is, matched, wanted_from, is_first, was_first}
-use Rattle.model.proofs.RingWrites.{row, put_row, row_within, Calm, same_setup, here_is, one_kept, ring_kept, put_own, decides}
-use Rattle.model.proofs.SingleEvents.{some_runs, reads, nothing_taken, runs_unreplied}
-use Rattle.model.proofs.TimerEvents.{some_idle, idle_unreplied, put_other}
+use Rattle.model.proofs.RingWrites.{row, put_row, row_within, calm, here_is, one_kept, ring_kept, put_own}
+use Rattle.model.proofs.SingleEvents.{reads, nothing_taken, runs_unreplied}
+use Rattle.model.proofs.TimerEvents.{idle_unreplied, put_other}
 
 not_so : (b : Bool) → not b ≡ true → b ≡ false
 not_so b e = not_true b (λ u. true≢false (sym e ∙ ap not u))
@@ -34,16 +34,6 @@ not_so b e = not_true b (λ u. true≢false (sym e ∙ ap not u))
 aims_by : (xs : List Request) (x : Catch) (o : Option Entry) (t : ℕ) → aims_as xs x o t ≡ true → (d : Entry) × (o ≡ Some d) × (wanted xs d.op t ≡ true) × (aims_at (is_all d.op) xs d.op x t ≡ true)
 aims_by xs x None t w = absurd (true≢false (sym w))
 aims_by xs x (Some d) t w = (d, refl, and_left (wanted xs d.op t) _ w, and_right (wanted xs d.op t) _ w)
-
-found_seen : (o : Option Request) → (seen_of o).found ≡ found_in o
-found_seen None = refl
-found_seen (Some x) = refl
-
-calm_take : (h : List Event) (c t : Req) → Calm h (Take c t)
-calm_take h c t = record { counts = λ j. omega arith; flows = λ p. refl; clock = refl; shut = refl }
-
-calm_miss : (h : List Event) (c t : Req) → Calm h (Miss c t)
-calm_miss h c t = record { counts = λ j. omega arith; flows = λ p. refl; clock = refl; shut = refl }
 
 module _ (m : Machine) (h : List Event) (a : Agrees h m) (i : ℕ) where
   abbrev xs : List Request
@@ -56,11 +46,11 @@ module _ (m : Machine) (h : List Event) (a : Agrees h m) (i : ℕ) where
   told k = stage_is h i xs (reads m h a i) k
 
   pub found_told : (k : ℕ) → catch_in (hit h (at k)) ≡ found_in (slice_get xs k)
-  found_told k = ap (λ (z : Seen). z.found) (a.requests (at k)) ∙ found_seen (slice_get xs k)
+  found_told k = ap (λ (z : Seen). z.found) (a.requests (at k))
 
   -- the cancel is kept
   cancel_kept : (c t : ℕ) → comes_upon xs c t ≡ true → (x : Request) × (slice_get xs c ≡ Some x)
-  cancel_kept c t b = some_runs (slice_get xs c) (and_left (is_running (stage_at (slice_get xs c))) _ b)
+  cancel_kept c t b = some_at is_running refl (slice_get xs c) (and_left (is_running (stage_at (slice_get xs c))) _ b)
 
   comes_before : (c t : ℕ) → comes_upon xs c t ≡ true → t < c
   comes_before c t b = ltb-true t c (and_left (nat_lt t c) _ (and_right (is_running (stage_at (slice_get xs c))) _ b))
@@ -90,33 +80,33 @@ module _ (m : Machine) (h : List Event) (a : Agrees h m) (i : ℕ) where
   may_upon : (c t : ℕ) → phase h (at c) ≡ runs → MayHit h (at c) (at t) → ¬ IsReplied (phase h (at t)) → comes_upon xs c t ≡ true
   may_upon c t r y n =
       let w : is_running (stage_at (slice_get xs c)) ≡ true = sym (ap is_running (told c)) ∙ ap (λ p. is_running (stage_of p)) r in
-      let x = some_runs (slice_get xs c) w in let p : placed_in xs c ≡ Some y.0 = sym (placed_is h i xs (reads m h a i) c) ∙ y.1 in
+      let x = some_at is_running refl (slice_get xs c) w in let p : placed_in xs c ≡ Some y.0 = sym (placed_is h i xs (reads m h a i) c) ∙ y.1 in
       let all : Bool = is_all y.0.op in let g = may_aims c t x.0 x.1 y.0 p all y.2 n in let l : nat_lt t c ≡ true = lt-ltb t c g.0 in
       let e : aims_at all xs y.0.op (found_in (slice_get xs c)) t ≡ true = ap (λ f. aims_at all xs y.0.op f t) (sym (found_told c)) ∙ g.2 in
       let v : aims_as xs (found_in (slice_get xs c)) (placed_in xs c) t ≡ true =
       ap (λ o. aims_as xs (found_in (slice_get xs c)) o t) p ∙ ap (λ b. b && aims_at all xs y.0.op (found_in (slice_get xs c)) t) g.1 ∙ e in
       ap (λ b. b && (nat_lt t c && aims_as xs (found_in (slice_get xs c)) (placed_in xs c) t)) w ∙ ap (λ b. b && aims_as xs (found_in (slice_get xs c)) (placed_in xs c) t) l ∙ v
 
-  take_may : (c t : ℕ) → may_take xs c t ≡ true → MayCome (setup_of m) h (Take (at c) (at t))
+  pub take_may : (c t : ℕ) → may_take xs c t ≡ true → MayCome (setup_of m) h (Take (at c) (at t))
   take_may c t b = let u = upon_may c t (and_left (comes_upon xs c t) _ b) in (u.0, u.1, idle_from (phase h (at t)) (ap is_idle (told t) ∙ and_right (comes_upon xs c t) _ b))
 
-  may_take_is : (c t : ℕ) → MayCome (setup_of m) h (Take (at c) (at t)) → may_take xs c t ≡ true
+  pub may_take_is : (c t : ℕ) → MayCome (setup_of m) h (Take (at c) (at t)) → may_take xs c t ≡ true
   may_take_is c t y =
       let u = may_upon c t y.0 y.1 (idle_unreplied (phase h (at t)) y.2) in let w : is_idle (stage_at (slice_get xs t)) ≡ true = sym (ap is_idle (told t)) ∙ from_idle (phase h (at t)) y.2 in
       ap (λ b. b && is_idle (stage_at (slice_get xs t))) u ∙ w
 
-  miss_may : (c t : ℕ) → may_miss xs c t ≡ true → MayCome (setup_of m) h (Miss (at c) (at t))
+  pub miss_may : (c t : ℕ) → may_miss xs c t ≡ true → MayCome (setup_of m) h (Miss (at c) (at t))
   miss_may c t b = let u = upon_may c t (and_left (comes_upon xs c t) _ b) in (u.0, u.1, runs_from (phase h (at t)) (ap is_running (told t) ∙ and_right (comes_upon xs c t) _ b))
 
-  may_miss_is : (c t : ℕ) → MayCome (setup_of m) h (Miss (at c) (at t)) → may_miss xs c t ≡ true
+  pub may_miss_is : (c t : ℕ) → MayCome (setup_of m) h (Miss (at c) (at t)) → may_miss xs c t ≡ true
   may_miss_is c t y =
       let u = may_upon c t y.0 y.1 (runs_unreplied (phase h (at t)) y.2) in let w : is_running (stage_at (slice_get xs t)) ≡ true = sym (ap is_running (told t)) ∙ ap (λ p. is_running (stage_of p)) y.2 in
       ap (λ b. b && is_running (stage_at (slice_get xs t))) u ∙ w
 
-  miss_kept : (c t : ℕ) → may_miss xs c t ≡ true → m.shut ≡ false → Agrees (Miss (at c) (at t) ∷ h) (put_row m i (put_found xs c (with_missed t)))
+  pub miss_kept : (c t : ℕ) → may_miss xs c t ≡ true → m.shut ≡ false → Agrees (Miss (at c) (at t) ∷ h) (put_row m i (put_found xs c (with_missed t)))
   miss_kept c t b s =
       let x = cancel_kept c t (and_left (comes_upon xs c t) _ b) in let e = here_is m h a i c x.0 x.1 in
-      one_kept m h a i c x.0 x.1 (Miss (at c) (at t)) (λ z. record z { found = with_missed t z.found }) (miss_may c t b) s (calm_miss h (at c) (at t))
+      one_kept m h a i c x.0 x.1 (Miss (at c) (at t)) (λ z. record z { found = with_missed t z.found }) (miss_may c t b) s (calm _ refl h)
       (rw (eq-eqb i i refl, eq-eqb c c refl) (λ j. record { handed = (e j).handed; stage = (e j).stage; found = with_missed t (e j).found; fired = (e j).fired; taken = (e j).taken }))
       (λ j w. rw (eq-eqb i i refl, w) refl) (λ q w. rw w refl)
 
@@ -129,30 +119,14 @@ module _ (m : Machine) (h : List Event) (a : Agrees h m) (i : ℕ) where
       (rw (eq-eqb c c refl) (λ j. record { handed = (e j).handed; stage = (e j).stage; found = with_took (e j).found; fired = (e j).fired; taken = (e j).taken }))
       (λ j w. rw w (reads m h a i j))
 
-  take_kept : (c t : ℕ) → may_take xs c t ≡ true → m.shut ≡ false → Agrees (Take (at c) (at t) ∷ h) (put_row m i (put_stage (put_found xs c with_took) t cancelled))
+  pub take_kept : (c t : ℕ) → may_take xs c t ≡ true → m.shut ≡ false → Agrees (Take (at c) (at t) ∷ h) (put_row m i (put_stage (put_found xs c with_took) t cancelled))
   take_kept c t b s =
-      let may = take_may c t b in let upon = and_left (comes_upon xs c t) _ b in let x = cancel_kept c t upon in let y = some_idle (slice_get xs t) (and_right (comes_upon xs c t) _ b) in
+      let may = take_may c t b in let upon = and_left (comes_upon xs c t) _ b in let x = cancel_kept c t upon in let y = some_at is_idle refl (slice_get xs t) (and_right (comes_upon xs c t) _ b) in
       let before : t < c = comes_before c t upon in let other : (c == t) ≡ false = apart c t (λ u. absurd (omega arith)) in
       let e = here_is m h a i t y.0 y.1 in let n = nothing_taken m h a i t y.0 y.1 (idle_unreplied (phase h (at t)) may.2) in let g = put_other xs c t (λ z. record z { found = with_took z.found }) x.0 x.1 other ∙ y.1 in
       ring_kept m h a i (Take (at c) (at t)) (put_stage (put_found xs c with_took) t cancelled) (row_within m.rings i c x.0 x.1)
-      (put_length (put_found xs c with_took) t _ ∙ put_length xs c _) may s (calm_take h (at c) (at t))
+      (put_length (put_found xs c with_took) t _ ∙ put_length xs c _) may s (calm _ refl h)
       (put_own m h a i (λ j. seen (Take (at c) (at t) ∷ h) (at j)) (put_found xs c with_took) t (λ z. record z { stage = cancelled }) y.0 g
       (rw (eq-eqb i i refl, eq-eqb t t refl, other) (λ j. record { handed = (e j).handed; stage = Some cancelled; found = (e j).found; fired = (e j).fired; taken = (sym n) j }))
       (λ j w. rw (eq-eqb i i refl, w) (half_is c t x.0 x.1 j)))
       (λ q w. rw w refl)
-
-pub take_decides : (m n : Machine) (i c t : ℕ) (b : Bool) → m.shut ≡ false → b ≡ may_take (row m.rings i) c t → n ≡ cond b (put_row m i (put_stage (put_found (row m.rings i) c with_took) t cancelled)) m → Decided b m (Take (record { ring = i; k = c }) (record { ring = i; k = t })) n
-take_decides m n i c t b s is after = decides b m (put_row m i (put_stage (put_found (row m.rings i) c with_took) t cancelled)) n (Take (record { ring = i; k = c }) (record { ring = i; k = t })) after
-    (λ u. (same_setup m i _, λ h a. (take_may m h a i c t (sym is ∙ u), take_kept m h a i c t (sym is ∙ u) s)))
-    (λ u h a y. true≢false (sym (may_take_is m h a i c t y) ∙ sym is ∙ u))
-
-pub miss_decides : (m n : Machine) (i c t : ℕ) (b : Bool) → m.shut ≡ false → b ≡ may_miss (row m.rings i) c t → n ≡ cond b (put_row m i (put_found (row m.rings i) c (with_missed t))) m → Decided b m (Miss (record { ring = i; k = c }) (record { ring = i; k = t })) n
-miss_decides m n i c t b s is after = decides b m (put_row m i (put_found (row m.rings i) c (with_missed t))) n (Miss (record { ring = i; k = c }) (record { ring = i; k = t })) after
-    (λ u. (same_setup m i _, λ h a. (miss_may m h a i c t (sym is ∙ u), miss_kept m h a i c t (sym is ∙ u) s)))
-    (λ u h a y. true≢false (sym (may_miss_is m h a i c t y) ∙ sym is ∙ u))
-
-pub take_follows : (m : Machine) (i c t : ℕ) → may_take (row m.rings i) c t ≡ true → MayFollow m (Take (record { ring = i; k = c }) (record { ring = i; k = t }))
-take_follows m i c t b = λ h a. take_may m h a i c t b
-
-pub miss_follows : (m : Machine) (i c t : ℕ) → may_miss (row m.rings i) c t ≡ true → MayFollow m (Miss (record { ring = i; k = c }) (record { ring = i; k = t }))
-miss_follows m i c t b = λ h a. miss_may m h a i c t b

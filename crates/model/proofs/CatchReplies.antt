@@ -1,11 +1,11 @@
 -- What a cancel has come to, and what it replies by that.
-use Rattle.std.proofs.Common.{◌≡◌, ℕ, ◌==◌, nat_lt, Bool, true, false, cond, ℤ, pos, negsuc, List, [], ◌∷◌, length, Some, None, refl, sym, ap, ◌∙◌, subst, ⊎_elim, true≢false, eqb-true, arith}
+use Rattle.std.proofs.Common.{◌≡◌, ℕ, ◌==◌, nat_lt, Bool, true, false, cond, ℤ, pos, negsuc, List, [], ◌∷◌, length, refl, sym, ap, ◌∙◌, subst, ⊎_elim, true≢false, eqb-true, arith}
 use Rattle.history.specs.declared.req.Req.{Req}
 use Rattle.history.specs.declared.event.Event.{Event}
 use Rattle.history.specs.History.{Hit, nothing}
-use Rattle.history.specs.Answers.{NoneLeft, AllTried, CancelAnswers, CancelBy}
+use Rattle.history.specs.Answers.{now, later, NoneLeft, AllTried, CancelAnswers, CancelBy}
 use Rattle.history.specs.State.{Catch, none_yet, catch_in}
-use Rattle.model.specs.Cancels.{is_none, all_reply, one_reply}
+use Rattle.model.specs.Cancels.{is_none, answer_all, answer_one}
 use Rattle.history.proofs.Requests.{bool_cases, and_left, and_right}
 use Rattle.history.proofs.Catches.{tally_in, uncaught, one_answer, answers_one, one_answers}
 
@@ -24,46 +24,46 @@ none_from x w = uncaught x (none_is (catch_in x) w)
 pub none_by : (x : Hit) → x ≡ nothing → is_none (catch_in x) ≡ true
 none_by x e = ap (λ (z : Hit). is_none (catch_in z)) e
 
-some_same : (a b : ℤ) → Some a ≡ Some b → a ≡ b
-some_same a b e = cc
+same_reply : (a b : ℤ) (ds bs : List ℕ) → now a ds ≡ now b bs → (b ≡ a) × (bs ≡ ds)
+same_reply a b ds bs e = (cc, cc)
 
-none_some : (a : ℤ) → None ≡ Some a → ⊥
-none_some a e = cc
+no_reply : (b : ℤ) (bs : List ℕ) → later ≡ now b bs → ⊥
+no_reply b bs e = cc
 
 -- of a cancel of one target, which has done something
-done_reply : (x : Catch) (left : Bool) → is_none x ≡ false → one_reply x left ≡ Some (one_answer x.ended)
-done_reply x left w = (rw w refl) ∙ elim (nat_lt 0 x.ended) as (λ b. cond b (Some (pos 0)) (Some (negsuc 113)) ≡ Some (cond b (pos 0) (negsuc 113))) [ true ↦ refl | false ↦ refl ]
+done_reply : (x : Catch) (left : Bool) → is_none x ≡ false → answer_one x left ≡ now (one_answer x.ended) []
+done_reply x left w = (rw w refl) ∙ elim (nat_lt 0 x.ended) as (λ b. cond b (now (pos 0) []) (now (negsuc 113) []) ≡ now (cond b (pos 0) (negsuc 113)) []) [ true ↦ refl | false ↦ refl ]
 
 module _ (h : List Event) (c : Req) where
-  nothing_by : (left : Bool) (res : ℤ) → (left ≡ false → NoneLeft h c) → one_reply none_yet left ≡ Some res → CancelAnswers h c nothing res
-  nothing_by true res f e = absurd (none_some res e)
-  nothing_by false res f e = (sym (some_same (negsuc 1) res e), f refl)
+  nothing_by : (left : Bool) (res : ℤ) (bs : List ℕ) → (left ≡ false → NoneLeft h c) → answer_one none_yet left ≡ now res bs → CancelAnswers h c nothing res × (bs ≡ [])
+  nothing_by true res bs f e = absurd (no_reply res bs e)
+  nothing_by false res bs f e = let s = same_reply _ res _ bs e in ((s.0, f refl), s.1)
 
-  nothing_from : (left : Bool) (res : ℤ) → (NoneLeft h c → left ≡ false) → CancelAnswers h c nothing res → one_reply none_yet left ≡ Some res
-  nothing_from left res f a = ap (one_reply none_yet) (f a.1) ∙ ap Some (sym a.0)
+  nothing_from : (left : Bool) (res : ℤ) → (NoneLeft h c → left ≡ false) → CancelAnswers h c nothing res → answer_one none_yet left ≡ now res []
+  nothing_from left res f a = ap (answer_one none_yet) (f a.1) ∙ ap (λ z. now z []) (sym a.0)
 
   some_done : (x : Hit) → is_none (catch_in x) ≡ false → ¬ (x ≡ nothing)
   some_done x w e = true≢false (sym (none_by x e) ∙ w)
 
-  pub one_by : (x : Hit) (left : Bool) (res : ℤ) → (left ≡ false → NoneLeft h c) → one_reply (catch_in x) left ≡ Some res → CancelAnswers h c x res
-  one_by x left res f e = ⊎_elim
+  pub one_by : (x : Hit) (left : Bool) (res : ℤ) (bs : List ℕ) → (left ≡ false → NoneLeft h c) → answer_one (catch_in x) left ≡ now res bs → CancelAnswers h c x res × (bs ≡ [])
+  one_by x left res bs f e = ⊎_elim
       (λ (w : is_none (catch_in x) ≡ true). let n = none_from x w in
-      subst (λ (z : Hit). CancelAnswers h c z res) (sym n) (nothing_by left res f (sym (ap (λ (z : Hit). one_reply (catch_in z) left) n) ∙ e)))
-      (λ (w : is_none (catch_in x) ≡ false).
-      one_answers h c x res (some_done x w) (sym (some_same _ res (sym (done_reply (catch_in x) left w) ∙ e)) ∙ ap one_answer (tally_in x)))
+      subst (λ (z : Hit). CancelAnswers h c z res × (bs ≡ [])) (sym n) (nothing_by left res bs f (sym (ap (λ (z : Hit). answer_one (catch_in z) left) n) ∙ e)))
+      (λ (w : is_none (catch_in x) ≡ false). let s = same_reply _ res _ bs (sym (done_reply (catch_in x) left w) ∙ e) in
+      (one_answers h c x res (some_done x w) (s.0 ∙ ap one_answer (tally_in x)), s.1))
       (bool_cases (is_none (catch_in x)))
 
-  pub one_from : (x : Hit) (left : Bool) (res : ℤ) → (NoneLeft h c → left ≡ false) → CancelAnswers h c x res → one_reply (catch_in x) left ≡ Some res
+  pub one_from : (x : Hit) (left : Bool) (res : ℤ) → (NoneLeft h c → left ≡ false) → CancelAnswers h c x res → answer_one (catch_in x) left ≡ now res []
   one_from x left res f a = ⊎_elim
       (λ (w : is_none (catch_in x) ≡ true). let n = none_from x w in
-      ap (λ (z : Hit). one_reply (catch_in z) left) n ∙ nothing_from left res f (subst (λ (z : Hit). CancelAnswers h c z res) n a))
+      ap (λ (z : Hit). answer_one (catch_in z) left) n ∙ nothing_from left res f (subst (λ (z : Hit). CancelAnswers h c z res) n a))
       (λ (w : is_none (catch_in x) ≡ false).
-      done_reply (catch_in x) left w ∙ ap (λ n. Some (one_answer n)) (tally_in x) ∙ ap Some (sym (answers_one h c x res (some_done x w) a)))
+      done_reply (catch_in x) left w ∙ ap (λ n. now (one_answer n) []) (tally_in x) ∙ ap (λ z. now z []) (sym (answers_one h c x res (some_done x w) a)))
       (bool_cases (is_none (catch_in x)))
 
-  pub all_by : (x : Hit) (left : Bool) (res : ℤ) → (left ≡ false → AllTried h c x) → all_reply (catch_in x) left ≡ Some res → CancelBy true h c x res
-  all_by x true res f e = absurd (none_some res e)
-  all_by x false res f e = (sym (some_same (pos (catch_in x).ended) res e) ∙ ap pos (tally_in x), f refl)
+  pub all_by : (x : Hit) (left : Bool) (res : ℤ) (bs : List ℕ) → (left ≡ false → AllTried h c x) → answer_all (catch_in x) left ≡ now res bs → CancelBy true h c x res × (bs ≡ [])
+  all_by x true res bs f e = absurd (no_reply res bs e)
+  all_by x false res bs f e = let s = same_reply _ res _ bs e in ((s.0 ∙ ap pos (tally_in x), f refl), s.1)
 
-  pub all_from : (x : Hit) (left : Bool) (res : ℤ) → (AllTried h c x → left ≡ false) → CancelBy true h c x res → all_reply (catch_in x) left ≡ Some res
-  all_from x left res f a = ap (all_reply (catch_in x)) (f a.1) ∙ ap (λ n. Some (pos n)) (tally_in x) ∙ ap Some (sym a.0)
+  pub all_from : (x : Hit) (left : Bool) (res : ℤ) → (AllTried h c x → left ≡ false) → CancelBy true h c x res → answer_all (catch_in x) left ≡ now res []
+  all_from x left res f a = ap (answer_all (catch_in x)) (f a.1) ∙ ap (λ n. now (pos n) []) (tally_in x) ∙ ap (λ z. now z []) (sym a.0)

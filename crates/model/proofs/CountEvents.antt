@@ -13,14 +13,15 @@ use Rattle.history.specs.Chains.{placed}
 use Rattle.history.specs.Legal.{MayCome, count_of}
 use Rattle.model.specs.Machine.{Machine, setup_of}
 use Rattle.model.specs.Seen.{seen, seen_of, stage_of, stage_at, placed_in}
-use Rattle.model.specs.Agrees.{Agrees, Decided}
+use Rattle.model.specs.Agrees.{Agrees}
 use Rattle.model.specs.Moves.{put_stage, is_armed, is_answered, is_done, later_answered, counts_up, may_count, counted}
 use Rattle.history.proofs.Requests.{and_left, and_right}
 use Rattle.model.proofs.Phases.{armed_from}
 use Rattle.model.proofs.RequestReading.{stage_is, placed_is}
-use Rattle.model.proofs.RingWrites.{row, put_row, Calm, same_setup, here_is, one_kept, decides}
+use Rattle.model.proofs.RequestWrites.{some_at}
+use Rattle.model.proofs.RingWrites.{row, put_row, calm, here_is, one_kept}
 use Rattle.model.proofs.SingleEvents.{reads, nothing_taken}
-use Rattle.model.proofs.TimerEvents.{some_armed, armed_unreplied}
+use Rattle.model.proofs.TimerEvents.{armed_unreplied}
 
 answered_staged : (p : Phase) → is_replied p ≡ is_answered (stage_of p)
 answered_staged unborn = refl
@@ -66,9 +67,6 @@ counts_by n (Some e) w = (e, refl, ltb-true 0 (count_of e.op) (and_left _ _ w), 
 counts_from : (n : ℕ) (o : Option Entry) (e : Entry) → o ≡ Some e → 0 < count_of e.op → count_of e.op ≤ n → counts_up n o ≡ true
 counts_from n o e is lt le = ap (counts_up n) is ∙ (let a : nat_lt 0 (count_of e.op) ≡ true = lt-ltb 0 (count_of e.op) lt in let b : nat_le (count_of e.op) n ≡ true = le-leb (count_of e.op) n le in rw (a, b) refl)
 
-calm_count : (h : List Event) (r : Req) → Calm h (Count r)
-calm_count h r = record { counts = λ j. omega arith; flows = λ p. refl; clock = refl; shut = refl }
-
 module _ (m : Machine) (h : List Event) (a : Agrees h m) (i : ℕ) where
   abbrev xs : List Request
   xs = row m.rings i
@@ -85,9 +83,9 @@ module _ (m : Machine) (h : List Event) (a : Agrees h m) (i : ℕ) where
   done_later : (k : ℕ) (x : Request) → slice_get xs k ≡ Some x → later_replies h (at k) ≡ later_answered xs k
   done_later k x is = later_is h i xs (reads m h a i) x k (slice_get_within xs k x is) (a.counts i)
 
-  count_may : (k : ℕ) → may_count xs k ≡ true → MayCome (setup_of m) h (Count (at k))
+  pub count_may : (k : ℕ) → may_count xs k ≡ true → MayCome (setup_of m) h (Count (at k))
   count_may k b =
-      let w = and_left (is_armed (stage_at (slice_get xs k))) _ b in let x = some_armed (slice_get xs k) w in
+      let w = and_left (is_armed (stage_at (slice_get xs k))) _ b in let x = some_at is_armed refl (slice_get xs k) w in
       let e = counts_by (later_answered xs k) (placed_in xs k) (and_right (is_armed (stage_at (slice_get xs k))) _ b) in
       record {
         is_armed = armed_from (phase h (at k)) (ap is_armed (told k) ∙ w);
@@ -97,23 +95,18 @@ module _ (m : Machine) (h : List Event) (a : Agrees h m) (i : ℕ) where
         enough = subst (λ (n : ℕ). count_of e.0.op ≤ n) (sym (done_later k x.0 x.1)) e.3;
       }
 
-  may_count_is : (k : ℕ) → MayCome (setup_of m) h (Count (at k)) → may_count xs k ≡ true
+  pub may_count_is : (k : ℕ) → MayCome (setup_of m) h (Count (at k)) → may_count xs k ≡ true
   may_count_is k c =
       let w : is_armed (stage_at (slice_get xs k)) ≡ true = sym (ap is_armed (told k)) ∙ ap (λ p. is_armed (stage_of p)) c.is_armed.1 in
-      let x = some_armed (slice_get xs k) w in
+      let x = some_at is_armed refl (slice_get xs k) w in
       let n : count_of c.entry.op ≤ later_answered xs k = subst (λ (n : ℕ). count_of c.entry.op ≤ n) (done_later k x.0 x.1) c.enough in
       let t : counts_up (later_answered xs k) (placed_in xs k) ≡ true = counts_from (later_answered xs k) (placed_in xs k) c.entry (sym (entry_is k) ∙ c.as_placed) c.counts n in
       rw (w, t) refl
 
-  count_kept : (k : ℕ) → may_count xs k ≡ true → m.shut ≡ false → Agrees (Count (at k) ∷ h) (put_row m i (put_stage xs k counted))
+  pub count_kept : (k : ℕ) → may_count xs k ≡ true → m.shut ≡ false → Agrees (Count (at k) ∷ h) (put_row m i (put_stage xs k counted))
   count_kept k b s =
-      let x = some_armed (slice_get xs k) (and_left (is_armed (stage_at (slice_get xs k))) _ b) in let e = here_is m h a i k x.0 x.1 in
+      let x = some_at is_armed refl (slice_get xs k) (and_left (is_armed (stage_at (slice_get xs k))) _ b) in let e = here_is m h a i k x.0 x.1 in
       let n = nothing_taken m h a i k x.0 x.1 (armed_unreplied (phase h (at k)) _ (count_may k b).is_armed.1) in
-      one_kept m h a i k x.0 x.1 (Count (at k)) (λ z. record z { stage = counted }) (count_may k b) s (calm_count h (at k))
+      one_kept m h a i k x.0 x.1 (Count (at k)) (λ z. record z { stage = counted }) (count_may k b) s (calm _ refl h)
       (rw (eq-eqb i i refl, eq-eqb k k refl) (λ j. record { handed = (e j).handed; stage = Some counted; found = (e j).found; fired = (e j).fired; taken = (sym n) j }))
       (λ j w. rw (eq-eqb i i refl, w) refl) (λ q w. rw w refl)
-
-pub count_decides : (m n : Machine) (i k : ℕ) (b : Bool) → m.shut ≡ false → b ≡ may_count (row m.rings i) k → n ≡ cond b (put_row m i (put_stage (row m.rings i) k counted)) m → Decided b m (Count (record { ring = i; k = k })) n
-count_decides m n i k b s is after = decides b m (put_row m i (put_stage (row m.rings i) k counted)) n (Count (record { ring = i; k = k })) after
-    (λ u. (same_setup m i _, λ h a. (count_may m h a i k (sym is ∙ u), count_kept m h a i k (sym is ∙ u) s)))
-    (λ u h a c. true≢false (sym (may_count_is m h a i k c) ∙ sym is ∙ u))

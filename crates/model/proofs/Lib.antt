@@ -15,6 +15,7 @@ pub mod Phases
 pub mod RequestReading
 pub mod ReplyEvents
 pub mod SingleEvents
+pub mod StepEvents
 pub mod TimerEvents
 pub mod CountEvents
 pub mod Token

@@ -10,7 +10,8 @@ use Rattle.model.specs.declared.request.Stage.TheVariants.{Waits, Runs, Armed, R
 use Rattle.model.specs.Seen.{is_pending}
 use Rattle.history.specs.State.{Catch}
 use Rattle.model.specs.Cancels.{untried}
-use Rattle.model.specs.Decides.{pending_of, any_below, lists, Listed, blocks, wanted, is_runs, runs_of, severed_in, chain_done, drains_of, held_back, clear_in}
+use Rattle.model.specs.Decides.{pending_of, any_below, lists, Listed, blocks, wanted, severed_in, chain_done, drains_of, held_back, clear_in}
+use Rattle.model.specs.Moves.{is_running, runs_of}
 use Rattle.history.proofs.Requests.{bool_cases, and_left, and_right}
 
 -- one passes
@@ -65,7 +66,7 @@ blocks_pending : (d : Bool) (o : Option Request) → blocks d o ≡ true → pen
 blocks_pending d None is = is
 blocks_pending d (Some x) is = and_left _ _ is
 
-runs_pending_at : (s : Stage) → is_runs s ≡ true → is_pending s ≡ true
+runs_pending_at : (s : Stage) → is_running (Some s) ≡ true → is_pending s ≡ true
 runs_pending_at Runs is = refl
 runs_pending_at Waits is = refl
 runs_pending_at (Armed d) is = refl

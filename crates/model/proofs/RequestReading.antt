@@ -16,18 +16,12 @@ use Rattle.history.specs.State.{catch_in}
 use Rattle.model.specs.Seen.{is_pending, reply_at, stage_of, Seen, seen, seen_of, handed_at, stage_at, handed_in, placed_in}
 use Rattle.model.specs.Decides.{reply_in_of, severed_in, pending_of, chain_done, any_below, drains_of, blocks, held_back, clear_in, asked_for, wanted}
 use Rattle.model.specs.Cancels.{is_escaped, untried}
+use Rattle.model.specs.Moves.{is_answered}
 use Rattle.history.proofs.Requests.{bool_cases, not_true, and_left, and_right}
 use Rattle.history.proofs.Catches.{missed_in}
+use Rattle.model.proofs.Phases.{answered_from, from_answered}
 use Rattle.model.proofs.NumberSearches.{any_at, any_found}
 use Rattle.model.proofs.ChainWalks.{severed_by, severed_from, done_by, done_from, severs_at_by, severs_at_from}
-
-seen_handed : (o : Option Request) → (seen_of o).handed ≡ handed_at o
-seen_handed None = refl
-seen_handed (Some x) = refl
-
-seen_stage : (o : Option Request) → (seen_of o).stage ≡ stage_at o
-seen_stage None = refl
-seen_stage (Some x) = refl
 
 abbrev reply_as : Option Stage → Option ℤ
 reply_as None = None
@@ -45,27 +39,6 @@ reply_as_at : (o : Option Request) → reply_as (stage_at o) ≡ reply_in_of o
 reply_as_at None = refl
 reply_as_at (Some x) = refl
 
--- an answered request: its stage tells
-abbrev answered_as : Option Stage → Bool
-answered_as None = false
-answered_as (Some s) = not (is_pending s)
-
-answered_from : (p : Phase) → answered_as (stage_of p) ≡ true → IsReplied p
-answered_from unborn e = true≢false (sym e)
-answered_from waits e = true≢false (sym e)
-answered_from runs e = true≢false (sym e)
-answered_from (armed d) e = true≢false (sym e)
-answered_from (replied c res) e = tt
-answered_from (reaped c res) e = tt
-
-answered_by : (p : Phase) → IsReplied p → answered_as (stage_of p) ≡ true
-answered_by unborn i = absurd i
-answered_by waits i = absurd i
-answered_by runs i = absurd i
-answered_by (armed d) i = absurd i
-answered_by (replied c res) i = refl
-answered_by (reaped c res) i = refl
-
 not_false : (b : Bool) → not b ≡ false → b ≡ true
 not_false true e = refl
 not_false false e = absurd (true≢false e)
@@ -80,10 +53,10 @@ module _ (h : List Event) (i : ℕ) (xs : List Request) (reads : (k : ℕ) → s
   at k = record { ring = i; k = k }
 
   pub handed_is : (k : ℕ) → submission h (at k) ≡ handed_in xs k
-  handed_is k = ap (λ (z : Seen). z.handed) (reads k) ∙ seen_handed (slice_get xs k)
+  handed_is k = ap (λ (z : Seen). z.handed) (reads k)
 
   pub stage_is : (k : ℕ) → stage_of (phase h (at k)) ≡ stage_at (slice_get xs k)
-  stage_is k = ap (λ (z : Seen). z.stage) (reads k) ∙ seen_stage (slice_get xs k)
+  stage_is k = ap (λ (z : Seen). z.stage) (reads k)
 
   pub placed_is : (k : ℕ) → placed h (at k) ≡ placed_in xs k
   placed_is k = ap (λ z. placed_from z (submission h (at k))) (ap (λ z. cond (k == 0) None z) (handed_is (k - 1))) ∙ ap (placed_from (cond (k == 0) None (handed_in xs (k - 1)))) (handed_is k)
@@ -92,18 +65,18 @@ module _ (h : List Event) (i : ℕ) (xs : List Request) (reads : (k : ℕ) → s
   reply_is k = reply_of_stage (phase h (at k)) ∙ ap reply_as (stage_is k) ∙ reply_as_at (slice_get xs k)
 
   -- a request that is kept was answered where it isn't pending
-  answered_kept : (o : Option Request) (x : Request) → o ≡ Some x → pending_of o ≡ false → answered_as (stage_at o) ≡ true
-  answered_kept o x e p = let q : is_pending x.stage ≡ false = sym (ap pending_of e) ∙ p in ap (λ z. answered_as (stage_at z)) e ∙ ap not q
+  answered_kept : (o : Option Request) (x : Request) → o ≡ Some x → pending_of o ≡ false → is_answered (stage_at o) ≡ true
+  answered_kept o x e p = let q : is_pending x.stage ≡ false = sym (ap pending_of e) ∙ p in ap (λ z. is_answered (stage_at z)) e ∙ ap not q
 
-  pub is_answered : (k : ℕ) (x : Request) → slice_get xs k ≡ Some x → pending_of (slice_get xs k) ≡ false → IsReplied (phase h (at k))
-  is_answered k x e p = answered_from (phase h (at k)) (ap answered_as (stage_is k) ∙ answered_kept (slice_get xs k) x e p)
+  pub kept_answered : (k : ℕ) (x : Request) → slice_get xs k ≡ Some x → pending_of (slice_get xs k) ≡ false → IsReplied (phase h (at k))
+  kept_answered k x e p = answered_from (phase h (at k)) (ap is_answered (stage_is k) ∙ answered_kept (slice_get xs k) x e p)
 
-  not_pending : (o : Option Request) → answered_as (stage_at o) ≡ true → pending_of o ≡ false
+  not_pending : (o : Option Request) → is_answered (stage_at o) ≡ true → pending_of o ≡ false
   not_pending None e = refl
   not_pending (Some x) e = not_true (is_pending x.stage) (λ p. true≢false (sym e ∙ ap not p))
 
   pub was_answered : (k : ℕ) → IsReplied (phase h (at k)) → pending_of (slice_get xs k) ≡ false
-  was_answered k r = not_pending (slice_get xs k) (sym (ap answered_as (stage_is k)) ∙ answered_by (phase h (at k)) r)
+  was_answered k r = not_pending (slice_get xs k) (sym (ap is_answered (stage_is k)) ∙ from_answered (phase h (at k)) r)
 
   joins_is : (k : ℕ) → joins (submission h (at k)) ≡ joins (handed_in xs k)
   joins_is k = ap joins (handed_is k)
@@ -144,7 +117,7 @@ module _ (h : List Event) (i : ℕ) (xs : List Request) (reads : (k : ℕ) → s
         let s : not (severed_in xs k) ≡ true = and_left _ _ c in let r : (chain_done xs k && not (held_back xs k)) ≡ true = and_right (not (severed_in xs k)) _ c in
         let done : chain_done xs k ≡ true = and_left _ _ r in let free : not (held_back xs k) ≡ true = and_right (chain_done xs k) _ r in
         let none : any_below (λ j. blocks (drains x.sqe) (slice_get xs j)) k ≡ false = unanswered_none k (drains x.sqe) (ap drains_of is) (not_true _ (λ u. true≢false (sym free ∙ ap not u))) in
-        let back : (q : Req) → IsBefore q (at k) → pending_of (slice_get xs q.k) ≡ false → IsReplied (phase h q) = λ q b p. subst (λ (z : Req). IsReplied (phase h z)) (sym (here q k b)) (let y = kept_before k q.k x is b.1 in is_answered q.k y.0 y.1 p) in
+        let back : (q : Req) → IsBefore q (at k) → pending_of (slice_get xs q.k) ≡ false → IsReplied (phase h q) = λ q b p. subst (λ (z : Req). IsReplied (phase h z)) (sym (here q k b)) (let y = kept_before k q.k x is b.1 in kept_answered q.k y.0 y.1 p) in
         record {
           unsevered = λ v. true≢false (sym s ∙ ap not (was_severed k v));
           chain = λ q b. back q b.0 (done_by xs k done q.k b.0.1 (λ m u v. sym (joins_is m) ∙ b.1 m u v));
@@ -197,14 +170,14 @@ module _ (h : List Event) (i : ℕ) (xs : List Request) (reads : (k : ℕ) → s
     unwanted q m w =
         let a = was_matched q m in let y = kept_before k q.k x is m.0.1 in
         let no : pending_of (slice_get xs q.k) ≡ false = not_true _ (λ u. true≢false (sym (ap (λ b. b && asked_for d.op (placed_in xs q.k)) u ∙ a) ∙ w)) in
-        subst (λ (z : Req). IsReplied (phase h z)) (sym (here q k m.0)) (is_answered q.k y.0 y.1 no)
+        subst (λ (z : Req). IsReplied (phase h z)) (sym (here q k m.0)) (kept_answered q.k y.0 y.1 no)
 
     -- a match that was not answered is wanted
     pub wanted_from : (q : Req) → Matches h (at k) q → ¬ IsReplied (phase h q) → wanted xs d.op q.k ≡ true
     wanted_from q m n =
         let e = here q k m.0 in let a = was_matched q m in let y = kept_before k q.k x is m.0.1 in
         let alive : pending_of (slice_get xs q.k) ≡ true = ⊎_elim (λ (w : pending_of (slice_get xs q.k) ≡ true). w)
-        (λ (w : pending_of (slice_get xs q.k) ≡ false). absurd (n (subst (λ (z : Req). IsReplied (phase h z)) (sym e) (is_answered q.k y.0 y.1 w)))) (bool_cases (pending_of (slice_get xs q.k))) in
+        (λ (w : pending_of (slice_get xs q.k) ≡ false). absurd (n (subst (λ (z : Req). IsReplied (phase h z)) (sym e) (kept_answered q.k y.0 y.1 w)))) (bool_cases (pending_of (slice_get xs q.k))) in
         ap (λ b. b && asked_for d.op (placed_in xs q.k)) alive ∙ a
 
     none_below : (n : ℕ) → any_below (wanted xs d.op) n ≡ false → (m : ℕ) → m < n → wanted xs d.op m ≡ false

@@ -1,21 +1,18 @@
 -- Writing one request of a ring.
-use Rattle.std.proofs.Common.{◌≡◌, ℕ, ◌<◌, true, List, length, Option, Some, None, refl, sym, true≢false, ℤ}
+use Rattle.std.proofs.Common.{◌≡◌, ℕ, Bool, true, false, List, length, Option, Some, None, refl, sym, ◌∙◌, true≢false, ℤ}
 use Rattle.std.specs.List.{slice_get}
-use Rattle.std.proofs.lemmas.Option.{slice_get_within}
 use Rattle.model.specs.declared.request.Request.{Request}
 use Rattle.model.specs.declared.request.Stage.{Stage}
 use Rattle.model.specs.declared.request.Stage.TheVariants.{Replied, Reaped}
 use Rattle.std.proofs.Math.ListN.{length-set}
 use Rattle.history.specs.State.{Catch}
 use Rattle.model.specs.Seen.{stage_at}
-use Rattle.model.specs.Moves.{put, put_at, put_stage, put_found, put_fired, put_taken, put_reaped, taken_out, is_due}
+use Rattle.model.specs.Moves.{put, put_at, put_stage, put_found, put_fired, put_taken, put_reaped, taken_out}
 
-stage_some : (o : Option Request) (s : Stage) → stage_at o ≡ Some s → (x : Request) × (o ≡ Some x)
-stage_some None s e = cc
-stage_some (Some x) s e = (x, refl)
-
-pub stage_within : (xs : List Request) (k : ℕ) (s : Stage) → stage_at (slice_get xs k) ≡ Some s → k < length xs
-stage_within xs k s e = let x = stage_some (slice_get xs k) s e in slice_get_within xs k x.0 x.1
+-- a request whose stage passes a test is there
+pub some_at : (p : Option Stage → Bool) → p None ≡ false → (o : Option Request) → p (stage_at o) ≡ true → (x : Request) × (o ≡ Some x)
+some_at p n None e = absurd (true≢false (sym e ∙ n))
+some_at p n (Some x) e = (x, refl)
 
 -- a write leaves the number of requests
 put_at_length : (xs : List Request) (k : ℕ) (f : Request → Request) (o : Option Request) → length (put_at xs k f o) ≡ length xs
@@ -37,13 +34,6 @@ reaped_at xs k res (Some x) e = let s : x.stage ≡ Replied res = cc in rw s ref
 
 pub put_reaped_is : (xs : List Request) (k : ℕ) (res : ℤ) → stage_at (slice_get xs k) ≡ Some (Replied res) → put_stage xs k (Reaped res) ≡ put_reaped xs k
 put_reaped_is xs k res e = reaped_at xs k res (slice_get xs k) e
-
-due_some : (clock : ℕ) (o : Option Request) → is_due clock (stage_at o) ≡ true → (x : Request) × (o ≡ Some x)
-due_some clock None e = absurd (true≢false (sym e))
-due_some clock (Some x) e = (x, refl)
-
-pub due_within : (clock : ℕ) (xs : List Request) (k : ℕ) → is_due clock (stage_at (slice_get xs k)) ≡ true → k < length xs
-due_within clock xs k e = let x = due_some clock (slice_get xs k) e in slice_get_within xs k x.0 x.1
 
 pub taken_length : (xs : List Request) (k : ℕ) (bs : List ℕ) → length (put_taken xs k bs) ≡ length xs
 taken_length xs k bs = put_length xs k _

@@ -1,13 +1,15 @@
 -- Reading the requests of a ring.
 use Rattle.std.proofs.Common.{◌≡◌, ℕ, zero, suc, ◌-◌, ◌<◌, ◌==◌, ◌&&◌, ◌⊎◌, inl, inr, not, cond, sub-one, Bool, true, false, List, length, Option, Some, None, get_or, refl, sym, ap, subst, ◌∙◌, arith}
 use Rattle.std.specs.List.{slice_get}
+use Rattle.std.proofs.lemmas.Bool.{and_parts}
 use Rattle.std.proofs.lemmas.Option.{slice_get_read}
 use Rattle.entry.specs.declared.op.Op.{Op}
 use Rattle.entry.specs.declared.op.Op.TheVariants.{Invalid}
 use Rattle.entry.specs.Entry.{Entry}
+use Rattle.entry.specs.Table.{fits, fits_op}
 use Rattle.model.specs.declared.request.Request.{Request}
 use Rattle.history.specs.History.{Submission}
-use Rattle.history.specs.Chains.{joins, hosts, is_link_timeout, placed_from}
+use Rattle.history.specs.Chains.{joins, hosts, is_link_timeout, placed_behind, placed_from}
 use Rattle.model.specs.Seen.{reply_at, handed_of, handed_at, handed_in, placed_in, with_op}
 use Rattle.model.specs.Decides.{reply_in_of, severs_by, severs_at, severed_in, pending_of, chain_done}
 
@@ -39,6 +41,25 @@ placed_ops xs k x op lt is p =
     let here : placed_from before (Some (handed_of x)) ≡ with_op (Some (handed_of x)) op =
     subst (λ o. placed_from before (handed_at o) ≡ with_op (handed_at o) op) (kept xs k x lt is) p in
     op_case (is_link_timeout x.sqe.op && not (hosts before)) x.sqe op (ap (op_in op) here)
+
+-- the operation of a request as it is placed fits the table as the one that was handed in does
+op_fits : (e : Entry) → fits e ≡ true → fits_op e.op ≡ true
+op_fits e f = (and_parts (fits_op e.op) _ f).0
+
+behind_fits : (b : Bool) (e : Entry) → fits_op e.op ≡ true → fits_op (cond b (record e { op = Invalid }) e).op ≡ true
+behind_fits true e f = refl
+behind_fits false e f = f
+
+same_op : (d e : Entry) (op : Op) → Some d ≡ Some (record e { op = op }) → d.op ≡ op
+same_op d e op is = cc
+
+pub placed_fits : (xs : List Request) (k : ℕ) (x : Request) (op : Op) → slice_get xs k ≡ Some x → placed_in xs k ≡ with_op (handed_in xs k) op → fits x.sqe ≡ true → fits_op op ≡ true
+placed_fits xs k x op is p f =
+    let before = cond (k == 0) None (handed_in xs (k - 1)) in
+    let here : placed_in xs k ≡ Some (placed_behind before x.sqe) = ap (λ o. placed_from before (handed_at o)) is in
+    let there : placed_in xs k ≡ Some (record x.sqe { op = op }) = p ∙ ap (λ o. with_op (handed_at o) op) is in
+    let e : (placed_behind before x.sqe).op ≡ op = same_op (placed_behind before x.sqe) x.sqe op (sym here ∙ there) in
+    subst (λ (o : Op). fits_op o ≡ true) e (behind_fits (is_link_timeout x.sqe.op && not (hosts before)) x.sqe (op_fits x.sqe f))
 
 -- one step back along the chain of m
 module _ (xs : List Request) where

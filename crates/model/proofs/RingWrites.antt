@@ -9,6 +9,7 @@ use Rattle.std.proofs.Math.ListN.{length-set}
 use Rattle.std.proofs.lemmas.Option.{slice_get_within}
 use Rattle.history.specs.declared.req.Req.{Req}
 use Rattle.history.specs.declared.event.Event.{Event}
+use Rattle.history.specs.declared.event.Event.TheVariants.{Submit, Begin, Park, Reply, Take, Miss, Tick, Arm, Expire, Count, Fire, FireMiss, Settle, Sever, Reap, Shut, Cut}
 use Rattle.model.specs.declared.request.Request.{Request}
 use Rattle.history.specs.History.{submits, clock_of, was_shut}
 use Rattle.history.specs.Pipes.{flow}
@@ -17,6 +18,7 @@ use Rattle.model.specs.Machine.{Machine, setup_of}
 use Rattle.model.specs.Seen.{Seen, seen, seen_of}
 use Rattle.model.specs.Agrees.{PipeIs, Agrees, Carries, MayFollow, Decided}
 use Rattle.model.specs.Moves.{put, put_at}
+use Rattle.model.specs.Steps.{is_step}
 use Rattle.history.proofs.Requests.{bool_cases}
 use Rattle.model.proofs.RequestLists.{slice_get-set}
 use Rattle.model.proofs.RequestWrites.{put_length}
@@ -47,6 +49,25 @@ pub record Calm (h : List Event) (e : Event) : Type 0 where
   pub clock : clock_of (e ∷ h) ≡ clock_of h
   pub shut : was_shut (e ∷ h) ≡ was_shut h
 
+pub calm : (e : Event) → is_step e ≡ true → (h : List Event) → Calm h e
+calm (Begin r) w h = record { counts = λ j. omega arith; flows = λ p. refl; clock = refl; shut = refl }
+calm (Park r) w h = record { counts = λ j. omega arith; flows = λ p. refl; clock = refl; shut = refl }
+calm (Take c t) w h = record { counts = λ j. omega arith; flows = λ p. refl; clock = refl; shut = refl }
+calm (Miss c t) w h = record { counts = λ j. omega arith; flows = λ p. refl; clock = refl; shut = refl }
+calm (Arm r d) w h = record { counts = λ j. omega arith; flows = λ p. refl; clock = refl; shut = refl }
+calm (Expire r) w h = record { counts = λ j. omega arith; flows = λ p. refl; clock = refl; shut = refl }
+calm (Count r) w h = record { counts = λ j. omega arith; flows = λ p. refl; clock = refl; shut = refl }
+calm (Fire l t) w h = record { counts = λ j. omega arith; flows = λ p. refl; clock = refl; shut = refl }
+calm (FireMiss l t) w h = record { counts = λ j. omega arith; flows = λ p. refl; clock = refl; shut = refl }
+calm (Settle l) w h = record { counts = λ j. omega arith; flows = λ p. refl; clock = refl; shut = refl }
+calm (Sever r) w h = record { counts = λ j. omega arith; flows = λ p. refl; clock = refl; shut = refl }
+calm (Reap r) w h = record { counts = λ j. omega arith; flows = λ p. refl; clock = refl; shut = refl }
+calm (Cut r) w h = record { counts = λ j. omega arith; flows = λ p. refl; clock = refl; shut = refl }
+calm (Submit r e bytes last) w h = absurd (true≢false (sym w))
+calm (Reply r res data') w h = absurd (true≢false (sym w))
+calm (Tick n) w h = absurd (true≢false (sym w))
+calm Shut w h = absurd (true≢false (sym w))
+
 pub same_setup : (m : Machine) (i : ℕ) (ys : List Request) → setup_of (put_row m i ys) ≡ setup_of m
 same_setup m i ys = ap (λ (n : ℕ). let s : Setup = record { rings = n; caps = (setup_of m).caps } in s) (length-set m.rings i ys)
 
@@ -54,20 +75,31 @@ module _ (m : Machine) (h : List Event) (a : Agrees h m) (i : ℕ) where
   abbrev pub at : ℕ → Req
   at k = record { ring = i; k = k }
 
+  -- the requests of the ring i are ys after the event e
+  module _ (e : Event) (ys : List Request) (lt : i < length m.rings) where
+    row_is : (j : ℕ) (b : Bool) → (i == j) ≡ b → row (set m.rings i ys) j ≡ cond b ys (row m.rings j)
+    row_is j b w = row_put m.rings i j ys lt ∙ ap (λ z. cond z ys (row m.rings j)) w
+
+    pub rows_kept : ((k : ℕ) → seen (e ∷ h) (at k) ≡ seen_of (slice_get ys k)) → ((q : Req) → (i == q.ring) ≡ false → seen (e ∷ h) q ≡ seen h q) → (q : Req) → seen (e ∷ h) q ≡ seen_of (slice_get (row (set m.rings i ys) q.ring) q.k)
+    rows_kept own others q = ⊎_elim
+        (λ (w : (i == q.ring) ≡ true). let one : i ≡ q.ring = eqb-true i q.ring w in let name : at q.k ≡ q = λ j. record { ring = one j; k = q.k } in
+        sym (ap (seen (e ∷ h)) name) ∙ own q.k ∙ sym (ap (λ (r : List Request). seen_of (slice_get r q.k)) (row_is q.ring true w)))
+        (λ (w : (i == q.ring) ≡ false). others q w ∙ a.requests q ∙ sym (ap (λ (r : List Request). seen_of (slice_get r q.k)) (row_is q.ring false w)))
+        (bool_cases (i == q.ring))
+
+    pub counts_kept : submits (e ∷ h) i ≡ length ys → ((j : ℕ) → (i == j) ≡ false → submits (e ∷ h) j ≡ submits h j) → (j : ℕ) → submits (e ∷ h) j ≡ length (row (set m.rings i ys) j)
+    counts_kept own others j = ⊎_elim
+        (λ (w : (i == j) ≡ true). ap (submits (e ∷ h)) (sym (eqb-true i j w)) ∙ own ∙ sym (ap length (row_is j true w)))
+        (λ (w : (i == j) ≡ false). others j w ∙ a.counts j ∙ sym (ap length (row_is j false w)))
+        (bool_cases (i == j))
+
   -- the event e touches the ring i alone, whose requests are ys after it
   pub ring_kept : (e : Event) (ys : List Request) → i < length m.rings → length ys ≡ length (row m.rings i) → MayCome (setup_of m) h e → m.shut ≡ shut_for e → Calm h e
       → ((k : ℕ) → seen (e ∷ h) (at k) ≡ seen_of (slice_get ys k)) → ((q : Req) → (i == q.ring) ≡ false → seen (e ∷ h) q ≡ seen h q) → Agrees (e ∷ h) (put_row m i ys)
   ring_kept e ys lt len may shut calm own others = record {
     legal = subst (λ (s : Setup). Legal s (e ∷ h)) (sym (same_setup m i ys)) ((a.shut ∙ shut, may), a.legal);
-    requests = λ q. ⊎_elim
-        (λ (w : (i == q.ring) ≡ true). let one : i ≡ q.ring = eqb-true i q.ring w in let name : at q.k ≡ q = λ j. record { ring = one j; k = q.k } in
-        sym (ap (seen (e ∷ h)) name) ∙ own q.k ∙ sym (ap (λ (r : List Request). seen_of (slice_get r q.k)) (row_put m.rings i q.ring ys lt ∙ ap (λ b. cond b ys (row m.rings q.ring)) w)))
-        (λ (w : (i == q.ring) ≡ false). others q w ∙ a.requests q ∙ sym (ap (λ (r : List Request). seen_of (slice_get r q.k)) (row_put m.rings i q.ring ys lt ∙ ap (λ b. cond b ys (row m.rings q.ring)) w)))
-        (bool_cases (i == q.ring));
-    counts = λ j. calm.counts j ∙ a.counts j ∙ ⊎_elim
-        (λ (w : (i == j) ≡ true). let one : i ≡ j = eqb-true i j w in ap (λ z. length (row m.rings z)) (sym one) ∙ sym len ∙ sym (ap length (row_put m.rings i j ys lt ∙ ap (λ b. cond b ys (row m.rings j)) w)))
-        (λ (w : (i == j) ≡ false). sym (ap length (row_put m.rings i j ys lt ∙ ap (λ b. cond b ys (row m.rings j)) w)))
-        (bool_cases (i == j));
+    requests = rows_kept e ys lt own others;
+    counts = counts_kept e ys lt (calm.counts i ∙ a.counts i ∙ sym len) (λ j w. calm.counts j);
     pipes = λ p x is. subst (λ w. PipeIs w x) (sym (calm.flows p)) (a.pipes p x is);
     clock = calm.clock ∙ a.clock;
     shut = calm.shut ∙ a.shut;
@@ -117,13 +149,6 @@ after_row m i r s false ys lt e f = unwritten m i s (f ∙ e)
 abbrev pub IsDecided : Event → ℕ → (Machine → List Request → Bool) → (List Request → List Request) → Type 0
 IsDecided e i may ys = (m n : Machine) (b : Bool) → m.shut ≡ shut_for e → b ≡ may m (row m.rings i) → n ≡ cond b (put_row m i (ys (row m.rings i))) m → Decided b m e n
 
-pub meets : (e : Event) (i : ℕ) (may : Machine → List Request → Bool) (ys : List Request → List Request) → IsDecided e i may ys
-    → (m now : Machine) → m ≡ now → (r s : List Request) (b : Bool) → now.shut ≡ shut_for e → i < length m.rings → r ≡ get_or m.rings i r → b ≡ may m r → s ≡ cond b (ys r) r → Decided b now e (put_row m i s)
-meets e i may ys dec m now v r s b sh lt is by-row after =
-    let one = row_of m.rings i r lt is in
-    subst (λ (z : Machine). Decided b z e (put_row m i s)) v
-    (dec m (put_row m i s) b (ap (λ (z : Machine). z.shut) v ∙ sh) (by-row ∙ ap (may m) one) (after_row m i r s b ys lt one after))
-
 -- no such ring
 no_row : (rings : List (List Request)) (i : ℕ) → length rings ≤ i → row rings i ≡ []
 no_row [] i le = refl
@@ -131,20 +156,19 @@ no_row (r ∷ rs) zero le = absurd (omega arith)
 no_row (r ∷ rs) (suc i) le = no_row rs i (omega arith)
 
 pub misses : (e : Event) (i : ℕ) (may : Machine → List Request → Bool) (ys : List Request → List Request) → IsDecided e i may ys
-    → (m now : Machine) → m ≡ now → now.shut ≡ shut_for e → length m.rings ≤ i → may m [] ≡ false → Decided false now e m
+    → (m now : Machine) → m ≡ now → now.shut ≡ shut_for e → length m.rings ≤ i → may m [] ≡ false → Decided false now e now
 misses e i may ys dec m now v sh le never =
-    subst (λ (z : Machine). Decided false z e m) v (dec m m false (ap (λ (z : Machine). z.shut) v ∙ sh) (sym (ap (may m) (no_row m.rings i le) ∙ never)) refl)
+    subst (λ (z : Machine). Decided false z e z) v (dec m m false (ap (λ (z : Machine). z.shut) v ∙ sh) (sym (ap (may m) (no_row m.rings i le) ∙ never)) refl)
 
--- a request is named by its ring and its number
-pub retarget : (E : Req → Event) (b : Bool) (m n : Machine) (i : ℕ) (t : Req) → i ≡ t.ring → Decided b m (E (record { ring = i; k = t.k })) n → Decided b m (E t) n
-retarget E b m n i t e d = subst (λ (z : Req). Decided b m (E z) n) (λ j. record { ring = e j; k = t.k }) d
-
--- the same, where memory may be wanting
+-- what the code decides of a row it decides of the whole; memory may be wanting
 module _ {E : Type 0} where
   pub meets_if : (answer : Result Bool E) (e : Event) (i : ℕ) (may : Machine → List Request → Bool) (ys : List Request → List Request) → IsDecided e i may ys
       → (m now : Machine) → m ≡ now → (r s : List Request) → now.shut ≡ shut_for e → i < length m.rings → r ≡ get_or m.rings i r → IfOk answer (λ b. b ≡ may m r) → IfOk answer (λ b. s ≡ cond b (ys r) r)
       → IfOk answer (λ b. Decided b now e (put_row m i s))
-  meets_if (Ok b) e i may ys dec m now v r s sh lt is x y = meets e i may ys dec m now v r s b sh lt is x y
+  meets_if (Ok b) e i may ys dec m now v r s sh lt is x y =
+      let one = row_of m.rings i r lt is in
+      subst (λ (z : Machine). Decided b z e (put_row m i s)) v
+      (dec m (put_row m i s) b (ap (λ (z : Machine). z.shut) v ∙ sh) (x ∙ ap (may m) one) (after_row m i r s b ys lt one y))
   meets_if (Err z) e i may ys dec m now v r s sh lt is x y = tt
 
   pub follows_if : (answer : Result Bool E) (e : Event) (i : ℕ) (may : Machine → List Request → Bool) → ((m : Machine) → may m (row m.rings i) ≡ true → MayFollow m e)
@@ -155,9 +179,3 @@ module _ {E : Type 0} where
   pub same_if : (answer : Result Bool E) (m now : Machine) → m ≡ now → (i : ℕ) (r s : List Request) → i < length m.rings → r ≡ get_or m.rings i r → OnErr answer (s ≡ r) → OnErr answer (put_row m i s ≡ now)
   same_if (Ok b) m now v i r s lt is x = tt
   same_if (Err z) m now v i r s lt is x = unwritten m i s (x ∙ row_of m.rings i r lt is) ∙ v
-
-  pub retarget_if : (answer : Result Bool E) (F : Req → Event) (m n : Machine) (i : ℕ) (t : Req) → i ≡ t.ring → IfOk answer (λ b. Decided b m (F (record { ring = i; k = t.k })) n) → IfOk answer (λ b. Decided b m (F t) n)
-  retarget_if answer F m n i t e d = subst (λ (z : Req). IfOk answer (λ b. Decided b m (F z) n)) (λ j. record { ring = e j; k = t.k }) d
-
-  pub refollow_if : (answer : Result Bool E) (F : Req → Event) (m : Machine) (i : ℕ) (t : Req) → i ≡ t.ring → OnErr answer (MayFollow m (F (record { ring = i; k = t.k }))) → OnErr answer (MayFollow m (F t))
-  refollow_if answer F m i t e d = subst (λ (z : Req). OnErr answer (MayFollow m (F z))) (λ j. record { ring = e j; k = t.k }) d

@@ -1,5 +1,5 @@
 -- The events that one request alone decides: Begin, Park, Sever, Reap, Cut.
-use Rattle.std.proofs.Common.{◌≡◌, ℕ, zero, suc, ◌-◌, ◌&&◌, not, Bool, true, false, cond, List, [], ◌∷◌, Option, Some, None, refl, sym, ap, ◌∙◌, subst, true≢false, eq-eqb, sub-one, arith}
+use Rattle.std.proofs.Common.{◌≡◌, ℕ, zero, suc, ◌-◌, ◌&&◌, not, true, false, cond, List, [], ◌∷◌, Option, Some, None, refl, sym, ap, ◌∙◌, subst, true≢false, eq-eqb, sub-one, arith}
 use Rattle.std.specs.List.{slice_get}
 use Rattle.history.specs.declared.req.Req.{Req}
 use Rattle.history.specs.declared.event.Event.{Event}
@@ -13,21 +13,14 @@ use Rattle.history.specs.Legal.{MayCome}
 use Rattle.model.specs.Machine.{Machine, setup_of}
 use Rattle.model.specs.Seen.{Seen, seen, seen_of, stage_of, stage_at, placed_in}
 use Rattle.model.specs.Decides.{severed_in, pending_of}
-use Rattle.model.specs.Agrees.{Agrees, Decided}
+use Rattle.model.specs.Agrees.{Agrees}
 use Rattle.history.proofs.Untaken.{untaken}
 use Rattle.model.specs.Moves.{put_stage, is_waits, is_running, placed_as, gate_in, open_in, may_begin, may_park, may_sever, may_reap, may_cut, put_reaped, taken_out, cancelled, is_replied}
 use Rattle.history.proofs.Requests.{not_true, and_left, and_right}
 use Rattle.model.proofs.Phases.{waits_from, runs_from, replied_from, pending_as, pending_at, pending_from, from_pending}
 use Rattle.model.proofs.RequestReading.{stage_is, placed_is, placed_of, clear_is, was_clear, kept_before, severed_is, was_severed}
-use Rattle.model.proofs.RingWrites.{row, put_row, Calm, same_setup, here_is, one_kept, decides}
-
--- an event that changes nothing but requests
-calm_begin : (h : List Event) (r : Req) → Calm h (Begin r)
-calm_begin h r = record { counts = λ j. omega arith; flows = λ p. refl; clock = refl; shut = refl }
-
-pub some_waits : (o : Option Request) → is_waits (stage_at o) ≡ true → (x : Request) × (o ≡ Some x)
-some_waits None e = absurd (true≢false (sym e))
-some_waits (Some x) e = (x, refl)
+use Rattle.model.proofs.RequestWrites.{some_at}
+use Rattle.model.proofs.RingWrites.{row, put_row, calm, here_is, one_kept}
 
 module _ (m : Machine) (h : List Event) (a : Agrees h m) (i : ℕ) where
   abbrev xs : List Request
@@ -63,55 +56,30 @@ module _ (m : Machine) (h : List Event) (a : Agrees h m) (i : ℕ) where
     pub nothing_taken : ¬ IsReplied (phase h (at k)) → x.taken ≡ []
     nothing_taken n = sym (ap (λ (z : Seen). z.taken) (here_is m h a i k x is)) ∙ untaken (setup_of m) h (at k) a.legal n
 
-  begin_may : (k : ℕ) → may_begin xs k ≡ true → MayCome (setup_of m) h (Begin (at k))
+  pub begin_may : (k : ℕ) → may_begin xs k ≡ true → MayCome (setup_of m) h (Begin (at k))
   begin_may k b =
       let w = and_left (is_waits (stage_at (slice_get xs k))) _ b in let r = and_right (is_waits (stage_at (slice_get xs k))) (open_in xs k && not (placed_as is_timer (placed_in xs k))) b in
-      let x = some_waits (slice_get xs k) w in let e = placed_of h i xs reads k x.0 x.1 in
+      let x = some_at is_waits refl (slice_get xs k) w in let e = placed_of h i xs reads k x.0 x.1 in
       let t : not (placed_as is_timer (placed_in xs k)) ≡ true = and_right (open_in xs k) _ r in (
         waits_from (phase h (at k)) (ap is_waits (stage_is h i xs reads k) ∙ w),
         open_is k x.0 x.1 (and_left (open_in xs k) _ r),
         (_, placed_is h i xs reads k ∙ e, not_true _ (λ u. true≢false (sym t ∙ ap not (ap (placed_as is_timer) e ∙ u)))),
       )
 
-  may_begin_is : (k : ℕ) → MayCome (setup_of m) h (Begin (at k)) → may_begin xs k ≡ true
+  pub may_begin_is : (k : ℕ) → MayCome (setup_of m) h (Begin (at k)) → may_begin xs k ≡ true
   may_begin_is k c =
       let w : is_waits (stage_at (slice_get xs k)) ≡ true = sym (ap is_waits (stage_is h i xs reads k)) ∙ ap (λ p. is_waits (stage_of p)) c.0 in
-      let x = some_waits (slice_get xs k) w in let o = was_open k x.0 x.1 c.1 in
+      let x = some_at is_waits refl (slice_get xs k) w in let o = was_open k x.0 x.1 c.1 in
       let t : placed_as is_timer (placed_in xs k) ≡ false = ap (placed_as is_timer) (sym (placed_is h i xs reads k) ∙ c.2.1) ∙ c.2.2 in
       rw (w, o, t) refl
 
-  begin_kept : (k : ℕ) → may_begin xs k ≡ true → m.shut ≡ false → Agrees (Begin (at k) ∷ h) (put_row m i (put_stage xs k Runs))
+  pub begin_kept : (k : ℕ) → may_begin xs k ≡ true → m.shut ≡ false → Agrees (Begin (at k) ∷ h) (put_row m i (put_stage xs k Runs))
   begin_kept k b s =
-      let x = some_waits (slice_get xs k) (and_left (is_waits (stage_at (slice_get xs k))) _ b) in let e = here_is m h a i k x.0 x.1 in
-      one_kept m h a i k x.0 x.1 (Begin (at k)) (λ z. record z { stage = Runs }) (begin_may k b) s (calm_begin h (at k))
+      let x = some_at is_waits refl (slice_get xs k) (and_left (is_waits (stage_at (slice_get xs k))) _ b) in let e = here_is m h a i k x.0 x.1 in
+      one_kept m h a i k x.0 x.1 (Begin (at k)) (λ z. record z { stage = Runs }) (begin_may k b) s (calm _ refl h)
       (rw (eq-eqb i i refl, eq-eqb k k refl) (λ j. record { handed = (e j).handed; stage = Some Runs; found = (e j).found; fired = (e j).fired; taken = (e j).taken }))
       (λ j w. rw (eq-eqb i i refl, w) refl)
       (λ q w. rw w refl)
-
-pub begin_decides : (m n : Machine) (i k : ℕ) (b : Bool) → m.shut ≡ false → b ≡ may_begin (row m.rings i) k → n ≡ cond b (put_row m i (put_stage (row m.rings i) k Runs)) m → Decided b m (Begin (record { ring = i; k = k })) n
-begin_decides m n i k b s is after = decides b m (put_row m i (put_stage (row m.rings i) k Runs)) n (Begin (record { ring = i; k = k })) after
-    (λ t. (same_setup m i _, λ h a. (begin_may m h a i k (sym is ∙ t), begin_kept m h a i k (sym is ∙ t) s)))
-    (λ f h a c. true≢false (sym (may_begin_is m h a i k c) ∙ sym is ∙ f))
-
-calm_park : (h : List Event) (r : Req) → Calm h (Park r)
-calm_park h r = record { counts = λ j. omega arith; flows = λ p. refl; clock = refl; shut = refl }
-
-calm_sever : (h : List Event) (r : Req) → Calm h (Sever r)
-calm_sever h r = record { counts = λ j. omega arith; flows = λ p. refl; clock = refl; shut = refl }
-
-calm_reap : (h : List Event) (r : Req) → Calm h (Reap r)
-calm_reap h r = record { counts = λ j. omega arith; flows = λ p. refl; clock = refl; shut = refl }
-
-calm_cut : (h : List Event) (r : Req) → Calm h (Cut r)
-calm_cut h r = record { counts = λ j. omega arith; flows = λ p. refl; clock = refl; shut = refl }
-
-pub some_runs : (o : Option Request) → is_running (stage_at o) ≡ true → (x : Request) × (o ≡ Some x)
-some_runs None e = absurd (true≢false (sym e))
-some_runs (Some x) e = (x, refl)
-
-some_replied : (o : Option Request) → is_replied (stage_at o) ≡ true → (x : Request) × (o ≡ Some x)
-some_replied None e = absurd (true≢false (sym e))
-some_replied (Some x) e = (x, refl)
 
 some_pending : (o : Option Request) → pending_of o ≡ true → (x : Request) × (o ≡ Some x)
 some_pending None e = absurd (true≢false (sym e))
@@ -148,77 +116,57 @@ module _ (m : Machine) (h : List Event) (a : Agrees h m) (i k : ℕ) where
   told : stage_of (phase h r) ≡ stage_at (slice_get ys k)
   told = stage_is h i ys (reads m h a i) k
 
-  park_may : may_park ys k ≡ true → MayCome (setup_of m) h (Park r)
+  pub park_may : may_park ys k ≡ true → MayCome (setup_of m) h (Park r)
   park_may b = runs_from (phase h r) (ap is_running told ∙ b)
 
-  may_park_is : MayCome (setup_of m) h (Park r) → may_park ys k ≡ true
+  pub may_park_is : MayCome (setup_of m) h (Park r) → may_park ys k ≡ true
   may_park_is c = sym (ap is_running told) ∙ ap (λ p. is_running (stage_of p)) c
 
-  park_kept : may_park ys k ≡ true → m.shut ≡ false → Agrees (Park r ∷ h) (put_row m i (put_stage ys k Waits))
+  pub park_kept : may_park ys k ≡ true → m.shut ≡ false → Agrees (Park r ∷ h) (put_row m i (put_stage ys k Waits))
   park_kept b s =
-      let x = some_runs (slice_get ys k) b in let e = here_is m h a i k x.0 x.1 in
-      one_kept m h a i k x.0 x.1 (Park r) (λ z. record z { stage = Waits }) (park_may b) s (calm_park h r)
+      let x = some_at is_running refl (slice_get ys k) b in let e = here_is m h a i k x.0 x.1 in
+      one_kept m h a i k x.0 x.1 (Park r) (λ z. record z { stage = Waits }) (park_may b) s (calm _ refl h)
       (rw (eq-eqb i i refl, eq-eqb k k refl) (λ j. record { handed = (e j).handed; stage = Some Waits; found = (e j).found; fired = (e j).fired; taken = (e j).taken }))
       (λ j w. rw (eq-eqb i i refl, w) refl) (λ q w. rw w refl)
 
-  sever_may : may_sever ys k ≡ true → MayCome (setup_of m) h (Sever r)
+  pub sever_may : may_sever ys k ≡ true → MayCome (setup_of m) h (Sever r)
   sever_may b = (waits_from (phase h r) (ap is_waits told ∙ and_left (is_waits (stage_at (slice_get ys k))) _ b), severed_is h i ys (reads m h a i) k (and_right (is_waits (stage_at (slice_get ys k))) _ b))
 
-  may_sever_is : MayCome (setup_of m) h (Sever r) → may_sever ys k ≡ true
+  pub may_sever_is : MayCome (setup_of m) h (Sever r) → may_sever ys k ≡ true
   may_sever_is c =
       let w : is_waits (stage_at (slice_get ys k)) ≡ true = sym (ap is_waits told) ∙ ap (λ p. is_waits (stage_of p)) c.0 in let v : severed_in ys k ≡ true = was_severed h i ys (reads m h a i) k c.1 in rw (w, v) refl
 
-  sever_kept : may_sever ys k ≡ true → m.shut ≡ false → Agrees (Sever r ∷ h) (put_row m i (put_stage ys k cancelled))
+  pub sever_kept : may_sever ys k ≡ true → m.shut ≡ false → Agrees (Sever r ∷ h) (put_row m i (put_stage ys k cancelled))
   sever_kept b s =
-      let x = some_waits (slice_get ys k) (and_left (is_waits (stage_at (slice_get ys k))) _ b) in let e = here_is m h a i k x.0 x.1 in
+      let x = some_at is_waits refl (slice_get ys k) (and_left (is_waits (stage_at (slice_get ys k))) _ b) in let e = here_is m h a i k x.0 x.1 in
       let n = nothing_taken m h a i k x.0 x.1 (waits_unreplied (phase h r) (sever_may b).0) in
-      one_kept m h a i k x.0 x.1 (Sever r) (λ z. record z { stage = cancelled }) (sever_may b) s (calm_sever h r)
+      one_kept m h a i k x.0 x.1 (Sever r) (λ z. record z { stage = cancelled }) (sever_may b) s (calm _ refl h)
       (rw (eq-eqb i i refl, eq-eqb k k refl) (λ j. record { handed = (e j).handed; stage = Some cancelled; found = (e j).found; fired = (e j).fired; taken = (sym n) j }))
       (λ j w. rw (eq-eqb i i refl, w) refl) (λ q w. rw w refl)
 
-  reap_may : may_reap ys k ≡ true → MayCome (setup_of m) h (Reap r)
+  pub reap_may : may_reap ys k ≡ true → MayCome (setup_of m) h (Reap r)
   reap_may b = replied_from (phase h r) (ap is_replied told ∙ b)
 
-  may_reap_is : MayCome (setup_of m) h (Reap r) → may_reap ys k ≡ true
+  pub may_reap_is : MayCome (setup_of m) h (Reap r) → may_reap ys k ≡ true
   may_reap_is c = sym (ap is_replied told) ∙ ap (λ p. is_replied (stage_of p)) c.2
 
-  reap_kept : may_reap ys k ≡ true → m.shut ≡ false → Agrees (Reap r ∷ h) (put_row m i (put_reaped ys k))
+  pub reap_kept : may_reap ys k ≡ true → m.shut ≡ false → Agrees (Reap r ∷ h) (put_row m i (put_reaped ys k))
   reap_kept b s =
-      let x = some_replied (slice_get ys k) b in let e = here_is m h a i k x.0 x.1 in let t = reaped_stage (phase h r) x.0.stage (stage_told m h a i k x.0 x.1) in
-      one_kept m h a i k x.0 x.1 (Reap r) (λ z. record z { stage = taken_out z.stage }) (reap_may b) s (calm_reap h r)
+      let x = some_at is_replied refl (slice_get ys k) b in let e = here_is m h a i k x.0 x.1 in let t = reaped_stage (phase h r) x.0.stage (stage_told m h a i k x.0 x.1) in
+      one_kept m h a i k x.0 x.1 (Reap r) (λ z. record z { stage = taken_out z.stage }) (reap_may b) s (calm _ refl h)
       (rw (eq-eqb i i refl, eq-eqb k k refl) (λ j. record { handed = (e j).handed; stage = t j; found = (e j).found; fired = (e j).fired; taken = (e j).taken }))
       (λ j w. rw (eq-eqb i i refl, w) refl) (λ q w. rw w refl)
 
-  cut_may : may_cut ys k ≡ true → MayCome (setup_of m) h (Cut r)
+  pub cut_may : may_cut ys k ≡ true → MayCome (setup_of m) h (Cut r)
   cut_may b = pending_from (phase h r) (ap pending_as told ∙ sym (pending_at (slice_get ys k)) ∙ b)
 
-  may_cut_is : MayCome (setup_of m) h (Cut r) → may_cut ys k ≡ true
+  pub may_cut_is : MayCome (setup_of m) h (Cut r) → may_cut ys k ≡ true
   may_cut_is c = pending_at (slice_get ys k) ∙ sym (ap pending_as told) ∙ from_pending (phase h r) c
 
-  cut_kept : may_cut ys k ≡ true → m.shut ≡ true → Agrees (Cut r ∷ h) (put_row m i (put_stage ys k cancelled))
+  pub cut_kept : may_cut ys k ≡ true → m.shut ≡ true → Agrees (Cut r ∷ h) (put_row m i (put_stage ys k cancelled))
   cut_kept b s =
       let x = some_pending (slice_get ys k) b in let e = here_is m h a i k x.0 x.1 in
       let n = nothing_taken m h a i k x.0 x.1 (pending_unreplied (phase h r) (cut_may b)) in
-      one_kept m h a i k x.0 x.1 (Cut r) (λ z. record z { stage = cancelled }) (cut_may b) s (calm_cut h r)
+      one_kept m h a i k x.0 x.1 (Cut r) (λ z. record z { stage = cancelled }) (cut_may b) s (calm _ refl h)
       (rw (eq-eqb i i refl, eq-eqb k k refl) (λ j. record { handed = (e j).handed; stage = Some cancelled; found = (e j).found; fired = (e j).fired; taken = (sym n) j }))
       (λ j w. rw (eq-eqb i i refl, w) refl) (λ q w. rw w refl)
-
-pub park_decides : (m n : Machine) (i k : ℕ) (b : Bool) → m.shut ≡ false → b ≡ may_park (row m.rings i) k → n ≡ cond b (put_row m i (put_stage (row m.rings i) k Waits)) m → Decided b m (Park (record { ring = i; k = k })) n
-park_decides m n i k b s is after = decides b m (put_row m i (put_stage (row m.rings i) k Waits)) n (Park (record { ring = i; k = k })) after
-    (λ t. (same_setup m i _, λ h a. (park_may m h a i k (sym is ∙ t), park_kept m h a i k (sym is ∙ t) s)))
-    (λ f h a c. true≢false (sym (may_park_is m h a i k c) ∙ sym is ∙ f))
-
-pub sever_decides : (m n : Machine) (i k : ℕ) (b : Bool) → m.shut ≡ false → b ≡ may_sever (row m.rings i) k → n ≡ cond b (put_row m i (put_stage (row m.rings i) k cancelled)) m → Decided b m (Sever (record { ring = i; k = k })) n
-sever_decides m n i k b s is after = decides b m (put_row m i (put_stage (row m.rings i) k cancelled)) n (Sever (record { ring = i; k = k })) after
-    (λ t. (same_setup m i _, λ h a. (sever_may m h a i k (sym is ∙ t), sever_kept m h a i k (sym is ∙ t) s)))
-    (λ f h a c. true≢false (sym (may_sever_is m h a i k c) ∙ sym is ∙ f))
-
-pub reap_decides : (m n : Machine) (i k : ℕ) (b : Bool) → m.shut ≡ false → b ≡ may_reap (row m.rings i) k → n ≡ cond b (put_row m i (put_reaped (row m.rings i) k)) m → Decided b m (Reap (record { ring = i; k = k })) n
-reap_decides m n i k b s is after = decides b m (put_row m i (put_reaped (row m.rings i) k)) n (Reap (record { ring = i; k = k })) after
-    (λ t. (same_setup m i _, λ h a. (reap_may m h a i k (sym is ∙ t), reap_kept m h a i k (sym is ∙ t) s)))
-    (λ f h a c. true≢false (sym (may_reap_is m h a i k c) ∙ sym is ∙ f))
-
-pub cut_decides : (m n : Machine) (i k : ℕ) (b : Bool) → m.shut ≡ true → b ≡ may_cut (row m.rings i) k → n ≡ cond b (put_row m i (put_stage (row m.rings i) k cancelled)) m → Decided b m (Cut (record { ring = i; k = k })) n
-cut_decides m n i k b s is after = decides b m (put_row m i (put_stage (row m.rings i) k cancelled)) n (Cut (record { ring = i; k = k })) after
-    (λ t. (same_setup m i _, λ h a. (cut_may m h a i k (sym is ∙ t), cut_kept m h a i k (sym is ∙ t) s)))
-    (λ f h a c. true≢false (sym (may_cut_is m h a i k c) ∙ sym is ∙ f))

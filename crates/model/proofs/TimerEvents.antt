@@ -16,16 +16,16 @@ use Rattle.history.specs.Chains.{placed, placed_from, is_timeout, is_link_timeou
 use Rattle.history.specs.Legal.{MayCome, ticks_of, IsDue}
 use Rattle.history.specs.State.{catch_in}
 use Rattle.model.specs.Machine.{Machine, setup_of}
-use Rattle.model.specs.Seen.{Seen, seen, seen_of, stage_of, stage_at, placed_in, handed_at}
-use Rattle.model.specs.Agrees.{Agrees, Decided}
-use Rattle.model.specs.Moves.{put, put_at, put_stage, put_fired, put_settled, is_waits, is_running, is_due, is_armed, is_idle, is_answered, placed_as, open_in, fired_of, falls_due, arms, may_arm, may_expire, runs_out, may_fire, may_fire_miss, may_settle, cancelled, timed_out}
+use Rattle.model.specs.Seen.{fired_of, Seen, seen, seen_of, stage_of, stage_at, placed_in, handed_at}
+use Rattle.model.specs.Agrees.{Agrees}
+use Rattle.model.specs.Moves.{put, put_at, put_stage, put_fired, put_settled, is_waits, is_running, is_due, is_armed, is_idle, is_answered, placed_as, open_in, falls_due, arms, may_arm, may_expire, runs_out, may_fire, may_fire_miss, may_settle, cancelled, timed_out}
 use Rattle.history.proofs.Requests.{bool_cases, not_true, and_left, and_right}
 use Rattle.model.proofs.RequestLists.{slice_get-set, apart}
-use Rattle.model.proofs.RequestWrites.{put_length}
+use Rattle.model.proofs.RequestWrites.{some_at, put_length}
 use Rattle.model.proofs.Phases.{waits_from, runs_from, due_from, armed_from, idle_from, from_idle, answered_from, from_answered}
 use Rattle.model.proofs.RequestReading.{stage_is, placed_is}
-use Rattle.model.proofs.RingWrites.{row, put_row, row_within, Calm, same_setup, here_is, one_kept, ring_kept, put_own, decides}
-use Rattle.model.proofs.SingleEvents.{some_waits, reads, open_is, was_open, nothing_taken}
+use Rattle.model.proofs.RingWrites.{row, put_row, row_within, calm, here_is, one_kept, ring_kept, put_own}
+use Rattle.model.proofs.SingleEvents.{reads, open_is, was_open, nothing_taken}
 
 falls_by : (clock d : ℕ) (t : Option ℕ) → falls_due clock d t ≡ true → (n : ℕ) × (t ≡ Some n) × (d ≡ clock + n)
 falls_by clock d None e = absurd (true≢false (sym e))
@@ -42,18 +42,6 @@ pub placed_by : (p : Op → Bool) (o : Option Entry) → placed_as p o ≡ true 
 placed_by p None w = absurd (true≢false (sym w))
 placed_by p (Some e) w = (e, refl, w)
 
-some_due : (clock : ℕ) (o : Option Request) → is_due clock (stage_at o) ≡ true → (x : Request) × (o ≡ Some x)
-some_due clock None e = absurd (true≢false (sym e))
-some_due clock (Some x) e = (x, refl)
-
-pub some_armed : (o : Option Request) → is_armed (stage_at o) ≡ true → (x : Request) × (o ≡ Some x)
-some_armed None e = absurd (true≢false (sym e))
-some_armed (Some x) e = (x, refl)
-
-pub some_idle : (o : Option Request) → is_idle (stage_at o) ≡ true → (x : Request) × (o ≡ Some x)
-some_idle None e = absurd (true≢false (sym e))
-some_idle (Some x) e = (x, refl)
-
 pub armed_unreplied : (p : Phase) (d : ℕ) → p ≡ armed d → ¬ IsReplied p
 armed_unreplied p d e r = subst IsReplied e r
 
@@ -64,10 +52,6 @@ idle_unreplied unborn i r = i
 idle_unreplied runs i r = i
 idle_unreplied (replied c res) i r = i
 idle_unreplied (reaped c res) i r = i
-
-seen_fired : (o : Option Request) → (seen_of o).fired ≡ fired_of o
-seen_fired None = refl
-seen_fired (Some x) = refl
 
 head : (e : Entry) (b : Bool) → is_link_timeout e.op ≡ b → is_link_timeout (cond (b && true) (record e { op = Invalid }) e).op ≡ true → ⊥
 head e true is w = true≢false (sym w)
@@ -86,21 +70,6 @@ not_first xs (suc l) w = omega arith
 pub put_other : (xs : List Request) (k j : ℕ) (f : Request → Request) (x : Request) → slice_get xs k ≡ Some x → (k == j) ≡ false → slice_get (put xs k f) j ≡ slice_get xs j
 put_other xs k j f x is w = ap (λ zs. slice_get zs j) (ap (put_at xs k f) is) ∙ slice_get-set xs k j (f x) (slice_get_within xs k x is) ∙ ap (λ b. cond b (Some (f x)) (slice_get xs j)) w
 
-calm_arm : (h : List Event) (r : Req) (d : ℕ) → Calm h (Arm r d)
-calm_arm h r d = record { counts = λ j. omega arith; flows = λ p. refl; clock = refl; shut = refl }
-
-calm_expire : (h : List Event) (r : Req) → Calm h (Expire r)
-calm_expire h r = record { counts = λ j. omega arith; flows = λ p. refl; clock = refl; shut = refl }
-
-calm_fire : (h : List Event) (l t : Req) → Calm h (Fire l t)
-calm_fire h l t = record { counts = λ j. omega arith; flows = λ p. refl; clock = refl; shut = refl }
-
-calm_fire_miss : (h : List Event) (l t : Req) → Calm h (FireMiss l t)
-calm_fire_miss h l t = record { counts = λ j. omega arith; flows = λ p. refl; clock = refl; shut = refl }
-
-calm_settle : (h : List Event) (l : Req) → Calm h (Settle l)
-calm_settle h l = record { counts = λ j. omega arith; flows = λ p. refl; clock = refl; shut = refl }
-
 module _ (m : Machine) (h : List Event) (a : Agrees h m) (i : ℕ) where
   abbrev xs : List Request
   xs = row m.rings i
@@ -115,7 +84,7 @@ module _ (m : Machine) (h : List Event) (a : Agrees h m) (i : ℕ) where
   entry_is k = placed_is h i xs (reads m h a i) k
 
   fired_is : (k : ℕ) → fired h (at k) ≡ fired_of (slice_get xs k)
-  fired_is k = ap (λ (z : Seen). z.fired) (a.requests (at k)) ∙ seen_fired (slice_get xs k)
+  fired_is k = ap (λ (z : Seen). z.fired) (a.requests (at k))
 
   due_is : (k : ℕ) → is_due m.clock (stage_at (slice_get xs k)) ≡ true → IsDue h (at k)
   due_is k w = let d = due_from m.clock (phase h (at k)) (ap (is_due m.clock) (told k) ∙ w) in let le : d.0 ≤ clock_of h = subst (λ (z : ℕ). d.0 ≤ z) (sym a.clock) d.2 in (d.0, d.1, le)
@@ -123,40 +92,40 @@ module _ (m : Machine) (h : List Event) (a : Agrees h m) (i : ℕ) where
   was_due : (k : ℕ) → IsDue h (at k) → is_due m.clock (stage_at (slice_get xs k)) ≡ true
   was_due k d = let le : d.0 ≤ m.clock = subst (λ (z : ℕ). d.0 ≤ z) a.clock d.2 in sym (ap (is_due m.clock) (told k)) ∙ ap (λ p. is_due m.clock (stage_of p)) d.1 ∙ le-leb d.0 m.clock le
 
-  arm_may : (k d : ℕ) → may_arm m.clock xs k d ≡ true → MayCome (setup_of m) h (Arm (at k) d)
+  pub arm_may : (k d : ℕ) → may_arm m.clock xs k d ≡ true → MayCome (setup_of m) h (Arm (at k) d)
   arm_may k d b =
       let w = and_left (is_waits (stage_at (slice_get xs k))) _ b in let r = and_right (is_waits (stage_at (slice_get xs k))) (open_in xs k && arms m.clock d (placed_in xs k)) b in
-      let x = some_waits (slice_get xs k) w in let e = arms_by m.clock d (placed_in xs k) (and_right (open_in xs k) _ r) in
+      let x = some_at is_waits refl (slice_get xs k) w in let e = arms_by m.clock d (placed_in xs k) (and_right (open_in xs k) _ r) in
       (waits_from (phase h (at k)) (ap is_waits (told k) ∙ w), open_is m h a i k x.0 x.1 (and_left (open_in xs k) _ r), e.0, e.1, entry_is k ∙ e.2, e.3, e.4 ∙ ap (λ (c : ℕ). c + e.1) (sym a.clock))
 
-  may_arm_is : (k d : ℕ) → MayCome (setup_of m) h (Arm (at k) d) → may_arm m.clock xs k d ≡ true
+  pub may_arm_is : (k d : ℕ) → MayCome (setup_of m) h (Arm (at k) d) → may_arm m.clock xs k d ≡ true
   may_arm_is k d c =
       let w : is_waits (stage_at (slice_get xs k)) ≡ true = sym (ap is_waits (told k)) ∙ ap (λ p. is_waits (stage_of p)) c.0 in
-      let x = some_waits (slice_get xs k) w in let o = was_open m h a i k x.0 x.1 c.1 in
+      let x = some_at is_waits refl (slice_get xs k) w in let o = was_open m h a i k x.0 x.1 c.1 in
       let t : arms m.clock d (placed_in xs k) ≡ true = arms_from m.clock d (placed_in xs k) c.2 c.3 (sym (entry_is k) ∙ c.4) c.5 (c.6 ∙ ap (λ (z : ℕ). z + c.3) a.clock) in
       rw (w, o, t) refl
 
-  arm_kept : (k d : ℕ) → may_arm m.clock xs k d ≡ true → m.shut ≡ false → Agrees (Arm (at k) d ∷ h) (put_row m i (put_stage xs k (Armed d)))
+  pub arm_kept : (k d : ℕ) → may_arm m.clock xs k d ≡ true → m.shut ≡ false → Agrees (Arm (at k) d ∷ h) (put_row m i (put_stage xs k (Armed d)))
   arm_kept k d b s =
-      let x = some_waits (slice_get xs k) (and_left (is_waits (stage_at (slice_get xs k))) _ b) in let e = here_is m h a i k x.0 x.1 in
-      one_kept m h a i k x.0 x.1 (Arm (at k) d) (λ z. record z { stage = Armed d }) (arm_may k d b) s (calm_arm h (at k) d)
+      let x = some_at is_waits refl (slice_get xs k) (and_left (is_waits (stage_at (slice_get xs k))) _ b) in let e = here_is m h a i k x.0 x.1 in
+      one_kept m h a i k x.0 x.1 (Arm (at k) d) (λ z. record z { stage = Armed d }) (arm_may k d b) s (calm _ refl h)
       (rw (eq-eqb i i refl, eq-eqb k k refl) (λ j. record { handed = (e j).handed; stage = Some (Armed d); found = (e j).found; fired = (e j).fired; taken = (e j).taken }))
       (λ j w. rw (eq-eqb i i refl, w) refl) (λ q w. rw w refl)
 
-  expire_may : (k : ℕ) → may_expire m.clock xs k ≡ true → MayCome (setup_of m) h (Expire (at k))
+  pub expire_may : (k : ℕ) → may_expire m.clock xs k ≡ true → MayCome (setup_of m) h (Expire (at k))
   expire_may k b =
       let e = placed_by is_timeout (placed_in xs k) (and_right (is_due m.clock (stage_at (slice_get xs k))) _ b) in
       (due_is k (and_left (is_due m.clock (stage_at (slice_get xs k))) _ b), (e.0, entry_is k ∙ e.1, e.2))
 
-  may_expire_is : (k : ℕ) → MayCome (setup_of m) h (Expire (at k)) → may_expire m.clock xs k ≡ true
+  pub may_expire_is : (k : ℕ) → MayCome (setup_of m) h (Expire (at k)) → may_expire m.clock xs k ≡ true
   may_expire_is k c =
       let w = was_due k c.0 in let t : placed_as is_timeout (placed_in xs k) ≡ true = ap (placed_as is_timeout) (sym (entry_is k) ∙ c.1.1) ∙ c.1.2 in rw (w, t) refl
 
-  expire_kept : (k : ℕ) → may_expire m.clock xs k ≡ true → m.shut ≡ false → Agrees (Expire (at k) ∷ h) (put_row m i (put_stage xs k timed_out))
+  pub expire_kept : (k : ℕ) → may_expire m.clock xs k ≡ true → m.shut ≡ false → Agrees (Expire (at k) ∷ h) (put_row m i (put_stage xs k timed_out))
   expire_kept k b s =
-      let x = some_due m.clock (slice_get xs k) (and_left (is_due m.clock (stage_at (slice_get xs k))) _ b) in let e = here_is m h a i k x.0 x.1 in
+      let x = some_at (is_due m.clock) refl (slice_get xs k) (and_left (is_due m.clock (stage_at (slice_get xs k))) _ b) in let e = here_is m h a i k x.0 x.1 in
       let n = nothing_taken m h a i k x.0 x.1 (armed_unreplied (phase h (at k)) _ (expire_may k b).0.1) in
-      one_kept m h a i k x.0 x.1 (Expire (at k)) (λ z. record z { stage = timed_out }) (expire_may k b) s (calm_expire h (at k))
+      one_kept m h a i k x.0 x.1 (Expire (at k)) (λ z. record z { stage = timed_out }) (expire_may k b) s (calm _ refl h)
       (rw (eq-eqb i i refl, eq-eqb k k refl) (λ j. record { handed = (e j).handed; stage = Some timed_out; found = (e j).found; fired = (e j).fired; taken = (sym n) j }))
       (λ j w. rw (eq-eqb i i refl, w) refl) (λ q w. rw w refl)
 
@@ -178,29 +147,29 @@ module _ (m : Machine) (h : List Event) (a : Agrees h m) (i : ℕ) where
       let p : placed_as is_link_timeout (placed_in xs l) ≡ true = ap (placed_as is_link_timeout) (sym (entry_is l) ∙ g.0.1) ∙ g.0.2 in let s : (suc t == l) ≡ true = eq-eqb (suc t) l g.2 in
       rw (w, n, p, s) refl
 
-  fire_may : (l t : ℕ) → may_fire m.clock xs l t ≡ true → MayCome (setup_of m) h (Fire (at l) (at t))
+  pub fire_may : (l t : ℕ) → may_fire m.clock xs l t ≡ true → MayCome (setup_of m) h (Fire (at l) (at t))
   fire_may l t b =
       let o = out_may l t (and_left (runs_out m.clock xs l t) _ b) in (o.0, o.1, o.2, idle_from (phase h (at t)) (ap is_idle (told t) ∙ and_right (runs_out m.clock xs l t) _ b))
 
-  may_fire_is : (l t : ℕ) → MayCome (setup_of m) h (Fire (at l) (at t)) → may_fire m.clock xs l t ≡ true
+  pub may_fire_is : (l t : ℕ) → MayCome (setup_of m) h (Fire (at l) (at t)) → may_fire m.clock xs l t ≡ true
   may_fire_is l t c =
       let o = may_out l t c.0 c.1 c.2 in let w : is_idle (stage_at (slice_get xs t)) ≡ true = sym (ap is_idle (told t)) ∙ from_idle (phase h (at t)) c.3 in rw (o, w) refl
 
-  fire_miss_may : (l t : ℕ) → may_fire_miss m.clock xs l t ≡ true → MayCome (setup_of m) h (FireMiss (at l) (at t))
+  pub fire_miss_may : (l t : ℕ) → may_fire_miss m.clock xs l t ≡ true → MayCome (setup_of m) h (FireMiss (at l) (at t))
   fire_miss_may l t b =
       let o = out_may l t (and_left (runs_out m.clock xs l t) _ b) in (o.0, o.1, o.2, runs_from (phase h (at t)) (ap is_running (told t) ∙ and_right (runs_out m.clock xs l t) _ b))
 
-  may_fire_miss_is : (l t : ℕ) → MayCome (setup_of m) h (FireMiss (at l) (at t)) → may_fire_miss m.clock xs l t ≡ true
+  pub may_fire_miss_is : (l t : ℕ) → MayCome (setup_of m) h (FireMiss (at l) (at t)) → may_fire_miss m.clock xs l t ≡ true
   may_fire_miss_is l t c =
       let o = may_out l t c.0 c.1 c.2 in let w : is_running (stage_at (slice_get xs t)) ≡ true = sym (ap is_running (told t)) ∙ ap (λ p. is_running (stage_of p)) c.3 in rw (o, w) refl
 
   due_kept : (l t : ℕ) → runs_out m.clock xs l t ≡ true → (x : Request) × (slice_get xs l ≡ Some x)
-  due_kept l t b = some_due m.clock (slice_get xs l) (and_left (is_due m.clock (stage_at (slice_get xs l))) _ (and_left (is_due m.clock (stage_at (slice_get xs l)) && not (fired_of (slice_get xs l))) _ b))
+  due_kept l t b = some_at (is_due m.clock) refl (slice_get xs l) (and_left (is_due m.clock (stage_at (slice_get xs l))) _ (and_left (is_due m.clock (stage_at (slice_get xs l)) && not (fired_of (slice_get xs l))) _ b))
 
-  fire_miss_kept : (l t : ℕ) → may_fire_miss m.clock xs l t ≡ true → m.shut ≡ false → Agrees (FireMiss (at l) (at t) ∷ h) (put_row m i (put_fired xs l))
+  pub fire_miss_kept : (l t : ℕ) → may_fire_miss m.clock xs l t ≡ true → m.shut ≡ false → Agrees (FireMiss (at l) (at t) ∷ h) (put_row m i (put_fired xs l))
   fire_miss_kept l t b s =
       let x = due_kept l t (and_left (runs_out m.clock xs l t) _ b) in let e = here_is m h a i l x.0 x.1 in
-      one_kept m h a i l x.0 x.1 (FireMiss (at l) (at t)) (λ z. record z { fired = true }) (fire_miss_may l t b) s (calm_fire_miss h (at l) (at t))
+      one_kept m h a i l x.0 x.1 (FireMiss (at l) (at t)) (λ z. record z { fired = true }) (fire_miss_may l t b) s (calm _ refl h)
       (rw (eq-eqb i i refl, eq-eqb l l refl) (λ j. record { handed = (e j).handed; stage = (e j).stage; found = (e j).found; fired = true; taken = (e j).taken }))
       (λ j w. rw (eq-eqb i i refl, w) refl) (λ q w. rw w refl)
 
@@ -213,19 +182,19 @@ module _ (m : Machine) (h : List Event) (a : Agrees h m) (i : ℕ) where
       (rw (eq-eqb l l refl) (λ j. record { handed = (e j).handed; stage = (e j).stage; found = (e j).found; fired = true; taken = (e j).taken }))
       (λ j w. rw w (reads m h a i j))
 
-  fire_kept : (l t : ℕ) → may_fire m.clock xs l t ≡ true → m.shut ≡ false → Agrees (Fire (at l) (at t) ∷ h) (put_row m i (put_stage (put_fired xs l) t cancelled))
+  pub fire_kept : (l t : ℕ) → may_fire m.clock xs l t ≡ true → m.shut ≡ false → Agrees (Fire (at l) (at t) ∷ h) (put_row m i (put_stage (put_fired xs l) t cancelled))
   fire_kept l t b s =
-      let may = fire_may l t b in let x = due_kept l t (and_left (runs_out m.clock xs l t) _ b) in let y = some_idle (slice_get xs t) (and_right (runs_out m.clock xs l t) _ b) in
+      let may = fire_may l t b in let x = due_kept l t (and_left (runs_out m.clock xs l t) _ b) in let y = some_at is_idle refl (slice_get xs t) (and_right (runs_out m.clock xs l t) _ b) in
       let next : suc t ≡ l = may.2.2 in let other : (l == t) ≡ false = apart l t (λ u. absurd (omega arith)) in
       let e = here_is m h a i t y.0 y.1 in let n = nothing_taken m h a i t y.0 y.1 (idle_unreplied (phase h (at t)) may.3) in let g = put_other xs l t (λ z. record z { fired = true }) x.0 x.1 other ∙ y.1 in
       ring_kept m h a i (Fire (at l) (at t)) (put_stage (put_fired xs l) t cancelled) (row_within m.rings i l x.0 x.1)
-      (put_length (put_fired xs l) t _ ∙ put_length xs l _) may s (calm_fire h (at l) (at t))
+      (put_length (put_fired xs l) t _ ∙ put_length xs l _) may s (calm _ refl h)
       (put_own m h a i (λ j. seen (Fire (at l) (at t) ∷ h) (at j)) (put_fired xs l) t (λ z. record z { stage = cancelled }) y.0 g
       (rw (eq-eqb i i refl, eq-eqb t t refl, other) (λ j. record { handed = (e j).handed; stage = Some cancelled; found = (e j).found; fired = (e j).fired; taken = (sym n) j }))
       (λ j w. rw (eq-eqb i i refl, w) (half_is l x.0 x.1 j)))
       (λ q w. rw w refl)
 
-  settle_may : (l : ℕ) → may_settle xs l ≡ true → MayCome (setup_of m) h (Settle (at l))
+  pub settle_may : (l : ℕ) → may_settle xs l ≡ true → MayCome (setup_of m) h (Settle (at l))
   settle_may l b =
       let p : (is_armed (stage_at (slice_get xs l)) && placed_as is_link_timeout (placed_in xs l)) ≡ true = and_left _ (fired_of (slice_get xs l) || is_answered (stage_at (slice_get xs (l - 1)))) b in
       let t = and_right (is_armed (stage_at (slice_get xs l))) (placed_as is_link_timeout (placed_in xs l)) p in let e = placed_by is_link_timeout (placed_in xs l) t in
@@ -240,7 +209,7 @@ module _ (m : Machine) (h : List Event) (a : Agrees h m) (i : ℕ) where
             (bool_cases (fired_of (slice_get xs l))),
       )
 
-  may_settle_is : (l : ℕ) → MayCome (setup_of m) h (Settle (at l)) → may_settle xs l ≡ true
+  pub may_settle_is : (l : ℕ) → MayCome (setup_of m) h (Settle (at l)) → may_settle xs l ≡ true
   may_settle_is l c =
       let w : is_armed (stage_at (slice_get xs l)) ≡ true = sym (ap is_armed (told l)) ∙ ap (λ p. is_armed (stage_of p)) c.0.1 in
       let p : placed_as is_link_timeout (placed_in xs l) ≡ true = ap (placed_as is_link_timeout) (sym (entry_is l) ∙ c.1.1) ∙ c.1.2 in
@@ -254,37 +223,12 @@ module _ (m : Machine) (h : List Event) (a : Agrees h m) (i : ℕ) where
   settled_stage : (l : ℕ) (x : Request) → fired h (at l) ≡ x.fired → stage_of (replied by_settle (cond (fired h (at l)) (negsuc 61) (negsuc 124))) ≡ Some (cond x.fired timed_out cancelled)
   settled_stage l x f = ap (λ z. stage_of (replied by_settle (cond z (negsuc 61) (negsuc 124)))) f ∙ elim x.fired as (λ z. Some (Replied (cond z (negsuc 61) (negsuc 124))) ≡ Some (cond z timed_out cancelled)) [ true ↦ refl | false ↦ refl ]
 
-  settle_kept : (l : ℕ) → may_settle xs l ≡ true → m.shut ≡ false → Agrees (Settle (at l) ∷ h) (put_row m i (put_settled xs l))
+  pub settle_kept : (l : ℕ) → may_settle xs l ≡ true → m.shut ≡ false → Agrees (Settle (at l) ∷ h) (put_row m i (put_settled xs l))
   settle_kept l b s =
       let may = settle_may l b in
       let p : (is_armed (stage_at (slice_get xs l)) && placed_as is_link_timeout (placed_in xs l)) ≡ true = and_left _ (fired_of (slice_get xs l) || is_answered (stage_at (slice_get xs (l - 1)))) b in
-      let x = some_armed (slice_get xs l) (and_left (is_armed (stage_at (slice_get xs l))) _ p) in let e = here_is m h a i l x.0 x.1 in
+      let x = some_at is_armed refl (slice_get xs l) (and_left (is_armed (stage_at (slice_get xs l))) _ p) in let e = here_is m h a i l x.0 x.1 in
       let n = nothing_taken m h a i l x.0 x.1 (armed_unreplied (phase h (at l)) _ may.0.1) in let t = settled_stage l x.0 (ap (λ (z : Seen). z.fired) e) in
-      one_kept m h a i l x.0 x.1 (Settle (at l)) (λ z. record z { stage = cond z.fired timed_out cancelled }) may s (calm_settle h (at l))
+      one_kept m h a i l x.0 x.1 (Settle (at l)) (λ z. record z { stage = cond z.fired timed_out cancelled }) may s (calm _ refl h)
       (rw (eq-eqb i i refl, eq-eqb l l refl) (λ j. record { handed = (e j).handed; stage = t j; found = (e j).found; fired = (e j).fired; taken = (sym n) j }))
       (λ j w. rw (eq-eqb i i refl, w) refl) (λ q w. rw w refl)
-
-pub arm_decides : (m n : Machine) (i k d : ℕ) (b : Bool) → m.shut ≡ false → b ≡ may_arm m.clock (row m.rings i) k d → n ≡ cond b (put_row m i (put_stage (row m.rings i) k (Armed d))) m → Decided b m (Arm (record { ring = i; k = k }) d) n
-arm_decides m n i k d b s is after = decides b m (put_row m i (put_stage (row m.rings i) k (Armed d))) n (Arm (record { ring = i; k = k }) d) after
-    (λ u. (same_setup m i _, λ h a. (arm_may m h a i k d (sym is ∙ u), arm_kept m h a i k d (sym is ∙ u) s)))
-    (λ u h a c. true≢false (sym (may_arm_is m h a i k d c) ∙ sym is ∙ u))
-
-pub expire_decides : (m n : Machine) (i k : ℕ) (b : Bool) → m.shut ≡ false → b ≡ may_expire m.clock (row m.rings i) k → n ≡ cond b (put_row m i (put_stage (row m.rings i) k timed_out)) m → Decided b m (Expire (record { ring = i; k = k })) n
-expire_decides m n i k b s is after = decides b m (put_row m i (put_stage (row m.rings i) k timed_out)) n (Expire (record { ring = i; k = k })) after
-    (λ u. (same_setup m i _, λ h a. (expire_may m h a i k (sym is ∙ u), expire_kept m h a i k (sym is ∙ u) s)))
-    (λ u h a c. true≢false (sym (may_expire_is m h a i k c) ∙ sym is ∙ u))
-
-pub fire_decides : (m n : Machine) (i l t : ℕ) (b : Bool) → m.shut ≡ false → b ≡ may_fire m.clock (row m.rings i) l t → n ≡ cond b (put_row m i (put_stage (put_fired (row m.rings i) l) t cancelled)) m → Decided b m (Fire (record { ring = i; k = l }) (record { ring = i; k = t })) n
-fire_decides m n i l t b s is after = decides b m (put_row m i (put_stage (put_fired (row m.rings i) l) t cancelled)) n (Fire (record { ring = i; k = l }) (record { ring = i; k = t })) after
-    (λ u. (same_setup m i _, λ h a. (fire_may m h a i l t (sym is ∙ u), fire_kept m h a i l t (sym is ∙ u) s)))
-    (λ u h a c. true≢false (sym (may_fire_is m h a i l t c) ∙ sym is ∙ u))
-
-pub fire_miss_decides : (m n : Machine) (i l t : ℕ) (b : Bool) → m.shut ≡ false → b ≡ may_fire_miss m.clock (row m.rings i) l t → n ≡ cond b (put_row m i (put_fired (row m.rings i) l)) m → Decided b m (FireMiss (record { ring = i; k = l }) (record { ring = i; k = t })) n
-fire_miss_decides m n i l t b s is after = decides b m (put_row m i (put_fired (row m.rings i) l)) n (FireMiss (record { ring = i; k = l }) (record { ring = i; k = t })) after
-    (λ u. (same_setup m i _, λ h a. (fire_miss_may m h a i l t (sym is ∙ u), fire_miss_kept m h a i l t (sym is ∙ u) s)))
-    (λ u h a c. true≢false (sym (may_fire_miss_is m h a i l t c) ∙ sym is ∙ u))
-
-pub settle_decides : (m n : Machine) (i l : ℕ) (b : Bool) → m.shut ≡ false → b ≡ may_settle (row m.rings i) l → n ≡ cond b (put_row m i (put_settled (row m.rings i) l)) m → Decided b m (Settle (record { ring = i; k = l })) n
-settle_decides m n i l b s is after = decides b m (put_row m i (put_settled (row m.rings i) l)) n (Settle (record { ring = i; k = l })) after
-    (λ u. (same_setup m i _, λ h a. (settle_may m h a i l (sym is ∙ u), settle_kept m h a i l (sym is ∙ u) s)))
-    (λ u h a c. true≢false (sym (may_settle_is m h a i l c) ∙ sym is ∙ u))

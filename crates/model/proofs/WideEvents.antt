@@ -1,5 +1,5 @@
 -- The events of no one request: Tick, Shut. And Submit, which makes one.
-use Rattle.std.proofs.Common.{◌≡◌, ℕ, zero, suc, ◌<◌, ◌==◌, ◌||◌, ◌++◌, Bool, true, false, cond, List, [], ◌∷◌, length, get_or, Option, Some, None, refl, sym, ap, ◌∙◌, subst, ⊎_elim, true≢false, eqb-true, eq-eqb, length-append, arith}
+use Rattle.std.proofs.Common.{◌≡◌, ℕ, zero, suc, ◌<◌, ◌==◌, ◌||◌, ◌++◌, Bool, true, false, cond, List, [], ◌∷◌, length, get_or, Some, None, refl, sym, ap, ◌∙◌, subst, ⊎_elim, true≢false, eqb-true, eq-eqb, length-append, arith}
 use Rattle.std.specs.List.{slice_get, list_any}
 use Rattle.std.proofs.lemmas.Option.{slice_get_within, slice_get_past}
 use Rattle.entry.specs.Entry.{Entry}
@@ -7,30 +7,29 @@ use Rattle.history.specs.declared.req.Req.{Req}
 use Rattle.history.specs.declared.event.Event.{Event}
 use Rattle.history.specs.declared.event.Event.TheVariants.{Shut, Submit}
 use Rattle.model.specs.declared.request.Request.{Request}
-use Rattle.model.specs.declared.request.Stage.{Stage}
-use Rattle.model.specs.declared.request.Stage.TheVariants.{Waits, Runs, Armed, Replied, Reaped}
+use Rattle.model.specs.declared.request.Stage.TheVariants.{Waits}
 use Rattle.history.specs.History.{phase, submits, adds_to}
 use Rattle.history.specs.Legal.{Setup, MayCome, Legal, Fits}
 use Rattle.history.specs.State.{Catch, none_yet}
 use Rattle.model.specs.Machine.{Machine, setup_of}
 use Rattle.model.specs.Seen.{seen, seen_of, stage_of, stage_at}
-use Rattle.model.specs.Decides.{runs_of, is_runs}
 use Rattle.model.specs.Agrees.{Agrees, Carries, Refuses}
-use Rattle.model.specs.Moves.{is_running, runs_in, born}
+use Rattle.model.specs.Moves.{is_running, runs_of, runs_in, born}
 use Rattle.history.proofs.Requests.{bool_cases}
 use Rattle.model.proofs.NumberSearches.{any_at, any_found}
 use Rattle.model.proofs.RequestLists.{slice_get-push}
+use Rattle.model.proofs.RequestWrites.{some_at}
 use Rattle.model.proofs.Phases.{runs_from}
 use Rattle.model.proofs.RequestReading.{stage_is}
-use Rattle.model.proofs.RingWrites.{row, row_of, put_row, row_put, same_setup}
+use Rattle.model.proofs.RingWrites.{row, row_of, put_row, same_setup, rows_kept, counts_kept}
 
 -- some request of some ring runs
-row_any : (rings : List (List Request)) (i k : ℕ) (x : Request) → slice_get (row rings i) k ≡ Some x → is_runs x.stage ≡ true → list_any runs_in rings ≡ true
-row_any [] i k x is r = cc
-row_any (y ∷ ys) zero k x is r =
-    let e : runs_in y ≡ true = any_at (λ m. runs_of (slice_get y m)) (length y) k (slice_get_within y k x is) (ap runs_of is ∙ r) in rw e refl
-row_any (y ∷ ys) (suc i) k x is r =
-    let e : list_any runs_in ys ≡ true = row_any ys i k x is r in elim (runs_in y) as (λ b. (b || list_any runs_in ys) ≡ true) [ true ↦ refl | false ↦ e ]
+row_any : (rings : List (List Request)) (i k : ℕ) → runs_of (slice_get (row rings i) k) ≡ true → list_any runs_in rings ≡ true
+row_any [] i k r = absurd (true≢false (sym r))
+row_any (y ∷ ys) zero k r =
+    let x = some_at is_running refl (slice_get y k) r in let e : runs_in y ≡ true = any_at (λ m. runs_of (slice_get y m)) (length y) k (slice_get_within y k x.0 x.1) r in rw e refl
+row_any (y ∷ ys) (suc i) k r =
+    let e : list_any runs_in ys ≡ true = row_any ys i k r in elim (runs_in y) as (λ b. (b || list_any runs_in ys) ≡ true) [ true ↦ refl | false ↦ e ]
 
 any_row : (rings : List (List Request)) → list_any runs_in rings ≡ true → (i : ℕ) × (k : ℕ) × (runs_of (slice_get (row rings i) k) ≡ true)
 any_row [] w = absurd (true≢false (sym w))
@@ -39,34 +38,12 @@ any_row (y ∷ ys) w = ⊎_elim
     (λ (u : runs_in y ≡ false). let G : Bool → Type 0 = λ z. (z || list_any runs_in ys) ≡ true in let f = any_row ys (subst G u w) in (suc f.0, f.1, f.2))
     (bool_cases (runs_in y))
 
-at : (s : Stage) → is_running (Some s) ≡ true → is_runs s ≡ true
-at Runs e = refl
-at Waits e = e
-at (Armed d) e = e
-at (Replied res) e = e
-at (Reaped res) e = e
-
-runs_stage : (o : Option Request) → is_running (stage_at o) ≡ true → (x : Request) × (o ≡ Some x) × (is_runs x.stage ≡ true)
-runs_stage None e = absurd (true≢false (sym e))
-runs_stage (Some x) e = (x, refl, at x.stage e)
-
-back : (s : Stage) → is_runs s ≡ true → is_running (Some s) ≡ true
-back Runs e = refl
-back Waits e = e
-back (Armed d) e = e
-back (Replied res) e = e
-back (Reaped res) e = e
-
-stage_runs : (o : Option Request) → runs_of o ≡ true → is_running (stage_at o) ≡ true
-stage_runs None e = e
-stage_runs (Some x) e = back x.stage e
-
 pub shut_carries : (m : Machine) → m.shut ≡ false → list_any runs_in m.rings ≡ false → Carries m Shut (record m { shut = true })
 shut_carries m s none = (
   refl,
   λ h a. let may : MayCome (setup_of m) h Shut = (λ q r.
       (let w : is_running (stage_at (slice_get (row m.rings q.ring) q.k)) ≡ true = sym (ap is_running (stage_is h q.ring (row m.rings q.ring) (λ k. a.requests (record { ring = q.ring; k = k })) q.k)) ∙ ap (λ p. is_running (stage_of p)) r in
-      let x = runs_stage (slice_get (row m.rings q.ring) q.k) w in true≢false (sym (row_any m.rings q.ring q.k x.0 x.1 x.2) ∙ none))) in (
+      true≢false (sym (row_any m.rings q.ring q.k w) ∙ none))) in (
         may,
         record {
           legal = ((a.shut ∙ s, may), a.legal);
@@ -83,7 +60,7 @@ pub shut_refuses : (m : Machine) → list_any runs_in m.rings ≡ true → Refus
 shut_refuses m some = (
   refl,
   λ h a c. let f = any_row m.rings some in
-      c (record { ring = f.0; k = f.1 }) (runs_from (phase h (record { ring = f.0; k = f.1 })) (ap is_running (stage_is h f.0 (row m.rings f.0) (λ k. a.requests (record { ring = f.0; k = k })) f.1) ∙ stage_runs (slice_get (row m.rings f.0) f.1) f.2)),
+      c (record { ring = f.0; k = f.1 }) (runs_from (phase h (record { ring = f.0; k = f.1 })) (ap is_running (stage_is h f.0 (row m.rings f.0) (λ k. a.requests (record { ring = f.0; k = k })) f.1) ∙ f.2)),
 )
 
 module _ (m : Machine) (i : ℕ) (e : Entry) (bytes : List ℕ) (last : Bool) where
@@ -119,19 +96,10 @@ module _ (m : Machine) (i : ℕ) (e : Entry) (bytes : List ℕ) (last : Bool) wh
       may,
       record {
         legal = subst (λ (z : Setup). Legal z (Submit r e bytes last ∷ h)) (sym (same_setup m i after)) ((a.shut ∙ s, may), a.legal);
-        requests = λ q. ⊎_elim
-            (λ (w : (i == q.ring) ≡ true). let one : i ≡ q.ring = eqb-true i q.ring w in let name : record { ring = i; k = q.k } ≡ q = λ j. record { ring = one j; k = q.k } in
-            sym (ap (seen (Submit r e bytes last ∷ h)) name) ∙ own h a q.k ∙ sym (ap (λ (z : List Request). seen_of (slice_get z q.k)) (row_put m.rings i q.ring after lt ∙ ap (λ b. cond b after (row m.rings q.ring)) w)))
-            (λ (w : (i == q.ring) ≡ false). (rw w refl) ∙ a.requests q ∙ sym (ap (λ (z : List Request). seen_of (slice_get z q.k)) (row_put m.rings i q.ring after lt ∙ ap (λ b. cond b after (row m.rings q.ring)) w)))
-            (bool_cases (i == q.ring));
-        counts = λ j. ⊎_elim
-            (λ (w : (i == j) ≡ true). let one : i ≡ j = eqb-true i j w in
-            let n : adds_to (Submit r e bytes last) j ≡ 1 = ap (λ (b : Bool). let n : ℕ = cond b 1 0 in n) w in let c = a.counts j in let c' : length (row m.rings i) ≡ length (row m.rings j) = ap (λ z. length (row m.rings z)) one in
-            let l = length-append xs (born e bytes last ∷ []) in
-            let t : submits (Submit r e bytes last ∷ h) j ≡ length after = omega arith in t ∙ sym (ap length (row_put m.rings i j after lt ∙ ap (λ b. cond b after (row m.rings j)) w)))
-            (λ (w : (i == j) ≡ false). let n : adds_to (Submit r e bytes last) j ≡ 0 = ap (λ (b : Bool). let n : ℕ = cond b 1 0 in n) w in let c = a.counts j in
-            let t : submits (Submit r e bytes last ∷ h) j ≡ length (row m.rings j) = omega arith in t ∙ sym (ap length (row_put m.rings i j after lt ∙ ap (λ b. cond b after (row m.rings j)) w)))
-            (bool_cases (i == j));
+        requests = rows_kept m h a i (Submit r e bytes last) after lt (own h a) (λ q w. rw w refl);
+        counts = counts_kept m h a i (Submit r e bytes last) after lt
+            (let n : adds_to (Submit r e bytes last) i ≡ 1 = ap (λ (b : Bool). let n : ℕ = cond b 1 0 in n) (eq-eqb i i refl) in let c = a.counts i in let l = length-append xs (born e bytes last ∷ []) in omega arith)
+            (λ j w. let n : adds_to (Submit r e bytes last) j ≡ 0 = ap (λ (b : Bool). let n : ℕ = cond b 1 0 in n) w in omega arith);
         pipes = a.pipes;
         clock = a.clock;
         shut = a.shut;

@@ -1,18 +1,14 @@
 -- What a cancel means and what it replies, by what it has come to so far.
-use Rattle.std.specs.Prelude.{ℕ, ◌==◌, ◌&&◌, not, nat_lt, Bool, false, cond, ℤ, pos, negsuc, List, [], length, Option, Some, None, slice_get}
+use Rattle.std.specs.Prelude.{ℕ, ◌==◌, ◌&&◌, not, nat_lt, Bool, false, cond, pos, negsuc, List, [], length, Option, Some, None, slice_get}
 use Rattle.std.specs.List.{list_any}
 use Rattle.entry.specs.Entry.{Entry}
 use Rattle.entry.specs.declared.op.Op.{Op}
 use Rattle.model.specs.declared.request.Request.{Request}
-use Rattle.history.specs.State.{Catch, none_yet}
+use Rattle.history.specs.State.{Catch}
 use Rattle.history.specs.Answers.{Answer, now, later, is_all}
-use Rattle.model.specs.Seen.{stage_at, placed_in}
+use Rattle.model.specs.Seen.{stage_at, found_in, placed_in}
 use Rattle.model.specs.Decides.{any_below, wanted}
 use Rattle.model.specs.Moves.{is_running, is_idle}
-
-abbrev pub found_in : Option Request → Catch
-found_in None = none_yet
-found_in (Some x) = x.found
 
 -- it has ended none, and found none running
 abbrev pub is_none : Catch → Bool
@@ -44,25 +40,17 @@ may_take xs c t = comes_upon xs c t && is_idle (stage_at (slice_get xs t))
 abbrev pub may_miss : List Request → ℕ → ℕ → Bool
 may_miss xs c t = comes_upon xs c t && is_running (stage_at (slice_get xs t))
 
--- of a cancel of all its matches, where one is left that it has not tried, or none
-abbrev pub all_reply : Catch → Bool → Option ℤ
-all_reply x left = cond left None (Some (pos x.ended))
+-- of a cancel of all its matches, where one is left that it has not tried, or none. A reply comes with no data
+abbrev pub answer_all : Catch → Bool → Answer
+answer_all x left = cond left later (now (pos x.ended) [])
 
 -- of one of a single target, where a match is left, or none
-abbrev pub one_reply : Catch → Bool → Option ℤ
-one_reply x left = cond (nat_lt 0 x.ended) (Some (pos 0)) (cond (is_none x) (cond left None (Some (negsuc 1))) (Some (negsuc 113)))
+abbrev pub answer_one : Catch → Bool → Answer
+answer_one x left = cond (nat_lt 0 x.ended) (now (pos 0) []) (cond (is_none x) (cond left later (now (negsuc 1) [])) (now (negsuc 113) []))
 
-abbrev pub reply_by : Bool → List Request → ℕ → Op → Catch → Option ℤ
-reply_by all xs k op x = cond all (all_reply x (any_below (untried xs op x) k)) (one_reply x (any_below (wanted xs op) k))
+abbrev pub answer_cancel : Bool → List Request → ℕ → Op → Catch → Answer
+answer_cancel all xs k op x = cond all (answer_all x (any_below (untried xs op x) k)) (answer_one x (any_below (wanted xs op) k))
 
--- what the cancel k of this operation replies now
-abbrev pub cancel_reply : List Request → ℕ → Op → Option ℤ
-cancel_reply xs k op = reply_by (is_all op) xs k op (found_in (slice_get xs k))
-
--- as an answer: it comes with no data
-abbrev pub answer_by_reply : Option ℤ → Answer
-answer_by_reply None = later
-answer_by_reply (Some res) = now res []
-
+-- what the cancel k of this operation is answered now
 abbrev pub cancel_answer : List Request → ℕ → Op → Answer
-cancel_answer xs k op = answer_by_reply (cancel_reply xs k op)
+cancel_answer xs k op = answer_cancel (is_all op) xs k op (found_in (slice_get xs k))

@@ -3,8 +3,6 @@ use Rattle.std.specs.Prelude.{◌≡◌, ◌∷◌, ℕ, zero, suc, ◌==◌, �
 use Rattle.entry.specs.Entry.{Entry, drains}
 use Rattle.entry.specs.declared.op.Op.{Op}
 use Rattle.model.specs.declared.request.Request.{Request}
-use Rattle.model.specs.declared.request.Stage.{Stage}
-use Rattle.model.specs.declared.request.Stage.TheVariants.{Waits, Runs, Armed, Replied, Reaped}
 use Rattle.history.specs.Chains.{joins, severs}
 use Rattle.history.specs.Answers.{asks_for}
 use Rattle.model.specs.Seen.{is_pending, reply_at, handed_in, placed_in}
@@ -63,17 +61,6 @@ asked_for op (Some e) = asks_for op e
 -- it was not answered, and a cancel of this operation means it
 abbrev pub wanted : List Request → Op → ℕ → Bool
 wanted xs op m = pending_of (slice_get xs m) && asked_for op (placed_in xs m)
-
-abbrev pub is_runs : Stage → Bool
-is_runs Runs = true
-is_runs Waits = false
-is_runs (Armed d) = false
-is_runs (Replied res) = false
-is_runs (Reaped res) = false
-
-abbrev pub runs_of : Option Request → Bool
-runs_of None = false
-runs_of (Some x) = is_runs x.stage
 
 -- the number stands in the list
 abbrev pub lists : List ℕ → ℕ → Bool

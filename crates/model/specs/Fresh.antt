@@ -1,6 +1,5 @@
 -- A state in which nothing has happened yet.
-use Rattle.std.specs.Prelude.{ℕ, false, List, [], map, replicate, Option, Some, None}
-use Rattle.model.specs.declared.request.Request.{Request}
+use Rattle.std.specs.Prelude.{ℕ, false, List, [], map, replicate}
 use Rattle.model.specs.Content.{Content}
 use Rattle.model.specs.Machine.{Machine}
 
@@ -9,8 +8,3 @@ empty_pipe cap = record { cap = cap; bytes = []; read_shut = false; write_shut =
 
 abbrev pub fresh : ℕ → List ℕ → Machine
 fresh rings caps = record { rings = replicate rings []; pipes = map empty_pipe caps; clock = 0; shut = false }
-
--- the data of a request
-abbrev pub taken_in : Option Request → List ℕ
-taken_in None = []
-taken_in (Some x) = x.taken

@@ -1,9 +1,8 @@
 -- What is kept of a run: the requests of each ring, the pipes, the clock, and whether it is shut.
 use Rattle.std.specs.Prelude.{ℕ, Bool, List, length}
 use Rattle.model.specs.declared.request.Request.{Request}
-use Rattle.model.specs.Content.{Content}
+use Rattle.model.specs.Content.{Content, caps_of}
 use Rattle.history.specs.Legal.{Setup}
-use Rattle.model.specs.Tells.{caps_of}
 
 pub record Machine : Type 0 where
   pub rings : List (List Request)

@@ -9,8 +9,8 @@ use Rattle.model.specs.declared.request.Stage.TheVariants.{Waits, Runs, Armed, R
 use Rattle.history.specs.Chains.{is_timer, is_timeout, is_link_timeout, is_link_timeout_in}
 use Rattle.history.specs.Legal.{ticks_of, count_of}
 use Rattle.history.specs.State.{Catch, none_yet}
-use Rattle.model.specs.Seen.{is_pending, stage_at, placed_in}
-use Rattle.model.specs.Decides.{runs_of, pending_of, severed_in, clear_in, any_below}
+use Rattle.model.specs.Seen.{is_pending, stage_at, fired_of, placed_in}
+use Rattle.model.specs.Decides.{pending_of, severed_in, clear_in, any_below}
 
 abbrev pub put_at : List Request → ℕ → (Request → Request) → Option Request → List Request
 put_at xs k f None = xs
@@ -76,10 +76,6 @@ is_replied _ = false
 abbrev pub is_answered : Option Stage → Bool
 is_answered None = false
 is_answered (Some s) = not (is_pending s)
-
-abbrev pub fired_of : Option Request → Bool
-fired_of None = false
-fired_of (Some x) = x.fired
 
 -- -125, -62 and 0
 abbrev pub cancelled : Stage
@@ -156,6 +152,9 @@ may_settle xs l = (is_armed (stage_at (slice_get xs l)) && placed_as is_link_tim
 
 abbrev pub put_settled : List Request → ℕ → List Request
 put_settled xs l = put xs l (λ x. record x { stage = cond x.fired timed_out cancelled })
+
+abbrev pub runs_of : Option Request → Bool
+runs_of o = is_running (stage_at o)
 
 -- some request of the ring runs
 abbrev pub runs_in : List Request → Bool

@@ -48,11 +48,6 @@ seen h q = record { handed = submission h q; stage = stage_of (phase h q); found
 abbrev pub handed_of : Request → Submission
 handed_of x = record { entry = x.sqe; bytes = x.bytes; last = x.last }
 
--- as it is kept
-abbrev pub seen_of : Option Request → Seen
-seen_of None = record { handed = None; stage = None; found = none_yet; fired = false; taken = [] }
-seen_of (Some x) = record { handed = Some (handed_of x); stage = Some x.stage; found = x.found; fired = x.fired; taken = x.taken }
-
 abbrev pub handed_at : Option Request → Option Submission
 handed_at None = None
 handed_at (Some x) = Some (handed_of x)
@@ -60,6 +55,23 @@ handed_at (Some x) = Some (handed_of x)
 abbrev pub stage_at : Option Request → Option Stage
 stage_at None = None
 stage_at (Some x) = Some x.stage
+
+abbrev pub found_in : Option Request → Catch
+found_in None = none_yet
+found_in (Some x) = x.found
+
+abbrev pub fired_of : Option Request → Bool
+fired_of None = false
+fired_of (Some x) = x.fired
+
+-- the data that came with its reply
+abbrev pub taken_in : Option Request → List ℕ
+taken_in None = []
+taken_in (Some x) = x.taken
+
+-- as it is kept
+abbrev pub seen_of : Option Request → Seen
+seen_of o = record { handed = handed_at o; stage = stage_at o; found = found_in o; fired = fired_of o; taken = taken_in o }
 
 -- the requests of a ring, by number
 abbrev pub handed_in : List Request → ℕ → Option Submission

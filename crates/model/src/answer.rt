@@ -1,102 +1,112 @@
-//! Which replies the table of answers allows, cancels apart.
-ghost use Rattle.std.specs.Prelude.{◌≡◌, length};
-ghost use Rattle.history.specs.Pipes.{end_of};
-ghost use Rattle.history.specs.Answers.{read_from, write_to, splice_of, close_of, poll_of};
-ghost use Rattle.model.specs.Reaches.{reached, IsWithin};
-ghost use Rattle.model.specs.Tells.{tells, caps_of, flow_in, op_answer};
+//! What each operation comes to: the table of answers.
+ghost use Rattle.std.specs.Prelude.{◌≡◌, ◌<◌, true, Some, slice_get};
+ghost use Rattle.entry.specs.Table.{fits_op};
+ghost use Rattle.history.specs.Answers.{read_from, write_to, close_of, poll_of};
+ghost use Rattle.model.specs.Content.{caps_of, flow_in};
+ghost use Rattle.model.specs.Ends.{end_as};
+ghost use Rattle.model.specs.Ready.{answer_as};
+ghost use Rattle.model.specs.Answers.{op_answer, answer_in};
 
-use crate::errno::INVALID;
-use crate::pipe::{Pipe, tells_bad_end, tells_number};
-use crate::splice::splice_now;
+use crate::ends::{NamedEnd, named_end};
+use crate::errno::{BAD_END, INVALID};
+use crate::pipe::Pipe;
+use crate::ready::Ready;
+use crate::request::{Request, Stage};
+use crate::ring::Ring;
+use crate::splice::splice_at;
 use entry::{Op, by_opcode};
 
-/// The end of a pipe that is there.
-#[derive(Clone, Copy)]
-pub enum Reached {
-    Nothing,
-    Read(usize),
-    Write(usize),
+macro_rules! work_now {
+    ((plain nothing) $args:tt) => { Ready::Now(0) };
+    ((plain invalid) $args:tt) => { Ready::Now(INVALID) };
+    ((pipe read $fd:ident $len:ident) ($ring:ident, $pipes:ident, $k:ident, $request:ident, $op:ident)) => { read_at($pipes, named_end($fd), $len) };
+    ((pipe write $fd:ident $len:ident) ($ring:ident, $pipes:ident, $k:ident, $request:ident, $op:ident)) => { write_at($pipes, named_end($fd), $len) };
+    ((pipe splice $fd_in:ident $fd_out:ident $len:ident) ($ring:ident, $pipes:ident, $k:ident, $request:ident, $op:ident)) => { splice_at($pipes, named_end($fd_in), named_end($fd_out), $len) };
+    ((pipe close $fd:ident) ($ring:ident, $pipes:ident, $k:ident, $request:ident, $op:ident)) => { close_at($pipes, named_end($fd)) };
+    ((pipe poll $fd:ident $mask:ident) ($ring:ident, $pipes:ident, $k:ident, $request:ident, $op:ident)) => { poll_at($pipes, named_end($fd), $mask) };
+    ((timer $kind:ident $ticks:ident) $args:tt) => { Ready::Wait };
+    ((cancel $kind:ident $($field:ident)*) ($ring:ident, $pipes:ident, $k:ident, $request:ident, $op:ident)) => { $ring.cancel_now($k, $request, $op) };
 }
 
-/// The end that `fd` names, among so many pipes.
-pub fn reach(fd: i32, pipes: usize) -> Reached
-    ensures end { result ≡ reached fd pipes }
-    ensures within { IsWithin result pipes }
+/// What the running request `k` with this operation comes to.
+fn op_now(ring: &Ring, pipes: &[Pipe], k: u64, request: &Request, op: Op) -> Ready
+    requires here { slice_get ring.now k ≡ Some request.now }
+    requires fits { fits_op op ≡ true }
+    ensures { answer_as pipes.now result ≡ op_answer pipes.now ring.now k op }
 {
-    if fd < 0 {
-        return Reached::Nothing;
-    }
-    let n = fd.unsigned_abs() as usize;
-    let p = n / 2;
-    if p >= pipes {
-        return Reached::Nothing;
-    }
-    if n % 2 == 0 {
-        Reached::Read(p)
-    } else {
-        Reached::Write(p)
-    }
+    by_opcode!(op => work_now!(ring, pipes, k, request, op))
 }
 
-macro_rules! answers_work {
-    ((plain nothing) ($pipes:ident, $res:ident, $bytes:ident)) => { tells_number(0, $res, $bytes) };
-    ((plain invalid) ($pipes:ident, $res:ident, $bytes:ident)) => { $res == INVALID && $bytes.is_empty() };
-    ((pipe read $fd:ident $len:ident) ($pipes:ident, $res:ident, $bytes:ident)) => { answers_read($pipes, $fd, $len, $res, $bytes) };
-    ((pipe write $fd:ident $len:ident) ($pipes:ident, $res:ident, $bytes:ident)) => { answers_write($pipes, $fd, $len, $res, $bytes) };
-    ((pipe splice $fd_in:ident $fd_out:ident $len:ident) ($pipes:ident, $res:ident, $bytes:ident)) => { answers_splice($pipes, $fd_in, $fd_out, $len, $res, $bytes) };
-    ((pipe close $fd:ident) ($pipes:ident, $res:ident, $bytes:ident)) => { answers_close($pipes, $fd, $res, $bytes) };
-    ((pipe poll $fd:ident $mask:ident) ($pipes:ident, $res:ident, $bytes:ident)) => { answers_poll($pipes, $fd, $mask, $res, $bytes) };
-    ((timer $kind:ident $ticks:ident) $args:tt) => { false };
-    ((cancel $kind:ident $($field:ident)*) $args:tt) => { false };
-}
-
-/// The reply answers this operation now.
-pub fn answers(pipes: &[Pipe], op: Op, res: i32, bytes: &[u8]) -> bool
-    ensures { result ≡ tells (op_answer (caps_of pipes.now) (flow_in pipes.now) op) res bytes.now }
-{
-    by_opcode!(op => answers_work!(pipes, res, bytes))
-}
-
-fn answers_read(pipes: &[Pipe], fd: i32, len: u32, res: i32, bytes: &[u8]) -> bool
-    ensures { result ≡ tells (read_from (caps_of pipes.now) (flow_in pipes.now) (end_of fd) len) res bytes.now }
-{
-    match reach(fd, pipes.len()) {
-        Reached::Read(p) => pipes[p].tells_read(len, res, bytes),
-        _ => tells_bad_end(res, bytes),
+impl Ring {
+    /// What the request comes to, where it runs.
+    pub fn now(&self, pipes: &[Pipe], k: u64) -> Ready
+        ensures { answer_as pipes.now result ≡ answer_in pipes.now self.now k }
+    {
+        let Some(request) = self.get(k) else {
+            return Ready::Wait;
+        };
+        if request.stage != Stage::Runs {
+            return Ready::Wait;
+        }
+        let _row = request.sqe.row();
+        op_now(self, pipes, k, request, self.op(k as usize))
     }
 }
 
-fn answers_write(pipes: &[Pipe], fd: i32, len: u32, res: i32, bytes: &[u8]) -> bool
-    ensures { result ≡ tells (write_to (caps_of pipes.now) (flow_in pipes.now) (end_of fd) len) res bytes.now }
+fn read_at(pipes: &[Pipe], end: NamedEnd, len: u32) -> Ready
+    requires { len < 2147483648 }
+    ensures { answer_as pipes.now result ≡ read_from (caps_of pipes.now) (flow_in pipes.now) (end_as end) len }
 {
-    match reach(fd, pipes.len()) {
-        Reached::Write(p) => pipes[p].tells_write(len, res, bytes),
-        _ => tells_bad_end(res, bytes),
+    match end {
+        NamedEnd::Read(p) => match pipes.get(p) {
+            Some(pipe) => pipe.read(p, len),
+            None => Ready::Now(BAD_END),
+        },
+        NamedEnd::Write(_) | NamedEnd::Nothing => Ready::Now(BAD_END),
     }
 }
 
-fn answers_splice(pipes: &[Pipe], fd_in: i32, fd_out: i32, len: u32, res: i32, bytes: &[u8]) -> bool
-    ensures { result ≡ tells (splice_of (caps_of pipes.now) (flow_in pipes.now) (end_of fd_in) (end_of fd_out) len) res bytes.now }
+fn write_at(pipes: &[Pipe], end: NamedEnd, len: u32) -> Ready
+    requires { len < 2147483648 }
+    ensures { answer_as pipes.now result ≡ write_to (caps_of pipes.now) (flow_in pipes.now) (end_as end) len }
 {
-    splice_now(pipes, fd_in, fd_out, len).tells(res, bytes)
-}
-
-fn answers_close(pipes: &[Pipe], fd: i32, res: i32, bytes: &[u8]) -> bool
-    ensures { result ≡ tells (close_of (caps_of pipes.now) (flow_in pipes.now) (end_of fd)) res bytes.now }
-{
-    match reach(fd, pipes.len()) {
-        Reached::Nothing => tells_bad_end(res, bytes),
-        Reached::Read(p) => pipes[p].tells_close_read(res, bytes),
-        Reached::Write(p) => pipes[p].tells_close_write(res, bytes),
+    match end {
+        NamedEnd::Write(p) => match pipes.get(p) {
+            Some(pipe) => pipe.write(len),
+            None => Ready::Now(BAD_END),
+        },
+        NamedEnd::Read(_) | NamedEnd::Nothing => Ready::Now(BAD_END),
     }
 }
 
-fn answers_poll(pipes: &[Pipe], fd: i32, mask: u32, res: i32, bytes: &[u8]) -> bool
-    ensures { result ≡ tells (poll_of (caps_of pipes.now) (flow_in pipes.now) (end_of fd) mask) res bytes.now }
+fn close_at(pipes: &[Pipe], end: NamedEnd) -> Ready
+    ensures { answer_as pipes.now result ≡ close_of (caps_of pipes.now) (flow_in pipes.now) (end_as end) }
 {
-    match reach(fd, pipes.len()) {
-        Reached::Nothing => tells_bad_end(res, bytes),
-        Reached::Read(p) => pipes[p].tells_poll_read(mask, res, bytes),
-        Reached::Write(p) => pipes[p].tells_poll_write(mask, res, bytes),
+    match end {
+        NamedEnd::Read(p) => match pipes.get(p) {
+            Some(pipe) => pipe.close_read(),
+            None => Ready::Now(BAD_END),
+        },
+        NamedEnd::Write(p) => match pipes.get(p) {
+            Some(pipe) => pipe.close_write(),
+            None => Ready::Now(BAD_END),
+        },
+        NamedEnd::Nothing => Ready::Now(BAD_END),
+    }
+}
+
+fn poll_at(pipes: &[Pipe], end: NamedEnd, mask: u32) -> Ready
+    ensures { answer_as pipes.now result ≡ poll_of (caps_of pipes.now) (flow_in pipes.now) (end_as end) mask }
+{
+    match end {
+        NamedEnd::Read(p) => match pipes.get(p) {
+            Some(pipe) => pipe.poll_read(mask),
+            None => Ready::Now(BAD_END),
+        },
+        NamedEnd::Write(p) => match pipes.get(p) {
+            Some(pipe) => pipe.poll_write(mask),
+            None => Ready::Now(BAD_END),
+        },
+        NamedEnd::Nothing => Ready::Now(BAD_END),
     }
 }

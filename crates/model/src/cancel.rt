@@ -1,12 +1,15 @@
-//! What a cancel's events make of the requests of a ring, and what it replies.
-ghost use Rattle.std.specs.Prelude.{◌≡◌, ◌<◌, true, cond, length, IfOk, OnErr};
+//! What a cancel's events make of the requests of a ring, and what it comes to.
+ghost use Rattle.std.specs.Prelude.{◌≡◌, ◌<◌, true, cond, length, List, Some, slice_get, IfOk, OnErr};
 ghost use Rattle.history.specs.State.{with_took, with_missed};
 ghost use Rattle.model.specs.Moves.{put_stage, put_found, cancelled};
-ghost use Rattle.model.specs.Cancels.{comes_upon, may_take, may_miss, cancel_reply};
+ghost use Rattle.model.specs.Content.{Content};
+ghost use Rattle.model.specs.Ready.{answer_as};
+ghost use Rattle.model.specs.Cancels.{comes_upon, may_take, may_miss, cancel_answer};
 
 use crate::errno::{ALREADY, CANCELLED, NOT_FOUND};
 use crate::kind::is_all;
-use crate::request::Stage;
+use crate::ready::Ready;
+use crate::request::{Request, Stage};
 use crate::ring::Ring;
 use entry::Op;
 use std::alloc::AllocError;
@@ -14,15 +17,17 @@ use std::alloc::AllocError;
 impl Ring {
     /// The cancel runs and means `target`: one of all its matches where that has not escaped it, another one where that is
     /// the first, and as long as it has done nothing.
-    #[tactic(auto, using(crate::proofs::RequestWrites::stage_within))]
     fn comes_upon(&self, cancel: u64, target: u64) -> bool
-        ensures { result ≡ comes_upon self.now cancel target }
+        ensures comes { result ≡ comes_upon self.now cancel target }
+        ensures within { result ≡ true → cancel < length self.now }
     {
-        if !matches!(self.stage(cancel), Some(Stage::Runs)) {
+        let Some(request) = self.get(cancel) else {
+            return false;
+        };
+        if request.stage != Stage::Runs {
             return false;
         }
-        let op = self.op(cancel as usize);
-        let found = self.found(cancel as usize);
+        let (op, found) = (self.op(cancel as usize), &request.found);
         if target >= cancel || !self.is_wanted(op, target) {
             return false;
         }
@@ -34,16 +39,17 @@ impl Ring {
     }
 
     /// Nothing changes where memory is wanting.
-    #[tactic(auto, using(crate::proofs::RequestWrites::stage_within, crate::proofs::RequestWrites::found_length))]
+    #[tactic(auto, using(crate::proofs::RequestWrites::found_length))]
     pub fn take(&mut self, cancel: u64, target: u64) -> Result<bool, AllocError>
         ensures may { IfOk result (λ done. done ≡ may_take self.old cancel target) }
         ensures after { IfOk result (λ done. self.new ≡ cond done (put_stage (put_found self.old cancel with_took) target cancelled) self.old) }
         ensures wanting { OnErr result (may_take self.old cancel target ≡ true) }
         ensures same { OnErr result (self.new ≡ self.old) }
     {
-        if !self.comes_upon(cancel, target)
-            || !matches!(self.stage(target), Some(Stage::Waits | Stage::Armed(_)))
-        {
+        let Some(request) = self.get(target) else {
+            return Ok(false);
+        };
+        if !request.stage.is_idle() || !self.comes_upon(cancel, target) {
             return Ok(false);
         }
         self.add_ended(cancel as usize)?;
@@ -52,41 +58,43 @@ impl Ring {
     }
 
     /// Nothing changes where memory is wanting.
-    #[tactic(auto, using(crate::proofs::RequestWrites::stage_within))]
     pub fn miss(&mut self, cancel: u64, target: u64) -> Result<bool, AllocError>
         ensures may { IfOk result (λ done. done ≡ may_miss self.old cancel target) }
         ensures after { IfOk result (λ done. self.new ≡ cond done (put_found self.old cancel (with_missed target)) self.old) }
         ensures wanting { OnErr result (may_miss self.old cancel target ≡ true) }
         ensures same { OnErr result (self.new ≡ self.old) }
     {
-        if !self.comes_upon(cancel, target) || !matches!(self.stage(target), Some(Stage::Runs)) {
+        let Some(request) = self.get(target) else {
+            return Ok(false);
+        };
+        if request.stage != Stage::Runs || !self.comes_upon(cancel, target) {
             return Ok(false);
         }
         self.add_escaped(cancel as usize, target)?;
         Ok(true)
     }
 
-    /// What the cancel `k` of this operation replies now, if it has a reply.
-    pub fn cancel_reply(&self, k: usize, op: Op) -> Option<i32>
-        requires { k < length self.now }
-        ensures { result ≡ cancel_reply self.now k op }
+    /// What the cancel `k` of this operation comes to.
+    pub fn cancel_now(&self, k: u64, request: &Request, op: Op) -> Ready
+        requires { slice_get self.now k ≡ Some request.now }
+        ensures { (ps : List Content) → answer_as ps result ≡ cancel_answer self.now k op }
     {
-        let found = self.found(k);
+        let found = &request.found;
         if is_all(op) {
-            if self.any_untried(op, found, k as u64) {
-                return None;
+            if self.any_untried(op, found, k) {
+                return Ready::Wait;
             }
-            return Some(found.ended());
+            return Ready::Now(found.ended());
         }
         if found.has_ended() {
-            return Some(0);
+            return Ready::Now(0);
         }
         if !found.is_none() {
-            return Some(ALREADY);
+            return Ready::Now(ALREADY);
         }
-        if self.any_wanted(op, k as u64) {
-            return None;
+        if self.any_wanted(op, k) {
+            return Ready::Wait;
         }
-        Some(NOT_FOUND)
+        Ready::Now(NOT_FOUND)
     }
 }

@@ -3,7 +3,6 @@ ghost use Rattle.std.specs.Prelude.{◌≡◌};
 ghost use Rattle.history.specs.Chains.{is_timeout};
 ghost use Rattle.history.specs.Answers.{is_all};
 ghost use Rattle.history.specs.Legal.{ticks_of, count_of};
-ghost use Rattle.model.specs.Replies.{is_cancel};
 
 use entry::{Op, by_opcode};
 
@@ -47,13 +46,6 @@ macro_rules! goes_for_all {
     ((timer $kind:ident $ticks:ident) ()) => { false };
 }
 
-macro_rules! is_search {
-    ((cancel $kind:ident $($field:ident)*) ()) => { true };
-    ((plain $kind:ident) ()) => { false };
-    ((pipe $kind:ident $($field:ident)*) ()) => { false };
-    ((timer $kind:ident $ticks:ident) ()) => { false };
-}
-
 /// It is a timer of its own.
 pub fn is_timeout(op: Op) -> bool
     ensures { result ≡ is_timeout op }
@@ -73,13 +65,6 @@ pub fn count_of(op: Op) -> u32
     ensures { result ≡ count_of op }
 {
     by_opcode!(count_of_row!(op))
-}
-
-/// It looks for another request.
-pub fn is_cancel(op: Op) -> bool
-    ensures { result ≡ is_cancel op }
-{
-    by_opcode!(op => is_search!())
 }
 
 /// It cancels each request that it means, and not the first alone.

@@ -2,11 +2,11 @@
 #![tactic(auto)]
 
 mod answer;
-mod answering;
 mod asked;
 mod cancel;
 mod chain;
 mod copy;
+mod ends;
 mod errno;
 pub mod error;
 mod found;
@@ -16,6 +16,7 @@ pub mod object;
 mod past;
 mod pipe;
 mod reads;
+mod ready;
 mod reply;
 mod request;
 mod ring;

@@ -1,7 +1,6 @@
 //! What the events make of the requests of a ring.
-ghost use Rattle.std.specs.Prelude.{◌≡◌, ◌<◌, cond, length, slice_get};
-ghost use Rattle.model.specs.declared.request.Stage.TheVariants.{Waits, Runs, Armed, Replied, Reaped};
-ghost use Rattle.model.specs.Seen.{stage_at};
+ghost use Rattle.std.specs.Prelude.{◌≡◌, ◌<◌, cond, length};
+ghost use Rattle.model.specs.declared.request.Stage.TheVariants.{Waits, Runs, Replied, Reaped};
 ghost use Rattle.model.specs.Moves.{put_stage, put_reaped, may_begin, may_park, may_sever, may_reap, may_cut, open_in, cancelled};
 
 use crate::errno::CANCELLED;
@@ -10,13 +9,6 @@ use crate::request::Stage;
 use crate::ring::Ring;
 
 impl Ring {
-    /// Where the request stands, if it was submitted.
-    pub fn stage(&self, k: u64) -> Option<Stage>
-        ensures { result ≡ stage_at (slice_get self.now k) }
-    {
-        Some(self.get(k)?.stage)
-    }
-
     /// Its chain and the drains let it start. The place of a LINK_TIMEOUT's target decides for it.
     pub fn is_open(&self, k: usize) -> bool
         requires { k < length self.now }
@@ -29,67 +21,72 @@ impl Ring {
         }
     }
 
-    #[tactic(auto, using(crate::proofs::RequestWrites::stage_within))]
     pub fn begin(&mut self, k: u64) -> bool
         ensures may { result ≡ may_begin self.old k }
         ensures after { self.new ≡ cond result (put_stage self.old k Runs) self.old }
     {
-        if !matches!(self.stage(k), Some(Stage::Waits)) {
+        let Some(request) = self.get(k) else {
             return false;
-        }
+        };
         let k = k as usize;
-        if !self.is_open(k) || ticks_of(self.op(k)).is_some() {
+        if request.stage != Stage::Waits || !self.is_open(k) || ticks_of(self.op(k)).is_some() {
             return false;
         }
         self.set_stage(k, Stage::Runs);
         true
     }
 
-    #[tactic(auto, using(crate::proofs::RequestWrites::stage_within))]
     pub fn park(&mut self, k: u64) -> bool
         ensures may { result ≡ may_park self.old k }
         ensures after { self.new ≡ cond result (put_stage self.old k Waits) self.old }
     {
-        if !matches!(self.stage(k), Some(Stage::Runs)) {
+        let Some(request) = self.get(k) else {
+            return false;
+        };
+        if request.stage != Stage::Runs {
             return false;
         }
         self.set_stage(k as usize, Stage::Waits);
         true
     }
 
-    #[tactic(auto, using(crate::proofs::RequestWrites::stage_within))]
     pub fn sever(&mut self, k: u64) -> bool
         ensures may { result ≡ may_sever self.old k }
         ensures after { self.new ≡ cond result (put_stage self.old k cancelled) self.old }
     {
-        if !matches!(self.stage(k), Some(Stage::Waits)) || !self.is_severed(k as usize) {
+        let Some(request) = self.get(k) else {
+            return false;
+        };
+        if request.stage != Stage::Waits || !self.is_severed(k as usize) {
             return false;
         }
         self.set_stage(k as usize, Stage::Replied(CANCELLED));
         true
     }
 
-    #[tactic(auto, using(crate::proofs::RequestWrites::stage_within, crate::proofs::RequestWrites::put_reaped_is))]
+    #[tactic(auto, using(crate::proofs::RequestWrites::put_reaped_is))]
     pub fn reap(&mut self, k: u64) -> bool
         ensures may { result ≡ may_reap self.old k }
         ensures after { self.new ≡ cond result (put_reaped self.old k) self.old }
     {
-        let Some(Stage::Replied(res)) = self.stage(k) else {
+        let Some(request) = self.get(k) else {
+            return false;
+        };
+        let Stage::Replied(res) = request.stage else {
             return false;
         };
         self.set_stage(k as usize, Stage::Reaped(res));
         true
     }
 
-    #[tactic(auto, using(crate::proofs::RequestWrites::stage_within))]
     pub fn cut(&mut self, k: u64) -> bool
         ensures may { result ≡ may_cut self.old k }
         ensures after { self.new ≡ cond result (put_stage self.old k cancelled) self.old }
     {
-        let Some(stage) = self.stage(k) else {
+        let Some(request) = self.get(k) else {
             return false;
         };
-        if !stage.is_pending() {
+        if !request.stage.is_pending() {
             return false;
         }
         self.set_stage(k as usize, Stage::Replied(CANCELLED));

@@ -1,8 +1,8 @@
 //! What a request has replied.
-ghost use Rattle.std.specs.Prelude.{◌≡◌, ◌≤◌, ⊤, None, Some, ℤ, IfOk, MatchOption, length, replicate, map, take, []};
-ghost use Rattle.model.specs.Seen.{find};
+ghost use Rattle.std.specs.Prelude.{◌≡◌, ⊤, None, Some, ℤ, IfOk, MatchOption, replicate, map, []};
+ghost use Rattle.model.specs.Seen.{find, taken_in};
 ghost use Rattle.model.specs.Decides.{reply_in_of};
-ghost use Rattle.model.specs.Fresh.{taken_in, fresh, empty_pipe};
+ghost use Rattle.model.specs.Fresh.{fresh, empty_pipe};
 
 use crate::pipe::Pipe;
 use crate::ring::Ring;

@@ -1,19 +1,19 @@
 //! The answers that workers give, and what they make of the pipes.
-ghost use Rattle.std.specs.Prelude.{◌≡◌, ◌<◌, false, true, length, take, Some, None, slice_get, IfOk, OnOk, OnErr, MatchOption};
+ghost use Rattle.std.specs.Prelude.{◌≡◌, ◌<◌, false, length, Some, None, slice_get, IfOk, OnOk, OnErr};
 ghost use Rattle.entry.specs.declared.op.Op.{Op};
-ghost use Rattle.model.specs.Agrees.{Decided, MayFollow};
 ghost use Rattle.history.specs.declared.event.Event.TheVariants.{Reply};
-ghost use Rattle.history.specs.Pipes.{size};
-ghost use Rattle.model.specs.Reaches.{reached};
-ghost use Rattle.model.specs.Seen.{stage_at, placed_in, handed_in, with_op};
-ghost use Rattle.model.specs.Moves.{is_running};
-ghost use Rattle.model.specs.Tells.{tells};
-ghost use Rattle.model.specs.Cancels.{cancel_answer};
-ghost use Rattle.model.specs.Replies.{is_cancel, op_replies, may_reply, put_reply, bytes_in, taken_from, put_into, shut_at, given_in, moved_over, moved};
+ghost use Rattle.history.specs.Pipes.{given_at};
+ghost use Rattle.history.specs.Answers.{now};
+ghost use Rattle.model.specs.Agrees.{Decided, MayFollow};
+ghost use Rattle.model.specs.Content.{bytes_at};
+ghost use Rattle.model.specs.Ends.{end_as};
+ghost use Rattle.model.specs.Seen.{placed_in, handed_in, with_op};
+ghost use Rattle.model.specs.Answers.{answer_in};
+ghost use Rattle.model.specs.Replies.{put_reply, bytes_in, taken_from, put_into, shut_at, moved_over, moved};
 
-use crate::answer::{Reached, answers, reach};
-use crate::kind::is_cancel;
-use crate::pipe::Pipe;
+use crate::ends::{NamedEnd, named_end};
+use crate::pipe::{Pipe, bytes_at};
+use crate::ready::{front, size};
 use crate::request::Stage;
 use crate::ring::Ring;
 use crate::state::State;
@@ -71,61 +71,22 @@ impl State {
     }
 }
 
-/// The cancel `k` of this operation may be answered so.
-fn cancel_tells(ring: &Ring, k: u64, op: Op, res: i32, taken: &[u8]) -> bool
-    requires { k < length ring.now }
-    ensures { result ≡ tells (cancel_answer ring.now k op) res taken.now }
-{
-    match ring.cancel_reply(k as usize, op) {
-        Some(told) => res == told && taken.is_empty(),
-        None => false,
-    }
-}
-
-/// The running request `k` with this operation may be answered so.
-fn tells_op(ring: &Ring, pipes: &[Pipe], k: u64, op: Op, res: i32, taken: &[u8]) -> bool
-    requires { k < length ring.now }
-    ensures { result ≡ op_replies pipes.now ring.now k res taken.now op }
-{
-    if is_cancel(op) {
-        cancel_tells(ring, k, op, res, taken)
-    } else {
-        answers(pipes, op, res, taken)
-    }
-}
-
 /// The operation of the running request `k`, where this reply may come.
-#[tactic(auto, using(crate::proofs::RequestWrites::stage_within, crate::proofs::ReplyEvents::may_reply_is))]
 pub fn may_reply(ring: &Ring, pipes: &[Pipe], k: u64, res: i32, taken: &[u8]) -> Option<Op>
-    ensures no { result ≡ None → may_reply pipes.now ring.now k res taken.now ≡ false }
-    ensures yes { (op : Op) → result ≡ Some op → (may_reply pipes.now ring.now k res taken.now ≡ true) × (placed_in ring.now k ≡ with_op (handed_in ring.now k) op) × (k < length ring.now) }
+    ensures no { result ≡ None → ¬ (answer_in pipes.now ring.now k ≡ now res taken.now) }
+    ensures yes { (op : Op) → result ≡ Some op → (answer_in pipes.now ring.now k ≡ now res taken.now) × (placed_in ring.now k ≡ with_op (handed_in ring.now k) op) × (k < length ring.now) }
 {
-    if !matches!(ring.stage(k), Some(Stage::Runs)) {
+    if !ring.now(pipes, k).is(pipes, res, taken) {
         return None;
     }
-    let op = ring.op(k as usize);
-    if !tells_op(ring, pipes, k, op, res, taken) {
-        return None;
-    }
-    Some(op)
-}
-
-/// How many bytes a reply stands for.
-fn size(res: i32) -> usize
-    ensures { result ≡ size res }
-{
-    if res < 0 {
-        0
-    } else {
-        res.unsigned_abs() as usize
-    }
+    Some(ring.op(k as usize))
 }
 
 macro_rules! carry_work {
-    ((pipe read $fd:ident $len:ident) ($alloc:ident, $pipes:ident, $bytes:ident, $res:ident)) => { take_out($pipes, $fd, size($res)) };
-    ((pipe write $fd:ident $len:ident) ($alloc:ident, $pipes:ident, $bytes:ident, $res:ident)) => { put_in($pipes, $fd, front($bytes, size($res)))? };
-    ((pipe splice $fd_in:ident $fd_out:ident $len:ident) ($alloc:ident, $pipes:ident, $bytes:ident, $res:ident)) => { move_over($alloc, $pipes, $fd_in, $fd_out, size($res))? };
-    ((pipe close $fd:ident) ($alloc:ident, $pipes:ident, $bytes:ident, $res:ident)) => { if $res == 0 { shut_end($pipes, $fd) } };
+    ((pipe read $fd:ident $len:ident) ($alloc:ident, $pipes:ident, $bytes:ident, $res:ident)) => { take_out($pipes, named_end($fd), size($res)) };
+    ((pipe write $fd:ident $len:ident) ($alloc:ident, $pipes:ident, $bytes:ident, $res:ident)) => { put_in($pipes, named_end($fd), front($bytes, size($res)))? };
+    ((pipe splice $fd_in:ident $fd_out:ident $len:ident) ($alloc:ident, $pipes:ident, $bytes:ident, $res:ident)) => { move_over($alloc, $pipes, named_end($fd_in), named_end($fd_out), size($res))? };
+    ((pipe close $fd:ident) ($alloc:ident, $pipes:ident, $bytes:ident, $res:ident)) => { if $res == 0 { shut_end($pipes, named_end($fd)) } };
     ((pipe poll $fd:ident $mask:ident) $args:tt) => { () };
     ((plain $kind:ident) $args:tt) => { () };
     ((timer $kind:ident $ticks:ident) $args:tt) => { () };
@@ -147,41 +108,35 @@ pub fn carry(
     Ok(())
 }
 
-/// At most the first `n` bytes.
-fn front(bytes: &[u8], n: usize) -> &[u8]
-    ensures { result.now ≡ take n bytes.now }
+fn take_out(pipes: &mut Vec<Pipe>, end: NamedEnd, n: usize)
+    ensures { pipes.new.items ≡ taken_from pipes.old.items (end_as end) n }
 {
-    &bytes[..n.min(bytes.len())]
-}
-
-fn take_out(pipes: &mut Vec<Pipe>, fd: i32, n: usize)
-    ensures { pipes.new.items ≡ taken_from pipes.old.items (reached fd (length pipes.old.items)) n }
-{
-    if let Reached::Read(p) = reach(fd, pipes.len()) {
-        pipes[p].drop_front(n);
+    if let NamedEnd::Read(p) = end {
+        if p < pipes.len() {
+            pipes[p].drop_front(n);
+        }
     }
 }
 
-fn put_in(pipes: &mut Vec<Pipe>, fd: i32, bytes: &[u8]) -> Result<(), AllocError>
-    ensures ok { OnOk result (pipes.new.items ≡ put_into pipes.old.items (reached fd (length pipes.old.items)) bytes.now) }
+fn put_in(pipes: &mut Vec<Pipe>, end: NamedEnd, bytes: &[u8]) -> Result<(), AllocError>
+    ensures ok { OnOk result (pipes.new.items ≡ put_into pipes.old.items (end_as end) bytes.now) }
     ensures err { OnErr result (pipes.new.items ≡ pipes.old.items) }
 {
-    if let Reached::Write(p) = reach(fd, pipes.len()) {
-        pipes[p].put(bytes)?;
+    if let NamedEnd::Write(p) = end {
+        if p < pipes.len() {
+            pipes[p].put(bytes)?;
+        }
     }
     Ok(())
 }
 
 /// The bytes that come out at this end.
-fn given(pipes: &[Pipe], fd: i32) -> &[u8]
-    ensures { result.now ≡ given_in pipes.now (reached fd (length pipes.now)) }
+fn given(pipes: &[Pipe], end: NamedEnd) -> &[u8]
+    ensures { result.now ≡ given_at (end_as end) (bytes_at pipes.now) }
 {
-    match reach(fd, pipes.len()) {
-        Reached::Read(p) => {
-            let pipe = &pipes[p];
-            &pipe.bytes
-        }
-        _ => &[],
+    match end {
+        NamedEnd::Read(p) => bytes_at(pipes, p),
+        NamedEnd::Write(_) | NamedEnd::Nothing => &[],
     }
 }
 
@@ -189,25 +144,33 @@ fn given(pipes: &[Pipe], fd: i32) -> &[u8]
 fn move_over(
     alloc: Global,
     pipes: &mut Vec<Pipe>,
-    fd_in: i32,
-    fd_out: i32,
+    from: NamedEnd,
+    to: NamedEnd,
     n: usize,
 ) -> Result<(), AllocError>
-    ensures ok { OnOk result (pipes.new.items ≡ moved_over pipes.old.items (reached fd_in (length pipes.old.items)) (reached fd_out (length pipes.old.items)) n) }
+    ensures ok { OnOk result (pipes.new.items ≡ moved_over pipes.old.items (end_as from) (end_as to) n) }
     ensures err { OnErr result (pipes.new.items ≡ pipes.old.items) }
 {
-    let moved = Bytes::copy(alloc, front(given(pipes, fd_in), n))?;
-    put_in(pipes, fd_out, moved.as_slice())?;
-    take_out(pipes, fd_in, n);
+    let moved = Bytes::copy(alloc, front(given(pipes, from), n))?;
+    put_in(pipes, to, moved.as_slice())?;
+    take_out(pipes, from, n);
     Ok(())
 }
 
-fn shut_end(pipes: &mut Vec<Pipe>, fd: i32)
-    ensures { pipes.new.items ≡ shut_at pipes.old.items (reached fd (length pipes.old.items)) }
+fn shut_end(pipes: &mut Vec<Pipe>, end: NamedEnd)
+    ensures { pipes.new.items ≡ shut_at pipes.old.items (end_as end) }
 {
-    match reach(fd, pipes.len()) {
-        Reached::Read(p) => pipes[p].shut_read(),
-        Reached::Write(p) => pipes[p].shut_write(),
-        Reached::Nothing => {}
+    match end {
+        NamedEnd::Read(p) => {
+            if p < pipes.len() {
+                pipes[p].shut_read();
+            }
+        }
+        NamedEnd::Write(p) => {
+            if p < pipes.len() {
+                pipes[p].shut_write();
+            }
+        }
+        NamedEnd::Nothing => {}
     }
 }

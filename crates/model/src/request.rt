@@ -2,6 +2,7 @@
 ghost use Rattle.std.specs.Prelude.{◌≡◌, Some};
 ghost use Rattle.history.specs.Chains.{joins, hosts};
 ghost use Rattle.model.specs.Seen.{handed_of, is_pending, reply_at};
+ghost use Rattle.model.specs.Moves.{is_idle, is_due};
 
 use crate::found::Found;
 use crate::shared::Shared;
@@ -44,6 +45,23 @@ impl Stage {
         match self {
             Stage::Waits | Stage::Runs | Stage::Armed(_) => true,
             Stage::Replied(_) | Stage::Reaped(_) => false,
+        }
+    }
+
+    /// It waits, or is armed.
+    pub fn is_idle(self) -> bool
+        ensures { result ≡ is_idle (Some self) }
+    {
+        matches!(self, Stage::Waits | Stage::Armed(_))
+    }
+
+    /// It is armed with a deadline that has come.
+    pub fn is_due(self, clock: u32) -> bool
+        ensures { result ≡ is_due clock (Some self) }
+    {
+        match self {
+            Stage::Armed(deadline) => deadline <= clock,
+            Stage::Waits | Stage::Runs | Stage::Replied(_) | Stage::Reaped(_) => false,
         }
     }
 

@@ -1,8 +1,10 @@
 //! Every event, carried out or refused.
-ghost use Rattle.std.specs.Prelude.{◌≡◌, IfOk, OnErr};
+ghost use Rattle.std.specs.Prelude.{◌≡◌, true, cond, IfOk, OnErr};
 ghost use Rattle.history.specs.Legal.{shut_for};
 ghost use Rattle.model.specs.Agrees.{Decision, IsNext};
+ghost use Rattle.model.specs.Steps.{ring_of, may_step, put_step};
 
+use crate::ring::Ring;
 use crate::state::State;
 use history::Event;
 use std::alloc::{AllocError, Global};
@@ -27,21 +29,9 @@ impl State {
                 last,
             } => self.submit(alloc, *req, *sqe, bytes, *last),
             Event::Reply { req, res, data } => self.reply(alloc, *req, *res, data),
-            Event::Begin(req) => Ok(self.begin(*req)),
-            Event::Park(req) => Ok(self.park(*req)),
-            Event::Take { cancel, target } => self.take(*cancel, *target),
-            Event::Miss { cancel, target } => self.miss(*cancel, *target),
             Event::Tick(to) => Ok(self.tick(*to)),
-            Event::Arm { req, deadline } => Ok(self.arm(*req, *deadline)),
-            Event::Expire(req) => Ok(self.expire(*req)),
-            Event::Count(req) => Ok(self.count(*req)),
-            Event::Fire { timer, target } => Ok(self.fire(*timer, *target)),
-            Event::FireMiss { timer, target } => Ok(self.fire_miss(*timer, *target)),
-            Event::Settle(req) => Ok(self.settle(*req)),
-            Event::Sever(req) => Ok(self.sever(*req)),
-            Event::Reap(req) => Ok(self.reap(*req)),
             Event::Shut => Ok(self.shut_down()),
-            Event::Cut(req) => Ok(self.cut(*req)),
+            _ => self.step(event),
         }
     }
 }
@@ -51,4 +41,71 @@ fn is_cut(event: &Event) -> bool
     ensures { result ≡ shut_for event.now }
 {
     matches!(event, Event::Cut(_))
+}
+
+/// The ring of the first request that the event names.
+pub fn ring_of(event: &Event) -> u16
+    ensures { result ≡ ring_of event.now }
+{
+    match event {
+        Event::Submit { req, .. } | Event::Reply { req, .. } | Event::Arm { req, .. } => req.ring,
+        Event::Take { cancel, .. } | Event::Miss { cancel, .. } => cancel.ring,
+        Event::Fire { timer, .. } | Event::FireMiss { timer, .. } => timer.ring,
+        Event::Begin(req)
+        | Event::Park(req)
+        | Event::Expire(req)
+        | Event::Count(req)
+        | Event::Settle(req)
+        | Event::Sever(req)
+        | Event::Reap(req)
+        | Event::Cut(req) => req.ring,
+        Event::Tick(_) | Event::Shut => 0,
+    }
+}
+
+impl Ring {
+    /// An event of its requests is carried out where it may come. An error comes for one that may come, and changes nothing.
+    pub fn step(&mut self, clock: u32, event: &Event) -> Result<bool, AllocError>
+        ensures may { IfOk result (λ done. done ≡ may_step clock self.old event.now) }
+        ensures after { IfOk result (λ done. self.new ≡ cond done (put_step self.old event.now) self.old) }
+        ensures wanting { OnErr result (may_step clock self.old event.now ≡ true) }
+        ensures same { OnErr result (self.new ≡ self.old) }
+    {
+        match event {
+            Event::Begin(req) => Ok(self.begin(req.k)),
+            Event::Park(req) => Ok(self.park(req.k)),
+            Event::Take { cancel, target } => {
+                if cancel.ring != target.ring {
+                    return Ok(false);
+                }
+                self.take(cancel.k, target.k)
+            }
+            Event::Miss { cancel, target } => {
+                if cancel.ring != target.ring {
+                    return Ok(false);
+                }
+                self.miss(cancel.k, target.k)
+            }
+            Event::Arm { req, deadline } => Ok(self.arm(clock, req.k, *deadline)),
+            Event::Expire(req) => Ok(self.expire(clock, req.k)),
+            Event::Count(req) => Ok(self.count(req.k)),
+            Event::Fire { timer, target } => {
+                if timer.ring != target.ring {
+                    return Ok(false);
+                }
+                Ok(self.fire(clock, timer.k, target.k))
+            }
+            Event::FireMiss { timer, target } => {
+                if timer.ring != target.ring {
+                    return Ok(false);
+                }
+                Ok(self.fire_miss(clock, timer.k, target.k))
+            }
+            Event::Settle(req) => Ok(self.settle(req.k)),
+            Event::Sever(req) => Ok(self.sever(req.k)),
+            Event::Reap(req) => Ok(self.reap(req.k)),
+            Event::Cut(req) => Ok(self.cut(req.k)),
+            Event::Submit { .. } | Event::Reply { .. } | Event::Tick(_) | Event::Shut => Ok(false),
+        }
+    }
 }

@@ -1,8 +1,8 @@
 //! What the timers' events make of the requests of a ring.
-ghost use Rattle.std.specs.Prelude.{◌≡◌, ◌<◌, cond, length, slice_get};
+ghost use Rattle.std.specs.Prelude.{◌≡◌, ◌<◌, true, cond, length, slice_get};
 ghost use Rattle.std.specs.List.{filter};
 ghost use Rattle.model.specs.declared.request.Stage.TheVariants.{Armed};
-ghost use Rattle.model.specs.Moves.{put_stage, put_fired, put_settled, may_arm, may_expire, is_done, later_answered, may_count, runs_out, may_fire, may_fire_miss, may_settle, cancelled, timed_out, counted, is_due, fired_of, is_answered};
+ghost use Rattle.model.specs.Moves.{put_stage, put_fired, put_settled, may_arm, may_expire, is_done, later_answered, may_count, runs_out, may_fire, may_fire_miss, may_settle, cancelled, timed_out, counted, is_answered};
 ghost use Rattle.model.specs.Seen.{stage_at};
 
 use crate::errno::{CANCELLED, TIMED_OUT};
@@ -11,12 +11,14 @@ use crate::request::{Request, Stage};
 use crate::ring::Ring;
 
 impl Ring {
-    #[tactic(auto, using(crate::proofs::RequestWrites::stage_within))]
     pub fn arm(&mut self, clock: u32, k: u64, deadline: u32) -> bool
         ensures may { result ≡ may_arm clock self.old k deadline }
         ensures after { self.new ≡ cond result (put_stage self.old k (Armed deadline)) self.old }
     {
-        if !matches!(self.stage(k), Some(Stage::Waits)) || !self.is_open(k as usize) {
+        let Some(request) = self.get(k) else {
+            return false;
+        };
+        if request.stage != Stage::Waits || !self.is_open(k as usize) {
             return false;
         }
         let Some(ticks) = ticks_of(self.op(k as usize)) else {
@@ -29,22 +31,14 @@ impl Ring {
         true
     }
 
-    /// It is armed with a deadline that has come.
-    fn is_due(&self, clock: u32, k: u64) -> bool
-        ensures { result ≡ is_due clock (stage_at (slice_get self.now k)) }
-    {
-        match self.stage(k) {
-            Some(Stage::Armed(deadline)) => deadline <= clock,
-            _ => false,
-        }
-    }
-
-    #[tactic(auto, using(crate::proofs::RequestWrites::due_within))]
     pub fn expire(&mut self, clock: u32, k: u64) -> bool
         ensures may { result ≡ may_expire clock self.old k }
         ensures after { self.new ≡ cond result (put_stage self.old k timed_out) self.old }
     {
-        if !self.is_due(clock, k) || !is_timeout(self.op(k as usize)) {
+        let Some(request) = self.get(k) else {
+            return false;
+        };
+        if !request.stage.is_due(clock) || !is_timeout(self.op(k as usize)) {
             return false;
         }
         self.set_stage(k as usize, Stage::Replied(TIMED_OUT));
@@ -60,12 +54,14 @@ impl Ring {
         count_answered(&self.requests[k + 1..])
     }
 
-    #[tactic(auto, using(crate::proofs::RequestWrites::stage_within))]
     pub fn count(&mut self, k: u64) -> bool
         ensures may { result ≡ may_count self.old k }
         ensures after { self.new ≡ cond result (put_stage self.old k counted) self.old }
     {
-        if !matches!(self.stage(k), Some(Stage::Armed(_))) {
+        let Some(request) = self.get(k) else {
+            return false;
+        };
+        if !matches!(request.stage, Stage::Armed(_)) {
             return false;
         }
         let count = count_of(self.op(k as usize)) as usize;
@@ -77,33 +73,28 @@ impl Ring {
     }
 
     /// The timer runs out now, and `target` is its target.
-    #[tactic(auto, using(crate::proofs::RequestWrites::due_within))]
     fn runs_out(&self, clock: u32, timer: u64, target: u64) -> bool
-        ensures { result ≡ runs_out clock self.now timer target }
+        ensures out { result ≡ runs_out clock self.now timer target }
+        ensures within { result ≡ true → timer < length self.now }
     {
-        if !self.is_due(clock, timer) || self.has_fired(timer) {
+        let Some(request) = self.get(timer) else {
+            return false;
+        };
+        if !request.stage.is_due(clock) || request.fired {
             return false;
         }
         self.op(timer as usize).is_link_timeout() && target < timer && target + 1 == timer
     }
 
-    fn has_fired(&self, k: u64) -> bool
-        ensures { result ≡ fired_of (slice_get self.now k) }
-    {
-        match self.get(k) {
-            Some(request) => request.fired,
-            None => false,
-        }
-    }
-
-    #[tactic(auto, using(crate::proofs::RequestWrites::stage_within, crate::proofs::RequestWrites::fired_length))]
+    #[tactic(auto, using(crate::proofs::RequestWrites::fired_length))]
     pub fn fire(&mut self, clock: u32, timer: u64, target: u64) -> bool
         ensures may { result ≡ may_fire clock self.old timer target }
         ensures after { self.new ≡ cond result (put_stage (put_fired self.old timer) target cancelled) self.old }
     {
-        if !self.runs_out(clock, timer, target)
-            || !matches!(self.stage(target), Some(Stage::Waits | Stage::Armed(_)))
-        {
+        let Some(request) = self.get(target) else {
+            return false;
+        };
+        if !request.stage.is_idle() || !self.runs_out(clock, timer, target) {
             return false;
         }
         self.set_fired(timer as usize);
@@ -111,31 +102,31 @@ impl Ring {
         true
     }
 
-    #[tactic(auto, using(crate::proofs::RequestWrites::stage_within))]
     pub fn fire_miss(&mut self, clock: u32, timer: u64, target: u64) -> bool
         ensures may { result ≡ may_fire_miss clock self.old timer target }
         ensures after { self.new ≡ cond result (put_fired self.old timer) self.old }
     {
-        if !self.runs_out(clock, timer, target)
-            || !matches!(self.stage(target), Some(Stage::Runs))
-        {
+        let Some(request) = self.get(target) else {
+            return false;
+        };
+        if request.stage != Stage::Runs || !self.runs_out(clock, timer, target) {
             return false;
         }
         self.set_fired(timer as usize);
         true
     }
 
-    #[tactic(auto, using(crate::proofs::RequestWrites::stage_within))]
     pub fn settle(&mut self, k: u64) -> bool
         ensures may { result ≡ may_settle self.old k }
         ensures after { self.new ≡ cond result (put_settled self.old k) self.old }
     {
-        if !matches!(self.stage(k), Some(Stage::Armed(_)))
-            || !self.op(k as usize).is_link_timeout()
-        {
+        let Some(request) = self.get(k) else {
+            return false;
+        };
+        if !matches!(request.stage, Stage::Armed(_)) || !self.op(k as usize).is_link_timeout() {
             return false;
         }
-        let fired = self.has_fired(k);
+        let fired = request.fired;
         if !fired && !self.is_answered(k.saturating_sub(1)) {
             return false;
         }
@@ -147,8 +138,8 @@ impl Ring {
     fn is_answered(&self, k: u64) -> bool
         ensures { result ≡ is_answered (stage_at (slice_get self.now k)) }
     {
-        match self.stage(k) {
-            Some(stage) => !stage.is_pending(),
+        match self.get(k) {
+            Some(request) => !request.stage.is_pending(),
             None => false,
         }
     }
@@ -158,8 +149,9 @@ impl Ring {
 fn count_answered(requests: &[Request]) -> usize
     ensures { result ≡ length (filter is_done requests.now) }
 {
-    requests
-        .iter()
-        .filter(|request| !request.stage.is_pending())
-        .count()
+    let mut n = 0;
+    for request in requests {
+        n += usize::from(!request.stage.is_pending());
+    }
+    n
 }

@@ -1,7 +1,9 @@
-use Rattle.std.proofs.Common.{refl, ◌≡◌, ◌∙◌, ◌<◌, true, false, List, length, w32, to_z, of_z, sym, ap, subst, arith}
+use Rattle.std.proofs.Common.{refl, ◌≡◌, ◌∙◌, ◌<◌, List, length, w32, to_z, of_z, sym, ap, subst, arith}
 use Rattle.std.specs.List.{slice_get}
 use Rattle.model.specs.declared.request.Request.{Request}
-use Rattle.model.specs.Replies.{may_reply, put_reply, bytes_in, moved}
+use Rattle.history.specs.Answers.{now}
+use Rattle.model.specs.Answers.{answer_in}
+use Rattle.model.specs.Replies.{put_reply, bytes_in, moved}
 use Rattle.model.proofs.PipeEnds.{signed}
 use Rattle.model.proofs.RingWrites.{row_of}
 use Rattle.model.proofs.ReplyEvents.{reply_follows, reply_meets, reply_misses}
@@ -10,9 +12,8 @@ use Rattle.model.proofs.state.State.reply.Goals as goal
 pub returns-in_default-clause-decided : goal.returns-in_default-clause-decided
 returns-in_default-clause-decided c =
     let lt : c.args.req.ring < length c.self.inside.rings.items = omega arith in
-    let none : may_reply c.deref.result.now c.index.result.now c.args.req.k c.args.res c.args.told.now ≡ false =
-    sym (ap (λ z. may_reply c.deref.result.now c.index.result.now c.args.req.k z c.as_slice.result.now) (signed c.args.res c.ranges.res) ∙ ap (λ z. may_reply c.deref.result.now c.index.result.now c.args.req.k c.args.res z) c.as_slice.ensures) ∙ c.in_default.ensures.no refl in
-    reply_misses _ _ c.self.view_is c.args.req c.args.res c.args.told.now c.index.result.now c.deref.result.now (row_of _ _ _ lt c.index.ensures) c.deref.ensures.value none
+    reply_misses _ _ c.self.view_is c.args.req c.args.res c.args.told.now c.index.result.now c.deref.result.now (row_of _ _ _ lt c.index.ensures) c.deref.ensures.value
+    (λ e. c.in_default.ensures.no refl (e ∙ sym (λ i. now (signed c.args.res c.ranges.res i) (c.as_slice.ensures i))))
 
 pub returns-in_err-taken-clause-wanting : goal.returns-in_err-taken-clause-wanting
 returns-in_err-taken-clause-wanting c =
@@ -37,9 +38,8 @@ returns-clause-decided c =
     let same : c.index_mut.result.now ≡ c.index.result.now = row_of _ _ _ lt c.index_mut.ensures.value ∙ sym row-1 in
     let again : c.index-2.result.now ≡ c.index.result.now = row_of _ _ _ lt c.index-2.ensures ∙ sym row-1 in
     let y = c.in-Some.ensures.yes c.in-Some.op refl in
-    let some : may_reply c.self.inside.pipes.items c.index.result.now c.args.req.k c.args.res c.args.told.now ≡ true =
-    sym (ap (λ z. may_reply c.deref.result.now c.index.result.now c.args.req.k z c.as_slice.result.now) (signed c.args.res c.ranges.res) ∙ ap (λ z. may_reply c.deref.result.now c.index.result.now c.args.req.k c.args.res z) c.as_slice.ensures
-    ∙ ap (λ z. may_reply z c.index.result.now c.args.req.k c.args.res c.args.told.now) c.deref.ensures.value) ∙ y.0 in
+    let some : answer_in c.self.inside.pipes.items c.index.result.now c.args.req.k ≡ now c.args.res c.args.told.now =
+    sym (ap (λ z. answer_in z c.index.result.now c.args.req.k) c.deref.ensures.value) ∙ y.0 ∙ (λ i. now (signed c.args.res c.ranges.res i) (c.as_slice.ensures i)) in
     let back : to_z w32 (of_z w32 c.args.res) ≡ c.args.res = signed c.args.res c.ranges.res in
     let q : c.carry.new.pipes.items ≡ moved c.self.inside.pipes.items c.in-Some.op c.bytes.result.now (to_z w32 (of_z w32 c.args.res)) = c.in_ok-carry.ensures.ok in
     reply_meets _ _ c.self.view_is c.args.req c.args.res c.args.told.now c.in_ok-taken.taken c.bytes.result.now c.in-Some.op c.index.result.now c.answer.new.self c.self.inside.pipes.items c.carry.new.pipes.items

@@ -1,0 +1,10 @@
+use Rattle.std.proofs.Common.{◌≡◌, ◌≤◌, length, take}
+use Rattle.std.specs.List.{filter}
+use Rattle.model.specs.Moves.{is_done}
+use Rattle.model.proofs.timing.count_answered.Given as goal
+
+abbrev pub invariant-loop-request : goal.invariant-loop-request
+invariant-loop-request l = record {
+  counted : l.n ≡ length (filter is_done (take l.request-index l.requests));
+  most : l.n ≤ l.request-index;
+}
