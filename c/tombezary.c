@@ -12,9 +12,8 @@ uint32_t ring_c_new(uint64_t stamp, const uint32_t *rings, size_t ring_count, co
 uint32_t ring_c_client(tz_handle *poller, tz_handle *client);
 uint32_t ring_c_worker(tz_handle *poller, tz_handle *worker);
 uint32_t ring_c_back(tz_handle *poller, tz_handle *pass);
-uint32_t ring_c_finish(tz_handle *poller);
+counted ring_c_finish(tz_handle *poller);
 void ring_c_close(tz_handle *handle);
-counted ring_c_count(tz_handle *report);
 told ring_c_line(tz_handle *report, uint64_t index);
 counted ring_c_line_bytes(tz_handle *report, uint64_t index, void *bytes, size_t room);
 counted ring_c_submit(tz_handle *client, const void *entries, size_t size, const void *bytes, size_t length);
@@ -157,13 +156,9 @@ tz_code tz_finish(tz_handle *poller, tz_handle *clients, size_t client_count, tz
     if (code) i--;
     for (; !code && j < worker_count; j++) code = ring_c_back(poller, &workers[j]);
     if (code && i == client_count && j > 0) j--;
-    if (!code) code = ring_c_finish(poller);
-    if (code) {
-        undo(poller, clients, i, workers, j);
-        return code;
-    }
-    *lines = ring_c_count(poller).count;
-    return TZ_OK;
+    if (!code) code = give(ring_c_finish(poller), lines);
+    if (code) undo(poller, clients, i, workers, j);
+    return code;
 }
 
 tz_code tz_report(tz_handle *report, size_t index, tz_line *line) {

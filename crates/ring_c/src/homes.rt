@@ -7,9 +7,9 @@ ghost use Rattle.ring_c.specs.Lives.{AreOfTwo, GivesClient, GivesHand, IsMade, I
 
 use crate::code::Code;
 use crate::desk::Desk;
-use crate::inside::Inside;
+use crate::inside::{Inside, put};
 use board::{Board, BoardError, RingShape, Shape};
-use std::alloc::Global;
+use std::alloc::{AllocError, Global};
 use std::mem::replace;
 
 /// The shape with these rings, pipes and workers.
@@ -37,15 +37,6 @@ fn shape_of(alloc: Global, rings: &[u32], pipes: &[u32], workers: u32) -> Result
     })
 }
 
-/// How many cells the rings have in all, as far as they can be counted.
-fn places_of(rings: &[u32]) -> usize {
-    let mut places = 0usize;
-    for cells in rings {
-        places = places.saturating_add(*cells as usize);
-    }
-    places
-}
-
 /// The desk of a new board.
 fn desk_of(alloc: Global, rings: &[u32], pipes: &[u32], workers: u32) -> Result<Desk, Code>
     ensures made { IfOk result (λ d. IsMade rings.now pipes.now workers d) }
@@ -57,8 +48,7 @@ fn desk_of(alloc: Global, rings: &[u32], pipes: &[u32], workers: u32) -> Result<
     };
     match Board::new(alloc, &shape) {
         Ok((board, poller, submitters, workers)) => {
-            let places = places_of(rings);
-            Desk::new(alloc, board, poller, submitters, workers, places)
+            Desk::new(alloc, board, poller, submitters, workers)
         }
         Err(BoardError::BadShape) => Err(Code::BadShape),
         Err(BoardError::Memory) => Err(Code::Memory),
@@ -71,7 +61,10 @@ fn empty_box(alloc: Global) -> Result<Box<Inside>, Code>
 {
     match Box::new(alloc, Inside::Away) {
         Ok(made) => Ok(made),
-        Err(_) => Err(Code::Memory),
+        Err(failed) => {
+            let AllocError = AllocError::from(failed);
+            Err(Code::Memory)
+        }
     }
 }
 
@@ -91,7 +84,7 @@ pub(crate) fn poller_of(
     };
     match desk_of(alloc, rings, pipes, workers) {
         Ok(desk) => {
-            *made = Inside::Desk(desk);
+            put(&mut made, Inside::Desk(desk));
             Ok(made)
         }
         Err(code) => Err(code),
@@ -112,7 +105,7 @@ pub(crate) fn client_of(inside: &mut Inside, alloc: Global) -> Result<Box<Inside
     };
     match desk.give_client(alloc) {
         Ok(client) => {
-            *made = Inside::Client(client);
+            put(&mut made, Inside::Client(client));
             Ok(made)
         }
         Err(code) => Err(code),
@@ -133,7 +126,7 @@ pub(crate) fn hand_of(inside: &mut Inside, alloc: Global) -> Result<Box<Inside>,
     };
     match desk.give_worker() {
         Ok(hand) => {
-            *made = Inside::Hand(hand);
+            put(&mut made, Inside::Hand(hand));
             Ok(made)
         }
         Err(code) => Err(code),
@@ -153,19 +146,19 @@ pub(crate) fn take_back(inside: &mut Inside, pass: &mut Inside) -> Result<(), Co
         Inside::Client(client) => match desk.take_client(client) {
             Ok(()) => Ok(()),
             Err(client) => {
-                *pass = Inside::Client(client);
+                put(pass, Inside::Client(client));
                 Err(Code::Memory)
             }
         },
         Inside::Hand(hand) => match desk.take_worker(hand) {
             Ok(()) => Ok(()),
             Err(hand) => {
-                *pass = Inside::Hand(hand);
+                put(pass, Inside::Hand(hand));
                 Err(Code::Memory)
             }
         },
         other => {
-            *pass = other;
+            put(pass, other);
             Err(Code::WrongKind)
         }
     }

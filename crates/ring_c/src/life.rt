@@ -1,7 +1,7 @@
 //! How C opens a board, gets its passes, gives them back and ends it.
 ghost use Rattle.std.specs.Prelude.{◌≡◌, ◌≢◌, ℕ, Result, None};
 ghost use Rattle.ring_c.specs.declared.results.Line.{Line as Told};
-ghost use Rattle.ring_c.specs.Reports.{CountsLines, GivesLineBytes, TellsLine};
+ghost use Rattle.ring_c.specs.Reports.{GivesLineBytes, TellsLine};
 ghost use Rattle.ring_c.specs.Results.{counted_as, line_as};
 ghost use Rattle.ring_c.specs.declared.code.Code.{Code as Why};
 ghost use Rattle.ring_c.specs.Codes.{answer_of};
@@ -12,7 +12,7 @@ use crate::code::{Code, answer_number};
 use crate::handle::Handle;
 use crate::homes::{client_of, hand_of, poller_of, take_back};
 use crate::inside::finish_in;
-use crate::reports::{count_in, line_bytes_in, line_in};
+use crate::reports::{line_bytes_in, line_in};
 use crate::results::{Counted, Line};
 use std::alloc::Global;
 
@@ -113,30 +113,16 @@ pub extern "C" fn ring_c_back(alloc: Global, poller: &mut Handle, pass: &mut Han
     answer_number(answer)
 }
 
-/// Ends the board of a poller that all passes have come back to. The handle leads to the report then.
+/// Ends the board of a poller that all passes have come back to. The handle leads to the report then. How many lines that has.
 #[unsafe(no_mangle)]
-pub extern "C" fn ring_c_finish(alloc: Global, handle: &mut Handle) -> u32
-    ensures finished { (a : Result (Unit {0}) Why) × (result ≡ answer_of a) × Through EndsIn handle.old.slot.inside handle.new.slot.inside a }
+pub extern "C" fn ring_c_finish(alloc: Global, handle: &mut Handle) -> Counted
+    ensures finished { (a : Result ℕ Why) × (result ≡ counted_as a) × Through EndsIn handle.old.slot.inside handle.new.slot.inside a }
     ensures stamp { handle.new.stamp ≡ handle.old.stamp }
 {
     let Some(mut inside) = handle.take(alloc) else {
-        return Code::Closed.number();
-    };
-    let answer = finish_in(&mut inside, alloc);
-    handle.put(inside);
-    answer_number(answer)
-}
-
-/// How many lines the report has that a handle leads to.
-#[unsafe(no_mangle)]
-pub extern "C" fn ring_c_count(alloc: Global, handle: &mut Handle) -> Counted
-    ensures counted { (a : Result ℕ Why) × (result ≡ counted_as a) × Through CountsLines handle.old.slot.inside handle.new.slot.inside a }
-    ensures stamp { handle.new.stamp ≡ handle.old.stamp }
-{
-    let Some(inside) = handle.take(alloc) else {
         return Counted::of(Err(Code::Closed));
     };
-    let answer = count_in(&inside);
+    let answer = finish_in(&mut inside, alloc);
     handle.put(inside);
     Counted::of(answer)
 }
