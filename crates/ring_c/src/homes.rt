@@ -3,7 +3,7 @@ ghost use Rattle.std.specs.Prelude.{◌≡◌, [], IfOk, IfErr};
 ghost use Rattle.ring_c.specs.declared.inside.Inside.TheVariants.{Desk as DeskIn};
 ghost use Rattle.ring_c.specs.Sides.{DeskFacts};
 ghost use Rattle.ring_c.specs.declared.code.Code.TheVariants.{Memory, BadShape};
-ghost use Rattle.ring_c.specs.Lives.{AreOfTwo, GivesClient, GivesHand, IsMade, IsShapeOf, IsUnmade, TakesIn};
+ghost use Rattle.ring_c.specs.Lives.{AreOfTwo, GivesPass, IsMade, IsShapeOf, IsUnmade, TakesIn};
 
 use crate::code::Code;
 use crate::desk::Desk;
@@ -91,9 +91,13 @@ pub(crate) fn poller_of(
     }
 }
 
-/// A client of the poller's board, in a box.
-pub(crate) fn client_of(inside: &mut Inside, alloc: Global) -> Result<Box<Inside>, Code>
-    ensures given { IfOk result (λ m. GivesClient inside.old inside.new m.value) }
+/// A worker of the poller's board, or else a client, in a box.
+pub(crate) fn pass_of(
+    inside: &mut Inside,
+    alloc: Global,
+    is_worker: bool,
+) -> Result<Box<Inside>, Code>
+    ensures given { IfOk result (λ m. GivesPass is_worker inside.old inside.new m.value) }
     ensures refused { IfErr result (λ _. inside.new ≡ inside.old) }
 {
     let mut made = match empty_box(alloc) {
@@ -103,30 +107,18 @@ pub(crate) fn client_of(inside: &mut Inside, alloc: Global) -> Result<Box<Inside
     let Inside::Desk(desk) = inside else {
         return Err(Code::WrongKind);
     };
+    if is_worker {
+        return match desk.give_worker() {
+            Ok(hand) => {
+                put(&mut made, Inside::Hand(hand));
+                Ok(made)
+            }
+            Err(code) => Err(code),
+        };
+    }
     match desk.give_client(alloc) {
         Ok(client) => {
             put(&mut made, Inside::Client(client));
-            Ok(made)
-        }
-        Err(code) => Err(code),
-    }
-}
-
-/// A worker of the poller's board, in a box.
-pub(crate) fn hand_of(inside: &mut Inside, alloc: Global) -> Result<Box<Inside>, Code>
-    ensures given { IfOk result (λ m. GivesHand inside.old inside.new m.value) }
-    ensures refused { IfErr result (λ _. inside.new ≡ inside.old) }
-{
-    let mut made = match empty_box(alloc) {
-        Ok(made) => made,
-        Err(code) => return Err(code),
-    };
-    let Inside::Desk(desk) = inside else {
-        return Err(Code::WrongKind);
-    };
-    match desk.give_worker() {
-        Ok(hand) => {
-            put(&mut made, Inside::Hand(hand));
             Ok(made)
         }
         Err(code) => Err(code),
