@@ -3,6 +3,7 @@
 
 #include <stdio.h>
 #include <stdlib.h>
+#include <string.h>
 
 static void is(tz_code code, tz_code wanted, const char *what) {
     if (code == wanted) return;
@@ -20,12 +21,12 @@ static const uint32_t rings[] = {4, 4}, pipes[] = {8};
 static const tz_shape shape = {rings, 2, pipes, 1, 2};
 static tz_handle poller, clients[2], workers[2], other, foreign[1], hands[1];
 static tz_number ready[8], answered[8];
-static tz_turn turn = {ready, 8, answered, 8, 0, 0, 0};
+static tz_turn turn = {.ready = ready, .ready_room = 8, .answered = answered, .answered_room = 8};
 
 static void opens(void) {
     const uint32_t three = 3;
     const tz_shape bad = {&three, 1, NULL, 0, 1}, many = {rings, 17, NULL, 0, 1}, null = {NULL, 1, NULL, 0, 1}, one = {rings, 1, NULL, 0, 1};
-    tz_turn short_turn = {ready, 0, answered, 8, 0, 0, 0};
+    tz_turn short_turn = {.ready = ready, .ready_room = 0, .answered = answered, .answered_room = 8};
     is(tz_new(NULL, &poller, clients, workers), TZ_NULL, "no shape");
     is(tz_new(&shape, NULL, clients, workers), TZ_NULL, "no poller");
     is(tz_new(&null, &poller, clients, workers), TZ_NULL, "no rings");

@@ -71,7 +71,7 @@ static void line(int actor) {
 }
 
 static void turn(void) {
-    tz_turn told = {ready, 16, answered, 16, 0, 0, 0};
+    tz_turn told = {.ready = ready, .ready_room = 16, .answered = answered, .answered_room = 16};
     must(tz_poll(&poller, &told), "poll");
     for (size_t i = 0; i < told.ready_count; i++) queue[queued++] = ready[i];
     if (told.moved) printf("poll: ready %zu answered %zu\n", told.ready_count, told.answered_count);

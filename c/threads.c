@@ -48,7 +48,7 @@ static int is_over(void) {
 
 static void *poll_on(void *nothing) {
     tz_number ready[32], answered[32];
-    tz_turn turn = {ready, 32, answered, 32, 0, 0, 0};
+    tz_turn turn = {.ready = ready, .ready_room = 32, .answered = answered, .answered_room = 32};
     while (!is_over()) {
         must(tz_poll(&poller, &turn), "poll");
         for (size_t i = 0; i < turn.ready_count; i++) put(ready[i]);

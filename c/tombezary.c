@@ -9,12 +9,10 @@ typedef struct { uint32_t code; int32_t res; uint64_t user_data, k, length; uint
 
 /* A slice is its pointer and its length. A Global takes no bytes. */
 uint32_t ring_c_new(uint64_t stamp, const uint32_t *rings, size_t ring_count, const uint32_t *pipes, size_t pipe_count, uint32_t workers, tz_handle *poller);
-uint32_t ring_c_client(tz_handle *poller, tz_handle *client);
-uint32_t ring_c_worker(tz_handle *poller, tz_handle *worker);
+uint32_t ring_c_give(tz_handle *poller, tz_handle *pass, _Bool is_worker);
 uint32_t ring_c_back(tz_handle *poller, tz_handle *pass);
-uint32_t ring_c_finish(tz_handle *poller);
+counted ring_c_finish(tz_handle *poller);
 void ring_c_close(tz_handle *handle);
-counted ring_c_count(tz_handle *report);
 told ring_c_line(tz_handle *report, uint64_t index);
 counted ring_c_line_bytes(tz_handle *report, uint64_t index, void *bytes, size_t room);
 counted ring_c_submit(tz_handle *client, const void *entries, size_t size, const void *bytes, size_t length);
@@ -57,8 +55,8 @@ tz_code tz_new(const tz_shape *shape, tz_handle *poller, tz_handle *clients, tz_
     uint64_t stamp = __atomic_add_fetch(&last_stamp, 1, __ATOMIC_SEQ_CST);
     tz_code code = ring_c_new(stamp, or_nothing(shape->rings), shape->ring_count, or_nothing(shape->pipes), shape->pipe_count, shape->workers, poller);
     if (code) return code;
-    for (size_t i = shape->ring_count; !code && i > 0; i--) code = ring_c_client(poller, &clients[i - 1]);
-    for (size_t i = shape->workers; !code && i > 0; i--) code = ring_c_worker(poller, &workers[i - 1]);
+    for (size_t i = shape->ring_count; !code && i > 0; i--) code = ring_c_give(poller, &clients[i - 1], 0);
+    for (size_t i = shape->workers; !code && i > 0; i--) code = ring_c_give(poller, &workers[i - 1], 1);
     if (code) {
         close_all(clients, shape->ring_count);
         close_all(workers, shape->workers);
@@ -141,8 +139,8 @@ static tz_code of_one(const tz_handle *poller, const tz_handle *handles, size_t 
 
 /* The passes that came back go out again, the last one first, each to its own handle. */
 static void undo(tz_handle *poller, tz_handle *clients, size_t client_count, tz_handle *workers, size_t worker_count) {
-    for (size_t i = worker_count; i > 0; i--) ring_c_worker(poller, &workers[i - 1]);
-    for (size_t i = client_count; i > 0; i--) ring_c_client(poller, &clients[i - 1]);
+    for (size_t i = worker_count; i > 0; i--) ring_c_give(poller, &workers[i - 1], 1);
+    for (size_t i = client_count; i > 0; i--) ring_c_give(poller, &clients[i - 1], 0);
 }
 
 tz_code tz_finish(tz_handle *poller, tz_handle *clients, size_t client_count, tz_handle *workers, size_t worker_count,
@@ -157,13 +155,9 @@ tz_code tz_finish(tz_handle *poller, tz_handle *clients, size_t client_count, tz
     if (code) i--;
     for (; !code && j < worker_count; j++) code = ring_c_back(poller, &workers[j]);
     if (code && i == client_count && j > 0) j--;
-    if (!code) code = ring_c_finish(poller);
-    if (code) {
-        undo(poller, clients, i, workers, j);
-        return code;
-    }
-    *lines = ring_c_count(poller).count;
-    return TZ_OK;
+    if (!code) code = give(ring_c_finish(poller), lines);
+    if (code) undo(poller, clients, i, workers, j);
+    return code;
 }
 
 tz_code tz_report(tz_handle *report, size_t index, tz_line *line) {

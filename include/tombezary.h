@@ -17,7 +17,6 @@
 
 #include <stddef.h>
 #include <stdint.h>
-#include <string.h>
 
 #ifdef __cplusplus
 extern "C" {
@@ -88,13 +87,7 @@ enum { TZ_DRAIN = 2, TZ_LINK = 4, TZ_HARDLINK = 8 };
 /* Entries, as io_uring_prep_nop, _read, _write, _close, _timeout, _link_timeout, _cancel64, _poll_add and _splice. Set flags
  * and user_data afterwards. Of pipe p the read end is fd 2 * p, and the write end 2 * p + 1. */
 static inline tz_sqe tz_prep(uint8_t opcode, int32_t fd, uint64_t off, uint64_t addr, uint32_t len) {
-    tz_sqe sqe;
-    memset(&sqe, 0, sizeof sqe);
-    sqe.opcode = opcode;
-    sqe.fd = fd;
-    sqe.off = off;
-    sqe.addr = addr;
-    sqe.len = len;
+    tz_sqe sqe = {opcode, 0, 0, fd, off, addr, len, 0, 0, 0, 0, 0, {0, 0}};
     return sqe;
 }
 static inline tz_sqe tz_prep_nop(void) { return tz_prep(0, -1, 0, 0, 0); }
@@ -141,11 +134,10 @@ tz_code tz_submit(tz_handle *client, const tz_sqe *entries, size_t count, const 
  * once; into `answered`, which has `answered_room`, those that it answered itself, in order. */
 typedef struct tz_turn {
     tz_number *ready;
-    size_t ready_room;
+    size_t ready_room, ready_count; /* how many it told */
     tz_number *answered;
-    size_t answered_room;
-    size_t ready_count, answered_count; /* how many it told of each */
-    int moved;                          /* whether it did something */
+    size_t answered_room, answered_count; /* the same */
+    int moved;                            /* whether it did something */
 } tz_turn;
 
 /* One turn of the poller (what the kernel's SQPOLL thread does): takes up what was submitted, moves to the workers what may run,

@@ -33,8 +33,8 @@ class _Shape(Structure):
 
 
 class _Turn(Structure):
-    _fields_ = [("ready", POINTER(Number)), ("ready_room", c_size_t), ("answered", POINTER(Number)), ("answered_room", c_size_t),
-                ("ready_count", c_size_t), ("answered_count", c_size_t), ("moved", c_int)]
+    _fields_ = [("ready", POINTER(Number)), ("ready_room", c_size_t), ("ready_count", c_size_t),
+                ("answered", POINTER(Number)), ("answered_room", c_size_t), ("answered_count", c_size_t), ("moved", c_int)]
 
 
 class _Line(Structure):
@@ -96,7 +96,7 @@ class Board:
         _must(_lib.tz_new(byref(shape), byref(self.poller), self.clients, self.workers))
         room = max(2, sum(rings))
         self._ready, self._answered = (Number * room)(), (Number * room)()
-        self._turn = _Turn(self._ready, room, self._answered, room, 0, 0, 0)
+        self._turn = _Turn(ready=self._ready, ready_room=room, answered=self._answered, answered_room=room)
 
     def submit(self, ring, entries, data=b""):
         """Submits a batch; `data` has the buffers one after another. The number of the first entry."""

@@ -81,11 +81,11 @@ PollsThe r s a b x z (Err code) = ⊥
 abbrev pub TicksAt : ℕ → DeskFacts → DeskFacts → Result (Unit {0}) Code → Type 0
 TicksAt to x z a = (z ≡ record x { pass = z.pass }) × Ticks x.board to x.pass z.pass a
 
--- the end of a board, at which all passes are back
-abbrev pub Ends : DeskFacts → Inside → Result (Unit {0}) Code → Type 0
-Ends x y (Ok u) = (lines : List (Completion × Bool)) × (y ≡ Report lines) × IsFull x × IsReport x.board (x.pass ∷ (x.clients ++ x.workers)) lines
+-- the end of a board, at which all passes are back, with how many lines the report has
+abbrev pub Ends : DeskFacts → Inside → Result ℕ Code → Type 0
+Ends x y (Ok n) = (lines : List (Completion × Bool)) × (n ≡ length lines) × (y ≡ Report lines) × IsFull x × IsReport x.board (x.pass ∷ (x.clients ++ x.workers)) lines
 Ends x y (Err code) = (y ≡ Desk x) × ((code ≡ Memory) ⊎ (code ≡ Missing)) × ((IsFull x → ⊥) → code ≡ Missing)
 
-abbrev pub EndsIn : Inside → Inside → Result (Unit {0}) Code → Type 0
+abbrev pub EndsIn : Inside → Inside → Result ℕ Code → Type 0
 EndsIn (Desk x) y a = Ends x y a
 EndsIn i y a = (a ≡ Err WrongKind) × (y ≡ i)

@@ -1,5 +1,5 @@
 -- How a board is opened, how its passes leave its poller's desk and come back.
-use Rattle.std.specs.Prelude.{◌≡◌, ◌⊎◌, ℕ, ◌++◌, [], ◌∷◌, List, false, Option, Some, None, Result, Ok, Err}
+use Rattle.std.specs.Prelude.{◌≡◌, ◌⊎◌, ℕ, ◌++◌, [], ◌∷◌, List, Bool, true, false, Option, Some, None, Result, Ok, Err}
 use Rattle.board.specs.declared.shape.Shape.{Shape}
 use Rattle.board.specs.New.{IsNew}
 use Rattle.board.specs.ShapeLimits.{counts, is_shape}
@@ -37,6 +37,11 @@ GivesClient i y m = ⊥
 abbrev pub GivesHand : Inside → Inside → Inside → Type 0
 GivesHand (Desk x) y m = (z : DeskFacts) × (h : HandFacts) × (y ≡ Desk z) × (m ≡ Hand h) × (h.board ≡ x.board) × (x ≡ record z { workers = z.workers ++ h.pass ∷ [] })
 GivesHand i y m = ⊥
+
+-- the last of those passes leaves it
+abbrev pub GivesPass : Bool → Inside → Inside → Inside → Type 0
+GivesPass true i y m = GivesHand i y m
+GivesPass false i y m = GivesClient i y m
 
 -- a pass leaves the desk that one handle leads to, and the other leads to it; or both are the same
 abbrev pub GivesOut : (Inside → Inside → Inside → Type 0) → Option Inside → Option Inside → Option Inside → Option Inside → Result (Unit {0}) Code → Type 0

@@ -11,10 +11,6 @@ use Rattle.ring_c.specs.ClientCalls.{Shows}
 abbrev pub line_for : Completion × Bool → Line
 line_for x = record { code = 0; res = x.0.cqe.res; user_data = x.0.cqe.user_data; k = x.0.req.k; length = length x.0.buffer.items; ring = x.0.req.ring; is_cut = cond x.1 1 0 }
 
-abbrev pub CountsLines : Inside → Inside → Result ℕ Code → Type 0
-CountsLines (Report lines) y a = (y ≡ Report lines) × (a ≡ Ok (length lines))
-CountsLines i y a = (a ≡ Err WrongKind) × (y ≡ i)
-
 -- the line with this index, if there is one
 abbrev pub IsLine : ℕ → List (Completion × Bool) → Result Line Code → Type 0
 IsLine i lines (Ok line) = (x : Completion × Bool) × (slice_get lines i ≡ Some x) × (line ≡ line_for x)

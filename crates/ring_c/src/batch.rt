@@ -20,25 +20,32 @@ macro_rules! length_of_work {
 }
 
 /// How long the buffer of an entry is.
-fn length_of(sqe: &Sqe) -> usize
+pub(crate) fn length_of(sqe: &Sqe) -> usize
     ensures { FitsOp sqe.now.op result }
 {
     let op = sqe.op();
     by_opcode!(op => length_of_work!())
 }
 
-/// The entry that 64 of the bytes say.
-fn entry_at(entries: &[u8], i: usize) -> Sqe
+/// The entry that 64 of the bytes say. They are read where they lie, and the entry is in place: each copy of one takes about as long as a step on the board.
+#[inline(always)]
+pub(crate) fn entry_at(entries: &[u8], i: usize) -> Sqe
     requires { 64 * i + 64 ≤ length entries.now }
     ensures { Says (take 64 (drop (64 * i) entries.now)) result }
 {
-    let mut bytes = [0u8; 64];
-    bytes.copy_from_slice(&entries[64 * i..64 * i + 64]);
-    Sqe::of_bytes(&bytes)
+    let Ok(bytes) = <&[u8; 64]>::try_from(&entries[64 * i..64 * i + 64]) else {
+        unreachable!()
+    };
+    Sqe::of_bytes(bytes)
 }
 
 /// A copy of some of the bytes.
-fn copy_of(alloc: Global, bytes: &[u8], from: usize, count: usize) -> Result<Vec<u8>, Code>
+pub(crate) fn copy_of(
+    alloc: Global,
+    bytes: &[u8],
+    from: usize,
+    count: usize,
+) -> Result<Vec<u8>, Code>
     requires { from + count ≤ length bytes.now }
     ensures copy { IfOk result (λ v. v.items ≡ take count (drop from bytes.now)) }
     ensures refused { IfErr result (λ c. c ≡ Code.Memory) }
@@ -51,21 +58,6 @@ fn copy_of(alloc: Global, bytes: &[u8], from: usize, count: usize) -> Result<Vec
         Ok(()) => Ok(copy),
         Err(_) => Err(Code::Memory),
     }
-}
-
-/// The entry that 64 bytes say, with its buffer, which is all of the other bytes.
-pub(crate) fn entry_of(alloc: Global, entries: &[u8], bytes: &[u8]) -> Result<(Sqe, Vec<u8>), Code>
-    requires { length entries.now ≡ 64 }
-    ensures said { IfOk result (λ t. AreSaid entries.now bytes.now (t ∷ [])) }
-    ensures refused { IfErr result (λ c. IsUnread entries.now c) }
-{
-    let sqe = entry_at(entries, 0);
-    let length = length_of(&sqe);
-    if bytes.len() != length {
-        return Err(Code::BufferLength);
-    }
-    let buffer = copy_of(alloc, bytes, 0, length)?;
-    Ok((sqe, buffer))
 }
 
 /// The batch that the bytes of these entries say, with their buffers out of the other bytes, one after another.

@@ -5,7 +5,7 @@ ghost use Rattle.work.specs.Board.{IsOf};
 ghost use Rattle.board.specs.Calls.{Goes, Finds};
 ghost use Rattle.ring_c.specs.ClientCalls.{Reaps, Shows, Submits};
 
-use crate::batch::{batch_of, copy_bytes, entry_of};
+use crate::batch::{batch_of, copy_bytes, copy_of, entry_at, length_of};
 use crate::code::Code;
 use board::{Board, Phase, Submitter};
 use entry::Cqe;
@@ -57,7 +57,7 @@ fn submit_batch(
     }
 }
 
-/// Submits one entry, with its buffer.
+/// Submits one entry, with its buffer, which is all of the other bytes.
 fn submit_one(
     board: &Board,
     submitter: &mut Submitter,
@@ -70,8 +70,13 @@ fn submit_one(
     ensures kept { IsOf board.now submitter.new }
     ensures submits { Submits entries.now bytes.now board.now submitter.old submitter.new result }
 {
-    let (sqe, buffer) = match entry_of(alloc, entries, bytes) {
-        Ok(entry) => entry,
+    let sqe = entry_at(entries, 0);
+    let length = length_of(&sqe);
+    if bytes.len() != length {
+        return Err(Code::BufferLength);
+    }
+    let buffer = match copy_of(alloc, bytes, 0, length) {
+        Ok(buffer) => buffer,
         Err(code) => return Err(code),
     };
     let _ring = submitter.ring();

@@ -59,7 +59,6 @@ impl Desk {
         poller: Poller,
         clients: Vec<Submitter>,
         workers: Vec<Worker>,
-        places: usize,
     ) -> Result<Desk, Code>
         requires poller { IsOf board poller }
         requires clients { AreOf board clients.items × (length clients.items ≡ length board.layout.cells) }
@@ -68,6 +67,7 @@ impl Desk {
         ensures refused { IfErr result (λ c. c ≡ Code.Memory) }
     {
         let crew = workers.len();
+        let places = board.cells();
         let (Ok(next), Ok(out), Ok(board)) = (
             Vec::from_elem(alloc, 0u64, clients.len()),
             Out::new(alloc, places),
@@ -206,7 +206,10 @@ impl Desk {
             out,
         } = self;
         match Arc::try_unwrap(board) {
-            Ok(board) => Ok(board.finish_in(poller, clients, workers, room)),
+            Ok(board) => {
+                drop(out);
+                Ok(board.finish_in(poller, clients, workers, room))
+            }
             Err(board) => Err((
                 Code::Missing,
                 Desk {

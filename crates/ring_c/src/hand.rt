@@ -4,31 +4,32 @@ ghost use Rattle.std.specs.Arc.{arc_value};
 ghost use Rattle.work.specs.Board.{IsOf};
 ghost use Rattle.board.specs.Calls.{Goes, Finds};
 ghost use Rattle.ring_c.specs.HandCalls.{Works};
+ghost use Rattle.ring_c.specs.Sides.{IsIn, pass_in};
 
 use crate::code::Code;
 use board::{Board, Parked, Phase, Ran, Worker};
 use entry::Cqe;
 use history::Req;
 use std::marker::Model;
+use std::mem::replace;
 use std::sync::Arc;
 
-/// A worker, with its board.
+/// A worker, with its board. Its place is empty only while it runs a request.
 #[derive(Drop)]
 pub struct Hand {
     board: Arc<Board>,
-    worker: Worker,
+    worker: Option<Worker>,
 }
 
 impl Model for Hand {
     ghost use Rattle.std.specs.Arc.{arc_value};
-    ghost use Rattle.work.specs.Board.{IsOf};
-    ghost use Rattle.ring_c.specs.Sides.{HandFacts};
+    ghost use Rattle.ring_c.specs.Sides.{HandFacts, IsIn, pass_in};
 
     ghost Value = { HandFacts };
 
-    ghost view = { λ h. record { board = arc_value h.board; pass = h.worker } };
+    ghost view = { λ h. record { board = arc_value h.board; pass = pass_in (arc_value h.board) h.worker } };
 
-    ghost invariant = { λ h. IsOf (arc_value h.board) h.worker };
+    ghost invariant = { λ h. IsIn (arc_value h.board) h.worker };
 }
 
 /// Begins the request and runs it.
@@ -49,13 +50,32 @@ fn work(board: &Board, worker: Worker, req: Req) -> (Worker, Result<Cqe, Code>)
     }
 }
 
+/// The worker leaves its place, begins the request and runs it, and comes back.
+fn work_from(board: &Board, place: &mut Option<Worker>, req: Req) -> Result<Cqe, Code>
+    requires { IsIn board.now place.old }
+    ensures kept { IsIn board.now place.new }
+    ensures works { Works board.now req (pass_in board.now place.old) (pass_in board.now place.new) result }
+{
+    let Some(worker) = place.take() else {
+        unreachable!()
+    };
+    let (worker, answer) = work(board, worker, req);
+    let None = replace(place, Some(worker)) else {
+        unreachable!()
+    };
+    answer
+}
+
 impl Hand {
     /// A worker with its board.
     pub(crate) fn new(board: Arc<Board>, worker: Worker) -> Hand
         requires { IsOf (arc_value board) worker }
         ensures { result ≡ record { board = arc_value board; pass = worker } }
     {
-        Hand { board, worker }
+        Hand {
+            board,
+            worker: Some(worker),
+        }
     }
 
     /// Its worker. It gives up its board.
@@ -64,7 +84,10 @@ impl Hand {
         ensures own { IsOf self.board result }
     {
         let Hand { worker, .. } = self;
-        worker
+        match worker {
+            Some(worker) => worker,
+            None => unreachable!(),
+        }
     }
 
     /// Where a request stands.
@@ -73,23 +96,27 @@ impl Hand {
         ensures looks { Goes self.old.board self.old.pass [] self.new.pass }
         ensures finds { Finds self.old.board req result self.old.pass self.new.pass }
     {
-        self.board.look(&mut self.worker, req)
+        match &mut self.worker {
+            Some(worker) => self.board.look(worker, req),
+            None => unreachable!(),
+        }
     }
 
     /// Begins the request and runs it.
-    pub(crate) fn run(self, req: Req) -> (Hand, Result<Cqe, Code>)
-        ensures board { result.0.board ≡ self.board }
-        ensures works { Works self.board req self.pass result.0.pass result.1 }
+    pub(crate) fn run(&mut self, req: Req) -> Result<Cqe, Code>
+        ensures board { self.new.board ≡ self.old.board }
+        ensures works { Works self.old.board req self.old.pass self.new.pass result }
     {
-        let Hand { board, worker } = self;
-        let (worker, answer) = work(&board, worker, req);
-        (Hand { board, worker }, answer)
+        work_from(&self.board, &mut self.worker, req)
     }
 
     /// The requests that its last run ended.
     pub(crate) fn took(&self) -> &[Req]
         ensures { result.now ≡ self.now.pass.took }
     {
-        self.worker.took()
+        match &self.worker {
+            Some(worker) => worker.took(),
+            None => unreachable!(),
+        }
     }
 }

@@ -3,13 +3,13 @@ ghost use Rattle.std.specs.Prelude.{◌≡◌, [], IfOk, IfErr};
 ghost use Rattle.ring_c.specs.declared.inside.Inside.TheVariants.{Desk as DeskIn};
 ghost use Rattle.ring_c.specs.Sides.{DeskFacts};
 ghost use Rattle.ring_c.specs.declared.code.Code.TheVariants.{Memory, BadShape};
-ghost use Rattle.ring_c.specs.Lives.{AreOfTwo, GivesClient, GivesHand, IsMade, IsShapeOf, IsUnmade, TakesIn};
+ghost use Rattle.ring_c.specs.Lives.{AreOfTwo, GivesPass, IsMade, IsShapeOf, IsUnmade, TakesIn};
 
 use crate::code::Code;
 use crate::desk::Desk;
-use crate::inside::Inside;
+use crate::inside::{Inside, put};
 use board::{Board, BoardError, RingShape, Shape};
-use std::alloc::Global;
+use std::alloc::{AllocError, Global};
 use std::mem::replace;
 
 /// The shape with these rings, pipes and workers.
@@ -37,15 +37,6 @@ fn shape_of(alloc: Global, rings: &[u32], pipes: &[u32], workers: u32) -> Result
     })
 }
 
-/// How many cells the rings have in all, as far as they can be counted.
-fn places_of(rings: &[u32]) -> usize {
-    let mut places = 0usize;
-    for cells in rings {
-        places = places.saturating_add(*cells as usize);
-    }
-    places
-}
-
 /// The desk of a new board.
 fn desk_of(alloc: Global, rings: &[u32], pipes: &[u32], workers: u32) -> Result<Desk, Code>
     ensures made { IfOk result (λ d. IsMade rings.now pipes.now workers d) }
@@ -57,8 +48,7 @@ fn desk_of(alloc: Global, rings: &[u32], pipes: &[u32], workers: u32) -> Result<
     };
     match Board::new(alloc, &shape) {
         Ok((board, poller, submitters, workers)) => {
-            let places = places_of(rings);
-            Desk::new(alloc, board, poller, submitters, workers, places)
+            Desk::new(alloc, board, poller, submitters, workers)
         }
         Err(BoardError::BadShape) => Err(Code::BadShape),
         Err(BoardError::Memory) => Err(Code::Memory),
@@ -71,7 +61,10 @@ fn empty_box(alloc: Global) -> Result<Box<Inside>, Code>
 {
     match Box::new(alloc, Inside::Away) {
         Ok(made) => Ok(made),
-        Err(_) => Err(Code::Memory),
+        Err(failed) => {
+            let AllocError = AllocError::from(failed);
+            Err(Code::Memory)
+        }
     }
 }
 
@@ -91,16 +84,20 @@ pub(crate) fn poller_of(
     };
     match desk_of(alloc, rings, pipes, workers) {
         Ok(desk) => {
-            *made = Inside::Desk(desk);
+            put(&mut made, Inside::Desk(desk));
             Ok(made)
         }
         Err(code) => Err(code),
     }
 }
 
-/// A client of the poller's board, in a box.
-pub(crate) fn client_of(inside: &mut Inside, alloc: Global) -> Result<Box<Inside>, Code>
-    ensures given { IfOk result (λ m. GivesClient inside.old inside.new m.value) }
+/// A worker of the poller's board, or else a client, in a box.
+pub(crate) fn pass_of(
+    inside: &mut Inside,
+    alloc: Global,
+    is_worker: bool,
+) -> Result<Box<Inside>, Code>
+    ensures given { IfOk result (λ m. GivesPass is_worker inside.old inside.new m.value) }
     ensures refused { IfErr result (λ _. inside.new ≡ inside.old) }
 {
     let mut made = match empty_box(alloc) {
@@ -110,30 +107,18 @@ pub(crate) fn client_of(inside: &mut Inside, alloc: Global) -> Result<Box<Inside
     let Inside::Desk(desk) = inside else {
         return Err(Code::WrongKind);
     };
+    if is_worker {
+        return match desk.give_worker() {
+            Ok(hand) => {
+                put(&mut made, Inside::Hand(hand));
+                Ok(made)
+            }
+            Err(code) => Err(code),
+        };
+    }
     match desk.give_client(alloc) {
         Ok(client) => {
-            *made = Inside::Client(client);
-            Ok(made)
-        }
-        Err(code) => Err(code),
-    }
-}
-
-/// A worker of the poller's board, in a box.
-pub(crate) fn hand_of(inside: &mut Inside, alloc: Global) -> Result<Box<Inside>, Code>
-    ensures given { IfOk result (λ m. GivesHand inside.old inside.new m.value) }
-    ensures refused { IfErr result (λ _. inside.new ≡ inside.old) }
-{
-    let mut made = match empty_box(alloc) {
-        Ok(made) => made,
-        Err(code) => return Err(code),
-    };
-    let Inside::Desk(desk) = inside else {
-        return Err(Code::WrongKind);
-    };
-    match desk.give_worker() {
-        Ok(hand) => {
-            *made = Inside::Hand(hand);
+            put(&mut made, Inside::Client(client));
             Ok(made)
         }
         Err(code) => Err(code),
@@ -153,19 +138,19 @@ pub(crate) fn take_back(inside: &mut Inside, pass: &mut Inside) -> Result<(), Co
         Inside::Client(client) => match desk.take_client(client) {
             Ok(()) => Ok(()),
             Err(client) => {
-                *pass = Inside::Client(client);
+                put(pass, Inside::Client(client));
                 Err(Code::Memory)
             }
         },
         Inside::Hand(hand) => match desk.take_worker(hand) {
             Ok(()) => Ok(()),
             Err(hand) => {
-                *pass = Inside::Hand(hand);
+                put(pass, Inside::Hand(hand));
                 Err(Code::Memory)
             }
         },
         other => {
-            *pass = other;
+            put(pass, other);
             Err(Code::WrongKind)
         }
     }

@@ -25,6 +25,13 @@ pub enum Inside {
     Away,
 }
 
+/// Puts this into the place. What was there is dropped.
+pub(crate) fn put(place: &mut Inside, inside: Inside)
+    ensures { place.new ≡ inside }
+{
+    drop(replace(place, inside));
+}
+
 /// Where a request stands, as a pass of any kind finds it.
 pub(crate) fn look_in(inside: &mut Inside, req: Req) -> Result<Phase, Code>
     ensures { LooksIn req inside.old inside.new result }
@@ -116,40 +123,33 @@ pub(crate) fn tick_in(inside: &mut Inside, to: u32) -> Result<(), Code>
 pub(crate) fn run_in(inside: &mut Inside, req: Req) -> Result<(Cqe, u64), Code>
     ensures { OfHand (WorksAt req) inside.old inside.new result }
 {
-    match replace(inside, Inside::Away) {
-        Inside::Hand(hand) => {
-            let (hand, answer) = hand.run(req);
-            let count = hand.took().len() as u64;
-            *inside = Inside::Hand(hand);
-            match answer {
-                Ok(cqe) => Ok((cqe, count)),
-                Err(code) => Err(code),
-            }
-        }
-        other => {
-            *inside = other;
-            Err(Code::WrongKind)
-        }
+    let Inside::Hand(hand) = inside else {
+        return Err(Code::WrongKind);
+    };
+    match hand.run(req) {
+        Ok(cqe) => Ok((cqe, hand.took().len() as u64)),
+        Err(code) => Err(code),
     }
 }
 
-/// Ends a board, by its poller, which all other passes have come back to. What is left is the report.
-pub(crate) fn finish_in(inside: &mut Inside, alloc: Global) -> Result<(), Code>
+/// Ends a board, by its poller, which all other passes have come back to. What is left is the report. How many lines that has.
+pub(crate) fn finish_in(inside: &mut Inside, alloc: Global) -> Result<u64, Code>
     ensures { EndsIn inside.old inside.new result }
 {
     match replace(inside, Inside::Away) {
         Inside::Desk(desk) => match desk.finish(alloc) {
             Ok(report) => {
-                *inside = Inside::Report(report);
-                Ok(())
+                let count = report.lines().len() as u64;
+                put(inside, Inside::Report(report));
+                Ok(count)
             }
             Err((code, desk)) => {
-                *inside = Inside::Desk(desk);
+                put(inside, Inside::Desk(desk));
                 Err(code)
             }
         },
         other => {
-            *inside = other;
+            put(inside, other);
             Err(Code::WrongKind)
         }
     }

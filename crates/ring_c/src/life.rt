@@ -1,18 +1,18 @@
 //! How C opens a board, gets its passes, gives them back and ends it.
 ghost use Rattle.std.specs.Prelude.{◌≡◌, ◌≢◌, ℕ, Result, None};
 ghost use Rattle.ring_c.specs.declared.results.Line.{Line as Told};
-ghost use Rattle.ring_c.specs.Reports.{CountsLines, GivesLineBytes, TellsLine};
+ghost use Rattle.ring_c.specs.Reports.{GivesLineBytes, TellsLine};
 ghost use Rattle.ring_c.specs.Results.{counted_as, line_as};
 ghost use Rattle.ring_c.specs.declared.code.Code.{Code as Why};
 ghost use Rattle.ring_c.specs.Codes.{answer_of};
 ghost use Rattle.ring_c.specs.Handles.{EndsIn, Through};
-ghost use Rattle.ring_c.specs.Lives.{AreOfOne, GivesOut, GivesClient, GivesHand, Opens, TakesBack};
+ghost use Rattle.ring_c.specs.Lives.{AreOfOne, GivesOut, GivesPass, Opens, TakesBack};
 
 use crate::code::{Code, answer_number};
 use crate::handle::Handle;
-use crate::homes::{client_of, hand_of, poller_of, take_back};
+use crate::homes::{pass_of, poller_of, take_back};
 use crate::inside::finish_in;
-use crate::reports::{count_in, line_bytes_in, line_in};
+use crate::reports::{line_bytes_in, line_in};
 use crate::results::{Counted, Line};
 use std::alloc::Global;
 
@@ -42,46 +42,28 @@ pub extern "C" fn ring_c_new(
     }
 }
 
-/// Hands out a client of the poller's board.
+/// Hands out a worker of the poller's board, or else a client.
 #[unsafe(no_mangle)]
-pub extern "C" fn ring_c_client(alloc: Global, poller: &mut Handle, client: &mut Handle) -> u32
-    ensures given { (a : Result (Unit {0}) Why) × (result ≡ answer_of a) × GivesOut GivesClient poller.old.slot.inside poller.new.slot.inside client.old.slot.inside client.new.slot.inside a }
-    ensures stamp { (poller.new.stamp ≡ poller.old.stamp) × (result ≡ 0 → client.new.stamp ≡ poller.old.stamp) }
+pub extern "C" fn ring_c_give(
+    alloc: Global,
+    poller: &mut Handle,
+    pass: &mut Handle,
+    is_worker: bool,
+) -> u32
+    ensures given { (a : Result (Unit {0}) Why) × (result ≡ answer_of a) × GivesOut (GivesPass is_worker) poller.old.slot.inside poller.new.slot.inside pass.old.slot.inside pass.new.slot.inside a }
+    ensures stamp { (poller.new.stamp ≡ poller.old.stamp) × (result ≡ 0 → pass.new.stamp ≡ poller.old.stamp) }
 {
-    if client.is_open() {
+    if pass.is_open() {
         return Code::InUse.number();
     }
     let Some(mut inside) = poller.take(alloc) else {
         return Code::Closed.number();
     };
-    let answer = client_of(&mut inside, alloc);
+    let answer = pass_of(&mut inside, alloc, is_worker);
     poller.put(inside);
     match answer {
         Ok(made) => {
-            client.open(made, poller.stamp());
-            0
-        }
-        Err(code) => code.number(),
-    }
-}
-
-/// Hands out a worker of the poller's board.
-#[unsafe(no_mangle)]
-pub extern "C" fn ring_c_worker(alloc: Global, poller: &mut Handle, worker: &mut Handle) -> u32
-    ensures given { (a : Result (Unit {0}) Why) × (result ≡ answer_of a) × GivesOut GivesHand poller.old.slot.inside poller.new.slot.inside worker.old.slot.inside worker.new.slot.inside a }
-    ensures stamp { (poller.new.stamp ≡ poller.old.stamp) × (result ≡ 0 → worker.new.stamp ≡ poller.old.stamp) }
-{
-    if worker.is_open() {
-        return Code::InUse.number();
-    }
-    let Some(mut inside) = poller.take(alloc) else {
-        return Code::Closed.number();
-    };
-    let answer = hand_of(&mut inside, alloc);
-    poller.put(inside);
-    match answer {
-        Ok(made) => {
-            worker.open(made, poller.stamp());
+            pass.open(made, poller.stamp());
             0
         }
         Err(code) => code.number(),
@@ -113,30 +95,16 @@ pub extern "C" fn ring_c_back(alloc: Global, poller: &mut Handle, pass: &mut Han
     answer_number(answer)
 }
 
-/// Ends the board of a poller that all passes have come back to. The handle leads to the report then.
+/// Ends the board of a poller that all passes have come back to. The handle leads to the report then. How many lines that has.
 #[unsafe(no_mangle)]
-pub extern "C" fn ring_c_finish(alloc: Global, handle: &mut Handle) -> u32
-    ensures finished { (a : Result (Unit {0}) Why) × (result ≡ answer_of a) × Through EndsIn handle.old.slot.inside handle.new.slot.inside a }
+pub extern "C" fn ring_c_finish(alloc: Global, handle: &mut Handle) -> Counted
+    ensures finished { (a : Result ℕ Why) × (result ≡ counted_as a) × Through EndsIn handle.old.slot.inside handle.new.slot.inside a }
     ensures stamp { handle.new.stamp ≡ handle.old.stamp }
 {
     let Some(mut inside) = handle.take(alloc) else {
-        return Code::Closed.number();
-    };
-    let answer = finish_in(&mut inside, alloc);
-    handle.put(inside);
-    answer_number(answer)
-}
-
-/// How many lines the report has that a handle leads to.
-#[unsafe(no_mangle)]
-pub extern "C" fn ring_c_count(alloc: Global, handle: &mut Handle) -> Counted
-    ensures counted { (a : Result ℕ Why) × (result ≡ counted_as a) × Through CountsLines handle.old.slot.inside handle.new.slot.inside a }
-    ensures stamp { handle.new.stamp ≡ handle.old.stamp }
-{
-    let Some(inside) = handle.take(alloc) else {
         return Counted::of(Err(Code::Closed));
     };
-    let answer = count_in(&inside);
+    let answer = finish_in(&mut inside, alloc);
     handle.put(inside);
     Counted::of(answer)
 }

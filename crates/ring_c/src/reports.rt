@@ -1,6 +1,6 @@
 //! The report that a handle leads to, line by line.
 ghost use Rattle.std.specs.Prelude.{◌≡◌, IfErr};
-ghost use Rattle.ring_c.specs.Reports.{CountsLines, GivesLineBytes, TellsLine, line_for};
+ghost use Rattle.ring_c.specs.Reports.{GivesLineBytes, TellsLine, line_for};
 
 use crate::batch::copy_bytes;
 use crate::code::Code;
@@ -29,16 +29,6 @@ fn bytes_of(line: &(Completion, bool)) -> &[u8]
     ensures { result.now ≡ line.now.0.buffer.items }
 {
     line.0.buffer.as_slice()
-}
-
-/// How many lines the report has.
-pub(crate) fn count_in(inside: &Inside) -> Result<u64, Code>
-    ensures { CountsLines inside.now inside.now result }
-{
-    match inside {
-        Inside::Report(report) => Ok(report.lines().len() as u64),
-        _ => Err(Code::WrongKind),
-    }
 }
 
 /// The report's line with this index.

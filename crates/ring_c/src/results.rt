@@ -112,41 +112,27 @@ impl Looked {
                 };
             }
         };
+        let (phase, value) = phase_numbers(phase);
         Looked {
             code: 0,
-            phase: phase_number(phase),
-            value: phase_value(phase),
+            phase,
+            value,
         }
     }
 }
 
-/// The number of a phase.
-fn phase_number(phase: Phase) -> u32
-    ensures { result ≡ phase_of phase }
+/// The number of a phase, and its deadline or its reply.
+fn phase_numbers(phase: Phase) -> (u32, i64)
+    ensures { (result.0 ≡ phase_of phase) × (result.1 ≡ value_of phase) }
 {
     match phase {
-        Phase::Unborn => 0,
-        Phase::Held => 1,
-        Phase::Ready => 2,
-        Phase::Running => 3,
-        Phase::Armed(_) => 4,
-        Phase::Done(_) => 5,
-        Phase::Gone => 6,
-    }
-}
-
-/// The deadline or the reply.
-fn phase_value(phase: Phase) -> i64
-    ensures { result ≡ value_of phase }
-{
-    match phase {
-        Phase::Armed(deadline) => i64::from(deadline),
-        Phase::Done(res) => i64::from(res),
-        Phase::Unborn => 0,
-        Phase::Held => 0,
-        Phase::Ready => 0,
-        Phase::Running => 0,
-        Phase::Gone => 0,
+        Phase::Unborn => (0, 0),
+        Phase::Held => (1, 0),
+        Phase::Ready => (2, 0),
+        Phase::Running => (3, 0),
+        Phase::Armed(deadline) => (4, i64::from(deadline)),
+        Phase::Done(res) => (5, i64::from(res)),
+        Phase::Gone => (6, 0),
     }
 }
 

@@ -1,0 +1,13 @@
+use Rattle.std.proofs.Common.{[], subst}
+use Rattle.work.specs.Board.{Facts}
+use Rattle.board.specs.Calls.{Goes, Finds}
+use Rattle.ring_c.specs.Sides.{ClientFacts}
+use Rattle.ring_c.proofs.client.Client.look.Goals as goal
+
+pub returns-clause-looks : goal.returns-clause-looks
+returns-clause-looks c = subst (λ (x : ClientFacts). Goes x.board x.pass [] c.look.new.pass) c.self.view_is
+    (subst (λ (b : Facts). Goes b c.self.inside.submitter [] c.look.new.pass) c.deref.ensures c.look.ensures.looks)
+
+pub returns-clause-finds : goal.returns-clause-finds
+returns-clause-finds c = subst (λ (x : ClientFacts). Finds x.board c.args.req c.look.result x.pass c.look.new.pass) c.self.view_is
+    (subst (λ (b : Facts). Finds b c.args.req c.look.result c.self.inside.submitter c.look.new.pass) c.deref.ensures c.look.ensures.finds)
