@@ -15,8 +15,9 @@ const ROUNDS: u64 = 16;
 /// After how many tries in vain, one right after another, a thread naps.
 const QUICK: u32 = 64;
 
-/// How many pauses of the processor lie between two such tries.
-const PAUSES: u32 = 16;
+/// How many pauses of the processor lie between two such tries: some microseconds, so that all of them take as long as it takes to wake
+/// the poller and a worker.
+const PAUSES: u32 = 512;
 
 /// How long the first nap is, in microseconds. Each of the next ones is twice as long as that before it, up to sixteen times as long.
 const NAP: u64 = 64;
