@@ -52,19 +52,23 @@ fn taken(mut pipe: Pipe) -> u64 {
 
 /// How much of the new part there is, where it is made.
 fn made(alloc: Global, part: Part, gave: &mut Shown) -> Option<u64> {
-    Some(match part {
-        Part::Pipe => taken(gave.got(Pipe::new(alloc, 16))?),
-        Part::Row => gave.got(Row::new(alloc, 4))?.count(),
-        Part::Bell => gave.got(Bell::new(alloc, 3))?.1.len() as u64,
-        Part::Outbox => gave.got(Outbox::new(alloc, 5))?.room() as u64,
-        Part::Ring => u64::from(gave.got(CompletionRing::new(alloc, 2))?.take().is_some()),
-        Part::Queue => gave.got(ReadyQueue::new(alloc, 4, 2))?.1.len() as u64,
-        Part::Object => u64::from(
-            gave.got(Object::new(alloc, 1, &[4]))?
-                .reply_of(req(0))
-                .is_some(),
-        ),
-    })
+    match part {
+        Part::Pipe => gave.got(Pipe::new(alloc, 16)).map(taken),
+        Part::Row => gave.got(Row::new(alloc, 4)).map(|row| row.count()),
+        Part::Bell => gave.got(Bell::new(alloc, 3)).map(|it| it.1.len() as u64),
+        Part::Outbox => gave
+            .got(Outbox::new(alloc, 5))
+            .map(|outbox| outbox.room() as u64),
+        Part::Ring => gave
+            .got(CompletionRing::new(alloc, 2))
+            .map(|mut ring| u64::from(ring.take().is_some())),
+        Part::Queue => gave
+            .got(ReadyQueue::new(alloc, 4, 2))
+            .map(|it| it.1.len() as u64),
+        Part::Object => gave
+            .got(Object::new(alloc, 1, &[4]))
+            .map(|object| u64::from(object.reply_of(req(0)).is_some())),
+    }
 }
 
 impl Call<()> for New {

@@ -30,8 +30,15 @@ fn ground_of(alloc: Global, shape: &Shape) -> Option<(Board, Poller, Submitter, 
     let Ok((board, poller, mut submitters, mut workers)) = new_board(alloc, shape) else {
         return None;
     };
-    let submitter = submitters.pop()?;
-    let worker = workers.pop()?;
+    let Some(submitter) = submitters.pop() else {
+        drop((board, poller, submitters, workers));
+        return None;
+    };
+    let Some(worker) = workers.pop() else {
+        drop((board, poller, submitter, submitters, workers));
+        return None;
+    };
+    drop((submitters, workers));
     Some((board, poller, submitter, worker))
 }
 
@@ -44,7 +51,11 @@ fn signals_of(alloc: Global) -> Option<(Bell, Ringer, Sleeper)>
     let Ok((bell, mut ringers, sleeper)) = Bell::new(alloc, 1) else {
         return None;
     };
-    let ringer = ringers.pop()?;
+    let Some(ringer) = ringers.pop() else {
+        drop((bell, ringers, sleeper));
+        return None;
+    };
+    drop(ringers);
     Some((bell, ringer, sleeper))
 }
 
@@ -56,8 +67,15 @@ fn lane_of(alloc: Global) -> Option<(ReadyQueue, ReadyPass, ReadyPass)>
     let Ok((queue, mut passes)) = ReadyQueue::new(alloc, CELLS, 2) else {
         return None;
     };
-    let one = passes.pop()?;
-    let other = passes.pop()?;
+    let Some(one) = passes.pop() else {
+        drop((queue, passes));
+        return None;
+    };
+    let Some(other) = passes.pop() else {
+        drop((queue, one, passes));
+        return None;
+    };
+    drop(passes);
     Some((queue, one, other))
 }
 
@@ -66,9 +84,18 @@ type Passes = (Poller, Sleeper, ReadyPass);
 
 /// What a poller's desk is made of, for a board of this shape.
 fn passes_of(alloc: Global, shape: &Shape) -> Option<Passes> {
-    let (_, poller, _, _) = ground_of(alloc, shape)?;
-    let (_, _, sleeper) = signals_of(alloc)?;
-    let (_, ready, _) = lane_of(alloc)?;
+    let (board, poller, submitter, worker) = ground_of(alloc, shape)?;
+    drop((board, submitter, worker));
+    let Some((bell, ringer, sleeper)) = signals_of(alloc) else {
+        drop(poller);
+        return None;
+    };
+    drop((bell, ringer));
+    let Some((queue, ready, other)) = lane_of(alloc) else {
+        drop((poller, sleeper));
+        return None;
+    };
+    drop((queue, other));
     Some((poller, sleeper, ready))
 }
 
@@ -94,13 +121,15 @@ impl Handed<Shape> for Passes {
 
 /// A board of this shape.
 fn board_of(alloc: Global, shape: &Shape) -> Option<Board> {
-    let (board, _, _, _) = ground_of(alloc, shape)?;
+    let (board, poller, submitter, worker) = ground_of(alloc, shape)?;
+    drop((poller, submitter, worker));
     Some(board)
 }
 
 /// A pass of a ready queue.
 fn pass_of(alloc: Global) -> Option<ReadyPass> {
-    let (_, _, pass) = lane_of(alloc)?;
+    let (queue, other, pass) = lane_of(alloc)?;
+    drop((queue, other));
     Some(pass)
 }
 
@@ -177,10 +206,21 @@ impl Stage {
         requires { length shape.now.rings.items ≡ 1 }
     {
         let (board, poller, submitter, worker) = ground_of(alloc, shape)?;
-        let (bell, ringer, sleeper) = signals_of(alloc)?;
-        let (queue, one, other) = lane_of(alloc)?;
-        let Ok(work) = WorkDesk::new(alloc, &board, other) else {
+        let Some((bell, ringer, sleeper)) = signals_of(alloc) else {
+            drop((board, poller, submitter, worker));
             return None;
+        };
+        let Some((queue, one, other)) = lane_of(alloc) else {
+            drop(((board, poller, submitter, worker), (bell, ringer, sleeper)));
+            return None;
+        };
+        let work = match WorkDesk::new(alloc, &board, other) {
+            Ok(work) => work,
+            Err(refused) => {
+                drop((refused, (board, poller, submitter, worker)));
+                drop(((bell, ringer, sleeper), (queue, one)));
+                return None;
+            }
         };
         match PollDesk::new(alloc, shape, poller, sleeper, one) {
             Ok(desk) => Some(Stage {
@@ -195,7 +235,11 @@ impl Stage {
                 tail: 0,
                 outboxes: outboxes_of(alloc),
             }),
-            Err(_) => None,
+            Err(refused) => {
+                drop((refused, (board, submitter, worker)));
+                drop((bell, ringer, queue, work));
+                None
+            }
         }
     }
 
@@ -214,6 +258,7 @@ impl Stage {
             return true;
         };
         if outbox.len() > 0 || outbox.room() < self.desk.places() {
+            drop(outbox);
             return true;
         }
         let turn = poll_turn(
@@ -226,6 +271,7 @@ impl Stage {
             &mut outbox,
         );
         tell_answers(&outbox, gave);
+        drop(outbox);
         gave.got(turn).is_some()
     }
 
@@ -235,9 +281,11 @@ impl Stage {
             return;
         };
         if outbox.room() < self.board.widest() as usize {
+            drop(outbox);
             return;
         }
         let Some(worker) = self.worker.take() else {
+            drop(outbox);
             return;
         };
         let (worker, _turn) = work_turn(
@@ -251,6 +299,7 @@ impl Stage {
         );
         self.worker = Some(worker);
         tell_answers(&outbox, gave);
+        drop(outbox);
     }
 }
 
@@ -334,10 +383,12 @@ pub(crate) fn tell_turns<R: Wait>(rt: &R, lines: &mut Lines) {
         let mut pass = pass_of(lines.alloc);
         if let Some(board) = board_of(lines.alloc, &shape) {
             lines.tell(&board, "WorkDesk::new", &mut pass);
+            drop(board);
         }
         drop(pass);
         if let Some(stage) = Stage::new(lines.alloc, &shape) {
             drop(turns(rt, lines, stage));
         }
+        drop(shape);
     }
 }
