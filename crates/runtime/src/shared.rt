@@ -6,8 +6,9 @@ use ready::ReadyQueue;
 use std::hint;
 use std::sync::atomic::{AtomicBool, AtomicU64, Ordering};
 
-/// How many looks find out whether the workers have something to do.
-const LOOKS: u32 = 16;
+/// How many looks find out whether the workers have something to do. They take some milliseconds, as long as a turn of a poller with
+/// hundreds of requests that wait, so that one of them comes between two turns.
+const LOOKS: u32 = 65_536;
 
 /// The board, its doorbell and its ready queue; the completion ring of each ring, each under a lock of its own; and whether the
 /// workers are to end, as the poller says once it was told to.
