@@ -34,7 +34,7 @@ outcome_low : (w : ℕ) (b : Bool) → outcome_of w b % 8589934592 ≡ w % 85899
 outcome_low w b = let k : ℕ = bit b in omega arith
 
 -- placing leaves the flags
-placed_links : (b : Option Submission) (e : Entry) → links (placed_behind b e) ≡ links e
+pub placed_links : (b : Option Submission) (e : Entry) → links (placed_behind b e) ≡ links e
 placed_links b e = ⊎_elim
     (λ (w : (is_link_timeout e.op && not (hosts b)) ≡ true). ap (λ z. links (cond z (record e { op = Invalid }) e)) w)
     (λ (w : (is_link_timeout e.op && not (hosts b)) ≡ false). ap (λ z. links (cond z (record e { op = Invalid }) e)) w) (bool_cases (is_link_timeout e.op && not (hosts b)))

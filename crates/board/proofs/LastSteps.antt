@@ -112,6 +112,9 @@ pub none_target : (h : List Event) (q : Req) (o : Option ℕ) → is_some o ≡ 
 none_target h q None e t = t
 none_target h q (Some k) e t = absurd (true≢false e)
 
+pub unlinked_by : (h : List Event) (q : Req) → IsTargetOf h q None → ¬ IsLinkTimeout h q
+unlinked_by h q none link = none (previous q) (has_target h q link.0 link.1 link.2)
+
 -- the entry that a submitted request is placed as
 pub placed_is : (b : Facts) (s : TableSeat) (q : Req) → IsOurs b s → q.k < submits (events_of s.me.0.seen) q.ring → (e : Entry) × IsPlaced (events_of s.me.0.seen) q e
 placed_is b s q o born = let x = submission_some (setup_of b.layout) (events_of s.me.0.seen) q o.ours.legal born in (placed_behind (before_in (events_of s.me.0.seen) q) x.0.entry, ap (placed_from (before_in (events_of s.me.0.seen) q)) x.1)

@@ -28,6 +28,7 @@ pub mod TimerLooks
 pub mod PutBack
 pub mod WordOutcomes
 pub mod RowLaws
+pub mod PlainRows
 pub mod LastSteps
 pub mod RowsKept
 pub mod AlarmsSet

@@ -1,5 +1,6 @@
 -- What the poller knows of a ring's row, from one look and one call of the row to the next.
-use Rattle.std.proofs.Common.{◌≡◌, ℕ, zero, suc, ◌+◌, ◌-◌, ◌*◌, ◌/◌, ◌%◌, ◌<◌, ◌≤◌, suc-mul, mul-le-mul_right, Bool, true, false, cond, List, [], ◌∷◌, ◌++◌, drop, length, Option, Some, ⊎_elim, inl, inr, sym, refl, ap, ◌∙◌, subst, arith, true≢false}
+use Rattle.std.proofs.Common.{◌≡◌, ℕ, zero, suc, ◌+◌, ◌-◌, ◌*◌, ◌/◌, ◌%◌, ◌<◌, ◌≤◌, ◌||◌, ◌&&◌, not, suc-mul, mul-le-mul_right, Bool, true, false, cond, List, [], ◌∷◌, ◌++◌, drop, length, Option, Some, ⊎_elim, inl, inr, sym, refl, ap, ◌∙◌, subst, arith, true≢false}
+use Rattle.std.proofs.lemmas.Bool.{cases_lt}
 use Rattle.std.proofs.lemmas.Option.{none-some}
 use Rattle.std.specs.List.{slice_get}
 use Rattle.std.specs.Result.{IsOk, OnOk}
@@ -7,17 +8,17 @@ use Rattle.std.specs.declared.result.Result.{Result}
 use Rattle.std.specs.declared.result.Result.TheVariants.{Ok, Err}
 use Rattle.atomic_table.specs.declared.shared.Seat.{Seat}
 use Rattle.claim.specs.Facts.{Facts as FactsParts}
-use Rattle.entry.specs.Entry.{Entry}
+use Rattle.entry.specs.Entry.{Entry, drains, links, links_soft, links_hard}
 use Rattle.gates.specs.declared.traits.Traits.{Traits}
-use Rattle.gates.specs.EntryRows.{Kept, Stands, added, waiting, waiting_in, slot_with, stand_in, with_reply, Waits}
-use Rattle.gates.specs.Shows.{nth, TrailsAt, Trails, IsOutcome, IsOfChain}
+use Rattle.gates.specs.EntryRows.{Kept, Stands, added, waiting, waiting_in, slot_with, stand_in, stand_ins, with_reply, Waits}
+use Rattle.gates.specs.Shows.{nth, IsPlainAt, ArePlain, TrailsAt, Trails, IsOutcome, IsOfChain}
 use Rattle.gates.specs.Slots.{Slot, traits_of, is_pending, test_at, passes}
-use Rattle.gates.proofs.TrailLaws.{trails_later, trails_more, trails_replied, lost_replied, met_trails, stand_in_trails, of_chain_done}
+use Rattle.gates.proofs.TrailLaws.{trails_later, plain_later, trails_stand_ins, trails_more, trails_replied, lost_replied, met_trails, stand_in_trails, of_chain_done}
 use Rattle.history.specs.declared.req.Req.{Req}
 use Rattle.history.specs.declared.event.Event.{Event}
 use Rattle.history.specs.declared.event.Event.TheVariants.{Park}
 use Rattle.history.specs.History.{phase, unborn, waits, submits, was_shut, IsReplied}
-use Rattle.history.specs.Chains.{IsChainDone, IsLinkTimeout}
+use Rattle.history.specs.Chains.{IsChainDone, IsLinkTimeout, before_in, placed_from, placed_behind, is_link_timeout}
 use Rattle.history.specs.Legal.{Setup, Legal}
 use Rattle.steps.specs.declared.line.Line.{Line}
 use Rattle.steps.specs.declared.parcel.Thing.{Thing}
@@ -35,13 +36,14 @@ use Rattle.history.proofs.Requests.{bool_cases, same_false}
 use Rattle.steps.specs.Journal.{events_of}
 use Rattle.work.specs.Board.{Facts, IsBoard}
 use Rattle.work.proofs.GridRows.{counts_at, cell_says, located_is}
-use Rattle.board.specs.PollerRows.{KnowsRow, IsNumbered, IsAt, IsOurs, Watches, Watched, HasOutcome, owed}
+use Rattle.board.specs.PollerRows.{KnowsRow, IsNumbered, IsAt, IsOurs, Watches, Watched, HasOutcome, Notes, is_plain, owed}
 use Rattle.steps.specs.FactsTold.{TellsFacts, AreFacts}
 use Rattle.board.proofs.GoesLaws.{events_before}
 use Rattle.work.specs.Passes.{Pass, pass_of}
 use Rattle.board.specs.Calls.{Goes}
 use Rattle.board.proofs.PutBack.{waits_back, trails_back, parked_later, outcome_put}
 use Rattle.board.proofs.TimersKept.{link_was, link_still}
+use Rattle.board.proofs.FactsWords.{placed_links}
 
 abbrev TableSeat : Type 0
 TableSeat = Seat (Option Thing) View
@@ -54,7 +56,7 @@ module _ (b : Facts) (p q : Pass) (es : List Event) (x : Goes b p es q) where
   legal = subst (λ (h : List Event). Legal (setup_of b.layout) h) grown x.kept.legal
 
   pub knows_goes : (K : List ℕ) (i : ℕ) (r : Kept) → KnowsRow K p.view.seen i r → KnowsRow K q.view.seen i r
-  knows_goes K i r k = record { size = k.size; slots = k.slots; stands = k.stands; trails = subst (λ (h : List Event). Trails h i k.slots) (sym grown) (trails_later (setup_of b.layout) (events_of x.later) (events_of p.view.seen) legal i k.slots k.trails) }
+  knows_goes K i r k = record { size = k.size; slots = k.slots; stands = k.stands; trails = subst (λ (h : List Event). Trails h i k.slots) (sym grown) (trails_later (setup_of b.layout) (events_of x.later) (events_of p.view.seen) legal i k.slots k.trails); plain = subst (λ (h : List Event). ArePlain h i r.plain) (sym grown) (plain_later (setup_of b.layout) (events_of x.later) (events_of p.view.seen) legal i r.plain k.plain) }
 
   pub watches_goes : (K : List ℕ) (r : Req) (row : Kept) → r.k < submits (events_of p.view.seen) r.ring → (IsLinkTimeout (events_of q.view.seen) r → phase (events_of q.view.seen) r ≡ waits) → Watches K p.view.seen r row → Watches K q.view.seen r row
   unfolding knows_goes
@@ -85,11 +87,11 @@ watches_held K j q r is lt k = record {
 
 -- ---- the row was told of a reply, or got an entry more
 
-pub knows_replied : (K : List ℕ) (j : List Line) (i k : ℕ) (r r' : Kept) (f : Bool) (n : KnowsRow K j i r) → ((xs : List Slot) → Stands xs r → Waits xs r k) → IsOutcome (events_of j) (nth i k) f → ((xs : List Slot) → Stands xs r → Stands (with_reply xs k f) r') → r'.size ≡ r.size → KnowsRow K j i r'
-knows_replied K j i k r r' f n w o stands size = record { size = size ∙ n.size; slots = with_reply n.slots k f; stands = stands n.slots n.stands; trails = trails_replied (events_of j) i n.slots k f n.trails (w n.slots n.stands).pending o }
+pub knows_replied : (K : List ℕ) (j : List Line) (i k : ℕ) (r r' : Kept) (f : Bool) (n : KnowsRow K j i r) → ((xs : List Slot) → Stands xs r → Waits xs r k) → IsOutcome (events_of j) (nth i k) f → ((xs : List Slot) → Stands xs r → Stands (with_reply xs k f) r') → r'.size ≡ r.size → r'.plain ≡ r.plain → KnowsRow K j i r'
+knows_replied K j i k r r' f n w o stands size plain = record { size = size ∙ n.size; slots = with_reply n.slots k f; stands = stands n.slots n.stands; trails = trails_replied (events_of j) i n.slots k f n.trails (w n.slots n.stands).pending o; plain = subst (ArePlain (events_of j) i) (sym plain) n.plain }
 
-pub knows_added : (K : List ℕ) (j : List Line) (i : ℕ) (r r' : Kept) (s : Slot) → KnowsRow K j i r → TrailsAt (events_of j) (nth i (added r)) s → ((xs : List Slot) → Stands xs r → Stands (xs ++ s ∷ []) r') → r'.size ≡ r.size → KnowsRow K j i r'
-knows_added K j i r r' s n t stands size = record { size = size ∙ n.size; slots = n.slots ++ s ∷ []; stands = stands n.slots n.stands; trails = trails_more (events_of j) i n.slots s n.trails (subst (λ (m : ℕ). TrailsAt (events_of j) (nth i m) s) n.stands.count t) }
+pub knows_added : (K : List ℕ) (j : List Line) (i : ℕ) (r r' : Kept) (s : Slot) → KnowsRow K j i r → TrailsAt (events_of j) (nth i (added r)) s → ((xs : List Slot) → Stands xs r → Stands (xs ++ s ∷ []) r') → r'.size ≡ r.size → r'.plain ≡ r.plain → KnowsRow K j i r'
+knows_added K j i r r' s n t stands size plain = record { size = size ∙ n.size; slots = n.slots ++ s ∷ []; stands = stands n.slots n.stands; trails = trails_more (events_of j) i n.slots s n.trails (subst (λ (m : ℕ). TrailsAt (events_of j) (nth i m) s) n.stands.count t); plain = subst (ArePlain (events_of j) i) (sym plain) n.plain }
 
 pub real_outcome : (h : List Event) (q : Req) (f : Bool) → HasOutcome h q f → IsOutcome h q f
 real_outcome h q f o = inl o
@@ -143,12 +145,12 @@ few_wait K j i r k = let a = waiting_is k.slots r k.stands in let b = waiting_bo
 
 -- the next entry, by its facts or as a stand-in
 pub knows_facts : (K : List ℕ) (j : List Line) (q : Req) (r r' : Kept) (t : Traits) (last : Bool) → KnowsRow K j q.ring r → q.k ≡ added r → (w : FactsParts) → TellsFacts (events_of j) q w → ((e : Entry) (l : Bool) → AreFacts w e l → t ≡ traits_of e) → last ≡ w.last
-    → ((xs : List Slot) → Stands xs r → Stands (xs ++ slot_with t last ∷ []) r') → r'.size ≡ r.size → KnowsRow K j q.ring r'
-knows_facts K j q r r' t last k next w f traits ends stands size =
-    knows_added K j q.ring r r' (slot_with t last) k (subst (λ (n : ℕ). TrailsAt (events_of j) (nth q.ring n) (slot_with t last)) next (met_trails (events_of j) q f.0 f.1 t last f.2 f.3 (sym (traits f.1 f.0.last f.4)) (sym (ends ∙ f.4.last_is)))) stands size
+    → ((xs : List Slot) → Stands xs r → Stands (xs ++ slot_with t last ∷ []) r') → r'.size ≡ r.size → r'.plain ≡ r.plain → KnowsRow K j q.ring r'
+knows_facts K j q r r' t last k next w f traits ends stands size plain =
+    knows_added K j q.ring r r' (slot_with t last) k (subst (λ (n : ℕ). TrailsAt (events_of j) (nth q.ring n) (slot_with t last)) next (met_trails (events_of j) q f.0 f.1 t last f.2 f.3 (sym (traits f.1 f.0.last f.4)) (sym (ends ∙ f.4.last_is)))) stands size plain
 
-pub knows_done : (K : List ℕ) (j : List Line) (q : Req) (r r' : Kept) → KnowsRow K j q.ring r → q.k ≡ added r → IsChainDone (events_of j) q → ((xs : List Slot) → Stands xs r → Stands (xs ++ stand_in ∷ []) r') → r'.size ≡ r.size → KnowsRow K j q.ring r'
-knows_done K j q r r' k next d stands size = knows_added K j q.ring r r' stand_in k (subst (λ (n : ℕ). TrailsAt (events_of j) (nth q.ring n) stand_in) next (stand_in_trails (events_of j) q d)) stands size
+pub knows_done : (K : List ℕ) (j : List Line) (q : Req) (r r' : Kept) → KnowsRow K j q.ring r → q.k ≡ added r → IsChainDone (events_of j) q → ((xs : List Slot) → Stands xs r → Stands (xs ++ stand_in ∷ []) r') → r'.size ≡ r.size → r'.plain ≡ r.plain → KnowsRow K j q.ring r'
+knows_done K j q r r' k next d stands size plain = knows_added K j q.ring r r' stand_in k (subst (λ (n : ℕ). TrailsAt (events_of j) (nth q.ring n) stand_in) next (stand_in_trails (events_of j) q d)) stands size plain
 
 pub on_ok : {T E P : Type 0} (r : Result T E) → IsOk r → OnOk r P → P
 on_ok (Ok v) is p = p
@@ -168,14 +170,64 @@ way_done b s i n p o some born le chain =
     let alive : ¬ (phase (events_of j) (request_at K x (suc g)) ≡ unborn) = subst (λ (q : Req). ¬ (phase (events_of j) q ≡ unborn)) (sym next) (born_once S (events_of j) (nth i n) o.ours.legal born) in
     of_chain_done (events_of j) i p m (subst (λ (q : Req). IsChainDone (events_of j) q) first (earlier_gone b.layout S x inside j o.ours.legal o.ours.orderly (suc g) g (omega arith) alive).1) chain
 
+-- a row that began anew behind the requests whose cells were used again
+pub knows_restarted : (b : Facts) (s : TableSeat) (q : Req) (r r' : Kept) → IsOurs b s → 0 < cells_in b.layout.cells q.ring → q.k < submits (events_of s.me.0.seen) q.ring → cells_in b.layout.cells q.ring ≤ q.k
+    → KnowsRow b.layout.cells s.me.0.seen q.ring r → Stands (stand_ins (q.k - cells_in b.layout.cells q.ring + 1)) r' → r'.size ≡ r.size → r'.plain ≡ r.plain → KnowsRow b.layout.cells s.me.0.seen q.ring r'
+knows_restarted b s q r r' o some born le k stands size plain = let c : ℕ = cells_in b.layout.cells q.ring in let h : List Event = events_of s.me.0.seen in let i : ℕ = q.ring in record {
+  size = size ∙ k.size;
+  slots = stand_ins (q.k - c + 1);
+  stands = stands;
+  trails = trails_stand_ins h i (q.k - c + 1) (λ m lt. way_done b s i (m + c) m o some (omega arith) (omega arith) (inl (ap (nth i) (let e : m ≡ m + c - c = omega arith in e))));
+  plain = subst (ArePlain h i) (sym plain) k.plain;
+}
+
+-- a row that noted a request as plain, or didn't
+pub knows_noted : (K : List ℕ) (j : List Line) (q : Req) (r r' : Kept) (plain : Bool) → KnowsRow K j q.ring r → Notes (events_of j) q r r' plain → KnowsRow K j q.ring r'
+knows_noted K j q r r' plain k n = let st = k.stands in record {
+  size = ap (λ (z : Kept). z.size) n.same ∙ k.size;
+  slots = k.slots;
+  stands = subst (Stands k.slots) (sym n.same) (record { count = st.count; slots = st.slots; front = st.front; gone = st.gone; full = st.full });
+  trails = k.trails;
+  plain = n.before k.plain;
+}
+
+-- what facts tell of a plain entry
+pub plain_told : (h : List Event) (q : Req) (w : FactsParts) → ((e : Entry) (last : Bool) → AreFacts w e last → is_plain e ≡ true) → TellsFacts h q w → IsPlainAt h q
+plain_told h q w is t = let x = t.0 in let e = t.1 in let z = plain_parts (drains e) (links_soft e) (links_hard e) (is_link_timeout e.op) (is e x.last t.4) in
+    let at : placed_behind (before_in h q) x.entry ≡ e = one_some _ _ (sym (ap (placed_from (before_in h q)) t.2) ∙ t.3) in
+    let linked : links x.entry ≡ false = sym (placed_links (before_in h q) x.entry) ∙ ap links at ∙ (λ i. z.1.0 i || z.1.1 i) in record {
+      handed = (x, t.2, ap (λ (b : Bool). b && not x.last) linked);
+      placed = (e, t.3, z.0, z.2);
+    } where
+      plain_parts : (a b c d : Bool) → not (((a || b) || c) || d) ≡ true → (a ≡ false) × ((b ≡ false) × (c ≡ false)) × (d ≡ false)
+      plain_parts false false false false e = (refl, (refl, refl), refl)
+      plain_parts true b c d e = absurd (true≢false (sym e))
+      plain_parts false true c d e = absurd (true≢false (sym e))
+      plain_parts false false true d e = absurd (true≢false (sym e))
+      plain_parts false false false true e = absurd (true≢false (sym e))
+
+-- one request more is noted as plain, or none
+pub noted_one : (h : List Event) (q : Req) (r r' : Kept) → IsPlainAt h q → r.plain ≡ q.k → r' ≡ record r { plain = q.k + 1 } → Notes h q r r' true
+noted_one h q r r' here at is = record {
+  same = is ∙ ap (λ (n : ℕ). record r { plain = n }) (sym (ap (λ (z : Kept). z.plain) is));
+  before = λ before. subst (λ (n : ℕ). ArePlain h q.ring n) (sym (ap (λ (z : Kept). z.plain) is)) (λ m lt. ⊎_elim
+      (λ (u : m < q.k). before m (omega arith))
+      (λ (u : q.k ≤ m). let e : q.k ≡ m = omega arith in subst (λ (n : ℕ). IsPlainAt h (nth q.ring n)) e here)
+      (cases_lt m q.k));
+  here = λ _. here;
+}
+
+pub noted_none : (h : List Event) (q : Req) (r : Kept) (plain : Bool) → (plain ≡ true → IsPlainAt h q) → Notes h q r r plain
+noted_none h q r plain here = record { same = refl; before = λ before. before; here = here }
+
 -- a request in the way of q, whose reply the row is told of. A real outcome leaves the row right of q; where the whole chain of
 -- the other has replied, q may have too
 pub watches_replied : (K : List ℕ) (j : List Line) (q : Req) (k : ℕ) (r r' : Kept) (f : Bool) → Watches K j q r → k < q.k → ((xs : List Slot) → Stands xs r → Waits xs r k) → HasOutcome (events_of j) (nth q.ring k) f
-    → ((xs : List Slot) → Stands xs r → Stands (with_reply xs k f) r') → r'.size ≡ r.size → r'.lost ≡ r.lost → added r' ≡ added r → Watches K j q r'
+    → ((xs : List Slot) → Stands xs r → Stands (with_reply xs k f) r') → r'.size ≡ r.size → r'.plain ≡ r.plain → r'.lost ≡ r.lost → added r' ≡ added r → Watches K j q r'
 unfolding knows_replied
-watches_replied K j q k r r' f w lt way o stands size lost count = let n = w.knows in record {
+watches_replied K j q k r r' f w lt way o stands size plain lost count = let n = w.knows in record {
   cell = record { kept = (let z = w.cell.kept in omega arith); there = (let z = w.cell.there in omega arith) };
-  knows = knows_replied K j q.ring k r r' f n way (real_outcome (events_of j) (nth q.ring k) f o) stands size;
+  knows = knows_replied K j q.ring k r r' f n way (real_outcome (events_of j) (nth q.ring k) f o) stands size plain;
   parked = trails_replied (Park q ∷ events_of j) q.ring n.slots k f w.parked (way n.slots n.stands).pending (outcome_put q (nth q.ring k) (events_of j) o.0 o.1 f (same_false q (nth q.ring k) (λ e. let z : q.k ≡ k = ap (λ (y : Req). y.k) e in absurd (omega arith))) o.2 o.3 o.4);
   timer = w.timer;
 }

@@ -6,9 +6,9 @@ use Rattle.std.proofs.lemmas.Option.{slice_get_within}
 use mathlib.Core.Logic.{dite}
 use native.Mathlib.Decide.{ℕ_discrete}
 use Rattle.gates.specs.EntryRows.{Kept, Stands}
-use Rattle.gates.specs.Shows.{Trails}
+use Rattle.gates.specs.Shows.{Trails, ArePlain}
 use Rattle.gates.proofs.Lists.{get_before, get_last, get_set_same, get_set_other, one_some}
-use Rattle.gates.proofs.TrailLaws.{trails_none, trails_later}
+use Rattle.gates.proofs.TrailLaws.{trails_none, trails_later, plain_later}
 use Rattle.history.specs.declared.event.Event.{Event}
 use Rattle.history.specs.Legal.{Legal}
 use Rattle.steps.specs.declared.view.View.{View}
@@ -36,7 +36,7 @@ rows_looked v w rows x k =
     let legal : Legal (setup_of v.layout) (events_of x.saw.later ++ events_of v.seen) = subst (λ (z : List Event). Legal (setup_of v.layout) z) now x.legal in
     subst (λ (K : List ℕ). KnowsRows K w.seen rows) (sym (ap (λ (z : View). z.layout.cells) x.is)) record {
       count = k.count;
-      each = λ i r e. (let n = k.each i r e in record { size = n.size; slots = n.slots; stands = n.stands; trails = subst (λ (z : List Event). Trails z i n.slots) (sym h) (trails_later (setup_of v.layout) (events_of x.saw.later) (events_of v.seen) legal i n.slots n.trails) });
+      each = λ i r e. (let n = k.each i r e in record { size = n.size; slots = n.slots; stands = n.stands; trails = subst (λ (z : List Event). Trails z i n.slots) (sym h) (trails_later (setup_of v.layout) (events_of x.saw.later) (events_of v.seen) legal i n.slots n.trails); plain = subst (λ (z : List Event). ArePlain z i r.plain) (sym h) (plain_later (setup_of v.layout) (events_of x.saw.later) (events_of v.seen) legal i r.plain n.plain) });
     }
 
 -- one row was changed, and the others are as they were
@@ -57,8 +57,8 @@ rows_on b s t es o x rows k =
 
 -- ---- new rows
 
-pub new_row : (K : List ℕ) (i : ℕ) (r : Kept) → r.size ≡ cells_in K i → Stands [] r → KnowsRow K [] i r
-new_row K i r size stands = record { size = size; slots = []; stands = stands; trails = trails_none [] i }
+pub new_row : (K : List ℕ) (i : ℕ) (r : Kept) → r.size ≡ cells_in K i → Stands [] r → r.plain ≡ 0 → KnowsRow K [] i r
+new_row K i r size stands plain = record { size = size; slots = []; stands = stands; trails = trails_none [] i; plain = λ m lt. absurd (omega arith) }
 
 -- an element that was looked up
 pub at_index : (xs : List Kept) (i : ℕ) (r : Kept) → i < length xs → r ≡ get_or xs i r → slice_get xs i ≡ Some r

@@ -99,6 +99,10 @@ paid_first word found v w is = let z = paid_one word found v w is in (z.0, z.1, 
 pub paid_with : (v w : View) (a b c d : ℕ) → Paid v w b a → (n : ℕ) → a + n ≤ c → d ≤ b + n → Paid v w d c
 paid_with v w a b c d x n p q = (x.0, x.1, (let z = x.2 in omega arith))
 
+-- what was spared is paid too
+pub paid_spared : (v w : View) (n a : ℕ) → Paid v w n a → Paid v w 0 a
+paid_spared v w n a x = (x.0, x.1, (let z = x.2 in omega arith))
+
 pub paid_most : (v w : View) (a c : ℕ) → Paid v w 0 a → a ≤ c → Paid v w 0 c
 paid_most v w a c x le = (x.0, x.1, (let z = x.2 in omega arith))
 

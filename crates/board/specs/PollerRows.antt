@@ -1,10 +1,10 @@
 -- What the poller knows of the requests of each ring, and what it finds out for a release.
-use Rattle.std.specs.Prelude.{◌≡◌, ◌⊎◌, ℕ, suc, ◌==◌, cond, ◌+◌, ◌-◌, ◌*◌, ◌<◌, ◌≤◌, Bool, true, false, ℤ, negsuc, List, [], ◌∷◌, ◌++◌, length, slice_get, Option, Some, None}
+use Rattle.std.specs.Prelude.{◌≡◌, ◌⊎◌, ℕ, suc, ◌==◌, ◌||◌, not, cond, ◌+◌, ◌-◌, ◌*◌, ◌<◌, ◌≤◌, Bool, true, false, ℤ, negsuc, List, [], ◌∷◌, ◌++◌, length, slice_get, Option, Some, None}
 use Rattle.atomic_table.specs.declared.shared.Seat.{Seat}
 use Rattle.claim.specs.Facts.{Facts as FactsParts}
-use Rattle.entry.specs.Entry.{Entry, fails}
+use Rattle.entry.specs.Entry.{Entry, fails, drains, links_soft, links_hard, is_link_timeout}
 use Rattle.gates.specs.EntryRows.{Kept, Stands, HasCell, added, waiting}
-use Rattle.gates.specs.Shows.{Trails, HaveGoneOn}
+use Rattle.gates.specs.Shows.{Trails, ArePlain, IsPlainAt, HaveGoneOn}
 use Rattle.gates.specs.Slots.{Slot}
 use Rattle.history.specs.declared.req.Req.{Req}
 use Rattle.history.specs.declared.event.Event.{Event}
@@ -36,12 +36,13 @@ use Rattle.board.specs.declared.trail.Round.TheVariants.{Decided as DecidedOn, P
 use Rattle.board.specs.declared.poller.Released.{Released}
 use Rattle.board.specs.declared.poller.Released.TheVariants.{Severed as IsSevered, Freed as IsFreed, Shut as IsShut, Timer as IsTimer, NotHeld}
 
--- the row has the cells of the ring, and trails the history
+-- the row has the cells of the ring, and trails the history; as many requests as it notes are plain
 pub record KnowsRow (K : List ℕ) (j : List Line) (ring : ℕ) (r : Kept) : Type 0 where
   pub size : r.size ≡ cells_in K ring
   pub slots : List Slot
   pub stands : Stands slots r
   pub trails : Trails (events_of j) ring slots
+  pub plain : ArePlain (events_of j) ring r.plain
 
 -- the same of each ring's row
 pub record KnowsRows (K : List ℕ) (j : List Line) (rows : List Kept) : Type 0 where
@@ -104,6 +105,16 @@ owed r n = 4 * (n - added r) + 3 * waiting r
 abbrev pub ToldFacts : List Event → Req → Option FactsParts → Type 0
 ToldFacts h q (Some w) = TellsFacts h q w
 ToldFacts h q None = IsChainDone h q
+
+-- nothing in the entry makes it wait for others, or others wait for it
+abbrev pub is_plain : Entry → Bool
+is_plain e = not (((drains e || links_soft e) || links_hard e) || is_link_timeout e.op)
+
+-- the row noted the request q as plain too, if it is, and all before it are
+pub record Notes (h : List Event) (q : Req) (k l : Kept) (plain : Bool) : Type 0 where
+  pub same : l ≡ record k { plain = l.plain }
+  pub before : ArePlain h q.ring k.plain → ArePlain h q.ring l.plain
+  pub here : plain ≡ true → IsPlainAt h q
 
 -- the request's reply fails, or not
 abbrev pub HasOutcome : List Event → Req → Bool → Type 0
@@ -243,6 +254,12 @@ looks_of NowSevered = 0
 looks_of NowOpen = 0
 looks_of _ = 1
 
+-- the looks that its own place in the row pays, and that weren't needed
+abbrev pub spared_by : Gating → ℕ
+spared_by NowSevered = 2
+spared_by NowOpen = 2
+spared_by _ = 0
+
 -- the answer for r took the seat from s to t and the row from k to l
 abbrev pub Gates : Facts → Req → Seat (Option Thing) View → Seat (Option Thing) View → Kept → Kept → Gating → Type 0
-Gates b r s t k l x = Gated b r s t l x × Paid s.me.0 t.me.0 0 (3 * waiting k + looks_of x)
+Gates b r s t k l x = Gated b r s t l x × Paid s.me.0 t.me.0 (spared_by x) (3 * waiting k + looks_of x)

@@ -160,7 +160,39 @@ fn arm_known(
     }
 }
 
-/// Arms the request: it takes in what the row lacks, looks which timer it is and whether it waits, and passes what is in its way.
+/// Arms the request, which the row noted as plain: it is open, whoever has replied.
+fn arm_plain(
+    board: &Board,
+    seat: &mut TableSeat,
+    row: &Row,
+    clock: u32,
+    alarm: &mut Alarm,
+    spot: Spot,
+    req: Req,
+) -> Arming
+    requires ours { IsOurs board.now seat.old }
+    requires at { IsAt board.now.layout.cells spot.cell spot.generation req }
+    requires knows { KnowsRow board.now.layout.cells seat.old.me.0.seen req.ring row.now }
+    requires plain { req.k < row.now.plain }
+    requires clock { (clock ≡ clock_of (events_of seat.old.me.0.seen)) × (clock ≤ 2147483647) }
+    ensures seat { IsPollerSeat seat.new }
+    ensures arms { Arms board.now req (pass_of seat.old) (pass_of seat.new) result }
+    ensures keeps { Keeps (events_of seat.new.me.0.seen) req alarm.old alarm.new result }
+    ensures steps { Paid seat.old.me.0 seat.new.me.0 0 4 }
+{
+    let _ = row;
+    let found = timer_in(board, seat, spot, req);
+    if !is_held(board, seat, spot, req) {
+        return Arming::NotHeld;
+    }
+    let Some(timer) = found else {
+        return Arming::NotTimer;
+    };
+    set_alarm(board, seat, clock, alarm, spot, req, timer)
+}
+
+/// Arms the request: by itself, if it is known as plain. Else it takes in what the row lacks, looks which timer it is and whether
+/// it waits, and passes what is in its way.
 pub(crate) fn arm(
     board: &Board,
     seat: &mut TableSeat,
@@ -180,6 +212,9 @@ pub(crate) fn arm(
     ensures knows { KnowsRow board.now.layout.cells seat.new.me.0.seen req.ring row.new }
     ensures steps { Paid seat.old.me.0 seat.new.me.0 0 (4 * submits (events_of seat.new.me.0.seen) req.ring + 5) }
 {
+    if req.k < row.plain() {
+        return arm_plain(board, seat, row, clock, alarm, spot, req);
+    }
     if take_up(board, seat, row, spot, req) {
         arm_known(board, seat, row, clock, alarm, spot, req)
     } else {

@@ -1,19 +1,20 @@
 //! What the poller finds out of the requests of one ring: it takes in what was submitted, and looks for replies.
-ghost use Rattle.std.specs.Prelude.{◌≡◌, ◌⊎◌, ℕ, ◌+◌, ◌*◌, ◌<◌, ◌≤◌, Bool, true, false, List, Some, None, length, IfSome, IfNone};
+ghost use Rattle.std.specs.Prelude.{◌≡◌, ◌⊎◌, ℕ, ◌+◌, ◌*◌, ◌<◌, ◌≤◌, ◌||◌, not, Bool, true, false, List, Some, None, length, IfSome, IfNone};
 ghost use Rattle.claim.specs.Facts.{fits_facts};
 ghost use Rattle.entry.specs.Entry.{Entry};
 ghost use Rattle.gates.specs.EntryRows.{Stands, added, waiting, way_in, Waits};
 ghost use Rattle.board.specs.declared.poller.Released.TheVariants.{NotHeld};
 ghost use Rattle.gates.specs.Slots.{Slot, traits_of};
 ghost use Rattle.history.specs.History.{submits, phase, waits, IsReplied};
-ghost use Rattle.history.specs.Chains.{Open, Severed, is_timeout};
+ghost use Rattle.history.specs.declared.event.Event.{Event};
+ghost use Rattle.history.specs.Chains.{IsLinkTimeout, Open, Severed, is_timeout};
 ghost use Rattle.history.specs.Legal.{IsOf as IsOfKind};
 ghost use Rattle.steps.specs.Journal.{events_of, freed};
 ghost use Rattle.steps.specs.Cells.{claim_at};
 ghost use Rattle.work.specs.Passes.{pass_of};
 ghost use Rattle.board.specs.Calls.{Stepped};
-ghost use Rattle.board.specs.PollerRows.{KnowsRow, Watches, IsNumbered, IsAt, IsOurs, Watched, Paid, owed, ToldFacts, TellsOutcome, looks_for, Decides, Passes, IsNextLook, Advances, Gates};
-ghost use Rattle.steps.specs.FactsTold.{AreFacts};
+ghost use Rattle.board.specs.PollerRows.{KnowsRow, Watches, IsNumbered, IsAt, IsOurs, Watched, Paid, owed, ToldFacts, TellsOutcome, looks_for, Decides, Passes, IsNextLook, Advances, Gates, Notes, is_plain as plain_entry};
+ghost use Rattle.steps.specs.FactsTold.{AreFacts, TellsFacts};
 ghost use Rattle.board.specs.Seats.{IsPollerSeat};
 ghost use Rattle.gates.specs.Shows.{nth};
 
@@ -145,6 +146,36 @@ pub(crate) fn is_held(board: &Board, seat: &mut TableSeat, spot: Spot, req: Req)
     matches!(told(word, spot.generation), Phase::Held)
 }
 
+/// Whether an entry of these traits neither links, drains, nor is a LINK_TIMEOUT.
+fn are_plain(traits: Traits) -> bool
+    ensures { result ≡ not (((traits.drains || traits.links_soft) || traits.links_hard) || traits.link_timeout) }
+{
+    !(traits.drains || traits.links_soft || traits.links_hard || traits.link_timeout)
+}
+
+/// The same of an entry, by its facts.
+fn is_plain(facts: FactsWord) -> bool
+    ensures { (e : Entry) (last : Bool) → AreFacts facts e last → result ≡ plain_entry e }
+{
+    are_plain(traits_in(facts))
+}
+
+/// Notes that the request is plain, if it is, and the row has noted so of all before it. Whether it is plain.
+#[inline(always)]
+fn note_plain(row: &mut Row, facts: FactsWord, req: Req) -> bool
+    requires { req.k < 18446744073709551615 }
+    ensures { (h : List Event) → TellsFacts h req facts → Notes h req row.old row.new result }
+{
+    if !is_plain(facts) {
+        return false;
+    }
+    if row.plain() == req.k {
+        row.note_plain(req.k + 1);
+        return true;
+    }
+    true
+}
+
 /// Takes the next request of the ring in. Its cell in the row is free.
 fn add_next(board: &Board, seat: &mut TableSeat, row: &mut Row, next: Req)
     requires ours { IsOurs board.now seat.old }
@@ -161,13 +192,16 @@ fn add_next(board: &Board, seat: &mut TableSeat, row: &mut Row, next: Req)
     let Some(spot) = board.grid.locate(next) else {
         unreachable!()
     };
-    let added = match facts_in(board, seat, spot, next) {
-        Some(facts) => row.add_traits(traits_in(facts), facts.last),
-        None => row.add_stand_in(),
+    let Some(facts) = facts_in(board, seat, spot, next) else {
+        if row.add_stand_in().is_err() {
+            unreachable!()
+        }
+        return;
     };
-    if added.is_err() {
+    if row.add_traits(traits_in(facts), facts.last).is_err() {
         unreachable!()
     }
+    note_plain(row, facts, next);
 }
 
 /// Takes the next request of the ring in, or passes one that is in its way: that one's whole chain has replied, since the next
@@ -190,6 +224,22 @@ fn take_one(board: &Board, seat: &mut TableSeat, row: &mut Row, req: Req)
     }
 }
 
+/// Lets the row begin anew where it lacks requests whose cells were used again since: the whole chain of each has replied.
+fn catch_up(board: &Board, seat: &TableSeat, row: &mut Row, req: Req)
+    requires ours { IsOurs board.now seat.now }
+    requires numbered { IsNumbered board.now.layout.cells req }
+    requires born { req.k < submits (events_of seat.now.me.0.seen) req.ring }
+    requires knows { KnowsRow board.now.layout.cells seat.now.me.0.seen req.ring row.old }
+    ensures knows { KnowsRow board.now.layout.cells seat.now.me.0.seen req.ring row.new }
+    ensures less { owed row.new (req.k + 1) ≤ owed row.old (req.k + 1) }
+{
+    let _ = seat;
+    let cells = board.grid.cells_in(usize::from(req.ring));
+    if cells <= req.k && row.count() <= req.k - cells {
+        row.restart(req.k - cells + 1);
+    }
+}
+
 /// Takes in what the row lacks up to the request, one after the other.
 pub(crate) fn take_in(board: &Board, seat: &mut TableSeat, row: &mut Row, req: Req)
     requires ours { IsOurs board.now seat.old }
@@ -201,6 +251,7 @@ pub(crate) fn take_in(board: &Board, seat: &mut TableSeat, row: &mut Row, req: R
     ensures has { req.k < added row.new }
     ensures steps { Paid seat.old.me.0 seat.new.me.0 (owed row.new (req.k + 1)) (owed row.old (req.k + 1)) }
 {
+    catch_up(board, seat, row, req);
     while row.count() <= req.k {
         take_one(board, seat, row, req);
     }
@@ -263,6 +314,34 @@ fn is_worked(board: &Board, seat: &mut TableSeat, spot: Spot, req: Req) -> bool
     }
 }
 
+/// Moves the request, which is open and no LINK_TIMEOUT, to the workers, unless it is a TIMEOUT that still waits.
+fn hand_on(board: &Board, seat: &mut TableSeat, spot: Spot, req: Req, worked: bool) -> Released
+    requires ours { IsOurs board.now seat.old }
+    requires at { IsAt board.now.layout.cells spot.cell spot.generation req }
+    requires small { spot.generation < 16777216 }
+    requires born { req.k < submits (events_of seat.old.me.0.seen) req.ring }
+    requires open { Open (events_of seat.old.me.0.seen) req }
+    requires unlinked { IsLinkTimeout (events_of seat.old.me.0.seen) req → ⊥ }
+    requires worked { worked ≡ true → IsOfKind (events_of seat.old.me.0.seen) req is_timeout false }
+    requires timer { worked ≡ false → IsOfKind (events_of seat.old.me.0.seen) req is_timeout true ⊎ IsReplied (phase (events_of seat.old.me.0.seen) req) }
+    ensures seat { IsPollerSeat seat.new }
+    ensures decides { Decides board.now req (pass_of seat.old) (pass_of seat.new) result }
+    ensures steps { Paid seat.old.me.0 seat.new.me.0 0 1 }
+{
+    if !worked {
+        if !is_held(board, seat, spot, req) {
+            return Released::NotHeld;
+        }
+        return Released::Timer;
+    }
+    let words = &board.table.shared;
+    if seat::release(words, seat, spot.cell, spot.generation as u32) {
+        Released::Freed
+    } else {
+        Released::NotHeld
+    }
+}
+
 /// Moves the request, which is open, to the workers, unless it is a timer: a linked one, which has a target, or a TIMEOUT that
 /// still waits.
 fn free(board: &Board, seat: &mut TableSeat, row: &Row, spot: Spot, req: Req) -> Released
@@ -279,18 +358,8 @@ fn free(board: &Board, seat: &mut TableSeat, row: &Row, spot: Spot, req: Req) ->
     if row.target_of(req.k).is_some() {
         return Released::Timer;
     }
-    if !is_worked(board, seat, spot, req) {
-        if !is_held(board, seat, spot, req) {
-            return Released::NotHeld;
-        }
-        return Released::Timer;
-    }
-    let words = &board.table.shared;
-    if seat::release(words, seat, spot.cell, spot.generation as u32) {
-        Released::Freed
-    } else {
-        Released::NotHeld
-    }
+    let worked = is_worked(board, seat, spot, req);
+    hand_on(board, seat, spot, req, worked)
 }
 
 /// Answers the request, of which an earlier member of its chain failed.
@@ -393,7 +462,7 @@ fn decide(board: &Board, seat: &mut TableSeat, row: &mut Row, spot: Spot, req: R
     ensures seat { IsPollerSeat seat.new }
     ensures decides { Decides board.now req (pass_of seat.old) (pass_of seat.new) result }
     ensures knows { KnowsRow board.now.layout.cells seat.new.me.0.seen req.ring row.new }
-    ensures steps { Paid seat.old.me.0 seat.new.me.0 0 (3 * waiting row.old + 2) }
+    ensures steps { Paid seat.old.me.0 seat.new.me.0 0 (3 * waiting row.old + 1) }
 {
     match gate(board, seat, row, spot, req) {
         Gating::Severed => sever(board, seat, row, spot, req),
@@ -404,25 +473,106 @@ fn decide(board: &Board, seat: &mut TableSeat, row: &mut Row, spot: Spot, req: R
     }
 }
 
-/// Takes in what the row lacks up to the request, which waits. Whether that still waits.
+/// Takes in what the row lacks up to the request. Whether that still waits.
 fn follow(board: &Board, seat: &mut TableSeat, row: &mut Row, spot: Spot, req: Req) -> bool
     requires ours { IsOurs board.now seat.old }
     requires at { IsAt board.now.layout.cells spot.cell spot.generation req }
     requires numbered { IsNumbered board.now.layout.cells req }
     requires born { req.k < submits (events_of seat.old.me.0.seen) req.ring }
     requires knows { KnowsRow board.now.layout.cells seat.old.me.0.seen req.ring row.old }
-    requires waits { phase (events_of seat.old.me.0.seen) req ≡ waits }
     ensures watched { Watched board.now seat.old seat.new }
     ensures knows { KnowsRow board.now.layout.cells seat.new.me.0.seen req.ring row.new }
     ensures watches { result ≡ true → Watches board.now.layout.cells seat.new.me.0.seen req row.new }
     ensures lost { result ≡ false → Decides board.now req (pass_of seat.old) (pass_of seat.new) NotHeld }
     ensures steps { Paid seat.old.me.0 seat.new.me.0 (3 * waiting row.new) (owed row.old (req.k + 1) + 1) }
 {
-    if req.k < row.count() {
-        return true;
-    }
     take_in(board, seat, row, req);
     is_held(board, seat, spot, req)
+}
+
+/// Releases the request where all before it are plain, and it is too: it is open, whoever has replied, and the row needn't have
+/// it. None where it isn't, or its facts are gone.
+#[inline(always)]
+fn release_plain(
+    board: &Board,
+    seat: &mut TableSeat,
+    row: &mut Row,
+    spot: Spot,
+    req: Req,
+) -> Option<Released>
+    requires ours { IsOurs board.now seat.old }
+    requires at { IsAt board.now.layout.cells spot.cell spot.generation req }
+    requires small { spot.generation < 16777216 }
+    requires born { req.k < submits (events_of seat.old.me.0.seen) req.ring }
+    requires knows { KnowsRow board.now.layout.cells seat.old.me.0.seen req.ring row.old }
+    requires plain { req.k ≤ row.old.plain }
+    ensures seat { IsPollerSeat seat.new }
+    ensures decides { IfSome result (λ x. Decides board.now req (pass_of seat.old) (pass_of seat.new) x) }
+    ensures watched { IfNone result (Watched board.now seat.old seat.new) }
+    ensures knows { KnowsRow board.now.layout.cells seat.new.me.0.seen req.ring row.new }
+    ensures same { (added row.new ≡ added row.old) × (waiting row.new ≡ waiting row.old) }
+    ensures steps { Paid seat.old.me.0 seat.new.me.0 0 2 }
+    ensures step { IfNone result (Paid seat.old.me.0 seat.new.me.0 0 1) }
+{
+    let _ = &board.grid;
+    let Some(facts) = facts_in(board, seat, spot, req) else {
+        return None;
+    };
+    if !note_plain(row, facts, req) {
+        return None;
+    }
+    Some(hand_on(board, seat, spot, req, facts.row != TIMEOUT))
+}
+
+/// Releases the request: the row takes in what it lacks, and it passes what is in the way.
+fn release_by_row(
+    board: &Board,
+    seat: &mut TableSeat,
+    row: &mut Row,
+    spot: Spot,
+    req: Req,
+) -> Released
+    requires ours { IsOurs board.now seat.old }
+    requires at { IsAt board.now.layout.cells spot.cell spot.generation req }
+    requires small { spot.generation < 16777216 }
+    requires numbered { IsNumbered board.now.layout.cells req }
+    requires born { req.k < submits (events_of seat.old.me.0.seen) req.ring }
+    requires knows { KnowsRow board.now.layout.cells seat.old.me.0.seen req.ring row.old }
+    ensures seat { IsPollerSeat seat.new }
+    ensures decides { Decides board.now req (pass_of seat.old) (pass_of seat.new) result }
+    ensures knows { KnowsRow board.now.layout.cells seat.new.me.0.seen req.ring row.new }
+    ensures steps { Paid seat.old.me.0 seat.new.me.0 0 (owed row.old (req.k + 1) + 2) }
+{
+    if !follow(board, seat, row, spot, req) {
+        return Released::NotHeld;
+    }
+    decide(board, seat, row, spot, req)
+}
+
+/// Releases the request, where all before it are plain: by itself if it is plain too, else by the row.
+fn release_next(
+    board: &Board,
+    seat: &mut TableSeat,
+    row: &mut Row,
+    spot: Spot,
+    req: Req,
+) -> Released
+    requires ours { IsOurs board.now seat.old }
+    requires at { IsAt board.now.layout.cells spot.cell spot.generation req }
+    requires small { spot.generation < 16777216 }
+    requires numbered { IsNumbered board.now.layout.cells req }
+    requires born { req.k < submits (events_of seat.old.me.0.seen) req.ring }
+    requires knows { KnowsRow board.now.layout.cells seat.old.me.0.seen req.ring row.old }
+    requires plain { req.k ≤ row.old.plain }
+    ensures seat { IsPollerSeat seat.new }
+    ensures decides { Decides board.now req (pass_of seat.old) (pass_of seat.new) result }
+    ensures knows { KnowsRow board.now.layout.cells seat.new.me.0.seen req.ring row.new }
+    ensures steps { Paid seat.old.me.0 seat.new.me.0 0 (owed row.old (req.k + 1) + 3) }
+{
+    match release_plain(board, seat, row, spot, req) {
+        Some(released) => released,
+        None => release_by_row(board, seat, row, spot, req),
+    }
 }
 
 /// Releases the request: it looks whether that waits, takes in what the row lacks, and passes what is in its way.
@@ -444,8 +594,11 @@ pub(crate) fn release(
     if !is_held(board, seat, spot, req) {
         return Released::NotHeld;
     }
-    if !follow(board, seat, row, spot, req) {
-        return Released::NotHeld;
+    if req.k < row.count() {
+        return decide(board, seat, row, spot, req);
     }
-    decide(board, seat, row, spot, req)
+    if row.plain() < req.k {
+        return release_by_row(board, seat, row, spot, req);
+    }
+    release_next(board, seat, row, spot, req)
 }

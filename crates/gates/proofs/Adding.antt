@@ -8,8 +8,8 @@ use Rattle.std.proofs.lemmas.List.{length-map, map-append, drop-drop, drop-appen
 use Rattle.history.proofs.Requests.{bool_cases}
 use Rattle.gates.specs.declared.cell.Behind.{Behind}
 use Rattle.gates.specs.declared.cell.Cell.{Cell}
-use Rattle.gates.specs.Slots.{Slot, slot_of, is_pending, is_draining, next_of, next_in, first, behind, test_at, passes}
-use Rattle.gates.specs.EntryRows.{Kept, IsFirst, Linked, IsSound, Stands, IsToldBy, without_first, added}
+use Rattle.gates.specs.Slots.{Slot, slot_of, is_pending, is_draining, next_of, next_in, starting, behind, test_at, passes}
+use Rattle.gates.specs.EntryRows.{Kept, IsFirst, Linked, IsSound, IsChainStart, Stands, IsToldBy, without_first, added}
 use Rattle.gates.proofs.Lists.{get_there, get_drop, get_before, get_last, one_some, slot_there}
 use Rattle.gates.proofs.CellReplies.{behind_same_before}
 use Rattle.gates.proofs.Standing.{slot_exact, behind_exact}
@@ -112,22 +112,22 @@ told_dropped n cs b told c x =
 -- ---- the list that a row stands for
 
 -- what the next entry is told
-pub next_told : (xs : List Slot) (r : Kept) → IsSound r → Stands xs r → (b : Behind) → IsToldBy r.lost r.cells b → (length r.cells ≡ 0 → b ≡ first) → b ≡ behind xs (added r)
+pub next_told : (xs : List Slot) (r : Kept) → IsSound r → Stands xs r → (b : Behind) → IsToldBy r.lost r.cells b → (length r.cells ≡ 0 → b ≡ starting r.lost) → b ≡ behind xs (added r)
 next_told xs r sound stands b told none = ⊎_elim
     (λ (a : 0 < length r.cells). let c = get_there r.cells (length r.cells - 1) (omega arith) in
     told c.0 c.1 ∙ ap (next_of (r.lost + (length r.cells - 1)) (slot_of c.0)) (behind_exact xs r sound stands (length r.cells - 1) c.0 c.1)
     ∙ sym (ap (λ z. next_in (r.lost + (length r.cells - 1)) z (behind xs (r.lost + (length r.cells - 1)))) (slot_exact xs r sound stands (length r.cells - 1) c.0 c.1))
     ∙ ap (behind xs) (let u : suc (r.lost + (length r.cells - 1)) ≡ r.lost + length r.cells = omega arith in u))
     (λ (a : length r.cells ≤ 0). let e : length r.cells ≡ 0 = omega arith in let p = sound.cell in
-    let z : r.lost ≡ 0 = ⊎_elim (λ u. u) (λ u. absurd (let v : length r.cells ≡ r.size = u in omega arith)) stands.full in
-    none e ∙ ap (behind xs) (let u : 0 ≡ r.lost + length r.cells = omega arith in u))
+    let z : IsChainStart xs r.lost = ⊎_elim (λ u. u) (λ u. absurd (let v : length r.cells ≡ r.size = u in omega arith)) stands.full in
+    none e ∙ sym z ∙ ap (behind xs) (let u : r.lost ≡ r.lost + length r.cells = omega arith in u))
     (cases_lt 0 (length r.cells))
 
 -- an entry more in the list and in the cells
-pub stands_pushed : (xs : List Slot) (n size oldest drain : ℕ) (cs : List Cell) (v : Cell) → n + length cs ≡ length xs → drop n xs ≡ map slot_of cs
+pub stands_pushed : (xs : List Slot) (n size oldest drain plain : ℕ) (cs : List Cell) (v : Cell) → n + length cs ≡ length xs → drop n xs ≡ map slot_of cs
     → ((c : Cell) → slice_get cs 0 ≡ Some c → c.behind ≡ behind xs n) → v.behind ≡ behind xs (n + length cs) → ((m : ℕ) → m < n → passes is_pending xs m ≡ false)
-    → ((n ≡ 0) ⊎ (length cs + 1 ≡ size)) → Stands (xs ++ slot_of v ∷ []) (record { size = size; lost = n; cells = cs ++ v ∷ []; oldest = oldest; drain = drain })
-stands_pushed xs n size oldest drain cs v count slots front told gone full =
+    → IsChainStart xs n ⊎ (length cs + 1 ≡ size) → Stands (xs ++ slot_of v ∷ []) (record { size = size; lost = n; cells = cs ++ v ∷ []; oldest = oldest; drain = drain; plain = plain })
+stands_pushed xs n size oldest drain plain cs v count slots front told gone full =
     let s : Slot = slot_of v in let l : length (xs ++ s ∷ []) ≡ length xs + 1 = length-append xs (s ∷ []) in let k = length_pushed cs v in
     let same = λ (m : ℕ) (lt : m < length xs). get_before xs s m lt in record {
       count = omega arith;
@@ -138,31 +138,31 @@ stands_pushed xs n size oldest drain cs v count slots front told gone full =
           sym (ap (λ (u : Cell). u.behind) (one_some v c (sym (ap (slice_get (cs ++ v ∷ [])) z ∙ get_last cs v) ∙ e))) ∙ told ∙ ap (behind xs) (let u : n + length cs ≡ n = omega arith in u))
           (cases_lt 0 (length cs))) ∙ behind_same_before xs (xs ++ s ∷ []) n (λ m lt. sym (same m (omega arith)));
       gone = λ m lt. ap (test_at is_pending) (same m (omega arith)) ∙ gone m lt;
-      full = ⊎_elim (λ u. inl u) (λ u. inr (k ∙ u)) full;
+      full = ⊎_elim (λ u. inl (behind_same_before (xs ++ s ∷ []) xs n (λ m lt. same m (omega arith)) ∙ u)) (λ u. inr (k ∙ u)) full;
     }
 
 pub stands_at : (xs : List Slot) (r : Kept) (size n : ℕ) (cs : List Cell) → r.size ≡ size → r.lost ≡ n → r.cells ≡ cs
-    → Stands xs (record { size = size; lost = n; cells = cs; oldest = r.oldest; drain = r.drain }) → Stands xs r
+    → Stands xs (record { size = size; lost = n; cells = cs; oldest = r.oldest; drain = r.drain; plain = r.plain }) → Stands xs r
 stands_at xs r size n cs a b d s =
-    subst (λ z. Stands xs (record { size = z; lost = r.lost; cells = r.cells; oldest = r.oldest; drain = r.drain })) (sym a)
-    (subst (λ z. Stands xs (record { size = size; lost = z; cells = r.cells; oldest = r.oldest; drain = r.drain })) (sym b)
-    (subst (λ z. Stands xs (record { size = size; lost = n; cells = z; oldest = r.oldest; drain = r.drain })) (sym d) s))
+    subst (λ z. Stands xs (record { size = z; lost = r.lost; cells = r.cells; oldest = r.oldest; drain = r.drain; plain = r.plain })) (sym a)
+    (subst (λ z. Stands xs (record { size = size; lost = z; cells = r.cells; oldest = r.oldest; drain = r.drain; plain = r.plain })) (sym b)
+    (subst (λ z. Stands xs (record { size = size; lost = n; cells = z; oldest = r.oldest; drain = r.drain; plain = r.plain })) (sym d) s))
 
 -- a row that is not full yet
-pub stands_added : (xs : List Slot) (r r' : Kept) (v : Cell) → IsSound r → Stands xs r → length r.cells < r.size → IsToldBy r.lost r.cells v.behind → (length r.cells ≡ 0 → v.behind ≡ first)
+pub stands_added : (xs : List Slot) (r r' : Kept) (v : Cell) → IsSound r → Stands xs r → length r.cells < r.size → IsToldBy r.lost r.cells v.behind → (length r.cells ≡ 0 → v.behind ≡ starting r.lost)
     → r'.size ≡ r.size → r'.lost ≡ r.lost → r'.cells ≡ r.cells ++ v ∷ [] → Stands (xs ++ slot_of v ∷ []) r'
 stands_added xs r r' v sound s lt told none a b d =
-    let z : r.lost ≡ 0 = ⊎_elim (λ u. u) (λ u. absurd (let w : length r.cells ≡ r.size = u in omega arith)) s.full in
+    let z : IsChainStart xs r.lost = ⊎_elim (λ u. u) (λ u. absurd (let w : length r.cells ≡ r.size = u in omega arith)) s.full in
     stands_at (xs ++ slot_of v ∷ []) r' r.size r.lost (r.cells ++ v ∷ []) a b d
-    (stands_pushed xs r.lost r.size r'.oldest r'.drain r.cells v s.count s.slots s.front (next_told xs r sound s v.behind told none) s.gone (inl z))
+    (stands_pushed xs r.lost r.size r'.oldest r'.drain r'.plain r.cells v s.count s.slots s.front (next_told xs r sound s v.behind told none) s.gone (inl z))
 
 -- a full row, whose first request loses its cell
-pub stands_moved : (xs : List Slot) (r r' : Kept) (v : Cell) → IsSound r → Stands xs r → 0 < r.oldest → r.size ≤ length r.cells → IsToldBy r.lost r.cells v.behind → (length r.cells ≡ 0 → v.behind ≡ first)
+pub stands_moved : (xs : List Slot) (r r' : Kept) (v : Cell) → IsSound r → Stands xs r → 0 < r.oldest → r.size ≤ length r.cells → IsToldBy r.lost r.cells v.behind → (length r.cells ≡ 0 → v.behind ≡ starting r.lost)
     → passes is_pending xs r.lost ≡ false → r'.size ≡ r.size → r'.lost ≡ r.lost + 1 → r'.cells ≡ drop 1 r.cells ++ v ∷ [] → Stands (xs ++ slot_of v ∷ []) r'
 stands_moved xs r r' v sound s pos le told none done a b d =
     let l = length-drop 1 r.cells in let f = sound.fits in let p = sound.cell in let n : r.lost + length r.cells ≡ length xs = s.count in
     stands_at (xs ++ slot_of v ∷ []) r' r.size (r.lost + 1) (drop 1 r.cells ++ v ∷ []) a b d
-    (stands_pushed xs (r.lost + 1) r.size r'.oldest r'.drain (drop 1 r.cells) v (omega arith)
+    (stands_pushed xs (r.lost + 1) r.size r'.oldest r'.drain r'.plain (drop 1 r.cells) v (omega arith)
     (sym (drop-drop 1 r.lost xs) ∙ ap (drop 1) s.slots ∙ drop_mapped r.cells)
     (λ c e. behind_exact xs r sound s 1 c (sym (get_drop 1 r.cells 0) ∙ e))
     (next_told xs r sound s v.behind told none ∙ ap (behind xs) (let u : r.lost + length r.cells ≡ r.lost + 1 + length (drop 1 r.cells) = omega arith in u))
@@ -173,9 +173,9 @@ stands_moved xs r r' v sound s pos le told none done a b d =
       drop_mapped (c ∷ cs) = refl
 
 -- the parts of a row with an entry more
-pub sound_by : (size n oldest drain : ℕ) (cs now : List Cell) (v : Cell) → now ≡ cs ++ v ∷ [] → 0 < size → length cs < size → n + length cs < 18446744073709551615 → Linked n (cs ++ v ∷ [])
-    → IsFirst is_pending (map slot_of (cs ++ v ∷ [])) oldest → IsFirst is_draining (map slot_of now) drain → IsSound (record { size = size; lost = n; cells = now; oldest = oldest; drain = drain })
-sound_by size n oldest drain cs now v e pos room few linked old dr = record {
+pub sound_by : (size n oldest drain plain : ℕ) (cs now : List Cell) (v : Cell) → now ≡ cs ++ v ∷ [] → 0 < size → length cs < size → n + length cs < 18446744073709551615 → Linked n (cs ++ v ∷ [])
+    → IsFirst is_pending (map slot_of (cs ++ v ∷ [])) oldest → IsFirst is_draining (map slot_of now) drain → IsSound (record { size = size; lost = n; cells = now; oldest = oldest; drain = drain; plain = plain })
+sound_by size n oldest drain plain cs now v e pos room few linked old dr = record {
   cell = pos;
   fits = let a = ap length e in let b = length_pushed cs v in omega arith;
   few = let a = ap length e in let b = length_pushed cs v in omega arith;

@@ -93,8 +93,8 @@ module _ (n : ℕ) (cs cs1 cs2 : List Cell) (j : ℕ) (fails : Bool) (lt : j < l
       (λ (w : (i == j) ≡ false). ap (test_at p) (get_set_other ss j i s (ne_of i j w)) ∙ old i le)
       (bool_cases (i == j))
 
-  module _ (xs : List Slot) (k size oldest drain oldest' drain' : ℕ) (place : k ≡ n + j) (kept : (i : ℕ) → i ≤ j → slice_get cs2 i ≡ slice_get cs1 i)
-      (stands : Stands xs (record { size = size; lost = n; cells = cs; oldest = oldest; drain = drain })) where
+  module _ (xs : List Slot) (k size oldest drain oldest' drain' plain : ℕ) (place : k ≡ n + j) (kept : (i : ℕ) → i ≤ j → slice_get cs2 i ≡ slice_get cs1 i)
+      (stands : Stands xs (record { size = size; lost = n; cells = cs; oldest = oldest; drain = drain; plain = plain })) where
     at : slice_get xs k ≡ Some (slot_of here.0)
     at = ap (slice_get xs) place ∙ sym (get_drop n xs j) ∙ ap (λ z. slice_get z j) stands.slots ∙ slot_there (slot_of) cs j here.0 here.1
 
@@ -119,12 +119,15 @@ module _ (n : ℕ) (cs cs1 cs2 : List Cell) (j : ℕ) (fails : Bool) (lt : j < l
     fewer is = subst (λ z. waiting_in z < waiting_in (map slot_of cs)) (sym slots_written)
         (waiting_set (map slot_of cs) j (slot_of here.0) (slot_replied (slot_of here.0) fails) (slot_there slot_of cs j here.0 here.1) (sym (ap (test_at is_pending) at) ∙ is) refl)
 
+    same_behind : behind (with_reply xs k fails) n ≡ behind xs n
+    same_behind = behind_same_before (with_reply xs k fails) xs n (λ m lt'. other m (let ne : m ≢ k = omega arith in ne))
+
     -- the row stands for the list with the reply
-    pub stands_replied : Stands (with_reply xs k fails) (record { size = size; lost = n; cells = cs2; oldest = oldest'; drain = drain' })
+    pub stands_replied : Stands (with_reply xs k fails) (record { size = size; lost = n; cells = cs2; oldest = oldest'; drain = drain'; plain = plain })
     stands_replied = record {
       count = let a = length_told in let b = ap length list ∙ length-set xs k (slot_replied (slot_of here.0) fails) in let c : n + length cs ≡ length xs = stands.count in omega (arith, a, b, c);
       slots = ap (drop n) list ∙ ap (λ z. drop n (set xs z (slot_replied (slot_of here.0) fails))) place ∙ drop-set-add n xs j (slot_replied (slot_of here.0) fails) ∙ ap (λ z. set z j (slot_replied (slot_of here.0) fails)) stands.slots ∙ sym slots_written;
-      front = λ c e. first_kept c e ∙ sym (behind_same_before (with_reply xs k fails) xs n (λ m lt'. other m (let ne : m ≢ k = omega arith in ne)));
+      front = λ c e. first_kept c e ∙ sym same_behind;
       gone = λ m lt'. ap (test_at is_pending) (other m (let ne : m ≢ k = omega arith in ne)) ∙ stands.gone m lt';
-      full = ⊎_elim (λ z. inl z) (λ z. inr (length_told ∙ z)) stands.full;
+      full = ⊎_elim (λ z. inl (same_behind ∙ z)) (λ z. inr (length_told ∙ z)) stands.full;
     }

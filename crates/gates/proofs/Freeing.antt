@@ -11,7 +11,7 @@ use Rattle.history.specs.Chains.{IsChainBefore, IsChained}
 use Rattle.history.proofs.Requests.{bool_cases, and_left, and_right}
 use Rattle.gates.specs.declared.cell.Behind.{Behind}
 use Rattle.gates.specs.Slots.{Slot, slot_of, behind}
-use Rattle.gates.specs.EntryRows.{Kept, IsSound, Stands, added, free_by, begins_after}
+use Rattle.gates.specs.EntryRows.{Kept, IsSound, IsChainStart, Stands, added, free_by, begins_after}
 use Rattle.gates.specs.Shows.{nth, Shows, IsFree, IsOfChain}
 use Rattle.gates.proofs.Lists.{get_there}
 use Rattle.gates.proofs.Marks.{P, Join}
@@ -104,3 +104,29 @@ module _ (xs : List Slot) (r : Kept) (sound : IsSound r) (stands : Stands xs r) 
           (λ (u : 0 < r.oldest). y.1 (nth i (r.lost + r.oldest)) (omega arith) (inr ((shown h i xs shows).chain_shown r.lost (r.lost + r.oldest) (omega arith) (omega (arith, n)) w.1)))
           (λ (u : r.oldest ≤ 0). subst (λ z. IsReplied (phase h (nth i z))) (let v : r.lost ≡ r.lost + r.oldest = omega arith in v) y.0)
           (cases_lt 0 r.oldest))
+
+-- where the row has a cell for each of its requests and one more, the next one's is free
+pub room_law : (xs : List Slot) (r : Kept) → IsSound r → Stands xs r → length r.cells < r.size → (h : List Event) (i : ℕ) → Shows h i xs → IsFree h r.size (nth i (added r))
+room_law xs r sound stands room h i shows = ⊎_elim
+    (λ (a : added r < r.size). inl a)
+    (λ (a : r.size ≤ added r). let t : ℕ = added r - r.size in let before : t < r.lost = omega arith in inr (
+      replied t before,
+      λ p lt c. ⊎_elim
+          (λ x. (let u : p ≡ nth i p.k = by_number h i xs Each (shown h i xs shows) p (nth i t) x.0.0 refl in let y : p.k < t = x.0.1 in subst (λ z. IsReplied (phase h z)) (sym u) (replied p.k (omega arith))))
+          (λ x. (let u : p ≡ nth i p.k = by_number h i xs Each (shown h i xs shows) p (nth i t) (sym x.0.0) refl in subst (λ z. IsReplied (phase h z)) (sym u) (⊎_elim
+          (λ (y : p.k < r.lost). replied p.k y)
+          (λ (y : r.lost ≤ p.k). absurd (crosses t before (λ m b d. (shown h i xs shows).chain_found t p.k (omega arith) tt (subst (λ z. IsChainBefore h (nth i t) z) u x) m b (omega arith))))
+          (cases_lt p.k r.lost)))) c,
+    ))
+    (cases_lt (added r) r.size) where
+      count : r.lost + length r.cells ≡ length xs
+      count = stands.count
+
+      replied : (m : ℕ) → m < r.lost → IsReplied (phase h (nth i m))
+      replied m lt = (shown h i xs shows).replied_is m (omega (arith, count)) (stands.gone m lt)
+
+      crosses : (t : ℕ) → t < r.lost → Join xs t r.lost → ⊥
+      crosses t lt join = ⊎_elim
+          (λ (u : IsChainStart xs r.lost). (head_is xs r.lost (omega (arith, count))).alone t (subst (λ (n : ℕ). t < n) (sym (ap (λ (b : Behind). b.head) u)) lt) join)
+          (λ (u : length r.cells ≡ r.size). absurd (omega arith))
+          stands.full

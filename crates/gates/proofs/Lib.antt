@@ -10,6 +10,8 @@ pub mod Links
 pub mod Lists
 pub mod Marks
 pub mod CellReplies
+pub mod PlainLaws
+pub mod Restarts
 pub mod Standing
 pub mod TrailLaws
 pub mod Trailing

@@ -14,11 +14,13 @@ use Rattle.history.proofs.Growth.{submission_none, submission_stays, reply_stays
 use Rattle.history.proofs.Opening.{placed_stays, chain_was, done_stays}
 use Rattle.gates.specs.declared.traits.Traits.{Traits}
 use Rattle.gates.specs.Slots.{Slot, traits_of, is_unanswered, is_pending, passes, test_at}
-use Rattle.gates.specs.EntryRows.{Kept, Stands, slot_with, stand_in, with_reply, answered}
-use Rattle.gates.specs.Shows.{nth, IsOfChain, StandsIn, IsOutcome, TrailedAt, TrailsAt, Trails, HasNotSevered, HaveGoneOn}
+use Rattle.gates.specs.EntryRows.{Kept, Stands, slot_with, stand_in, stand_ins, with_reply, answered}
+use Rattle.gates.specs.Shows.{nth, IsOfChain, StandsIn, IsOutcome, TrailedAt, TrailsAt, Trails, IsPlainAt, ArePlain, HasNotSevered, HaveGoneOn}
 use Rattle.gates.proofs.Lists.{get_before, get_last, get_set_same, get_set_other, one_some}
 use Rattle.gates.proofs.Links.{ne_of}
 use Rattle.gates.proofs.Trailing.{trailed}
+use Rattle.gates.proofs.Restarts.{stand_in_at}
+use Rattle.std.proofs.lemmas.List.{length-replicate}
 
 pub trails_none : (h : List Event) (i : ℕ) → Trails h i []
 trails_none h i k s e = absurd (none-some s e)
@@ -117,6 +119,12 @@ module _ (s : Setup) (e : Event) (h : List Event) (l : Legal s h) (a : MayCome s
   pub trails_grows : (i : ℕ) (xs : List Slot) → Trails h i xs → Trails (e ∷ h) i xs
   trails_grows i xs trails k x is = ⊎_elim (λ t. inl (trailed_stays (nth i k) x t)) (λ t. inr (stands_in_stays (nth i k) x t)) (trails k x is)
 
+  pub plain_grows : (i n : ℕ) → ArePlain h i n → ArePlain (e ∷ h) i n
+  plain_grows i n plain m lt = let t = plain m lt in let g = t.handed in let p = t.placed in let c = submitted (nth i m) g.0 g.1 in record {
+    handed = (g.0, submission_stays s e h (nth i m) a c ∙ g.1, g.2);
+    placed = (p.0, placed_stays s e h l a (nth i m) c ∙ p.1, p.2, p.3);
+  }
+
   -- who of a chain has gone on has done so for good
   not_severed_stays : (q : Req) → q.k < submits h q.ring → HasNotSevered h q → HasNotSevered (e ∷ h) q
   not_severed_stays q lt is = let x = reply_of_replied s (phase h q) is.0 in (
@@ -132,3 +140,11 @@ module _ (s : Setup) (e : Event) (h : List Event) (l : Legal s h) (a : MayCome s
 pub trails_later : (s : Setup) (later h : List Event) → Legal s (later ++ h) → (i : ℕ) (xs : List Slot) → Trails h i xs → Trails (later ++ h) i xs
 trails_later s [] h l i xs t = t
 trails_later s (e ∷ later) h l i xs t = trails_grows s e (later ++ h) l.1 l.0.1 i xs (trails_later s later h l.1 i xs t)
+
+pub plain_later : (s : Setup) (later h : List Event) → Legal s (later ++ h) → (i n : ℕ) → ArePlain h i n → ArePlain (later ++ h) i n
+plain_later s [] h l i n t = t
+plain_later s (e ∷ later) h l i n t = plain_grows s e (later ++ h) l.1 l.0.1 i n (plain_later s later h l.1 i n t)
+
+pub trails_stand_ins : (h : List Event) (i n : ℕ) → ((m : ℕ) → m < n → IsChainDone h (nth i m)) → Trails h i (stand_ins n)
+trails_stand_ins h i n done k s e = let lt : k < n = subst (λ (z : ℕ). k < z) (length-replicate n stand_in) (slice_get_within (stand_ins n) k s e) in
+    subst (λ (z : Slot). TrailsAt h (nth i k) z) (one_some stand_in s (sym (stand_in_at n k lt) ∙ e)) (stand_in_trails h (nth i k) (done k lt))

@@ -1,21 +1,22 @@
 -- What is kept of a row of entries, and when it stands for a list of them.
-use Rattle.std.specs.Prelude.{IsTrue, ◌≡◌, ◌⊎◌, ℕ, zero, suc, ◌+◌, ◌-◌, ◌<◌, ◌≤◌, ◌==◌, ◌&&◌, ◌||◌, nat_lt, min, cond, Bool, true, false, List, [], ◌∷◌, length, map, drop, Option, Some, None, slice_get, slice_set}
+use Rattle.std.specs.Prelude.{IsTrue, ◌≡◌, ◌⊎◌, ℕ, zero, suc, ◌+◌, ◌-◌, ◌<◌, ◌≤◌, ◌==◌, ◌&&◌, ◌||◌, nat_lt, min, cond, Bool, true, false, List, [], ◌∷◌, length, map, drop, replicate, Option, Some, None, slice_get, slice_set}
 use Rattle.entry.specs.Entry.{Entry}
 use Rattle.gates.specs.declared.cell.Behind.{Behind}
 use Rattle.gates.specs.declared.cell.Cell.{Cell}
 use Rattle.gates.specs.declared.traits.Traits.{Traits}
 use Rattle.gates.specs.declared.gate.Asked.{Asked}
 use Rattle.gates.specs.declared.gate.Asked.TheVariants.{Severed as severed_now, Open as open_now, OpenWith as open_with, Blocked as blocked_by}
-use Rattle.gates.specs.Slots.{Slot, slot_of, traits_of, is_pending, is_draining, is_target_timer, next_of, behind, passes}
+use Rattle.gates.specs.Slots.{Slot, slot_of, traits_of, starting, is_pending, is_draining, is_target_timer, next_of, behind, passes}
 
--- how many cells there are, how many entries have lost theirs to later ones, the cells of the others in order, and the places
--- among them of the first that has not replied, and of the first drain that has not
+-- how many cells there are, how many entries have lost theirs to later ones, the cells of the others in order, the places
+-- among them of the first that has not replied, and of the first drain that has not, and how many entries were noted as plain
 pub record Kept : Type 0 where
   pub size : ℕ
   pub lost : ℕ
   pub cells : List Cell
   pub oldest : ℕ
   pub drain : ℕ
+  pub plain : ℕ
 
 -- how many entries were added
 abbrev pub added : Kept → ℕ
@@ -48,13 +49,17 @@ pub record IsSound (r : Kept) : Type 0 where
   pub oldest : IsFirst is_pending (map slot_of r.cells) r.oldest
   pub drain : IsFirst is_draining (map slot_of r.cells) r.drain
 
+-- no chain goes over from the entries before it
+abbrev pub IsChainStart : List Slot → ℕ → Type 0
+IsChainStart xs k = behind xs k ≡ starting k
+
 -- the row was given these entries and replies
 pub record Stands (xs : List Slot) (r : Kept) : Type 0 where
   pub count : added r ≡ length xs
   pub slots : drop r.lost xs ≡ map slot_of r.cells
   pub front : (c : Cell) → slice_get r.cells 0 ≡ Some c → c.behind ≡ behind xs r.lost
   pub gone : (m : ℕ) → m < r.lost → passes is_pending xs m ≡ false
-  pub full : (r.lost ≡ 0) ⊎ (length r.cells ≡ r.size)
+  pub full : IsChainStart xs r.lost ⊎ (length r.cells ≡ r.size)
 
 -- an entry with these traits as it is added
 abbrev pub slot_with : Traits → Bool → Slot
@@ -90,6 +95,10 @@ waiting r = waiting_in (map slot_of r.cells)
 abbrev pub stand_in : Slot
 stand_in = record { traits = record { invalid = false; link_timeout = false; drains = false; links_soft = false; links_hard = false }; last = true; reply = Some false }
 
+-- so many of them
+abbrev pub stand_ins : ℕ → List Slot
+stand_ins n = replicate n stand_in
+
 -- the place that decides for the request at j: its target's, if it is a LINK_TIMEOUT, and none where that has lost its cell
 abbrev pub place_by : ℕ → Cell → Option ℕ
 place_by j c = cond (is_target_timer c.behind.hosted (slot_of c)) (cond (j == 0) None (Some (j - 1))) (Some j)
@@ -100,7 +109,7 @@ target_by k c = cond (is_target_timer c.behind.hosted (slot_of c) && nat_lt 0 k)
 
 -- the first entry has lost its cell
 abbrev pub without_first : Kept → Kept
-without_first r = record { size = r.size; lost = r.lost + 1; cells = drop 1 r.cells; oldest = r.oldest - 1; drain = r.drain - 1 }
+without_first r = record { size = r.size; lost = r.lost + 1; cells = drop 1 r.cells; oldest = r.oldest - 1; drain = r.drain - 1; plain = r.plain }
 
 -- it is what the last cell says of the next entry; n entries have lost their cells
 abbrev pub IsToldBy : ℕ → List Cell → Behind → Type 0

@@ -1,10 +1,10 @@
 -- When a list of entries with their replies is what a history says of the first requests of a ring, and what a row then answers.
 use Rattle.std.specs.Prelude.{IsTrue, ◌≡◌, ◌⊎◌, ℕ, suc, ◌-◌, ◌<◌, ◌≤◌, ℤ, Bool, true, false, List, Option, Some, None, slice_get}
-use Rattle.entry.specs.Entry.{Entry, fails}
+use Rattle.entry.specs.Entry.{Entry, drains, fails}
 use Rattle.history.specs.declared.req.Req.{Req}
 use Rattle.history.specs.declared.event.Event.{Event}
 use Rattle.history.specs.History.{Submission, submission, phase, reply, IsReplied}
-use Rattle.history.specs.Chains.{IsPlaced, IsChainBefore, IsChained, IsChainDone, IsTarget, Severed, Open, severs}
+use Rattle.history.specs.Chains.{joins, is_link_timeout, IsPlaced, IsChainBefore, IsChained, IsChainDone, IsTarget, Severed, Open, severs}
 use Rattle.gates.specs.declared.gate.Gate.{Gate}
 use Rattle.gates.specs.declared.gate.Gate.TheVariants.{Open as open_gate, Shut as shut_gate, Severed as severed_gate}
 use Rattle.gates.specs.declared.gate.Asked.{Asked}
@@ -74,6 +74,15 @@ Trails h i xs = (k : ℕ) (s : Slot) → slice_get xs k ≡ Some s → TrailsAt 
 pub record Mirrors (h : List Event) (i : ℕ) (xs : List Slot) : Type 0 where
   pub trails : Trails h i xs
   pub fresh : (k : ℕ) → IsTrue (passes is_pending xs k) → ¬ IsReplied (phase h (nth i k))
+
+-- it was handed in, and neither links nor drains, nor is it placed as a LINK_TIMEOUT
+pub record IsPlainAt (h : List Event) (q : Req) : Type 0 where
+  pub handed : (x : Submission) × (submission h q ≡ Some x) × (joins (Some x) ≡ false)
+  pub placed : (e : Entry) × IsPlaced h q e × (drains e ≡ false) × (is_link_timeout e.op ≡ false)
+
+-- the first n requests of the ring i are so
+abbrev pub ArePlain : List Event → ℕ → ℕ → Type 0
+ArePlain h i n = (m : ℕ) → m < n → IsPlainAt h (nth i m)
 
 -- it has replied, and not so that the rest of its chain is ended
 abbrev pub HasNotSevered : List Event → Req → Type 0

@@ -69,8 +69,12 @@ next_of k s b = record {
   head = cond (joins_of s) b.head (k + 1);
 }
 
+-- what stands before an entry that begins a chain, and whom no LINK_TIMEOUT may be
+abbrev pub starting : ℕ → Behind
+starting k = record { severed = false; held = false; hosted = false; head = k }
+
 abbrev pub first : Behind
-first = record { severed = false; held = false; hosted = false; head = 0 }
+first = starting 0
 
 abbrev pub next_in : ℕ → Option Slot → Behind → Behind
 next_in k None b = b

@@ -1,8 +1,8 @@
 //! The requests of one ring, with the replies so far.
 ghost use Rattle.std.specs.Prelude.{◌≡◌, ◌↔◌, ◌⊎◌, IsTrue, ℕ, ◌+◌, ◌-◌, ◌^◌, ◌<◌, ◌≤◌, ◌++◌, ◌∷◌, [], List, Option, length, IsOk, IfOk, OnOk, OnErr, IfSome, Some, None};
 ghost use Rattle.history.specs.declared.event.Event.{Event};
-ghost use Rattle.gates.specs.Slots.{Slot, first, passes, is_pending};
-ghost use Rattle.gates.specs.EntryRows.{Kept, HasCell, Stands, added, new_slot, slot_with, stand_in, with_reply, Waits, waiting, way_in, asked_by, IsAnswer, IsBar, place_by, target_by, without_first, IsToldBy, free_by, link_in};
+ghost use Rattle.gates.specs.Slots.{Slot, starting, passes, is_pending};
+ghost use Rattle.gates.specs.EntryRows.{Kept, HasCell, Stands, added, new_slot, slot_with, stand_in, stand_ins, with_reply, Waits, waiting, way_in, asked_by, IsAnswer, IsBar, place_by, target_by, without_first, IsToldBy, free_by, link_in};
 ghost use Rattle.history.specs.History.{IsReplied, phase};
 ghost use Rattle.gates.specs.Shows.{nth, Shows, Mirrors, Trails, IsGate, IsAsked, IsTargetOf, IsFree, IsOfChain, named_in, linked_in};
 
@@ -31,6 +31,8 @@ pub struct Row {
     oldest: usize,
     /// The place of the first drain that has not replied.
     drain: usize,
+    /// How many of the ring's first entries are plain, as it was told: they may be more than were added.
+    plain: u64,
 }
 
 impl Model for Row {
@@ -40,9 +42,9 @@ impl Model for Row {
 
     ghost Value = { Kept };
 
-    ghost view = { λ r. record { size = r.size; lost = r.lost; cells = r.cells.items; oldest = r.oldest; drain = r.drain } };
+    ghost view = { λ r. record { size = r.size; lost = r.lost; cells = r.cells.items; oldest = r.oldest; drain = r.drain; plain = r.plain } };
 
-    ghost invariant = { λ r. IsSound (record { size = r.size; lost = r.lost; cells = r.cells.items; oldest = r.oldest; drain = r.drain }) × (r.size ≤ deque_capacity r.cells) };
+    ghost invariant = { λ r. IsSound (record { size = r.size; lost = r.lost; cells = r.cells.items; oldest = r.oldest; drain = r.drain; plain = r.plain }) × (r.size ≤ deque_capacity r.cells) };
 }
 
 impl Row {
@@ -53,6 +55,7 @@ impl Row {
         ensures size { IfOk result (λ r. r.size ≡ cells) }
         ensures empty { IfOk result (λ r. Stands [] r) }
         ensures count { IfOk result (λ r. added r ≡ 0) }
+        ensures plain { IfOk result (λ r. r.plain ≡ 0) }
     {
         let size = cells as usize;
         match VecDeque::with_capacity(alloc, size) {
@@ -62,6 +65,7 @@ impl Row {
                 cells,
                 oldest: 0,
                 drain: 0,
+                plain: 0,
             }),
             Err(_) => Err(Memory),
         }
@@ -72,6 +76,7 @@ impl Row {
         requires { HasCell self.old k }
         ensures replied { (xs : List Slot) → Stands xs self.old → Stands (with_reply xs k fails) self.new }
         ensures size { self.new.size ≡ self.old.size }
+        ensures plain { self.new.plain ≡ self.old.plain }
         ensures lost { self.new.lost ≡ self.old.lost }
         ensures count { added self.new ≡ added self.old }
         ensures fewer { (xs : List Slot) → Stands xs self.old → IsTrue (passes is_pending xs k) → waiting self.new < waiting self.old }
@@ -96,6 +101,7 @@ impl Row {
         ensures lost { OnOk result ((self.new.lost ≡ self.old.lost) ⊎ ((self.new.lost ≡ self.old.lost + 1) × (length self.old.cells ≡ self.old.size))) }
         ensures full { OnErr result (self.new ≡ self.old) }
         ensures size { self.new.size ≡ self.old.size }
+        ensures plain { self.new.plain ≡ self.old.plain }
     {
         self.add_traits(Traits::of(&sqe), last)
     }
@@ -113,6 +119,7 @@ impl Row {
         ensures lost { OnOk result ((self.new.lost ≡ self.old.lost) ⊎ ((self.new.lost ≡ self.old.lost + 1) × (length self.old.cells ≡ self.old.size))) }
         ensures full { OnErr result (self.new ≡ self.old) }
         ensures size { self.new.size ≡ self.old.size }
+        ensures plain { self.new.plain ≡ self.old.plain }
     {
         let k = self.count();
         let behind = told_by_last(&self.cells, self.lost);
@@ -140,6 +147,7 @@ impl Row {
         ensures lost { OnOk result ((self.new.lost ≡ self.old.lost) ⊎ ((self.new.lost ≡ self.old.lost + 1) × (length self.old.cells ≡ self.old.size))) }
         ensures full { OnErr result (self.new ≡ self.old) }
         ensures size { self.new.size ≡ self.old.size }
+        ensures plain { self.new.plain ≡ self.old.plain }
     {
         let plain = Traits {
             invalid: false,
@@ -151,6 +159,37 @@ impl Row {
         let k = self.add_traits(plain, true)?;
         self.replied(k, false);
         Ok(k)
+    }
+
+    /// Begins anew after the first `n` entries: stand-ins are in their place, and have lost their cells.
+    pub fn restart(&mut self, n: u64)
+        ensures stands { Stands (stand_ins n) self.new }
+        ensures count { added self.new ≡ n }
+        ensures none { waiting self.new ≡ 0 }
+        ensures size { self.new.size ≡ self.old.size }
+        ensures plain { self.new.plain ≡ self.old.plain }
+    {
+        self.cells.clear();
+        self.lost = n;
+        self.oldest = 0;
+        self.drain = 0;
+    }
+
+    /// How many of the ring's first entries were noted as plain.
+    #[inline(always)]
+    pub fn plain(&self) -> u64
+        ensures { result ≡ self.now.plain }
+    {
+        self.plain
+    }
+
+    /// Notes that the ring's first `n` entries are plain: none links, drains, or is a LINK_TIMEOUT. Each of them is open, whatever
+    /// has replied, so the row need not have it.
+    #[inline(always)]
+    pub fn note_plain(&mut self, n: u64)
+        ensures { self.new ≡ record self.old { plain = n } }
+    {
+        self.plain = n;
     }
 
     /// The request that keeps the next one from its cell: the first that is pending of the chain of the request that has it.
@@ -185,6 +224,7 @@ impl Row {
         ensures cells { self.new.cells ≡ self.old.cells ++ record { traits = traits; last = last; reply = None; behind = behind } ∷ [] }
         ensures lost { self.new.lost ≡ self.old.lost }
         ensures size { self.new.size ≡ self.old.size }
+        ensures plain { self.new.plain ≡ self.old.plain }
     {
         self.drain = drain_after(&self.cells, self.drain, traits.drains);
         self.cells.push_back_reserved(Cell {
@@ -323,7 +363,7 @@ fn target(cell: &Cell, k: u64) -> Option<u64>
 fn told_by_last(cells: &VecDeque<Cell>, lost: u64) -> Behind
     requires { lost + length cells.now.items < 2 ^ 64 }
     ensures told { IsToldBy lost cells.now.items result }
-    ensures first { length cells.now.items ≡ 0 → result ≡ first }
+    ensures first { length cells.now.items ≡ 0 → result ≡ starting lost }
 {
     match cells.len().checked_sub(1) {
         Some(j) => cell_at(cells, j).next(lost + j as u64),
@@ -331,7 +371,7 @@ fn told_by_last(cells: &VecDeque<Cell>, lost: u64) -> Behind
             severed: false,
             held: false,
             hosted: false,
-            head: 0,
+            head: lost,
         },
     }
 }

@@ -9,7 +9,7 @@ use history::Req;
 use prep::{nop, with_user_data};
 use std::alloc::Global;
 use std::marker::Model;
-use std::time::Instant;
+use std::time::{Clock, Instant};
 
 /// How many requests a cell serves, one after another.
 const GENERATIONS: u64 = 16_777_215;
@@ -84,17 +84,6 @@ fn work(board: &Board, worker: Worker, req: Req) -> Worker
     }
 }
 
-/// Takes the completion of the NOP of this number. Whether it is there and right.
-fn reap_nop(board: &Board, submitter: &mut Submitter, req: Req, number: u64) -> bool
-    requires { IsOf board.now submitter.old }
-    ensures { IsOf board.now submitter.new }
-{
-    match board.reap(submitter, req) {
-        Ok(completion) => completion.cqe.user_data == number && completion.cqe.res == 0,
-        Err(_) => false,
-    }
-}
-
 impl BoardPath {
     /// A new board whose ring has so many cells.
     pub fn new(alloc: Global, cells: u32) -> Result<BoardPath> {
@@ -120,18 +109,21 @@ impl BoardPath {
         let req = submit_nop(self.alloc, &self.board, &mut self.submitter, number)?;
         self.board.release(&mut self.poller, req);
         self.worker = Some(work(&self.board, worker, req));
-        Ok(reap_nop(&self.board, &mut self.submitter, req, number))
+        match self.board.reap(&mut self.submitter, req) {
+            Ok(completion) => Ok(completion.cqe.user_data == number && completion.cqe.res == 0),
+            Err(_) => Ok(false),
+        }
     }
 
-    /// One round: so many NOPs. How many nanoseconds that took.
-    pub fn round<R: Machine>(&mut self, rt: &R, count: u64) -> Result<u64> {
+    /// So many NOPs. How many nanoseconds that took.
+    pub fn round<R: Clock>(&mut self, rt: &R, units: u64) -> Result<u64> {
         let start = Instant::now(rt)?;
-        for number in 0..count {
+        for number in 0..units {
             if !self.serve(number)? {
                 bail!("NOP {number} has no completion, or a wrong one");
             }
         }
-        Ok(nanos_since(rt, start)?)
+        nanos_since(rt, start)
     }
 }
 

@@ -1,62 +1,82 @@
 //! A client at work on its load.
 ghost use Rattle.std.specs.Prelude.{◌≡◌};
 
-use crate::load::Load;
+use crate::load::{Load, Told};
 use anyhow::{Result, bail};
-use board::SubmitError;
+use board::{Completion, SubmitError};
 use runtime::Client;
 use std::hint::spin_loop;
 use std::sync::Wait;
 use std::thread;
+use std::time::{Clock, Duration};
 
 /// How often one looks for a completion in a row before other threads may run in between.
 const LOOKS: u32 = 256;
 
-/// Carries a round of its load out, of so many units or turns.
-pub(crate) fn serve<R: Wait>(rt: &R, client: &mut Client, load: &mut Load, count: u64) -> Result<()>
-    ensures { client.new.board ≡ client.old.board }
-{
-    load.begin(count);
-    let mut looks = 0;
-    for _ in rt.forever() {
-        if load.is_over() {
+/// A client and its load, how long it sleeps before each round, and what was submitted and taken.
+#[derive(Drop)]
+pub(crate) struct Driver<L: Load> {
+    pub client: Client,
+    pub load: L,
+    pub pause: Duration,
+    pub told: Told,
+}
+
+impl<L: Load> Driver<L> {
+    /// Carries a round of the load out, of so many units or turns.
+    pub fn serve<R: Wait + Clock>(&mut self, rt: &R, count: u64) -> Result<()>
+        ensures { self.new.client.board ≡ self.old.client.board }
+    {
+        thread::sleep(rt, self.pause);
+        self.load.begin(count);
+        let mut looks = 0;
+        for _ in rt.forever() {
+            if let Some(completion) = self.client.take(rt) {
+                self.take(completion)?;
+                looks = 0;
+            } else if self.load.is_over() {
+                return Ok(());
+            } else {
+                self.submit(rt)?;
+                looks = waited(looks);
+            }
+        }
+        unreachable!()
+    }
+
+    /// Submits the next batch, if there is something in it, and blocks until as many completions are there as the load awaits.
+    fn submit<R: Wait>(&mut self, rt: &R) -> Result<()>
+        ensures { self.new.client.board ≡ self.old.client.board }
+    {
+        let (batch, awaited) = self.load.next_batch()?;
+        if batch.is_empty() {
             return Ok(());
         }
-        submit(client, load)?;
-        let is_some = take_all(rt, client, load)?;
-        looks = if is_some { 0 } else { waited(looks) };
-    }
-    unreachable!()
-}
-
-/// Submits the next batch, if there is something in it.
-fn submit(client: &mut Client, load: &mut Load) -> Result<()>
-    ensures { client.new.board ≡ client.old.board }
-{
-    let batch = load.next_batch()?;
-    if batch.is_empty() {
-        return Ok(());
-    }
-    match client.submit_batch(batch) {
-        Ok(_first) => load.sent(),
-        Err((SubmitError::Full, batch)) => Ok(load.refused(batch)),
-        Err(_) => bail!("a batch was refused that should fit"),
-    }
-}
-
-/// Takes the completions that are there. Whether there was one.
-fn take_all<R: Wait>(rt: &R, client: &mut Client, load: &mut Load) -> Result<bool>
-    ensures { client.new.board ≡ client.old.board }
-{
-    let mut is_some = false;
-    for _ in rt.forever() {
-        let Some(completion) = client.take(rt) else {
-            return Ok(is_some);
+        let count = batch.len() as u64;
+        let sent = match awaited {
+            0 | 1 => self.client.submit_batch(batch),
+            _ => self.client.submit_and_wait(rt, batch, awaited),
         };
-        load.take(completion)?;
-        is_some = true;
+        match sent {
+            Ok(_first) => self.load.sent()?,
+            Err((SubmitError::Full, batch)) => return Ok(self.load.refused(batch)),
+            Err(_) => bail!("a batch was refused that should fit"),
+        }
+        self.told.submitted = self.told.submitted.saturating_add(count);
+        if awaited == 1 {
+            let completion = self.client.wait(rt);
+            self.take(completion)?;
+        }
+        Ok(())
     }
-    unreachable!()
+
+    /// Hands a completion to the load.
+    fn take(&mut self, completion: Completion) -> Result<()>
+        ensures { self.new.client ≡ self.old.client }
+    {
+        self.told.taken = self.told.taken.saturating_add(1);
+        self.load.take(completion)
+    }
 }
 
 /// Waits a moment, after so many looks in vain, and counts one more.

@@ -1,14 +1,13 @@
-//! A runtime with one or two clients at work.
-ghost use Rattle.std.specs.Prelude.{◌≡◌, None, IfOk, IfSome};
-ghost use Rattle.work.specs.Board.{Facts};
-ghost use Rattle.runtime.specs.Clients.{AreClients};
+//! A runtime of two rings, with one or two clients at work.
+ghost use Rattle.std.specs.Prelude.{◌≡◌, None};
 
-use crate::client::serve;
-use crate::load::Load;
+use crate::client::Driver;
+use crate::load::{Load, Told};
 use crate::machine::{Machine, nanos_since};
-use crate::setup::Setup;
+use crate::pipes::{CAPACITY, PIPES};
+use crate::setup::{Kind, Setup};
 use anyhow::{Result, bail};
-use board::{Phase, RingShape, Shape};
+use board::{Phase, Report, RingShape, Shape};
 use controls::{Clock as Controls, Open};
 use history::Req;
 use runtime::{Client, Runtime, join_all, start};
@@ -16,7 +15,7 @@ use std::alloc::{AllocError, Global};
 use std::marker::Model;
 use std::sync::Wait;
 use std::thread::{Threads, join_mut};
-use std::time::{Clock, Instant};
+use std::time::{Clock, Duration, Instant};
 
 /// A clock that goes on by one tick in so many turns of the poller, or with 0 stands still.
 #[derive(Clone, Copy)]
@@ -41,153 +40,141 @@ impl Controls for Ticking {
     }
 }
 
-/// A runtime, the client of ring 0, and that of ring 1, where there is one.
+/// A runtime, and the clients of ring 0 and ring 1 with their loads. Both are at work, or only the first.
 #[derive(Drop)]
-pub(crate) struct Fleet {
+pub(crate) struct Fleet<L: Load> {
     runtime: Runtime<Ticking>,
-    zero: Client,
-    one: Option<Client>,
+    zero: Driver<L>,
+    one: Driver<L>,
+    are_two: bool,
 }
 
-impl Model for Fleet {
-    ghost use Rattle.std.specs.Prelude.{◌≡◌, IfSome};
+impl<L: Load> Model for Fleet<L> {
+    ghost use Rattle.std.specs.Prelude.{◌≡◌};
     ghost use Rattle.work.specs.Board.{Facts};
 
     ghost Value = { Facts };
 
     ghost view = { λ f. f.runtime.board };
 
-    ghost invariant = { λ f. (f.zero.board ≡ f.runtime.board) × IfSome f.one (λ c. c.board ≡ f.runtime.board) };
+    ghost invariant = { λ f. (f.zero.client.board ≡ f.runtime.board) × (f.one.client.board ≡ f.runtime.board) };
 }
 
 /// The board of a setup.
 fn shape_of(alloc: Global, setup: &Setup) -> Result<Shape, AllocError> {
-    let (cells, posts, (pipes, room)) = (setup.cells, setup.posts, setup.pipes());
+    let (cells, posts) = (setup.cells, setup.posts);
+    let (pipes, room) = match setup.kind {
+        Kind::Mixed { .. } => (PIPES, CAPACITY),
+        _ => (64, 4096),
+    };
     Ok(Shape {
-        rings: Vec::from_elem(alloc, RingShape { cells, posts }, usize::from(setup.rings))?,
+        rings: Vec::from_elem(alloc, RingShape { cells, posts }, 2)?,
         pipes: Vec::from_elem(alloc, room, pipes as usize)?,
         workers: setup.workers,
     })
 }
 
-/// The clients of both rings at work, each in a thread, or the one that has a load.
-fn serve_both<R: Threads + Wait + Sync>(
+/// Ends the runtime of these two clients.
+fn join<R: Machine>(rt: &R, runtime: Runtime<Ticking>, zero: Client, one: Client) -> Result<Report>
+    requires zero { zero.board ≡ runtime.board }
+    requires one { one.board ≡ runtime.board }
+{
+    let clients = vec![in rt.alloc(); zero, one]?;
+    match join_all(rt, rt.alloc(), runtime, clients) {
+        Ok(report) => Ok(report),
+        Err(unjoined) => Err(unjoined.error.into()),
+    }
+}
+
+/// Both clients at work, each in a thread.
+fn serve_both<R: Threads + Wait + Sync + Clock, L: Load + Send>(
     rt: &R,
-    zero: &mut Client,
-    one: &mut Client,
-    loads: &mut Vec<Load>,
+    zero: &mut Driver<L>,
+    one: &mut Driver<L>,
     count: u64,
 ) -> Result<()>
-    ensures zero { zero.new.board ≡ zero.old.board }
-    ensures one { one.new.board ≡ one.old.board }
+    ensures zero { zero.new.client.board ≡ zero.old.client.board }
+    ensures one { one.new.client.board ≡ one.old.client.board }
 {
-    let Some((first, rest)) = loads.as_mut_slice().split_first_mut() else {
-        bail!("a runtime has no load");
-    };
-    let Some(second) = rest.first_mut() else {
-        return serve(rt, zero, first, count);
-    };
     let (zero_end, one_end) = join_mut(
         rt,
-        &mut || serve(rt, zero, first, count),
-        &mut || serve(rt, one, second, count),
+        &mut || zero.serve(rt, count),
+        &mut || one.serve(rt, count),
     );
     zero_end?;
     one_end
 }
 
-/// The client of ring 0 at work.
-fn serve_first<R: Wait>(rt: &R, zero: &mut Client, loads: &mut Vec<Load>, count: u64) -> Result<()>
-    ensures { zero.new.board ≡ zero.old.board }
-{
-    match loads.first_mut() {
-        Some(load) => serve(rt, zero, load, count),
-        None => bail!("a runtime has no load"),
-    }
-}
-
-/// The last client of this runtime that is left.
-fn last_client(runtime: &Runtime<Ticking>, clients: &mut Vec<Client>) -> Option<Client>
-    requires { AreClients runtime.now.board clients.old.items }
-    ensures rest { AreClients runtime.now.board clients.new.items }
-    ensures client { IfSome result (λ c. c.board ≡ runtime.now.board) }
-{
-    let _ = runtime;
-    clients.pop()
-}
-
-/// The clients of both rings, or of the one that there is.
-fn clients_of(alloc: Global, zero: Client, one: Option<Client>) -> Result<Vec<Client>, AllocError>
-    ensures { IfOk result (λ v. (b : Facts) → zero.board ≡ b → IfSome one (λ c. c.board ≡ b) → AreClients b v.items) }
-{
-    let mut clients = Vec::new(alloc);
-    clients.push(zero)?;
-    match one {
-        Some(one) => {
-            clients.push(one)?;
-            Ok(clients)
+/// Hands what the report says of each request to the load of its ring.
+fn tell<L: Load>(first: &mut L, second: &mut L, report: &Report) -> Result<()> {
+    for (completion, is_cut) in report.lines() {
+        match completion.req.ring {
+            0 => first.report(completion, *is_cut)?,
+            _ => second.report(completion, *is_cut)?,
         }
-        None => Ok(clients),
     }
+    Ok(())
 }
 
-impl Fleet {
+impl<L: Load> Fleet<L> {
     /// Starts the runtime of a setup.
-    pub fn start<R: Machine>(rt: &R, setup: &Setup) -> Result<Fleet> {
-        let (alloc, every) = (rt.alloc(), setup.every);
-        let (shape, clock) = (shape_of(alloc, setup)?, Ticking { every, turns: 0 });
+    pub fn start<R: Machine>(rt: &R, setup: &Setup) -> Result<Fleet<L>> {
+        let (alloc, every, turns) = (rt.alloc(), setup.every, 0);
+        let (first, second) = (L::new(alloc, 0, setup)?, L::new(alloc, 1, setup)?);
+        let (shape, clock) = (shape_of(alloc, setup)?, Ticking { every, turns });
         let (runtime, mut clients) = start(*rt, alloc, &shape, setup.idle, Open, clock)?;
-        let Some(last) = last_client(&runtime, &mut clients) else {
-            bail!("a runtime has no client");
+        let (Some(one), Some(zero)) = (clients.pop(), clients.pop()) else {
+            bail!("a client is missing");
         };
-        let (zero, one) = match last_client(&runtime, &mut clients) {
-            Some(zero) => (zero, Some(last)),
-            None => (last, None),
-        };
-        Ok(Fleet { runtime, zero, one })
-    }
-
-    /// One round: each client that has a load carries so many units or turns out. How many nanoseconds that took.
-    pub fn round<R: Threads + Wait + Sync + Clock>(
-        self,
-        rt: &R,
-        loads: &mut Vec<Load>,
-        count: u64,
-    ) -> Result<(Fleet, u64)> {
-        let Fleet {
+        Ok(Fleet {
             runtime,
-            mut zero,
-            one,
-        } = self;
-        let start = Instant::now(rt)?;
-        let one = match one {
-            Some(mut one) => {
-                serve_both(rt, &mut zero, &mut one, loads, count)?;
-                Some(one)
-            }
-            None => {
-                serve_first(rt, &mut zero, loads, count)?;
-                None
-            }
-        };
-        let nanos = nanos_since(rt, start)?;
-        Ok((Fleet { runtime, zero, one }, nanos))
+            zero: Driver {
+                client: zero,
+                load: first,
+                pause: setup.pause,
+                told: Told::default(),
+            },
+            one: Driver {
+                client: one,
+                load: second,
+                pause: Duration::ZERO,
+                told: Told::default(),
+            },
+            are_two: setup.clients == 2,
+        })
     }
 
-    /// Ends the runtime, and hands what its report says of each request to the load of its ring.
-    pub fn end<R: Machine>(self, rt: &R, loads: &mut Vec<Load>) -> Result<()> {
-        let Fleet { runtime, zero, one } = self;
-        let clients = clients_of(rt.alloc(), zero, one)?;
-        let report = match join_all(rt, rt.alloc(), runtime, clients) {
-            Ok(report) => report,
-            Err(unjoined) => return Err(unjoined.error.into()),
-        };
-        for (completion, is_cut) in report.lines() {
-            match loads.get_mut(usize::from(completion.req.ring)) {
-                Some(load) => load.report(completion, *is_cut)?,
-                None => bail!("a request was reported that no load submitted"),
-            }
-        }
-        Ok(())
+    /// What its clients have counted.
+    pub fn told(&self) -> Told {
+        self.zero.told.plus(self.one.told)
     }
+
+    /// Ends the runtime, and hands its report to the loads. What was counted then: each request once.
+    pub fn end<R: Machine>(self, rt: &R) -> Result<Told> {
+        let (mut told, zero, one) = (self.told(), self.zero, self.one);
+        let (mut first, mut second) = (zero.load, one.load);
+        let report = join(rt, self.runtime, zero.client, one.client)?;
+        tell(&mut first, &mut second, &report)?;
+        told.reported = report.lines().len() as u64;
+        if told.submitted != told.taken.saturating_add(told.reported) {
+            bail!("a request was neither taken nor reported");
+        }
+        Ok(told)
+    }
+}
+
+/// Each client that is at work carries a round of its load out. How many nanoseconds that took.
+pub(crate) fn round_of<R: Threads + Wait + Sync + Clock, L: Load + Send>(
+    rt: &R,
+    fleet: &mut Fleet<L>,
+    units: u64,
+) -> Result<u64> {
+    let start = Instant::now(rt)?;
+    if fleet.are_two {
+        serve_both(rt, &mut fleet.zero, &mut fleet.one, units)?;
+    } else {
+        fleet.one.serve(rt, units)?;
+        fleet.zero.serve(rt, units)?;
+    }
+    nanos_since(rt, start)
 }

@@ -40,6 +40,12 @@ pub(crate) fn buffer_of(alloc: Global, op: Op, from: u64) -> Result<Vec<u8>, All
     Ok(buffer)
 }
 
+/// Whether these are the bytes that begin at this place.
+pub(crate) fn are_bytes(bytes: &[u8], from: u64) -> bool {
+    let mut numbered = (0u64..).zip(bytes);
+    numbered.all(|(i, byte)| *byte == byte_at(from.wrapping_add(i)))
+}
+
 impl Flow {
     /// That of the client of a ring that has submitted nothing.
     pub fn new(ring: u16) -> Flow {

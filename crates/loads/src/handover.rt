@@ -1,67 +1,100 @@
-//! Hand-overs between two threads: a number goes to the other thread through a queue, and comes back through another.
+//! Hand-overs between two threads: a number goes to the other thread through a queue, and comes back through another. Each looks for the
+//! next number again and again, or blocks until it is woken.
 use crate::client::waited;
 use crate::machine::nanos_since;
 use anyhow::Result;
 use crossbeam_queue::ArrayQueue;
-use std::alloc::Global;
+use std::alloc::{AllocError, Global};
 use std::sync::Wait;
-use std::thread::{Threads, join};
+use std::thread::{Parker, Threads, join};
 use std::time::{Clock, Instant};
 
-/// A queue of numbers.
-type Queue = ArrayQueue<u64>;
-
-/// Hands so many numbers to the other thread, and keeps so many on their way, until all are back.
-fn hand_out<R: Wait>(rt: &R, there: &Queue, back: &Queue, depth: u64, count: u64) {
-    let (mut looks, mut out, mut done) = (0, 0u64, 0u64);
-    for _ in rt.forever() {
-        if done == count {
-            return;
-        }
-        if out < count && out.saturating_sub(done) < depth && there.push(rt, out).is_ok() {
-            out = out.saturating_add(1);
-        } else if back.pop(rt).is_some() {
-            (done, looks) = (done.saturating_add(1), 0);
-        } else {
-            looks = waited(looks);
-        }
-    }
-    unreachable!()
+/// The way of the numbers to one of the threads, which blocks there or not.
+#[derive(Drop)]
+struct Lane {
+    numbers: ArrayQueue<u64>,
+    parker: Parker,
+    is_blocking: bool,
 }
 
-/// Hands so many numbers back.
-fn hand_back<R: Wait>(rt: &R, there: &Queue, back: &Queue, count: u64) {
-    let (mut looks, mut done) = (0, 0u64);
-    for _ in rt.forever() {
-        if done == count {
-            return;
-        }
-        if let Some(number) = there.pop(rt) {
-            back.force_push(rt, number);
-            (done, looks) = (done.saturating_add(1), 0);
-        } else {
-            looks = waited(looks);
-        }
-    }
-    unreachable!()
-}
-
-/// One round: so many hand-overs and back, with so many on their way. How many nanoseconds that took.
-pub(crate) fn round<R: Threads + Wait + Sync + Clock>(
-    rt: &R,
-    alloc: Global,
+/// Hand-overs with so many numbers on their way, there and back.
+#[derive(Drop)]
+pub(crate) struct HandOver {
     depth: u64,
-    count: u64,
-) -> Result<u64> {
-    let room = depth.clamp(1, 1_024) as usize;
-    let there = ArrayQueue::new(alloc, room)?;
-    let back = ArrayQueue::new(alloc, room)?;
-    let (to, from) = (&there, &back);
-    let start = Instant::now(rt)?;
-    join(
-        rt,
-        || hand_out(rt, to, from, depth, count),
-        || hand_back(rt, to, from, count),
-    );
-    Ok(nanos_since(rt, start)?)
+    there: Lane,
+    back: Lane,
+}
+
+impl Lane {
+    /// An empty lane.
+    fn new(alloc: Global, depth: u64, is_blocking: bool) -> Result<Lane, AllocError> {
+        Ok(Lane {
+            numbers: ArrayQueue::new(alloc, depth.clamp(1, 1_024) as usize)?,
+            parker: Parker::new(),
+            is_blocking,
+        })
+    }
+
+    /// Hands a number over.
+    fn put<R: Wait>(&self, rt: &R, number: u64) {
+        self.numbers.force_push(rt, number);
+        if self.is_blocking {
+            self.parker.unpark();
+        }
+    }
+
+    /// Takes the next number, once there is one.
+    fn next<R: Wait>(&self, rt: &R) -> u64 {
+        let mut looks = 0;
+        for _ in rt.forever() {
+            if let Some(number) = self.numbers.pop(rt) {
+                return number;
+            }
+            if self.is_blocking {
+                self.parker.park(rt);
+            } else {
+                looks = waited(looks);
+            }
+        }
+        unreachable!()
+    }
+}
+
+impl HandOver {
+    /// Those of threads that block, or don't.
+    pub fn new(alloc: Global, depth: u64, is_blocking: bool) -> Result<HandOver, AllocError> {
+        let there = Lane::new(alloc, depth, is_blocking)?;
+        let back = Lane::new(alloc, depth, is_blocking)?;
+        Ok(HandOver { depth, there, back })
+    }
+
+    /// Hands so many numbers out, and keeps the depth of them on their way, until all are back.
+    fn hand_out<R: Wait>(&self, rt: &R, count: u64) {
+        for number in 0..count.saturating_add(self.depth) {
+            if self.depth <= number {
+                self.back.next(rt);
+            }
+            if number < count {
+                self.there.put(rt, number);
+            }
+        }
+    }
+
+    /// Hands so many numbers back, in the order in which they come.
+    fn hand_back<R: Wait>(&self, rt: &R, count: u64) {
+        for _number in 0..count {
+            self.back.put(rt, self.there.next(rt));
+        }
+    }
+
+    /// So many hand-overs and back. How many nanoseconds that took.
+    pub fn round<R: Threads + Wait + Sync + Clock>(&self, rt: &R, units: u64) -> Result<u64> {
+        let start = Instant::now(rt)?;
+        join(
+            rt,
+            || self.hand_out(rt, units),
+            || self.hand_back(rt, units),
+        );
+        nanos_since(rt, start)
+    }
 }

@@ -1,10 +1,10 @@
 //! The loops over entries and claim words that are timed. Each goes round sixteen values, so that no work can be done before it.
-use crate::machine::{Machine, nanos_since};
+use crate::machine::nanos_since;
+use anyhow::Result;
 use claim::{Cause, ClaimWord, pack, unpack};
 use entry::{Op, Sqe};
 use prep::{read, with_flags, with_user_data};
-use std::io;
-use std::time::Instant;
+use std::time::{Clock, Instant};
 
 /// What is timed.
 #[derive(Clone, Copy)]
@@ -25,19 +25,21 @@ pub(crate) const LOOPS: [(Loop, &str); 5] = [
     (Loop::Unpack, "read of a word and unpack"),
 ];
 
-/// Sixteen READs and their bytes, and words of Done requests and their bits.
+/// A loop, and what it goes round: sixteen READs and their bytes, and words of Done requests and their bits.
 #[derive(Drop)]
-pub(crate) struct Values {
+pub(crate) struct Rounds {
+    kind: Loop,
     sqes: [Sqe; 16],
     bytes: [[u8; 64]; 16],
     words: [ClaimWord; 16],
     bits: [u64; 16],
 }
 
-impl Values {
-    /// The values that all loops go round.
-    pub fn new() -> Values {
-        let mut values = Values {
+impl Rounds {
+    /// Those of this loop.
+    pub fn new(kind: Loop) -> Rounds {
+        let mut values = Rounds {
+            kind,
             sqes: [read(0, 0, 0); 16],
             bytes: [[0; 64]; 16],
             words: [ClaimWord::empty(0); 16],
@@ -54,30 +56,16 @@ impl Values {
         }
         values
     }
-}
-
-impl Loop {
-    /// How many nanoseconds it takes to go so many times round.
-    pub fn round<R: Machine>(self, rt: &R, values: &Values, times: usize) -> io::Result<u64> {
-        let start = Instant::now(rt)?;
-        let sum = match self {
-            Loop::Pack | Loop::Unpack => self.go_round_words(values, times),
-            _ => self.go_round_entries(values, times),
-        };
-        let nanos = nanos_since(rt, start)?;
-        // The test keeps the loop's work: a compiler can't know that the sum isn't 0.
-        Ok(if sum == 0 { 0 } else { nanos })
-    }
 
     /// Puts the bytes of an entry into a place at each turn, and sums up what is there.
-    fn go_round_entries(self, values: &Values, times: usize) -> u64 {
+    fn go_round_entries(&self, times: usize) -> u64 {
         let (mut places, mut sum) = ([[0; 64]; 16], 0u64);
         for n in 0..times {
-            places[(n / 3) % 16] = match self {
-                Loop::ToBytes => values.sqes[n % 16].to_bytes(),
-                _ => values.bytes[n % 16],
+            places[(n / 3) % 16] = match self.kind {
+                Loop::ToBytes => self.sqes[n % 16].to_bytes(),
+                _ => self.bytes[n % 16],
             };
-            sum = sum.wrapping_add(match self {
+            sum = sum.wrapping_add(match self.kind {
                 Loop::OfBytes => said_by(&places[(n / 3) % 16]),
                 _ => u64::from(places[n % 16][32]),
             });
@@ -91,16 +79,28 @@ impl Loop {
     }
 
     /// Packs a word at each turn, or unpacks one, and sums up what it is.
-    fn go_round_words(self, values: &Values, times: usize) -> u64 {
+    fn go_round_words(&self, times: usize) -> u64 {
         let mut sum = 0u64;
         for n in 0..times {
-            let word = match self {
-                Loop::Pack => pack(values.words[n % 16]),
-                _ => told_by(values.bits[n % 16]),
+            let word = match self.kind {
+                Loop::Pack => pack(self.words[n % 16]),
+                _ => told_by(self.bits[n % 16]),
             };
             sum = sum.rotate_left(1) ^ word;
         }
         sum
+    }
+
+    /// Goes so many times round. How many nanoseconds that took.
+    pub fn round<R: Clock>(&self, rt: &R, units: u64) -> Result<u64> {
+        let start = Instant::now(rt)?;
+        let sum = match self.kind {
+            Loop::Pack | Loop::Unpack => self.go_round_words(units as usize),
+            _ => self.go_round_entries(units as usize),
+        };
+        let nanos = nanos_since(rt, start)?;
+        // The test keeps the loop's work: a compiler can't know that the sum isn't 0.
+        Ok(if sum == 0 { 0 } else { nanos })
     }
 }
 

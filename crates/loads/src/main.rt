@@ -1,13 +1,11 @@
 //! Times entries, claim words, a board and the runtime, and puts runtimes under loads of all kinds of requests. Without arguments it
-//! tries each, and prints what is the same on every machine. With `--bench` it prints how long each takes, the median of rounds. With
-//! `--spent` it serves as many NOPs as one cell can, and one more. With `--mixed SECONDS` one runtime is under a load of requests at
-//! random for so long, and with `--soak SECONDS SEED` one after another. It ends with status 1 unless all replies are right.
+//! tries what `--bench` times. With `--idle` nothing happens for so long. With `--spent` one cell serves as many NOPs as it can. With
+//! `--mixed` one runtime is under requests at random, with `--soak` one after another. The status is 1 unless all replies are right.
 #![tactic(auto)]
 
 mod board_path;
 mod client;
 mod draws;
-mod figures;
 mod fleet;
 mod flow;
 mod handover;
@@ -24,8 +22,7 @@ mod units;
 
 use anyhow::{Result, bail};
 use board_path::run_spent;
-use machine::Machine;
-use measure::measure;
+use measure::{measure, run_idle};
 use mixed::{run_mixed, run_soak};
 use std::env;
 
@@ -35,21 +32,20 @@ fn number_of(word: Option<String>) -> Option<u64> {
 }
 
 /// Does what the words of the command line ask for.
-fn run<R: Machine>(rt: &R) -> Result<()> {
-    let mut words = env::args(rt)?.skip(1);
+fn main(rt: HostRuntime) -> Result<()> {
+    let (rt, mut words) = (&rt, env::args(&rt)?.skip(1));
     let Some(word) = words.next() else {
         return measure(rt, false);
     };
     let (first, second) = (number_of(words.next()), number_of(words.next()));
     match (word.as_str(), first, second) {
         ("--bench", None, None) => measure(rt, true),
+        ("--idle", Some(seconds), Some(reads)) => run_idle(rt, seconds, reads),
         ("--spent", None, None) => run_spent(rt),
         ("--mixed", Some(seconds), None) => run_mixed(rt, seconds),
         ("--soak", Some(seconds), Some(seed)) => run_soak(rt, seconds, seed),
-        _ => bail!("usage: loads [--bench | --spent | --mixed SECONDS | --soak SECONDS SEED]"),
+        _ => bail!(
+            "usage: loads [--bench | --idle SECONDS READS | --spent | --mixed SECONDS | --soak SECONDS SEED]"
+        ),
     }
-}
-
-fn main(rt: HostRuntime) -> Result<()> {
-    run(&rt)
 }

@@ -1,97 +1,162 @@
 //! Loads measured, or only tried with a few units.
 use crate::board_path::BoardPath;
-use crate::figures::Figure;
-use crate::fleet::Fleet;
-use crate::handover;
-use crate::load::loads_of;
-use crate::loops::{LOOPS, Loop, Values};
+use crate::fleet::{Fleet, round_of};
+use crate::handover::HandOver;
+use crate::loops::{LOOPS, Rounds};
 use crate::machine::Machine;
-use crate::setup::{Kind, Setup, all_measured};
+use crate::setup::{Kind, Setup};
+use crate::units::Units;
 use anyhow::Result;
-use std::{fmt, io};
+use std::time::{CpuClock, Duration};
 
-/// How many rounds there are.
+/// How many rounds are timed.
 const ROUNDS: usize = 15;
 
 /// How many operations of a loop, or NOPs on a board, a round has.
 const OPERATIONS: u64 = 20_000;
 
-/// How many hand-overs or units of a load a round has, for each in flight up to 16.
-const UNITS: u64 = 4_000;
+/// The hand-overs that others are compared with: how many are on their way, whether threads block, and how many a round has.
+const HAND_OVERS: [(&str, u64, bool, u64); 3] = [
+    ("hand-over, 1 in flight", 1, false, 4_000),
+    ("hand-over, 64 in flight", 64, false, 64_000),
+    ("blocking hand-over, 1 in flight", 1, true, 500),
+];
 
-/// The time of an operation of a loop.
-fn loop_figure<R: Machine>(rt: &R, kind: Loop) -> Result<Figure> {
-    let (values, mut rounds) = (Values::new(), Vec::new(rt.alloc()));
-    for _round in 0..ROUNDS {
-        rounds.push(kind.round(rt, &values, OPERATIONS as usize)?)?;
-    }
-    Ok(Figure::of(rounds, OPERATIONS))
+/// Units of two requests, and under how many workers.
+const PAIRS: [(Kind, u32); 5] = [
+    (Kind::Pair, 1),
+    (Kind::Pair, 2),
+    (Kind::ReadCancel, 1),
+    (Kind::TimeoutRemove, 1),
+    (Kind::TimeoutRemove, 2),
+];
+
+/// The median of the times of rounds, after one that isn't timed; or that one's, where they are only tried.
+macro_rules! median {
+    ($is_timed:expr, $round:expr) => {{
+        let mut rounds = [$round?; ROUNDS];
+        if $is_timed {
+            for nanos in &mut rounds {
+                *nanos = $round?;
+            }
+        }
+        rounds.sort_unstable();
+        rounds[ROUNDS / 2]
+    }};
 }
 
-/// The time of a NOP on a board, whose ring has 64 cells.
-fn board_figure<R: Machine>(rt: &R) -> Result<Figure> {
-    let (mut path, mut rounds) = (BoardPath::new(rt.alloc(), 64)?, Vec::new(rt.alloc()));
-    for _round in 0..ROUNDS {
-        rounds.push(path.round(rt, OPERATIONS)?)?;
-    }
-    Ok(Figure::of(rounds, OPERATIONS))
-}
+/// How many units a round has, and with what the time of one is compared.
+type Plan = (u64, u64);
 
-/// The time of a hand-over and back, with so many on their way.
-fn hand_over_figure<R: Machine>(rt: &R, depth: u64) -> Result<Figure> {
-    let (count, mut rounds) = (UNITS * depth.clamp(1, 16), Vec::new(rt.alloc()));
-    for _round in 0..ROUNDS {
-        rounds.push(handover::round(rt, rt.alloc(), depth, count)?)?;
-    }
-    Ok(Figure::of(rounds, count))
-}
-
-/// The time of a unit of this setup, in so many rounds of so many units. The first round isn't measured.
-fn setup_figure<R: Machine>(rt: &R, setup: &Setup, count: usize, units: u64) -> Result<Figure> {
-    let (mut loads, mut rounds) = (loads_of(rt.alloc(), setup)?, Vec::new(rt.alloc()));
-    let (mut fleet, _nanos) = Fleet::start(rt, setup)?.round(rt, &mut loads, units)?;
-    for _round in 0..count {
-        let (next, nanos) = fleet.round(rt, &mut loads, units)?;
-        fleet = next;
-        rounds.push(nanos)?;
-    }
-    fleet.end(rt, &mut loads)?;
-    Ok(Figure::of(rounds, units.saturating_mul(u64::from(setup.clients))))
-}
-
-/// Prints a figure, and how much of a hand-over it takes; or that it was tried.
-fn show<R: Machine, N: fmt::Display + Drop>(
-    rt: &R,
-    name: N,
-    figure: &Figure,
-    hand_over: &Figure,
+/// Whether things are timed, or only tried; and the times of the hand-overs, in hundredths of a nanosecond.
+#[derive(Clone, Copy)]
+struct Bench {
     is_timed: bool,
-) -> io::Result<()> {
-    if !is_timed {
-        return println!(rt; "{name}: done");
+    others: [u64; 3],
+}
+
+impl Bench {
+    /// How many units a round has: so many, or a few where they are only tried.
+    fn units(&self, units: u64) -> u64 {
+        if self.is_timed { units } else { 320 }
     }
-    let percent = figure.percent_of(hand_over);
-    println!(rt; "{name}: {figure}, {percent} % of a hand-over")
+
+    /// Prints the time of a unit, by that of a round, and how much of the other time it is; or that it was tried.
+    fn show<R: Machine>(&self, rt: &R, name: &str, nanos: u64, plan: Plan) -> Result<u64> {
+        let (units, other) = plan;
+        if !self.is_timed {
+            println!(rt; "{name}: done")?;
+            return Ok(0);
+        }
+        let unit = nanos.saturating_mul(100).checked_div(units).unwrap_or(0);
+        let percent = unit.saturating_mul(100).checked_div(other).unwrap_or(100);
+        let (whole, part) = (unit / 100, unit % 100);
+        println!(rt; "{name}: {whole}.{part:02} ns, {percent} % of a hand-over")?;
+        Ok(unit)
+    }
+
+    /// The time of a unit of this setup.
+    fn measure<R: Machine>(&self, rt: &R, setup: Setup) -> Result<()> {
+        let [single, many, blocking] = self.others;
+        let units = self.units(4_000 * u64::from(setup.depth.clamp(1, 16)));
+        let plan = match setup.kind {
+            Kind::Byte => (10_000, single),
+            Kind::Echo => (self.units(500), blocking),
+            _ => (units, if setup.depth == 1 { single } else { many }),
+        };
+        let mut fleet = Fleet::<Units>::start(rt, &setup)?;
+        let nanos = median!(self.is_timed, round_of(rt, &mut fleet, plan.0));
+        fleet.end(rt)?;
+        let name = format!(in rt.alloc(); "{setup}")?;
+        self.show(rt, name.as_str(), nanos, plan)?;
+        Ok(())
+    }
+
+    /// All setups, in order. With two workers a cancel may find its READ running, which then waits for good.
+    fn measure_all<R: Machine>(&self, rt: &R) -> Result<()> {
+        for clients in [1u16, 2] {
+            for workers in 1..4u32 {
+                for depth in [1u32, 8, 64, 256] {
+                    self.measure(rt, Setup::new(Kind::Nop, depth, workers, clients))?;
+                }
+            }
+        }
+        for (kind, workers) in PAIRS {
+            for depth in [1u32, 16] {
+                self.measure(rt, Setup::new(kind, depth, workers, 1))?;
+            }
+        }
+        for reads in [0u32, 1_000] {
+            let mut setup = Setup::new(Kind::Nop, 64, 1, 1);
+            (setup.cells, setup.reads) = (1_024, reads);
+            self.measure(rt, setup)?;
+        }
+        self.measure(rt, Setup::new(Kind::Byte, 1, 4, 2))?;
+        for workers in 1..4u32 {
+            self.measure(rt, Setup::new(Kind::Echo, 1, workers, 2))?;
+        }
+        Ok(())
+    }
 }
 
 /// Measures everything and prints it, or only tries it.
 pub(crate) fn measure<R: Machine>(rt: &R, is_timed: bool) -> Result<()> {
-    let (single, many) = (hand_over_figure(rt, 1)?, hand_over_figure(rt, 64)?);
-    show(rt, "hand-over, 1 in flight", &single, &single, is_timed)?;
-    show(rt, "hand-over, 64 in flight", &many, &many, is_timed)?;
+    let others = [0; 3];
+    let mut bench = Bench { is_timed, others };
+    for i in 0..3usize {
+        let (name, depth, is_blocking, units) = HAND_OVERS[i];
+        let lanes = HandOver::new(rt.alloc(), depth, is_blocking)?;
+        let plan = (bench.units(units), bench.others[0]);
+        let nanos = median!(is_timed, lanes.round(rt, plan.0));
+        bench.others[i] = bench.show(rt, name, nanos, plan)?;
+    }
+    let plan = (OPERATIONS, bench.others[0]);
     for (kind, name) in LOOPS {
-        show(rt, name, &loop_figure(rt, kind)?, &single, is_timed)?;
+        let timed = Rounds::new(kind);
+        let nanos = median!(is_timed, timed.round(rt, OPERATIONS));
+        bench.show(rt, name, nanos, plan)?;
     }
-    show(rt, "NOP on a board", &board_figure(rt)?, &single, is_timed)?;
-    for setup in &all_measured(rt.alloc())? {
-        let (count, units) = match setup.kind {
-            _ if is_timed => (ROUNDS, UNITS * u64::from(setup.depth.clamp(1, 16))),
-            Kind::Byte => (0, 10_000),
-            _ => (0, 32 + u64::from(setup.depth)),
-        };
-        let figure = setup_figure(rt, setup, count, units)?;
-        let hand_over = if setup.depth == 1 { &single } else { &many };
-        show(rt, setup, &figure, hand_over, is_timed)?;
-    }
+    let mut path = BoardPath::new(rt.alloc(), 64)?;
+    let nanos = median!(is_timed, path.round(rt, OPERATIONS));
+    bench.show(rt, "NOP on a board", nanos, plan)?;
+    bench.measure_all(rt)
+}
+
+/// A byte there and back between the clients of a runtime with three workers. One of them waits for it, since the other one sleeps first
+/// for so many seconds, and so do so many READs. Prints the processor time of all threads meanwhile.
+pub(crate) fn run_idle<R: Machine + CpuClock>(rt: &R, seconds: u64, reads: u64) -> Result<()> {
+    let mut setup = Setup::new(Kind::Echo, 1, 3, 2);
+    (setup.cells, setup.reads) = (1_024, reads.min(1_000) as u32);
+    setup.pause = Duration::from_secs(seconds);
+    let mut fleet = Fleet::<Units>::start(rt, &setup)?;
+    let before = rt.process_cpu_time();
+    let waited = round_of(rt, &mut fleet, 1);
+    let after = rt.process_cpu_time();
+    fleet.end(rt)?;
+    let (waited, reads) = (waited? / 1_000_000, setup.reads);
+    let used = after?.saturating_sub(before?).as_micros();
+    println!(rt;
+        "a client has waited {waited} ms, beside {reads} READs; {used} us of processor time"
+    )?;
     Ok(())
 }

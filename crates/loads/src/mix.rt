@@ -1,12 +1,13 @@
 //! The mixed load of one client: batches of requests of all kinds, and what it checks of each request.
 use crate::draws::{Draws, LINKS, VALUES};
 use crate::flow::{Flow, buffer_of};
-use crate::load::Batch;
+use crate::load::{Batch, Load};
 use crate::replies::may_reply;
+use crate::setup::{Kind, Setup};
 use anyhow::{Result, bail};
 use board::Completion;
 use entry::Sqe;
-use prep::{cancel_all, with_flags, with_user_data};
+use prep::{cancel_all, nop, with_flags, with_user_data};
 use std::alloc::{AllocError, Global};
 use std::mem;
 
@@ -39,88 +40,49 @@ pub(crate) struct Mix {
     span_end: u64,
     turns: u64,
     rest: u64,
-    patience: u64,
-    pub submitted: u64,
-    pub reaped: u64,
-    pub reported: u64,
+    submitted: u64,
+    taken: u64,
 }
 
 impl Mix {
-    /// The load of the client of a ring of so many cells that has submitted nothing yet. One seed in four is that of a wild one.
-    pub fn new(alloc: Global, ring: u16, cells: u32, seed: u64) -> Result<Mix, AllocError> {
-        Ok(Mix {
-            alloc,
-            is_wild: seed % 4 == 1,
-            draws: Draws::new(seed.wrapping_add(u64::from(ring))),
-            flow: Flow::new(ring),
-            open: Vec::from_elem(alloc, None, cells as usize)?,
-            drawn: Vec::new(alloc),
-            span_end: 0,
-            turns: 0,
-            rest: 0,
-            patience: PATIENCE,
-            submitted: 0,
-            reaped: 0,
-            reported: 0,
-        })
-    }
-
-    /// Begins a round of so many turns.
-    pub fn begin(&mut self, turns: u64) {
-        self.turns = turns;
-    }
-
-    /// Counts a turn. Whether the round is over.
-    pub fn is_over(&mut self) -> bool {
-        self.turns = self.turns.saturating_sub(1);
-        self.turns == 0
-    }
-
-    /// The next batch. It may be empty.
-    pub fn next_batch(&mut self) -> Result<Batch, AllocError> {
-        let mut batch = Vec::new(self.alloc);
-        if self.is_wild || self.submitted < self.span_end {
-            self.draw(&mut batch, false)?;
-        } else if self.submitted == self.reaped {
-            let half = (self.open.len() / 2).min(1_024) as u32;
-            let span = u64::from(self.draws.below(half + 1));
-            self.span_end = self.submitted.saturating_add(span);
-            (self.rest, self.patience) = (0, PATIENCE);
-            self.draw(&mut batch, true)?;
-        } else if self.rest == 0 {
-            self.rest = self.patience;
-            self.patience = self.patience.saturating_mul(2).min(1_048_576);
-            for value in 0..VALUES {
-                self.add(&mut batch, cancel_all(u64::from(value)))?;
-            }
-        } else {
-            self.rest = self.rest.saturating_sub(1);
+    /// Adds some NOPs now and then, and gives how many. They surely end, since no drain holds them up.
+    fn draw_nops(&mut self, batch: &mut Batch) -> Result<usize, AllocError> {
+        let is_drain = |record: &Option<Record>| record.is_some_and(|it| it.sqe.drains());
+        if self.draws.below(4) != 0 || self.open.iter().any(is_drain) {
+            return Ok(0);
         }
-        Ok(batch)
+        let count = self.draws.below(4);
+        for _nop in 0..count {
+            let sqe = with_user_data(nop(), self.draws.user_data());
+            self.add(batch, sqe)?;
+        }
+        Ok(count as usize)
     }
 
     /// Adds entries at random: any, or such as end by themselves, with drains.
     fn draw(&mut self, batch: &mut Batch, is_quick: bool) -> Result<(), AllocError> {
         let mut link = 0;
         for _entry in 0..self.draws.below(8) + 1 {
-            let sqe = if link != 0 && self.draws.below(3) == 0 {
-                self.draws.link_timeout()
-            } else if is_quick || self.draws.below(2) == 0 {
-                self.draws.quick()
-            } else {
-                self.draws.slow(&self.flow)
-            };
+            let sqe = self.entry(is_quick, link != 0);
             link = LINKS[self.draws.below(8) as usize];
             let may_drain = is_quick || (self.is_wild && self.draws.below(16) == 0);
-            let drain = if may_drain && self.draws.below(3) == 0 {
-                DRAIN
-            } else {
-                0
-            };
-            let sqe = with_user_data(with_flags(sqe, link | drain), self.draws.user_data());
+            let is_drain = may_drain && self.draws.below(3) == 0;
+            let flags = if is_drain { link | DRAIN } else { link };
+            let sqe = with_user_data(with_flags(sqe, flags), self.draws.user_data());
             self.add(batch, sqe)?;
         }
         Ok(())
+    }
+
+    /// An entry, which comes after one with a link or not.
+    fn entry(&mut self, is_quick: bool, is_linked: bool) -> Sqe {
+        if is_linked && self.draws.below(3) == 0 {
+            self.draws.link_timeout()
+        } else if is_quick || self.draws.below(2) == 0 {
+            self.draws.quick()
+        } else {
+            self.draws.slow(&self.flow)
+        }
     }
 
     /// Adds an entry.
@@ -138,18 +100,79 @@ impl Mix {
         self.open.get_mut(place as usize)
     }
 
-    /// What is known of a request, which has its completion now.
-    fn close(&mut self, number: u64) -> Option<Record> {
-        let record = self.place(number)?.take()?;
-        if record.number == number {
-            Some(record)
-        } else {
-            None
+    /// Notes a completion. Its request had none before, and may have this one, with this buffer.
+    fn tell(&mut self, completion: &Completion, is_cut: bool) -> Result<()> {
+        let (number, cqe) = (completion.req.k, completion.cqe);
+        let record = self.place(number).and_then(|place| place.take());
+        let Some(record) = record.filter(|record| record.number == number) else {
+            bail!("request {number} was told twice, or never submitted");
+        };
+        let (op, res, buffer) = (record.sqe.op(), cqe.res, completion.buffer.as_slice());
+        if cqe.user_data != record.sqe.user_data() || !may_reply(op, res, is_cut) {
+            bail!("request {number}, {op:?}, can't have the reply {res}");
         }
+        if !self.flow.is_right(op, record.from, res, buffer) {
+            bail!("the buffer of request {number}, {op:?}, with reply {res}, is wrong");
+        }
+        self.flow.finish(op, res);
+        Ok(())
+    }
+}
+
+impl Load for Mix {
+    /// The load of the client of a ring of so many cells that has submitted nothing yet. One seed in four is that of a wild one.
+    fn new(alloc: Global, ring: u16, setup: &Setup) -> Result<Mix, AllocError> {
+        let Kind::Mixed { seed } = setup.kind else {
+            return Err(AllocError);
+        };
+        Ok(Mix {
+            alloc,
+            is_wild: seed % 4 == 1,
+            draws: Draws::new(seed.wrapping_add(u64::from(ring))),
+            flow: Flow::new(ring),
+            open: Vec::from_elem(alloc, None, setup.cells as usize)?,
+            drawn: Vec::new(alloc),
+            span_end: 0,
+            turns: 0,
+            rest: PATIENCE,
+            submitted: 0,
+            taken: 0,
+        })
     }
 
-    /// Notes that the batch was submitted.
-    pub fn sent(&mut self) -> Result<()> {
+    fn begin(&mut self, turns: u64) {
+        self.turns = turns;
+    }
+
+    /// Counts a turn. Whether the round is over.
+    fn is_over(&mut self) -> bool {
+        self.turns = self.turns.saturating_sub(1);
+        self.turns == 0
+    }
+
+    fn next_batch(&mut self) -> Result<(Batch, usize), AllocError> {
+        let (mut batch, mut awaited) = (Vec::new(self.alloc), 0);
+        if self.is_wild || self.submitted < self.span_end {
+            awaited = self.draw_nops(&mut batch)?;
+            self.draw(&mut batch, false)?;
+        } else if self.submitted == self.taken {
+            let half = (self.open.len() / 2).min(1_024) as u32;
+            let span = u64::from(self.draws.below(half + 1));
+            self.span_end = self.submitted.saturating_add(span);
+            self.rest = PATIENCE;
+            self.draw(&mut batch, true)?;
+        } else {
+            if self.rest.is_power_of_two() {
+                for value in 0..VALUES {
+                    self.add(&mut batch, cancel_all(u64::from(value)))?;
+                }
+            }
+            self.rest = self.rest.saturating_add(1);
+        }
+        Ok((batch, awaited))
+    }
+
+    fn sent(&mut self) -> Result<()> {
         for record in mem::replace(&mut self.drawn, Vec::new(self.alloc)) {
             match self.place(record.number) {
                 Some(slot) if slot.is_none() => *slot = Some(record),
@@ -160,33 +183,19 @@ impl Mix {
         Ok(())
     }
 
-    /// Notes that the batch found no room.
-    pub fn refused(&mut self, _batch: Batch) {
+    fn refused(&mut self, _batch: Batch) {
         for record in &self.drawn {
             self.flow.finish(record.sqe.op(), 0);
         }
         self.drawn.clear();
     }
 
-    /// Notes a completion that was taken or reported. Its request had none before, and may have this one, with this buffer.
-    pub fn tell(&mut self, completion: &Completion, is_report: bool, is_cut: bool) -> Result<()> {
-        let (number, cqe) = (completion.req.k, completion.cqe);
-        let Some(Record { sqe, from, .. }) = self.close(number) else {
-            bail!("request {number} was told twice, or never submitted");
-        };
-        let (op, res, buffer) = (sqe.op(), cqe.res, completion.buffer.as_slice());
-        if cqe.user_data != sqe.user_data() || !may_reply(op, res, is_cut) {
-            bail!("request {number}, {op:?}, can't have the reply {res}");
-        }
-        if !self.flow.is_right(op, from, res, buffer) {
-            bail!("the buffer of request {number}, {op:?}, with reply {res}, is wrong");
-        }
-        self.flow.finish(op, res);
-        if is_report {
-            self.reported = self.reported.saturating_add(1);
-        } else {
-            self.reaped = self.reaped.saturating_add(1);
-        }
-        Ok(())
+    fn take(&mut self, completion: Completion) -> Result<()> {
+        self.taken = self.taken.saturating_add(1);
+        self.tell(&completion, false)
+    }
+
+    fn report(&mut self, completion: &Completion, is_cut: bool) -> Result<()> {
+        self.tell(completion, is_cut)
     }
 }

@@ -1,75 +1,50 @@
 //! Runtimes under the mixed load: one for so long, and one after another, each ended at a moment of its own.
 use crate::draws::Draws;
-use crate::fleet::Fleet;
-use crate::load::{Load, loads_of};
-use crate::machine::{Machine, resident};
+use crate::fleet::{Fleet, round_of};
+use crate::load::Told;
+use crate::machine::{Machine, status};
+use crate::mix::Mix;
 use crate::setup::{Kind, Setup};
-use anyhow::{Result, bail};
+use anyhow::Result;
 use std::time::{Duration, Instant};
 
-/// How many requests were submitted, how many completions were taken, and how many requests were reported.
-fn told_of(loads: &Vec<Load>) -> (u64, u64, u64) {
-    let (mut submitted, mut reaped, mut reported) = (0u64, 0u64, 0u64);
-    for load in loads {
-        if let Load::Mix(mix) = load {
-            submitted = submitted.saturating_add(mix.submitted);
-            reaped = reaped.saturating_add(mix.reaped);
-            reported = reported.saturating_add(mix.reported);
-        }
+/// Prints what was counted, if so many tenths of so many seconds have gone by since the start. The tenths to look for next.
+fn look<R: Machine>(rt: &R, start: Instant, seconds: u64, part: u64, told: Told) -> Result<u64> {
+    let millis = seconds.saturating_mul(100).saturating_mul(part);
+    if start.elapsed(rt)? < Duration::from_millis(millis) {
+        return Ok(part);
     }
-    (submitted, reaped, reported)
+    let memory = status(rt, "VmRSS:").unwrap_or(0);
+    let threads = status(rt, "Threads:").unwrap_or(0);
+    let (submitted, taken, reported) = (told.submitted, told.taken, told.reported);
+    println!(rt;
+        "{part}0 %: {submitted} submitted, {taken} taken, {reported} reported; {memory} kB, threads {threads}"
+    )?;
+    Ok(part.saturating_add(1))
 }
 
-/// Ends the runtime. How many requests were submitted, and how many of them were reported.
-fn end<R: Machine>(rt: &R, fleet: Fleet, mut loads: Vec<Load>) -> Result<(u64, u64)> {
-    fleet.end(rt, &mut loads)?;
-    let (submitted, reaped, reported) = told_of(&loads);
-    if submitted != reaped.saturating_add(reported) {
-        bail!("a request was neither taken nor reported");
-    }
-    Ok((submitted, reported))
-}
-
-/// Keeps the runtime under the load until so much time has gone by since the start.
-fn go_on<R: Machine>(
-    rt: &R,
-    mut fleet: Fleet,
-    loads: &mut Vec<Load>,
-    start: Instant,
-    until: Duration,
-) -> Result<Fleet> {
+/// Keeps the runtime under the load for so many seconds.
+fn go_on<R: Machine>(rt: &R, fleet: &mut Fleet<Mix>, seconds: u64) -> Result<()> {
+    let (start, mut part) = (Instant::now(rt)?, 1);
     for _ in rt.forever() {
-        let (next, _nanos) = fleet.round(rt, loads, 5_000)?;
-        fleet = next;
-        if until <= start.elapsed(rt)? {
+        round_of(rt, fleet, 5_000)?;
+        part = look(rt, start, seconds, part, fleet.told())?;
+        if 10 < part {
             break;
         }
     }
-    Ok(fleet)
-}
-
-/// Prints what was counted until a tenth of the time had gone by, or so many of them.
-fn print_part<R: Machine>(rt: &R, part: u64, loads: &Vec<Load>) -> Result<()> {
-    let (submitted, reaped, _) = told_of(loads);
-    let memory = resident(rt).unwrap_or(0);
-    println!(rt; "{part}0 %: {submitted} submitted, {reaped} reaped, {memory} kB resident")?;
     Ok(())
 }
 
-/// Puts one runtime, with three workers, under the load for so many seconds. It prints what was counted, ten times, and at the end.
+/// Puts one runtime, with three workers, under the load for so many seconds, and ends it. Prints ten times what was counted, and at the end.
 pub(crate) fn run_mixed<R: Machine>(rt: &R, seconds: u64) -> Result<()> {
     let mut setup = Setup::new(Kind::Mixed { seed: 2_026 }, 0, 3, 2);
     (setup.cells, setup.idle, setup.every) = (256, 8, 4);
-    let start = Instant::now(rt)?;
-    let mut loads = loads_of(rt.alloc(), &setup)?;
     let mut fleet = Fleet::start(rt, &setup)?;
-    for part in 1..=10u64 {
-        let until = Duration::from_millis(seconds.saturating_mul(100).saturating_mul(part));
-        fleet = go_on(rt, fleet, &mut loads, start, until)?;
-        print_part(rt, part, &loads)?;
-    }
-    let (submitted, reported) = end(rt, fleet, loads)?;
-    println!(rt; "{submitted} submitted, each taken once, but {reported} reported once")?;
+    let (start, gone) = (Instant::now(rt), go_on(rt, &mut fleet, seconds));
+    let told = fleet.end(rt);
+    gone?;
+    look(rt, start?, 0, 10, told?)?;
     Ok(())
 }
 
@@ -84,25 +59,23 @@ fn setup_of(draws: &mut Draws) -> Setup {
     setup
 }
 
-/// Puts runtimes, drawn from this seed, under the load for so many seconds, and ends each at a random moment, with all that is in flight.
+/// Puts runtimes, drawn from this seed, under the load for so many seconds, and ends each at a random moment.
 pub(crate) fn run_soak<R: Machine>(rt: &R, seconds: u64, seed: u64) -> Result<()> {
-    let mut draws = Draws::new(seed);
-    let (mut rounds, mut requests, mut left) = (0u64, 0u64, 0u64);
-    let start = Instant::now(rt)?;
+    let (mut draws, mut told, mut runtimes) = (Draws::new(seed), Told::default(), 0u64);
+    let (start, mut part) = (Instant::now(rt)?, 1);
     for _ in rt.forever() {
-        if Duration::from_secs(seconds) <= start.elapsed(rt)? {
+        let (setup, turns) = (setup_of(&mut draws), u64::from(draws.below(10_000)));
+        let mut fleet = Fleet::<Mix>::start(rt, &setup)?;
+        let gone = round_of(rt, &mut fleet, turns);
+        let end = fleet.end(rt);
+        gone?;
+        told = told.plus(end?);
+        runtimes = runtimes.saturating_add(1);
+        part = look(rt, start, seconds, part, told)?;
+        if 10 < part {
             break;
         }
-        let setup = setup_of(&mut draws);
-        let (fleet, mut loads) = (Fleet::start(rt, &setup)?, loads_of(rt.alloc(), &setup)?);
-        let (fleet, _nanos) = fleet.round(rt, &mut loads, u64::from(draws.below(10_000)))?;
-        let (submitted, reported) = end(rt, fleet, loads)?;
-        rounds = rounds.saturating_add(1);
-        requests = requests.saturating_add(submitted);
-        left = left.saturating_add(reported);
     }
-    println!(rt;
-        "{rounds} runtimes, {requests} requests, each taken once, but {left} reported once"
-    )?;
+    println!(rt; "{runtimes} runtimes")?;
     Ok(())
 }

@@ -1,9 +1,11 @@
 //! The loads that are measured, unit by unit: so many units are kept in flight.
-use crate::load::Batch;
+use crate::flow::{are_bytes, buffer_of};
+use crate::load::{Batch, Load};
+use crate::replies::LATE;
 use crate::setup::{Kind, Setup};
 use anyhow::{Result, bail};
 use board::Completion;
-use entry::{Op, Sqe};
+use entry::Sqe;
 use prep::{cancel, nop, read, timeout, timeout_remove, with_flags, with_user_data, write};
 use std::alloc::{AllocError, Global};
 
@@ -13,143 +15,154 @@ const LINK: u8 = 4;
 /// How many bytes go through a pipe of a pair's own at once.
 const BYTES: u32 = 8;
 
-/// The byte of this number. Neighbours differ, and so do bytes that are 256 numbers apart.
-fn byte_of(number: u64) -> u8 {
-    (number % 251) as u8
-}
+/// The user_data of the READs that are left to wait.
+const LEFT: u64 = u64::MAX;
 
-/// A client's load: how far it is, in units and in requests that were taken; a batch that found no room; and the buffers that came back.
+/// A client's load: the unit that comes next, the first of its round, and where that ends; how many requests have no completion; and a
+/// batch that found no room, or wasn't sent yet.
 #[derive(Drop)]
 pub(crate) struct Units {
     alloc: Global,
     ring: u16,
     setup: Setup,
-    begun: u64,
-    done: u64,
+    next: u64,
+    first: u64,
     end: u64,
-    taken: u64,
+    open: u64,
     unsent: Option<Batch>,
-    buffers: Vec<Vec<u8>>,
+}
+
+/// So many READs that are left to wait, on pipes that nothing is written to.
+fn reads_left(alloc: Global, count: u32) -> Result<Batch, AllocError> {
+    let mut batch = Vec::new(alloc);
+    for number in 0..count {
+        let pipe = 2 + number % 62;
+        let sqe = with_user_data(read(2 * pipe as i32, 1, 0), LEFT);
+        batch.push((sqe, buffer_of(alloc, sqe.op(), 0)?))?;
+    }
+    Ok(batch)
 }
 
 impl Units {
-    /// The load of the client of a ring that has submitted nothing yet.
-    pub fn new(alloc: Global, ring: u16, setup: &Setup) -> Result<Units, AllocError> {
+    /// The entries of the next unit, which has one or both.
+    fn entries(&self) -> (Option<Sqe>, Option<Sqe>) {
+        let (target, pipe) = (self.next.wrapping_mul(2), 2 * (self.next % 64) as i32);
+        let linked = with_flags(write(pipe + 1, BYTES, 0), LINK);
+        let is_first = self.next == self.first;
+        let is_last = self.end <= self.next.saturating_add(1);
+        match (self.setup.kind, self.ring) {
+            (Kind::Pair, _) => (Some(linked), Some(read(pipe, BYTES, 0))),
+            (Kind::ReadCancel, _) => (Some(read(0, BYTES, 0)), Some(cancel(target))),
+            (Kind::TimeoutRemove, _) => (Some(timeout(LATE, 0)), Some(timeout_remove(target))),
+            (Kind::Byte, 0) => (Some(write(1, 1, 0)), None),
+            (Kind::Byte, _) => (Some(read(0, 1, 0)), None),
+            (Kind::Echo, 0) => (Some(write(1, 1, 0)), Some(read(2, 1, 0))),
+            (Kind::Echo, _) if is_first => (None, Some(read(0, 1, 0))),
+            (Kind::Echo, _) if is_last => (Some(write(3, 1, 0)), None),
+            (Kind::Echo, _) => (Some(write(3, 1, 0)), Some(read(0, 1, 0))),
+            _ => (Some(nop()), None),
+        }
+    }
+
+    /// Adds the first (0) or second (1) entry of the next unit, if it has one. Its user_data tells its place, and which it is.
+    fn add(&mut self, batch: &mut Batch, sqe: Option<Sqe>, which: u64) -> Result<(), AllocError> {
+        let Some(sqe) = sqe else {
+            return Ok(());
+        };
+        let place = match (self.setup.kind, self.ring, which) {
+            (Kind::Pair, _, _) => self.next % 64,
+            (Kind::Echo, 1, 0) => self.next.wrapping_sub(1),
+            _ => self.next,
+        };
+        let sqe = with_user_data(sqe, place.wrapping_mul(2) | which);
+        batch.push((sqe, buffer_of(self.alloc, sqe.op(), place)?))?;
+        self.open = self.open.saturating_add(1);
+        Ok(())
+    }
+}
+
+impl Load for Units {
+    fn new(alloc: Global, ring: u16, setup: &Setup) -> Result<Units, AllocError> {
         Ok(Units {
             alloc,
             ring,
             setup: *setup,
-            begun: 0,
-            done: 0,
+            next: 0,
+            first: 0,
             end: 0,
-            taken: 0,
-            unsent: None,
-            buffers: Vec::with_capacity(alloc, 2 * setup.depth as usize)?,
+            open: 0,
+            unsent: Some(reads_left(alloc, if ring == 1 { setup.reads } else { 0 })?),
         })
     }
 
-    /// Begins a round of so many units.
-    pub fn begin(&mut self, count: u64) {
-        self.end = self.begun.saturating_add(count);
-    }
-
-    /// Whether all units of the round were begun, and each request was taken.
-    pub fn is_over(&self) -> bool {
-        let is_single = self.setup.kind == Kind::Nop || self.setup.kind == Kind::Byte;
-        let requests = if is_single { 1 } else { 2 };
-        self.end <= self.begun && self.taken == self.begun.wrapping_mul(requests)
-    }
-
-    /// The batch that found no room, or the entries of the units that may be in flight too.
-    pub fn next_batch(&mut self) -> Result<Batch, AllocError> {
-        if let Some(batch) = self.unsent.take() {
-            return Ok(batch);
+    /// Begins a round of so many units, which the clients at work share, but for those of a byte, in which both take part. Where bytes are
+    /// given back, the last unit of a round has no READ, and is the first of the next one, which has no WRITE.
+    fn begin(&mut self, count: u64) {
+        let more = u64::from(self.setup.kind == Kind::Echo && self.ring == 1);
+        let count = match self.setup.kind {
+            Kind::Nop if self.setup.clients == 2 => count / 2,
+            _ => count,
+        };
+        self.first = self.next.saturating_sub(more);
+        self.next = self.first;
+        if self.ring < self.setup.clients {
+            self.end = self.first.saturating_add(count).saturating_add(more);
         }
-        let in_flight = self.begun.saturating_sub(self.done);
+    }
+
+    /// Whether all units of the round were begun, and each request was taken that isn't left to wait.
+    fn is_over(&mut self) -> bool {
+        self.end <= self.next && self.open == 0 && self.unsent.is_none()
+    }
+
+    /// The batch that wasn't sent, or the entries of the units that may be in flight too. All completions of an echo are awaited.
+    fn next_batch(&mut self) -> Result<(Batch, usize), AllocError> {
+        if let Some(batch) = self.unsent.take() {
+            return Ok((batch, 0));
+        }
+        let is_single = self.setup.kind == Kind::Nop || self.setup.kind == Kind::Byte;
+        let in_flight = self.open.div_ceil(if is_single { 1 } else { 2 });
         let room = u64::from(self.setup.depth).saturating_sub(in_flight);
-        let room = room.min(self.end.saturating_sub(self.begun));
+        let room = room.min(self.end.saturating_sub(self.next));
         let mut batch = Vec::with_capacity(self.alloc, 2 * room.min(1_024) as usize)?;
         for _unit in 0..room {
             let (first, second) = self.entries();
             self.add(&mut batch, first, 0)?;
-            if let Some(second) = second {
-                self.add(&mut batch, second, 1)?;
-            }
-            self.begun = self.begun.saturating_add(1);
+            self.add(&mut batch, second, 1)?;
+            self.next = self.next.saturating_add(1);
         }
-        Ok(batch)
-    }
-
-    /// The entries of the next unit.
-    fn entries(&self) -> (Sqe, Option<Sqe>) {
-        let target = self.begun.wrapping_mul(2);
-        match self.setup.kind {
-            Kind::Pair => {
-                let pipe = (self.begun % u64::from(self.setup.pipes().0.clamp(1, 64))) as i32;
-                let write = with_flags(write(2 * pipe + 1, BYTES, 0), LINK);
-                (write, Some(read(2 * pipe, BYTES, 0)))
-            }
-            Kind::ReadCancel => (read(0, BYTES, 0), Some(cancel(target))),
-            Kind::TimeoutRemove => (timeout(1_000_000_000, 0), Some(timeout_remove(target))),
-            Kind::Byte if self.ring == 0 => (write(1, 1, 0), None),
-            Kind::Byte => (read(0, 1, 0), None),
-            _ => (nop(), None),
-        }
-    }
-
-    /// Adds the first (0) or second (1) entry of the next unit, with a buffer that came back, or a new one.
-    fn add(&mut self, batch: &mut Batch, sqe: Sqe, place: u64) -> Result<(), AllocError> {
-        let length = match sqe.op() {
-            Op::Read { len, .. } | Op::Write { len, .. } => len as usize,
-            _ => 0,
-        };
-        let mut buffer = Vec::new(self.alloc);
-        if length > 0 {
-            buffer = match self.buffers.pop() {
-                Some(buffer) => buffer,
-                None => Vec::from_elem(self.alloc, 255u8, length)?,
-            };
-        }
-        if let (Kind::Byte, Some(byte)) = (self.setup.kind, buffer.first_mut()) {
-            *byte = if self.ring == 0 {
-                byte_of(self.begun)
-            } else {
-                255
-            };
-        }
-        let user_data = self.begun.wrapping_mul(2) | place;
-        batch.push((with_user_data(sqe, user_data), buffer))?;
-        Ok(())
+        let is_echo = self.setup.kind == Kind::Echo;
+        Ok((batch, if is_echo { self.open as usize } else { 0 }))
     }
 
     /// Keeps a batch that found no room.
-    pub fn refused(&mut self, batch: Batch) {
+    fn refused(&mut self, batch: Batch) {
         self.unsent = Some(batch);
     }
 
-    /// Notes a completion, which must have the reply that its unit is for. The READ of a pair ends its unit, and else the first request.
-    pub fn take(&mut self, completion: Completion) -> Result<()> {
+    /// Notes a completion, which must have the reply that its unit is for, and its bytes.
+    fn take(&mut self, completion: Completion) -> Result<()> {
         let Completion { req, cqe, buffer } = completion;
-        let is_second = cqe.user_data % 2 == 1;
+        let is_first = cqe.user_data % 2 == 0;
         let res = match self.setup.kind {
             Kind::Pair => BYTES as i32,
-            Kind::ReadCancel | Kind::TimeoutRemove if !is_second => -125, // ECANCELED
-            Kind::Byte if buffer.first().copied() == Some(byte_of(self.done)) => 1,
+            Kind::ReadCancel | Kind::TimeoutRemove if is_first => -125, // ECANCELED
+            Kind::Byte | Kind::Echo => 1,
             _ => 0,
         };
-        if cqe.res != res {
-            bail!(
-                "request {} has the reply {}, or another byte",
-                req.k,
-                cqe.res
-            );
+        let is_right = res <= 0 || are_bytes(&buffer, cqe.user_data / 2);
+        if cqe.res != res || cqe.user_data == LEFT || !is_right {
+            let (number, reply) = (req.k, cqe.res);
+            bail!("request {number} has the reply {reply}, or other bytes");
         }
-        if !buffer.is_empty() {
-            self.buffers.push(buffer)?;
-        }
-        self.taken = self.taken.wrapping_add(1);
-        if is_second == (self.setup.kind == Kind::Pair) {
-            self.done = self.done.saturating_add(1);
+        self.open = self.open.saturating_sub(1);
+        Ok(())
+    }
+
+    /// Notes a line of the report, which only a READ has that was left to wait.
+    fn report(&mut self, completion: &Completion, is_cut: bool) -> Result<()> {
+        if completion.cqe.user_data != LEFT || !is_cut {
+            bail!("request {} was left over", completion.req.k);
         }
         Ok(())
     }

@@ -170,3 +170,7 @@ whole_turn b p q o u none blank x =
 -- the poller looked, after this
 pub turned_looked : (b : Facts) (p m q : Pass) (o u : Told) → Turned b p o m u → Goes b m [] q → ((r : Req) → freed q.view.seen r ≡ freed m.view.seen r) → Turned b p o q u
 turned_looked b p m q o u x goes alone = turned_then b p m q o u u x (turned_silent b m q u u [] refl goes alone refl)
+
+-- a part of the turn follows events that answer nothing
+pub turned_silent_then : (b : Facts) (p m q : Pass) (o u : Told) → Goes b p [] m → ((r : Req) → freed m.view.seen r ≡ freed p.view.seen r) → Turned b m o q u → Turned b p o q u
+turned_silent_then b p m q o u goes alone x = turned_then b p m q o o u (turned_silent b p m o o [] refl goes alone refl) x

@@ -58,6 +58,11 @@ abbrev pub Reaps : Facts → Req → Pass → Pass → List ℕ → List ℕ →
 Reaps b r p q old new (Ok cqe) = (c : Completion) × (c.cqe ≡ cqe) × (c.buffer.items ≡ new) × Goes b p (Reap r ∷ []) q × IsCompletion (seen_of q) r c × IsReaped (phase (seen_of q) r) × HasOnce (seen_of q) r
 Reaps b r p q old new (Err code) = (new ≡ old) × Goes b p [] q × ((e : ReapError) × (code ≡ reap_code_for e) × ((ring : ℕ) → p.view.role ≡ Submitter ring → RefusesReap b.layout.cells r ring (submits (seen_of p) ring) p q e))
 
+-- with the length of the buffer that is kept
+abbrev pub ReapsAt : Facts → Req → Pass → Pass → List ℕ → List ℕ → Result (Cqe × ℕ) Code → Type 0
+ReapsAt b r p q old new (Ok t) = (t.1 ≡ length new) × Reaps b r p q old new (Ok t.0)
+ReapsAt b r p q old new (Err code) = Reaps b r p q old new (Err code)
+
 -- the array begins with this list, or is too short for it and stays as it is
 abbrev pub Shows : {X : Type 0} → List X → List X → List X → Result ℕ Code → Type 0
 Shows xs old new (Ok n) = (n ≡ length xs) × (take n new ≡ xs) × (drop n new ≡ drop n old)

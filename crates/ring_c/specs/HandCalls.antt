@@ -1,5 +1,5 @@
 -- What a worker's calls do.
-use Rattle.std.specs.Prelude.{◌≡◌, ◌⊎◌, ◌≤◌, length, Result, Ok, Err}
+use Rattle.std.specs.Prelude.{◌≡◌, ◌⊎◌, ◌≤◌, ℕ, length, Result, Ok, Err}
 use Rattle.entry.specs.declared.cqe.Cqe.{Cqe}
 use Rattle.history.specs.declared.req.Req.{Req}
 use Rattle.history.specs.declared.event.Event.TheVariants.{Begin}
@@ -35,3 +35,8 @@ Works b r p q (Err Parked) = HasRun b r p q (PutBack why.NotReady)
 Works b r p q (Err PipeBusy) = HasRun b r p q (PutBack why.PipeBusy)
 Works b r p q (Err NotReady) = HasFoundIt b r p q
 Works b r p q (Err code) = ⊥
+
+-- with how many requests the run ended besides
+abbrev pub RunsAt : Facts → Req → Pass → Pass → Result (Cqe × ℕ) Code → Type 0
+RunsAt b r p q (Ok t) = (t.1 ≡ length q.took) × Works b r p q (Ok t.0)
+RunsAt b r p q (Err code) = Works b r p q (Err code)

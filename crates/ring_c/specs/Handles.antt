@@ -13,8 +13,8 @@ use Rattle.ring_c.specs.declared.code.Code.TheVariants.{Closed, WrongKind, Memor
 use Rattle.ring_c.specs.declared.inside.Inside.{Inside}
 use Rattle.ring_c.specs.declared.inside.Inside.TheVariants.{Client, Hand, Desk, Report}
 use Rattle.ring_c.specs.Sides.{ClientFacts, DeskFacts, HandFacts}
-use Rattle.ring_c.specs.ClientCalls.{Reaps, Shows, Submits}
-use Rattle.ring_c.specs.HandCalls.{Works}
+use Rattle.ring_c.specs.ClientCalls.{ReapsAt, Shows, Submits}
+use Rattle.ring_c.specs.HandCalls.{RunsAt}
 use Rattle.ring_c.specs.DeskCalls.{IsFull, IsStill, Ticks}
 use Rattle.ring_c.specs.Turns.{IsTurn}
 use Rattle.ring_c.specs.Numbers.{number_for}
@@ -57,10 +57,8 @@ LooksIn r i y a = (a ≡ Err WrongKind) × (y ≡ i)
 abbrev pub SubmitsThe : List ℕ → List ℕ → ClientFacts → ClientFacts → Result ℕ Code → Type 0
 SubmitsThe es bs x z a = (z.bytes ≡ x.bytes) × Submits es bs x.board x.pass z.pass a
 
--- with the length of the buffer that is kept
 abbrev pub ReapsThe : Req → ClientFacts → ClientFacts → Result (Cqe × ℕ) Code → Type 0
-ReapsThe r x z (Ok t) = (t.1 ≡ length z.bytes) × Reaps x.board r x.pass z.pass x.bytes z.bytes (Ok t.0)
-ReapsThe r x z (Err code) = Reaps x.board r x.pass z.pass x.bytes z.bytes (Err code)
+ReapsThe r x z a = ReapsAt x.board r x.pass z.pass x.bytes z.bytes a
 
 abbrev pub GivesBytes : List ℕ → List ℕ → ClientFacts → ClientFacts → Result ℕ Code → Type 0
 GivesBytes old new x z a = (z ≡ x) × Shows x.bytes old new a
@@ -68,10 +66,8 @@ GivesBytes old new x z a = (z ≡ x) × Shows x.bytes old new a
 abbrev pub GivesTook : List Number → List Number → HandFacts → HandFacts → Result ℕ Code → Type 0
 GivesTook old new x z a = (z ≡ x) × Shows (map number_for x.pass.took) old new a
 
--- with how many requests the run ended besides
 abbrev pub WorksAt : Req → HandFacts → HandFacts → Result (Cqe × ℕ) Code → Type 0
-WorksAt r x z (Ok t) = (t.1 ≡ length z.pass.took) × Works x.board r x.pass z.pass (Ok t.0)
-WorksAt r x z (Err code) = Works x.board r x.pass z.pass (Err code)
+WorksAt r x z a = RunsAt x.board r x.pass z.pass a
 
 -- a turn, which the arrays then tell of
 abbrev pub PollsThe : List Number → List Number → List Number → List Number → DeskFacts → DeskFacts → Result Turn Code → Type 0

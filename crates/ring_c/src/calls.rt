@@ -10,7 +10,7 @@ ghost use Rattle.ring_c.specs.Results.{counted_as, looked_as, polled_as, reaped_
 
 use crate::code::{Code, answer_number};
 use crate::handle::Handle;
-use crate::inside::{bytes_in, look_in, poll_in, reap_in, run_in, submit_in, tick_in, took_in};
+use crate::inside::{Inside, bytes_in, look_in, poll_in, submit_in, took_in};
 use crate::number::Number;
 use crate::results::{Counted, Looked, Polled, Reaped};
 use history::Req;
@@ -58,7 +58,10 @@ pub extern "C" fn ring_c_reap(alloc: Global, handle: &mut Handle, ring: u16, k: 
     let Some(mut inside) = handle.take(alloc) else {
         return Reaped::of(Err(Code::Closed));
     };
-    let answer = reap_in(&mut inside, Req { ring, k });
+    let answer = match &mut *inside {
+        Inside::Client(client) => client.reap(Req { ring, k }),
+        _ => Err(Code::WrongKind),
+    };
     handle.put(inside);
     Reaped::of(answer)
 }
@@ -87,7 +90,10 @@ pub extern "C" fn ring_c_work(alloc: Global, handle: &mut Handle, ring: u16, k: 
     let Some(mut inside) = handle.take(alloc) else {
         return Reaped::of(Err(Code::Closed));
     };
-    let answer = run_in(&mut inside, Req { ring, k });
+    let answer = match &mut *inside {
+        Inside::Hand(hand) => hand.run(Req { ring, k }),
+        _ => Err(Code::WrongKind),
+    };
     handle.put(inside);
     Reaped::of(answer)
 }
@@ -136,7 +142,10 @@ pub extern "C" fn ring_c_tick(alloc: Global, handle: &mut Handle, to: u32) -> u3
     let Some(mut inside) = handle.take(alloc) else {
         return Code::Closed.number();
     };
-    let answer = tick_in(&mut inside, to);
+    let answer = match &mut *inside {
+        Inside::Desk(desk) => desk.tick(to),
+        _ => Err(Code::WrongKind),
+    };
     handle.put(inside);
     answer_number(answer)
 }

@@ -3,7 +3,7 @@ ghost use Rattle.std.specs.Prelude.{◌≡◌, [], length};
 ghost use Rattle.std.specs.Arc.{arc_value};
 ghost use Rattle.work.specs.Board.{IsOf};
 ghost use Rattle.board.specs.Calls.{Goes, Finds};
-ghost use Rattle.ring_c.specs.ClientCalls.{Reaps, Shows, Submits};
+ghost use Rattle.ring_c.specs.ClientCalls.{ReapsAt, Shows, Submits};
 
 use crate::batch::{batch_of, copy_bytes, copy_of, entry_at, length_of};
 use crate::code::Code;
@@ -17,9 +17,9 @@ use std::sync::Arc;
 /// The submitter of one ring, with its board, and the buffer of the completion that it reaped last.
 #[derive(Drop)]
 pub struct Client {
-    board: Arc<Board>,
-    submitter: Submitter,
-    bytes: Vec<u8>,
+    pub(crate) board: Arc<Board>,
+    pub(crate) submitter: Submitter,
+    pub(crate) bytes: Vec<u8>,
 }
 
 impl Model for Client {
@@ -86,67 +86,27 @@ fn submit_one(
     }
 }
 
-/// Submits these entries, with their buffers one after another.
-fn submit(
-    board: &Board,
-    submitter: &mut Submitter,
-    alloc: Global,
-    entries: &[u8],
-    bytes: &[u8],
-) -> Result<u64, Code>
-    requires { IsOf board.now submitter.old }
-    ensures kept { IsOf board.now submitter.new }
-    ensures submits { Submits entries.now bytes.now board.now submitter.old submitter.new result }
-{
-    if entries.len() == 64 {
-        submit_one(board, submitter, alloc, entries, bytes)
-    } else {
-        submit_batch(board, submitter, alloc, entries, bytes)
-    }
-}
-
-/// Takes the request's completion. Its buffer takes the place of another.
+/// Takes the request's completion. Its buffer takes the place of another. How long that is.
 fn reap(
     board: &Board,
     submitter: &mut Submitter,
     bytes: &mut Vec<u8>,
     req: Req,
-) -> Result<Cqe, Code>
+) -> Result<(Cqe, u64), Code>
     requires { IsOf board.now submitter.old }
     ensures kept { IsOf board.now submitter.new }
-    ensures reaps { Reaps board.now req submitter.old submitter.new bytes.old.items bytes.new.items result }
+    ensures reaps { ReapsAt board.now req submitter.old submitter.new bytes.old.items bytes.new.items result }
 {
     match board.reap(submitter, req) {
         Ok(completion) => {
             *bytes = completion.buffer;
-            Ok(completion.cqe)
+            Ok((completion.cqe, bytes.len() as u64))
         }
         Err(error) => Err(Code::of_reap(error)),
     }
 }
 
 impl Client {
-    /// A client that has reaped nothing.
-    pub(crate) fn new(board: Arc<Board>, submitter: Submitter, bytes: Vec<u8>) -> Client
-        requires { IsOf (arc_value board) submitter }
-        ensures { result ≡ record { board = arc_value board; pass = submitter; bytes = bytes.items } }
-    {
-        Client {
-            board,
-            submitter,
-            bytes,
-        }
-    }
-
-    /// Its submitter. It gives up its board.
-    pub(crate) fn into_submitter(self) -> Submitter
-        ensures pass { result ≡ self.pass }
-        ensures own { IsOf self.board result }
-    {
-        let Client { submitter, .. } = self;
-        submitter
-    }
-
     /// Where a request stands.
     pub(crate) fn look(&mut self, req: Req) -> Phase
         ensures same { (self.new.board ≡ self.old.board) × (self.new.bytes ≡ self.old.bytes) }
@@ -166,22 +126,18 @@ impl Client {
         ensures same { self.new ≡ record self.old { pass = self.new.pass } }
         ensures submits { Submits entries.now bytes.now self.old.board self.old.pass self.new.pass result }
     {
-        submit(&self.board, &mut self.submitter, alloc, entries, bytes)
+        if entries.len() == 64 {
+            return submit_one(&self.board, &mut self.submitter, alloc, entries, bytes);
+        }
+        submit_batch(&self.board, &mut self.submitter, alloc, entries, bytes)
     }
 
-    /// Takes the request's completion, and keeps its buffer.
-    pub(crate) fn reap(&mut self, req: Req) -> Result<Cqe, Code>
+    /// Takes the request's completion, and keeps its buffer. How long that is.
+    pub(crate) fn reap(&mut self, req: Req) -> Result<(Cqe, u64), Code>
         ensures board { self.new.board ≡ self.old.board }
-        ensures reaps { Reaps self.old.board req self.old.pass self.new.pass self.old.bytes self.new.bytes result }
+        ensures reaps { ReapsAt self.old.board req self.old.pass self.new.pass self.old.bytes self.new.bytes result }
     {
         reap(&self.board, &mut self.submitter, &mut self.bytes, req)
-    }
-
-    /// How long the buffer is that it keeps.
-    pub(crate) fn length(&self) -> u64
-        ensures { result ≡ length self.now.bytes }
-    {
-        self.bytes.len() as u64
     }
 
     /// Copies the buffer of the completion that it reaped last.

@@ -119,13 +119,7 @@ impl Desk {
         go_over(board, &mut self.poller, &mut self.out, &mut self.held);
         let next = self.next.as_mut_slice();
         take_up(board, &mut self.poller, &mut self.out, &mut self.held, next);
-        let moved = self.out.has_moved();
-        let (ready, answered) = self.out.copy_out(ready, answered);
-        Turn {
-            moved,
-            ready,
-            answered,
-        }
+        self.out.copy_out(ready, answered)
     }
 
     /// Hands out the last of the clients that are here.
@@ -137,7 +131,11 @@ impl Desk {
             return Err(Code::Memory);
         };
         match self.clients.pop() {
-            Some(submitter) => Ok(Client::new(board, submitter, Vec::new(alloc))),
+            Some(submitter) => Ok(Client {
+                board,
+                submitter,
+                bytes: Vec::new(alloc),
+            }),
             None => Err(Code::Missing),
         }
     }
@@ -151,7 +149,10 @@ impl Desk {
             return Err(Code::Memory);
         };
         match self.workers.pop() {
-            Some(worker) => Ok(Hand::new(board, worker)),
+            Some(worker) => Ok(Hand {
+                board,
+                worker: Some(worker),
+            }),
             None => Err(Code::Missing),
         }
     }
@@ -165,7 +166,8 @@ impl Desk {
         if self.clients.reserve(1).is_err() {
             return Err(client);
         }
-        self.clients.push_reserved(client.into_submitter());
+        let Client { submitter, .. } = client;
+        self.clients.push_reserved(submitter);
         Ok(())
     }
 

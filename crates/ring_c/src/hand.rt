@@ -3,7 +3,7 @@ ghost use Rattle.std.specs.Prelude.{◌≡◌, []};
 ghost use Rattle.std.specs.Arc.{arc_value};
 ghost use Rattle.work.specs.Board.{IsOf};
 ghost use Rattle.board.specs.Calls.{Goes, Finds};
-ghost use Rattle.ring_c.specs.HandCalls.{Works};
+ghost use Rattle.ring_c.specs.HandCalls.{RunsAt};
 ghost use Rattle.ring_c.specs.Sides.{IsIn, pass_in};
 
 use crate::code::Code;
@@ -17,8 +17,8 @@ use std::sync::Arc;
 /// A worker, with its board. Its place is empty only while it runs a request.
 #[derive(Drop)]
 pub struct Hand {
-    board: Arc<Board>,
-    worker: Option<Worker>,
+    pub(crate) board: Arc<Board>,
+    pub(crate) worker: Option<Worker>,
 }
 
 impl Model for Hand {
@@ -32,11 +32,11 @@ impl Model for Hand {
     ghost invariant = { λ h. IsIn (arc_value h.board) h.worker };
 }
 
-/// Begins the request and runs it.
-fn work(board: &Board, worker: Worker, req: Req) -> (Worker, Result<Cqe, Code>)
+/// Begins the request and runs it. How many requests that ended besides.
+fn work(board: &Board, worker: Worker, req: Req) -> (Worker, Result<(Cqe, u64), Code>)
     requires { IsOf board.now worker }
     ensures kept { IsOf board.now result.0 }
-    ensures works { Works board.now req worker result.0 result.1 }
+    ensures works { RunsAt board.now req worker result.0 result.1 }
 {
     let busy = match board.begin(worker, req) {
         Ok(busy) => busy,
@@ -44,40 +44,16 @@ fn work(board: &Board, worker: Worker, req: Req) -> (Worker, Result<Cqe, Code>)
     };
     let (worker, ran) = busy.run();
     match ran {
-        Ran::Replied { cqe } => (worker, Ok(cqe)),
+        Ran::Replied { cqe } => {
+            let took = worker.took().len() as u64;
+            (worker, Ok((cqe, took)))
+        }
         Ran::Parked(Parked::NotReady) => (worker, Err(Code::Parked)),
         Ran::Parked(Parked::PipeBusy) => (worker, Err(Code::PipeBusy)),
     }
 }
 
-/// The worker leaves its place, begins the request and runs it, and comes back.
-fn work_from(board: &Board, place: &mut Option<Worker>, req: Req) -> Result<Cqe, Code>
-    requires { IsIn board.now place.old }
-    ensures kept { IsIn board.now place.new }
-    ensures works { Works board.now req (pass_in board.now place.old) (pass_in board.now place.new) result }
-{
-    let Some(worker) = place.take() else {
-        unreachable!()
-    };
-    let (worker, answer) = work(board, worker, req);
-    let None = replace(place, Some(worker)) else {
-        unreachable!()
-    };
-    answer
-}
-
 impl Hand {
-    /// A worker with its board.
-    pub(crate) fn new(board: Arc<Board>, worker: Worker) -> Hand
-        requires { IsOf (arc_value board) worker }
-        ensures { result ≡ record { board = arc_value board; pass = worker } }
-    {
-        Hand {
-            board,
-            worker: Some(worker),
-        }
-    }
-
     /// Its worker. It gives up its board.
     pub(crate) fn into_worker(self) -> Worker
         ensures pass { result ≡ self.pass }
@@ -102,12 +78,19 @@ impl Hand {
         }
     }
 
-    /// Begins the request and runs it.
-    pub(crate) fn run(&mut self, req: Req) -> Result<Cqe, Code>
+    /// Begins the request and runs it, by the worker, which leaves its place meanwhile. How many requests that ended besides.
+    pub(crate) fn run(&mut self, req: Req) -> Result<(Cqe, u64), Code>
         ensures board { self.new.board ≡ self.old.board }
-        ensures works { Works self.old.board req self.old.pass self.new.pass result }
+        ensures works { RunsAt self.old.board req self.old.pass self.new.pass result }
     {
-        work_from(&self.board, &mut self.worker, req)
+        let Some(worker) = self.worker.take() else {
+            unreachable!()
+        };
+        let (worker, answer) = work(&self.board, worker, req);
+        let None = replace(&mut self.worker, Some(worker)) else {
+            unreachable!()
+        };
+        answer
     }
 
     /// The requests that its last run ended.

@@ -1,6 +1,6 @@
 //! What a handle leads to, and its calls.
 ghost use Rattle.std.specs.Prelude.{◌≡◌, IfErr};
-ghost use Rattle.ring_c.specs.Handles.{EndsIn, GivesBytes, GivesTook, LooksIn, OfClient, OfDesk, OfHand, PollsThe, ReapsThe, SubmitsThe, TicksAt, WorksAt};
+ghost use Rattle.ring_c.specs.Handles.{EndsIn, GivesBytes, GivesTook, LooksIn, OfClient, OfDesk, OfHand, PollsThe, SubmitsThe};
 
 use crate::client::Client;
 use crate::code::Code;
@@ -9,7 +9,6 @@ use crate::hand::Hand;
 use crate::number::{Number, copy_numbers};
 use crate::results::Turn;
 use board::{Phase, Report};
-use entry::Cqe;
 use history::Req;
 use std::alloc::Global;
 use std::mem::replace;
@@ -59,19 +58,6 @@ pub(crate) fn submit_in(
     }
 }
 
-/// Takes a completion, by a client, which keeps its buffer. How long that is.
-pub(crate) fn reap_in(inside: &mut Inside, req: Req) -> Result<(Cqe, u64), Code>
-    ensures { OfClient (ReapsThe req) inside.old inside.new result }
-{
-    let Inside::Client(client) = inside else {
-        return Err(Code::WrongKind);
-    };
-    match client.reap(req) {
-        Ok(cqe) => Ok((cqe, client.length())),
-        Err(code) => Err(code),
-    }
-}
-
 /// Copies the buffer that a client keeps.
 pub(crate) fn bytes_in(inside: &Inside, out: &mut [u8]) -> Result<u64, Code>
     ensures bytes { OfClient (GivesBytes out.old out.new) inside.now inside.now result }
@@ -106,29 +92,6 @@ pub(crate) fn poll_in(
     match inside {
         Inside::Desk(desk) => Ok(desk.poll(ready, answered)),
         _ => Err(Code::WrongKind),
-    }
-}
-
-/// Sets the clock on, by a poller.
-pub(crate) fn tick_in(inside: &mut Inside, to: u32) -> Result<(), Code>
-    ensures { OfDesk (TicksAt to) inside.old inside.new result }
-{
-    match inside {
-        Inside::Desk(desk) => desk.tick(to),
-        _ => Err(Code::WrongKind),
-    }
-}
-
-/// Begins a request and runs it, by a worker. How many requests that ended besides.
-pub(crate) fn run_in(inside: &mut Inside, req: Req) -> Result<(Cqe, u64), Code>
-    ensures { OfHand (WorksAt req) inside.old inside.new result }
-{
-    let Inside::Hand(hand) = inside else {
-        return Err(Code::WrongKind);
-    };
-    match hand.run(req) {
-        Ok(cqe) => Ok((cqe, hand.took().len() as u64)),
-        Err(code) => Err(code),
     }
 }
 

@@ -8,7 +8,7 @@ ghost use Rattle.ring_c.specs.Codes.{answer_of};
 ghost use Rattle.ring_c.specs.Handles.{EndsIn, Through};
 ghost use Rattle.ring_c.specs.Lives.{AreOfOne, GivesOut, GivesPass, Opens, TakesBack};
 
-use crate::code::{Code, answer_number};
+use crate::code::Code;
 use crate::handle::Handle;
 use crate::homes::{pass_of, poller_of, take_back};
 use crate::inside::finish_in;
@@ -89,10 +89,13 @@ pub extern "C" fn ring_c_back(alloc: Global, poller: &mut Handle, pass: &mut Han
     };
     let answer = take_back(&mut inside, &mut other);
     poller.put(inside);
-    if answer.is_err() {
-        pass.put(other);
+    match answer {
+        Ok(()) => 0,
+        Err(code) => {
+            pass.put(other);
+            code.number()
+        }
     }
-    answer_number(answer)
 }
 
 /// Ends the board of a poller that all passes have come back to. The handle leads to the report then. How many lines that has.

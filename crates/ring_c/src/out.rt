@@ -5,6 +5,7 @@ ghost use Rattle.ring_c.specs.ClientCalls.{Shows};
 ghost use Rattle.ring_c.specs.Numbers.{number_for};
 
 use crate::number::{Number, copy_numbers};
+use crate::results::Turn;
 use history::Req;
 use std::alloc::{AllocError, Global};
 use std::marker::Model;
@@ -66,11 +67,6 @@ impl Out {
             && self.answered_most.saturating_sub(self.answered.len()) >= 2
     }
 
-    /// Whether the turn did something.
-    pub(crate) fn has_moved(&self) -> bool {
-        self.moved
-    }
-
     /// The turn did something.
     pub(crate) fn note_move(&mut self)
         ensures { self.new ≡ self.old }
@@ -96,20 +92,24 @@ impl Out {
         self.moved = true;
     }
 
-    /// Copies the numbers of the requests that are to be run, and of those that were answered. The arrays have room for them. How many
-    /// there are of each.
-    pub(crate) fn copy_out(&self, ready: &mut [Number], answered: &mut [Number]) -> (u64, u64)
+    /// Copies the numbers of the requests that are to be run, and of those that were answered. The arrays have room for them. What the
+    /// turn did.
+    pub(crate) fn copy_out(&self, ready: &mut [Number], answered: &mut [Number]) -> Turn
         requires ready { self.now.ready_most ≤ length ready.old }
         requires answered { self.now.answered_most ≤ length answered.old }
-        ensures ready { Shows (map number_for self.now.ready) ready.old ready.new (Ok result.0) }
-        ensures answered { Shows (map number_for self.now.answered) answered.old answered.new (Ok result.1) }
+        ensures ready { Shows (map number_for self.now.ready) ready.old ready.new (Ok result.ready) }
+        ensures answered { Shows (map number_for self.now.answered) answered.old answered.new (Ok result.answered) }
     {
-        let (Ok(to_run), Ok(done)) = (
+        let (Ok(ready), Ok(answered)) = (
             copy_numbers(self.ready.as_slice(), ready),
             copy_numbers(self.answered.as_slice(), answered),
         ) else {
             unreachable!()
         };
-        (to_run, done)
+        Turn {
+            moved: self.moved,
+            ready,
+            answered,
+        }
     }
 }

@@ -1,35 +1,11 @@
 //! The report that a handle leads to, line by line.
 ghost use Rattle.std.specs.Prelude.{◌≡◌, IfErr};
-ghost use Rattle.ring_c.specs.Reports.{GivesLineBytes, TellsLine, line_for};
+ghost use Rattle.ring_c.specs.Reports.{GivesLineBytes, TellsLine};
 
 use crate::batch::copy_bytes;
 use crate::code::Code;
 use crate::inside::Inside;
 use crate::results::Line;
-use board::Completion;
-
-/// What C gets of a line.
-fn line_of(line: &(Completion, bool)) -> Line
-    ensures { result ≡ line_for line.now }
-{
-    let (completion, is_cut) = line;
-    Line {
-        code: 0,
-        res: completion.cqe.res,
-        user_data: completion.cqe.user_data,
-        k: completion.req.k,
-        length: completion.buffer.len() as u64,
-        ring: completion.req.ring,
-        is_cut: u16::from(*is_cut),
-    }
-}
-
-/// The buffer of a line.
-fn bytes_of(line: &(Completion, bool)) -> &[u8]
-    ensures { result.now ≡ line.now.0.buffer.items }
-{
-    line.0.buffer.as_slice()
-}
 
 /// The report's line with this index.
 pub(crate) fn line_in(inside: &Inside, index: u64) -> Result<Line, Code>
@@ -42,7 +18,16 @@ pub(crate) fn line_in(inside: &Inside, index: u64) -> Result<Line, Code>
     if lines.len() as u64 <= index {
         return Err(Code::Missing);
     }
-    Ok(line_of(&lines[index as usize]))
+    let (completion, is_cut) = &lines[index as usize];
+    Ok(Line {
+        code: 0,
+        res: completion.cqe.res,
+        user_data: completion.cqe.user_data,
+        k: completion.req.k,
+        length: completion.buffer.len() as u64,
+        ring: completion.req.ring,
+        is_cut: u16::from(*is_cut),
+    })
 }
 
 /// Copies the buffer of the report's line with this index.
@@ -57,5 +42,6 @@ pub(crate) fn line_bytes_in(inside: &Inside, index: u64, out: &mut [u8]) -> Resu
     if lines.len() as u64 <= index {
         return Err(Code::Missing);
     }
-    copy_bytes(bytes_of(&lines[index as usize]), out)
+    let (completion, _) = &lines[index as usize];
+    copy_bytes(completion.buffer.as_slice(), out)
 }

@@ -1,6 +1,5 @@
 //! A turn of the poller: it goes over what was submitted and isn't done.
-ghost use Rattle.std.specs.Prelude.{◌≡◌, false};
-ghost use Rattle.history.specs.Chains.{previous};
+ghost use Rattle.std.specs.Prelude.{◌≡◌};
 ghost use Rattle.work.specs.Board.{IsOf};
 ghost use Rattle.ring_c.specs.Turns.{HasRoom, Turned};
 
@@ -14,61 +13,52 @@ const MOST_NEW: u64 = 1024;
 /// How many rings a board has at most.
 const MAX_RINGS: u16 = 16;
 
-/// Lets a TIMEOUT run out, if its deadline has come. Whether it did.
-fn expire(board: &Board, poller: &mut Poller, out: &mut Out, req: Req) -> bool
+/// Ends an armed timer, if it is time: a TIMEOUT whose deadline has come, or by what follows. Whether it is done with.
+fn ring(board: &Board, poller: &mut Poller, out: &mut Out, req: Req) -> bool
     requires own { IsOf board.now poller.old }
     requires room { HasRoom out.old }
-    ensures turned { Turned board.now poller.old out.old poller.new out.new }
-    ensures room { result ≡ false → HasRoom out.new }
+    ensures { Turned board.now poller.old out.old poller.new out.new }
 {
     match board.expire(poller, req) {
         Expiry::Expired => {
             out.put_answered(req);
             true
         }
-        Expiry::Early => false,
-        Expiry::NotArmed => false,
+        Expiry::Early => count(board, poller, out, req),
+        Expiry::NotArmed => count(board, poller, out, req),
     }
 }
 
-/// Answers a TIMEOUT that has counted enough completions. Whether it did.
+/// Answers a TIMEOUT that has counted enough completions, or goes on with what follows. Whether the timer is done with.
 fn count(board: &Board, poller: &mut Poller, out: &mut Out, req: Req) -> bool
     requires own { IsOf board.now poller.old }
     requires room { HasRoom out.old }
-    ensures turned { Turned board.now poller.old out.old poller.new out.new }
-    ensures room { result ≡ false → HasRoom out.new }
+    ensures { Turned board.now poller.old out.old poller.new out.new }
 {
     match board.count(poller, req) {
         Counting::Counted => {
             out.put_answered(req);
             true
         }
-        Counting::Fewer => false,
-        Counting::NotCounted => false,
-        Counting::NotArmed => false,
+        Counting::Fewer => fire(board, poller, out, req),
+        Counting::NotCounted => fire(board, poller, out, req),
+        Counting::NotArmed => fire(board, poller, out, req),
     }
 }
 
-/// The request before this one, which is the target of a LINK_TIMEOUT.
-fn target_of(req: Req) -> Req
-    ensures { result ≡ previous req }
-{
-    Req {
-        ring: req.ring,
-        k: req.k.saturating_sub(1),
-    }
-}
-
-/// Fires a LINK_TIMEOUT, if its deadline has come. Whether it did.
+/// Fires a LINK_TIMEOUT, if its deadline has come, or goes on with what follows. Whether the timer is done with.
 fn fire(board: &Board, poller: &mut Poller, out: &mut Out, req: Req) -> bool
     requires own { IsOf board.now poller.old }
     requires room { HasRoom out.old }
-    ensures turned { Turned board.now poller.old out.old poller.new out.new }
-    ensures room { result ≡ false → HasRoom out.new }
+    ensures { Turned board.now poller.old out.old poller.new out.new }
 {
     match board.fire(poller, req) {
         Firing::Took => {
-            out.put_answered(target_of(req));
+            let Req { ring, k } = req;
+            out.put_answered(Req {
+                ring,
+                k: k.saturating_sub(1),
+            });
             out.put_answered(req);
             true
         }
@@ -76,13 +66,13 @@ fn fire(board: &Board, poller: &mut Poller, out: &mut Out, req: Req) -> bool
             out.put_answered(req);
             true
         }
-        Firing::TargetDone => false,
-        Firing::Early => false,
-        Firing::NotArmed => false,
+        Firing::TargetDone => settle(board, poller, out, req),
+        Firing::Early => settle(board, poller, out, req),
+        Firing::NotArmed => settle(board, poller, out, req),
     }
 }
 
-/// Settles a LINK_TIMEOUT, if its target has replied. Whether it did.
+/// Settles a LINK_TIMEOUT, if its target has replied. Whether it is done with.
 fn settle(board: &Board, poller: &mut Poller, out: &mut Out, req: Req) -> bool
     requires own { IsOf board.now poller.old }
     requires room { HasRoom out.old }
@@ -95,37 +85,6 @@ fn settle(board: &Board, poller: &mut Poller, out: &mut Out, req: Req) -> bool
         }
         Settling::TargetOpen => false,
         Settling::NotArmed => false,
-    }
-}
-
-/// Ends an armed timer, if it is time. Whether it is done with.
-fn ring(board: &Board, poller: &mut Poller, out: &mut Out, req: Req) -> bool
-    requires own { IsOf board.now poller.old }
-    requires room { HasRoom out.old }
-    ensures { Turned board.now poller.old out.old poller.new out.new }
-{
-    if expire(board, poller, out, req) {
-        return true;
-    }
-    if count(board, poller, out, req) {
-        return true;
-    }
-    if fire(board, poller, out, req) {
-        return true;
-    }
-    settle(board, poller, out, req)
-}
-
-/// Arms a timer that may start.
-fn arm(board: &Board, poller: &mut Poller, out: &mut Out, req: Req)
-    requires own { IsOf board.now poller.old }
-    ensures { Turned board.now poller.old out.old poller.new out.new }
-{
-    match board.arm(poller, req) {
-        Arming::Armed(_) => out.note_move(),
-        Arming::NotHeld => {}
-        Arming::NotTimer => {}
-        Arming::Shut => {}
     }
 }
 
@@ -144,10 +103,15 @@ fn release(board: &Board, poller: &mut Poller, out: &mut Out, req: Req) -> bool
             out.put_answered(req);
             true
         }
-        Released::Timer => {
-            arm(board, poller, out, req);
-            false
-        }
+        Released::Timer => match board.arm(poller, req) {
+            Arming::Armed(_) => {
+                out.note_move();
+                false
+            }
+            Arming::NotHeld => false,
+            Arming::NotTimer => false,
+            Arming::Shut => false,
+        },
         Released::Shut => false,
         Released::NotHeld => false,
     }
@@ -196,22 +160,8 @@ pub(crate) fn go_over(board: &Board, poller: &mut Poller, out: &mut Out, held: &
     held.truncate(kept);
 }
 
-/// Takes up the `next`-th request of the ring without a look, where it may start and there is room. The next one after that.
-fn take_first(board: &Board, poller: &mut Poller, out: &mut Out, ring: u16, next: u64) -> u64
-    requires own { IsOf board.now poller.old }
-    ensures { Turned board.now poller.old out.old poller.new out.new }
-{
-    if !out.is_free() {
-        return next;
-    }
-    if release(board, poller, out, Req { ring, k: next }) {
-        next.saturating_add(1)
-    } else {
-        next
-    }
-}
-
-/// Takes up the ring's new requests from the `next`-th on, as long as there is room. The next one after those.
+/// Takes up the ring's new requests from the `next`-th on, as long as there is room: that one without a look, where it may start.
+/// The next one after those.
 fn take_ring(
     board: &Board,
     poller: &mut Poller,
@@ -223,7 +173,15 @@ fn take_ring(
     requires own { IsOf board.now poller.old }
     ensures { Turned board.now poller.old out.old poller.new out.new }
 {
-    for k in next..next.saturating_add(MOST_NEW) {
+    if !out.is_free() {
+        return next;
+    }
+    let first = if release(board, poller, out, Req { ring, k: next }) {
+        next.saturating_add(1)
+    } else {
+        next
+    };
+    for k in first..first.saturating_add(MOST_NEW) {
         if !out.is_free() {
             return k;
         }
@@ -238,7 +196,7 @@ fn take_ring(
         }
         out.note_move();
     }
-    next.saturating_add(MOST_NEW)
+    first.saturating_add(MOST_NEW)
 }
 
 /// Takes up the new requests of all rings.
@@ -257,7 +215,6 @@ pub(crate) fn take_up(
             break;
         }
         let at = next[usize::from(ring)];
-        let after = take_first(board, poller, out, ring, at);
-        next[usize::from(ring)] = take_ring(board, poller, out, held, ring, after);
+        next[usize::from(ring)] = take_ring(board, poller, out, held, ring, at);
     }
 }

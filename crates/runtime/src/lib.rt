@@ -3,6 +3,7 @@
 
 mod backlog;
 pub mod client;
+mod crew;
 pub mod error;
 mod hands;
 mod held;

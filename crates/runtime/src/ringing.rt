@@ -136,7 +136,7 @@ fn run_out(board: &Board, hands: &mut Hands, outbox: &mut Outbox, req: Req) -> b
 }
 
 /// Ends the timers whose deadlines have come, the least deadline first, as long as the outbox has room.
-pub(crate) fn ring_due(board: &Board, hands: &mut Hands, lists: &mut Lists, outbox: &mut Outbox)
+fn end_due(board: &Board, hands: &mut Hands, lists: &mut Lists, outbox: &mut Outbox)
     requires own { IsAt board.now hands.old }
     requires room { HasRoom hands.old outbox.old }
     requires cared { LooksAfter (cares_of lists.old) hands.old.poller.view.seen }
@@ -156,6 +156,21 @@ pub(crate) fn ring_due(board: &Board, hands: &mut Hands, lists: &mut Lists, outb
         lists.timers.drop_timer(req);
         hands.moved = true;
     }
+}
+
+/// Ends the timers whose deadlines have come, the least deadline first, as long as the outbox has room. Those that stay are looked at
+/// again once one is due.
+pub(crate) fn ring_due(board: &Board, hands: &mut Hands, lists: &mut Lists, outbox: &mut Outbox)
+    requires own { IsAt board.now hands.old }
+    requires room { HasRoom hands.old outbox.old }
+    requires cared { LooksAfter (cares_of lists.old) hands.old.poller.view.seen }
+    ensures rang { Rang board.now hands.old outbox.old hands.new outbox.new }
+    ensures cared { LooksAfter (cares_of lists.new) hands.new.poller.view.seen }
+    ensures same { (lists.new.rings ≡ lists.old.rings) × (lists.new.waiting ≡ lists.old.waiting) }
+    ensures rung { HasRung hands.old.poller hands.new (cares_of lists.new) }
+{
+    end_due(board, hands, lists, outbox);
+    lists.timers.catch_up(hands.poller.clock());
 }
 
 /// Forgets timers that are no longer armed. Whether one is left that is.

@@ -9,7 +9,7 @@ ghost use Rattle.work.specs.Board.{IsOf};
 ghost use Rattle.runtime.specs.WorkTurns.{Desk, FoundNone, IsWorkTurn, PutsBack, Shifts, Tried, ended_in, most_kept, past_in};
 
 use crate::error::Memory;
-use crate::shared::Tally;
+use crate::shared::{Shared, Tally};
 use crate::shelf::Shelf;
 use crate::sleeping::Caller;
 use crate::turn::Turn;
@@ -20,18 +20,26 @@ use outbox::Outbox;
 use ready::{ReadyPass, ReadyQueue};
 use std::alloc::Global;
 use std::marker::Model;
-use std::sync::Wait;
+use std::sync::{Arc, Wait};
 
 /// What a worker's turns need: its pass of the ready queue, and the numbers that are still to go there, with room for all that a run
-/// may take along from its pipes. Contracts see these. And who wakes another worker for each number that goes there; and how many
-/// numbers came from the pipes, and with how many it is done, that were not told yet.
+/// may take along from its pipes. Contracts see these. And the workers beside this one; and how many numbers came from the pipes, and
+/// with how many it is done, that were not told yet.
 #[derive(Drop)]
 pub struct WorkDesk {
     ready: ReadyPass,
     kept: Shelf,
-    caller: Option<Caller>,
+    others: Option<Others>,
     woken: u64,
     done: u64,
+}
+
+/// Who wakes another worker for each number that goes into the ready queue, and what all workers share. Others may be done with a number
+/// before this worker posts what woke it, so it is counted before it goes there.
+#[derive(Drop)]
+pub(crate) struct Others {
+    pub caller: Caller,
+    pub shared: Arc<Shared>,
 }
 
 impl Model for WorkDesk {
@@ -43,9 +51,9 @@ impl Model for WorkDesk {
 }
 
 /// Wakes a worker, if one may sleep.
-fn call_by(caller: &mut Option<Caller>) {
-    if let Some(caller) = caller {
-        caller.call();
+fn call_by(others: &mut Option<Others>) {
+    if let Some(others) = others {
+        others.caller.call();
     }
 }
 
@@ -67,7 +75,7 @@ impl WorkDesk {
         alloc: Global,
         board: &Board,
         ready: ReadyPass,
-        caller: Option<Caller>,
+        others: Option<Others>,
     ) -> Result<WorkDesk, (Memory, ReadyPass)>
         ensures new { IfOk result (λ d. (d.ready ≡ ready) × (d.kept ≡ []) × (d.places ≡ most_kept board.now.layout.cells)) }
         ensures refused { IfErr result (λ e. e.1 ≡ ready) }
@@ -78,7 +86,7 @@ impl WorkDesk {
         Ok(WorkDesk {
             ready,
             kept,
-            caller,
+            others,
             woken: 0,
             done: 0,
         })
@@ -121,7 +129,7 @@ impl WorkDesk {
                 self.kept.put(back);
                 return;
             }
-            call_by(&mut self.caller);
+            call_by(&mut self.others);
         }
     }
 
@@ -164,6 +172,16 @@ impl WorkDesk {
         self.done = self.done.wrapping_add(1);
     }
 
+    /// Counts numbers that came from a pipe: at once, where other workers may be done with them before this one tells.
+    fn count_woken(&mut self, count: u64)
+        ensures { self.new ≡ self.old }
+    {
+        match &self.others {
+            Some(others) => others.shared.tally.give(count),
+            None => self.woken = self.woken.wrapping_add(count),
+        }
+    }
+
     /// Keeps what the worker's last run took along. There is room for all of it.
     fn keep_woken(&mut self, worker: &Worker)
         requires room { length self.old.kept + 2 * total worker.now.view.layout.cells ≤ self.old.places }
@@ -171,8 +189,8 @@ impl WorkDesk {
         ensures few { length worker.now.woken ≤ 2 * total worker.now.view.layout.cells }
     {
         let (source, target) = worker.woken();
-        self.woken = self.woken.wrapping_add(source.len() as u64);
-        self.woken = self.woken.wrapping_add(target.len() as u64);
+        self.count_woken(source.len() as u64);
+        self.count_woken(target.len() as u64);
         self.kept.put_all(source);
         self.kept.put_all(target);
     }

@@ -19,15 +19,15 @@ ghost use Rattle.runtime.specs.StartParts.{AreRingers, HavePairs, IsParts};
 ghost use Rattle.runtime.specs.declared.error.StartError.TheVariants.{BadShape};
 
 use crate::client::Client;
+use crate::crew::{WorkerParts, own_of, start_workers};
 use crate::error::{Memory, StartError};
 use crate::held::Held;
 use crate::locks::{PostLock, PostLocks};
 use crate::poll::{PollDesk, places_of};
-use crate::serving::WorkDesk;
 use crate::shared::{Shared, Tally};
 use crate::sleeping::{Caller, Listener};
-use crate::started::{Ours, OwnEnd, Polls, Runtime, WorkThread, tell_end};
-use crate::threads::{OwnWorker, PollSide, poll, work};
+use crate::started::{OwnEnd, Polls, Runtime, WorkThread, tell_end};
+use crate::threads::{OwnWorker, PollSide, poll};
 use bell::{Bell, Ringer, Sleeper};
 use board::{Board, BoardError, Poller, RingShape, Shape, Submitter, Worker};
 use compring::CompletionRing;
@@ -41,10 +41,6 @@ use std::sync::atomic::AtomicBool;
 use std::sync::{Arc, Wait};
 use std::thread;
 use std::thread::{PromisedHandle, Threads};
-
-/// How many answered requests a worker keeps at most when it begins another one.
-/// Under load it then takes a lock once for 16 requests. With 64 a client that has 64 in flight mostly waits for all of them at once.
-const KEPT: u32 = 15;
 
 /// What the threads of a new runtime share, and all passes that go with it.
 #[derive(Drop)]
@@ -70,15 +66,6 @@ struct ClientParts {
     submitters: Vec<Submitter>,
     ringers: Vec<Ringer>,
     listeners: Vec<Listener>,
-}
-
-/// The passes of the workers, of the board, of the ready queue and of the event count of the workers, by which each also calls the others.
-#[derive(Drop)]
-struct WorkerParts {
-    workers: Vec<Worker>,
-    passes: Vec<ReadyPass>,
-    listeners: Vec<Listener>,
-    callers: Vec<Caller>,
 }
 
 /// What is shared by all threads, and by the clients.
@@ -478,116 +465,6 @@ fn start_poller<
     spawn_poller(rt, theirs, points, idle, side)
 }
 
-/// The outbox of a worker.
-fn outbox_of(alloc: Global, shared: &Shared) -> Result<Outbox, Memory>
-    ensures { IfOk result (λ o. widest shared.now.board.layout.cells ≤ o.places) }
-{
-    let places = shared.board.widest() + KEPT;
-    let outbox = Outbox::new(alloc, places)?;
-    Ok(outbox)
-}
-
-/// Starts the thread of a worker.
-fn start_worker<
-    R: Threads + Wait + Copy + Send + 'static,
-    G: Turnstile + Send + Sync + Drop + 'static,
->(
-    rt: R,
-    alloc: Global,
-    shared: &Arc<Shared>,
-    worker: Worker,
-    desk: WorkDesk,
-    listener: Listener,
-    turnstile: Arc<G>,
-) -> Result<WorkThread, StartError>
-    requires { IsServing (arc_value shared.now) desk worker }
-    ensures thread { IfOk result (λ t. (arc_value t.handle.promise.0.value ≡ arc_value shared.now) × (t.handle.promise.1.value.share ≡ desk.ready.share)) }
-    ensures refused { IfErr result (λ e. e ≢ BadShape) }
-{
-    let Ok(theirs) = Arc::try_clone(shared) else {
-        drop((worker, desk, listener, turnstile));
-        return Err(StartError::Memory);
-    };
-    let Ok(outbox) = outbox_of(alloc, shared) else {
-        drop((worker, desk, listener, turnstile, theirs));
-        return Err(StartError::Memory);
-    };
-    let promise = Ours(Snapshot::of(shared), Snapshot::of(desk.ready()));
-    match thread::spawn_with(
-        &rt,
-        promise,
-        move || -> (Worker, ReadyPass)
-            requires desk { IsServing (arc_value theirs) desk worker }
-            requires places { widest (arc_value theirs).board.layout.cells ≤ outbox.places }
-            ensures { IsOf (arc_value theirs).board result.0 × IsOfQueue (arc_value theirs).queue result.1 × (result.1.share ≡ desk.ready.share) }
-        { work(&rt, &theirs, desk, worker, &*turnstile, outbox, listener) },
-    ) {
-        Ok(handle) => Ok(WorkThread { handle }),
-        Err(refused) => {
-            drop(refused);
-            Err(StartError::Thread)
-        }
-    }
-}
-
-/// Starts the threads of the workers, with a pass of the ready queue for each. There is room for their handles.
-fn start_workers<
-    R: Threads + Wait + Copy + Send + 'static,
-    G: Turnstile + Send + Sync + Drop + 'static,
->(
-    rt: R,
-    alloc: Global,
-    shared: &Arc<Shared>,
-    parts: WorkerParts,
-    turnstile: &Arc<G>,
-    threads: &mut Vec<WorkThread>,
-) -> Result<(), StartError>
-    requires workers { All (λ p. IsOf (arc_value shared.now).board p) parts.workers.items }
-    requires passes { All (λ p. IsOfQueue (arc_value shared.now).queue p) parts.passes.items }
-    requires count { HavePairs parts }
-    requires room { (threads.old.items ≡ []) × (length parts.workers.items ≤ vec_capacity threads.old) }
-    ensures threads { AreWorking (arc_value shared.now) threads.new.items }
-    ensures count { IfOk result (λ _. length threads.new.items ≡ length parts.workers.items) }
-    ensures shares { IfOk result (λ _. shares_of threads.new.items ≡ sum_by (λ p. p.share) parts.passes.items) }
-    ensures refused { IfErr result (λ e. e ≢ BadShape) }
-{
-    let WorkerParts {
-        mut workers,
-        mut passes,
-        mut listeners,
-        mut callers,
-    } = parts;
-    while let Some(worker) = workers.pop() {
-        let Some(ready) = passes.pop() else {
-            unreachable!()
-        };
-        let (Some(listener), Some(caller)) = (listeners.pop(), callers.pop()) else {
-            unreachable!()
-        };
-        let Ok(points) = Arc::try_clone(turnstile) else {
-            drop((worker, ready, listener, caller));
-            drop((workers, passes, listeners, callers));
-            return Err(StartError::Memory);
-        };
-        let desk = match WorkDesk::beside(alloc, &shared.board, ready, Some(caller)) {
-            Ok(desk) => desk,
-            Err(refused) => {
-                drop((refused, worker, listener, points));
-                drop((workers, passes, listeners, callers));
-                return Err(StartError::Memory);
-            }
-        };
-        match start_worker(rt, alloc, shared, worker, desk, listener, points) {
-            Ok(thread) => threads.push_reserved(thread),
-            Err(error) => {
-                drop((workers, passes, listeners, callers));
-                return Err(error);
-            }
-        }
-    }
-    Ok(())
-}
-
 /// Stops the threads that were started, and waits for them.
 fn abandon<R: Threads, C: Clock + Drop>(
     rt: &R,
@@ -692,60 +569,6 @@ fn start_others<
             Err(error)
         }
     }
-}
-
-/// A worker that the poller's thread serves, with a desk and an outbox.
-fn own_worker(
-    alloc: Global,
-    shared: &Shared,
-    worker: Worker,
-    ready: ReadyPass,
-) -> Result<OwnWorker, Memory>
-    requires worker { IsOf shared.now.board worker }
-    requires ready { IsOfQueue shared.now.queue ready }
-    ensures own { IfOk result (λ o. IsOwn shared.now o) }
-    ensures share { IfOk result (λ o. o.desk.ready.share ≡ ready.share) }
-{
-    let outbox = outbox_of(alloc, shared)?;
-    match WorkDesk::new(alloc, &shared.board, ready) {
-        Ok(desk) => Ok(OwnWorker {
-            desk,
-            worker,
-            outbox,
-        }),
-        Err(refused) => {
-            drop((refused, worker, outbox));
-            Err(Memory)
-        }
-    }
-}
-
-/// The worker that the poller's thread serves itself, where it is the only one. It has no thread then.
-fn own_of(
-    alloc: Global,
-    shared: &Shared,
-    parts: &mut WorkerParts,
-) -> Result<Option<OwnWorker>, Memory>
-    requires workers { All (λ p. IsOf shared.now.board p) parts.old.workers.items }
-    requires passes { All (λ p. IsOfQueue shared.now.queue p) parts.old.passes.items }
-    requires count { HavePairs parts.old }
-    ensures own { IfOk result (λ o. MayOwn shared.now o × (own_in o + length parts.new.workers.items ≡ length parts.old.workers.items)) }
-    ensures shares { IfOk result (λ o. own_share o + sum_by (λ p. p.share) parts.new.passes.items ≡ sum_by (λ p. p.share) parts.old.passes.items) }
-    ensures workers { All (λ p. IsOf shared.now.board p) parts.new.workers.items }
-    ensures passes { All (λ p. IsOfQueue shared.now.queue p) parts.new.passes.items }
-    ensures count { HavePairs parts.new }
-    ensures threads { IfOk result (λ _. length parts.new.workers.items + 1 ≡ threads_for (length parts.old.workers.items)) }
-{
-    if parts.workers.len() != 1 {
-        return Ok(None);
-    }
-    let (Some(worker), Some(ready)) = (parts.workers.pop(), parts.passes.pop()) else {
-        unreachable!()
-    };
-    parts.listeners.pop();
-    parts.callers.pop();
-    let own = own_worker(alloc, shared, worker, ready)?;
-    Ok(Some(own))
 }
 
 /// Starts all threads of a new runtime.

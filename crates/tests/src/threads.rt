@@ -10,6 +10,7 @@ use std::sync::Wait;
 use std::test::Fail;
 use std::thread;
 use std::thread::Threads;
+use std::time::{Clock, Duration};
 
 /// IOSQE_IO_LINK.
 const LINK: u8 = 4;
@@ -366,14 +367,42 @@ fn a_submission_waits_for_so_many_completions(rt: HostRuntime) -> Result<(), Fai
     Ok(())
 }
 
-#[test]
-fn a_runtime_whose_threads_sleep_is_ended(rt: HostRuntime) -> Result<(), Fail> {
-    for _runtime in 0..100u32 {
-        let pair = Pair::new(rt, rt.alloc(), 3, 0, Open, NoClock)?;
-        for _turn in 0..2_000 {
-            thread::yield_now();
+/// Runtimes with so many workers, each ended while its threads sleep, whether their reports have no line.
+fn ends_asleep<R: Threads + Wait + Clock + Copy + Send + 'static>(
+    rt: R,
+    alloc: Global,
+    workers: u32,
+) -> Result<bool, Fail> {
+    for _runtime in 0..2_500u32 {
+        let pair = Pair::new(rt, alloc, workers, 0, Open, NoClock)?;
+        thread::sleep(&rt, Duration::from_micros(500));
+        if !ends(pair, &rt, Ok(true))? {
+            return Ok(false);
         }
-        assert!(rt; ends(pair, &rt, Ok(true))?);
     }
+    Ok(true)
+}
+
+#[test]
+fn a_runtime_of_one_worker_is_ended_while_it_sleeps(rt: HostRuntime) -> Result<(), Fail> {
+    assert!(rt; ends_asleep(rt, rt.alloc(), 1)?);
+    Ok(())
+}
+
+#[test]
+fn a_runtime_of_two_workers_is_ended_while_all_sleep(rt: HostRuntime) -> Result<(), Fail> {
+    assert!(rt; ends_asleep(rt, rt.alloc(), 2)?);
+    Ok(())
+}
+
+#[test]
+fn a_runtime_of_three_workers_is_ended_while_all_sleep(rt: HostRuntime) -> Result<(), Fail> {
+    assert!(rt; ends_asleep(rt, rt.alloc(), 3)?);
+    Ok(())
+}
+
+#[test]
+fn a_runtime_of_eight_workers_is_ended_while_all_sleep(rt: HostRuntime) -> Result<(), Fail> {
+    assert!(rt; ends_asleep(rt, rt.alloc(), 8)?);
     Ok(())
 }

@@ -1,15 +1,16 @@
 -- The least of the fronts is the least of all timers.
-use Rattle.std.proofs.Common.{◌≡◌, ℕ, ◌+◌, ◌<◌, ◌≤◌, Bool, true, false, cond, List, [], ◌∷◌, length, Option, Some, None, refl, sym, ap, ◌∙◌, below_more, le_refl, arith}
+use Rattle.std.proofs.Common.{◌≡◌, ℕ, ◌+◌, ◌<◌, ◌≤◌, Bool, true, false, cond, List, [], ◌∷◌, length, Option, Some, None, refl, sym, ap, ◌∙◌, subst, true≢false, below_more, le_refl, arith}
 use Rattle.std.specs.Prelude.{◌%◌, nat_lt}
-use Rattle.std.proofs.lemmas.Bool.{ltb-false, ltb-true}
+use Rattle.std.proofs.lemmas.Bool.{eqb-true, ltb-false, ltb-true}
 use Rattle.std.proofs.lemmas.Nat.{mod_below}
 use Rattle.std.proofs.lemmas.Option.{none-some}
 use Rattle.history.specs.declared.req.Req.{Req}
 use Rattle.history.proofs.Requests.{same_itself}
 use Rattle.wheel.specs.declared.sorted.Timer.{Timer}
-use Rattle.wheel.specs.Deadlines.{IsFirstDue}
+use Rattle.history.specs.History.{same}
+use Rattle.wheel.specs.Deadlines.{armed, dropped, IsFirstDue}
 use Rattle.wheel.specs.TimerLists.{InOrder, deadline_in}
-use Rattle.wheel.specs.Wheel.{Deadlines, IsLeast, IsWheel, deadline_at, earlier_of, front_of, in_slot, slot_list}
+use Rattle.wheel.specs.Wheel.{AreFrom, Deadlines, IsLeast, IsWheel, StandFrom, bound_of, deadline_at, earlier_of, front_of, has_deadline, in_slot, slot_list}
 use Rattle.wheel.proofs.Slotting.{from_slot, own_slot}
 use Rattle.wheel.proofs.Sorting.{from_first}
 
@@ -59,3 +60,44 @@ module _ (xs : List (List Timer)) (es : Deadlines) (wheel : IsWheel xs es) where
 
   pub least_is_later : (now : ℕ) (x : Req × ℕ) → IsLeast xs 256 (Some x) → now < x.1 → IsFirstDue (deadline_at es) now None
   least_is_later now x l lt q e u = let le : x.1 ≤ e = l.1 (e % 256) (mod_below e 256 (omega arith)) q e (among q e u) in omega arith
+
+-- ---- the bound below which no deadline lies
+
+-- a timer at the front of a slot whose deadline is the bound
+pub at_bound : (xs : List (List Timer)) (d i : ℕ) (y : Option (Req × ℕ)) → StandFrom d xs → InOrder (slot_list xs i) → y ≡ front_of (slot_list xs i) → has_deadline y d ≡ true → IsLeast xs 256 y
+at_bound xs d i None bound o is w = absurd (true≢false (sym w))
+at_bound xs d i (Some x) bound o is w = let e : x.1 ≡ d = eqb-true x.1 d w in
+    ((i, (subst (IsFront (slot_list xs i)) (sym is) (front_is (slot_list xs i) o)).0), λ s lt q c u. (let le : d ≤ c = bound s q c u in omega arith))
+
+module _ (xs : List (List Timer)) (es : Deadlines) (wheel : IsWheel xs es) where
+  -- the bound of the map is one of the slots
+  pub stand_from : (d : ℕ) → AreFrom d es → StandFrom d xs
+  stand_from d bound s q e u = bound q e (from_slot s (deadline_at es q) e (sym (wheel s q) ∙ u))
+
+  -- the least deadline is a bound
+  pub least_bounds : (y : Option (Req × ℕ)) → IsLeast xs 256 y → AreFrom (bound_of y) es
+  least_bounds None l q e u = absurd (l (e % 256) (mod_below e 256 (omega arith)) q e (among xs es wheel q e u))
+  least_bounds (Some x) l q e u = l.1 (e % 256) (mod_below e 256 (omega arith)) q e (among xs es wheel q e u)
+
+-- the bound as the map changes
+pub bound_reordered : (d : ℕ) (es fs : Deadlines) → AreFrom d es → ((q : Req) → deadline_at fs q ≡ deadline_at es q) → AreFrom d fs
+bound_reordered d es fs bound e q c u = bound q c (sym (e q) ∙ u)
+
+pub bound_armed : (d b at : ℕ) (r : Req) (es fs : Deadlines) → AreFrom d es → ((q : Req) → deadline_at fs q ≡ armed (deadline_at es) r at q) → b ≤ d → b ≤ at → AreFrom b fs
+bound_armed d b at r es fs bound noted le le2 q e u = by (same r q) (sym (noted q) ∙ u) where
+  by : (w : Bool) → cond w (Some at) (deadline_at es q) ≡ Some e → b ≤ e
+  by true v = let x : at ≡ e = cc in omega arith
+  by false v = let x : d ≤ e = bound q e v in omega arith
+
+pub bound_dropped : (d : ℕ) (r : Req) (es fs : Deadlines) → AreFrom d es → ((q : Req) → deadline_at fs q ≡ dropped (deadline_at es) r q) → AreFrom d fs
+bound_dropped d r es fs bound noted q e u = by (same r q) (sym (noted q) ∙ u) where
+  by : (w : Bool) → cond w None (deadline_at es q) ≡ Some e → d ≤ e
+  by true v = absurd (none-some e v)
+  by false v = bound q e v
+
+pub nothing_from : (d : ℕ) (es : Deadlines) → length es ≡ 0 → AreFrom d es
+nothing_from d [] z q e u = absurd (none-some e u)
+nothing_from d (x ∷ es) z q e u = absurd (omega arith)
+
+pub later : (es : Deadlines) (d now : ℕ) → AreFrom d es → now < d → IsFirstDue (deadline_at es) now None
+later es d now bound lt q e u = let le : d ≤ e = bound q e u in omega arith

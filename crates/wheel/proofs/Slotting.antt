@@ -25,6 +25,10 @@ from_slot s (Some c) d e = by (c % 256 == s) e where
   by true u = u
   by false u = absurd (none-some d u)
 
+-- a request's timer stands in the slot of its deadline
+pub stands : (xs : List (List Timer)) (es : Deadlines) → IsWheel xs es → (r : Req) (d i : ℕ) → deadline_at es r ≡ Some d → i ≡ d % 256 → deadline_in (slot_list xs i) r ≡ Some d
+stands xs es wheel r d i had at = wheel i r ∙ ap (in_slot i) had ∙ own_slot i d at
+
 -- one request by two names has one deadline
 one_deadline : (es : Deadlines) (r q : Req) → same r q ≡ true → deadline_at es q ≡ deadline_at es r
 one_deadline es r q w = ap (deadline_at es) (sym (same_true r q w))

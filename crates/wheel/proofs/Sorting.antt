@@ -1,16 +1,16 @@
 -- Lists of timers: what a timer more and a request less make of the deadlines and of their order.
-use Rattle.std.proofs.Common.{◌≡◌, ℕ, zero, suc, ◌<◌, ◌≤◌, Bool, true, false, cond, List, [], ◌∷◌, length, Option, Some, None, refl, sym, ap, ◌∙◌, subst, ⊎_elim, true≢false, arith}
-use Rattle.std.specs.Prelude.{nat_le, nat_lt, not, insert, IsSome, IsTrue, ◌↔◌}
-use Rattle.std.specs.List.{slice_get, filter}
-use Rattle.std.proofs.lemmas.Bool.{cases_lt, le-leb, leb-true, ltb-true, lt-ltb}
-use Rattle.std.proofs.lemmas.Option.{none-some}
+use Rattle.std.proofs.Common.{◌≡◌, ℕ, zero, suc, ◌<◌, ◌≤◌, Bool, true, false, cond, List, [], ◌∷◌, length, get_or, Option, Some, None, refl, sym, ap, ◌∙◌, subst, ⊎_elim, true≢false, arith}
+use Rattle.std.specs.Prelude.{nat_le, insert}
+use Rattle.std.specs.List.{remove, slice_get}
+use Rattle.std.proofs.lemmas.Bool.{cases_lt, le-leb, leb-true}
+use Rattle.std.proofs.lemmas.Option.{none-some, slice_get-get_or}
 use Rattle.std.proofs.Common.{Vec, Global, vec_len}
 use Rattle.history.specs.declared.req.Req.{Req}
 use Rattle.history.specs.History.{same}
 use Rattle.history.proofs.Requests.{bool_cases, not_true, same_itself, same_true, same_false}
 use Rattle.wheel.specs.declared.sorted.Timer.{Timer}
 use Rattle.wheel.specs.Deadlines.{armed, dropped, IsFirstDue}
-use Rattle.wheel.specs.TimerLists.{deadline_in, AllFrom, InOrder, without, with_timer}
+use Rattle.wheel.specs.TimerLists.{deadline_in, AllFrom, InOrder, IsOnce, without, with_timer}
 
 -- two names of one request
 same_as : (a b q : Req) → same a b ≡ true → same a q ≡ same b q
@@ -115,52 +115,95 @@ none_due (x ∷ ts) t now e o lt q d u = let v : x.at ≡ t.at = one x t e in le
   one : (a b : Timer) → Some a ≡ Some b → a.at ≡ b.at
   one a b z = let y : a ≡ b = cc in ap (λ (c : Timer). c.at) y
 
--- ---- whether a request was there
+-- ---- the places
 
-length_without : (r : Req) (ts : List Timer) → length (without r ts) ≤ length ts
-length_without r [] = omega arith
-length_without r (t ∷ ts) = let a = length_without r ts in elim (same t.req r) as (λ b. length (cond b (without r ts) (t ∷ without r ts)) ≤ suc (length ts)) [ true ↦ omega arith | false ↦ omega arith ]
+all_at : (d : ℕ) (ts : List Timer) (i : ℕ) (b : Timer) → AllFrom d ts → slice_get ts i ≡ Some b → d ≤ b.at
+all_at d [] i b a u = absurd (none-some b u)
+all_at d (t ∷ ts) zero b a u = let e : t ≡ b = cc in let v : t.at ≡ b.at = ap (λ (z : Timer). z.at) e in let w : d ≤ t.at = a.0 in omega arith
+all_at d (t ∷ ts) (suc i) b a u = all_at d ts i b a.1 u
 
-pub fewer : (r : Req) (ts : List Timer) (d : ℕ) → deadline_in ts r ≡ Some d → length (without r ts) < length ts
-fewer r [] d e = absurd (none-some d e)
-fewer r (t ∷ ts) d e = let a = length_without r ts in ⊎_elim
-    (λ (w : same t.req r ≡ true). subst (λ b. length (cond b (without r ts) (t ∷ without r ts)) < suc (length ts)) (sym w) (omega arith))
-    (λ (w : same t.req r ≡ false). let b = fewer r ts d (sym (ap (λ b. cond b (Some t.at) (deadline_in ts r)) w) ∙ e) in subst (λ b. length (cond b (without r ts) (t ∷ without r ts)) < suc (length ts)) (sym w) (omega arith))
-    (bool_cases (same t.req r))
+pub ordered : (ts : List Timer) → InOrder ts → (j i : ℕ) (a b : Timer) → j ≤ i → slice_get ts j ≡ Some a → slice_get ts i ≡ Some b → a.at ≤ b.at
+ordered [] o j i a b le u v = absurd (none-some a u)
+ordered (t ∷ ts) o zero zero a b le u v = let e : a ≡ b = cc in let w : a.at ≡ b.at = ap (λ (z : Timer). z.at) e in omega arith
+ordered (t ∷ ts) o zero (suc i) a b le u v = let e : t ≡ a = cc in let w : t.at ≡ a.at = ap (λ (z : Timer). z.at) e in let x : t.at ≤ b.at = all_at t.at ts i b o.0 v in omega arith
+ordered (t ∷ ts) o (suc j) zero a b le u v = absurd (omega arith)
+ordered (t ∷ ts) o (suc j) (suc i) a b le u v = ordered ts o.1 j i a b (omega arith) u v
 
-pub as_many : (r : Req) (ts : List Timer) → deadline_in ts r ≡ None → length (without r ts) ≡ length ts
-as_many r [] e = refl
-as_many r (t ∷ ts) e = ⊎_elim
+-- those up to a place have deadlines no later than the one there
+pub up_to : (ts : List Timer) → InOrder ts → (i : ℕ) (d : Timer) → i < length ts → (j : ℕ) (t : Timer) → j ≤ i → slice_get ts j ≡ Some t → t.at ≤ (get_or ts i d).at
+up_to ts o i d lt j t le u = ordered ts o j i t (get_or ts i d) le u (slice_get-get_or ts i d lt)
+
+-- where each request has at most one timer, one's timer has its deadline
+pub its_deadline : (ts : List Timer) → IsOnce ts → (k : ℕ) (t : Timer) → slice_get ts k ≡ Some t → (r : Req) → same t.req r ≡ true → deadline_in ts r ≡ Some t.at
+its_deadline [] o k t u r w = absurd (none-some t u)
+its_deadline (x ∷ ts) o zero t u r w = let e : x ≡ t = cc in
+    subst (λ (z : Timer). deadline_in (z ∷ ts) r ≡ Some t.at) (sym e) (ap (λ b. cond b (Some t.at) (deadline_in ts r)) w)
+its_deadline (x ∷ ts) o (suc k) t u r w = let ih = its_deadline ts o.1 k t u r w in ⊎_elim
+    (λ (v : same x.req r ≡ true). absurd (none-some t.at (sym (ap (deadline_in ts) (sym (same_true x.req r v)) ∙ o.0) ∙ ih)))
+    (λ (v : same x.req r ≡ false). ap (λ b. cond b (Some x.at) (deadline_in ts r)) v ∙ ih)
+    (bool_cases (same x.req r))
+
+-- a request whose timer is at no place
+pub none_there : (ts : List Timer) (r : Req) → ((k : ℕ) (t : Timer) → slice_get ts k ≡ Some t → same t.req r ≡ false) → deadline_in ts r ≡ None
+none_there [] r f = refl
+none_there (t ∷ ts) r f = ap (λ b. cond b (Some t.at) (deadline_in ts r)) (f 0 t refl) ∙ none_there ts r (λ k u e. f (suc k) u e)
+
+pub kept_whole : (ts : List Timer) (r : Req) → deadline_in ts r ≡ None → without r ts ≡ ts
+kept_whole [] r e = refl
+kept_whole (t ∷ ts) r e = ⊎_elim
     (λ (w : same t.req r ≡ true). absurd (none-some t.at (sym e ∙ ap (λ b. cond b (Some t.at) (deadline_in ts r)) w)))
-    (λ (w : same t.req r ≡ false). let b = as_many r ts (sym (ap (λ b. cond b (Some t.at) (deadline_in ts r)) w) ∙ e) in subst (λ b. length (cond b (without r ts) (t ∷ without r ts)) ≡ suc (length ts)) (sym w) (omega arith))
+    (λ (w : same t.req r ≡ false). ap (λ b. cond b (without r ts) (t ∷ without r ts)) w ∙ ap (λ z. t ∷ z) (kept_whole ts r (sym (ap (λ b. cond b (Some t.at) (deadline_in ts r)) w) ∙ e)))
     (bool_cases (same t.req r))
 
-pub was_there : (r : Req) (ts : List Timer) (b : Bool) → b ≡ nat_lt (length (without r ts)) (length ts) → IsTrue b ↔ IsSome (deadline_in ts r)
-was_there r ts b e = by_deadline (deadline_in ts r) refl where
-  by_deadline : (o : Option ℕ) → deadline_in ts r ≡ o → IsTrue b ↔ IsSome o
-  by_deadline None u = ((λ t. absurd (let lt = ltb-true (length (without r ts)) (length ts) (sym e ∙ t) in let v = as_many r ts u in omega arith)), λ t. absurd (true≢false (sym t)))
-  by_deadline (Some d) u = ((λ _. refl), λ _. e ∙ lt-ltb (length (without r ts)) (length ts) (fewer r ts d u))
+-- a timer's place taken out
+pub taken : (ts : List Timer) → IsOnce ts → (k : ℕ) (t : Timer) → slice_get ts k ≡ Some t → (r : Req) → same t.req r ≡ true → remove ts k ≡ without r ts
+taken [] o k t u r w = absurd (none-some t u)
+taken (x ∷ ts) o zero t u r w =
+    let e : x ≡ t = cc in let v : same x.req r ≡ true = ap (λ (z : Timer). same z.req r) e ∙ w in
+    sym (ap (λ b. cond b (without r ts) (x ∷ without r ts)) v ∙ kept_whole ts r (ap (deadline_in ts) (sym (same_true x.req r v)) ∙ o.0))
+taken (x ∷ ts) o (suc k) t u r w = let had = its_deadline ts o.1 k t u r w in ⊎_elim
+    (λ (v : same x.req r ≡ true). absurd (none-some t.at (sym (ap (deadline_in ts) (sym (same_true x.req r v)) ∙ o.0) ∙ had)))
+    (λ (v : same x.req r ≡ false). ap (λ z. x ∷ z) (taken ts o.1 k t u r w) ∙ sym (ap (λ b. cond b (without r ts) (x ∷ without r ts)) v))
+    (bool_cases (same x.req r))
 
-pub without_is : (r : Req) (ts : List Timer) → filter (λ (t : Timer). not (same t.req r)) ts ≡ without r ts
-without_is r [] = refl
-without_is r (t ∷ ts) = turned (same t.req r) (without_is r ts) where
-  turned : (b : Bool) → filter (λ (u : Timer). not (same u.req r)) ts ≡ without r ts → cond (not b) (t ∷ filter (λ (u : Timer). not (same u.req r)) ts) (filter (λ (u : Timer). not (same u.req r)) ts) ≡ cond b (without r ts) (t ∷ without r ts)
-  turned true ih = ih
-  turned false ih = ap (λ z. t ∷ z) ih
+-- ---- one timer of a request
+
+pub once_without : (r : Req) (ts : List Timer) → IsOnce ts → IsOnce (without r ts)
+once_without r [] o = tt
+once_without r (t ∷ ts) o = elim (same t.req r) as (λ b. IsOnce (cond b (without r ts) (t ∷ without r ts))) [ true ↦ once_without r ts o.1 | false ↦ (deadline_without r ts t.req ∙ ap (cond (same r t.req) None) o.0 ∙ both (same r t.req), once_without r ts o.1) ] where
+  both : (b : Bool) → cond {A = Option ℕ} b None None ≡ None
+  both true = refl
+  both false = refl
+
+pub once_with : (x : Timer) (ts : List Timer) → IsOnce ts → deadline_in ts x.req ≡ None → IsOnce (with_timer x ts)
+once_with x [] o none = (refl, tt)
+once_with x (t ∷ ts) o none = ⊎_elim
+    (λ (w : same t.req x.req ≡ true). absurd (none-some t.at (sym none ∙ ap (λ b. cond b (Some t.at) (deadline_in ts x.req)) w)))
+    (λ (w : same t.req x.req ≡ false). (let n = sym (ap (λ b. cond b (Some t.at) (deadline_in ts x.req)) w) ∙ none in placed (nat_le t.at x.at) w n (once_with x ts o.1 n)))
+    (bool_cases (same t.req x.req)) where
+      other : same t.req x.req ≡ false → same x.req t.req ≡ false
+      other w = same_false x.req t.req (λ v. true≢false (sym (ap (same t.req) v ∙ same_itself t.req) ∙ w))
+
+      placed : (b : Bool) → same t.req x.req ≡ false → deadline_in ts x.req ≡ None → IsOnce (with_timer x ts) → IsOnce (cond b (t ∷ with_timer x ts) (x ∷ t ∷ ts))
+      placed true w n ih = (deadline_with x ts t.req n ∙ ap (λ b. cond b (Some x.at) (deadline_in ts t.req)) (other w) ∙ o.0, ih)
+      placed false w n ih = (none, o)
 
 -- ---- the maps
 
+pub gone : (r : Req) (ts : List Timer) → deadline_in (without r ts) r ≡ None
+gone r ts = deadline_without r ts r ∙ ap (λ b. cond b None (deadline_in ts r)) (same_itself r)
+
+pub adds : (x : Timer) (ts : List Timer) → deadline_in ts x.req ≡ None → deadline_in (with_timer x ts) ≡ armed (deadline_in ts) x.req x.at
+adds x ts none = λ i q. deadline_with x ts q none i
+
 pub arms : (x : Timer) (ts : List Timer) → deadline_in (with_timer x (without x.req ts)) ≡ armed (deadline_in ts) x.req x.at
 arms x ts = λ i q. at q i where
-  absent : deadline_in (without x.req ts) x.req ≡ None
-  absent = deadline_without x.req ts x.req ∙ ap (λ b. cond b None (deadline_in ts x.req)) (same_itself x.req)
-
   once : (b : Bool) (o : Option ℕ) → cond b (Some x.at) (cond b None o) ≡ cond b (Some x.at) o
   once true o = refl
   once false o = refl
 
   at : (q : Req) → deadline_in (with_timer x (without x.req ts)) q ≡ cond (same x.req q) (Some x.at) (deadline_in ts q)
-  at q = deadline_with x (without x.req ts) q absent ∙ ap (cond (same x.req q) (Some x.at)) (deadline_without x.req ts q) ∙ once (same x.req q) (deadline_in ts q)
+  at q = deadline_with x (without x.req ts) q (gone x.req ts) ∙ ap (cond (same x.req q) (Some x.at)) (deadline_without x.req ts q) ∙ once (same x.req q) (deadline_in ts q)
 
 pub drops : (r : Req) (ts : List Timer) → deadline_in (without r ts) ≡ dropped (deadline_in ts) r
 drops r ts = λ i q. deadline_without r ts q i

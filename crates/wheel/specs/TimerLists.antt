@@ -1,5 +1,5 @@
 -- A list of timers.
-use Rattle.std.specs.Prelude.{ℕ, ◌≤◌, nat_le, cond, List, [], ◌∷◌, Option, Some, None}
+use Rattle.std.specs.Prelude.{◌≡◌, ℕ, ◌≤◌, nat_le, cond, List, [], ◌∷◌, Option, Some, None}
 use Rattle.history.specs.declared.req.Req.{Req}
 use Rattle.history.specs.History.{same}
 use Rattle.wheel.specs.declared.sorted.Timer.{Timer}
@@ -17,6 +17,11 @@ AllFrom d (t ∷ ts) = (d ≤ t.at) × AllFrom d ts
 abbrev pub InOrder : List Timer → Type 0
 InOrder [] = Unit {0}
 InOrder (t ∷ ts) = AllFrom t.at ts × InOrder ts
+
+-- each request has at most one timer
+abbrev pub IsOnce : List Timer → Type 0
+IsOnce [] = Unit {0}
+IsOnce (t ∷ ts) = (deadline_in ts t.req ≡ None) × IsOnce ts
 
 -- the others
 abbrev pub without : Req → List Timer → List Timer

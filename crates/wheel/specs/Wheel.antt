@@ -1,5 +1,5 @@
 -- The hashed wheel: 256 slots, and beside them the deadline of each request.
-use Rattle.std.specs.Prelude.{◌≡◌, ℕ, ◌<◌, ◌≤◌, ◌%◌, ◌==◌, ◌&&◌, nat_lt, Bool, cond, List, [], ◌∷◌, Option, Some, None}
+use Rattle.std.specs.Prelude.{◌≡◌, ℕ, ◌<◌, ◌≤◌, ◌%◌, ◌==◌, ◌&&◌, nat_lt, Bool, false, cond, List, [], ◌∷◌, Option, Some, None}
 use Rattle.std.specs.List.{slice_index_or}
 use Rattle.std.specs.Map.{lookup}
 use Rattle.history.specs.declared.req.Req.{Req}
@@ -48,3 +48,19 @@ in_slot s (Some d) = cond (d % 256 == s) (Some d) None
 -- each timer stands in the slot of its deadline, and nowhere else
 abbrev pub IsWheel : List (List Timer) → Deadlines → Type 0
 IsWheel slots es = (s : ℕ) (q : Req) → deadline_in (slot_list slots s) q ≡ in_slot s (deadline_at es q)
+
+-- no deadline in the map, and none in a slot, is below this one
+abbrev pub AreFrom : ℕ → Deadlines → Type 0
+AreFrom d es = (q : Req) (e : ℕ) → deadline_at es q ≡ Some e → d ≤ e
+
+abbrev pub StandFrom : ℕ → List (List Timer) → Type 0
+StandFrom d slots = (s : ℕ) (q : Req) (e : ℕ) → deadline_in (slot_list slots s) q ≡ Some e → d ≤ e
+
+-- the deadline of the first timer, and the highest where there is none
+abbrev pub bound_of : Option (Req × ℕ) → ℕ
+bound_of None = 4294967295
+bound_of (Some x) = x.1
+
+abbrev pub has_deadline : Option (Req × ℕ) → ℕ → Bool
+has_deadline None d = false
+has_deadline (Some x) d = x.1 == d

@@ -1,5 +1,5 @@
 //! The slots of a wheel.
-ghost use Rattle.std.specs.Prelude.{◌≡◌, ℕ, ◌+◌, ◌≢◌, [], OnOk, OnErr};
+ghost use Rattle.std.specs.Prelude.{◌≡◌, ℕ, ◌+◌, ◌≢◌, [], true, None, Some, OnOk, OnErr};
 ghost use Rattle.wheel.specs.Deadlines.{armed, dropped};
 ghost use Rattle.wheel.specs.TimerLists.{InOrder, deadline_in};
 ghost use Rattle.wheel.specs.Wheel.{front_of, no_timers, slot_list};
@@ -7,7 +7,7 @@ ghost use Rattle.wheel.specs.Wheel.{front_of, no_timers, slot_list};
 use crate::error::Memory;
 use crate::looks::Looks;
 use crate::set::TimerSet;
-use crate::sorted::SortedTimers;
+use crate::sorted::{SortedTimers, Timer};
 use history::Req;
 use std::alloc::Global;
 use std::array;
@@ -56,30 +56,37 @@ impl Slots {
         }
     }
 
-    /// Arms a timer in a slot. The request's old deadline there, if it has one, is forgotten. Want of memory changes nothing.
+    /// Arms a timer in a slot. The request's old deadline there, if it has one, is forgotten; none is sought where it is absent.
+    /// Want of memory changes nothing.
     pub fn arm<L: Ledger>(
         &mut self,
         slot: u8,
-        req: Req,
-        at: u32,
+        timer: Timer,
+        is_absent: bool,
         looks: &mut Looks<L>,
     ) -> Result<(), Memory>
-        ensures ok { OnOk result (deadline_in (slot_list self.new slot) ≡ armed (deadline_in (slot_list self.old slot)) req at) }
+        requires { is_absent ≡ true → deadline_in (slot_list self.old slot) timer.req ≡ None }
+        ensures ok { OnOk result (deadline_in (slot_list self.new slot) ≡ armed (deadline_in (slot_list self.old slot)) timer.req timer.at) }
         ensures err { OnErr result (deadline_in (slot_list self.new slot) ≡ deadline_in (slot_list self.old slot)) }
         ensures others { (s : ℕ) → s ≢ slot → slot_list self.new s ≡ slot_list self.old s }
         ensures looked { looks.new ≡ looks.old + 1 }
     {
         looks.look();
-        self.slots[slot as usize].arm(req, at)
+        if is_absent {
+            self.slots[slot as usize].add(timer)
+        } else {
+            self.slots[slot as usize].arm(timer.req, timer.at)
+        }
     }
 
-    /// Forgets the timer of a request in a slot.
-    pub fn drop_timer<L: Ledger>(&mut self, slot: u8, req: Req, looks: &mut Looks<L>)
-        ensures dropped { deadline_in (slot_list self.new slot) ≡ dropped (deadline_in (slot_list self.old slot)) req }
+    /// Forgets a timer that is in a slot.
+    pub fn drop_timer<L: Ledger>(&mut self, slot: u8, timer: Timer, looks: &mut Looks<L>)
+        requires { deadline_in (slot_list self.old slot) timer.req ≡ Some timer.at }
+        ensures dropped { deadline_in (slot_list self.new slot) ≡ dropped (deadline_in (slot_list self.old slot)) timer.req }
         ensures others { (s : ℕ) → s ≢ slot → slot_list self.new s ≡ slot_list self.old s }
         ensures looked { looks.new ≡ looks.old + 1 }
     {
         looks.look();
-        let _was_there = self.slots[slot as usize].drop_timer(req);
+        self.slots[slot as usize].drop_at(timer);
     }
 }

@@ -1,8 +1,9 @@
 //! Timers in the order of their deadlines.
-ghost use Rattle.std.specs.Prelude.{◌≡◌, ◌<◌, ◌≤◌, ℕ, ◌∷◌, [], length, vec_len, vec_capacity, not, filter, MatchOption, Some, slice_get};
+ghost use Rattle.std.specs.Prelude.{◌≡◌, ◌<◌, ◌≤◌, ℕ, ◌∷◌, [], true, false, length, vec_len, vec_capacity, IsTrue, IsSome, OnOk, OnErr, ◌↔◌, MatchOption, None, Some, slice_get};
 ghost use Rattle.history.specs.History.{same};
 ghost use Rattle.wheel.specs.declared.sorted.Timer.{Timer};
-ghost use Rattle.wheel.specs.TimerLists.{InOrder};
+ghost use Rattle.wheel.specs.Deadlines.{armed, dropped};
+ghost use Rattle.wheel.specs.TimerLists.{IsOnce, InOrder, deadline_in, with_timer, without};
 
 use crate::error::Memory;
 use crate::set::TimerSet;
@@ -17,7 +18,7 @@ pub struct Timer {
     pub at: u32,
 }
 
-/// Timers in the order of their deadlines: a list. Contracts see it.
+/// Timers in the order of their deadlines: a list, with one timer of a request at most. Contracts see it.
 #[derive(Drop)]
 pub struct SortedTimers {
     timers: Vec<Timer>,
@@ -26,13 +27,13 @@ pub struct SortedTimers {
 impl Model for SortedTimers {
     ghost use Rattle.std.specs.Prelude.{List};
     ghost use Rattle.wheel.specs.declared.sorted.Timer.{Timer};
-    ghost use Rattle.wheel.specs.TimerLists.{InOrder};
+    ghost use Rattle.wheel.specs.TimerLists.{IsOnce, InOrder};
 
     ghost Value = { List Timer };
 
     ghost view = { λ s. s.timers.items };
 
-    ghost invariant = { λ s. InOrder s.timers.items };
+    ghost invariant = { λ s. InOrder s.timers.items × IsOnce s.timers.items };
 }
 
 impl SortedTimers {
@@ -52,35 +53,110 @@ impl SortedTimers {
     {
         self.timers.first().copied()
     }
+
+    /// Arms a timer of a request that has none. Want of memory changes nothing.
+    pub fn add(&mut self, timer: Timer) -> Result<(), Memory>
+        requires { deadline_in self.old timer.req ≡ None }
+        ensures ok { OnOk result (deadline_in self.new ≡ armed (deadline_in self.old) timer.req timer.at) }
+        ensures err { OnErr result (deadline_in self.new ≡ deadline_in self.old) }
+    {
+        if self.timers.reserve(1).is_err() {
+            return Err(Memory);
+        }
+        put(&mut self.timers, timer);
+        Ok(())
+    }
+
+    /// Forgets a timer that is there. It is sought from the first with its deadline on.
+    pub fn drop_at(&mut self, timer: Timer)
+        requires { deadline_in self.old timer.req ≡ Some timer.at }
+        ensures { deadline_in self.new ≡ dropped (deadline_in self.old) timer.req }
+    {
+        let from = first_from(&self.timers, timer.at);
+        let _was_there = take_out(&mut self.timers, timer.req, from);
+    }
 }
 
-/// Takes the timers of a request out.
-fn forget(timers: &mut Vec<Timer>, req: Req)
-    ensures items { timers.new.items ≡ filter (λ t. not (same t.req req)) timers.old.items }
+/// The timer is this request's.
+fn is_of(timer: &Timer, req: Req) -> bool
+    ensures { result ≡ same timer.now.req req }
+{
+    timer.req == req
+}
+
+/// The place of a request's timer, from a place on; the length where it has none there.
+fn find(timers: &[Timer], req: Req, from: usize) -> usize
+    requires from { from ≤ length timers.now }
+    ensures within { result ≤ length timers.now }
+    ensures before { (k : ℕ) (t : Timer) → from ≤ k → k < result → slice_get timers.now k ≡ Some t → same t.req req ≡ false }
+    ensures there { (t : Timer) → slice_get timers.now result ≡ Some t → same t.req req ≡ true }
+{
+    let mut k = from;
+    while k < timers.len() && !is_of(&timers[k], req) {
+        k += 1;
+    }
+    k
+}
+
+/// Takes the timer of a request out, if it has one. It has none before the place `from`.
+fn take_out(timers: &mut Vec<Timer>, req: Req, from: usize) -> bool
+    requires once { IsOnce timers.old.items }
+    requires from { from ≤ vec_len timers.old }
+    requires before { (k : ℕ) (t : Timer) → k < from → slice_get timers.old.items k ≡ Some t → same t.req req ≡ false }
+    ensures items { timers.new.items ≡ without req timers.old.items }
+    ensures there { IsTrue result ↔ IsSome (deadline_in timers.old.items req) }
     ensures bound { vec_len timers.new ≤ vec_len timers.old }
     ensures capacity { vec_capacity timers.new ≡ vec_capacity timers.old }
 {
-    timers.retain(|t| is_other(t, req));
+    let k = find(timers, req, from);
+    if k >= timers.len() {
+        return false;
+    }
+    let _ = timers.remove(k);
+    true
 }
 
-/// The timer is another request's.
-fn is_other(timer: &Timer, req: Req) -> bool
-    ensures { result ≡ not (same timer.now.req req) }
+/// A place before which all deadlines are below this one, found by halving.
+fn first_from(timers: &[Timer], at: u32) -> usize
+    requires { InOrder timers.now }
+    ensures within { result ≤ length timers.now }
+    ensures before { (k : ℕ) (t : Timer) → k < result → slice_get timers.now k ≡ Some t → t.at < at }
 {
-    !(timer.req == req)
+    let mut low = 0;
+    let mut high = timers.len();
+    while low < high {
+        let middle = low + (high - low) / 2;
+        if timers[middle].at < at {
+            low = middle + 1;
+        } else {
+            high = middle;
+        }
+    }
+    low
 }
 
-/// The place after all timers with no later deadline.
+/// The place after all timers with no later deadline. It is sought from the back, since a new deadline is mostly the latest.
 fn place(timers: &[Timer], at: u32) -> usize
+    requires { InOrder timers.now }
     ensures within { result ≤ length timers.now }
     ensures before { (k : ℕ) (t : Timer) → k < result → slice_get timers.now k ≡ Some t → t.at ≤ at }
     ensures after { (t : Timer) → slice_get timers.now result ≡ Some t → at < t.at }
 {
-    let mut k = 0;
-    while k < timers.len() && timers[k].at <= at {
-        k += 1;
+    let mut k = timers.len();
+    while k > 0 && at < timers[k - 1].at {
+        k -= 1;
     }
     k
+}
+
+/// Puts a timer in its place. There is room for it.
+fn put(timers: &mut Vec<Timer>, timer: Timer)
+    requires sorted { InOrder timers.old.items }
+    requires room { vec_len timers.old < vec_capacity timers.old }
+    ensures { timers.new.items ≡ with_timer timer timers.old.items }
+{
+    let k = place(timers, timer.at);
+    let _ = timers.insert(k, timer);
 }
 
 impl TimerSet for SortedTimers {
@@ -92,17 +168,14 @@ impl TimerSet for SortedTimers {
         if self.timers.reserve(1).is_err() {
             return Err(Memory);
         }
-        forget(&mut self.timers, req);
-        let k = place(&self.timers, at);
-        // There is room for it.
-        let _ = self.timers.insert(k, Timer { req, at });
+        let timer = Timer { req, at };
+        let _was_there = take_out(&mut self.timers, timer.req, 0);
+        put(&mut self.timers, timer);
         Ok(())
     }
 
     fn drop_timer(&mut self, req: Req) -> bool {
-        let before = self.timers.len();
-        forget(&mut self.timers, req);
-        self.timers.len() < before
+        take_out(&mut self.timers, req, 0)
     }
 
     fn due(&self, now: u32) -> Option<Req> {

@@ -1,14 +1,16 @@
 //! Timers in a hashed wheel.
-ghost use Rattle.std.specs.Prelude.{◌≡◌, ℕ, ◌+◌, ◌%◌, ◌<◌, ◌≤◌, IsTrue, IsSome, is_some, None, OnOk, OnErr, ◌↔◌, length};
+ghost use Rattle.std.specs.Prelude.{◌≡◌, ℕ, ◌+◌, ◌%◌, ◌<◌, ◌≤◌, IsTrue, IsSome, is_some, true, false, None, Some, OnOk, OnErr, ◌↔◌, length};
 ghost use Rattle.std.specs.HashMap.{spare};
 ghost use Rattle.history.specs.declared.req.Req.{Req};
 ghost use Rattle.wheel.specs.Deadlines.{armed, dropped, IsFirstDue};
-ghost use Rattle.wheel.specs.Wheel.{IsLeast, deadline_at, earlier_of};
+ghost use Rattle.wheel.specs.TimerLists.{InOrder};
+ghost use Rattle.wheel.specs.Wheel.{AreFrom, IsLeast, StandFrom, bound_of, deadline_at, earlier_of, front_of, has_deadline, in_slot, slot_list};
 
 use crate::error::Memory;
 use crate::looks::Looks;
 use crate::set::TimerSet;
 use crate::slots::Slots;
+use crate::sorted::Timer;
 use history::Req;
 use std::alloc::Global;
 use std::collections::HashMap;
@@ -24,6 +26,8 @@ type Deadlines = HashMap<(u16, u64), u32>;
 pub struct Timers {
     slots: Slots,
     deadlines: Deadlines,
+    /// No deadline is below this one. It may stay behind until `catch_up`.
+    soonest: u32,
 }
 
 impl Model for Timers {
@@ -31,11 +35,18 @@ impl Model for Timers {
 
     ghost Value = { List ((ℕ × ℕ) × ℕ) };
 
-    ghost use Rattle.wheel.specs.Wheel.{IsWheel};
+    ghost use Rattle.wheel.specs.Wheel.{AreFrom, IsWheel};
 
     ghost view = { λ t. t.deadlines.entries };
 
-    ghost invariant = { λ t. IsWheel t.slots t.deadlines.entries };
+    ghost invariant = { λ t. IsWheel t.slots t.deadlines.entries × AreFrom t.soonest t.deadlines.entries };
+}
+
+/// What stands at the front of a slot.
+#[derive(Clone, Copy)]
+struct Front {
+    slot: u8,
+    front: Option<(Req, u32)>,
 }
 
 /// The slot of a deadline.
@@ -79,17 +90,103 @@ fn earlier(one: Option<(Req, u32)>, other: Option<(Req, u32)>) -> Option<(Req, u
     if b.1 < a.1 { other } else { one }
 }
 
-/// A timer of least deadline, found at the fronts of all slots.
-fn least<L: Ledger>(slots: &Slots, looks: &mut Looks<L>) -> Option<(Req, u32)>
+/// Whether the request has a timer in the slot: only where this says so.
+fn may_stand_in(deadlines: &Deadlines, req: Req, slot: u8) -> bool
+    ensures { result ≡ false → in_slot slot (deadline_at deadlines.now.entries req) ≡ None }
+{
+    match deadlines.get(&(req.ring, req.k)) {
+        None => false,
+        Some(at) => slot_of(*at) == slot,
+    }
+}
+
+/// The lower of two deadlines.
+fn lower(one: u32, other: u32) -> u32
+    ensures one { result ≤ one }
+    ensures other { result ≤ other }
+{
+    if one < other { one } else { other }
+}
+
+/// The bound of the deadlines that are left: the highest where there are none.
+fn bound_left(deadlines: &Deadlines, soonest: u32) -> u32
+    ensures { AreFrom soonest deadlines.now.entries → AreFrom result deadlines.now.entries }
+{
+    if deadlines.is_empty() {
+        u32::MAX
+    } else {
+        soonest
+    }
+}
+
+/// Whether there is a timer, with this deadline.
+fn is_at(front: Option<(Req, u32)>, at: u32) -> bool
+    ensures { result ≡ has_deadline front at }
+{
+    match front {
+        None => false,
+        Some(timer) => timer.1 == at,
+    }
+}
+
+/// The front of a slot. One slot's front is known.
+fn front_beside<L: Ledger>(
+    slots: &Slots,
+    slot: u8,
+    known: Front,
+    looks: &mut Looks<L>,
+) -> Option<(Req, u32)>
+    requires known { known.front ≡ front_of (slot_list slots.now known.slot) }
+    requires sorted { InOrder (slot_list slots.now known.slot) }
+    ensures first { result ≡ front_of (slot_list slots.now slot) }
+    ensures sorted { InOrder (slot_list slots.now slot) }
+    ensures looked { looks.new ≤ looks.old + 1 }
+    ensures known { slot ≡ known.slot → looks.new ≡ looks.old }
+{
+    if slot == known.slot {
+        return known.front;
+    }
+    slots.front(slot, looks)
+}
+
+/// A timer of least deadline, found at the fronts of all slots, of which one is known.
+fn least_beside<L: Ledger>(slots: &Slots, known: Front, looks: &mut Looks<L>) -> Option<(Req, u32)>
+    requires known { known.front ≡ front_of (slot_list slots.now known.slot) }
+    requires sorted { InOrder (slot_list slots.now known.slot) }
     ensures least { IsLeast slots.now 256 result }
-    ensures looked { looks.new ≡ looks.old + 256 }
+    ensures looked { looks.new ≤ looks.old + 255 }
 {
     let mut best = None;
     for slot in 0..256u16 {
-        let front = slots.front(slot as u8, looks);
+        let front = front_beside(slots, slot as u8, known, looks);
         best = earlier(best, front);
     }
     best
+}
+
+/// A timer of least deadline. No deadline is below `soonest`, so the slot of this one comes first: a timer there that has it is
+/// one of least deadline.
+fn least<L: Ledger>(slots: &Slots, soonest: u32, looks: &mut Looks<L>) -> Option<(Req, u32)>
+    requires { StandFrom soonest slots.now }
+    ensures least { IsLeast slots.now 256 result }
+    ensures looked { looks.new ≤ looks.old + 256 }
+{
+    let slot = slot_of(soonest);
+    let front = slots.front(slot, looks);
+    if is_at(front, soonest) {
+        return front;
+    }
+    least_beside(slots, Front { slot, front }, looks)
+}
+
+/// The deadline of a timer, and the highest where there is none.
+fn bound_by(first: Option<(Req, u32)>) -> u32
+    ensures { result ≡ bound_of first }
+{
+    match first {
+        None => u32::MAX,
+        Some(timer) => timer.1,
+    }
 }
 
 impl Timers {
@@ -100,6 +197,7 @@ impl Timers {
         Timers {
             slots: Slots::new(alloc),
             deadlines: HashMap::new(alloc),
+            soonest: u32::MAX,
         }
     }
 
@@ -127,11 +225,13 @@ impl Timers {
             return Err(Memory);
         }
         let slot = slot_of(at);
-        self.slots.arm(slot, req, at, looks)?;
+        let is_absent = !may_stand_in(&self.deadlines, req, slot);
+        self.slots.arm(slot, Timer { req, at }, is_absent, looks)?;
+        self.soonest = lower(self.soonest, at);
         if let Some(old) = note(&mut self.deadlines, req, at) {
             let before = slot_of(old);
             if before != slot {
-                self.slots.drop_timer(before, req, looks);
+                self.slots.drop_timer(before, Timer { req, at: old }, looks);
             }
         }
         Ok(())
@@ -151,13 +251,15 @@ impl Timers {
         match forget(&mut self.deadlines, req) {
             None => false,
             Some(at) => {
-                self.slots.drop_timer(slot_of(at), req, looks);
+                self.slots.drop_timer(slot_of(at), Timer { req, at }, looks);
+                self.soonest = bound_left(&self.deadlines, self.soonest);
                 true
             }
         }
     }
 
-    /// `due`, which looks at the fronts of the slots, each at most once, and at none where there are no timers.
+    /// `due`, which looks at the fronts of the slots, each at most once, and at none where there are no timers. Nor does it where
+    /// `catch_up` found all deadlines later, and none before them was armed since.
     pub fn due_counted<L: Ledger>(&self, now: u32, looks: &mut Looks<L>) -> Option<Req>
         ensures due { IsFirstDue (deadline_at self.now) now result }
         ensures looked { looks.new ≤ looks.old + 256 }
@@ -166,8 +268,34 @@ impl Timers {
         if self.deadlines.is_empty() {
             return None;
         }
-        let (req, at) = least(&self.slots, looks)?;
+        if now < self.soonest {
+            return None;
+        }
+        let (req, at) = least(&self.slots, self.soonest, looks)?;
         if at <= now { Some(req) } else { None }
+    }
+
+    /// `catch_up`, which looks at the fronts of the slots, each at most once, and at none where there are no timers.
+    pub fn catch_up_counted<L: Ledger>(&mut self, now: u32, looks: &mut Looks<L>)
+        ensures same { self.new ≡ self.old }
+        ensures looked { looks.new ≤ looks.old + 256 }
+        ensures idle { length self.old ≡ 0 → looks.new ≡ looks.old }
+    {
+        if self.deadlines.is_empty() {
+            return;
+        }
+        if now < self.soonest {
+            return;
+        }
+        self.soonest = bound_by(least(&self.slots, self.soonest, looks));
+    }
+
+    /// After timers ran out or were dropped: where one could be due at `now`, finds the least deadline, below which `due` then
+    /// needs no look. All timers stay.
+    pub fn catch_up(&mut self, now: u32)
+        ensures { self.new ≡ self.old }
+    {
+        catch_up_by::<Brand>(self, now, Blank::new(1));
     }
 }
 
@@ -205,6 +333,17 @@ fn due_by<L: Ledger>(timers: &Timers, now: u32, blank: Blank) -> Option<Req>
 {
     let mut looks = Looks::<L>::new(blank);
     timers.due_counted(now, &mut looks)
+}
+
+/// `catch_up_counted`, uncounted.
+fn catch_up_by<L: Ledger>(timers: &mut Timers, now: u32, blank: Blank)
+    requires name { blank.name ≡ L.name }
+    requires parts { blank.parts ≡ L.parts }
+    requires some { 0 < blank.parts }
+    ensures { timers.new ≡ timers.old }
+{
+    let mut looks = Looks::<L>::new(blank);
+    timers.catch_up_counted(now, &mut looks);
 }
 
 impl TimerSet for Timers {

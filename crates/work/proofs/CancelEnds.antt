@@ -1,5 +1,5 @@
 -- What a worker knows once its cancel has gone over the requests, and what it replies.
-use Rattle.std.proofs.Common.{◌≡◌, ◌≢◌, ⊎_elim, inl, ℕ, ◌+◌, ◌*◌, ◌-◌, ◌<◌, ◌≤◌, ◌==◌, Bool, true, false, cond, ℤ, pos, List, [], ◌∷◌, length, Option, Some, sym, refl, ap, ◌∙◌, subst, arith, true≢false}
+use Rattle.std.proofs.Common.{◌≡◌, ◌≢◌, ⊎_elim, inl, ℕ, ◌+◌, ◌<◌, ◌≤◌, ◌==◌, Bool, true, false, cond, ℤ, pos, List, [], ◌∷◌, length, Option, Some, sym, refl, ap, ◌∙◌, subst, arith, true≢false, eqb-true}
 use Rattle.atomic_table.specs.Seated.{TableId}
 use Rattle.answers.specs.NamedEnds.{UsesNone}
 use Rattle.entry.specs.declared.op.Op.{Op}
@@ -33,9 +33,9 @@ use Rattle.work.specs.declared.cancel.Searched.TheVariants.{NoneLeft, Ended, Fou
 use Rattle.work.specs.declared.cancel.Wanted.{Wanted}
 use Rattle.work.specs.Board.{Facts, IsOf}
 use Rattle.work.specs.Passes.{Pass, RunsIt}
-use Rattle.work.specs.Searches.{WorkerSeat, Cancels, DidSearch, FewSteps, WentBy, WentOn, steps_at, wanted_in}
+use Rattle.work.specs.Searches.{WorkerSeat, Cancels, DidSearch, FewSteps, FewerSteps, WentBy, WentOn, steps_at, wanted_in}
 use Rattle.work.specs.WorkerRuns.{AreHits, DidHunt, DidSweep, Told, op_run, run_as}
-use Rattle.work.proofs.CancelGrowth.{by_hit, by_role, did_hit, went_hit, went_role}
+use Rattle.work.proofs.CancelGrowth.{by_hit, by_later, by_role, did_hit, went_hit, went_role}
 use Rattle.work.proofs.CancelHits.{tally_taken}
 use Rattle.work.proofs.CancelSearch.{all_wanted}
 use Rattle.work.proofs.PassesKept.{looked_of}
@@ -172,6 +172,10 @@ module _ (v w : View) (r : Req) (u : Wanted) (busy : v.role ≡ Busy r) (unhit :
     answers = one_by (missed d.0 nothing) res one (hit_after d.2 (Miss r d.0) d.3 d.4 ∙ ap (λ (b : Bool). cond b (missed d.0 nothing) nothing) (same_itself r)) t.0;
   }
 
+-- where it had looked before
+pub hunt_later : (u v w : View) (r : Req) (x : Wanted) (list : List Req) (res : ℤ) → WentOn u v → DidHunt v w r x list res → DidHunt u w r x list res
+hunt_later u v w r x list res d h = record { own = h.own; went = by_later r u v w h.own d h.went; hits = h.hits; took_is = h.took_is; few = h.few; answers = h.answers }
+
 -- those that it took are fewer than the cells
 pub told_few : (v w : View) (r : Req) (q : Searched) (res : ℤ) (list : List Req) → 0 < cells_in v.layout.cells r.ring → DidSearch v w r q → Told q res list → length list < cells_in v.layout.cells r.ring
 told_few v w r NoneLeft res list some d t = subst (λ (l : List Req). length l < cells_in v.layout.cells r.ring) (sym t.1) some
@@ -185,16 +189,16 @@ may_hunt table v w hand x g r p pipes u list res k wants h =
     plain_may table (w, (slot_at x, Some (Full p)) ∷ hand) x g r p pipes (by_runs r table v w h.own x g p pipes k h.went) res refl (cancel_past (op_run p.sqe.op) u (length w.layout.caps) wants)
     (cancel_answers w.layout.caps (events_of w.seen) r (op_run p.sqe.op) u res wants h.answers)
 
--- and one step more, for the reply
-one_more : (b : Bool) (n : ℕ) → n ≤ 3 → cond b 1 0 + n ≤ 4
-one_more true n le = omega arith
-one_more false n le = omega arith
+-- and one step more at its own claim word, for the reply
+one_more : (b : Bool) (k n : ℕ) → k ≤ n → (b ≡ true → k < n) → cond b 1 0 + k ≤ n
+one_more true k n le less = (let z = less refl in omega arith)
+one_more false k n le less = omega arith
 
-pub few_replied : (v w z : View) (word found n : ℕ) → 0 < n → FewSteps v w 3 (5 * (n - 1)) → IsStep word found w z → FewSteps v z 4 (5 * n)
-few_replied v w z word found n some f is = record {
-  steps = record { word = word; found = found; seen = z.seen } ∷ f.steps;
-  is = is ∙ ap (λ (l : List Step). record { word = word; found = found; seen = z.seen } ∷ l) f.is;
-  few = λ x. one_more (word == claim_at x) (steps_at (claim_at x) f.steps) (f.few x);
+pub few_replied : (v w z : View) (c : Req) (x g found n all more : ℕ) → request_at v.layout.cells x g ≡ c → all + 1 ≤ more → FewerSteps v w c n all → IsStep (claim_at x) found w z → FewSteps v z n more
+few_replied v w z c x g found n all more at le f is = record {
+  steps = record { word = claim_at x; found = found; seen = z.seen } ∷ f.steps;
+  is = is ∙ ap (λ (l : List Step). record { word = claim_at x; found = found; seen = z.seen } ∷ l) f.is;
+  few = λ y. one_more (claim_at x == claim_at y) (steps_at (claim_at y) f.steps) n (f.few y) (λ e. subst (λ (m : ℕ). steps_at m f.steps < n) (eqb-true (claim_at x) (claim_at y) e) (f.own x g at));
   most = (let q = f.most in omega arith);
 }
 

@@ -143,6 +143,10 @@ module _ (c : Req) where
   by_on u v w [] a b = went_both u v w a b
   by_on u v w (e ∷ own) a b = (a.0, a.1, a.2, a.3, went_both a.1 v w a.4 b)
 
+  pub by_later : (u v w : View) (own : List Event) → WentOn u v → WentBy v w c own → WentBy u w c own
+  by_later u v w [] a b = went_both u v w a b
+  by_later u v w (e ∷ own) a b = (b.0, b.1, by_later u v b.0 own a b.2, b.3, b.4)
+
   pub by_both : (u v w : View) (own more : List Event) → WentBy u v c own → WentBy v w c more → WentBy u w c (more ++ own)
   by_both u v w own [] a b = by_on u v w own a b
   by_both u v w own (e ∷ more) a b = (b.0, b.1, by_both u v b.0 own more a b.2, b.3, b.4)

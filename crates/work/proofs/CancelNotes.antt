@@ -1,5 +1,5 @@
 -- What the notes of a cell tell a cancel of the cell's request: whether it is meant for that.
-use Rattle.std.proofs.Common.{◌≡◌, ⊎_elim, inl, inr, ℕ, ◌<◌, ◌&&◌, ◌==◌, not, Bool, true, false, cond, List, ◌++◌, Option, Some, IsTrue, sym, ap, ◌∙◌, subst, arith, eqb-true, eq-eqb}
+use Rattle.std.proofs.Common.{◌≡◌, ◌⊎◌, ⊎_elim, inl, inr, ℕ, ◌<◌, ◌&&◌, ◌==◌, not, Bool, true, false, cond, List, ◌++◌, Option, Some, IsTrue, sym, ap, ◌∙◌, subst, arith, eqb-true, eq-eqb, true≢false}
 use Rattle.claim.specs.Facts.{Facts as FactsParts, packed_facts, fits_facts}
 use Rattle.entry.specs.declared.op.Op.{Op}
 use Rattle.entry.specs.declared.op.Op.TheVariants.{AsyncCancel, TimeoutRemove}
@@ -10,6 +10,7 @@ use Rattle.history.specs.History.{Phase, Submission, submission, submits, phase,
 use Rattle.history.specs.Answers.{Matches, asks_for}
 use Rattle.history.specs.Chains.{IsBefore, IsPlaced, before_in, hosts, is_link_timeout, placed_behind, placed_from}
 use Rattle.history.specs.Legal.{Setup, Legal}
+use Rattle.history.proofs.Growth.{submission_some}
 use Rattle.history.proofs.Requests.{bool_cases, and_left, and_right}
 use Rattle.steps.specs.declared.line.Line.{Line}
 use Rattle.steps.specs.declared.view.Layout.{Layout}
@@ -20,7 +21,7 @@ use Rattle.steps.specs.Journal.{events_of, noted}
 use Rattle.steps.specs.Cells.{IsCell, facts_at, user_at, request_at, setup_of}
 use Rattle.steps.specs.Rule.{Looks}
 use Rattle.steps.proofs.FactsRead.{own_facts, other_facts, reaped_or}
-use Rattle.steps.proofs.JournalGrowth.{lasts, placed_lasts, submission_lasts, submits_grow}
+use Rattle.steps.proofs.JournalGrowth.{lasts, placed_lasts, replied_later, submits_grow}
 use Rattle.work.specs.declared.cancel.Wanted.{Wanted}
 use Rattle.work.specs.Searches.{IsMeant, is_kind, wanted_in}
 
@@ -61,72 +62,96 @@ same_user b e = ⊎_elim
     (λ (w : (is_link_timeout e.op && not (hosts b)) ≡ true). ap (λ (z : Bool). (cond z (record e { op = Rattle.entry.specs.declared.op.Op.TheVariants.Invalid }) e).user_data) w)
     (λ (w : (is_link_timeout e.op && not (hosts b)) ≡ false). ap (λ (z : Bool). (cond z (record e { op = Rattle.entry.specs.declared.op.Op.TheVariants.Invalid }) e).user_data) w) (bool_cases (is_link_timeout e.op && not (hosts b)))
 
--- ---- by two looks at the notes, first at the facts
+-- ---- by the note of its user_data
 
-module _ (v m : View) (x g : ℕ) (a : Looks v m) (inside : IsCell v.layout.cells x) (small : g < 16777216) where
+reaped_done : (p : Phase) → IsReaped p → IsReplied p
+reaped_done (reaped c res) r = tt
+reaped_done p r = absurd r
+
+module _ (v m : View) (x g : ℕ) (a : Looks v m) (born : (request_at v.layout.cells x g).k < submits (events_of v.seen) (request_at v.layout.cells x g).ring) where
   abbrev pub the_request : Req
   the_request = request_at v.layout.cells x g
 
   abbrev S : Setup
   S = setup_of v.layout
 
-  layout_now : m.layout ≡ v.layout
-  layout_now = ap (λ (z : View). z.layout) a.is
-
-  legal_then : Legal S (events_of m.seen)
+  pub legal_then : Legal S (events_of m.seen)
   legal_then = subst (λ (j : List Line). Legal S (events_of j)) (sym (ap (λ (z : View). z.seen) a.is)) a.legal
 
-  seen_then : m.seen ≡ a.saw.later ++ v.seen
-  seen_then = ap (λ (z : View). z.seen) a.is ∙ a.saw.is
+  pub orderly_then : Orderly v.layout m.seen
+  orderly_then = subst (Orderly v.layout) (sym (ap (λ (z : View). z.seen) a.is)) a.orderly
 
-  module _ (born : the_request.k < submits (events_of v.seen) the_request.ring) (tells : NotesTell v.layout.cells m.seen x) (left : FactsTell v.layout.cells m.seen x) (word : FactsParts) (fits : IsTrue (fits_facts word)) (packed : packed_facts word ≡ noted m.seen (facts_at x)) where
-    born_then : the_request.k < submits (events_of m.seen) the_request.ring
-    born_then = subst (λ (j : List Line). the_request.k < submits (events_of j) the_request.ring) (sym seen_then) (let z = submits_grow S a.saw.later v.seen the_request.ring in omega arith)
+  pub born_then : the_request.k < submits (events_of m.seen) the_request.ring
+  born_then = subst (λ (j : List Line). the_request.k < submits (events_of j) the_request.ring) (sym (ap (λ (z : View). z.seen) a.is ∙ a.saw.is)) (let z = submits_grow S a.saw.later v.seen the_request.ring in let b = born in omega arith)
 
-    orderly_then : Orderly v.layout m.seen
-    orderly_then = subst (Orderly v.layout) (sym (ap (λ (z : View). z.seen) a.is)) a.orderly
+  module _ (told : NotesTell v.layout.cells m.seen x) where
+    -- what was handed in, and how it is placed
+    pub handed : (y : Submission) × (submission (events_of m.seen) the_request ≡ Some y)
+    handed = submission_some S (events_of m.seen) the_request legal_then born_then
 
-    -- the facts of another generation
-    pub gone_on : ¬ (word.generation ≡ g) → IsReplied (phase (events_of m.seen) the_request)
-    gone_on ne = (other_facts v.layout m.seen x g inside small legal_then orderly_then tells left born_then word fits packed ne).replied
+    abbrev pub entry_then : Entry
+    entry_then = placed_behind (before_in (events_of m.seen) the_request) handed.0.entry
 
-    pub facts_told : word.generation ≡ g → TellsFacts (events_of m.seen) the_request word
-    facts_told own = own_facts v.layout m.seen x g inside small legal_then orderly_then tells left born_then word fits packed own
+    pub placed_then : IsPlaced (events_of m.seen) the_request entry_then
+    placed_then = ap (placed_from (before_in (events_of m.seen) the_request)) handed.1
 
-    module _ (n : View) (b : Looks m n) (own : word.generation ≡ g) (told : NotesTell m.layout.cells n.seen x) where
+    -- it has replied, or the note is its own
+    pub user_then : IsReplied (phase (events_of m.seen) the_request) ⊎ (noted m.seen (user_at x) ≡ entry_then.user_data)
+    user_then = ⊎_elim (λ (r : IsReaped (phase (events_of m.seen) the_request)). inl (reaped_done _ r))
+        (λ (alive : ¬ IsReaped (phase (events_of m.seen) the_request)). inr ((told g handed.0 entry_then handed.1 placed_then alive).user_data ∙ sym (same_user (before_in (events_of m.seen) the_request) handed.0.entry)))
+        (reaped_or (phase (events_of m.seen) the_request))
+
+    -- the note is another user_data than the cancel c asks for, which is placed as d
+    pub passed_by : (c : Req) (w : Wanted) (d : Entry) → IsPlaced (events_of m.seen) c d → wanted_in d.op ≡ Some w → ¬ (noted m.seen (user_at x) ≡ w.user_data) → Matches (events_of m.seen) c the_request → IsReplied (phase (events_of m.seen) the_request)
+    passed_by c w d is_c wants ne y = ⊎_elim (λ (r : IsReplied (phase (events_of m.seen) the_request)). r)
+        (λ (e : noted m.seen (user_at x) ≡ entry_then.user_data). absurd (ne (e ∙ asked_user w entry_then (match_asked (events_of m.seen) c the_request w d entry_then y.0 is_c wants placed_then y)))) user_then
+
+    -- ---- and then by its facts
+
+    module _ (n : View) (b : Looks m n) (inside : IsCell v.layout.cells x) (small : g < 16777216) (tells : NotesTell m.layout.cells n.seen x) (left : FactsTell m.layout.cells n.seen x) (word : FactsParts) (fits : IsTrue (fits_facts word)) (packed : packed_facts word ≡ noted n.seen (facts_at x)) where
+      layout_is : m.layout ≡ v.layout
+      layout_is = ap (λ (z : View). z.layout) a.is
+
       seen_now : n.seen ≡ b.saw.later ++ m.seen
       seen_now = ap (λ (z : View). z.seen) b.is ∙ b.saw.is
 
-      legal_now : Legal S (events_of (b.saw.later ++ m.seen))
-      legal_now = subst (λ (z : Layout × List Line). Legal (setup_of z.0) (events_of z.1)) (λ i. (layout_now i, b.saw.is i)) b.legal
+      legal_on : Legal S (events_of (b.saw.later ++ m.seen))
+      legal_on = subst (λ (z : Layout × List Line). Legal (setup_of z.0) (events_of z.1)) (λ i. (layout_is i, b.saw.is i)) b.legal
 
-      abbrev pub entry_now : Entry
-      entry_now = (facts_told own).1
+      legal_now : Legal S (events_of n.seen)
+      legal_now = subst (λ (j : List Line). Legal S (events_of j)) (sym seen_now) legal_on
 
-      given_now : submission (events_of n.seen) the_request ≡ Some (facts_told own).0
-      given_now = subst (λ (j : List Line). submission (events_of j) the_request ≡ Some (facts_told own).0) (sym seen_now) (lasts S (λ h. submission h the_request ≡ Some (facts_told own).0) the_request (submission_lasts S the_request (facts_told own).0) b.saw.later m.seen legal_now born_then (facts_told own).2)
+      orderly_now : Orderly v.layout n.seen
+      orderly_now = subst (λ (z : Layout × List Line). Orderly z.0 z.1) (λ i. (layout_is i, sym (ap (λ (z : View). z.seen) b.is) i)) b.orderly
 
-      pub placed_now : IsPlaced (events_of n.seen) the_request entry_now
-      placed_now = subst (λ (j : List Line). IsPlaced (events_of j) the_request entry_now) (sym seen_now) (lasts S (λ h. IsPlaced h the_request entry_now) the_request (placed_lasts S the_request entry_now) b.saw.later m.seen legal_now born_then (facts_told own).3)
+      born_now : the_request.k < submits (events_of n.seen) the_request.ring
+      born_now = subst (λ (j : List Line). the_request.k < submits (events_of j) the_request.ring) (sym seen_now) (let z = submits_grow S b.saw.later m.seen the_request.ring in let y = born_then in omega arith)
 
-      pub user_now : ¬ IsReaped (phase (events_of n.seen) the_request) → noted n.seen (user_at x) ≡ entry_now.user_data
-      user_now alive =
-          let y : Submission = (facts_told own).0 in let before = before_in (events_of n.seen) the_request in
-          let same' : placed_behind before y.entry ≡ entry_now = (let z = sym (ap (placed_from before) given_now) ∙ placed_now in cc) in
-          (subst (λ (L : Layout). NotesTell L.cells n.seen x) layout_now told g y entry_now given_now placed_now alive).user_data ∙ (sym (same_user before y.entry) ∙ ap (λ (e : Entry). e.user_data) same')
+      tells_now : NotesTell v.layout.cells n.seen x
+      tells_now = subst (λ (L : Layout). NotesTell L.cells n.seen x) layout_is tells
 
-      module _ (c : Req) (w : Wanted) (d : Entry) (before : IsBefore the_request c) (is_c : IsPlaced (events_of n.seen) c d) (wants : wanted_in d.op ≡ Some w) where
-        reaped_done : (p : Phase) → IsReaped p → IsReplied p
-        reaped_done (reaped c res) r = tt
-        reaped_done p r = absurd r
+      left_now : FactsTell v.layout.cells n.seen x
+      left_now = subst (λ (L : Layout). FactsTell L.cells n.seen x) layout_is left
 
-        -- where it isn't asked for, or what the note says is another user_data, all that the cancel is meant for has replied
-        pub passed_by : ((entry_now.user_data ≡ noted n.seen (user_at x)) → asked w entry_now ≡ true → ⊥) → Matches (events_of n.seen) c the_request → IsReplied (phase (events_of n.seen) the_request)
-        passed_by not_it m = ⊎_elim (λ (r : IsReaped (phase (events_of n.seen) the_request)). reaped_done _ r)
-            (λ (alive : ¬ IsReaped (phase (events_of n.seen) the_request)). absurd (not_it (sym (user_now alive)) (match_asked (events_of n.seen) c the_request w d entry_now before is_c wants placed_now m)))
-            (reaped_or (phase (events_of n.seen) the_request))
+      -- the facts of another generation
+      pub gone_on : ¬ (word.generation ≡ g) → IsReplied (phase (events_of n.seen) the_request)
+      gone_on ne = (other_facts v.layout n.seen x g inside small legal_now orderly_now tells_now left_now born_now word fits packed ne).replied
 
-        pub meant_by : noted n.seen (user_at x) ≡ w.user_data → is_kind w.timeout entry_now.op ≡ true → IsMeant n c the_request
-        meant_by u k = ⊎_elim (λ (r : IsReaped (phase (events_of n.seen) the_request)). inr (reaped_done _ r))
-            (λ (alive : ¬ IsReaped (phase (events_of n.seen) the_request)). inl (asked_match (events_of n.seen) c the_request w d entry_now before is_c wants placed_now (asked_by w entry_now (sym (user_now alive) ∙ u) k)))
-            (reaped_or (phase (events_of n.seen) the_request))
+      module _ (own : word.generation ≡ g) where
+        pub facts_told : TellsFacts (events_of n.seen) the_request word
+        facts_told = own_facts v.layout n.seen x g inside small legal_now orderly_now tells_now left_now born_now word fits packed own
+
+        placed_still : IsPlaced (events_of n.seen) the_request entry_then
+        placed_still = subst (λ (j : List Line). IsPlaced (events_of j) the_request entry_then) (sym seen_now) (lasts S (λ h. IsPlaced h the_request entry_then) the_request (placed_lasts S the_request entry_then) b.saw.later m.seen legal_on born_then placed_then)
+
+        same_entry : facts_told.1 ≡ entry_then
+        same_entry = (let z = sym facts_told.3 ∙ placed_still in cc)
+
+        module _ (c : Req) (w : Wanted) (d : Entry) (before : IsBefore the_request c) (is_c : IsPlaced (events_of n.seen) c d) (wants : wanted_in d.op ≡ Some w) where
+          pub other_kind : is_kind w.timeout facts_told.1.op ≡ false → ¬ (Matches (events_of n.seen) c the_request)
+          other_kind another y = true≢false (sym (asked_kind w facts_told.1 (match_asked (events_of n.seen) c the_request w d facts_told.1 before is_c wants facts_told.3 y)) ∙ another)
+
+          pub meant_by : noted m.seen (user_at x) ≡ w.user_data → is_kind w.timeout facts_told.1.op ≡ true → IsMeant n c the_request
+          meant_by u k = ⊎_elim
+              (λ (r : IsReplied (phase (events_of m.seen) the_request)). inr (subst (λ (j : List Line). IsReplied (phase (events_of j) the_request)) (sym seen_now) (replied_later S b.saw.later m.seen the_request legal_on r)))
+              (λ (e : noted m.seen (user_at x) ≡ entry_then.user_data). inl (asked_match (events_of n.seen) c the_request w d facts_told.1 before is_c wants facts_told.3 (asked_by w facts_told.1 (ap (λ (z : Entry). z.user_data) same_entry ∙ (sym e ∙ u)) k))) user_then

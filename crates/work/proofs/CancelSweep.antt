@@ -1,5 +1,5 @@
 -- A cancel of all its matches goes over the earlier requests of its ring that can still have a cell: each match before the next one has replied, or was found running.
-use Rattle.std.proofs.Common.{◌≡◌, ◌≢◌, ◌⊎◌, ⊎_elim, inl, inr, ℕ, ◌+◌, ◌-◌, ◌<◌, ◌≤◌, ◌||◌, Bool, true, cond, negsuc, List, [], ◌∷◌, ◌++◌, length, length-append, sym, refl, ap, ◌∙◌, subst, arith, eq-eqb}
+use Rattle.std.proofs.Common.{◌≡◌, ◌≢◌, ◌⊎◌, ⊎_elim, inl, inr, ℕ, ◌+◌, ◌*◌, ◌-◌, ◌<◌, ◌≤◌, ◌||◌, Bool, true, cond, negsuc, List, [], ◌∷◌, ◌++◌, length, length-append, sym, refl, ap, ◌∙◌, subst, arith, eq-eqb}
 use mathlib.Core.Logic.{dite}
 use native.Mathlib.Decide.{ℕ_discrete}
 use Rattle.atomic_table.specs.Seated.{TableId}
@@ -13,12 +13,12 @@ use Rattle.steps.specs.declared.line.Line.{Line}
 use Rattle.steps.specs.declared.line.Line.TheVariants.{Did}
 use Rattle.steps.specs.declared.view.Role.TheVariants.{Busy}
 use Rattle.steps.specs.declared.view.View.{View}
-use Rattle.steps.specs.Cells.{cells_in}
 use Rattle.steps.specs.Journal.{events_of}
 use Rattle.steps.specs.Rule.{Extends}
 use Rattle.work.specs.declared.cancel.Tried.{Tried}
 use Rattle.work.specs.declared.cancel.Tried.TheVariants.{Passed, Took, Missed}
 use Rattle.work.specs.declared.cancel.Wanted.{Wanted}
+use Rattle.work.specs.Passes.{ArePast}
 use Rattle.work.specs.Searches.{WorkerSeat, Cancels, DidTry, MayAim, WentBy}
 use Rattle.work.specs.WorkerRuns.{AreHits, DidSweep, taken_in}
 use Rattle.work.proofs.CancelGrowth.{Grown, by_both, by_grown, by_hit, did_hit, match_back, replied_on, went_hit, went_role}
@@ -31,7 +31,7 @@ AreTried v c k = (t : Req) → Matches (events_of v.seen) c t → t.k < k → Is
 
 -- the cancel c has come to the request k, and took these
 pub record Sweeping (v w : View) (c : Req) (first k : ℕ) (taken : List Req) : Type 0 where
-  pub walked : Walked v w c first k
+  pub walked : Walked 3 (5 * (k - first)) v w c first k
   pub own : List Event
   pub went : WentBy v w c own
   pub hits : AreHits c k own
@@ -41,14 +41,14 @@ pub record Sweeping (v w : View) (c : Req) (first k : ℕ) (taken : List Req) : 
 
 -- ---- where it begins
 
-pub sweeping_first : (table : TableId) (s : WorkerSeat) (c : Req) (u : Wanted) (first : ℕ) → Cancels table s c u → first ≡ c.k - (cells_in s.me.0.layout.cells c.ring - 1) → 0 < cells_in s.me.0.layout.cells c.ring → Sweeping s.me.0 s.me.0 c first first []
-sweeping_first table s c u first k is some = record {
-  walked = walked_first s.me.0 c first;
+pub sweeping_first : (v : View) (c : Req) (first : ℕ) → ArePast v.seen c.ring first → Sweeping v v c first first []
+sweeping_first v c first p = record {
+  walked = walked_first 3 (5 * (first - first)) v c first;
   own = [];
   went = inl refl;
   hits = tt;
   taken_is = refl;
-  tried = λ t m lt. inl (passed_first table s c u first k is some t m lt);
+  tried = λ t m lt. inl (passed_first v c first p t m lt);
   short = omega arith;
 }
 
@@ -105,7 +105,7 @@ tried_next table t w c q u r known ring old d z m lt = dite (ℕ_discrete z.k q.
 neither : (Took ≡ Passed) ⊎ (Took ≡ Missed) → ⊥
 neither n = ⊎_elim (λ (e : Took ≡ Passed). (let z = e in cc)) (λ (e : Took ≡ Missed). (let z = e in cc)) n
 
-module _ (table : TableId) (s t : WorkerSeat) (w : View) (c : Req) (u : Wanted) (first k : ℕ) (taken : List Req) (known : Cancels table t c u) (now : Sweeping s.me.0 t.me.0 c first k taken) (walked : Walked s.me.0 w c first (k + 1)) where
+module _ (table : TableId) (s t : WorkerSeat) (w : View) (c : Req) (u : Wanted) (first k : ℕ) (taken : List Req) (known : Cancels table t c u) (now : Sweeping s.me.0 t.me.0 c first k taken) (walked : Walked 3 (5 * (k + 1 - first)) s.me.0 w c first (k + 1)) where
   abbrev q : Req
   q = in_ring c.ring k
 

@@ -5,7 +5,7 @@ use Rattle.atomic_table.specs.declared.shared.Seat.{Seat}
 use Rattle.history.specs.declared.req.Req.{Req}
 use Rattle.history.specs.declared.event.Event.{Event}
 use Rattle.history.specs.Chains.{is_timer}
-use Rattle.history.specs.History.{hit, nothing}
+use Rattle.history.specs.History.{hit, nothing, phase, IsReplied}
 use Rattle.history.specs.Pipes.{flow}
 use Rattle.history.specs.Users.{uses_at}
 use Rattle.answers.specs.Answered.{IsPipe}
@@ -29,6 +29,7 @@ use Rattle.steps.specs.Sleepers.{LiesIn}
 use Rattle.history.specs.Legal.{Legal, IsOf}
 use Rattle.claim.specs.declared.tag.Tag.TheVariants.{Ready}
 use Rattle.work.specs.declared.lists.Lists.{Lists}
+use Rattle.work.specs.declared.marks.Marks.{Marks}
 
 -- the table that a pass is of, what it knows, and, of a worker, which requests its last run took, in the order of their numbers, and which it took along from the pipes that it gave back
 pub record Pass : Type 0 where
@@ -57,6 +58,17 @@ pub record IsIdleSeat (s : Seat (Option Thing) View) : Type 0 where
   pub role : s.me.0.role ≡ Idle
   pub parts : 0 < s.me.0.parts
   pub bare : s.me.1 ≡ []
+
+-- each request of the ring before this number has replied
+abbrev pub ArePast : List Line → ℕ → ℕ → Type 0
+ArePast j ring n = (k : ℕ) → k < n → IsReplied (phase (events_of j) (record { ring = ring; k = k }))
+
+abbrev pub mark_of : Marks → ℕ → ℕ
+mark_of m ring = slice_index m.numbers.items ring
+
+-- each request of a ring before the ring's mark has replied
+abbrev pub AreMarked : Marks → List Line → Type 0
+AreMarked m j = (ring : ℕ) → ArePast j ring (mark_of m ring)
 
 -- there is room for all cells of a ring but one, whichever ring it is
 abbrev pub HasRoom : List ℕ → ℕ → Type 0
@@ -128,6 +140,7 @@ pub record IsBusySeat (table : TableId) (K : List ℕ) (s : Seat (Option Thing) 
   pub runs : RunsIt table s.me.0 x g r p pipes
   pub unhit : hit (events_of s.me.0.seen) r ≡ nothing
   pub spare : HasRooms K lists
+  pub marked : AreMarked lists.marks s.me.0.seen
   pub out : s.me.1 ≡ (slot_at x, None) ∷ []
   pub bare : (n : ℕ) → holder s.me.0.seen n ≢ Some r
 
@@ -142,6 +155,7 @@ pub record IsHoldingSeat (table : TableId) (K : List ℕ) (s : Seat (Option Thin
   pub runs : RunsIt table s.me.0 x g r p pipes
   pub unhit : hit (events_of s.me.0.seen) r ≡ nothing
   pub spare : HasRooms K lists
+  pub marked : AreMarked lists.marks s.me.0.seen
   pub out : s.me.1 ≡ (n, None) ∷ (slot_at x, None) ∷ []
   pub alone : HasAlone s.me.0.seen n r
   pub named : (uses_at p.sqe.op n ≡ true) × (n < pipes)
@@ -162,6 +176,7 @@ pub record IsJoiningSeat (table : TableId) (K : List ℕ) (s : Seat (Option Thin
   pub runs : RunsIt table s.me.0 x g r p pipes
   pub unhit : hit (events_of s.me.0.seen) r ≡ nothing
   pub spare : HasRooms K lists
+  pub marked : AreMarked lists.marks s.me.0.seen
   pub out : s.me.1 ≡ (b, None) ∷ (a, None) ∷ (slot_at x, None) ∷ []
   pub both : HasBoth s.me.0.seen a b r
   pub named : UsesBoth p.sqe.op pipes a b

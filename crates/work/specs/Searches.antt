@@ -21,6 +21,7 @@ use Rattle.steps.specs.Cells.{setup_of, cells_in, claim_at, facts_at, user_at, r
 use Rattle.steps.specs.Fairness.{Orderly}
 use Rattle.steps.specs.Journal.{events_of}
 use Rattle.steps.specs.Rule.{Extends, Fits, Looks}
+use Rattle.work.specs.Passes.{ArePast}
 use Rattle.work.specs.declared.cancel.Wanted.{Wanted}
 use Rattle.work.specs.declared.cancel.Target.{Target}
 use Rattle.work.specs.declared.cancel.Searched.{Searched}
@@ -65,6 +66,13 @@ pub record IsEarlier (table : TableId) (s : WorkerSeat) (c : Req) (t : Target) :
 -- the matches of c before this number have replied
 abbrev pub ArePassed : View → Req → ℕ → Type 0
 ArePassed v c k = (t : Req) → Matches (events_of v.seen) c t → t.k < k → IsReplied (phase (events_of v.seen) t)
+
+-- the search of c may begin at this number: each request of the ring before it has replied, and of those from there on each has a cell of its own
+pub record IsFirst (K : List ℕ) (v : View) (c : Req) (first : ℕ) : Type 0 where
+  pub low : first ≤ c.k
+  pub near : c.k < first + cells_in K c.ring
+  pub few : c.k < first + 1024
+  pub past : ArePast v.seen c.ring first
 
 -- by what the worker of c has seen it may end q or find it running, where q is a match without a reply: a cancel of one target has done nothing yet, and all matches before q have replied; one of all hasn't found q running
 abbrev pub MayAim : Bool → View → Req → Req → Type 0
@@ -124,4 +132,12 @@ pub record FewSteps (v w : View) (n all : ℕ) : Type 0 where
   pub steps : List Step
   pub is : w.steps ≡ steps ++ v.steps
   pub few : (x : ℕ) → steps_at (claim_at x) steps ≤ n
+  pub most : length steps ≤ all
+
+-- at most n steps at each claim word, fewer at that of the cell of c, and at most so many in all
+pub record FewerSteps (v w : View) (c : Req) (n all : ℕ) : Type 0 where
+  pub steps : List Step
+  pub is : w.steps ≡ steps ++ v.steps
+  pub few : (x : ℕ) → steps_at (claim_at x) steps ≤ n
+  pub own : (x g : ℕ) → request_at v.layout.cells x g ≡ c → steps_at (claim_at x) steps < n
   pub most : length steps ≤ all

@@ -126,7 +126,7 @@ impl<'a> Busy<'a> {
             req: _,
             parcel,
             pipes,
-            lists,
+            mut lists,
         } = self;
         let res = answer_without(op_placed(&parcel.sqe), pipes as u64);
         let fails = fails_placed(&parcel.sqe, res);
@@ -136,7 +136,8 @@ impl<'a> Busy<'a> {
         };
         put_back(words, &mut seat, cell, parcel);
         seat::reply(words, &mut seat, cell, generation, fails, res);
-        (Worker::new(seat, lists), cqe)
+        lists.clear();
+        (Worker::after(seat, lists), cqe)
     }
 
     /// Takes a pipe that the entry is answered from, or comes back where another worker has it.
@@ -211,7 +212,7 @@ impl<'a> Busy<'a> {
             mut lists,
         } = self;
         lists.clear();
-        let res = hunt(words, &mut seat, grid, req, wanted, &mut lists.took);
+        let res = hunt(words, &mut seat, grid, req, wanted, &mut lists);
         let fails = fails_placed(&parcel.sqe, res);
         let cqe = Cqe {
             user_data: parcel.sqe.user_data(),

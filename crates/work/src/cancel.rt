@@ -13,7 +13,7 @@ ghost use Rattle.steps.specs.Plays.{IsIdleWord};
 ghost use Rattle.steps.specs.Rule.{IsSameSeat, Looks, Shown};
 ghost use Rattle.work.specs.declared.cancel.Wanted.{Wanted as WantedOf};
 ghost use Rattle.work.specs.Passes.{IsGridOf};
-ghost use Rattle.work.specs.Searches.{Cancels, DidSearch, DidTake, DidTry, FewSteps, IsEarlier, IsMeant, MayAim, StepsIn, is_kind, target_in, wanted_in};
+ghost use Rattle.work.specs.Searches.{Cancels, DidSearch, DidTake, DidTry, FewSteps, IsEarlier, IsFirst, IsMeant, MayAim, StepsIn, is_kind, target_in, wanted_in};
 
 use crate::grid::Grid;
 use claim::unpack_facts;
@@ -96,12 +96,12 @@ fn may_match(words: &Words, seat: &mut TableSeat, target: Target, wanted: Wanted
     ensures meant { result ≡ true → (c : Request) → Cancels words.now.table_id seat.old c wanted → IsMeant seat.new.me.0 c (target_in seat.old target) }
     ensures steps { StepsIn seat.old.me.0 seat.new.me.0 target.cell 0 2 }
 {
-    let facts = unpack_facts(seat::look_at_note(words, seat, target.cell, 0));
-    if facts.generation != target.generation {
+    let user_data = seat::look_at_note(words, seat, target.cell, 1);
+    if user_data != wanted.user_data {
         return false;
     }
-    let user_data = seat::look_at_note(words, seat, target.cell, 1);
-    is_kind(facts.row, wanted.timeout) && user_data == wanted.user_data
+    let facts = unpack_facts(seat::look_at_note(words, seat, target.cell, 0));
+    facts.generation == target.generation && is_kind(facts.row, wanted.timeout)
 }
 
 /// Ends the request where it still stands as its claim word was found, or finds it running or over. Else gives the word that
@@ -188,23 +188,23 @@ pub(crate) fn earlier(grid: &Grid, req: Req, k: u64) -> Target
     }
 }
 
-/// Goes over the earlier requests of the ring that can still have a cell, in their order, until one of them was ended or found
-/// running.
+/// Goes over the earlier requests of the ring from this one on, in their order, until one of them was ended or found running.
 pub(crate) fn search(
     words: &Words,
     seat: &mut TableSeat,
     grid: &Grid,
     req: Req,
+    first: u64,
     wanted: Wanted,
 ) -> Searched
     requires cancels { Cancels words.now.table_id seat.old req wanted × (wanted.all ≡ false) × (hit (events_of seat.old.me.0.seen) req ≡ nothing) }
     requires grid { IsGridOf words.now.table_id grid.now seat.old.me.0 }
     requires cell { (x : ℕ) × (g : ℕ) × (g < 16777216) × IsCell grid.now x × (request_at grid.now x g ≡ req) }
+    requires first { IsFirst grid.now seat.old.me.0 req first }
     ensures seat { IsSameSeat seat.old seat.new × (seat.new.me.1 ≡ seat.old.me.1) }
     ensures searched { DidSearch seat.old.me.0 seat.new.me.0 req result }
-    ensures steps { FewSteps seat.old.me.0 seat.new.me.0 3 (5 * (cells_in grid.now req.ring - 1)) }
+    ensures steps { FewSteps seat.old.me.0 seat.new.me.0 3 (5 * (req.k - first)) }
 {
-    let first = oldest(grid, req);
     for k in first..req.k {
         let target = earlier(grid, req, k);
         match try_one(words, seat, target, wanted) {

@@ -6,12 +6,14 @@ ghost use Rattle.steps.specs.Cells.{IsCell, cells_in, request_at};
 ghost use Rattle.steps.specs.Journal.{events_of};
 ghost use Rattle.steps.specs.Rule.{IsSameSeat};
 ghost use Rattle.work.specs.declared.cancel.Searched.TheVariants.{Ended};
-ghost use Rattle.work.specs.Passes.{IsGridOf, IsSpare};
-ghost use Rattle.work.specs.Searches.{Cancels, FewSteps};
+ghost use Rattle.work.specs.Passes.{AreMarked, IsGridOf, IsSpare};
+ghost use Rattle.work.specs.Searches.{Cancels, FewSteps, FewerSteps, IsFirst};
 ghost use Rattle.work.specs.WorkerRuns.{DidHunt, Told};
 
+use crate::advance::advance;
 use crate::cancel::{Searched, Wanted, search};
 use crate::grid::Grid;
+use crate::lists::Lists;
 use crate::sweep::{note, sweep};
 use history::Req;
 use steps::{TableSeat, Words};
@@ -39,31 +41,60 @@ fn told(searched: Searched, took: &mut Vec<Req>) -> i32
     }
 }
 
-/// Ends the first request that the cancel is meant for and that has no reply, or all such requests. Gives the cancel's reply, and
-/// notes which it ended.
-pub(crate) fn hunt(
+/// Goes over the earlier requests of the ring from this one on. It ends the first that the cancel is meant for and that has no reply,
+/// or all such requests. Gives the cancel's reply, and notes which it ended.
+fn hunt_from(
     words: &Words,
     seat: &mut TableSeat,
     grid: &Grid,
     req: Req,
+    first: u64,
     wanted: Wanted,
     took: &mut Vec<Req>,
 ) -> i32
     requires cancels { Cancels words.now.table_id seat.old req wanted × (hit (events_of seat.old.me.0.seen) req ≡ nothing) }
     requires grid { IsGridOf words.now.table_id grid.now seat.old.me.0 }
     requires cell { (x : ℕ) × (g : ℕ) × (g < 16777216) × IsCell grid.now x × (request_at grid.now x g ≡ req) }
+    requires first { IsFirst grid.now seat.old.me.0 req first }
     requires spare { IsSpare grid.now took.old.items (vec_capacity took.old) }
     ensures seat { IsSameSeat seat.old seat.new × (seat.new.me.1 ≡ seat.old.me.1) }
     ensures hunted { DidHunt seat.old.me.0 seat.new.me.0 req wanted took.new.items result }
-    ensures steps { FewSteps seat.old.me.0 seat.new.me.0 3 (5 * (cells_in grid.now req.ring - 1)) }
+    ensures steps { FewSteps seat.old.me.0 seat.new.me.0 3 (5 * (req.k - first)) }
     ensures capacity { vec_capacity took.old ≤ vec_capacity took.new }
     ensures few { length took.new.items < cells_in grid.now req.ring }
 {
     if wanted.all {
-        sweep(words, seat, grid, req, wanted, took);
+        sweep(words, seat, grid, req, first, wanted, took);
         took.len() as i32
     } else {
-        let searched = search(words, seat, grid, req, wanted);
+        let searched = search(words, seat, grid, req, first, wanted);
         told(searched, took)
     }
+}
+
+/// Ends the first request that the cancel is meant for and that has no reply, or all such requests. Gives the cancel's reply, and
+/// lists which it ended.
+pub(crate) fn hunt(
+    words: &Words,
+    seat: &mut TableSeat,
+    grid: &Grid,
+    req: Req,
+    wanted: Wanted,
+    lists: &mut Lists,
+) -> i32
+    requires cancels { Cancels words.now.table_id seat.old req wanted × (hit (events_of seat.old.me.0.seen) req ≡ nothing) }
+    requires grid { IsGridOf words.now.table_id grid.now seat.old.me.0 }
+    requires cell { (x : ℕ) × (g : ℕ) × (g < 16777216) × IsCell grid.now x × (request_at grid.now x g ≡ req) }
+    requires spare { IsSpare grid.now lists.old.took.items (vec_capacity lists.old.took) }
+    requires marked { AreMarked lists.old.marks seat.old.me.0.seen }
+    ensures seat { IsSameSeat seat.old seat.new × (seat.new.me.1 ≡ seat.old.me.1) }
+    ensures hunted { DidHunt seat.old.me.0 seat.new.me.0 req wanted lists.new.took.items result }
+    ensures marked { AreMarked lists.new.marks seat.new.me.0.seen }
+    ensures steps { FewerSteps seat.old.me.0 seat.new.me.0 req 4 (5 * cells_in grid.now req.ring - 1) }
+    ensures capacity { vec_capacity lists.old.took ≤ vec_capacity lists.new.took }
+    ensures few { length lists.new.took.items < cells_in grid.now req.ring }
+    ensures others { (lists.new.source ≡ lists.old.source) × (lists.new.woken ≡ lists.old.woken) }
+{
+    let first = advance(words, seat, grid, req, &mut lists.marks);
+    hunt_from(words, seat, grid, req, first, wanted, &mut lists.took)
 }

@@ -1,6 +1,7 @@
 //! What a worker does with a request: it begins it, and answers it or puts it back.
 #![tactic(auto)]
 
+mod advance;
 pub mod busy;
 mod cancel;
 pub mod grid;
@@ -8,6 +9,7 @@ mod holding;
 mod hunt;
 mod joining;
 pub mod lists;
+mod marks;
 pub mod pass;
 mod placed;
 pub mod run;

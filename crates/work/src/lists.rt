@@ -4,6 +4,7 @@ ghost use Rattle.steps.specs.Cells.{cells_in, total};
 ghost use Rattle.steps.specs.Sleepers.{LiesIn};
 ghost use Rattle.work.specs.Passes.{HasRooms, IsLaidOnce, Settled, woken_of};
 
+use crate::marks::Marks;
 use history::Req;
 use std::alloc::{AllocError, Global};
 use std::mem::swap;
@@ -18,6 +19,7 @@ pub struct Lists {
     pub(crate) source: Vec<Req>,
     /// From its target, or from the one pipe of another request.
     pub(crate) woken: Vec<Req>,
+    pub(crate) marks: Marks,
 }
 
 impl Lists {
@@ -28,17 +30,19 @@ impl Lists {
         let took = Vec::with_capacity(alloc, others)?;
         let source = Vec::with_capacity(alloc, cells)?;
         let woken = Vec::with_capacity(alloc, cells)?;
+        let marks = Marks::new(alloc)?;
         Ok(Self {
             took,
             source,
             woken,
+            marks,
         })
     }
 
     /// Empties the lists of those that were taken along.
     pub(crate) fn rest(&mut self)
         ensures emptied { (self.new.source.items ≡ []) × (self.new.woken.items ≡ []) }
-        ensures took { self.new.took ≡ self.old.took }
+        ensures same { (self.new.took ≡ self.old.took) × (self.new.marks ≡ self.old.marks) }
         ensures rooms { (K : List ℕ) → HasRooms K self.old → HasRooms K self.new }
     {
         self.source.clear();
@@ -48,6 +52,7 @@ impl Lists {
     /// Empties them all.
     pub(crate) fn clear(&mut self)
         ensures emptied { (self.new.took.items ≡ []) × (woken_of self.new ≡ []) }
+        ensures marks { self.new.marks ≡ self.old.marks }
         ensures rooms { (K : List ℕ) → HasRooms K self.old → HasRooms K self.new }
     {
         self.rest();

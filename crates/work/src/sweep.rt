@@ -5,10 +5,10 @@ ghost use Rattle.steps.specs.Cells.{IsCell, cells_in, request_at};
 ghost use Rattle.steps.specs.Journal.{events_of};
 ghost use Rattle.steps.specs.Rule.{IsSameSeat};
 ghost use Rattle.work.specs.Passes.{IsGridOf, IsSpare};
-ghost use Rattle.work.specs.Searches.{Cancels, FewSteps};
+ghost use Rattle.work.specs.Searches.{Cancels, FewSteps, IsFirst};
 ghost use Rattle.work.specs.WorkerRuns.{DidSweep};
 
-use crate::cancel::{Tried, Wanted, earlier, oldest, try_one};
+use crate::cancel::{Tried, Wanted, earlier, try_one};
 use crate::grid::Grid;
 use history::Req;
 use steps::{TableSeat, Words};
@@ -24,27 +24,28 @@ pub(crate) fn note(took: &mut Vec<Req>, req: Req)
     };
 }
 
-/// Goes over the earlier requests of the ring that can still have a cell, in their order, and ends each that the cancel is meant
-/// for and that isn't running. Notes which it ended.
+/// Goes over the earlier requests of the ring from this one on, in their order, and ends each that the cancel is meant for and that
+/// isn't running. Notes which it ended.
 pub(crate) fn sweep(
     words: &Words,
     seat: &mut TableSeat,
     grid: &Grid,
     req: Req,
+    first: u64,
     wanted: Wanted,
     took: &mut Vec<Req>,
 )
     requires cancels { Cancels words.now.table_id seat.old req wanted × (wanted.all ≡ true) × (hit (events_of seat.old.me.0.seen) req ≡ nothing) }
     requires grid { IsGridOf words.now.table_id grid.now seat.old.me.0 }
     requires cell { (x : ℕ) × (g : ℕ) × (g < 16777216) × IsCell grid.now x × (request_at grid.now x g ≡ req) }
+    requires first { IsFirst grid.now seat.old.me.0 req first }
     requires spare { IsSpare grid.now took.old.items (vec_capacity took.old) }
     ensures seat { IsSameSeat seat.old seat.new × (seat.new.me.1 ≡ seat.old.me.1) }
     ensures swept { DidSweep seat.old.me.0 seat.new.me.0 req took.new.items }
-    ensures steps { FewSteps seat.old.me.0 seat.new.me.0 3 (5 * (cells_in grid.now req.ring - 1)) }
+    ensures steps { FewSteps seat.old.me.0 seat.new.me.0 3 (5 * (req.k - first)) }
     ensures capacity { vec_capacity took.old ≤ vec_capacity took.new }
     ensures few { (length took.new.items < cells_in grid.now req.ring) × (length took.new.items < 1024) }
 {
-    let first = oldest(grid, req);
     for k in first..req.k {
         let target = earlier(grid, req, k);
         match try_one(words, seat, target, wanted) {

@@ -27,17 +27,17 @@ pub struct Worker {
 }
 
 impl Model for Worker {
-    ghost use Rattle.work.specs.Passes.{Pass, HasRooms, IsIdleSeat, woken_of};
+    ghost use Rattle.work.specs.Passes.{Pass, AreMarked, HasRooms, IsIdleSeat, woken_of};
 
     ghost Value = { Pass };
 
     ghost view = { λ w. record { table = w.seat.table_id; view = w.seat.me.0; took = w.lists.took.items; woken = woken_of w.lists } };
 
-    ghost invariant = { λ w. IsIdleSeat w.seat × HasRooms w.seat.me.0.layout.cells w.lists };
+    ghost invariant = { λ w. IsIdleSeat w.seat × HasRooms w.seat.me.0.layout.cells w.lists × AreMarked w.lists.marks w.seat.me.0.seen };
 }
 
 impl Worker {
-    ghost use Rattle.work.specs.Passes.{pass_of, HasRooms, IsIdleSeat, woken_of};
+    ghost use Rattle.work.specs.Passes.{pass_of, AreMarked, HasRooms, IsIdleSeat, woken_of};
 
     /// The pass of an idle seat. The lists are emptied.
     pub fn new(seat: TableSeat, mut lists: Lists) -> Worker
@@ -46,6 +46,7 @@ impl Worker {
         ensures { result ≡ pass_of seat }
     {
         lists.clear();
+        lists.marks.reset();
         Self { seat, lists }
     }
 
@@ -53,6 +54,7 @@ impl Worker {
     pub(crate) fn after(seat: TableSeat, lists: Lists) -> Worker
         requires seat { IsIdleSeat seat }
         requires room { HasRooms seat.me.0.layout.cells lists }
+        requires marked { AreMarked lists.marks seat.me.0.seen }
         ensures { result ≡ record (pass_of seat) { took = lists.took.items; woken = woken_of lists } }
     {
         Self { seat, lists }

@@ -5,10 +5,10 @@ use Rattle.steps.specs.Journal.{events_of}
 use Rattle.work.specs.Passes.{pass_of}
 use Rattle.board.specs.PollerRows.{owed}
 use Rattle.board.specs.TimerCalls.{armed_by}
-use Rattle.board.proofs.RowLaws.{few_wait, few_added, owed_bound, submits_goes}
+use Rattle.board.proofs.RowLaws.{knows_goes, few_wait, few_added, owed_bound, submits_goes}
 use Rattle.board.proofs.TimersHeld.{clock_watched}
 use Rattle.board.proofs.TimerLooks.{arms_lost, arms_after}
-use Rattle.board.proofs.Watching.{still_ours, paid_on, paid_with}
+use Rattle.board.proofs.Watching.{still_ours, paid_on, paid_with, paid_most}
 use Rattle.board.proofs.alarm.arm.Goals as goal
 
 pub returns-else-take_up-clause-arms : goal.returns-else-take_up-clause-arms
@@ -27,3 +27,9 @@ returns-then-take_up-clause-steps c = let b = c.args.board.now in let q = c.args
     let lt = e.has c.if-take_up.true in let few' = few_added b t b.layout.cells q.ring c.take_up.new.row (still_ours b s t e.watched) e.knows in let few = few_added b s b.layout.cells q.ring row r.ours r.knows in
     let most : old ≤ 4 * z = owed_bound row q.k z (few_wait b.layout.cells s.me.0.seen q.ring row r.knows) (omega arith) (omega arith) in
     paid_on s.me.0 t.me.0 u.me.0 (4 * z + 5) (3 * w + 4) 0 (paid_with s.me.0 t.me.0 (old + 1) (3 * w) (4 * z + 5) (3 * w + 4) (e.steps c.if-take_up.true) 4 (omega arith) (omega arith)) f.steps
+
+pub returns-then-req-plain-clause-knows : goal.returns-then-req-plain-clause-knows
+returns-then-req-plain-clause-knows c = let b = c.args.board.now in let q = c.args.req in knows_goes b (pass_of c.args.seat.now) (pass_of c.arm_plain.new.seat) (armed_by c.arm_plain.result q) c.arm_plain.ensures.arms.goes b.layout.cells q.ring c.args.row.now c.requires.knows
+
+pub returns-then-req-plain-clause-steps : goal.returns-then-req-plain-clause-steps
+returns-then-req-plain-clause-steps c = let u = c.arm_plain.new.seat in let z : ℕ = submits (events_of u.me.0.seen) c.args.req.ring in paid_most c.args.seat.now.me.0 u.me.0 4 (4 * z + 5) c.arm_plain.ensures.steps (omega arith)

@@ -19,5 +19,5 @@ pub loop-ring-preserved : goal.loop-ring-preserved
 loop-ring-preserved c =
     let i = c.loop-ring.invariant in let K : List ℕ = c.args.grid.now in let rows : List Kept = c.loop-ring.rows.items in let row : Kept = c.in-Ok.row in let e = c.in-Ok.ensures in let p : c.push.new.self.items ≡ rows ++ row ∷ [] = c.in_ok-push.ensures.items in record {
       count = ap (λ (l : List Kept). length l) p ∙ (length-append rows (row ∷ []) ∙ ap (λ (n : ℕ). n + 1) i.count);
-      each = rows_more K rows c.push.new.self.items row i.each (subst (λ (n : ℕ). KnowsRow K [] n row) (sym i.count) (new_row K c.loop-ring.ring row (e.size ∙ c.cells_in.ensures) e.empty)) p;
+      each = rows_more K rows c.push.new.self.items row i.each (subst (λ (n : ℕ). KnowsRow K [] n row) (sym i.count) (new_row K c.loop-ring.ring row (e.size ∙ c.cells_in.ensures) e.empty e.plain)) p;
     }

@@ -6,9 +6,6 @@ use Rattle.board.proofs.RowLaws.{knows_on, watches_held}
 use Rattle.board.proofs.Watching.{watched_then, decides_after, paid_with, paid_on}
 use Rattle.board.proofs.trail.follow.Goals as goal
 
-pub returns-then-req-count-clause-watches : goal.returns-then-req-count-clause-watches
-returns-then-req-count-clause-watches c = λ _. watches_held c.args.board.now.layout.cells c.args.seat.now.me.0.seen c.args.req c.args.row.now c.requires.waits (let lt = c.if-req-count.true in let n = c.count.ensures in omega arith) c.requires.knows
-
 pub returns-clause-watched : goal.returns-clause-watched
 returns-clause-watched c = watched_then c.args.board.now c.args.seat.now c.take_in.new.seat c.is_held.new.seat c.take_in.ensures.watched c.is_held.ensures.watched
 

@@ -2,14 +2,14 @@ use Rattle.std.proofs.Common.{◌≡◌, ◌≤◌, ◌*◌, ◌+◌, ℕ, ap, a
 use Rattle.gates.specs.EntryRows.{waiting}
 use Rattle.board.specs.declared.trail.Gating.{Gating}
 use Rattle.board.specs.declared.trail.Gating.TheVariants.{Severed as NowSevered, Open as NowOpen, Linked as NowLinked, Shut as NowShut, Lost as NowLost}
-use Rattle.board.specs.PollerRows.{Paid, owed_back, looks_of, costs_of}
+use Rattle.board.specs.PollerRows.{Paid, owed_back, looks_of, spared_by, costs_of}
 use Rattle.board.proofs.Watching.{born_on, watched_then, gated_found, unended_before, unended_after, paid_on, paid_with}
 use Rattle.board.proofs.trail.gate.Goals as goal
 
 pub advance-requires-clause-born : goal.advance-requires-clause-born
 advance-requires-clause-born c = born_on c.args.board.now c.args.seat.now c.loop-gating.seat c.args.req.ring c.args.req.k c.loop-gating.invariant.watched c.requires.born
 
-costs_bound : (x : Gating) → costs_of x ≤ looks_of x + 2
+costs_bound : (x : Gating) → costs_of x + spared_by x ≤ looks_of x + 2
 costs_bound NowShut = omega arith
 costs_bound NowSevered = omega arith
 costs_bound NowOpen = omega arith
@@ -20,8 +20,8 @@ pub returns-in-Decided : goal.returns-in-Decided
 returns-in-Decided c =
     let b = c.args.board.now in let q = c.args.req in let i = c.loop-gating.invariant in let e = c.in-Decided.ensures in let s = c.args.seat.now in let m = c.loop-gating.seat in let t = c.advance.new.seat in let x = c.in-Decided.gating in
     let w : ℕ = waiting c.args.row.now in let p = i.paid in let few = p.2 in let bound = costs_bound x in let more = e.2 in
-    let less : Paid s.me.0 m.me.0 (costs_of x) (3 * w + looks_of x) = (p.0, p.1, omega (arith, few, bound, more)) in
-    (gated_found b q s m t _ _ _ _ c.advance.new.row c.loop-gating.looked x (born_on b s m q.ring q.k i.watched c.requires.born) i.watched i.paid e.1 i.looked e.0, paid_on s.me.0 m.me.0 t.me.0 (3 * w + looks_of x) (costs_of x) 0 less e.1)
+    let less : Paid s.me.0 m.me.0 (costs_of x + spared_by x) (3 * w + looks_of x) = (p.0, p.1, omega (arith, few, bound, more)) in
+    (gated_found b q s m t _ _ _ _ c.advance.new.row c.loop-gating.looked x (born_on b s m q.ring q.k i.watched c.requires.born) i.watched i.paid e.1 i.looked e.0, paid_on s.me.0 m.me.0 t.me.0 (3 * w + looks_of x) (costs_of x + spared_by x) (spared_by x) less (paid_with m.me.0 t.me.0 (costs_of x) 0 (costs_of x + spared_by x) (spared_by x) e.1 (spared_by x) (omega arith) (omega arith)))
 
 pub loop-gating-preserved-in-Passed : goal.loop-gating-preserved-in-Passed
 loop-gating-preserved-in-Passed c =

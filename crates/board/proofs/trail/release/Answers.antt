@@ -1,57 +1,101 @@
 use Rattle.std.proofs.Common.{ℕ, ◌+◌, ◌*◌, ◌<◌, ◌≤◌, [], arith}
-use Rattle.gates.specs.EntryRows.{waiting}
+use Rattle.gates.specs.EntryRows.{added, waiting}
 use Rattle.history.specs.History.{submits}
 use Rattle.steps.specs.Journal.{events_of}
 use Rattle.work.specs.Passes.{pass_of}
-use Rattle.board.specs.declared.poller.Released.TheVariants.{NotHeld}
 use Rattle.board.specs.PollerRows.{owed, severed_by}
-use Rattle.board.proofs.RowLaws.{knows_on, few_wait, few_added, owed_bound, numbered_at, held_born, submits_goes}
-use Rattle.board.proofs.Watching.{still_ours, born_on, decides_after, paid_with, paid_on}
+use Rattle.board.proofs.RowLaws.{knows_on, few_wait, few_added, owed_bound, numbered_at, held_born, watches_held, submits_goes}
+use Rattle.board.proofs.Watching.{still_ours, decides_after, paid_most, paid_add}
 use Rattle.board.proofs.trail.release.Goals as goal
 
 pub returns-then-not-is_held-clause-knows : goal.returns-then-not-is_held-clause-knows
 returns-then-not-is_held-clause-knows c = knows_on c.args.board.now c.args.seat.now c.is_held.new.seat c.is_held.ensures.watched c.args.board.now.layout.cells c.args.req.ring c.args.row.now c.requires.knows
 
-pub follow-requires-clause-numbered : goal.follow-requires-clause-numbered
-follow-requires-clause-numbered c = numbered_at c.args.board.now.layout.cells c.args.spot.cell c.args.spot.generation c.args.req c.requires.at (c.is_held.ensures.held c.if-not-is_held.false).1
-
-pub follow-requires-clause-born : goal.follow-requires-clause-born
-follow-requires-clause-born c = let e = c.is_held.ensures in held_born c.args.board.now c.is_held.new.seat c.args.req (still_ours c.args.board.now c.args.seat.now c.is_held.new.seat e.watched) (e.held c.if-not-is_held.false).0
-
-pub follow-requires-clause-knows : goal.follow-requires-clause-knows
-follow-requires-clause-knows c = knows_on c.args.board.now c.args.seat.now c.is_held.new.seat c.is_held.ensures.watched c.args.board.now.layout.cells c.args.req.ring c.args.row.now c.requires.knows
-
-pub returns-then-not-follow-clause-decides : goal.returns-then-not-follow-clause-decides
-returns-then-not-follow-clause-decides c = let e = c.is_held.ensures in decides_after c.args.board.now c.args.req c.args.seat.now c.is_held.new.seat c.follow.new.seat 0 1 NotHeld e.watched e.steps (c.follow.ensures.lost c.if-not-follow.true)
-
-pub returns-then-not-follow-clause-steps : goal.returns-then-not-follow-clause-steps
-returns-then-not-follow-clause-steps c =
-    let b = c.args.board.now in let s = c.args.seat.now in let t = c.is_held.new.seat in let u = c.follow.new.seat in let row = c.args.row.now in let q = c.args.req in let e = c.is_held.ensures in let f = c.follow.ensures in
-    let n : ℕ = submits (events_of s.me.0.seen) q.ring in let m : ℕ = submits (events_of t.me.0.seen) q.ring in let z : ℕ = submits (events_of u.me.0.seen) q.ring in let old : ℕ = owed row (q.k + 1) in let w : ℕ = waiting c.follow.new.row in
-    let g : n ≤ m = submits_goes b (pass_of s) (pass_of t) [] q.ring e.watched.goes in let h : m ≤ z = submits_goes b (pass_of t) (pass_of u) [] q.ring f.watched.goes in
-    let born : q.k < m = held_born b t q (still_ours b s t e.watched) (e.held c.if-not-is_held.false).0 in let few = few_added b s b.layout.cells q.ring row c.requires.ours c.requires.knows in
-    let most : old ≤ 4 * z = owed_bound row q.k z (few_wait b.layout.cells s.me.0.seen q.ring row c.requires.knows) (omega arith) (omega arith) in
-    paid_on s.me.0 t.me.0 u.me.0 (4 * z + 4) (4 * z + 3) 0 (paid_with s.me.0 t.me.0 1 0 (4 * z + 4) (4 * z + 3) e.steps (4 * z + 3) (omega arith) (omega arith)) (paid_with t.me.0 u.me.0 (old + 1) (3 * w) (4 * z + 3) 0 f.steps 0 (omega arith) (omega arith))
-
 pub decide-requires-clause-numbered : goal.decide-requires-clause-numbered
-decide-requires-clause-numbered c = numbered_at c.args.board.now.layout.cells c.args.spot.cell c.args.spot.generation c.args.req c.requires.at (c.is_held.ensures.held c.if-not-is_held.false).1
+decide-requires-clause-numbered c =
+    let b = c.args.board.now in let s = c.args.seat.now in let t = c.is_held.new.seat in let q = c.args.req in let row = c.args.row.now in let e = c.is_held.ensures in
+    numbered_at b.layout.cells c.args.spot.cell c.args.spot.generation q c.requires.at (e.held c.if-not-is_held.false).1
 
 pub decide-requires-clause-born : goal.decide-requires-clause-born
-decide-requires-clause-born c = let e = c.is_held.ensures in born_on c.args.board.now c.is_held.new.seat c.follow.new.seat c.args.req.ring c.args.req.k c.follow.ensures.watched (held_born c.args.board.now c.is_held.new.seat c.args.req (still_ours c.args.board.now c.args.seat.now c.is_held.new.seat e.watched) (e.held c.if-not-is_held.false).0)
+decide-requires-clause-born c =
+    let b = c.args.board.now in let s = c.args.seat.now in let t = c.is_held.new.seat in let q = c.args.req in let row = c.args.row.now in let e = c.is_held.ensures in
+    held_born b t q (still_ours b s t e.watched) (e.held c.if-not-is_held.false).0
 
 pub decide-requires-clause-watches : goal.decide-requires-clause-watches
-decide-requires-clause-watches c = c.follow.ensures.watches c.if-not-follow.false
+decide-requires-clause-watches c =
+    let b = c.args.board.now in let s = c.args.seat.now in let t = c.is_held.new.seat in let q = c.args.req in let row = c.args.row.now in let e = c.is_held.ensures in
+    watches_held b.layout.cells t.me.0.seen q row (e.held c.if-not-is_held.false).0 (let lt = c.if-req-count.true in let n = c.count.ensures in omega arith) (knows_on b s t e.watched b.layout.cells q.ring row c.requires.knows)
+
+pub release_by_row-requires-clause-numbered : goal.release_by_row-requires-clause-numbered
+release_by_row-requires-clause-numbered c =
+    let b = c.args.board.now in let s = c.args.seat.now in let t = c.is_held.new.seat in let q = c.args.req in let row = c.args.row.now in let e = c.is_held.ensures in
+    numbered_at b.layout.cells c.args.spot.cell c.args.spot.generation q c.requires.at (e.held c.if-not-is_held.false).1
+
+pub release_by_row-requires-clause-born : goal.release_by_row-requires-clause-born
+release_by_row-requires-clause-born c =
+    let b = c.args.board.now in let s = c.args.seat.now in let t = c.is_held.new.seat in let q = c.args.req in let row = c.args.row.now in let e = c.is_held.ensures in
+    held_born b t q (still_ours b s t e.watched) (e.held c.if-not-is_held.false).0
+
+pub release_by_row-requires-clause-knows : goal.release_by_row-requires-clause-knows
+release_by_row-requires-clause-knows c =
+    let b = c.args.board.now in let s = c.args.seat.now in let t = c.is_held.new.seat in let q = c.args.req in let row = c.args.row.now in let e = c.is_held.ensures in
+    knows_on b s t e.watched b.layout.cells q.ring row c.requires.knows
+
+pub release_next-requires-clause-numbered : goal.release_next-requires-clause-numbered
+release_next-requires-clause-numbered c =
+    let b = c.args.board.now in let s = c.args.seat.now in let t = c.is_held.new.seat in let q = c.args.req in let row = c.args.row.now in let e = c.is_held.ensures in
+    numbered_at b.layout.cells c.args.spot.cell c.args.spot.generation q c.requires.at (e.held c.if-not-is_held.false).1
+
+pub release_next-requires-clause-born : goal.release_next-requires-clause-born
+release_next-requires-clause-born c =
+    let b = c.args.board.now in let s = c.args.seat.now in let t = c.is_held.new.seat in let q = c.args.req in let row = c.args.row.now in let e = c.is_held.ensures in
+    held_born b t q (still_ours b s t e.watched) (e.held c.if-not-is_held.false).0
+
+pub release_next-requires-clause-knows : goal.release_next-requires-clause-knows
+release_next-requires-clause-knows c =
+    let b = c.args.board.now in let s = c.args.seat.now in let t = c.is_held.new.seat in let q = c.args.req in let row = c.args.row.now in let e = c.is_held.ensures in
+    knows_on b s t e.watched b.layout.cells q.ring row c.requires.knows
+
+pub returns-then-req-count-clause-decides : goal.returns-then-req-count-clause-decides
+returns-then-req-count-clause-decides c =
+    let b = c.args.board.now in let s = c.args.seat.now in let t = c.is_held.new.seat in let q = c.args.req in let row = c.args.row.now in let e = c.is_held.ensures in
+    decides_after b q s t c.decide.new.seat 0 1 c.decide.result e.watched e.steps c.decide.ensures.decides
+
+pub returns-then-req-count-clause-steps : goal.returns-then-req-count-clause-steps
+returns-then-req-count-clause-steps c =
+    let b = c.args.board.now in let s = c.args.seat.now in let t = c.is_held.new.seat in let q = c.args.req in let row = c.args.row.now in let e = c.is_held.ensures in
+    let u = c.decide.new.seat in let d = c.decide.ensures in let w : ℕ = waiting row in let old : ℕ = owed row (q.k + 1) in
+    let n : ℕ = submits (events_of s.me.0.seen) q.ring in let m : ℕ = submits (events_of t.me.0.seen) q.ring in let z : ℕ = submits (events_of u.me.0.seen) q.ring in
+    let g : n ≤ m = submits_goes b (pass_of s) (pass_of t) [] q.ring e.watched.goes in let h : m ≤ z = submits_goes b (pass_of t) (pass_of u) (severed_by c.decide.result q) q.ring d.decides.goes in
+    let few : added row ≤ n = few_added b s b.layout.cells q.ring row c.requires.ours c.requires.knows in let some : w ≤ added row = few_wait b.layout.cells s.me.0.seen q.ring row c.requires.knows in
+    paid_most s.me.0 u.me.0 (1 + (3 * w + 1)) (4 * z + 4) (paid_add s.me.0 t.me.0 u.me.0 1 (3 * w + 1) e.steps d.steps) (omega arith)
+
+pub returns-then-plain-req-clause-decides : goal.returns-then-plain-req-clause-decides
+returns-then-plain-req-clause-decides c =
+    let b = c.args.board.now in let s = c.args.seat.now in let t = c.is_held.new.seat in let q = c.args.req in let row = c.args.row.now in let e = c.is_held.ensures in
+    decides_after b q s t c.release_by_row.new.seat 0 1 c.release_by_row.result e.watched e.steps c.release_by_row.ensures.decides
+
+pub returns-then-plain-req-clause-steps : goal.returns-then-plain-req-clause-steps
+returns-then-plain-req-clause-steps c =
+    let b = c.args.board.now in let s = c.args.seat.now in let t = c.is_held.new.seat in let q = c.args.req in let row = c.args.row.now in let e = c.is_held.ensures in
+    let u = c.release_by_row.new.seat in let d = c.release_by_row.ensures in let w : ℕ = waiting row in let old : ℕ = owed row (q.k + 1) in
+    let n : ℕ = submits (events_of s.me.0.seen) q.ring in let m : ℕ = submits (events_of t.me.0.seen) q.ring in let z : ℕ = submits (events_of u.me.0.seen) q.ring in
+    let g : n ≤ m = submits_goes b (pass_of s) (pass_of t) [] q.ring e.watched.goes in let h : m ≤ z = submits_goes b (pass_of t) (pass_of u) (severed_by c.release_by_row.result q) q.ring d.decides.goes in
+    let few : added row ≤ n = few_added b s b.layout.cells q.ring row c.requires.ours c.requires.knows in let some : w ≤ added row = few_wait b.layout.cells s.me.0.seen q.ring row c.requires.knows in
+    let born : q.k < m = held_born b t q (still_ours b s t e.watched) (e.held c.if-not-is_held.false).0 in let most : old ≤ 4 * z = owed_bound row q.k z some (omega arith) (omega arith) in
+    paid_most s.me.0 u.me.0 (1 + (old + 2)) (4 * z + 4) (paid_add s.me.0 t.me.0 u.me.0 1 (old + 2) e.steps d.steps) (omega arith)
 
 pub returns-clause-decides : goal.returns-clause-decides
-returns-clause-decides c = let e = c.is_held.ensures in let f = c.follow.ensures in
-    decides_after c.args.board.now c.args.req c.args.seat.now c.is_held.new.seat c.decide.new.seat 0 1 c.decide.result e.watched e.steps (decides_after c.args.board.now c.args.req c.is_held.new.seat c.follow.new.seat c.decide.new.seat _ _ c.decide.result f.watched f.steps c.decide.ensures.decides)
+returns-clause-decides c =
+    let b = c.args.board.now in let s = c.args.seat.now in let t = c.is_held.new.seat in let q = c.args.req in let row = c.args.row.now in let e = c.is_held.ensures in
+    decides_after b q s t c.release_next.new.seat 0 1 c.release_next.result e.watched e.steps c.release_next.ensures.decides
 
 pub returns-clause-steps : goal.returns-clause-steps
 returns-clause-steps c =
-    let b = c.args.board.now in let s = c.args.seat.now in let t = c.is_held.new.seat in let u = c.follow.new.seat in let v = c.decide.new.seat in let row = c.args.row.now in let q = c.args.req in let e = c.is_held.ensures in let f = c.follow.ensures in let d = c.decide.ensures in
-    let n : ℕ = submits (events_of s.me.0.seen) q.ring in let m : ℕ = submits (events_of t.me.0.seen) q.ring in let l : ℕ = submits (events_of u.me.0.seen) q.ring in let z : ℕ = submits (events_of v.me.0.seen) q.ring in let old : ℕ = owed row (q.k + 1) in let w : ℕ = waiting c.follow.new.row in
-    let g : n ≤ m = submits_goes b (pass_of s) (pass_of t) [] q.ring e.watched.goes in let h : m ≤ l = submits_goes b (pass_of t) (pass_of u) [] q.ring f.watched.goes in let i : l ≤ z = submits_goes b (pass_of u) (pass_of v) (severed_by c.decide.result q) q.ring d.decides.goes in
-    let born : q.k < m = held_born b t q (still_ours b s t e.watched) (e.held c.if-not-is_held.false).0 in let few = few_added b s b.layout.cells q.ring row c.requires.ours c.requires.knows in
-    let most : old ≤ 4 * z = owed_bound row q.k z (few_wait b.layout.cells s.me.0.seen q.ring row c.requires.knows) (omega arith) (omega arith) in
-    paid_on s.me.0 t.me.0 v.me.0 (4 * z + 4) (4 * z + 3) 0 (paid_with s.me.0 t.me.0 1 0 (4 * z + 4) (4 * z + 3) e.steps (4 * z + 3) (omega arith) (omega arith))
-    (paid_on t.me.0 u.me.0 v.me.0 (4 * z + 3) (3 * w + 2) 0 (paid_with t.me.0 u.me.0 (old + 1) (3 * w) (4 * z + 3) (3 * w + 2) f.steps 2 (omega arith) (omega arith)) d.steps)
+    let b = c.args.board.now in let s = c.args.seat.now in let t = c.is_held.new.seat in let q = c.args.req in let row = c.args.row.now in let e = c.is_held.ensures in
+    let u = c.release_next.new.seat in let d = c.release_next.ensures in let w : ℕ = waiting row in let old : ℕ = owed row (q.k + 1) in
+    let n : ℕ = submits (events_of s.me.0.seen) q.ring in let m : ℕ = submits (events_of t.me.0.seen) q.ring in let z : ℕ = submits (events_of u.me.0.seen) q.ring in
+    let g : n ≤ m = submits_goes b (pass_of s) (pass_of t) [] q.ring e.watched.goes in let h : m ≤ z = submits_goes b (pass_of t) (pass_of u) (severed_by c.release_next.result q) q.ring d.decides.goes in
+    let few : added row ≤ n = few_added b s b.layout.cells q.ring row c.requires.ours c.requires.knows in let some : w ≤ added row = few_wait b.layout.cells s.me.0.seen q.ring row c.requires.knows in
+    let born : q.k < m = held_born b t q (still_ours b s t e.watched) (e.held c.if-not-is_held.false).0 in let most : old ≤ 4 * z = owed_bound row q.k z some (omega arith) (omega arith) in
+    paid_most s.me.0 u.me.0 (1 + (old + 3)) (4 * z + 4) (paid_add s.me.0 t.me.0 u.me.0 1 (old + 3) e.steps d.steps) (omega arith)

@@ -17,4 +17,4 @@ returns-in-Some-clause-knows c =
     let cells : 0 < cells_in b.layout.cells i = (let f = c.requires.numbered.few in omega arith) in
     let le = c.requires.lacks in let born = c.requires.born in
     let done : IsChainDone h (nth i p) = way_done b s i n p c.requires.ours cells (omega arith) (subst (λ (z : ℕ). z ≤ n) k.size t.0) (subst (λ (z : ℕ). IsOfChain h (nth i p) (nth i (n - z))) k.size t.1) in
-    knows_replied b.layout.cells s.me.0.seen i p row c.replied.new.self false k (λ xs st. c.in_the_way.ensures.named xs st p c.in-Some.is) (chain_outcome h (nth i p) done) c.replied.ensures.replied c.replied.ensures.size
+    knows_replied b.layout.cells s.me.0.seen i p row c.replied.new.self false k (λ xs st. c.in_the_way.ensures.named xs st p c.in-Some.is) (chain_outcome h (nth i p) done) c.replied.ensures.replied c.replied.ensures.size c.replied.ensures.plain

@@ -1,4 +1,4 @@
-use Rattle.std.proofs.Common.{subst}
+use Rattle.std.proofs.Common.{subst, ap, length}
 use Rattle.work.specs.declared.run.Ran.{Ran}
 use Rattle.work.specs.WorkerRuns.{IsRun}
 use Rattle.ring_c.proofs.hand.work.Goals as goal
@@ -8,4 +8,4 @@ returns-in-Err-clause-works c = let e = c.in-Err.ensures in record { looked = e.
 
 pub returns-in-Replied-clause-works : goal.returns-in-Replied-clause-works
 returns-in-Replied-clause-works c = let b = c.in-Ok.ensures.begun in
-    record { busy = c.in-Ok.busy; req_is = b.0; own = b.1; begun = b.2; run = subst (λ (x : Ran). IsRun c.in-Ok.busy c.run-worker.result.0 x) c.in-Replied.is c.run-worker.ensures.ran }
+    (ap length c.took.ensures, record { busy = c.in-Ok.busy; req_is = b.0; own = b.1; begun = b.2; run = subst (λ (x : Ran). IsRun c.in-Ok.busy c.run-worker.result.0 x) c.in-Replied.is c.run-worker.ensures.ran })

@@ -1,4 +1,4 @@
-use Rattle.std.proofs.Common.{List, Bool, refl, ap, sym, ◌∙◌}
+use Rattle.std.proofs.Common.{List, Bool, refl, ap, sym, ◌∙◌, rules}
 use Rattle.std.proofs.lemmas.Option.{slice_get_read}
 use Rattle.board.specs.declared.completion.Completion.{Completion}
 use Rattle.ring_c.specs.declared.inside.Inside.TheVariants.{Report}
@@ -7,4 +7,4 @@ use Rattle.ring_c.proofs.reports.line_in.Goals as goal
 
 pub returns : goal.returns
 returns c = told_line c.args.index _ c.lines-lines.result.now _ (c.in-Report.is ∙ ap (λ (lines : List (Completion × Bool)). Report lines) (sym c.lines-lines.ensures))
-    (c.index-lines-index.result, slice_get_read _ _ _ _ refl c.if-lines-index.false c.index-lines-index.is, c.line_of.ensures)
+    (c.index-lines-index.result, slice_get_read _ _ _ _ refl c.if-lines-index.false c.index-lines-index.is, search rules)

@@ -3,8 +3,11 @@ use Rattle.ring_c.specs.Turns.{Told, Turned}
 use Rattle.ring_c.proofs.TurnLaws.{turned_looked, turned_still, turned_then}
 use Rattle.ring_c.proofs.turn.take_ring.Goals as goal
 
+pub returns-then-not-is_free : goal.returns-then-not-is_free
+returns-then-not-is_free c = turned_still _ _ _ c.requires.own
+
 pub loop-k-init : goal.loop-k-init
-loop-k-init c = turned_still _ _ _ c.requires.own
+loop-k-init c = c.release.ensures
 
 pub returns-then-eq : goal.returns-then-eq
 returns-then-eq c = turned_looked _ _ _ _ _ _ c.loop-k.invariant c.look-phase.ensures.looks (c.look-phase.ensures.alone _ c.clock-clock.ensures.role)

@@ -2,4 +2,4 @@ use Rattle.ring_c.specs.Turns.{Turned}
 use Rattle.ring_c.proofs.turn.take_ring.Given as goal
 
 abbrev pub invariant-loop-k : goal.invariant-loop-k
-invariant-loop-k l = Turned l.board l.initial.poller l.initial.out l.poller l.out
+invariant-loop-k l = Turned l.board l.fn.poller l.fn.out l.poller l.out

@@ -4,8 +4,5 @@ use Rattle.ring_c.proofs.turn.take_up.Goals as goal
 pub loop-ring-init : goal.loop-ring-init
 loop-ring-init c = turned_still _ _ _ c.requires.own
 
-pub take_ring-requires : goal.take_ring-requires
-take_ring-requires c = record { own = c.take_first-after.ensures.goes.kept }
-
 pub loop-ring-preserved : goal.loop-ring-preserved
-loop-ring-preserved c = turned_then _ _ _ _ _ _ _ (turned_then _ _ _ _ _ _ _ c.loop-ring.invariant c.take_first-after.ensures) c.take_ring.ensures
+loop-ring-preserved c = turned_then _ _ _ _ _ _ _ c.loop-ring.invariant c.take_ring.ensures

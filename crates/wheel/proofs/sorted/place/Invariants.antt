@@ -1,10 +1,10 @@
-use Rattle.std.proofs.Common.{◌≡◌, ℕ, ◌-◌, ◌<◌, ◌≤◌, length, Some}
+use Rattle.std.proofs.Common.{◌≡◌, ◌<◌, ◌≤◌, length, Some}
 use Rattle.std.specs.List.{slice_get}
 use Rattle.wheel.specs.declared.sorted.Timer.{Timer}
 use Rattle.wheel.proofs.sorted.place.Given as goal
 
 abbrev pub invariant-loop-k : goal.invariant-loop-k
-invariant-loop-k l = (l.k ≤ length l.timers) × ((j : ℕ) (t : Timer) → j < l.k → slice_get l.timers j ≡ Some t → t.at ≤ l.at)
+invariant-loop-k l = (l.k ≤ length l.timers) × ((t : Timer) → slice_get l.timers l.k ≡ Some t → l.at < t.at)
 
 abbrev pub decreases-loop-k : goal.decreases-loop-k
-decreases-loop-k l = length l.timers - l.k
+decreases-loop-k l = l.k

@@ -1,34 +1,35 @@
-use Rattle.std.proofs.Common.{rules, ◌≡◌, ℕ, pos, ◌<◌, List, length, sym, ap, ◌∙◌, subst, arith, w32}
-use Rattle.std.proofs.lemmas.Int.{to_z-of_z, to_z_pos}
+use Rattle.std.proofs.Common.{rules, ℕ, ◌+◌, ◌*◌, ◌-◌, ◌<◌, ◌≤◌, sym, ◌∙◌, subst, arith, w32}
+use Rattle.std.proofs.lemmas.Int.{to_z-of_z}
 use Rattle.steps.specs.Cells.{cells_in}
-use Rattle.steps.proofs.CellNumbers.{some_cells}
-use Rattle.work.specs.Searches.{DidSearch}
 use Rattle.work.specs.WorkerRuns.{DidHunt}
-use Rattle.work.proofs.CancelEnds.{hunt_searched, hunt_swept, told_few}
+use Rattle.work.proofs.CancelAdvance.{fewer_both}
+use Rattle.work.proofs.CancelEnds.{hunt_later}
+use Rattle.work.proofs.CancelGrowth.{by_grown, cancels_grown, grown_went, went_hit}
+use Rattle.work.proofs.MarksKept.{marked_grown}
+use Rattle.work.proofs.RunsKept.{grid_on}
 use Rattle.work.proofs.hunt.hunt.Goals as goal
 
-pub sweep-requires-clause-cancels : goal.sweep-requires-clause-cancels
-sweep-requires-clause-cancels c = (c.requires.cancels.0, c.if-wanted.true, c.requires.cancels.1)
+pub advance-first-requires-clause-cancels : goal.advance-first-requires-clause-cancels
+advance-first-requires-clause-cancels c = (c.args.wanted, c.requires.cancels.0)
 
-pub search-searched-requires-clause-cancels : goal.search-searched-requires-clause-cancels
-search-searched-requires-clause-cancels c = (c.requires.cancels.0, c.if-wanted.false, c.requires.cancels.1)
+pub hunt_from-requires-clause-cancels : goal.hunt_from-requires-clause-cancels
+hunt_from-requires-clause-cancels c = let table = c.args.words.now.table_id in let s = c.args.seat.now in let t = c.advance-first.new.seat in let q = c.args.req in let known = c.requires.cancels.0 in let o = c.advance-first.ensures in let grown = grown_went s.me.0 t.me.0 q known.busy known.legal known.orderly o.went in (cancels_grown table s t q c.args.wanted known grown o.seat.0.0, went_hit s.me.0 t.me.0 q known.busy o.went ∙ c.requires.cancels.1)
 
-pub told-requires-clause-room : goal.told-requires-clause-room
-told-requires-clause-room c = λ t is.
-    (let v = c.args.seat.now.me.0 in let w = c.search-searched.new.seat.me.0 in let d = subst (DidSearch v w c.args.req) is c.search-searched.ensures.searched in
-    let two : 1 < cells_in c.args.grid.now c.args.req.ring = subst (λ (K : List ℕ). 1 < cells_in K c.args.req.ring) c.requires.grid.cells_are d.1 in let room = c.requires.spare.1 c.args.req.ring in omega arith)
+pub hunt_from-requires-clause-grid : goal.hunt_from-requires-clause-grid
+hunt_from-requires-clause-grid c = let table = c.args.words.now.table_id in let s = c.args.seat.now in let t = c.advance-first.new.seat in let q = c.args.req in let known = c.requires.cancels.0 in let o = c.advance-first.ensures in let grown = grown_went s.me.0 t.me.0 q known.busy known.legal known.orderly o.went in grid_on table c.args.grid.now s.me.0 t.me.0 grown.layout_is c.requires.grid
 
-pub returns-then-wanted-clause-hunted : goal.returns-then-wanted-clause-hunted
-returns-then-wanted-clause-hunted c = let k = c.requires.cancels in let v = c.args.seat.now.me.0 in let w = c.sweep.new.seat.me.0 in let list = c.sweep.new.took.items in
-    let long : c.len.result ≡ length list = c.len.ensures ∙ c.sweep.new.took.ok.0 in let few : length list < 1024 = c.sweep.ensures.few.1 in let small : c.len.result < 2147483648 = omega arith in
-    subst (DidHunt v w c.args.req c.args.wanted list) (sym (to_z_pos w32 c.len.result small ∙ ap (λ (n : ℕ). pos n) long)) (hunt_swept v w c.args.req c.args.wanted k.0.busy k.1 list c.if-wanted.true c.sweep.ensures.swept)
+pub returns-clause-seat : goal.returns-clause-seat
+returns-clause-seat c = let a = c.advance-first.ensures.seat in let b = c.hunt_from.ensures.seat in ((b.0.0 ∙ a.0.0, b.0.1 ∙ a.0.1), b.1 ∙ a.1)
 
-pub returns-else-wanted-clause-hunted : goal.returns-else-wanted-clause-hunted
-returns-else-wanted-clause-hunted c = let k = c.requires.cancels in let v = c.args.seat.now.me.0 in let w = c.search-searched.new.seat.me.0 in
-    subst (DidHunt v w c.args.req c.args.wanted c.told.new.took.items) (sym (to_z-of_z w32 c.told.result (search rules)))
-    (hunt_searched v w c.args.req c.args.wanted k.0.busy k.1 c.search-searched.result c.told.result c.told.new.took.items c.if-wanted.false c.search-searched.ensures.searched c.told.ensures.told)
+pub returns-clause-hunted : goal.returns-clause-hunted
+returns-clause-hunted c = let v = c.args.seat.now.me.0 in let w = c.hunt_from.new.seat.me.0 in let list = c.hunt_from.new.took.items in
+    subst (DidHunt v w c.args.req c.args.wanted list) (sym (to_z-of_z w32 c.hunt_from.result (search rules)))
+    (hunt_later v c.advance-first.new.seat.me.0 w c.args.req c.args.wanted list c.hunt_from.result c.advance-first.ensures.went c.hunt_from.ensures.hunted)
 
-pub returns-else-wanted-clause-few : goal.returns-else-wanted-clause-few
-returns-else-wanted-clause-few c = let v = c.args.seat.now.me.0 in let q = c.args.req in let r = c.requires in let some = some_cells c.args.grid.now r.cell.0 r.cell.1 q r.cell.3 r.cell.4 in let cells = r.grid.cells_are in
-    subst (λ (K : List ℕ). length c.told.new.took.items < cells_in K q.ring) cells
-    (told_few v c.search-searched.new.seat.me.0 q c.search-searched.result c.told.result c.told.new.took.items (subst (λ (K : List ℕ). 0 < cells_in K q.ring) (sym cells) (let z = some in omega arith)) c.search-searched.ensures.searched c.told.ensures.told)
+pub returns-clause-marked : goal.returns-clause-marked
+returns-clause-marked c = let table = c.args.words.now.table_id in let s = c.args.seat.now in let t = c.advance-first.new.seat in let q = c.args.req in let known = c.requires.cancels.0 in let o = c.advance-first.ensures in let grown = grown_went s.me.0 t.me.0 q known.busy known.legal known.orderly o.went in let w = c.hunt_from.new.seat in let h = c.hunt_from.ensures.hunted in let now = cancels_grown table s t q c.args.wanted known grown o.seat.0.0 in
+    marked_grown c.advance-first.new.marks t.me.0 w.me.0 q (by_grown q t.me.0 w.me.0 h.own now.busy now.legal now.orderly h.went) o.marked
+
+pub returns-clause-steps : goal.returns-clause-steps
+returns-clause-steps c = let q = c.args.req in let first = c.advance-first.result in let o = c.advance-first.ensures in let n : ℕ = cells_in c.args.grid.now q.ring in let near : q.k < first + n = o.first.near in let low : first ≤ q.k = o.first.low in let le : n - (q.k - first) + 5 * (q.k - first) ≤ 5 * n - 1 = omega arith in
+    fewer_both c.args.seat.now.me.0 c.advance-first.new.seat.me.0 c.hunt_from.new.seat.me.0 q 1 3 (n - (q.k - first)) (5 * (q.k - first)) (5 * n - 1) le o.steps c.hunt_from.ensures.steps

@@ -1,36 +1,30 @@
-use Rattle.std.proofs.Common.{◌≡◌, ℕ, ◌+◌, ◌-◌, ◌<◌, ◌≤◌, List, sym, refl, ap, ◌∙◌, subst, arith}
+use Rattle.std.proofs.Common.{◌≡◌, ℕ, ◌+◌, ◌*◌, ◌-◌, ◌<◌, ◌≤◌, sym, refl, ◌∙◌, subst, arith}
 use Rattle.history.specs.declared.req.Req.{Req}
 use Rattle.std.specs.Prelude.{vec_capacity}
 use Rattle.steps.specs.Cells.{cells_in}
-use Rattle.steps.proofs.CellNumbers.{some_cells}
 use Rattle.work.specs.Searches.{DidTry}
-use Rattle.work.proofs.CancelWalk.{cancels_now, earlier_now, in_ring, target_now, walked_next}
+use Rattle.work.proofs.CancelWalk.{cancels_now, earlier_now, few_walked, in_ring, target_now, walked_next}
 use Rattle.work.proofs.CancelSweep.{Sweeping, sweep_aims, sweep_grown, sweeping_first, sweeping_on, sweeping_took, swept}
 use Rattle.work.proofs.sweep.sweep.Goals as goal
 use Rattle.work.proofs.sweep.sweep.Goals.{in-Took, in-Passed}
 
 pub loop-k-init : goal.loop-k-init
-loop-k-init c = let r = c.requires in let K = c.args.grid.now in let s = c.args.seat.now in let q = c.args.req in let some = some_cells K r.cell.0 r.cell.1 q r.cell.3 r.cell.4 in let first = c.oldest-first.result in (
-  (refl, refl),
-  refl,
-  omega arith,
-  subst (Sweeping s.me.0 s.me.0 q first first) (sym r.spare.0) (sweeping_first c.args.words.now.table_id s q c.args.wanted first r.cancels.0 (c.oldest-first.ensures.first ∙ ap (λ (L : List ℕ). q.k - (cells_in L q.ring - 1)) (sym r.grid.cells_are)) (subst (λ (L : List ℕ). 0 < cells_in L q.ring) (sym r.grid.cells_are) (let z = some in omega arith))),
-)
+loop-k-init c = let r = c.requires in let v = c.args.seat.now.me.0 in let first = c.args.first in ((refl, refl), refl, omega arith, subst (Sweeping v v c.args.req first first) (sym r.spare.0) (sweeping_first v c.args.req first r.first.past))
 
 pub try_one-requires : goal.try_one-requires
 try_one-requires c = let table = c.args.words.now.table_id in let K = c.args.grid.now in let s = c.args.seat.now in let t = c.loop-k.seat in let q = c.args.req in let u = c.args.wanted in let k = c.loop-k.k in let x = c.earlier-target.result in let e = c.earlier-target.ensures in let l = c.loop-k.invariant in let r = c.requires in let lt = c.loop-k-test.true in let less : k < q.k = omega arith in
-    let first = c.oldest-first.result in let grown = sweep_grown table s t q u first k c.loop-k.took.items r.cancels.0 l.3 in
+    let first = c.args.first in let grown = sweep_grown table s t q u first k c.loop-k.took.items r.cancels.0 l.3 in
     record { cancels = (q, cancels_now table K s t q u k x r.cancels.0 r.grid grown l.0.0 less e.cell e.at, earlier_now table K s t q u k x r.cancels.0 r.grid grown l.0.0 less e.cell e.at, sweep_aims table s t q u first k c.loop-k.took.items r.cancels.0 l.3 r.cancels.1 r.cancels.2 _ (target_now table K s t q u k x r.cancels.0 r.grid grown l.0.0 less e.cell e.at)) }
 
 pub note-requires : goal.note-requires
 note-requires c = let K = c.args.grid.now in let q = c.args.req in let k = c.loop-k.k in let l = c.loop-k.invariant in let r = c.requires in let lt = c.loop-k-test.true in let less : k < q.k = omega arith in let n : ℕ = cells_in K q.ring in
-    let first : c.oldest-first.result ≡ q.k - (n - 1) = c.oldest-first.ensures.first in let short = l.3.short in let room = r.spare.1 q.ring in let more = l.2 in record { room = omega arith }
+    let near : q.k < c.args.first + n = r.first.near in let short = l.3.short in let room = r.spare.1 q.ring in let more = l.2 in record { room = omega arith }
 
 pub loop-k-preserved : goal.loop-k-preserved
-loop-k-preserved c = let table = c.args.words.now.table_id in let K = c.args.grid.now in let s = c.args.seat.now in let t = c.loop-k.seat in let w = c.try_one.new.seat in let q = c.args.req in let u = c.args.wanted in let k = c.loop-k.k in let x = c.earlier-target.result in let e = c.earlier-target.ensures in let l = c.loop-k.invariant in let r = c.requires in let lt = c.loop-k-test.true in let less : k < q.k = omega arith in let n : ℕ = cells_in K q.ring in
-    let first = c.oldest-first.result in let list = c.loop-k.took.items in let grown = sweep_grown table s t q u first k list r.cancels.0 l.3 in let known = cancels_now table K s t q u k x r.cancels.0 r.grid grown l.0.0 less e.cell e.at in
-    let begins : first ≡ q.k - (n - 1) = c.oldest-first.ensures.first in let near : q.k ≤ first + (n - 1) = omega arith in let some = some_cells K r.cell.0 r.cell.1 q r.cell.3 r.cell.4 in let o = c.try_one.ensures.seat in
-    let walked = walked_next K s.me.0 t.me.0 w.me.0 q first k x.cell x.generation r.grid.cells_are l.3.walked less near (let z = some in omega arith) e.at c.try_one.ensures.steps in
+loop-k-preserved c = let table = c.args.words.now.table_id in let K = c.args.grid.now in let s = c.args.seat.now in let t = c.loop-k.seat in let w = c.try_one.new.seat in let q = c.args.req in let u = c.args.wanted in let k = c.loop-k.k in let x = c.earlier-target.result in let e = c.earlier-target.ensures in let l = c.loop-k.invariant in let r = c.requires in let lt = c.loop-k-test.true in let less : k < q.k = omega arith in
+    let first = c.args.first in let list = c.loop-k.took.items in let grown = sweep_grown table s t q u first k list r.cancels.0 l.3 in let known = cancels_now table K s t q u k x r.cancels.0 r.grid grown l.0.0 less e.cell e.at in
+    let low : first ≤ k = l.3.walked.low in let o = c.try_one.ensures.seat in
+    let walked = walked_next K s.me.0 t.me.0 w.me.0 q 3 (5 * (k - first)) (5 * (k + 1 - first)) first k x.cell x.generation r.grid.cells_are l.3.walked less r.first.near e.at 5 (omega arith) c.try_one.ensures.steps in
     let d = subst (λ (z : Req). DidTry t.me.0 w.me.0 q z c.try_one.result) (target_now table K s t q u k x r.cancels.0 r.grid grown l.0.0 less e.cell e.at) (c.try_one.ensures.tried q known) in
     let next : (vec_capacity c.args.took.now ≤ vec_capacity c.match-try_one.took) × Sweeping s.me.0 w.me.0 q first (k + 1) c.match-try_one.took.items = elim c.match-try_one.branch [
       | in-Took b ↦ subst (λ (v : _). (vec_capacity c.args.took.now ≤ vec_capacity v) × Sweeping s.me.0 w.me.0 q first (k + 1) v.items) (sym b.took-is)
@@ -40,9 +34,13 @@ loop-k-preserved c = let table = c.args.words.now.table_id in let K = c.args.gri
     ((o.0.0 ∙ l.0.0, o.0.1 ∙ l.0.1), o.1 ∙ l.1, next.0, next.1)
 
 pub returns-clause-swept : goal.returns-clause-swept
-returns-clause-swept c = let q = c.args.req in let end : c.loop-k.k ≡ q.k = (let lt = c.loop-k-test.false in let l = c.loop-k.auto.k-end in omega arith) in
-    swept c.args.seat.now.me.0 c.loop-k.seat.me.0 q c.oldest-first.result c.loop-k.took.items (subst (λ (k : ℕ). Sweeping c.args.seat.now.me.0 c.loop-k.seat.me.0 q c.oldest-first.result k c.loop-k.took.items) end c.loop-k.invariant.3)
+returns-clause-swept c = let q = c.args.req in let low = c.requires.first.low in let end : c.loop-k.k ≡ q.k = (let lt = c.loop-k-test.false in let l = c.loop-k.auto.k-end in omega arith) in
+    swept c.args.seat.now.me.0 c.loop-k.seat.me.0 q c.args.first c.loop-k.took.items (subst (λ (k : ℕ). Sweeping c.args.seat.now.me.0 c.loop-k.seat.me.0 q c.args.first k c.loop-k.took.items) end c.loop-k.invariant.3)
+
+pub returns-clause-steps : goal.returns-clause-steps
+returns-clause-steps c = let q = c.args.req in let k = c.loop-k.k in let first = c.args.first in let low : first ≤ q.k = c.requires.first.low in let end : k ≤ q.k = (let l = c.loop-k.auto.k-end in omega arith) in
+    few_walked 3 (5 * (k - first)) (5 * (q.k - first)) c.args.seat.now.me.0 c.loop-k.seat.me.0 q first k (omega arith) c.loop-k.invariant.3.walked
 
 pub returns-clause-few : goal.returns-clause-few
-returns-clause-few c = let q = c.args.req in let r = c.requires in let some = some_cells c.args.grid.now r.cell.0 r.cell.1 q r.cell.3 r.cell.4 in let n : ℕ = cells_in c.args.grid.now q.ring in let lt = c.loop-k-test.false in let l = c.loop-k.auto.k-end in
-    let begins : c.oldest-first.result ≡ q.k - (n - 1) = c.oldest-first.ensures.first in let near = c.oldest-first.ensures.few in let short = c.loop-k.invariant.3.short in (omega arith, omega arith)
+returns-clause-few c = let q = c.args.req in let r = c.requires in let n : ℕ = cells_in c.args.grid.now q.ring in let low : c.args.first ≤ q.k = r.first.low in let end : c.loop-k.k ≤ q.k = (let l = c.loop-k.auto.k-end in omega arith) in
+    let near : q.k < c.args.first + n = r.first.near in let few = r.first.few in let short = c.loop-k.invariant.3.short in (omega arith, omega arith)

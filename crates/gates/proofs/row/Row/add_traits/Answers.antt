@@ -1,9 +1,9 @@
 use Rattle.std.proofs.Common.{◌≡◌, ◌<◌, ◌≤◌, ◌++◌, ◌∷◌, [], None, false, true, refl, sym, ap, ◌∙◌, subst, arith, length, true≢false}
 use Rattle.gates.specs.declared.cell.Cell.{Cell}
-use Rattle.gates.specs.Slots.{first}
+use Rattle.gates.specs.Slots.{starting}
 use Rattle.gates.specs.EntryRows.{Kept, IsSound, IsToldBy, free_by}
 use Rattle.gates.proofs.Adding.{stands_added, stands_moved, told_dropped}
-use Rattle.gates.proofs.Freeing.{free_law, full_law, free_pos, first_done}
+use Rattle.gates.proofs.Freeing.{room_law, free_law, full_law, free_pos, first_done}
 use Rattle.gates.proofs.row.Row.add_traits.Goals as goal
 
 pub returns-then-len-self-clause-added : goal.returns-then-len-self-clause-added
@@ -11,9 +11,15 @@ returns-then-len-self-clause-added c = λ xs stands.
     let r = c.args.self.now in let sound = subst (λ z. IsSound z) c.self.view_is c.self.invariant.0 in
     let v : Cell = record { traits = c.args.traits; last = c.args.last; reply = None; behind = c.told_by_last-behind.result } in
     let told = subst (λ z. IsToldBy z.lost z.cells c.told_by_last-behind.result) c.self.view_is c.told_by_last-behind.ensures.told in
-    let none = subst (λ z. length z.cells ≡ 0 → c.told_by_last-behind.result ≡ first) c.self.view_is c.told_by_last-behind.ensures.first in
+    let none = subst (λ z. length z.cells ≡ 0 → c.told_by_last-behind.result ≡ starting z.lost) c.self.view_is c.told_by_last-behind.ensures.first in
     let lt = subst (λ z. length z.cells < z.size) c.self.view_is (let a : length c.self.inside.cells.items < c.self.inside.size = omega arith in a) in
     stands_added xs r c.append.new.self v sound stands lt told none c.append.ensures.size c.append.ensures.lost c.append.ensures.cells
+
+pub returns-then-len-self-clause-free : goal.returns-then-len-self-clause-free
+returns-then-len-self-clause-free c = λ h i xs stands shows.
+    let r = c.args.self.now in let sound = subst (λ z. IsSound z) c.self.view_is c.self.invariant.0 in
+    let lt = subst (λ z. length z.cells < z.size) c.self.view_is (let a : length c.self.inside.cells.items < c.self.inside.size = omega arith in a) in
+    ((λ _. room_law xs r sound stands lt h i shows), λ _. refl)
 
 pub returns-then-not-is_free-clause-free : goal.returns-then-not-is_free-clause-free
 returns-then-not-is_free-clause-free c = λ h i xs stands shows.
@@ -32,7 +38,7 @@ returns-clause-added c = λ xs stands.
     let r = c.args.self.now in let sound = subst (λ z. IsSound z) c.self.view_is c.self.invariant.0 in
     let v : Cell = record { traits = c.args.traits; last = c.args.last; reply = None; behind = c.told_by_last-behind.result } in
     let told = subst (λ z. IsToldBy z.lost z.cells c.told_by_last-behind.result) c.self.view_is c.told_by_last-behind.ensures.told in
-    let none = subst (λ z. length z.cells ≡ 0 → c.told_by_last-behind.result ≡ first) c.self.view_is c.told_by_last-behind.ensures.first in
+    let none = subst (λ z. length z.cells ≡ 0 → c.told_by_last-behind.result ≡ starting z.lost) c.self.view_is c.told_by_last-behind.ensures.first in
     let le = subst (λ z. z.size ≤ length z.cells) c.self.view_is (let a : c.self.inside.size ≤ length c.self.inside.cells.items = omega arith in a) in
     let e = subst (λ z. free_by z.lost z.cells z.oldest ≡ true) c.self.view_is (sym c.is_free.ensures ∙ c.if-not-is_free.false) in
     let pos = free_pos xs r sound stands le e in

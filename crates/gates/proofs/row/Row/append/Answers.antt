@@ -15,7 +15,7 @@ invariant_of-self c =
     let n = length-map cs slot_of in let w = s.drain.within in
     let moved = λ (le : length cs ≤ c.self.inside.drain) (t : c.args.traits.drains ≡ false). c.drain_after-self-inside.ensures.moved (let e : c.self.inside.drain ≡ length cs = omega (arith, n, w, le) in e) t in
     let few = subst (λ r. added r < 18446744073709551615) (sym c.self.view_is) c.requires.few in (
-      sound_by c.self.inside.size c.self.inside.lost c.self.inside.oldest c.drain_after-self-inside.result cs c.push_back_reserved.new.self.items v now s.cell room few
+      sound_by c.self.inside.size c.self.inside.lost c.self.inside.oldest c.drain_after-self-inside.result c.self.inside.plain cs c.push_back_reserved.new.self.items v now s.cell room few
           (linked_pushed c.self.inside.lost cs v told s.linked) (oldest_pushed cs v c.self.inside.oldest refl s.oldest) (subst (λ z. IsFirst is_draining (map slot_of z) c.drain_after-self-inside.result) (sym now) (drain_pushed cs v c.self.inside.drain c.drain_after-self-inside.result refl s.drain c.drain_after-self-inside.ensures.kept moved)),
       subst (λ z. c.self.inside.size ≤ z) (sym c.push_back_reserved.ensures.capacity) c.self.invariant.1,
     )

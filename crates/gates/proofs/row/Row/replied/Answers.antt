@@ -69,7 +69,7 @@ pub returns-clause-replied : goal.returns-clause-replied
 returns-clause-replied c xs stands =
     let cell = subst (λ r. HasCell r c.args.k) (sym c.self.view_is) c.requires in let lt = place _ _ _ cell.kept cell.there in
     stands_replied c.self.inside.lost c.self.inside.cells.items c.set_reply.new.cells.items c.spread.new.cells.items _ c.args.fails lt c.set_reply.ensures.items c.spread.ensures.slots
-    xs c.args.k c.self.inside.size c.self.inside.oldest c.self.inside.drain _ _ (back _ _ cell.kept) c.spread.ensures.kept (subst (λ r. Stands xs r) (sym c.self.view_is) stands)
+    xs c.args.k c.self.inside.size c.self.inside.oldest c.self.inside.drain _ _ c.self.inside.plain (back _ _ cell.kept) c.spread.ensures.kept (subst (λ r. Stands xs r) (sym c.self.view_is) stands)
 
 pub returns-clause-count : goal.returns-clause-count
 returns-clause-count c =
@@ -82,4 +82,4 @@ returns-clause-fewer c = λ xs stands pending.
     let cell = subst (λ r. HasCell r c.args.k) (sym c.self.view_is) c.requires in let lt = place _ _ _ cell.kept cell.there in
     subst (λ r. waiting_in (map slot_of c.spread.new.cells.items) < waiting r) c.self.view_is
     (fewer c.self.inside.lost c.self.inside.cells.items c.set_reply.new.cells.items c.spread.new.cells.items _ c.args.fails lt c.set_reply.ensures.items c.spread.ensures.slots
-    xs c.args.k c.self.inside.size c.self.inside.oldest c.self.inside.drain 0 0 (back _ _ cell.kept) c.spread.ensures.kept (subst (λ r. Stands xs r) (sym c.self.view_is) stands) pending)
+    xs c.args.k c.self.inside.size c.self.inside.oldest c.self.inside.drain 0 0 c.self.inside.plain (back _ _ cell.kept) c.spread.ensures.kept (subst (λ r. Stands xs r) (sym c.self.view_is) stands) pending)

@@ -1,9 +1,9 @@
 use Rattle.std.proofs.Common.{subst}
 use Rattle.work.specs.Board.{Facts}
-use Rattle.ring_c.specs.ClientCalls.{Reaps}
+use Rattle.ring_c.specs.ClientCalls.{ReapsAt}
 use Rattle.ring_c.specs.Sides.{ClientFacts}
 use Rattle.ring_c.proofs.client.Client.reap.Goals as goal
 
 pub returns-clause-reaps : goal.returns-clause-reaps
-returns-clause-reaps c = subst (λ (x : ClientFacts). Reaps x.board c.args.req x.pass c.reap.new.submitter x.bytes c.reap.new.bytes.items c.reap.result) c.self.view_is
-    (subst (λ (b : Facts). Reaps b c.args.req c.self.inside.submitter c.reap.new.submitter c.self.inside.bytes.items c.reap.new.bytes.items c.reap.result) c.deref.ensures c.reap.ensures.reaps)
+returns-clause-reaps c = subst (λ (x : ClientFacts). ReapsAt x.board c.args.req x.pass c.reap.new.submitter x.bytes c.reap.new.bytes.items c.reap.result) c.self.view_is
+    (subst (λ (b : Facts). ReapsAt b c.args.req c.self.inside.submitter c.reap.new.submitter c.self.inside.bytes.items c.reap.new.bytes.items c.reap.result) c.deref.ensures c.reap.ensures.reaps)

@@ -1,4 +1,4 @@
-use Rattle.std.proofs.Common.{rules, ◌≡◌, ◌≢◌, ℕ, ◌*◌, ◌-◌, ◌<◌, ℤ, List, [], length, Some, sym, refl, ap, ◌∙◌, subst, arith, to_z, of_z, w32}
+use Rattle.std.proofs.Common.{rules, ◌≡◌, ◌≢◌, ℕ, ◌*◌, ◌-◌, ◌<◌, ℤ, List, [], ◌++◌, length, vec_capacity, Some, sym, refl, ap, ◌∙◌, subst, arith, to_z, of_z, w32}
 use Rattle.std.proofs.lemmas.Int.{to_z-of_z}
 use Rattle.atomic_table.specs.Table.{rest}
 use Rattle.claim.specs.declared.tag.Tag.TheVariants.{Running as RunningTag}
@@ -16,10 +16,12 @@ use Rattle.steps.specs.Plays.{Seated, MayReply}
 use Rattle.steps.specs.Rule.{Extends, IsStep}
 use Rattle.steps.proofs.ViewsKept.{role_after}
 use Rattle.work.specs.Board.{IsOf}
-use Rattle.work.specs.Passes.{Pass, Running, seen_of}
-use Rattle.work.specs.Searches.{FewSteps, wanted_in}
+use Rattle.work.specs.declared.marks.Marks.{Marks}
+use Rattle.work.specs.Passes.{AreMarked, Pass, Running, seen_of, woken_of}
+use Rattle.work.specs.Searches.{FewSteps, FewerSteps, wanted_in}
 use Rattle.work.specs.WorkerRuns.{AreFew, AreHits, DidHunt, EndsBy, run_as, taken_in}
 use Rattle.work.proofs.CancelEnds.{by_bare, by_events, by_layout, by_of, by_runs, cancels_run, few_replied, may_hunt, ring_cells}
+use Rattle.work.proofs.MarksKept.{marked_after}
 use Rattle.work.proofs.RunsKept.{ends_by, room_on, runs_entry, runs_placed, worker_idle}
 use Rattle.work.proofs.busy.Busy.cancel.Goals as goal
 
@@ -30,6 +32,9 @@ hunt-res-requires-clause-cancels c = let b = c.self.inside in let i = c.self.inv
 
 pub hunt-res-requires-clause-spare : goal.hunt-res-requires-clause-spare
 hunt-res-requires-clause-spare c = (c.clear.ensures.emptied.0, (c.clear.ensures.rooms c.self.inside.grid.now c.self.invariant.spare).0)
+
+pub hunt-res-requires-clause-marked : goal.hunt-res-requires-clause-marked
+hunt-res-requires-clause-marked c = subst (λ (m : Marks). AreMarked m c.self.inside.seat.me.0.seen) (sym c.clear.ensures.marks) c.self.invariant.marked
 
 pub hunt-res-requires-clause-cell : goal.hunt-res-requires-clause-cell
 hunt-res-requires-clause-cell c = let b = c.self.inside in let i = c.self.invariant in
@@ -51,7 +56,7 @@ reply-requires-clause-bare c = let b = c.self.inside in let i = c.self.invariant
     subst (λ (y : Seated). holder y.0.seen n ≢ Some (request_at y.0.layout.cells b.cell b.generation)) (sym m) (subst (λ (z : Req). holder w.seen n ≢ Some z) (sym runs.req_is) (by_bare b.req v w h.own n i.runs.role h.went (i.bare n)))
 
 pub reply-requires-clause-answer : goal.reply-requires-clause-answer
-reply-requires-clause-answer c = let b = c.self.inside in let i = c.self.invariant in let m = c.put_back.ensures.seat.2 in let table = b.words.now.table_id in let v : View = b.seat.me.0 in let w : View = c.hunt-res.new.seat.me.0 in let list = c.hunt-res.new.took.items in let res = to_z w32 (of_z w32 c.hunt-res.result) in
+reply-requires-clause-answer c = let b = c.self.inside in let i = c.self.invariant in let m = c.put_back.ensures.seat.2 in let table = b.words.now.table_id in let v : View = b.seat.me.0 in let w : View = c.hunt-res.new.seat.me.0 in let list = c.hunt-res.new.lists.took.items in let res = to_z w32 (of_z w32 c.hunt-res.result) in
     let wants = subst (λ (k : Running). (e : Entry) → IsPlaced (seen_of k.pass) k.req e → wanted_in e.op ≡ Some c.args.wanted) (sym c.self.view_is) c.requires.wanted (run_as b.parcel.sqe) (runs_placed table v v b.cell b.generation b.req b.parcel b.pipes i.runs) in
     let h : DidHunt v w b.req c.args.wanted list res = subst (λ (n : ℤ). DidHunt v w b.req c.args.wanted list n) (sym (to_z-of_z w32 c.hunt-res.result (search rules))) c.hunt-res.ensures.hunted in (
       run_as b.parcel.sqe,
@@ -71,10 +76,19 @@ after-requires-clause-seat c = let b = c.self.inside in let i = c.self.invariant
 pub after-requires-clause-room : goal.after-requires-clause-room
 after-requires-clause-room c = let b = c.self.inside in let i = c.self.invariant in let m = c.put_back.ensures.seat.2 in let h = c.hunt-res.ensures.hunted in
     let rooms = room_on b.words.now.table_id b.grid.now b.seat.me.0 c.reply.new.seat.me.0 c.clear.new.self i.grid (c.reply.ensures.ended.2 ∙ (ap (λ (z : Seated). z.0.layout) m ∙ by_layout b.req b.seat.me.0 c.hunt-res.new.seat.me.0 h.own h.went)) (c.clear.ensures.rooms b.grid.now i.spare) in
-    ((λ n. (let room = rooms.0 n in let more = c.hunt-res.ensures.capacity in omega arith)), rooms.1, rooms.2)
+    let others = c.hunt-res.ensures.others in
+    ((λ n. (let room = rooms.0 n in let more = c.hunt-res.ensures.capacity in omega arith)), ap (λ (l : _). vec_capacity l) others.0 ∙ rooms.1, ap (λ (l : _). vec_capacity l) others.1 ∙ rooms.2)
+
+pub after-requires-clause-marked : goal.after-requires-clause-marked
+after-requires-clause-marked c = let b = c.self.inside in let i = c.self.invariant in let m = c.put_back.ensures.seat.2 in let table = b.words.now.table_id in let v : View = b.seat.me.0 in let w : View = c.hunt-res.new.seat.me.0 in let n : View = c.reply.new.seat.me.0 in let list = c.hunt-res.new.lists.took.items in let res = to_z w32 (of_z w32 c.hunt-res.result) in
+    let wants = subst (λ (k : Running). (e : Entry) → IsPlaced (seen_of k.pass) k.req e → wanted_in e.op ≡ Some c.args.wanted) (sym c.self.view_is) c.requires.wanted (run_as b.parcel.sqe) (runs_placed table v v b.cell b.generation b.req b.parcel b.pipes i.runs) in
+    let h : DidHunt v w b.req c.args.wanted list res = subst (λ (n : ℤ). DidHunt v w b.req c.args.wanted list n) (sym (to_z-of_z w32 c.hunt-res.result (search rules))) c.hunt-res.ensures.hunted in
+    let may = subst (λ (y : Seated). MayReply y b.cell (request_at y.0.layout.cells b.cell b.generation) (run_as b.parcel.sqe) res []) (sym m) (may_hunt table v w (rest c.hunt-res.new.seat.me.1) b.cell b.generation b.req b.parcel b.pipes c.args.wanted list res i.runs wants h) in
+    let x = subst (λ (y : Seated). Extends y.0 (Did (Reply (request_at y.0.layout.cells b.cell b.generation) res [])) Idle n) m (c.reply.ensures.replies (run_as b.parcel.sqe) [] may) in
+    marked_after c.hunt-res.new.lists.marks w n (Did (Reply (request_at w.layout.cells b.cell b.generation) res [])) Idle x c.hunt-res.ensures.marked
 
 pub returns-clause-ended : goal.returns-clause-ended
-returns-clause-ended c = let b = c.self.inside in let i = c.self.invariant in let m = c.put_back.ensures.seat.2 in let table = b.words.now.table_id in let v : View = b.seat.me.0 in let w : View = c.hunt-res.new.seat.me.0 in let n : View = c.reply.new.seat.me.0 in let list = c.hunt-res.new.took.items in let res = to_z w32 (of_z w32 c.hunt-res.result) in
+returns-clause-ended c = let b = c.self.inside in let i = c.self.invariant in let m = c.put_back.ensures.seat.2 in let table = b.words.now.table_id in let v : View = b.seat.me.0 in let w : View = c.hunt-res.new.seat.me.0 in let n : View = c.reply.new.seat.me.0 in let list = c.hunt-res.new.lists.took.items in let res = to_z w32 (of_z w32 c.hunt-res.result) in
     let wants = subst (λ (k : Running). (e : Entry) → IsPlaced (seen_of k.pass) k.req e → wanted_in e.op ≡ Some c.args.wanted) (sym c.self.view_is) c.requires.wanted (run_as b.parcel.sqe) (runs_placed table v v b.cell b.generation b.req b.parcel b.pipes i.runs) in
     let h : DidHunt v w b.req c.args.wanted list res = subst (λ (n : ℤ). DidHunt v w b.req c.args.wanted list n) (sym (to_z-of_z w32 c.hunt-res.result (search rules))) c.hunt-res.ensures.hunted in
     let may = subst (λ (y : Seated). MayReply y b.cell (request_at y.0.layout.cells b.cell b.generation) (run_as b.parcel.sqe) res []) (sym m) (may_hunt table v w (rest c.hunt-res.new.seat.me.1) b.cell b.generation b.req b.parcel b.pipes c.args.wanted list res i.runs wants h) in
@@ -85,10 +99,10 @@ returns-clause-ended c = let b = c.self.inside in let i = c.self.invariant in le
 
 pub returns-clause-few : goal.returns-clause-few
 returns-clause-few c = let b = c.self.inside in let i = c.self.invariant in
-    subst (λ (k : Running × Pass). length k.1.took < cells_in k.0.pass.view.layout.cells k.0.req.ring) (λ j. (c.self.view_is j, sym c.after.ensures j)) (subst (λ (K : List ℕ). length c.hunt-res.new.took.items < cells_in K b.req.ring) (sym i.grid.cells_are) c.hunt-res.ensures.few)
+    subst (λ (k : Running × Pass). length k.1.took < cells_in k.0.pass.view.layout.cells k.0.req.ring) (λ j. (c.self.view_is j, sym c.after.ensures j)) (subst (λ (K : List ℕ). length c.hunt-res.new.lists.took.items < cells_in K b.req.ring) (sym i.grid.cells_are) c.hunt-res.ensures.few)
 
 pub returns-clause-kept : goal.returns-clause-kept
-returns-clause-kept c = let b = c.self.inside in let i = c.self.invariant in let m = c.put_back.ensures.seat.2 in let table = b.words.now.table_id in let v : View = b.seat.me.0 in let w : View = c.hunt-res.new.seat.me.0 in let n : View = c.reply.new.seat.me.0 in let list = c.hunt-res.new.took.items in let res = to_z w32 (of_z w32 c.hunt-res.result) in
+returns-clause-kept c = let b = c.self.inside in let i = c.self.invariant in let m = c.put_back.ensures.seat.2 in let table = b.words.now.table_id in let v : View = b.seat.me.0 in let w : View = c.hunt-res.new.seat.me.0 in let n : View = c.reply.new.seat.me.0 in let list = c.hunt-res.new.lists.took.items in let res = to_z w32 (of_z w32 c.hunt-res.result) in
     let wants = subst (λ (k : Running). (e : Entry) → IsPlaced (seen_of k.pass) k.req e → wanted_in e.op ≡ Some c.args.wanted) (sym c.self.view_is) c.requires.wanted (run_as b.parcel.sqe) (runs_placed table v v b.cell b.generation b.req b.parcel b.pipes i.runs) in
     let h : DidHunt v w b.req c.args.wanted list res = subst (λ (n : ℤ). DidHunt v w b.req c.args.wanted list n) (sym (to_z-of_z w32 c.hunt-res.result (search rules))) c.hunt-res.ensures.hunted in
     let may = subst (λ (y : Seated). MayReply y b.cell (request_at y.0.layout.cells b.cell b.generation) (run_as b.parcel.sqe) res []) (sym m) (may_hunt table v w (rest c.hunt-res.new.seat.me.1) b.cell b.generation b.req b.parcel b.pipes c.args.wanted list res i.runs wants h) in
@@ -101,9 +115,13 @@ returns-clause-kept c = let b = c.self.inside in let i = c.self.invariant in let
 pub returns-clause-user_data : goal.returns-clause-user_data
 returns-clause-user_data c = let b = c.self.inside in let i = c.self.invariant in λ e is. c.user_data.ensures ∙ ap (λ (d : Entry). d.user_data) (runs_entry b.words.now.table_id b.seat.me.0 b.seat.me.0 b.cell b.generation b.req b.parcel b.pipes i.runs e (subst (λ (k : Running). IsPlaced (seen_of k.pass) k.req e) (sym c.self.view_is) is))
 
+pub returns-clause-woken : goal.returns-clause-woken
+returns-clause-woken c = let others = c.hunt-res.ensures.others in let still : woken_of c.hunt-res.new.lists ≡ woken_of c.clear.new.self = (λ j. (others.0 j).items ++ (others.1 j).items) in ap (λ (p : Pass). p.woken) c.after.ensures ∙ (still ∙ c.clear.ensures.emptied.1)
+
 pub returns-clause-steps : goal.returns-clause-steps
-returns-clause-steps c = let b = c.self.inside in let i = c.self.invariant in let m = c.put_back.ensures.seat.2 in let v : View = b.seat.me.0 in let w : View = c.hunt-res.new.seat.me.0 in let n : View = c.reply.new.seat.me.0 in let K = v.layout.cells in
-    let few = subst (λ (L : List ℕ). FewSteps v w 3 (5 * (cells_in L b.req.ring - 1))) (sym i.grid.cells_are) c.hunt-res.ensures.steps in
+returns-clause-steps c = let b = c.self.inside in let i = c.self.invariant in let m = c.put_back.ensures.seat.2 in let v : View = b.seat.me.0 in let w : View = c.hunt-res.new.seat.me.0 in let n : View = c.reply.new.seat.me.0 in let cells : ℕ = cells_in v.layout.cells b.req.ring in
+    let some : 0 < cells = ring_cells v.layout.cells b.cell b.generation b.req i.runs.fits.1 i.runs.req_is in
+    let few = subst (λ (L : List ℕ). FewerSteps v w b.req 4 (5 * cells_in L b.req.ring - 1)) (sym i.grid.cells_are) c.hunt-res.ensures.steps in
     let step = subst (λ (y : Seated). IsStep (claim_at b.cell) (word_of RunningTag 0 b.generation 0) y.0 n) m c.reply.ensures.step in
     subst (λ (k : Running × View). FewSteps k.0.pass.view k.1 4 (5 * cells_in k.0.pass.view.layout.cells k.0.req.ring)) (λ j. (c.self.view_is j, ap (λ (p : Pass). p.view) (sym c.after.ensures) j))
-    (few_replied v w n (claim_at b.cell) (word_of RunningTag 0 b.generation 0) (cells_in K b.req.ring) (ring_cells K b.cell b.generation b.req i.runs.fits.1 i.runs.req_is) few step)
+    (few_replied v w n b.req b.cell b.generation (word_of RunningTag 0 b.generation 0) 4 (5 * cells - 1) (5 * cells) i.runs.req_is (omega arith) few step)

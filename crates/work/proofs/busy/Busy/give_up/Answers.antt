@@ -9,6 +9,7 @@ invariant_of-self c = let b = c.self.inside in let i = c.self.invariant in recor
   runs = i.runs;
   unhit = i.unhit;
   spare = ((λ n. subst (λ (k : ℕ). cells_in b.grid.now n ≤ suc k) (sym c.clear.ensures.capacity) (i.spare.0 n)), i.spare.1, i.spare.2);
+  marked = i.marked;
   out = i.out;
   bare = i.bare;
 }

@@ -20,8 +20,10 @@ use Rattle.history.specs.History.{hit}
 use Rattle.steps.proofs.StepKinds.{in_hand}
 use Rattle.steps.proofs.ViewsKept.{layout_after}
 use Rattle.steps.proofs.PipeSteps.{lacks_after}
-use Rattle.work.specs.Passes.{LiesAs, Running, RunsIt, seen_of}
+use Rattle.work.specs.declared.marks.Marks.{Marks}
+use Rattle.work.specs.Passes.{AreMarked, LiesAs, Running, RunsIt, seen_of}
 use Rattle.work.specs.WorkerRuns.{MissedPipe}
+use Rattle.work.proofs.MarksKept.{marked_after, marked_looked}
 use Rattle.work.proofs.RunsKept.{runs_on, runs_look, handed_by, grid_on, same_hit_looked, same_hit_silent}
 use Rattle.work.proofs.busy.Busy.hold.Goals as goal
 
@@ -39,6 +41,7 @@ invariant_of-result c = let b = c.self.inside in let i = c.self.invariant in let
   grid = grid_on b.words.now.table_id b.grid.now b.seat.me.0 c.hold.new.seat.me.0 (ap (λ (z : View). z.layout) x.0.is) i.grid;
   unhit = same_hit_looked b.seat.me.0 c.hold.new.seat.me.0 b.req i.runs.role x.0 ∙ i.unhit;
   spare = c.rest.ensures.rooms b.grid.now i.spare;
+  marked = subst (λ (y : Marks). AreMarked y c.hold.new.seat.me.0.seen) (sym c.rest.ensures.same.1) (marked_looked b.lists.marks b.seat.me.0 c.hold.new.seat.me.0 x.0 i.marked);
   runs = runs_look b.words.now.table_id b.seat.me.0 c.hold.new.seat.me.0 b.cell b.generation b.req b.parcel b.pipes i.runs x.0;
   out = x.1 ∙ i.out;
   bare = λ n. lacks_after b.seat.me.0 c.hold.new.seat.me.0 b.req n i.runs.role (i.bare n) x.0;
@@ -66,6 +69,7 @@ invariant_of-result-2 c = let b = c.self.inside in let i = c.self.invariant in l
       grid = grid_on b.words.now.table_id b.grid.now b.seat.me.0 c.exchange-thing.new.seat.me.0 (ap (λ (z : Seated). z.0.layout) m ∙ layout_after b.seat.me.0 v (Hold b.req c.args.pipe) (RoleBusy b.req) x.0) i.grid;
       unhit = ap (λ (z : Seated). hit (events_of z.0.seen) b.req) m ∙ (same_hit_silent b.seat.me.0 v b.req i.runs.role (Hold b.req c.args.pipe) (RoleBusy b.req) (λ j. refl) x.0 ∙ i.unhit);
       spare = c.rest.ensures.rooms b.grid.now i.spare;
+      marked = subst (λ (z : Seated × Marks). AreMarked z.1 z.0.0.seen) (λ j. (sym m j, sym c.rest.ensures.same.1 j)) (marked_after b.lists.marks b.seat.me.0 v (Hold b.req c.args.pipe) (RoleBusy b.req) x.0 i.marked);
       runs = subst (λ (z : Seated). RunsIt b.words.now.table_id z.0 b.cell b.generation b.req b.parcel b.pipes) (sym m) runs;
       out = ap (λ (z : Seated). z.1) m ∙ ap (λ (cs : List (ℕ × Option Thing)). (c.args.pipe, None) ∷ cs) (ap rest h.1 ∙ i.out);
       alone = subst (λ (z : Seated). HasAlone z.0.seen c.args.pipe b.req) (sym m) x.1;

@@ -26,6 +26,9 @@ prove-unreachable-requires c = let b = c.self.inside in let i = c.self.invariant
     let one = one_handed b.words.now.table_id b.seat.me.0 b.seat.me.0 b.cell b.generation b.req b.parcel b.pipes i.runs c.args.pipe (subst (λ (k : Running). (e : Entry) → IsPlaced (seen_of k.pass) k.req e → UsesOne e.op (length k.pass.view.layout.caps) c.args.pipe) (sym c.self.view_is) c.requires.named) in
     let lt : c.args.pipe < length b.seat.me.0.layout.caps = one.there in let same = i.runs.pipes_are.0 in omega arith
 
+pub hold-requires : goal.hold-requires
+hold-requires c = record { named = λ e is. (let one = c.requires.named e is in (one.used, one.there)) }
+
 -- the pipe that was taken is still the one that the entry is answered from
 pub answer-requires : goal.answer-requires
 answer-requires c = let b = c.self.inside in let i = c.self.invariant in let m : View = c.in-Ok.holding.pass.view in let h = c.in-Ok.ensures.held in let v : View = c.args.self.pass.view in

@@ -30,6 +30,7 @@ use Rattle.steps.proofs.ViewsKept.{layout_after}
 use Rattle.work.specs.Passes.{Pass, Holding, Settled, seen_of}
 use Rattle.work.specs.declared.lists.Lists.{Lists}
 use Rattle.work.specs.WorkerRuns.{LaidDown, TookAlong, Unanswered}
+use Rattle.work.proofs.MarksKept.{marked_after, marked_left}
 use Rattle.work.proofs.RunsKept.{piped_in, run_piped, runs_placed, room_on, runs_on, grid_on, same_hit_silent, runs_same, piped_entry, one_handed, has_one, runs_fits, pipe_may, pipe_after, in_both_hands}
 use Rattle.steps.specs.Rule.{Extends, IsStep, IsTwoSteps, leaves}
 use Rattle.steps.specs.Sleepers.{LiesIn}
@@ -68,6 +69,7 @@ invariant_of-result c = let b = c.self.inside in let i = c.self.invariant in let
       grid = grid_on table b.grid.now v w (layout_after v w (Free b.req b.pipe laid) (RoleBusy b.req) x) i.grid;
       unhit = same_hit_silent v w b.req i.runs.role (Free b.req b.pipe laid) (RoleBusy b.req) (λ j. refl) x ∙ i.unhit;
       spare = (i.spare.0, i.spare.1, c.settle-laid.ensures.room.1 ∙ i.spare.2);
+      marked = marked_after b.lists.marks v w (Free b.req b.pipe laid) (RoleBusy b.req) x i.marked;
       runs = runs_same table w w b.cell b.generation b.req b.parcel b.pipes runs (let p : Parcel = record { sqe = b.parcel.sqe; buffer = with_items b.parcel.buffer c.answer_with-answer.new.buffer; last = b.parcel.last } in p) refl refl (with_items_is b.parcel.buffer c.answer_with-answer.new.buffer (search (rules, places)) ∙ (k.buffer ∙ c.as_mut_slice.ensures.value));
       out = c.free.ensures.seat.1 ∙ (ap (λ (z : Seated). rest z.1) m ∙ ap rest i.out);
       bare = frees.1;
@@ -101,8 +103,13 @@ after-requires-clause-seat c = let b = c.self.inside in let i = c.self.invariant
 }
 
 pub after-requires-clause-room : goal.after-requires-clause-room
-after-requires-clause-room c = let b = c.self.inside in let i = c.self.invariant in let v : View = b.seat.me.0 in let table = b.words.now.table_id in let m = in_both_hands b.seat.me c.exchange.new.seat.me c.turn.new.self.me c.put_back.new.seat.me b.pipe (slot_at b.cell) _ _ i.out c.exchange.ensures.3 c.turn.ensures.2 c.put_back.ensures.seat.2 in let lists : Lists = record { took = c.clear.new.self; source = b.lists.source; woken = c.settle-laid.new.out } in
+after-requires-clause-room c = let b = c.self.inside in let i = c.self.invariant in let v : View = b.seat.me.0 in let table = b.words.now.table_id in let m = in_both_hands b.seat.me c.exchange.new.seat.me c.turn.new.self.me c.put_back.new.seat.me b.pipe (slot_at b.cell) _ _ i.out c.exchange.ensures.3 c.turn.ensures.2 c.put_back.ensures.seat.2 in let lists : Lists = record { took = c.clear.new.self; source = b.lists.source; woken = c.settle-laid.new.out; marks = b.lists.marks } in
     room_on table b.grid.now v c.reply.new.seat.me.0 lists i.grid (c.reply.ensures.ended.2 ∙ ap (λ (z : Seated). z.0.layout) m) ((λ n. subst (λ (k : ℕ). cells_in b.grid.now n ≤ suc k) (sym c.clear.ensures.capacity) (i.spare.0 n)), i.spare.1, c.settle-laid.ensures.room.1 ∙ i.spare.2)
+
+pub after-requires-clause-marked : goal.after-requires-clause-marked
+after-requires-clause-marked c = let b = c.self.inside in let i = c.self.invariant in let v : View = b.seat.me.0 in let table = b.words.now.table_id in let one = one_handed table v v b.cell b.generation b.req b.parcel b.pipes i.runs b.pipe (subst Named (sym c.self.view_is) c.requires.named) in let k = subst (λ (o : Option ℤ). Answered c.op.result o b.waited.pipe c.answer_with-answer.new.pipe c.as_mut_slice.result.now c.answer_with-answer.new.buffer) c.in-Some.is c.answer_with-answer.ensures v.layout.caps (events_of v.seen) b.req b.pipe (subst (λ (o : Op). UsesOne o (length v.layout.caps) b.pipe) (sym c.op.ensures) one) i.pipe_is (sound (setup_of v.layout) (events_of v.seen) b.pipe i.runs.legal) in let s = subst (λ (z : Bool). Settled c.settle-laid.result b.req z b.waited.lying.items c.settle-laid.new.lying.items c.settle-laid.new.out.items) (c.is_some.ensures ∙ ap is_some c.in-Some.is) c.settle-laid.ensures.settled in let m = in_both_hands b.seat.me c.exchange.new.seat.me c.turn.new.self.me c.put_back.new.seat.me b.pipe (slot_at b.cell) _ _ i.out c.exchange.ensures.3 c.turn.ensures.2 c.put_back.ensures.seat.2 in let new : WaitedPipe = record { pipe = c.answer_with-answer.new.pipe; lying = c.settle-laid.new.lying } in let res = to_z w32 (of_z w32 c.in-Some.res) in let rz = to_z-of_z w32 c.in-Some.res (search rules) in let given = c.as_mut_slice.ensures.value in let p : Parcel = record { sqe = b.parcel.sqe; buffer = with_items b.parcel.buffer c.answer_with-answer.new.buffer; last = b.parcel.last } in let z : Seated = (v, (slot_at b.cell, Some (Full p)) ∷ (b.pipe, Some (Piped new)) ∷ []) in let answers = subst (λ (o : Op × ℤ). OpAnswers v.layout.caps (events_of v.seen) b.req o.0 o.1 k.data') (λ j. (c.op.ensures j, sym rz j)) k.answers in let all = pipe_may table z b.cell b.generation b.req b.parcel b.pipes i.runs p b.pipe res k.data' refl refl refl (with_items_is b.parcel.buffer c.answer_with-answer.new.buffer (search (rules, places)) ∙ (k.buffer ∙ ap (over k.data') given)) answers i.named.0 (has_one v.layout.caps v.seen b.parcel.sqe.op b.req b.pipe one i.alone.0) in
+    let may = subst (λ (y : Seated). MayReply y b.cell (request_at y.0.layout.cells b.cell b.generation) b.parcel.sqe res k.data') (sym m) all in let x = c.reply.ensures.replies b.parcel.sqe k.data' may in let mid : View = x.0 in let first = subst (λ (y : Seated). Extends y.0 (Did (Reply (request_at y.0.layout.cells b.cell b.generation) res k.data')) (Leaving (request_at y.0.layout.cells b.cell b.generation)) mid) m x.1 in let second = subst (λ (q : Req). Extends v (Did (Reply q res k.data')) (Leaving q) mid) i.runs.req_is first in
+    marked_left b.lists.marks v mid c.reply.new.seat.me.0 (Did (Reply b.req res k.data')) (Leaving b.req) second (ap (λ (z : View). z.seen) x.3) i.marked
 
 pub returns-clause-replied : goal.returns-clause-replied
 returns-clause-replied c = let b = c.self.inside in let i = c.self.invariant in let v : View = b.seat.me.0 in let table = b.words.now.table_id in let one = one_handed table v v b.cell b.generation b.req b.parcel b.pipes i.runs b.pipe (subst Named (sym c.self.view_is) c.requires.named) in let k = subst (λ (o : Option ℤ). Answered c.op.result o b.waited.pipe c.answer_with-answer.new.pipe c.as_mut_slice.result.now c.answer_with-answer.new.buffer) c.in-Some.is c.answer_with-answer.ensures v.layout.caps (events_of v.seen) b.req b.pipe (subst (λ (o : Op). UsesOne o (length v.layout.caps) b.pipe) (sym c.op.ensures) one) i.pipe_is (sound (setup_of v.layout) (events_of v.seen) b.pipe i.runs.legal) in let s = subst (λ (z : Bool). Settled c.settle-laid.result b.req z b.waited.lying.items c.settle-laid.new.lying.items c.settle-laid.new.out.items) (c.is_some.ensures ∙ ap is_some c.in-Some.is) c.settle-laid.ensures.settled in let m = in_both_hands b.seat.me c.exchange.new.seat.me c.turn.new.self.me c.put_back.new.seat.me b.pipe (slot_at b.cell) _ _ i.out c.exchange.ensures.3 c.turn.ensures.2 c.put_back.ensures.seat.2 in let new : WaitedPipe = record { pipe = c.answer_with-answer.new.pipe; lying = c.settle-laid.new.lying } in let res = to_z w32 (of_z w32 c.in-Some.res) in let rz = to_z-of_z w32 c.in-Some.res (search rules) in let given = c.as_mut_slice.ensures.value in let p : Parcel = record { sqe = b.parcel.sqe; buffer = with_items b.parcel.buffer c.answer_with-answer.new.buffer; last = b.parcel.last } in let z : Seated = (v, (slot_at b.cell, Some (Full p)) ∷ (b.pipe, Some (Piped new)) ∷ []) in let answers = subst (λ (o : Op × ℤ). OpAnswers v.layout.caps (events_of v.seen) b.req o.0 o.1 k.data') (λ j. (c.op.ensures j, sym rz j)) k.answers in let all = pipe_may table z b.cell b.generation b.req b.parcel b.pipes i.runs p b.pipe res k.data' refl refl refl (with_items_is b.parcel.buffer c.answer_with-answer.new.buffer (search (rules, places)) ∙ (k.buffer ∙ ap (over k.data') given)) answers i.named.0 (has_one v.layout.caps v.seen b.parcel.sqe.op b.req b.pipe one i.alone.0) in

@@ -21,8 +21,9 @@ use Rattle.steps.specs.Plays.{Seated, HasAlone, HasBoth, HasPipeLaid}
 use Rattle.steps.specs.Rule.{Looks, Extends, IsStep}
 use Rattle.steps.proofs.StepKinds.{in_hand}
 use Rattle.steps.proofs.ViewsKept.{layout_after}
-use Rattle.work.specs.Passes.{Holding, LiesAs, RunsIt, seen_of}
+use Rattle.work.specs.Passes.{AreMarked, Holding, LiesAs, RunsIt, seen_of}
 use Rattle.work.specs.WorkerRuns.{MissedPipe}
+use Rattle.work.proofs.MarksKept.{marked_after, marked_looked}
 use Rattle.work.proofs.RunsKept.{runs_on, runs_look, both_handed, grid_on, same_hit_looked, same_hit_silent, pipe_still, piped_in}
 use Rattle.work.proofs.PipesWaited.{lies_still}
 use Rattle.work.proofs.holding.Holding.hold.Goals as goal
@@ -66,6 +67,7 @@ invariant_of-result c = let b = c.self.inside in let i = c.self.invariant in let
       grid = grid_on table b.grid.now v w (layout_after n w (Free b.req b.pipe NoRequest) (RoleBusy b.req) y ∙ ap (λ (z : View). z.layout) x.0.is) i.grid;
       unhit = same_hit_silent n w b.req role (Free b.req b.pipe NoRequest) (RoleBusy b.req) (λ j. refl) y ∙ (same_hit_looked v n b.req i.runs.role x.0 ∙ i.unhit);
       spare = i.spare;
+      marked = marked_after b.lists.marks n w (Free b.req b.pipe NoRequest) (RoleBusy b.req) y (marked_looked b.lists.marks v n x.0 i.marked);
       runs = runs_on table n w b.cell b.generation b.req b.parcel b.pipes runs (Free b.req b.pipe NoRequest) y;
       out = c.free.ensures.seat.1 ∙ (ap (λ (z : Seated). rest z.1) m ∙ ap rest (x.1 ∙ i.out));
       bare = frees.1;
@@ -96,6 +98,7 @@ invariant_of-result-2 c = let b = c.self.inside in let i = c.self.invariant in l
       grid = grid_on table b.grid.now v c.exchange-thing.new.seat.me.0 (ap (λ (z : Seated). z.0.layout) m ∙ layout) i.grid;
       unhit = ap (λ (z : Seated). hit (events_of z.0.seen) b.req) m ∙ (same_hit_silent v w b.req i.runs.role (Hold b.req c.args.target) (RoleBusy b.req) (λ j. refl) x.0 ∙ i.unhit);
       spare = i.spare;
+      marked = subst (λ (z : Seated). AreMarked b.lists.marks z.0.seen) (sym m) (marked_after b.lists.marks v w (Hold b.req c.args.target) (RoleBusy b.req) x.0 i.marked);
       runs = subst (λ (z : Seated). RunsIt table z.0 b.cell b.generation b.req b.parcel b.pipes) (sym m) runs;
       out = ap (λ (z : Seated). z.1) m ∙ ap (λ (cs : List (ℕ × Option Thing)). (c.args.target, None) ∷ cs) (ap rest h.1 ∙ i.out);
       both = subst (λ (z : Seated). HasBoth z.0.seen b.pipe c.args.target b.req) (sym m) x.1;

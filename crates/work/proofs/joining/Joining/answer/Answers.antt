@@ -31,6 +31,7 @@ use Rattle.steps.proofs.ViewsKept.{layout_after, role_after, parts_after}
 use Rattle.work.specs.Passes.{Pass, IsLaidOnce, Joining, Settled, seen_of}
 use Rattle.work.specs.WorkerRuns.{LaidAtBoth, TookAlong, Unanswered}
 use Rattle.work.specs.declared.lists.Lists.{Lists}
+use Rattle.work.proofs.MarksKept.{marked_after, marked_left}
 use Rattle.work.proofs.RunsKept.{piped_in, run_piped, runs_placed, begins_on, room_on, runs_on, grid_on, same_hit_silent, piped_entry, has_both, pipe_may, pipe_after, pipe_still, both_turned, in_three_hands}
 use Rattle.steps.specs.Fairness.{HasWaited, MayLay}
 use Rattle.steps.proofs.PipeSteps.{one_worker}
@@ -74,6 +75,7 @@ invariant_of-result c = let b = c.self.inside in let i = c.self.invariant in let
       grid = grid_on table b.grid.now v w (layout_after n w (Free b.req b.source under) (RoleBusy b.req) x ∙ layout) i.grid;
       unhit = same_hit_silent n w b.req role (Free b.req b.source under) (RoleBusy b.req) (λ j. refl) x ∙ (same_hit_silent v n b.req i.runs.role (Free b.req b.target laid) (RoleBusy b.req) (λ j. refl) y ∙ i.unhit);
       spare = (i.spare.0, c.settle_once-under.ensures.room.1 ∙ i.spare.1, c.settle_once-laid.ensures.room.1 ∙ i.spare.2);
+      marked = marked_after b.lists.marks n w (Free b.req b.source under) (RoleBusy b.req) x (marked_after b.lists.marks v n (Free b.req b.target laid) (RoleBusy b.req) y i.marked);
       runs = runs_on table n w b.cell b.generation b.req b.parcel b.pipes runs (Free b.req b.source under) x;
       out = c.free.ensures.seat.1 ∙ (ap (λ (z : Seated). rest z.1) l ∙ ap rest (c.free_one.ensures.seat.1 ∙ (ap (λ (z : Seated). rest z.1) m ∙ ap rest i.out)));
       bare = g.1;
@@ -126,8 +128,13 @@ after-requires-clause-seat c = let b = c.self.inside in let i = c.self.invariant
 }
 
 pub after-requires-clause-room : goal.after-requires-clause-room
-after-requires-clause-room c = let b = c.self.inside in let i = c.self.invariant in let v : View = b.seat.me.0 in let table = b.words.now.table_id in let m = in_three_hands b.seat.me c.exchange.new.seat.me c.turn.new.self.me c.exchange-2.new.seat.me c.turn-2.new.self.me c.put_back.new.seat.me b.target b.source (slot_at b.cell) _ _ _ i.out c.exchange.ensures.3 c.turn.ensures.2 c.exchange-2.ensures.3 c.turn-2.ensures.2 c.put_back.ensures.seat.2 in let lists : Lists = record { took = c.clear.new.self; source = c.settle_once-under.new.out; woken = c.settle_once-laid.new.out } in
+after-requires-clause-room c = let b = c.self.inside in let i = c.self.invariant in let v : View = b.seat.me.0 in let table = b.words.now.table_id in let m = in_three_hands b.seat.me c.exchange.new.seat.me c.turn.new.self.me c.exchange-2.new.seat.me c.turn-2.new.self.me c.put_back.new.seat.me b.target b.source (slot_at b.cell) _ _ _ i.out c.exchange.ensures.3 c.turn.ensures.2 c.exchange-2.ensures.3 c.turn-2.ensures.2 c.put_back.ensures.seat.2 in let lists : Lists = record { took = c.clear.new.self; source = c.settle_once-under.new.out; woken = c.settle_once-laid.new.out; marks = b.lists.marks } in
     room_on table b.grid.now v c.reply_both.new.seat.me.0 lists i.grid (c.reply_both.ensures.ended.2 ∙ ap (λ (z : Seated). z.0.layout) m) ((λ n. subst (λ (k : ℕ). cells_in b.grid.now n ≤ suc k) (sym c.clear.ensures.capacity) (i.spare.0 n)), c.settle_once-under.ensures.room.1 ∙ i.spare.1, c.settle_once-laid.ensures.room.1 ∙ i.spare.2)
+
+pub after-requires-clause-marked : goal.after-requires-clause-marked
+after-requires-clause-marked c = let b = c.self.inside in let i = c.self.invariant in let v : View = b.seat.me.0 in let table = b.words.now.table_id in let ends = subst (λ (z : Op × ℕ). UsesBoth z.0 z.1 b.source b.target) (λ j. (sym c.op.ensures j, sym i.runs.pipes_are.0 j)) i.named in let k = subst (λ (o : Option ℤ). AnsweredBoth c.op.result o b.from.pipe c.answer_both-answer.new.source b.into.pipe c.answer_both-answer.new.target) c.in-Some.is c.answer_both-answer.ensures v.layout.caps (events_of v.seen) b.req b.source b.target ends i.source_is (sound (setup_of v.layout) (events_of v.seen) b.source i.runs.legal) i.target_is (sound (setup_of v.layout) (events_of v.seen) b.target i.runs.legal) in let used = uses_joined b.parcel.sqe.op b.source b.target i.named.joins in let from : WaitedPipe = record { pipe = c.answer_both-answer.new.source; lying = c.settle_once-under.new.lying } in let into : WaitedPipe = record { pipe = c.answer_both-answer.new.target; lying = c.settle_once-laid.new.lying } in let m = in_three_hands b.seat.me c.exchange.new.seat.me c.turn.new.self.me c.exchange-2.new.seat.me c.turn-2.new.self.me c.put_back.new.seat.me b.target b.source (slot_at b.cell) _ _ _ i.out c.exchange.ensures.3 c.turn.ensures.2 c.exchange-2.ensures.3 c.turn-2.ensures.2 c.put_back.ensures.seat.2 in let res = to_z w32 (of_z w32 c.in-Some.res) in let rz = to_z-of_z w32 c.in-Some.res (search rules) in let z : Seated = (v, (slot_at b.cell, Some (Full b.parcel)) ∷ (b.target, Some (Piped into)) ∷ (b.source, Some (Piped from)) ∷ []) in let answers = subst (λ (o : Op × ℤ). OpAnswers v.layout.caps (events_of v.seen) b.req o.0 o.1 []) (λ j. (c.op.ensures j, sym rz j)) k.answers in let all = pipe_may table z b.cell b.generation b.req b.parcel b.pipes i.runs b.parcel b.source res [] refl refl refl refl answers used.0 (has_both v.layout.caps v.seen b.parcel.sqe.op b.req b.source b.target i.named.joins i.both.1 i.both.2) in
+    let may = subst (λ (y : Seated). MayReply y b.cell (request_at y.0.layout.cells b.cell b.generation) b.parcel.sqe res []) (sym m) all in let w : View = c.reply_both.new.seat.me.0 in let here = subst (λ (y : Seated). (mid : View) × Extends y.0 (Did (Reply (request_at y.0.layout.cells b.cell b.generation) res [])) (Leaving (request_at y.0.layout.cells b.cell b.generation)) mid × (found : ℕ) × (last : ℕ) × (w ≡ leaves (pipe_at b.source) last (leaves_one (request_at y.0.layout.cells b.cell b.generation) b.source (pipe_at b.target) found mid))) m (c.reply_both.ensures.replies b.parcel.sqe [] may) in let x = subst (λ (q : Req). (mid : View) × Extends v (Did (Reply q res [])) (Leaving q) mid × (found : ℕ) × (last : ℕ) × (w ≡ leaves (pipe_at b.source) last (leaves_one q b.source (pipe_at b.target) found mid))) i.runs.req_is here in
+    marked_left b.lists.marks v x.0 w (Did (Reply b.req res [])) (Leaving b.req) x.1 (ap (λ (z : View). z.seen) x.4) i.marked
 
 pub returns-clause-replied : goal.returns-clause-replied
 returns-clause-replied c = let b = c.self.inside in let i = c.self.invariant in let v : View = b.seat.me.0 in let table = b.words.now.table_id in let ends = subst (λ (z : Op × ℕ). UsesBoth z.0 z.1 b.source b.target) (λ j. (sym c.op.ensures j, sym i.runs.pipes_are.0 j)) i.named in let k = subst (λ (o : Option ℤ). AnsweredBoth c.op.result o b.from.pipe c.answer_both-answer.new.source b.into.pipe c.answer_both-answer.new.target) c.in-Some.is c.answer_both-answer.ensures v.layout.caps (events_of v.seen) b.req b.source b.target ends i.source_is (sound (setup_of v.layout) (events_of v.seen) b.source i.runs.legal) i.target_is (sound (setup_of v.layout) (events_of v.seen) b.target i.runs.legal) in let used = uses_joined b.parcel.sqe.op b.source b.target i.named.joins in let from : WaitedPipe = record { pipe = c.answer_both-answer.new.source; lying = c.settle_once-under.new.lying } in let into : WaitedPipe = record { pipe = c.answer_both-answer.new.target; lying = c.settle_once-laid.new.lying } in let m = in_three_hands b.seat.me c.exchange.new.seat.me c.turn.new.self.me c.exchange-2.new.seat.me c.turn-2.new.self.me c.put_back.new.seat.me b.target b.source (slot_at b.cell) _ _ _ i.out c.exchange.ensures.3 c.turn.ensures.2 c.exchange-2.ensures.3 c.turn-2.ensures.2 c.put_back.ensures.seat.2 in let res = to_z w32 (of_z w32 c.in-Some.res) in let rz = to_z-of_z w32 c.in-Some.res (search rules) in let z : Seated = (v, (slot_at b.cell, Some (Full b.parcel)) ∷ (b.target, Some (Piped into)) ∷ (b.source, Some (Piped from)) ∷ []) in let answers = subst (λ (o : Op × ℤ). OpAnswers v.layout.caps (events_of v.seen) b.req o.0 o.1 []) (λ j. (c.op.ensures j, sym rz j)) k.answers in let all = pipe_may table z b.cell b.generation b.req b.parcel b.pipes i.runs b.parcel b.source res [] refl refl refl refl answers used.0 (has_both v.layout.caps v.seen b.parcel.sqe.op b.req b.source b.target i.named.joins i.both.1 i.both.2) in

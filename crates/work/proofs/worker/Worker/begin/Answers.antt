@@ -1,4 +1,4 @@
-use Rattle.std.proofs.Common.{◌≡◌, ◌≢◌, ℕ, ◌<◌, List, [], ◌∷◌, length, Option, Some, None, sym, refl, ap, ◌∙◌, subst, arith}
+use Rattle.std.proofs.Common.{◌≡◌, ◌≢◌, ℕ, ◌<◌, List, [], ◌∷◌, length, Option, Some, None, sym, refl, ap, ◌∙◌, subst, arith, true≢false}
 use Rattle.atomic_table.specs.Table.{rest}
 use Rattle.history.specs.declared.req.Req.{Req}
 use Rattle.history.specs.History.{hit}
@@ -14,13 +14,20 @@ use Rattle.steps.proofs.ViewsKept.{layout_after}
 use Rattle.steps.specs.Plays.{Seated}
 use Rattle.steps.specs.Rule.{Extends}
 use Rattle.steps.proofs.StepKinds.{in_hand}
-use Rattle.work.specs.Passes.{Pass, HasRooms, RunsIt}
+use Rattle.work.specs.Passes.{AreMarked, Pass, HasRooms, RunsIt}
+use Rattle.work.proofs.MarksKept.{marked_after, worker_looked}
 use Rattle.work.proofs.PassesKept.{took_one}
 use Rattle.work.proofs.RunsKept.{grid_on, runs_begun, unhit_begun}
 use Rattle.work.proofs.worker.Worker.begin.Goals as goal
 
 same_parcel : (a b : Parcel) → ◌≡◌ {A = Option Thing} (Some (Full a)) (Some (Full b)) → a ≡ b
 same_parcel a b e = cc
+
+pub invariant_of-result-then-spot-from : goal.invariant_of-result-then-spot-from
+invariant_of-result-then-spot-from c = worker_looked c.self.inside.seat c.look.new.seat c.self.inside.lists c.self.invariant c.look.ensures.looks c.look.ensures.seat.1
+
+pub invariant_of-result-then-not-begin : goal.invariant_of-result-then-not-begin
+invariant_of-result-then-not-begin c = let x = c.if-not-begin.ensures.looks (λ e. true≢false (sym e)) in worker_looked c.self.inside.seat c.begin.new.seat c.self.inside.lists c.self.invariant x.0 x.1
 
 pub exchange-thing-requires : goal.exchange-thing-requires
 exchange-thing-requires c = let h = (c.if-not-begin.ensures.begins refl).1 in
@@ -48,6 +55,7 @@ invariant_of-result-2 c =
       grid = grid_on table c.args.grid.now s.me.0 c.exchange-thing.new.seat.me.0 (ap (λ (z : Seated). z.0.layout) m ∙ layout_after s.me.0 c.begin.new.seat.me.0 _ _ x.0) record { cells_are = cells; wide = c.requires.on.wide };
       unhit = ap (λ (z : Seated). hit (events_of z.0.seen) c.args.req) m ∙ unhit_begun s.me.0 c.begin.new.seat.me.0 c.args.req (subst (λ (q : Req). Extends s.me.0 (Did (Begin q)) (RoleBusy q) c.begin.new.seat.me.0) at x.0);
       spare = subst (λ (K : List ℕ). HasRooms K c.self.inside.lists) cells c.self.invariant.1;
+      marked = subst (λ (z : Seated). AreMarked c.self.inside.lists.marks z.0.seen) (sym m) (marked_after c.self.inside.lists.marks s.me.0 c.begin.new.seat.me.0 _ _ x.0 c.self.invariant.2);
       runs = subst (λ (z : Seated). RunsIt table z.0 spot.cell spot.generation c.args.req c.parcel_of.result c.args.pipes) (sym m) runs;
       out = ap (λ (z : Seated). z.1) m ∙ (ap (λ (n : ℕ). (n, None) ∷ rest c.begin.new.seat.me.1) c.slot.ensures ∙ ap (λ (cs : List (ℕ × Option Thing)). (slot_at spot.cell, None) ∷ cs) (ap rest x.1.1 ∙ c.self.invariant.0.bare));
       bare = λ n. (subst (λ (z : Seated × Req). holder z.0.0.seen n ≢ Some z.1) (λ i. (sym m i, at i)) (x.2 n));

@@ -1,0 +1,29 @@
+-- What a row's note of plain requests says of them.
+use Rattle.std.proofs.Common.{◌<◌, List, Option, arith}
+use Rattle.atomic_table.specs.declared.shared.Seat.{Seat}
+use Rattle.gates.specs.EntryRows.{Kept}
+use Rattle.gates.specs.Shows.{ArePlain}
+use Rattle.gates.proofs.PlainLaws.{plain_unsevered, plain_open}
+use Rattle.history.specs.declared.req.Req.{Req}
+use Rattle.history.specs.declared.event.Event.{Event}
+use Rattle.history.specs.History.{submits}
+use Rattle.history.specs.Chains.{Severed, Open}
+use Rattle.steps.specs.declared.parcel.Thing.{Thing}
+use Rattle.steps.specs.declared.view.View.{View}
+use Rattle.steps.specs.Cells.{setup_of}
+use Rattle.steps.specs.Journal.{events_of}
+use Rattle.steps.proofs.JournalGrowth.{submitted_in}
+use Rattle.work.specs.Board.{Facts}
+use Rattle.board.specs.PollerRows.{IsOurs, KnowsRow}
+
+abbrev TableSeat : Type 0
+TableSeat = Seat (Option Thing) View
+
+module _ (b : Facts) (s : TableSeat) (q : Req) (r : Kept) (k : KnowsRow b.layout.cells s.me.0.seen q.ring r) (lt : q.k < r.plain) where
+  -- it was submitted
+  pub plain_born : IsOurs b s → q.k < submits (events_of s.me.0.seen) q.ring
+  plain_born o = let t = k.plain q.k lt in submitted_in (setup_of b.layout) s.me.0.seen q t.handed.0 o.ours.legal t.handed.1
+
+  -- and is open
+  pub plain_may : (¬ Severed (events_of s.me.0.seen) q) × Open (events_of s.me.0.seen) q
+  plain_may = let h : List Event = events_of s.me.0.seen in let before : ArePlain h q.ring q.k = λ m less. k.plain m (omega arith) in (plain_unsevered h q before (k.plain q.k lt), plain_open h q before (k.plain q.k lt))

@@ -1,0 +1,229 @@
+//! The start of the workers: each in a thread of its own, an only one in that of the poller. Where something is refused, what was made
+//! by then is dropped by a call.
+ghost use Rattle.std.specs.Prelude.{◌≡◌, ◌≢◌, ◌+◌, ◌≤◌, [], All, length, sum_by, vec_capacity, IfOk, IfErr};
+ghost use Rattle.std.specs.Arc.{arc_value};
+ghost use Rattle.work.specs.Board.{IsOf};
+ghost use Rattle.ready.specs.Ready.{IsOf as IsOfQueue};
+ghost use Rattle.board.specs.ShapeLimits.{widest};
+ghost use Rattle.runtime.specs.Crews.{AreWorking, own_in, own_share, shares_of, threads_for};
+ghost use Rattle.runtime.specs.Loops.{IsOwn, IsServing, MayOwn};
+ghost use Rattle.runtime.specs.StartParts.{HavePairs};
+ghost use Rattle.runtime.specs.declared.error.StartError.TheVariants.{BadShape};
+
+use crate::error::{Memory, StartError};
+use crate::serving::{Others, WorkDesk};
+use crate::shared::Shared;
+use crate::sleeping::{Caller, Listener};
+use crate::started::{Ours, WorkThread};
+use crate::threads::{OwnWorker, work};
+use board::Worker;
+use controls::Turnstile;
+use outbox::Outbox;
+use ready::ReadyPass;
+use std::alloc::Global;
+use std::snapshot::Snapshot;
+use std::sync::{Arc, Wait};
+use std::thread;
+use std::thread::Threads;
+
+/// How many answered requests a worker keeps at most when it begins another one.
+/// Under load it then takes a lock once for 16 requests. With 64 a client that has 64 in flight mostly waits for all of them at once.
+const KEPT: u32 = 15;
+
+/// The passes of the workers, of the board, of the ready queue and of the event count of the workers, by which each also calls the others.
+#[derive(Drop)]
+pub(crate) struct WorkerParts {
+    pub workers: Vec<Worker>,
+    pub passes: Vec<ReadyPass>,
+    pub listeners: Vec<Listener>,
+    pub callers: Vec<Caller>,
+}
+
+/// The outbox of a worker.
+fn outbox_of(alloc: Global, shared: &Shared) -> Result<Outbox, Memory>
+    ensures { IfOk result (λ o. widest shared.now.board.layout.cells ≤ o.places) }
+{
+    let places = shared.board.widest() + KEPT;
+    let outbox = Outbox::new(alloc, places)?;
+    Ok(outbox)
+}
+
+/// Starts the thread of a worker.
+fn start_worker<
+    R: Threads + Wait + Copy + Send + 'static,
+    G: Turnstile + Send + Sync + Drop + 'static,
+>(
+    rt: R,
+    alloc: Global,
+    shared: &Arc<Shared>,
+    worker: Worker,
+    desk: WorkDesk,
+    listener: Listener,
+    turnstile: Arc<G>,
+) -> Result<WorkThread, StartError>
+    requires { IsServing (arc_value shared.now) desk worker }
+    ensures thread { IfOk result (λ t. (arc_value t.handle.promise.0.value ≡ arc_value shared.now) × (t.handle.promise.1.value.share ≡ desk.ready.share)) }
+    ensures refused { IfErr result (λ e. e ≢ BadShape) }
+{
+    let Ok(theirs) = Arc::try_clone(shared) else {
+        drop((worker, desk, listener, turnstile));
+        return Err(StartError::Memory);
+    };
+    let Ok(outbox) = outbox_of(alloc, shared) else {
+        drop((worker, desk, listener, turnstile, theirs));
+        return Err(StartError::Memory);
+    };
+    let promise = Ours(Snapshot::of(shared), Snapshot::of(desk.ready()));
+    match thread::spawn_with(
+        &rt,
+        promise,
+        move || -> (Worker, ReadyPass)
+            requires desk { IsServing (arc_value theirs) desk worker }
+            requires places { widest (arc_value theirs).board.layout.cells ≤ outbox.places }
+            ensures { IsOf (arc_value theirs).board result.0 × IsOfQueue (arc_value theirs).queue result.1 × (result.1.share ≡ desk.ready.share) }
+        { work(&rt, &theirs, desk, worker, &*turnstile, outbox, listener) },
+    ) {
+        Ok(handle) => Ok(WorkThread { handle }),
+        Err(refused) => {
+            drop(refused);
+            Err(StartError::Thread)
+        }
+    }
+}
+
+/// Starts the thread of a worker beside others: it wakes them, and counts for them what it wakes.
+fn start_beside<
+    R: Threads + Wait + Copy + Send + 'static,
+    G: Turnstile + Send + Sync + Drop + 'static,
+>(
+    rt: R,
+    alloc: Global,
+    shared: &Arc<Shared>,
+    worker: Worker,
+    ready: ReadyPass,
+    listener: Listener,
+    caller: Caller,
+    turnstile: &Arc<G>,
+) -> Result<WorkThread, StartError>
+    requires worker { IsOf (arc_value shared.now).board worker }
+    requires ready { IsOfQueue (arc_value shared.now).queue ready }
+    ensures thread { IfOk result (λ t. (arc_value t.handle.promise.0.value ≡ arc_value shared.now) × (t.handle.promise.1.value.share ≡ ready.share)) }
+    ensures refused { IfErr result (λ e. e ≢ BadShape) }
+{
+    let (Ok(points), Ok(theirs)) = (Arc::try_clone(turnstile), Arc::try_clone(shared)) else {
+        drop((worker, ready, listener, caller));
+        return Err(StartError::Memory);
+    };
+    let others = Others {
+        caller,
+        shared: theirs,
+    };
+    match WorkDesk::beside(alloc, &shared.board, ready, Some(others)) {
+        Ok(desk) => start_worker(rt, alloc, shared, worker, desk, listener, points),
+        Err(refused) => {
+            drop((refused, worker, listener, points));
+            Err(StartError::Memory)
+        }
+    }
+}
+
+/// Starts the threads of the workers, with a pass of the ready queue for each. There is room for their handles.
+pub(crate) fn start_workers<
+    R: Threads + Wait + Copy + Send + 'static,
+    G: Turnstile + Send + Sync + Drop + 'static,
+>(
+    rt: R,
+    alloc: Global,
+    shared: &Arc<Shared>,
+    parts: WorkerParts,
+    turnstile: &Arc<G>,
+    threads: &mut Vec<WorkThread>,
+) -> Result<(), StartError>
+    requires workers { All (λ p. IsOf (arc_value shared.now).board p) parts.workers.items }
+    requires passes { All (λ p. IsOfQueue (arc_value shared.now).queue p) parts.passes.items }
+    requires count { HavePairs parts }
+    requires room { (threads.old.items ≡ []) × (length parts.workers.items ≤ vec_capacity threads.old) }
+    ensures threads { AreWorking (arc_value shared.now) threads.new.items }
+    ensures count { IfOk result (λ _. length threads.new.items ≡ length parts.workers.items) }
+    ensures shares { IfOk result (λ _. shares_of threads.new.items ≡ sum_by (λ p. p.share) parts.passes.items) }
+    ensures refused { IfErr result (λ e. e ≢ BadShape) }
+{
+    let WorkerParts {
+        mut workers,
+        mut passes,
+        mut listeners,
+        mut callers,
+    } = parts;
+    while let Some(worker) = workers.pop() {
+        let Some(ready) = passes.pop() else {
+            unreachable!()
+        };
+        let (Some(listener), Some(caller)) = (listeners.pop(), callers.pop()) else {
+            unreachable!()
+        };
+        match start_beside(
+            rt, alloc, shared, worker, ready, listener, caller, turnstile,
+        ) {
+            Ok(thread) => threads.push_reserved(thread),
+            Err(error) => {
+                drop((workers, passes, listeners, callers));
+                return Err(error);
+            }
+        }
+    }
+    Ok(())
+}
+
+/// A worker that the poller's thread serves, with a desk and an outbox.
+fn own_worker(
+    alloc: Global,
+    shared: &Shared,
+    worker: Worker,
+    ready: ReadyPass,
+) -> Result<OwnWorker, Memory>
+    requires worker { IsOf shared.now.board worker }
+    requires ready { IsOfQueue shared.now.queue ready }
+    ensures own { IfOk result (λ o. IsOwn shared.now o) }
+    ensures share { IfOk result (λ o. o.desk.ready.share ≡ ready.share) }
+{
+    let outbox = outbox_of(alloc, shared)?;
+    match WorkDesk::new(alloc, &shared.board, ready) {
+        Ok(desk) => Ok(OwnWorker {
+            desk,
+            worker,
+            outbox,
+        }),
+        Err(refused) => {
+            drop((refused, worker, outbox));
+            Err(Memory)
+        }
+    }
+}
+
+/// The worker that the poller's thread serves itself, where it is the only one. It has no thread then.
+pub(crate) fn own_of(
+    alloc: Global,
+    shared: &Shared,
+    parts: &mut WorkerParts,
+) -> Result<Option<OwnWorker>, Memory>
+    requires workers { All (λ p. IsOf shared.now.board p) parts.old.workers.items }
+    requires passes { All (λ p. IsOfQueue shared.now.queue p) parts.old.passes.items }
+    requires count { HavePairs parts.old }
+    ensures own { IfOk result (λ o. MayOwn shared.now o × (own_in o + length parts.new.workers.items ≡ length parts.old.workers.items)) }
+    ensures shares { IfOk result (λ o. own_share o + sum_by (λ p. p.share) parts.new.passes.items ≡ sum_by (λ p. p.share) parts.old.passes.items) }
+    ensures workers { All (λ p. IsOf shared.now.board p) parts.new.workers.items }
+    ensures passes { All (λ p. IsOfQueue shared.now.queue p) parts.new.passes.items }
+    ensures count { HavePairs parts.new }
+    ensures threads { IfOk result (λ _. length parts.new.workers.items + 1 ≡ threads_for (length parts.old.workers.items)) }
+{
+    if parts.workers.len() != 1 {
+        return Ok(None);
+    }
+    let (Some(worker), Some(ready)) = (parts.workers.pop(), parts.passes.pop()) else {
+        unreachable!()
+    };
+    parts.listeners.pop();
+    parts.callers.pop();
+    let own = own_worker(alloc, shared, worker, ready)?;
+    Ok(Some(own))
+}

@@ -1,0 +1,10 @@
+use Rattle.std.proofs.Common.{◌≡◌, ℕ, ◌-◌, ◌<◌, ◌≤◌, length, Some}
+use Rattle.std.specs.List.{slice_get}
+use Rattle.wheel.specs.declared.sorted.Timer.{Timer}
+use Rattle.wheel.proofs.sorted.first_from.Given as goal
+
+abbrev pub invariant-loop-low : goal.invariant-loop-low
+invariant-loop-low l = (l.low ≤ l.high) × (l.high ≤ length l.timers) × ((j : ℕ) (t : Timer) → j < l.low → slice_get l.timers j ≡ Some t → t.at < l.at)
+
+abbrev pub decreases-loop-low : goal.decreases-loop-low
+decreases-loop-low l = l.high - l.low
