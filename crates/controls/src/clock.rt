@@ -27,12 +27,6 @@ pub trait Clock {
     fn tell(&mut self, now: u32, phase: Option<Phase>) -> Option<u32>
         ensures { Told (follows self.old) (follows self.new) (asked self.old) now phase result };
 
-    /// Whether the poller is to make its next turn at once. Else, after many turns in a row that did nothing, it leaves its processor to
-    /// other threads between two of them.
-    fn is_in_haste(&self) -> bool {
-        false
-    }
-
     /// What does not set the clock, the clock need not know of.
     ghost stays: { (c : Self) (s : Setup) (e : Event) (h : List Event) → Legal s (e ∷ h) → counts_tick e ≡ 0 → follows c h → follows c (e ∷ h) };
 }

@@ -34,7 +34,7 @@ use Rattle.runtime.specs.declared.hands.Hands.{Hands}
 use Rattle.runtime.specs.Parts.{HaveWaited, IsDueTimer, HasRung, HasStopped, IsStuck, WaitsOn, WasTried, WatchesOn, WentOn, stands_armed, with_watched}
 use Rattle.outbox.specs.Outbox.{Waiting}
 use Rattle.runtime.specs.Backlogs.{Owed}
-use Rattle.runtime.specs.PollTurns.{AllRung, Desk, IsPollers, IsStopped, IsTaken, Rang, cares_in}
+use Rattle.runtime.specs.PollTurns.{AllRung, Desk, IsPollers, IsStopped, IsTaken, Rang, cares_in, ReachesTo}
 use Rattle.runtime.specs.Shelves.{Places, with_request}
 use Rattle.runtime.proofs.ClockLaws.{clock_kept}
 use Rattle.runtime.proofs.TurnLaws.{among_append}
@@ -597,13 +597,13 @@ waited_more p m n q xs ys old new r x y z w e t = have_waited_then p m q xs ys n
 
 -- one ring more was taken up
 pub taken_next : (tails : List ℕ) (old new : ℕ → ℕ) (ring tail : ℕ) (h k : Hands) (s t : Places) → tail ≡ slice_index tails ring → ((i : ℕ) → i ≢ ring → new i ≡ old i) → (HasStopped h s → HasStopped k t)
-    → ((i : ℕ) → i < ring → IsTaken tails old i) ⊎ HasStopped h s → ((tail ≡ 18446744073709551615) ⊎ (tail ≤ new ring)) ⊎ HasStopped k t → ((i : ℕ) → i < ring + 1 → IsTaken tails new i) ⊎ HasStopped k t
+    → ((i : ℕ) → i < ring → IsTaken tails old i) ⊎ HasStopped h s → ReachesTo tail (new ring) ⊎ HasStopped k t → ((i : ℕ) → i < ring + 1 → IsTaken tails new i) ⊎ HasStopped k t
 taken_next tails old new ring tail h k s t is others stops before now = ⊎_elim
     (λ (b : (i : ℕ) → i < ring → IsTaken tails old i). ⊎_elim
-    (λ (n : (tail ≡ 18446744073709551615) ⊎ (tail ≤ new ring)). inl (λ i lt. ⊎_elim
-    (λ (e : i ≡ ring). subst (IsTaken tails new) (sym e) (⊎_elim (λ end. inl (sym is ∙ end)) (λ le. inr (subst (λ (x : ℕ). x ≤ new ring) is le)) n))
+    (λ (n : ReachesTo tail (new ring)). inl (λ i lt. ⊎_elim
+    (λ (e : i ≡ ring). subst (IsTaken tails new) (sym e) (subst (λ (x : ℕ). ReachesTo x (new ring)) is n))
     (λ z. ⊎_elim
-    (λ (l : i < ring). let same_as = others i (λ (e : i ≡ ring). omega (arith, l, e)) in ⊎_elim (λ end. inl end) (λ le. inr (subst (λ (x : ℕ). slice_index tails i ≤ x) (sym same_as) le)) (b i l))
+    (λ (l : i < ring). let same_as = others i (λ (e : i ≡ ring). omega (arith, l, e)) in subst (λ (x : ℕ). ReachesTo (slice_index tails i) x) (sym same_as) (b i l))
     (λ (l : ring < i). absurd (omega (arith, l, lt))) z)
     (cases_order i ring)))
     (λ st. inr st) now)

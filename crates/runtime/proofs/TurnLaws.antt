@@ -334,10 +334,3 @@ nothing_done b q h m k o w x y none idle =
       y.ready ∙ (ap (λ (ps : List Req). record m.ready { put = m.ready.put ++ ps }) z.3 ∙ (sym (no_puts m.ready) ∙ x.same.0)),
       y.answered ∙ ((λ i. none i ++ answered_by (z.1 i)) ∙ refl),
     )
-
-abbrev pub is_idle : Turn → Bool
-is_idle Idle = true
-is_idle Moved = false
-
-pub moved_not_idle : (x : Turn) → x ≡ Moved → x ≡ Idle → ⊥
-moved_not_idle x a b = true≢false (sym (ap is_idle b) ∙ ap is_idle a)

@@ -7,6 +7,7 @@ pub mod WorkTurns
 pub mod Clients
 pub mod Loops
 pub mod Crews
+pub mod Rests
 pub mod StartParts
 pub mod Backlogs
 pub mod PostLocks

@@ -1,12 +1,14 @@
 -- Desks that belong to what their threads share.
-use Rattle.std.specs.Prelude.{◌≡◌, ◌<◌, ◌≤◌, Option, Some, None}
+use Rattle.std.specs.Prelude.{◌≡◌, ◌<◌, ◌≤◌, List, [], Option, Some, None}
 use Rattle.work.specs.Board.{IsOf}
-use Rattle.work.specs.Passes.{Pass}
+use Rattle.work.specs.Passes.{Pass, seen_of}
 use Rattle.bell.specs.BellPasses.{IsSleeperOf}
 use Rattle.ready.specs.Ready.{IsOf as IsOfQueue}
 use Rattle.board.specs.ShapeLimits.{widest}
 use Rattle.runtime.specs.declared.shared.Shared.{Shared}
-use Rattle.runtime.specs.declared.threads.OwnWorker.{OwnWorker}
+use Rattle.history.specs.declared.event.Event.{Event}
+use Rattle.runtime.specs.declared.threads.PollSide.{PollSide}
+use Rattle.runtime.specs.declared.threads.WorkSide.{WorkSide}
 use Rattle.runtime.specs.PollTurns.{Desk, IsPollers}
 use Rattle.runtime.specs.WorkTurns.{Desk as WorkDesk}
 
@@ -24,12 +26,19 @@ pub record IsServing (s : Shared) (d : WorkDesk) (worker : Pass) : Type 0 where
   pub worker_is : IsOf s.board worker
   pub ready : IsOfQueue s.queue d.ready
 
--- the worker that the poller's thread serves, and its desk, are of this board and queue, and its outbox has room for a turn
-pub record IsOwn (s : Shared) (own : OwnWorker) : Type 0 where
-  pub serving : IsServing s own.desk own.worker
-  pub places : widest s.board.layout.cells ≤ own.outbox.places
+-- the worker and its desk are of this board and queue, and its outbox has room for a turn
+pub record IsWorkSide (s : Shared) (side : WorkSide) : Type 0 where
+  pub serving : IsServing s side.desk side.worker
+  pub places : widest s.board.layout.cells ≤ side.outbox.places
 
--- where there is one
-abbrev pub MayOwn : Shared → Option OwnWorker → Type 0
+-- so is that which the poller's thread serves itself, where there is one
+abbrev pub MayOwn : Shared → Option WorkSide → Type 0
 MayOwn s None = Unit {0}
-MayOwn s (Some own) = IsOwn s own
+MayOwn s (Some own) = IsWorkSide s own
+
+-- what the poller's thread has is of this board, bell and queue: its outbox is empty and has room for a turn, and its clock goes along with what the poller has seen
+pub record IsPollSide {C : Type 0} (follows : C → List Event → Type 0) (s : Shared) (side : PollSide C) : Type 0 where
+  pub desk : IsPolling s side.desk
+  pub clock : follows side.clock (seen_of side.desk.poller)
+  pub outbox : (side.outbox.answered ≡ []) × (side.desk.places ≤ side.outbox.places)
+  pub own : MayOwn s side.own

@@ -125,9 +125,13 @@ pub record IsPollTurn (b : Facts) (q : QueueFacts) (old new : Desk) (after : Wai
 abbrev pub IsStopped : Desk → Waiting → Type 0
 IsStopped d o = (d.kept ≢ []) ⊎ (d.places ≤ length o.answered)
 
--- the ring's requests were taken up to the tail that was collected, unless that is the tail which ends the poller
+-- so many requests are all that were submitted by this tail, or by one that tells the poller to end, too
+abbrev pub ReachesTo : ℕ → ℕ → Type 0
+ReachesTo tail n = (tail ≤ n) ⊎ ((9223372036854775808 ≤ tail) × (tail ≤ n + 9223372036854775808))
+
+-- the ring's requests were taken up to the tail that was collected
 abbrev pub IsTaken : List ℕ → (ℕ → ℕ) → ℕ → Type 0
-IsTaken tails taken i = (slice_index tails i ≡ 18446744073709551615) ⊎ (slice_index tails i ≤ taken i)
+IsTaken tails taken i = ReachesTo (slice_index tails i) (taken i)
 
 -- so were those of all rings, unless the turn was stopped or each place of the list of those that wait is taken
 abbrev pub AllTaken : Desk → Waiting → Type 0
@@ -145,11 +149,24 @@ AllRung old new o = NoneIsDue (cares_in new) (seen_of new.poller) ⊎ ((new.plac
 abbrev pub AllCounted : Desk → Desk → Waiting → Type 0
 AllCounted old new o = ArePending old.poller new.poller new.watched ⊎ (new.places ≤ length o.answered)
 
--- an idle turn did nothing but look, keeps no number, and the poller is done with each request that was taken up
-pub record IsIdle (b : Facts) (old new : Desk) (o : Waiting) : Type 0 where
+-- the turn did nothing but look, and keeps no number
+pub record IsStill (b : Facts) (old new : Desk) (o : Waiting) : Type 0 where
   pub kept : new.kept ≡ []
   pub goes : GoesOn b old.poller [] new.poller
   pub alone : (r : Req) → freed new.poller.view.seen r ≡ freed old.poller.view.seen r
   pub ready : new.ready ≡ old.ready
   pub answered : o.answered ≡ []
-  pub done : (r : Req) → r.k < taken_in new.intakes r.ring → IsDone new.poller.view.seen r
+
+-- the poller is done with each request that was taken up
+abbrev pub AllDone : Desk → Type 0
+AllDone d = (r : Req) → r.k < taken_in d.intakes r.ring → IsDone d.poller.view.seen r
+
+-- a turn of the poller that did nothing: it has taken up all that was submitted by the tails that it collected, each request that waits could not go on, no timer is due, and each that counts waits for a reply
+pub record IsAtRest (b : Facts) (q : QueueFacts) (old new : Desk) : Type 0 where
+  pub outbox : Waiting
+  pub turned : IsPollTurn b q old new outbox
+  pub still : IsStill b old new outbox
+  pub taken_up : AllTaken new outbox
+  pub tried : AllTried old new outbox
+  pub rung : AllRung old new outbox
+  pub counted : AllCounted old new outbox

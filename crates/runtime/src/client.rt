@@ -275,10 +275,10 @@ impl Client {
     /// Tells the poller to end, where this is the client of ring 0.
     pub(crate) fn tell_end(&mut self)
         ensures same { without_tail self.new ≡ without_tail self.old }
-        ensures told { self.old.ring ≡ 0 → self.new.tail ≡ 18446744073709551615 }
+        ensures told { self.old.ring ≡ 0 → 9223372036854775808 ≤ self.new.tail }
     {
-        if self.held.ring() == 0 {
-            self.publish(END);
+        if self.held.ring() == 0 && self.tail < END {
+            self.publish(self.tail + END);
         }
     }
 

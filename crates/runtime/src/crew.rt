@@ -6,7 +6,7 @@ ghost use Rattle.work.specs.Board.{IsOf};
 ghost use Rattle.ready.specs.Ready.{IsOf as IsOfQueue};
 ghost use Rattle.board.specs.ShapeLimits.{widest};
 ghost use Rattle.runtime.specs.Crews.{AreWorking, own_in, own_share, shares_of, threads_for};
-ghost use Rattle.runtime.specs.Loops.{IsOwn, IsServing, MayOwn};
+ghost use Rattle.runtime.specs.Loops.{IsServing, IsWorkSide, MayOwn};
 ghost use Rattle.runtime.specs.StartParts.{HavePairs};
 ghost use Rattle.runtime.specs.declared.error.StartError.TheVariants.{BadShape};
 
@@ -15,7 +15,7 @@ use crate::serving::{Others, WorkDesk};
 use crate::shared::Shared;
 use crate::sleeping::{Caller, Listener};
 use crate::started::{Ours, WorkThread};
-use crate::threads::{OwnWorker, work};
+use crate::threads::{WorkSide, work};
 use board::Worker;
 use controls::Turnstile;
 use outbox::Outbox;
@@ -74,14 +74,18 @@ fn start_worker<
         return Err(StartError::Memory);
     };
     let promise = Ours(Snapshot::of(shared), Snapshot::of(desk.ready()));
+    let side = WorkSide {
+        desk,
+        worker,
+        outbox,
+    };
     match thread::spawn_with(
         &rt,
         promise,
-        move || -> (Worker, ReadyPass)
-            requires desk { IsServing (arc_value theirs) desk worker }
-            requires places { widest (arc_value theirs).board.layout.cells ≤ outbox.places }
-            ensures { IsOf (arc_value theirs).board result.0 × IsOfQueue (arc_value theirs).queue result.1 × (result.1.share ≡ desk.ready.share) }
-        { work(&rt, &theirs, desk, worker, &*turnstile, outbox, listener) },
+        move || -> WorkSide
+            requires { IsWorkSide (arc_value theirs) side }
+            ensures { IsWorkSide (arc_value theirs) result × (result.desk.ready.share ≡ side.desk.ready.share) }
+        { work(&rt, &theirs, &*turnstile, side, listener) },
     ) {
         Ok(handle) => Ok(WorkThread { handle }),
         Err(refused) => {
@@ -180,15 +184,15 @@ fn own_worker(
     shared: &Shared,
     worker: Worker,
     ready: ReadyPass,
-) -> Result<OwnWorker, Memory>
+) -> Result<WorkSide, Memory>
     requires worker { IsOf shared.now.board worker }
     requires ready { IsOfQueue shared.now.queue ready }
-    ensures own { IfOk result (λ o. IsOwn shared.now o) }
+    ensures own { IfOk result (λ o. IsWorkSide shared.now o) }
     ensures share { IfOk result (λ o. o.desk.ready.share ≡ ready.share) }
 {
     let outbox = outbox_of(alloc, shared)?;
     match WorkDesk::new(alloc, &shared.board, ready) {
-        Ok(desk) => Ok(OwnWorker {
+        Ok(desk) => Ok(WorkSide {
             desk,
             worker,
             outbox,
@@ -205,7 +209,7 @@ pub(crate) fn own_of(
     alloc: Global,
     shared: &Shared,
     parts: &mut WorkerParts,
-) -> Result<Option<OwnWorker>, Memory>
+) -> Result<Option<WorkSide>, Memory>
     requires workers { All (λ p. IsOf shared.now.board p) parts.old.workers.items }
     requires passes { All (λ p. IsOfQueue shared.now.queue p) parts.old.passes.items }
     requires count { HavePairs parts.old }

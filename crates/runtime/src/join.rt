@@ -1,12 +1,12 @@
 //! The end of a runtime.
-ghost use Rattle.std.specs.Prelude.{◌≡◌, ◌≢◌, ◌↔◌, ◌≤◌, ◌++◌, ◌∷◌, [], List, All, length, map, vec_capacity, IfOk, IfErr};
+ghost use Rattle.std.specs.Prelude.{◌≡◌, ◌≢◌, ◌↔◌, ◌≤◌, ◌++◌, ◌∷◌, [], List, length, map, vec_capacity, IfOk, IfErr, IsTrue};
 ghost use Rattle.std.specs.Arc.{arc_value};
-ghost use Rattle.steps.specs.Cells.{total};
 ghost use Rattle.steps.specs.declared.view.Role.TheVariants.{Poller as PollerRole};
-ghost use Rattle.work.specs.Board.{IsOf};
 ghost use Rattle.work.specs.Passes.{Pass, seen_of};
 ghost use Rattle.board.specs.Reports.{AreOf, IsReport};
 ghost use Rattle.runtime.specs.Clients.{AreClients, submitter_of, without_tail};
+ghost use Rattle.runtime.specs.Crews.{IsDrained, worker_of};
+ghost use Rattle.runtime.specs.Rests.{CameToRest, HasRested, IsHalted};
 ghost use Rattle.runtime.specs.declared.error.JoinError.TheVariants.{Missing};
 
 use crate::client::Client;
@@ -91,20 +91,20 @@ fn sole<R: Wait>(rt: &R, mut shared: Arc<Shared>) -> Shared
     unreachable!()
 }
 
-/// Ends the ready queue and the board of a runtime whose threads have ended, and whose clients are these. It gives back the clock.
-fn end<R: Wait, C: Clock>(
-    rt: &R,
-    stopped: Stopped<C>,
-    clients: Vec<Client>,
-    submitters: Vec<Submitter>,
-    report: ReportRoom,
-) -> (Report, C)
-    requires own { AreClients stopped.shared.board clients.items }
-    requires complete { length clients.items ≡ length stopped.shared.board.layout.cells }
-    requires room { (submitters.items ≡ []) × (length clients.items ≤ vec_capacity submitters) }
-    requires report { total stopped.shared.board.layout.cells ≤ report }
-    ensures { (poller : Pass) × (workers : List Pass) × IsReport stopped.shared.board (poller ∷ (map submitter_of clients.items ++ workers)) result.0 × C.follows result.1 (seen_of poller) × (poller.view.role ≡ PollerRole (length stopped.shared.board.layout.cells)) }
+/// Ends the ready queue and the board of a runtime whose threads have ended, and whose clients are these. It gives back the clock, and
+/// tells whether the ready queue was empty.
+fn end<R: Wait, C: Clock>(rt: &R, halted: Halted<C>) -> (Report, C, bool)
+    requires { IsHalted halted }
+    ensures report { IsReport halted.stopped.shared.board (halted.stopped.desk.poller ∷ (map submitter_of halted.clients.items ++ map worker_of halted.stopped.workers)) result.0 }
+    ensures follows { C.follows result.1 (seen_of halted.stopped.desk.poller) × (halted.stopped.desk.poller.view.role ≡ PollerRole (length halted.stopped.shared.board.layout.cells)) }
+    ensures drained { IsTrue result.2 → IsDrained halted.stopped.desk halted.stopped.workers }
 {
+    let Halted {
+        stopped,
+        clients,
+        submitters,
+        report,
+    } = halted;
     let (shared, ends) = stopped.parts();
     let Ends {
         poller,
@@ -115,8 +115,63 @@ fn end<R: Wait, C: Clock>(
     } = ends;
     let submitters = submitters_of(&shared.board, clients, submitters);
     let Shared { board, queue, .. } = sole(rt, shared);
-    queue.gather_in(rt, passes, room);
-    (board.finish_in(poller, submitters, workers, report), clock)
+    let left = queue.gather_in(rt, passes, room);
+    let is_drained = left.is_empty();
+    let report = board.finish_in(poller, submitters, workers, report);
+    (report, clock, is_drained)
+}
+
+/// A runtime whose threads have ended, its clients, and the room for its end.
+#[derive(Drop)]
+pub(crate) struct Halted<C: Clock> {
+    pub stopped: Stopped<C>,
+    pub clients: Vec<Client>,
+    pub submitters: Vec<Submitter>,
+    pub report: ReportRoom,
+}
+
+/// Tells all threads to end, at once or where the runtime is at rest, and waits for them.
+fn halt<R: Threads, C: Clock>(
+    rt: &R,
+    alloc: Global,
+    runtime: Runtime<C>,
+    clients: Vec<Client>,
+    at_rest: bool,
+) -> Result<Halted<C>, Unjoined<C>>
+    requires own { AreClients runtime.board clients.items }
+    ensures halted { IfOk result IsHalted }
+    ensures same { IfOk result (λ h. (h.stopped.shared.board ≡ runtime.board) × (map without_tail h.clients.items ≡ map without_tail clients.items)) }
+    ensures complete { IfOk result (λ _. length clients.items ≡ length runtime.board.layout.cells) }
+    ensures missing { IfErr result (λ u. (u.error ≡ Missing) ↔ (length clients.items ≢ length runtime.board.layout.cells)) }
+    ensures back { IfErr result (λ u. (u.runtime.board ≡ runtime.board) × (map without_tail u.clients.items ≡ map without_tail clients.items)) }
+    ensures early { IfErr result (λ u. u.error ≢ JoinError.Shared → (u.runtime ≡ runtime) × (u.clients.items ≡ clients.items)) }
+    ensures late { IfErr result (λ u. u.error ≡ JoinError.Shared → u.runtime.threads ≡ 0) }
+{
+    let mut clients = clients;
+    if clients.len() != runtime.rings() {
+        return Err(Unjoined::new(JoinError::Missing, runtime, clients));
+    }
+    let (Ok(report), Ok(submitters)) = (
+        runtime.make_room(alloc),
+        Vec::with_capacity(alloc, clients.len()),
+    ) else {
+        return Err(Unjoined::new(JoinError::Memory, runtime, clients));
+    };
+    if at_rest {
+        runtime.let_rest();
+    }
+    tell_end(&mut clients);
+    let stopped = runtime.stop(rt);
+    if !stopped.is_shared_by(clients.len()) {
+        let runtime = stopped.resumed();
+        return Err(Unjoined::new(JoinError::Shared, runtime, clients));
+    }
+    Ok(Halted {
+        stopped,
+        clients,
+        submitters,
+        report,
+    })
 }
 
 /// Ends a runtime: it tells all threads to end, waits for them, and ends the board. The report has each request that no client has
@@ -139,40 +194,69 @@ pub fn join_all<R: Threads + Wait, C: Clock + Drop>(
     ensures early { IfErr result (λ u. u.error ≢ JoinError.Shared → (u.runtime ≡ runtime) × (u.clients.items ≡ clients.items)) }
     ensures late { IfErr result (λ u. u.error ≡ JoinError.Shared → u.runtime.threads ≡ 0) }
 {
-    let (report, _clock) = join_with_clock(rt, alloc, runtime, clients)?;
+    let halted = halt(rt, alloc, runtime, clients, false)?;
+    let (report, _clock, _is_drained) = end(rt, halted);
     Ok(report)
 }
 
-/// As `join_all`, and gives back the clock, which has gone along with all that the poller saw.
-pub fn join_with_clock<R: Threads + Wait, C: Clock>(
+/// What is left of a runtime that came to rest: its report, its clock, and whether it did come to rest, which takes memory.
+#[derive(Drop)]
+pub struct Rested<C> {
+    pub report: Report,
+    pub clock: C,
+    pub is_at_rest: bool,
+}
+
+/// As `join_all`, once the runtime is at rest: all that its clients submitted is taken up, the ready queue is empty, no worker has
+/// anything to do, no timer is due, no request that waits could go on, and the clock asks for nothing more. So what is cut off waits for
+/// what doesn't come. Where the clock never comes to its end this waits on. The threads make their turns until nothing happens any
+/// more; then they end, and this one makes the last turns.
+pub fn join_at_rest<R: Threads + Wait, C: Clock>(
     rt: &R,
     alloc: Global,
     runtime: Runtime<C>,
     clients: Vec<Client>,
-) -> Result<(Report, C), Unjoined<C>>
+) -> Result<Rested<C>, Unjoined<C>>
     requires own { AreClients runtime.board clients.items }
-    ensures report { IfOk result (λ r. (poller : Pass) × (workers : List Pass) × IsReport runtime.board (poller ∷ (map submitter_of clients.items ++ workers)) r.0 × C.follows r.1 (seen_of poller) × (poller.view.role ≡ PollerRole (length runtime.board.layout.cells))) }
+    ensures ended { IfOk result (λ e. (poller : Pass) × (workers : List Pass) × IsReport runtime.board (poller ∷ (map submitter_of clients.items ++ workers)) e.report × C.follows e.clock (seen_of poller) × (poller.view.role ≡ PollerRole (length runtime.board.layout.cells)) × (IsTrue e.is_at_rest → CameToRest runtime.board poller workers)) }
     ensures complete { IfOk result (λ _. length clients.items ≡ length runtime.board.layout.cells) }
     ensures missing { IfErr result (λ u. (u.error ≡ Missing) ↔ (length clients.items ≢ length runtime.board.layout.cells)) }
     ensures back { IfErr result (λ u. (u.runtime.board ≡ runtime.board) × (map without_tail u.clients.items ≡ map without_tail clients.items)) }
     ensures early { IfErr result (λ u. u.error ≢ JoinError.Shared → (u.runtime ≡ runtime) × (u.clients.items ≡ clients.items)) }
     ensures late { IfErr result (λ u. u.error ≡ JoinError.Shared → u.runtime.threads ≡ 0) }
 {
-    let mut clients = clients;
-    if clients.len() != runtime.rings() {
-        return Err(Unjoined::new(JoinError::Missing, runtime, clients));
+    let halted = halt(rt, alloc, runtime, clients, true)?;
+    let (halted, is_settled) = halted.settle(rt);
+    let (report, clock, is_drained) = end(rt, halted);
+    let is_at_rest = is_drained && is_settled;
+    Ok(Rested {
+        report,
+        clock,
+        is_at_rest,
+    })
+}
+
+impl<C: Clock> Halted<C> {
+    /// `Stopped::settle`.
+    fn settle<R: Wait>(self, rt: &R) -> (Halted<C>, bool)
+        requires { IsHalted self }
+        ensures halted { IsHalted result.0 }
+        ensures same { (result.0.stopped.shared.board ≡ self.stopped.shared.board) × (result.0.clients ≡ self.clients) }
+        ensures rest { IsTrue result.1 → HasRested result.0.stopped.shared.board result.0.stopped.shared.queue result.0.stopped.desk result.0.stopped.workers }
+    {
+        let Halted {
+            stopped,
+            clients,
+            submitters,
+            report,
+        } = self;
+        let (stopped, is_settled) = stopped.settle(rt);
+        let halted = Halted {
+            stopped,
+            clients,
+            submitters,
+            report,
+        };
+        (halted, is_settled)
     }
-    let (Ok(report), Ok(submitters)) = (
-        runtime.make_room(alloc),
-        Vec::with_capacity(alloc, clients.len()),
-    ) else {
-        return Err(Unjoined::new(JoinError::Memory, runtime, clients));
-    };
-    tell_end(&mut clients);
-    let stopped = runtime.stop(rt);
-    if !stopped.is_shared_by(clients.len()) {
-        let runtime = stopped.resumed();
-        return Err(Unjoined::new(JoinError::Shared, runtime, clients));
-    }
-    Ok(end(rt, stopped, clients, submitters, report))
 }

@@ -15,6 +15,7 @@ mod posting;
 mod releasing;
 mod ringing;
 pub mod serving;
+mod settling;
 mod shared;
 mod shelf;
 mod sleeping;
@@ -25,7 +26,7 @@ pub mod turn;
 
 pub use client::Client;
 pub use error::{JoinError, Memory, StartError};
-pub use join::{Unjoined, join_all, join_with_clock};
+pub use join::{Rested, Unjoined, join_all, join_at_rest};
 pub use poll::{PollDesk, poll_turn};
 pub use serving::{WorkDesk, work_turn};
 pub use started::Runtime;

@@ -1,5 +1,5 @@
 //! The poller's desk, and its turns.
-ghost use Rattle.std.specs.Prelude.{◌≡◌, ◌≢◌, ◌⊎◌, ◌≤◌, ◌+◌, ◌<◌, ◌==◌, ◌^◌, ℕ, [], ◌∷◌, false, length, slice_index, List, None, Some, IfOk, IfErr};
+ghost use Rattle.std.specs.Prelude.{◌≡◌, ◌≢◌, ◌⊎◌, ◌≤◌, ◌+◌, ◌<◌, ◌↔◌, ◌^◌, ℕ, [], ◌∷◌, false, length, slice_index, List, None, Some, IfOk, IfErr, IsTrue};
 ghost use Rattle.history.specs.declared.req.Req.{Req as Request};
 ghost use Rattle.steps.specs.declared.line.Line.{Line};
 ghost use Rattle.steps.specs.Journal.{freed};
@@ -11,7 +11,7 @@ ghost use Rattle.ready.specs.Ready.{IsOf as IsOfQueue};
 ghost use Rattle.board.specs.Calls.{Goes};
 ghost use Rattle.controls.specs.Clocks.{Asked};
 ghost use Rattle.runtime.specs.Desks.{AreHeldBack, ArePending, LooksAfter, cares_of, taken_in};
-ghost use Rattle.runtime.specs.PollTurns.{AllCounted, AllRung, AllTaken, AllTried, AreAt, Did, HasRoom, HasTicked, IsAt, IsIdle, IsPollTurn, IsPollers, IsNewDesk, IsTaken, cares_in, cells_in_all};
+ghost use Rattle.runtime.specs.PollTurns.{AllCounted, AllDone, AllRung, AllTaken, AllTried, AreAt, Did, HasRoom, HasTicked, IsAt, IsPollTurn, IsStill, IsPollers, IsNewDesk, IsTaken, cares_in, cells_in_all};
 ghost use Rattle.runtime.specs.Parts.{HasFewerTimers, HasRung, HasStopped, IsStuck, WentOn};
 
 use crate::backlog::Backlog;
@@ -160,12 +160,12 @@ impl PollDesk {
         self.hands.moved
     }
 
-    /// Whether the poller was told to end: by the tail 2^64 - 1 of ring 0.
+    /// Whether the poller was told to end: by a tail of ring 0 that no ring comes to.
     pub fn is_over(&self) -> bool
         requires { 0 < length self.now.sleeper.tails }
-        ensures { result ≡ (slice_index self.now.sleeper.tails 0 == 18446744073709551615) }
+        ensures { IsTrue result ↔ (9223372036854775808 ≤ slice_index self.now.sleeper.tails 0) }
     {
-        self.sleeper.tail(0) == END
+        END <= self.sleeper.tail(0)
     }
 }
 
@@ -243,29 +243,33 @@ fn look_after<R: Wait>(
     Ok(())
 }
 
-/// Whether the turn did something, or has something to look after: numbers that it keeps, or a request that it has taken up and
-/// that waits or is armed.
-fn has_work(board: &Board, hands: &mut Hands, lists: &mut Lists) -> bool
+/// What the turn came to: whether it did something, or keeps numbers; else whether a request that it has taken up waits or is armed.
+fn came_to(board: &Board, hands: &mut Hands, lists: &mut Lists) -> Turn
     requires own { IsAt board.now hands.old }
     requires cared { LooksAfter (cares_of lists.old) hands.old.poller.view.seen }
     ensures went_on { WentOn board.now hands.old hands.new }
     ensures cared { LooksAfter (cares_of lists.new) hands.new.poller.view.seen }
     ensures same { (lists.new.rings ≡ lists.old.rings) × (lists.new.waiting ≡ lists.old.waiting) × (lists.new.watchers ≡ lists.old.watchers) }
     ensures fewer { HasFewerTimers lists.old lists.new }
-    ensures none { result ≡ false → (hands.new.moved ≡ false) × (hands.new.kept.numbers ≡ []) × (lists.new.waiting.items ≡ []) × ((r : Request) (d : ℕ) → deadline_at lists.new.timers r ≢ Some d) }
+    ensures still { result ≢ Turn.Moved → (hands.new.moved ≡ false) × (hands.new.kept.numbers ≡ []) }
+    ensures none { result ≡ Turn.Idle → (lists.new.waiting.items ≡ []) × ((r : Request) (d : ℕ) → deadline_at lists.new.timers r ≢ Some d) }
 {
     if hands.moved || !hands.kept.is_empty() {
-        return true;
+        return Turn::Moved;
     }
     if lists.waiting.len() > 0 || lists.watchers.len() > 0 {
-        return true;
+        return Turn::Still;
     }
-    has_timers(board, hands, lists) || hands.moved
+    let has_timers = has_timers(board, hands, lists);
+    if hands.moved {
+        return Turn::Moved;
+    }
+    if has_timers { Turn::Still } else { Turn::Idle }
 }
 
 /// One turn of the poller. It reads all tails, asks the clock, goes over the requests that wait for others and those that are new,
-/// and over the timers that are due and those whose targets have replied. What it answered is in the outbox. It is `Idle` only
-/// where it did nothing, keeps no number, and no request that it has taken up waits or is armed. After `Memory` what was done
+/// and over the timers that are due and those whose targets have replied. What it answered is in the outbox. It is `Still` or `Idle`
+/// only where it did nothing and keeps no number, and `Idle` only where no request that it has taken up waits or is armed. After `Memory` what was done
 /// stands, and the next turn goes on. Nothing but what the clock tells sets the board's clock.
 pub fn poll_turn<R: Wait, C: Clock>(
     rt: &R,
@@ -290,7 +294,8 @@ pub fn poll_turn<R: Wait, C: Clock>(
     ensures read { HasLoaded desk.old.sleeper desk.new.sleeper }
     ensures risen { HaveRisen desk.old.sleeper.tails desk.new.sleeper.tails }
     ensures places { outbox.new.places ≡ outbox.old.places }
-    ensures idle { IfOk result (λ turn. turn ≡ Turn.Idle → IsIdle board.now desk.old desk.new outbox.new) }
+    ensures still { IfOk result (λ turn. turn ≢ Turn.Moved → IsStill board.now desk.old desk.new outbox.new) }
+    ensures idle { IfOk result (λ turn. turn ≡ Turn.Idle → AllDone desk.new) }
     ensures follows { IsPollers desk.old.poller → C.follows clock.old (seen_of desk.old.poller) → C.follows clock.new (seen_of desk.new.poller) }
 {
     bell.collect(&mut desk.sleeper);
@@ -308,6 +313,6 @@ pub fn poll_turn<R: Wait, C: Clock>(
         outbox,
     )?;
     desk.hands.retry_rest(rt, queue);
-    let has_work = has_work(board, &mut desk.hands, &mut desk.lists);
-    Ok(if has_work { Turn::Moved } else { Turn::Idle })
+    let turn = came_to(board, &mut desk.hands, &mut desk.lists);
+    Ok(turn)
 }

@@ -5,7 +5,7 @@ ghost use Rattle.board.specs.Calls.{IsUnheld};
 ghost use Rattle.board.specs.PollerRows.{MayArm};
 ghost use Rattle.work.specs.Passes.{seen_of};
 ghost use Rattle.runtime.specs.Desks.{AreHeldBack, LooksAfter, cares_of, taken_in, with_waiting};
-ghost use Rattle.runtime.specs.PollTurns.{AreAt, IsAt, HasRoom, Did, IsTaken};
+ghost use Rattle.runtime.specs.PollTurns.{AreAt, IsAt, HasRoom, Did, IsTaken, ReachesTo};
 ghost use Rattle.runtime.specs.Parts.{IsStuck, HasStopped, WaitsOn, WasTried, WentOn, HaveWaited};
 
 use crate::error::Memory;
@@ -199,12 +199,20 @@ fn take_up(board: &Board, hands: &mut Hands, lists: &mut Lists, ring: u16, k: u6
     Req { ring, k }
 }
 
-/// The tail by which the poller is told to end: no ring comes so far. So it looks at tails alone, and wakes by this one as by any other.
-/// Tails don't fall: once told, a client of ring 0 publishes no further one.
-pub(crate) const END: u64 = u64::MAX;
+/// From this tail on the poller is told to end: no ring comes so far. What is above it is the ring's tail. So the poller looks at tails
+/// alone, and wakes by this one as by any other. Tails don't fall: once told, a client of ring 0 publishes no further one.
+pub(crate) const END: u64 = 1 << 63;
+
+/// How many requests a ring with this tail has submitted.
+fn submitted_by(tail: u64) -> u64
+    ensures few { result ≤ tail }
+    ensures all { (n : ℕ) → result ≤ n → ReachesTo tail n }
+{
+    if END <= tail { tail - END } else { tail }
+}
 
 /// Takes up the ring's new requests, in order, up to the tail, as long as the numbers find their places and there is a
-/// place for one. By the tail that ends the poller it takes up none.
+/// place for one.
 fn take_ring<R: Wait>(
     rt: &R,
     board: &Board,
@@ -224,14 +232,12 @@ fn take_ring<R: Wait>(
     ensures rings { length lists.new.rings.items ≡ length lists.old.rings.items }
     ensures places { lists.new.waiting.places ≡ lists.old.waiting.places }
     ensures waited { IfOk result (λ _. HaveWaited hands.old.poller hands.new.poller lists.old.waiting.items lists.new.waiting.items) }
-    ensures taken { IfOk result (λ _. ((tail ≡ 18446744073709551615) ⊎ (tail ≤ taken_in lists.new.rings.items ring)) ⊎ HasStopped hands.new lists.new.waiting) }
+    ensures taken { IfOk result (λ _. ReachesTo tail (taken_in lists.new.rings.items ring) ⊎ HasStopped hands.new lists.new.waiting) }
     ensures others { (i : ℕ) → i ≢ ring → taken_in lists.new.rings.items i ≡ taken_in lists.old.rings.items i }
     ensures stuck { IsStuck hands.old → IsStuck hands.new }
     ensures stopped { HasStopped hands.old lists.old.waiting → HasStopped hands.new lists.new.waiting }
 {
-    if tail == END {
-        return Ok(());
-    }
+    let tail = submitted_by(tail);
     let taken = lists.taken(ring);
     let limit = limit_of(tail.saturating_sub(taken), hands.workers);
     for k in taken..tail {

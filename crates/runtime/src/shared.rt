@@ -11,7 +11,7 @@ use std::sync::atomic::{AtomicBool, AtomicU64, Ordering};
 const LOOKS: u32 = 65_536;
 
 /// The board, its doorbell and its ready queue; the completion ring of each ring, each under a lock of its own; and whether the
-/// workers are to end, as the poller says once it was told to.
+/// workers are to end, as the poller says once it was told to, and whether the threads end once they find nothing to do any more.
 #[derive(Drop)]
 pub(crate) struct Shared {
     pub board: Board,
@@ -19,6 +19,7 @@ pub(crate) struct Shared {
     pub queue: ReadyQueue,
     pub posts: PostLocks,
     pub is_over: AtomicBool,
+    pub is_resting: AtomicBool,
     pub tally: Tally,
 }
 

@@ -189,7 +189,7 @@ fn look_again<R: Wait, G: Turnstile>(
     );
     match turn {
         Turn::Idle => (worker, Ok(Drowsy { entered })),
-        Turn::Moved => (worker, Err(entered.leave())),
+        Turn::Still | Turn::Moved => (worker, Err(entered.leave())),
     }
 }
 

@@ -1,5 +1,5 @@
 //! A runtime that was started: its threads, and their end.
-ghost use Rattle.std.specs.Prelude.{◌≡◌, ◌+◌, ◌<◌, ◌≤◌, [], All, length, map, sum_by, IfOk, vec_capacity};
+ghost use Rattle.std.specs.Prelude.{◌≡◌, ◌+◌, ◌<◌, ◌≤◌, ◌++◌, ◌∷◌, [], None, All, length, map, IfOk, IsTrue, vec_capacity};
 ghost use Rattle.std.specs.Arc.{arc_value};
 ghost use Rattle.steps.specs.Cells.{total};
 ghost use Rattle.work.specs.Board.{IsOf};
@@ -7,24 +7,27 @@ ghost use Rattle.work.specs.Passes.{seen_of};
 ghost use Rattle.board.specs.Reports.{AreOf};
 ghost use Rattle.runtime.specs.Clients.{without_tail};
 ghost use Rattle.ready.specs.Ready.{AreAll, IsOf as IsOfQueue};
-ghost use Rattle.ready.specs.Rule.{all_shares};
 ghost use Rattle.ready.specs.QueueParts.{IsRoom};
-ghost use Rattle.runtime.specs.Crews.{IsPollThread, AreWorking, own_in, own_share, owns_of, share_of, shares_of};
+ghost use Rattle.ready.specs.Rule.{all_shares};
+ghost use Rattle.runtime.specs.Crews.{AreWorking, IsEndRoom, IsPollThread, all_passes, own_in, own_share, owns_of, ready_of, share_of, shares_in, shares_of, worker_of};
+ghost use Rattle.runtime.specs.Loops.{IsPollSide, IsWorkSide};
+ghost use Rattle.runtime.specs.Rests.{HasRested};
 
 use crate::client::Client;
 use crate::shared::Shared;
-use crate::threads::OwnWorker;
+use crate::threads::{PollSide, WorkSide};
+use crate::settling::settle;
 use board::{Poller, ReportRoom, Worker};
 use controls::Clock;
 use ready::{GatherRoom, ReadyPass};
 use std::alloc::{AllocError, Global};
 use std::marker::Model;
 use std::snapshot::Snapshot;
-use std::sync::Arc;
+use std::sync::atomic::Ordering;
+use std::sync::{Arc, Wait};
 use std::thread::{Promise, PromisedHandle, Threads};
 
-/// The passes that a thread brings back are those of the board and of the ready queue that it shares, and the second has the shares of
-/// the queue that the thread was given.
+/// What a worker's thread brings back is of what it shares, and has the shares of the ready queue that it was given.
 #[derive(Drop)]
 pub(crate) struct Ours(pub Snapshot<Arc<Shared>>, pub Snapshot<ReadyPass>);
 
@@ -34,47 +37,44 @@ pub(crate) struct Ours(pub Snapshot<Arc<Shared>>, pub Snapshot<ReadyPass>);
 pub(crate) struct Polls(
     pub Snapshot<Arc<Shared>>,
     pub Snapshot<ReadyPass>,
-    pub Snapshot<Option<OwnWorker>>,
+    pub Snapshot<Option<WorkSide>>,
 );
 
-/// The passes of a worker that the poller's thread has served.
-#[derive(Drop)]
-pub(crate) struct OwnEnd {
-    pub worker: Worker,
-    pub ready: ReadyPass,
+impl<C: Clock> Promise<PollSide<C>> for Polls {
+    ghost use Rattle.std.specs.Arc.{arc_value};
+    ghost use Rattle.runtime.specs.Crews.{HasShares};
+    ghost use Rattle.runtime.specs.Loops.{IsPollSide};
+
+    ghost kept_by = { λ p r. IsPollSide C.follows (arc_value p.0.value) r × HasShares p.1.value.share p.2.value r };
 }
 
-impl<C: Clock> Promise<(Poller, ReadyPass, C, Option<OwnEnd>)> for Polls {
+impl Promise<WorkSide> for Ours {
     ghost use Rattle.std.specs.Prelude.{◌≡◌};
     ghost use Rattle.std.specs.Arc.{arc_value};
-    ghost use Rattle.ready.specs.Ready.{IsOf as IsOfQueue};
-    ghost use Rattle.runtime.specs.Crews.{IsBack};
-    ghost use Rattle.work.specs.Board.{IsOf};
-    ghost use Rattle.work.specs.Passes.{seen_of};
+    ghost use Rattle.runtime.specs.Loops.{IsWorkSide};
 
-    ghost kept_by = { λ p r. IsOf (arc_value p.0.value).board r.0 × IsOfQueue (arc_value p.0.value).queue r.1 × (r.1.share ≡ p.1.value.share) × C.follows r.2 (seen_of r.0) × IsBack (arc_value p.0.value) p.2.value r.3 };
-}
-
-impl Promise<(Worker, ReadyPass)> for Ours {
-    ghost use Rattle.std.specs.Prelude.{◌≡◌};
-    ghost use Rattle.std.specs.Arc.{arc_value};
-    ghost use Rattle.ready.specs.Ready.{IsOf as IsOfQueue};
-    ghost use Rattle.work.specs.Board.{IsOf};
-
-    ghost kept_by = { λ p r. IsOf (arc_value p.0.value).board r.0 × IsOfQueue (arc_value p.0.value).queue r.1 × (r.1.share ≡ p.1.value.share) };
+    ghost kept_by = { λ p r. IsWorkSide (arc_value p.0.value) r × (r.desk.ready.share ≡ p.1.value.share) };
 }
 
 /// The thread of a worker.
 #[derive(Drop)]
 pub(crate) struct WorkThread {
-    pub handle: PromisedHandle<(Worker, ReadyPass), Ours>,
+    pub handle: PromisedHandle<WorkSide, Ours>,
 }
 
-/// The poller's thread, or its passes and the clock once that was joined.
+/// The poller's thread, or what it brought back once that was joined.
 #[derive(Drop)]
 pub(crate) enum PollThread<C: Clock> {
-    Runs(PromisedHandle<(Poller, ReadyPass, C, Option<OwnEnd>), Polls>),
-    Ended(Poller, ReadyPass, C),
+    Runs(PromisedHandle<PollSide<C>, Polls>),
+    Ended(PollSide<C>),
+}
+
+/// Room for the passes at the end of the board and of the ready queue, and for what is left in that.
+#[derive(Drop)]
+pub(crate) struct EndRoom {
+    pub workers: Vec<Worker>,
+    pub passes: Vec<ReadyPass>,
+    pub gather: GatherRoom,
 }
 
 /// A board's poller and workers, each in a thread of its own, and the clock that the poller asks. It is ended by `join_all`.
@@ -85,48 +85,82 @@ pub struct Runtime<C: Clock> {
     rings: usize,
     poller: PollThread<C>,
     workers: Vec<WorkThread>,
-    ended: Vec<Worker>,
-    passes: Vec<ReadyPass>,
-    room: GatherRoom,
+    ended: Vec<WorkSide>,
+    room: EndRoom,
 }
 
 impl<C: Clock> Model for Runtime<C> {
     ghost use Rattle.std.specs.Prelude.{◌+◌, length, vec_capacity};
     ghost use Rattle.std.specs.Arc.{arc_value};
-    ghost use Rattle.runtime.specs.Crews.{HasPasses, HasThreads, RuntimeFacts, running_in};
+    ghost use Rattle.runtime.specs.Crews.{HasThreads, IsEndRoom, RuntimeFacts, running_in};
 
     ghost Value = { RuntimeFacts };
 
     ghost view = { λ r. record { board = (arc_value r.shared).board; threads = length r.workers.items + running_in r.poller } };
 
-    ghost invariant = { λ r. HasThreads C.follows (arc_value r.shared) r.rings r.poller r.workers.items r.ended.items (vec_capacity r.ended) × HasPasses (arc_value r.shared) r.poller r.workers.items r.passes.items (vec_capacity r.passes) r.room };
+    ghost invariant = { λ r. HasThreads C.follows (arc_value r.shared) r.rings r.poller r.workers.items r.ended.items (vec_capacity r.ended) × IsEndRoom (arc_value r.shared) r.room };
 }
 
-/// A runtime whose threads have ended. Contracts see its board and the passes that the threads brought back.
+/// A runtime whose threads have ended. Contracts see what they shared, and what they brought back.
 #[derive(Drop)]
 pub(crate) struct Stopped<C: Clock> {
     shared: Arc<Shared>,
     rings: usize,
-    poller: Poller,
-    ready: ReadyPass,
-    clock: C,
-    workers: Vec<Worker>,
-    passes: Vec<ReadyPass>,
-    room: GatherRoom,
+    side: PollSide<C>,
+    workers: Vec<WorkSide>,
+    room: EndRoom,
     threads: Vec<WorkThread>,
 }
 
 impl<C: Clock> Model for Stopped<C> {
     ghost use Rattle.std.specs.Prelude.{vec_capacity};
     ghost use Rattle.std.specs.Arc.{arc_value};
-    ghost use Rattle.work.specs.Passes.{seen_of};
-    ghost use Rattle.runtime.specs.Crews.{Crew, HasStopped, HasAllPasses};
+    ghost use Rattle.runtime.specs.Crews.{Crew, HasStopped, IsEndRoom};
 
     ghost Value = { Crew };
 
-    ghost view = { λ s. record { shared = arc_value s.shared; poller = s.poller; workers = s.workers.items } };
+    ghost view = { λ s. record { shared = arc_value s.shared; desk = s.side.desk; workers = s.workers.items } };
 
-    ghost invariant = { λ s. HasStopped (arc_value s.shared) s.rings s.poller s.workers.items (vec_capacity s.workers) s.threads.items × C.follows s.clock (seen_of s.poller) × HasAllPasses (arc_value s.shared) s.ready s.passes.items (vec_capacity s.passes) s.room };
+    ghost invariant = { λ s. HasStopped C.follows (arc_value s.shared) s.rings s.side s.workers.items (vec_capacity s.workers) s.threads.items × IsEndRoom (arc_value s.shared) s.room };
+}
+
+/// The worker that the poller's thread has served goes to those that came back before. There is room for it.
+fn part<C: Clock>(shared: &Shared, side: PollSide<C>, ended: &mut Vec<WorkSide>) -> PollSide<C>
+    requires side { IsPollSide C.follows shared.now side }
+    requires ended { All (λ w. IsWorkSide shared.now w) ended.old.items }
+    requires room { own_in side.own + length ended.old.items ≤ vec_capacity ended.old }
+    ensures side { IsPollSide C.follows shared.now result × (result.own ≡ None) }
+    ensures ended { All (λ w. IsWorkSide shared.now w) ended.new.items × (length ended.new.items ≡ own_in side.own + length ended.old.items) }
+    ensures shares { result.desk.ready.share + shares_in ended.new.items ≡ side.desk.ready.share + own_share side.own + shares_in ended.old.items }
+    ensures room { vec_capacity ended.new ≡ vec_capacity ended.old }
+{
+    let _ = shared;
+    let PollSide {
+        desk,
+        clock,
+        outbox,
+        caller,
+        own,
+    } = side;
+    match own {
+        Some(own) => {
+            ended.push_reserved(own);
+            PollSide {
+                desk,
+                clock,
+                outbox,
+                caller,
+                own: None,
+            }
+        }
+        None => PollSide {
+            desk,
+            clock,
+            outbox,
+            caller,
+            own: None,
+        },
+    }
 }
 
 /// Waits for the poller's thread. The worker that it has served goes to those that came back before. There is room for it.
@@ -134,65 +168,70 @@ fn join_poller<R: Threads, C: Clock>(
     rt: &R,
     shared: &Shared,
     poller: PollThread<C>,
-    ended: &mut Vec<Worker>,
-    passes: &mut Vec<ReadyPass>,
-) -> (Poller, ReadyPass, C)
+    ended: &mut Vec<WorkSide>,
+) -> PollSide<C>
     requires thread { IsPollThread C.follows shared.now poller }
-    requires ended { All (λ p. IsOf shared.now.board p) ended.old.items }
-    requires passes { All (λ p. IsOfQueue shared.now.queue p) passes.old.items }
+    requires ended { All (λ w. IsWorkSide shared.now w) ended.old.items }
     requires room { owns_of poller + length ended.old.items ≤ vec_capacity ended.old }
-    requires places { owns_of poller + length passes.old.items ≤ vec_capacity passes.old }
-    ensures own { IsOf shared.now.board result.0 × C.follows result.2 (seen_of result.0) }
-    ensures ready { IsOfQueue shared.now.queue result.1 }
-    ensures ended { All (λ p. IsOf shared.now.board p) ended.new.items × (length ended.new.items ≡ owns_of poller + length ended.old.items) }
-    ensures passes { All (λ p. IsOfQueue shared.now.queue p) passes.new.items × (length passes.new.items ≡ owns_of poller + length passes.old.items) }
-    ensures shares { result.1.share + sum_by (λ p. p.share) passes.new.items ≡ share_of poller + sum_by (λ p. p.share) passes.old.items }
-    ensures room { (vec_capacity ended.new ≡ vec_capacity ended.old) × (vec_capacity passes.new ≡ vec_capacity passes.old) }
+    ensures side { IsPollSide C.follows shared.now result × (result.own ≡ None) }
+    ensures ended { All (λ w. IsWorkSide shared.now w) ended.new.items × (length ended.new.items ≡ owns_of poller + length ended.old.items) }
+    ensures shares { result.desk.ready.share + shares_in ended.new.items ≡ share_of poller + shares_in ended.old.items }
+    ensures room { vec_capacity ended.new ≡ vec_capacity ended.old }
 {
-    let _ = shared;
     match poller {
         PollThread::Runs(handle) => {
-            let (poller, pass, clock, own) = handle.join(rt);
-            let Some(OwnEnd { worker, ready }) = own else {
-                return (poller, pass, clock);
-            };
-            ended.push_reserved(worker);
-            passes.push_reserved(ready);
-            (poller, pass, clock)
+            let side = handle.join(rt);
+            part(shared, side, ended)
         }
-        PollThread::Ended(poller, pass, clock) => (poller, pass, clock),
+        PollThread::Ended(side) => part(shared, side, ended),
     }
 }
 
-/// Waits for the workers' threads, and gives their passes to those that came back before. There is room for them.
+/// Waits for the workers' threads, and gives what they bring back to what came back before. There is room for it.
 fn join_workers<R: Threads>(
     rt: &R,
     shared: &Shared,
     workers: &mut Vec<WorkThread>,
-    ended: &mut Vec<Worker>,
-    passes: &mut Vec<ReadyPass>,
+    ended: &mut Vec<WorkSide>,
 )
     requires threads { AreWorking shared.now workers.old.items }
-    requires ended { All (λ p. IsOf shared.now.board p) ended.old.items }
-    requires passes { All (λ p. IsOfQueue shared.now.queue p) passes.old.items }
+    requires ended { All (λ w. IsWorkSide shared.now w) ended.old.items }
     requires room { length workers.old.items + length ended.old.items ≤ vec_capacity ended.old }
-    requires places { length workers.old.items + length passes.old.items < vec_capacity passes.old }
-    ensures ended { All (λ p. IsOf shared.now.board p) ended.new.items }
-    ensures passes { All (λ p. IsOfQueue shared.now.queue p) passes.new.items }
-    ensures shares { sum_by (λ p. p.share) passes.new.items ≡ shares_of workers.old.items + sum_by (λ p. p.share) passes.old.items }
+    ensures ended { All (λ w. IsWorkSide shared.now w) ended.new.items }
+    ensures shares { shares_in ended.new.items ≡ shares_of workers.old.items + shares_in ended.old.items }
     ensures count { length ended.new.items ≡ length workers.old.items + length ended.old.items }
-    ensures pairs { length passes.new.items ≡ length workers.old.items + length passes.old.items }
     ensures none { workers.new.items ≡ [] }
     ensures room { length ended.new.items ≤ vec_capacity ended.new }
-    ensures places { length passes.new.items < vec_capacity passes.new }
 {
     let _ = shared;
     while let Some(thread) = workers.pop() {
         let WorkThread { handle } = thread;
-        let (worker, ready) = handle.join(rt);
+        let worker = handle.join(rt);
         ended.push_reserved(worker);
+    }
+}
+
+/// The passes of these workers, in order: those of the board, and those of the ready queue. There is room for them.
+fn passes_of(
+    mut sides: Vec<WorkSide>,
+    mut workers: Vec<Worker>,
+    mut passes: Vec<ReadyPass>,
+) -> (Vec<Worker>, Vec<ReadyPass>)
+    requires none { (workers.items ≡ []) × (passes.items ≡ []) }
+    requires room { length sides.items ≤ vec_capacity workers }
+    requires places { length sides.items < vec_capacity passes }
+    ensures workers { result.0.items ≡ map worker_of sides.items }
+    ensures passes { result.1.items ≡ map ready_of sides.items }
+    ensures places { length result.1.items < vec_capacity result.1 }
+{
+    while let Some(side) = sides.pop() {
+        let (worker, ready) = side.parts();
+        workers.push_reserved(worker);
         passes.push_reserved(ready);
     }
+    workers.reverse();
+    passes.reverse();
+    (workers, passes)
 }
 
 impl<C: Clock> Runtime<C> {
@@ -200,19 +239,17 @@ impl<C: Clock> Runtime<C> {
     pub(crate) fn new(
         shared: Arc<Shared>,
         rings: usize,
-        poller: PromisedHandle<(Poller, ReadyPass, C, Option<OwnEnd>), Polls>,
+        poller: PromisedHandle<PollSide<C>, Polls>,
         workers: Vec<WorkThread>,
-        ended: Vec<Worker>,
-        passes: Vec<ReadyPass>,
-        room: GatherRoom,
+        ended: Vec<WorkSide>,
+        room: EndRoom,
     ) -> Runtime<C>
         requires rings { rings ≡ length (arc_value shared).board.layout.cells }
         requires poller { arc_value poller.promise.0.value ≡ arc_value shared }
         requires workers { AreWorking (arc_value shared) workers.items × (length workers.items + own_in poller.promise.2.value ≡ (arc_value shared).board.workers) }
-        requires room { (length ended.items ≡ 0) × (length workers.items + own_in poller.promise.2.value ≤ vec_capacity ended) }
-        requires places { (length passes.items ≡ 0) × (length workers.items + own_in poller.promise.2.value < vec_capacity passes) }
+        requires ended { (length ended.items ≡ 0) × (length workers.items + own_in poller.promise.2.value ≤ vec_capacity ended) }
         requires shares { poller.promise.1.value.share + own_share poller.promise.2.value + shares_of workers.items ≡ all_shares }
-        requires gather { IsRoom (arc_value shared).queue.places ((arc_value shared).board.workers + 1) room }
+        requires room { IsEndRoom (arc_value shared) room }
         ensures board { result.board ≡ (arc_value shared).board }
         ensures threads { result.threads ≡ length workers.items + 1 }
     {
@@ -222,7 +259,6 @@ impl<C: Clock> Runtime<C> {
             poller: PollThread::Runs(poller),
             workers,
             ended,
-            passes,
             room,
         }
     }
@@ -234,18 +270,16 @@ impl<C: Clock> Runtime<C> {
         self.rings
     }
 
-    /// None while the workers have something to do. Else how many numbers have gone to them: of requests that the poller moved to Ready, and
-    /// of those that a reply took along from a pipe. They are done with all of these, and what they answered is posted. Where the answer
-    /// is the same a second time, each request that was Ready meanwhile lies with its pipes.
-    pub fn rest(&self) -> Option<u64> {
-        self.shared.tally.evened()
-    }
-
     /// The room that the report of its board needs.
     pub(crate) fn make_room(&self, alloc: Global) -> Result<ReportRoom, AllocError>
         ensures { IfOk result (λ r. r ≡ total self.now.board.layout.cells) }
     {
         self.shared.board.make_room(alloc)
+    }
+
+    /// From now on its threads end only once they find nothing to do any more.
+    pub(crate) fn let_rest(&self) {
+        self.shared.is_resting.store(true, Ordering::SeqCst);
     }
 
     /// Waits for all threads. The poller was told to end by the client of ring 0, and tells the workers.
@@ -258,19 +292,15 @@ impl<C: Clock> Runtime<C> {
             poller,
             mut workers,
             mut ended,
-            mut passes,
             room,
         } = self;
-        let (poller, ready, clock) = join_poller(rt, &shared, poller, &mut ended, &mut passes);
-        join_workers(rt, &shared, &mut workers, &mut ended, &mut passes);
+        let side = join_poller(rt, &shared, poller, &mut ended);
+        join_workers(rt, &shared, &mut workers, &mut ended);
         Stopped {
             shared,
             rings,
-            poller,
-            ready,
-            clock,
+            side,
             workers: ended,
-            passes,
             room,
             threads: workers,
         }
@@ -292,50 +322,77 @@ impl<C: Clock> Stopped<C> {
         let Stopped {
             shared,
             rings,
-            poller,
-            ready,
-            clock,
+            side,
             workers,
-            passes,
             room,
             threads,
         } = self;
         Runtime {
             shared,
             rings,
-            poller: PollThread::Ended(poller, ready, clock),
+            poller: PollThread::Ended(side),
             workers: threads,
             ended: workers,
-            passes,
             room,
         }
     }
 
-    /// What was shared, and all that came back.
+    /// More turns, by this thread alone, until the runtime is at rest. False where a turn finds no memory.
+    pub(crate) fn settle<R: Wait>(self, rt: &R) -> (Stopped<C>, bool)
+        ensures same { result.0.shared ≡ self.shared }
+        ensures rest { IsTrue result.1 → HasRested result.0.shared.board result.0.shared.queue result.0.desk result.0.workers }
+    {
+        let Stopped {
+            shared,
+            rings,
+            side,
+            workers,
+            room,
+            threads,
+        } = self;
+        let (side, workers, is_at_rest) = settle(rt, &shared, side, workers);
+        let stopped = Stopped {
+            shared,
+            rings,
+            side,
+            workers,
+            room,
+            threads,
+        };
+        (stopped, is_at_rest)
+    }
+
+    /// What was shared, and all that came back: the passes of the ready queue are those of the workers, in order, and then the
+    /// poller's.
     pub(crate) fn parts(self) -> (Arc<Shared>, Ends<C>)
         ensures shared { arc_value result.0 ≡ self.shared }
-        ensures poller { IsOf self.shared.board result.1.poller }
-        ensures workers { AreOf self.shared.board result.1.workers.items × (length result.1.workers.items ≡ self.shared.board.workers) }
-        ensures passes { All (λ p. IsOfQueue self.shared.queue p) result.1.passes.items × AreAll result.1.passes.items }
+        ensures poller { (result.1.poller ≡ self.desk.poller) × IsOf self.shared.board result.1.poller }
+        ensures workers { (result.1.workers.items ≡ map worker_of self.workers) × AreOf self.shared.board result.1.workers.items × (length result.1.workers.items ≡ self.shared.board.workers) }
+        ensures passes { (result.1.passes.items ≡ all_passes self.desk self.workers) × All (λ p. IsOfQueue self.shared.queue p) result.1.passes.items × AreAll result.1.passes.items }
         ensures room { IsRoom self.shared.queue.places (length result.1.passes.items) result.1.room }
         ensures follows { C.follows result.1.clock (seen_of result.1.poller) }
     {
         let Stopped {
             shared,
-            poller,
-            ready,
-            clock,
+            side,
             workers,
-            mut passes,
             room,
             ..
         } = self;
+        let PollSide { desk, clock, .. } = side;
+        let EndRoom {
+            workers: places,
+            passes,
+            gather,
+        } = room;
+        let (workers, mut passes) = passes_of(workers, places, passes);
+        let (poller, _sleeper, ready) = desk.parts();
         passes.push_reserved(ready);
         let ends = Ends {
             poller,
             workers,
             passes,
-            room,
+            room: gather,
             clock,
         };
         (shared, ends)

@@ -4,7 +4,6 @@ ghost use Rattle.std.specs.Prelude.{◌≡◌, ◌≢◌, ◌+◌, ◌<◌, ◌�
 ghost use Rattle.std.specs.Arc.{arc_value};
 ghost use Rattle.work.specs.Board.{IsOf};
 ghost use Rattle.work.specs.Passes.{seen_of};
-ghost use Rattle.ready.specs.QueueParts.{IsRoom};
 ghost use Rattle.ready.specs.Ready.{IsOf as IsOfQueue};
 ghost use Rattle.ready.specs.Rule.{all_shares};
 ghost use Rattle.bell.specs.BellPasses.{IsSleeperOf};
@@ -12,8 +11,8 @@ ghost use Rattle.event_count.specs.Passes.{IsNotifierOf, IsWaiterOf};
 ghost use Rattle.board.specs.New.{AreSubmitters};
 ghost use Rattle.board.specs.ShapeLimits.{is_shape, widest};
 ghost use Rattle.runtime.specs.Clients.{AreClients, AreNewClients, IsStarted};
-ghost use Rattle.runtime.specs.Crews.{AreWorking, IsBack, own_in, own_share, shares_of, threads_for};
-ghost use Rattle.runtime.specs.Loops.{IsOwn, IsPolling, IsServing, MayOwn};
+ghost use Rattle.runtime.specs.Crews.{AreWorking, HasRoomFor, HasShares, IsEndRoom, own_in, own_share, shares_of, threads_for};
+ghost use Rattle.runtime.specs.Loops.{IsPollSide, IsPolling, MayOwn};
 ghost use Rattle.runtime.specs.PollTurns.{IsNewDesk, IsPollers};
 ghost use Rattle.runtime.specs.StartParts.{AreRingers, HavePairs, IsParts};
 ghost use Rattle.runtime.specs.declared.error.StartError.TheVariants.{BadShape};
@@ -26,15 +25,15 @@ use crate::locks::{PostLock, PostLocks};
 use crate::poll::{PollDesk, places_of};
 use crate::shared::{Shared, Tally};
 use crate::sleeping::{Caller, Listener};
-use crate::started::{OwnEnd, Polls, Runtime, WorkThread, tell_end};
-use crate::threads::{OwnWorker, PollSide, poll};
+use crate::started::{EndRoom, Polls, Runtime, WorkThread, tell_end};
+use crate::threads::{PollSide, WorkSide, poll};
 use bell::{Bell, Ringer, Sleeper};
 use board::{Board, BoardError, Poller, RingShape, Shape, Submitter, Worker};
 use compring::CompletionRing;
 use controls::{Clock, Turnstile};
 use event_count::{EventCount, Notifier, Waiter};
 use outbox::Outbox;
-use ready::{GatherRoom, ReadyPass, ReadyQueue};
+use ready::{ReadyPass, ReadyQueue};
 use std::alloc::Global;
 use std::snapshot::Snapshot;
 use std::sync::atomic::AtomicBool;
@@ -75,13 +74,12 @@ struct Stage<G> {
     turnstile: Arc<G>,
 }
 
-/// Room for the threads of the workers, for the passes that they bring back, and for the end of the ready queue.
+/// Room for the threads of the workers, for what they bring back, and for the end of the board and of the ready queue.
 #[derive(Drop)]
 struct Rooms {
     threads: Vec<WorkThread>,
-    ended: Vec<Worker>,
-    passes: Vec<ReadyPass>,
-    gather: GatherRoom,
+    ended: Vec<WorkSide>,
+    end: EndRoom,
 }
 
 /// The listeners of these waiters, none of which has entered.
@@ -270,6 +268,7 @@ fn parts_of(alloc: Global, shape: &Shape) -> Result<Parts, StartError>
         queue,
         posts,
         is_over: AtomicBool::new(false),
+        is_resting: AtomicBool::new(false),
         tally: Tally::new(),
     };
     Ok(Parts {
@@ -341,7 +340,7 @@ fn side_of<C: Clock + Drop>(
     shape: &Shape,
     parts: PollerParts,
     clock: C,
-    own: Option<OwnWorker>,
+    own: Option<WorkSide>,
 ) -> Result<PollSide<C>, Memory>
     ensures desk { IfOk result (λ t. IsNewDesk (length shape.now.rings.items) parts.poller parts.sleeper parts.ready t.desk) }
     ensures outbox { IfOk result (λ t. (t.outbox.answered ≡ []) × (t.desk.places ≤ t.outbox.places)) }
@@ -395,11 +394,8 @@ fn spawn_poller<
     turnstile: Arc<G>,
     idle: u32,
     side: PollSide<C>,
-) -> Result<PromisedHandle<(Poller, ReadyPass, C, Option<OwnEnd>), Polls>, StartError>
-    requires desk { IsPolling (arc_value theirs) side.desk }
-    requires clock { C.follows side.clock (seen_of side.desk.poller) }
-    requires outbox { (side.outbox.answered ≡ []) × (side.desk.places ≤ side.outbox.places) }
-    requires worker { MayOwn (arc_value theirs) side.own }
+) -> Result<PromisedHandle<PollSide<C>, Polls>, StartError>
+    requires { IsPollSide C.follows (arc_value theirs) side }
     ensures thread { IfOk result (λ h. (arc_value h.promise.0.value ≡ arc_value theirs) × (h.promise.1.value.share ≡ side.desk.ready.share) × (h.promise.2.value ≡ side.own)) }
     ensures refused { IfErr result (λ e. e ≢ BadShape) }
 {
@@ -411,12 +407,9 @@ fn spawn_poller<
     match thread::spawn_with(
         &rt,
         promise,
-        move || -> (Poller, ReadyPass, C, Option<OwnEnd>)
-            requires desk { IsPolling (arc_value theirs) side.desk }
-            requires clock { C.follows side.clock (seen_of side.desk.poller) }
-            requires outbox { (side.outbox.answered ≡ []) × (side.desk.places ≤ side.outbox.places) }
-            requires worker { MayOwn (arc_value theirs) side.own }
-            ensures { IsOf (arc_value theirs).board result.0 × IsOfQueue (arc_value theirs).queue result.1 × (result.1.share ≡ side.desk.ready.share) × C.follows result.2 (seen_of result.0) × IsBack (arc_value theirs) side.own result.3 }
+        move || -> PollSide<C>
+            requires { IsPollSide C.follows (arc_value theirs) side }
+            ensures { IsPollSide C.follows (arc_value theirs) result × HasShares side.desk.ready.share side.own result }
         { poll(&rt, &theirs, &*turnstile, idle, side) },
     ) {
         Ok(handle) => Ok(handle),
@@ -440,8 +433,8 @@ fn start_poller<
     stage: &Stage<G>,
     clock: C,
     parts: PollerParts,
-    own: Option<OwnWorker>,
-) -> Result<PromisedHandle<(Poller, ReadyPass, C, Option<OwnEnd>), Polls>, StartError>
+    own: Option<WorkSide>,
+) -> Result<PromisedHandle<PollSide<C>, Polls>, StartError>
     requires board { IsOf (arc_value stage.now.shared).board parts.poller × IsPollers parts.poller }
     requires rings { (0 < length shape.now.rings.items) × ((arc_value stage.now.shared).bell.rings ≡ length shape.now.rings.items) }
     requires sleeper { IsSleeperOf (arc_value stage.now.shared).bell parts.sleeper }
@@ -469,7 +462,7 @@ fn start_poller<
 fn abandon<R: Threads, C: Clock + Drop>(
     rt: &R,
     clients: &mut Vec<Client>,
-    poller: PromisedHandle<(Poller, ReadyPass, C, Option<OwnEnd>), Polls>,
+    poller: PromisedHandle<PollSide<C>, Polls>,
     threads: Vec<WorkThread>,
 ) {
     tell_end(clients);
@@ -484,27 +477,43 @@ fn abandon<R: Threads, C: Clock + Drop>(
 fn rooms_of(alloc: Global, queue: &ReadyQueue, workers: &Vec<Worker>) -> Result<Rooms, Memory>
     ensures threads { IfOk result (λ r. (r.threads.items ≡ []) × (length workers.now.items ≤ vec_capacity r.threads)) }
     ensures ended { IfOk result (λ r. (r.ended.items ≡ []) × (length workers.now.items ≤ vec_capacity r.ended)) }
-    ensures passes { IfOk result (λ r. (r.passes.items ≡ []) × (length workers.now.items < vec_capacity r.passes)) }
-    ensures gather { IfOk result (λ r. IsRoom queue.now.places (length workers.now.items + 1) r.gather) }
+    ensures end { IfOk result (λ r. HasRoomFor queue.now.places (length workers.now.items) r.end) }
 {
-    let Ok(gather) = queue.make_room(alloc, workers.len() + 1) else {
+    let Ok(end) = end_room(alloc, queue, workers) else {
         return Err(Memory);
     };
     let Ok(threads) = Vec::with_capacity(alloc, workers.len()) else {
-        drop(gather);
+        drop(end);
         return Err(Memory);
     };
     let Ok(ended) = Vec::with_capacity(alloc, workers.len()) else {
-        drop((gather, threads));
-        return Err(Memory);
-    };
-    let Ok(passes) = Vec::with_capacity(alloc, workers.len() + 1) else {
-        drop((gather, threads, ended));
+        drop((end, threads));
         return Err(Memory);
     };
     Ok(Rooms {
         threads,
         ended,
+        end,
+    })
+}
+
+/// Room for the end of a board with these workers, and of this ready queue.
+fn end_room(alloc: Global, queue: &ReadyQueue, of: &Vec<Worker>) -> Result<EndRoom, Memory>
+    ensures { IfOk result (HasRoomFor queue.now.places (length of.now.items)) }
+{
+    let Ok(gather) = queue.make_room(alloc, of.len() + 1) else {
+        return Err(Memory);
+    };
+    let Ok(workers) = Vec::with_capacity(alloc, of.len()) else {
+        drop(gather);
+        return Err(Memory);
+    };
+    let Ok(passes) = Vec::with_capacity(alloc, of.len() + 1) else {
+        drop((gather, workers));
+        return Err(Memory);
+    };
+    Ok(EndRoom {
+        workers,
         passes,
         gather,
     })
@@ -529,7 +538,7 @@ fn start_others<
     rt: R,
     alloc: Global,
     stage: Stage<G>,
-    poller: PromisedHandle<(Poller, ReadyPass, C, Option<OwnEnd>), Polls>,
+    poller: PromisedHandle<PollSide<C>, Polls>,
     parts: WorkerParts,
     rooms: Rooms,
     mut clients: Vec<Client>,
@@ -544,8 +553,7 @@ fn start_others<
     requires shares { poller.promise.1.value.share + own_share poller.promise.2.value + sum_by (λ p. p.share) parts.passes.items ≡ all_shares }
     requires threads { (rooms.threads.items ≡ []) × (length parts.workers.items ≤ vec_capacity rooms.threads) }
     requires ended { (rooms.ended.items ≡ []) × ((arc_value stage.shared).board.workers ≤ vec_capacity rooms.ended) }
-    requires back { (rooms.passes.items ≡ []) × ((arc_value stage.shared).board.workers < vec_capacity rooms.passes) }
-    requires gather { IsRoom (arc_value stage.shared).queue.places ((arc_value stage.shared).board.workers + 1) rooms.gather }
+    requires end { IsEndRoom (arc_value stage.shared) rooms.end }
     ensures started { IfOk result (λ t. (t.0.board ≡ (arc_value stage.shared).board) × (t.1.items ≡ clients.items)) }
     ensures threads { IfOk result (λ t. t.0.threads ≡ length parts.workers.items + 1) }
     ensures own { IfOk result (λ t. AreClients t.0.board t.1.items) }
@@ -555,13 +563,12 @@ fn start_others<
     let Rooms {
         mut threads,
         ended,
-        passes: back,
-        gather,
+        end,
     } = rooms;
     match start_workers(rt, alloc, &shared, parts, &turnstile, &mut threads) {
         Ok(()) => {
             let rings = clients.len();
-            let runtime = Runtime::new(shared, rings, poller, threads, ended, back, gather);
+            let runtime = Runtime::new(shared, rings, poller, threads, ended, end);
             Ok((runtime, clients))
         }
         Err(error) => {
@@ -627,7 +634,7 @@ fn start_threads<
 /// ring, in order. An only worker has no thread: that of the poller makes its turns between its own. After `idle` idle turns in a row, 0 counting as 1, the poller sleeps until a batch is submitted, while its clock asks
 /// for nothing (IORING_SETUP_SQPOLL of io_uring_setup(2), with turns in the place of `sq_thread_idle` milliseconds).
 ///
-/// The clock is one that may stand so where nothing has happened yet. `join_with_clock` gives it back.
+/// The clock is one that may stand so where nothing has happened yet. `join_at_rest` gives it back.
 ///
 /// `BadShape` comes only where the shape is outside its limits, `Memory` where room isn't found, and `Thread` where a thread can't be made.
 pub fn start<

@@ -1,14 +1,11 @@
 //! What the threads of a runtime do: that of the poller, and those of the workers.
-ghost use Rattle.std.specs.Prelude.{◌≡◌, ◌↔◌, ◌⊎◌, ◌+◌, ◌≤◌, ◌==◌, [], IsTrue, length};
-ghost use Rattle.work.specs.Board.{IsOf};
+ghost use Rattle.std.specs.Prelude.{◌≡◌, ◌≢◌, ◌↔◌, ◌⊎◌, ◌+◌, ◌≤◌, ◌==◌, [], IfSome, IsTrue, length};
 ghost use Rattle.work.specs.Passes.{seen_of};
-ghost use Rattle.ready.specs.Ready.{IsOf as IsOfQueue};
 ghost use Rattle.bell.specs.BellPasses.{HasLoaded};
 ghost use Rattle.board.specs.ShapeLimits.{widest};
 ghost use Rattle.outbox.specs.Outbox.{Waiting};
-ghost use Rattle.runtime.specs.Crews.{IsBack, own_in, own_share};
-ghost use Rattle.runtime.specs.Loops.{IsOwn, IsPolling, IsServing, MayOwn};
-ghost use Rattle.runtime.specs.declared.shared.Shared.{Shared};
+ghost use Rattle.runtime.specs.Crews.{HasShares, own_in, own_share};
+ghost use Rattle.runtime.specs.Loops.{IsPollSide, IsPolling, IsServing, IsWorkSide, MayOwn};
 ghost use Rattle.runtime.specs.PollTurns.{IsPollTurn};
 ghost use Rattle.runtime.specs.WorkTurns.{IsWorkTurn};
 
@@ -17,9 +14,8 @@ use crate::posting::post_all;
 use crate::serving::{WorkDesk, work_turn};
 use crate::shared::Shared;
 use crate::sleeping::{Caller, Listener, doze};
-use crate::started::OwnEnd;
 use crate::turn::Turn;
-use board::{Poller, Worker};
+use board::Worker;
 use controls::{Clock, Turnstile};
 use outbox::Outbox;
 use ready::ReadyPass;
@@ -34,6 +30,9 @@ const SPINS: u32 = 256;
 
 /// How many silent turns in a row a worker makes before it sleeps. To sleep and to be woken takes longer than most requests.
 const AWAKE: u32 = 1024;
+
+/// After how many turns in a row that did nothing the poller of a runtime that is to come to rest ends.
+const SETTLED: u32 = 1024;
 
 /// How many turns the worker of the poller's thread makes at most between two turns of the poller.
 const RUNS: u32 = 64;
@@ -58,25 +57,25 @@ impl Idling {
     /// Notes a turn. Whether the poller may doze after it.
     fn note(&mut self, turn: Turn) -> bool
         ensures most { self.new.most ≡ self.old.most }
-        ensures moved { turn ≡ Turn.Moved → self.new.count ≡ 0 }
+        ensures moved { turn ≢ Turn.Idle → self.new.count ≡ 0 }
         ensures idle { turn ≡ Turn.Idle → (self.new.count ≡ self.old.count + 1) ⊎ ((self.old.count ≡ 4294967295) × (self.new.count ≡ 4294967295)) }
         ensures may { IsTrue result ↔ (self.new.most ≤ self.new.count) }
     {
         self.count = match turn {
             Turn::Idle => self.count.saturating_add(1),
-            Turn::Moved => 0,
+            Turn::Still | Turn::Moved => 0,
         };
         self.most <= self.count
     }
 }
 
 /// Idle where both are.
-fn both(one: Turn, other: Turn) -> Turn
+pub(crate) fn both(one: Turn, other: Turn) -> Turn
     ensures { result ≡ Turn.Idle → (one ≡ Turn.Idle) × (other ≡ Turn.Idle) }
 {
     match one {
         Turn::Idle => other,
-        Turn::Moved => one,
+        Turn::Still | Turn::Moved => one,
     }
 }
 
@@ -135,6 +134,7 @@ fn work_round<R: Wait, G: Turnstile>(
     requires places { widest shared.now.board.layout.cells ≤ outbox.old.places }
     ensures desk { IsServing shared.now desk.new result.0 }
     ensures turned { (o : Waiting) × ((o ≡ outbox.old) ⊎ (o ≡ record outbox.old { answered = [] })) × IsWorkTurn shared.now.board desk.old desk.new worker result.0 o outbox.new × (result.2 ≡ (length outbox.new.answered == length o.answered)) }
+    ensures idle { result.1 ≡ Turn.Idle → desk.new.kept ≡ [] }
     ensures places { outbox.new.places ≡ outbox.old.places }
     ensures share { desk.new.ready.share ≡ desk.old.ready.share }
 {
@@ -155,9 +155,9 @@ fn work_round<R: Wait, G: Turnstile>(
     (worker, turn, is_silent)
 }
 
-/// A worker that the poller's thread serves, with its desk and the outbox of its turns.
+/// A worker, with its desk and the outbox of its turns.
 #[derive(Drop)]
-pub(crate) struct OwnWorker {
+pub(crate) struct WorkSide {
     pub desk: WorkDesk,
     pub worker: Worker,
     pub outbox: Outbox,
@@ -171,22 +171,23 @@ pub(crate) struct PollSide<C> {
     pub clock: C,
     pub outbox: Outbox,
     pub caller: Caller,
-    pub own: Option<OwnWorker>,
+    pub own: Option<WorkSide>,
 }
 
-impl OwnWorker {
+impl WorkSide {
     /// Work turns, until one finds nothing to do, `RUNS` of them at most. What they answered is posted. Whether the last was idle.
-    fn serve<R: Wait, G: Turnstile>(
+    pub(crate) fn serve<R: Wait, G: Turnstile>(
         self,
         rt: &R,
         shared: &Shared,
         turnstile: &G,
-    ) -> (OwnWorker, Turn)
-        requires { IsOwn shared.now self }
-        ensures own { IsOwn shared.now result.0 }
+    ) -> (WorkSide, Turn)
+        requires { IsWorkSide shared.now self }
+        ensures own { IsWorkSide shared.now result.0 }
         ensures share { result.0.desk.ready.share ≡ self.desk.ready.share }
+        ensures idle { result.1 ≡ Turn.Idle → result.0.desk.kept ≡ [] }
     {
-        let OwnWorker {
+        let WorkSide {
             mut desk,
             mut worker,
             mut outbox,
@@ -209,7 +210,7 @@ impl OwnWorker {
         }
         post_all(rt, &shared.posts, turnstile, &mut outbox);
         desk.tell(&shared.tally);
-        let own = OwnWorker {
+        let own = WorkSide {
             desk,
             worker,
             outbox,
@@ -218,14 +219,11 @@ impl OwnWorker {
     }
 
     /// The passes, once it is served no more.
-    fn end(self) -> OwnEnd
-        ensures { (result.worker ≡ self.worker) × (result.ready ≡ self.desk.ready) }
+    pub(crate) fn parts(self) -> (Worker, ReadyPass)
+        ensures { (result.0 ≡ self.worker) × (result.1 ≡ self.desk.ready) }
     {
-        let OwnWorker { desk, worker, .. } = self;
-        OwnEnd {
-            worker,
-            ready: desk.parts(),
-        }
+        let WorkSide { desk, worker, .. } = self;
+        (worker, desk.parts())
     }
 }
 
@@ -234,11 +232,12 @@ fn serve_own<R: Wait, G: Turnstile>(
     rt: &R,
     shared: &Shared,
     turnstile: &G,
-    own: Option<OwnWorker>,
-) -> (Option<OwnWorker>, Turn)
+    own: Option<WorkSide>,
+) -> (Option<WorkSide>, Turn)
     requires { MayOwn shared.now own }
     ensures own { MayOwn shared.now result.0 }
     ensures same { (own_in result.0 ≡ own_in own) × (own_share result.0 ≡ own_share own) }
+    ensures idle { result.1 ≡ Turn.Idle → IfSome result.0 (λ w. w.desk.kept ≡ []) }
 {
     match own {
         Some(own) => {
@@ -249,33 +248,19 @@ fn serve_own<R: Wait, G: Turnstile>(
     }
 }
 
-/// The passes of the worker that the poller's thread has served, where it has one.
-fn end_of(own: Option<OwnWorker>) -> Option<OwnEnd>
-    ensures { (s : Shared) → MayOwn s own → IsBack s own result }
-{
-    match own {
-        Some(own) => Some(own.end()),
-        None => None,
-    }
-}
-
-/// The thread of the poller. It ends once it is told to. After `idle` idle turns in a row it sleeps until it is rung, unless its clock
-/// asks for something. It gives back its passes, and the clock, which has gone along with what the poller has seen.
+/// The thread of the poller. It ends once it is told to: at once, or, where the runtime is to come to rest, after `SETTLED` turns in a
+/// row that did nothing. After `idle` idle turns in a row it sleeps until it is rung, unless its clock asks for something. It gives back
+/// what it was given, and the clock has gone along with what the poller has seen.
 pub(crate) fn poll<R: Wait, G: Turnstile, C: Clock>(
     rt: &R,
     shared: &Shared,
     turnstile: &G,
     idle: u32,
     side: PollSide<C>,
-) -> (Poller, ReadyPass, C, Option<OwnEnd>)
-    requires desk { IsPolling shared.now side.desk }
-    requires clock { C.follows side.clock (seen_of side.desk.poller) }
-    requires outbox { (side.outbox.answered ≡ []) × (side.desk.places ≤ side.outbox.places) }
-    requires worker { MayOwn shared.now side.own }
-    ensures own { IsOf shared.now.board result.0 }
-    ensures ready { IsOfQueue shared.now.queue result.1 × (result.1.share ≡ side.desk.ready.share) }
-    ensures follows { C.follows result.2 (seen_of result.0) }
-    ensures worker { IsBack shared.now side.own result.3 }
+) -> PollSide<C>
+    requires { IsPollSide C.follows shared.now side }
+    ensures side { IsPollSide C.follows shared.now result }
+    ensures shares { HasShares side.desk.ready.share side.own result }
 {
     let PollSide {
         mut desk,
@@ -301,18 +286,23 @@ pub(crate) fn poll<R: Wait, G: Turnstile, C: Clock>(
         called = puts;
         let (next, served) = serve_own(rt, shared, turnstile, own);
         own = next;
-        if desk.is_over() {
+        let has_moved = desk.has_moved() || served == Turn::Moved;
+        still = if has_moved { 0 } else { still.saturating_add(1) };
+        let is_over = desk.is_over();
+        if is_over && (SETTLED <= still || !shared.is_resting.load(Ordering::SeqCst)) {
             shared.is_over.store(true, Ordering::SeqCst);
             caller.call_all();
-            let (poller, _sleeper, ready) = desk.parts();
-            return (poller, ready, clock, end_of(own));
+            return PollSide {
+                desk,
+                clock,
+                outbox,
+                caller,
+                own,
+            };
         }
-        if idling.note(both(turn, served)) && clock.ask().is_none() {
+        if idling.note(both(turn, served)) && clock.ask().is_none() && !is_over {
             rest(rt, &shared.bell, &mut desk);
-        } else if desk.has_moved() || served == Turn::Moved {
-            still = 0;
-        } else if !clock.is_in_haste() {
-            still = still.saturating_add(1);
+        } else if !has_moved {
             pause(still);
         }
     }
@@ -320,24 +310,27 @@ pub(crate) fn poll<R: Wait, G: Turnstile, C: Clock>(
 }
 
 /// The thread of a worker. What it answered is posted at the first turn that answers nothing, or once the outbox lacks room for
-/// another turn. It ends after a turn that answers nothing, once the workers are told to, and gives back its passes.
+/// another turn. It ends once the workers are told to: after a turn that answers nothing, or, where the runtime is to come to rest, after
+/// one that finds nothing to do, or after many that answer nothing, since no memory is found, say. It gives back what it was given.
 pub(crate) fn work<R: Wait, G: Turnstile>(
     rt: &R,
     shared: &Shared,
-    mut desk: WorkDesk,
-    mut worker: Worker,
     turnstile: &G,
-    mut outbox: Outbox,
+    side: WorkSide,
     mut listener: Listener,
-) -> (Worker, ReadyPass)
-    requires desk { IsServing shared.now desk worker }
-    requires places { widest shared.now.board.layout.cells ≤ outbox.places }
-    ensures own { IsOf shared.now.board result.0 }
-    ensures ready { IsOfQueue shared.now.queue result.1 × (result.1.share ≡ desk.ready.share) }
+) -> WorkSide
+    requires { IsWorkSide shared.now side }
+    ensures side { IsWorkSide shared.now result }
+    ensures share { result.desk.ready.share ≡ side.desk.ready.share }
 {
+    let WorkSide {
+        mut desk,
+        mut worker,
+        mut outbox,
+    } = side;
     let mut silent = 0u32;
     for _ in rt.forever() {
-        let (next, _turn, is_silent) = work_round(
+        let (next, turn, is_silent) = work_round(
             rt,
             shared,
             &mut desk,
@@ -352,8 +345,15 @@ pub(crate) fn work<R: Wait, G: Turnstile>(
         }
         post_all(rt, &shared.posts, turnstile, &mut outbox);
         desk.tell(&shared.tally);
-        if shared.is_over.load(Ordering::SeqCst) {
-            return (worker, desk.parts());
+        let is_done = turn == Turn::Idle || AWAKE <= silent;
+        if shared.is_over.load(Ordering::SeqCst)
+            && (is_done || !shared.is_resting.load(Ordering::SeqCst))
+        {
+            return WorkSide {
+                desk,
+                worker,
+                outbox,
+            };
         }
         if silent < AWAKE {
             pause(silent);

@@ -40,7 +40,7 @@ use Rattle.script_run.specs.ClockLines.{has_reply}
 use Rattle.script_run.specs.Tries.{IsInVain, TriedInVain, RanOut, IfStuck, IsFor, IsLowest, IsStuckLine}
 use Rattle.script_run.specs.declared.lines.Halt.{Halt}
 use Rattle.script_run.specs.declared.lines.Halt.TheVariants as halt
-use Rattle.script_run.specs.Hands.{seen_by, AreTaken, AreEntries, Stayed, HandAt, Went, HandedIn, Carries, IsCarried, IsThrough, AllWent}
+use Rattle.script_run.specs.Hands.{seen_by, AreTaken, AreEntries, Stayed, HandAt, Went, HandedIn, Carries, IsCarried, IsThrough}
 use Rattle.script_run.proofs.ClientCalls.{taken_by_line, taken_more, carried_by, batch_handed}
 
 -- a pass that went on has seen a legal history
@@ -164,8 +164,6 @@ reply_found j r Ready s w = absurd (true≢false (sym w))
 reply_found j r Running s w = absurd (true≢false (sym w))
 reply_found j r (Armed d) s w = absurd (true≢false (sym w))
 
--- ---- all hands
-
 -- an element is the same whatever stands past the end
 same_at : (xs : List Hand) (k : ℕ) (d e : Hand) → k < length xs → get_or xs k e ≡ get_or xs k d
 same_at [] k d e lt = absurd (omega arith)
@@ -174,28 +172,6 @@ same_at (x ∷ xs) (suc k) d e lt = same_at xs k d e (omega arith)
 
 pub went_same : (x y : Hand) → y ≡ x → Went x y
 went_same x y is = subst (Went x) (sym is) (went_still x x refl refl refl)
-
-pub all_still : (xs : List Hand) → AllWent xs xs
-all_still xs = (refl, λ k d e lt. went_same (get_or xs k d) (get_or xs k e) (same_at xs k d e lt))
-
-pub all_then : (xs ys zs : List Hand) → AllWent xs ys → AllWent ys zs → AllWent xs zs
-all_then xs ys zs a b = (b.0 ∙ a.0, λ k d e lt. (let l = a.0 in went_then (get_or xs k d) (get_or ys k d) (get_or zs k e) (a.1 k d d lt) (b.1 k d e (omega arith))))
-
-pub all_set : (xs ys : List Hand) (i : ℕ) (h : Hand) → i < length ys → ((d : Hand) → Went (get_or ys i d) h) → AllWent xs ys → AllWent xs (set ys i h)
-all_set xs ys i h lt w a = (
-  length-set ys i h ∙ a.0,
-  λ k d e in'. dite (ℕ_discrete k i)
-      (λ same. subst (λ (z : Hand). Went (get_or xs k d) z) (sym (ap (λ (z : ℕ). get_or (set ys i h) z e) same ∙ get_or-set_same ys i h e lt)) (went_then (get_or xs k d) (get_or ys k d) h (a.1 k d d in') (subst (λ (z : ℕ). Went (get_or ys z d) h) (sym same) (w d))))
-      (λ other. subst (λ (z : Hand). Went (get_or xs k d) z) (sym (get_or-set_other ys i k h e (λ z. other z))) (a.1 k d e in')),
-)
-
--- one of them went on
-pub all_next : (xs ys : List Hand) (i : ℕ) (x h : Hand) → i < length ys → x ≡ get_or ys i x → Went x h → AllWent xs ys → AllWent xs (set ys i h)
-all_next xs ys i x h lt is w a = all_set xs ys i h lt (λ d. subst (λ (z : Hand). Went z h) (is ∙ same_at ys i d x lt) w) a
-
--- the first of them did
-pub all_first : (xs : List Hand) (x h : Hand) → 0 < length xs → x ≡ get_or xs 0 x → Went x h → AllWent xs (set xs 0 h)
-all_first xs x h lt is w = all_next xs xs 0 x h lt is w (all_still xs)
 
 -- ---- a batch that was handed in
 

@@ -14,11 +14,12 @@ use Rattle.board.specs.declared.shape.RingShape.{RingShape}
 use Rattle.board.specs.declared.shape.Shape.{Shape}
 use Rattle.board.specs.ShapeLimits.{counts}
 use Rattle.runtime.specs.Clients.{ClientFacts, submitter_of, AreClients, AreNewClients, IsNewClient, IsStarted}
+use Rattle.runtime.specs.Rests.{CameToRest}
 use Rattle.script.specs.declared.script.Script.{Script}
 use Rattle.script.specs.Carried.{HasCarried}
 use Rattle.script.specs.Tables.{setup_of}
 use Rattle.script_run.specs.declared.hand.Hand.{Hand}
-use Rattle.script_run.specs.Hands.{client_of, taken_by, AreTaken, AreNew, IsNewHand, IsCarried, AllWent}
+use Rattle.script_run.specs.Hands.{client_of, taken_by, AreTaken, AreNew, IsNewHand, IsCarried}
 use Rattle.script_run.specs.Tries.{AllCarriedOut}
 use Rattle.script_run.specs.Played.{AreInOrder, AreStarting, IsPlayed}
 use Rattle.script_run.specs.declared.clock.ClockLine.{ClockLine}
@@ -29,19 +30,15 @@ use Rattle.script_run.proofs.HandLists.{get_map}
 
 -- ---- the end of all lines
 
-pub in_order : (c : Script) (turns : ℕ) (b : Facts) (xs ys zs : List Hand) → AreStarting c b xs → AllCarriedOut c turns xs ys → AllWent ys zs → AreInOrder b zs
-in_order c turns b xs ys zs s out went = record {
-  count = went.0 ∙ (out.0 ∙ s.order.count);
-  board = λ k d lt. (let l = out.0 in let m = went.0 in (went.1 k d d (omega arith)).stayed.board ∙ ((out.1 k d d (omega arith)).board ∙ s.order.board k d (omega arith)));
-  rings = λ k d lt. (let l = out.0 in let m = went.0 in (went.1 k d d (omega arith)).stayed.ring ∙ ((out.1 k d d (omega arith)).ring ∙ s.order.rings k d (omega arith)));
+pub in_order : (c : Script) (turns : ℕ) (b : Facts) (xs ys : List Hand) → AreStarting c b xs → AllCarriedOut c turns xs ys → AreInOrder b ys
+in_order c turns b xs ys s out = record {
+  count = out.0 ∙ s.order.count;
+  board = λ k d lt. (let l = out.0 in (out.1 k d d (omega arith)).board ∙ s.order.board k d (omega arith));
+  rings = λ k d lt. (let l = out.0 in (out.1 k d d (omega arith)).ring ∙ s.order.rings k d (omega arith));
 }
 
-pub are_carried : (c : Script) (turns : ℕ) (b : Facts) (xs ys zs : List Hand) → AreStarting c b xs → AllCarriedOut c turns xs ys → AllWent ys zs → All (λ h. h.halt ≡ None) ys → All (λ h. IsCarried c h) zs
-are_carried c turns b xs ys zs s out went none k d lt =
-    let l = out.0 in let m = went.0 in
-    let w = went.1 k d d (omega arith) in
-    let x = (out.1 k d d (omega arith)).carried (s.new k d (omega arith)).0 (none k d (omega arith)) in
-    record { through = λ v at. w.at c v.items 0 (x.through v (ap (slice_get c.acts.items) (sym w.stayed.ring) ∙ at)); taken = w.stayed.taken x.taken }
+pub are_carried : (c : Script) (turns : ℕ) (b : Facts) (xs ys : List Hand) → AreStarting c b xs → AllCarriedOut c turns xs ys → All (λ h. h.halt ≡ None) ys → All (λ h. IsCarried c h) ys
+are_carried c turns b xs ys s out none k d lt = let l = out.0 in (out.1 k d d (omega arith)).carried (s.new k d (omega arith)).0 (none k d (omega arith))
 
 pub of_board : (b : Facts) (hands : List Hand) → AreInOrder b hands → AreClients b (map client_of hands)
 of_board b [] o k d lt = absurd (omega arith)
@@ -94,7 +91,7 @@ same_setup c s b clients is rings pipes =
 
 pub played : (c : Script) (b : Facts) (hands : List Hand) (clients : List ClientFacts) (taken : List Completion) (report : List (Completion × Bool)) (own lines : List ClockLine) (next tries most : ℕ) (is_stuck : Bool)
     → AreInOrder b hands → All (λ h. IsCarried c h) hands → clients ≡ map client_of hands → taken ≡ taken_by hands → own ≡ lines → length lines ≤ next → AreClockLines c c.clock.items lines
-    → (poller : Pass) × (workers : List Pass) × IsReport b (poller ∷ (map submitter_of clients ++ workers)) report × IsAtLine own next tries most is_stuck (seen_of poller) × (poller.view.role ≡ Poller (length b.layout.cells))
+    → (poller : Pass) × (workers : List Pass) × IsReport b (poller ∷ (map submitter_of clients ++ workers)) report × IsAtLine own next tries most is_stuck (seen_of poller) × (poller.view.role ≡ Poller (length b.layout.cells)) × CameToRest b poller workers
     → IsPlayed c b taken report
 played c b hands clients taken report own lines next tries most is_stuck order carried is all same le are x = record {
   hands = hands;
@@ -105,6 +102,7 @@ played c b hands clients taken report own lines next tries most is_stuck order c
   workers = x.1;
   report = subst (λ (cs : List ClientFacts). IsReport b (x.0 ∷ (map submitter_of cs ++ x.1)) report) is x.2;
   role = x.4;
+  rest = x.5;
   left = drop next c.clock.items;
   timed = ends c lines next (seen_of x.0) le (subst (λ (ls : List ClockLine). IsAlong ls next (seen_of x.0)) same x.3.along c are);
 }

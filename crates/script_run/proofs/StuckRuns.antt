@@ -8,6 +8,7 @@ use Rattle.work.specs.Passes.{Pass, seen_of}
 use Rattle.board.specs.declared.completion.Completion.{Completion}
 use Rattle.board.specs.Reports.{IsReport}
 use Rattle.runtime.specs.Clients.{ClientFacts, submitter_of}
+use Rattle.runtime.specs.Rests.{CameToRest}
 use Rattle.script.specs.declared.act.Act.{Act}
 use Rattle.script.specs.declared.act.Act.TheVariants as act
 use Rattle.script.specs.declared.script.Script.{Script}
@@ -27,7 +28,6 @@ use Rattle.script_run.specs.Played.{AreInOrder, AreStarting, IsStartedFor}
 use Rattle.script_run.specs.Tries.{AllCarriedOut, IsFor, IsLowest}
 use Rattle.script_run.specs.Stuck.{HasLabel, IsStuck, IsStuckClock, IsStuckOn, IsStuckRing, WasUndone}
 use Rattle.script_run.proofs.ClockSteps.{act_at, around}
-use Rattle.script_run.proofs.HandSteps.{all_still}
 use Rattle.script_run.proofs.RunSteps.{in_order}
 
 pub if_stuck_on : (P Q : List ℕ → Type 0) (f : RunFault) → ((label : List ℕ) → P label → Q label) → IfStuckOn P f → IfStuckOn Q f
@@ -51,7 +51,7 @@ stuck_ring c turns b xs ys p label s out low is =
     let l = out.0 in let below = low.below in
     record {
       hands = ys;
-      order = in_order c turns b xs ys ys s out (all_still ys);
+      order = in_order c turns b xs ys s out;
       ring = low.ring;
       there = low.below;
       place = p;
@@ -96,7 +96,7 @@ all_undone c a l (suc n) h i k = (k.0, k.1, k.2, undone_now c a l k.1 i k.3, all
 
 pub stuck_clock : (c : Script) (turns : ℕ) (b : Facts) (hands : List Hand) (clients : List ClientFacts) (own lines : List ClockLine) (next tries most : ℕ) (is_stuck : Bool) (report : List (Completion × Bool)) (p : ℕ) (label : List ℕ)
     → AreInOrder b hands → All (λ h. IsCarried c h) hands → AreClockLines c c.clock.items lines → EndsAs own next most is_stuck lines turns (EndsStuck p)
-    → (poller : Pass) × (workers : List Pass) × IsReport b (poller ∷ (map submitter_of clients ++ workers)) report × IsAtLine own next tries most is_stuck (seen_of poller) × (poller.view.role ≡ Poller (length b.layout.cells))
+    → (poller : Pass) × (workers : List Pass) × IsReport b (poller ∷ (map submitter_of clients ++ workers)) report × IsAtLine own next tries most is_stuck (seen_of poller) × (poller.view.role ≡ Poller (length b.layout.cells)) × CameToRest b poller workers
     → HasLabel c p label → IsStuckClock c turns b label
 stuck_clock c turns b hands clients own lines next tries most is_stuck report p label order carried are e x label_is =
     let h : List Event = seen_of x.0 in
@@ -113,6 +113,8 @@ stuck_clock c turns b hands clients own lines next tries most is_stuck report p 
       carried = carried;
       poller = x.0;
       role = x.4;
+      workers = x.1;
+      rest = x.5;
       done = take next c.clock.items;
       act = here.0;
       left = drop (next + 1) c.clock.items;

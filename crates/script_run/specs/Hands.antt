@@ -92,10 +92,6 @@ pub record IsCarried (c : Script) (h : Hand) : Type 0 where
   pub through : IsThrough c h
   pub taken : AreTaken (seen_by h) h.taken.items
 
--- place by place, each of these came of the one that stands there
-abbrev pub AllWent : List Hand → List Hand → Type 0
-AllWent xs ys = (length ys ≡ length xs) × ((k : ℕ) (d e : Hand) → k < length xs → Went (slice_index_or xs k d) (slice_index_or ys k e))
-
 -- all that they took
 abbrev pub taken_by : List Hand → List Completion
 taken_by [] = []

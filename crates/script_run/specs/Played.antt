@@ -7,6 +7,7 @@ use Rattle.board.specs.declared.completion.Completion.{Completion}
 use Rattle.board.specs.Reports.{IsReport}
 use Rattle.board.specs.declared.shape.Shape.{Shape}
 use Rattle.runtime.specs.Clients.{ClientFacts, IsStarted, submitter_of}
+use Rattle.runtime.specs.Rests.{CameToRest}
 use Rattle.script.specs.declared.act.Act.{Act}
 use Rattle.script.specs.declared.script.Script.{Script}
 use Rattle.script.specs.Carried.{HasTimed}
@@ -32,7 +33,7 @@ pub record AreStarting (c : Script) (b : Facts) (hands : List Hand) : Type 0 whe
   pub order : AreInOrder b hands
   pub new : All (λ h. IsNewHand c h × (h.halt ≡ None)) hands
 
--- each hand has carried out all lines of its ring, the clock its own; these completions are those that the hands took, and these lines the report of the end
+-- each hand has carried out all lines of its ring, the clock its own, and then the runtime came to rest; these completions are those that the hands took, and these lines the report of the end
 pub record IsPlayed (c : Script) (b : Facts) (taken : List Completion) (lines : List (Completion × Bool)) : Type 0 where
   pub hands : List Hand
   pub order : AreInOrder b hands
@@ -42,5 +43,6 @@ pub record IsPlayed (c : Script) (b : Facts) (taken : List Completion) (lines : 
   pub workers : List Pass
   pub report : IsReport b (poller ∷ (map submitter_of (map client_of hands) ++ workers)) lines
   pub role : poller.view.role ≡ Poller (length b.layout.cells)
+  pub rest : CameToRest b poller workers
   pub left : List Act
   pub timed : HasTimed c c.clock.items left (seen_of poller)

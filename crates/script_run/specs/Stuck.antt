@@ -6,6 +6,7 @@ use Rattle.steps.specs.declared.view.Role.TheVariants.{Poller}
 use Rattle.work.specs.Board.{Facts}
 use Rattle.work.specs.Passes.{Pass, seen_of}
 use Rattle.runtime.specs.Clients.{ClientFacts}
+use Rattle.runtime.specs.Rests.{CameToRest}
 use Rattle.script.specs.declared.act.Act.{Act}
 use Rattle.script.specs.declared.named.Named.{Named}
 use Rattle.script.specs.declared.script.Script.{Script}
@@ -38,13 +39,15 @@ abbrev pub WasUndone : Script → Act → ℕ → List Event → Type 0
 WasUndone c act zero h = Unit {0}
 WasUndone c act (suc n) h = (later : List Event) × (seen : List Event) × (h ≡ later ++ seen) × (is_done c seen act ≡ false) × WasUndone c act n seen
 
--- the lines of all rings are carried out, and the clock's before one that ran out of tries, of which there is at least one
+-- the lines of all rings are carried out, and the clock's before one that ran out of tries, of which there is at least one, and then the runtime came to rest
 pub record IsStuckClock (c : Script) (turns : ℕ) (b : Facts) (label : List ℕ) : Type 0 where
   pub hands : List Hand
   pub order : AreInOrder b hands
   pub carried : All (λ h. IsCarried c h) hands
   pub poller : Pass
   pub role : poller.view.role ≡ Poller (length b.layout.cells)
+  pub workers : List Pass
+  pub rest : CameToRest b poller workers
   pub done : List Act
   pub act : Act
   pub left : List Act

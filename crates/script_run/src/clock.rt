@@ -13,16 +13,15 @@ use history::Req;
 use script::{Act, Script};
 use std::alloc::{AllocError, Global};
 use std::sync::Arc;
-use std::sync::atomic::{AtomicBool, AtomicU64, Ordering};
+use std::sync::atomic::{AtomicU64, Ordering};
 
 /// How far a clock has come, as the other threads see it: how many lines it has, and how many of them are left that it may carry out;
-/// how many turns the poller has made; and whether the clock is in haste, since its line waits for what doesn't come.
+/// and how many turns the poller has made.
 #[derive(Drop)]
 pub(crate) struct Progress {
     lines: u64,
     left: AtomicU64,
     turns: AtomicU64,
-    is_in_haste: AtomicBool,
 }
 
 impl Progress {
@@ -32,7 +31,6 @@ impl Progress {
             lines,
             left: AtomicU64::new(lines),
             turns: AtomicU64::new(0),
-            is_in_haste: AtomicBool::new(false),
         }
     }
 
@@ -44,11 +42,6 @@ impl Progress {
     /// How many lines are behind it: carried out, or given up.
     pub fn behind(&self) -> u64 {
         self.lines.saturating_sub(self.left.load(Ordering::SeqCst))
-    }
-
-    /// Whether the clock is in haste from now on.
-    pub fn hurry(&self, is_in_haste: bool) {
-        self.is_in_haste.store(is_in_haste, Ordering::SeqCst);
     }
 
     /// How many turns the poller has made.
@@ -287,9 +280,5 @@ impl Clock for LineClock {
                 Some(to)
             }
         }
-    }
-
-    fn is_in_haste(&self) -> bool {
-        self.progress.is_in_haste.load(Ordering::SeqCst)
     }
 }

@@ -5,10 +5,11 @@ ghost use Rattle.steps.specs.declared.view.Role.TheVariants.{Poller};
 ghost use Rattle.work.specs.Passes.{Pass, seen_of};
 ghost use Rattle.board.specs.Reports.{IsReport};
 ghost use Rattle.runtime.specs.Clients.{AreClients, submitter_of};
+ghost use Rattle.runtime.specs.Rests.{CameToRest};
 ghost use Rattle.script.specs.Homes.{AreHomes};
 ghost use Rattle.script.specs.Rows.{rows_of};
 ghost use Rattle.script.specs.Tables.{IsTableOf};
-ghost use Rattle.script_run.specs.Hands.{AreNew, AllWent, client_of, taken_by};
+ghost use Rattle.script_run.specs.Hands.{AreNew, client_of, taken_by};
 ghost use Rattle.script_run.specs.ClockLines.{AreClockLines};
 ghost use Rattle.script_run.specs.ClockTries.{IsAtLine};
 ghost use Rattle.script_run.specs.Played.{AreStarting, IsPlayed, IsStartedFor};
@@ -26,11 +27,10 @@ use crate::lines::Halt;
 use crate::rows::table_of;
 use crate::stage::Stage;
 use crate::threads::carry_all;
-use crate::watch::go_on;
 use board::{Completion, Report, RingShape, Shape};
 use controls::Turnstile;
 use history::Req;
-use runtime::{Client, Runtime, join_with_clock, start};
+use runtime::{Client, Rested, Runtime, join_all, join_at_rest, start};
 use script::{Script, Table, homes_of};
 use std::alloc::{AllocError, Global};
 use std::sync::{Arc, Wait};
@@ -42,8 +42,8 @@ const IDLE: u32 = 64;
 /// Carries a script out on a runtime with so many workers, and gives its table. Each ring has a thread of its own, and the clock's
 /// lines are carried out by the poller's, one try a turn. A `wait` or `armed` line, and a `submit` line whose cells aren't all free,
 /// is tried at most `turns` times: between two tries a ring's thread sleeps for a while, and not at all once nothing can go on. After
-/// the last line the run ends once no request can go on; what has no reply by then is cut off with -125 (ECANCELED). Each thread goes
-/// through the turnstile with each request.
+/// the last line the run ends once the runtime is at rest; what has no reply by then is cut off with -125 (ECANCELED). Each thread of the
+/// runtime goes through the turnstile with each request.
 pub fn run_script<
     R: Threads + Wait + Copy + Send + Sync + 'static,
     G: Turnstile + Send + Sync + Drop + 'static,
@@ -205,14 +205,14 @@ fn play<R: Threads + Wait + Sync>(
     ensures played { IfOk result (λ t. IsPlayed stage.now.script.now runtime.board t.0.items t.1) }
     ensures stuck { IfErr result (IfStuckOn (IsStuckOn stage.now.script.now stage.now.turns runtime.board)) }
 {
-    let mut hands = carry_all(rt, stage, hands);
-    let halt = finish_lines(rt, stage, &mut hands);
+    let hands = carry_all(rt, stage, hands);
+    let halt = halt_of(hands.as_slice());
     let (clients, taken) = parts_of(stage.alloc, hands, clients);
-    let joined = end(rt, stage.alloc, runtime, clients);
     if let Some(halt) = halt {
+        end_at_once(rt, stage.alloc, runtime, clients);
         return Err(fault_of(stage, halt));
     }
-    let (report, clock) = joined?;
+    let (report, clock) = end_at_rest(rt, stage.alloc, runtime, clients)?;
     match clock.ended(lines, stage.turns) {
         Ended::Through => match taken {
             Some(taken) => Ok((taken, report)),
@@ -223,37 +223,41 @@ fn play<R: Threads + Wait + Sync>(
     }
 }
 
-/// Waits until no request can go on, unless a ring stopped. Why the run gives no table, if it gives none.
-fn finish_lines<R: Wait>(rt: &R, stage: &Stage<'_>, hands: &mut Vec<Hand>) -> Option<Halt>
-    ensures went { AllWent hands.old.items hands.new.items }
-    ensures through { result ≡ None → All (λ h. h.halt ≡ None) hands.old.items }
-    ensures stuck { (p : ℕ) → result ≡ Some (Stuck p) → IsLowest hands.old.items (length hands.old.items) p }
+/// Ends the runtime of a run that gives no table.
+fn end_at_once<R: Threads + Wait>(
+    rt: &R,
+    alloc: Global,
+    runtime: Runtime<LineClock>,
+    clients: Vec<Client>,
+)
+    requires { AreClients runtime.board clients.items }
 {
-    let halt = halt_of(hands.as_slice());
-    if halt.is_some() {
-        return halt;
-    }
-    match go_on(rt, stage, hands) {
-        Ok(()) => None,
-        Err(_) => Some(Halt::Memory),
+    match join_all(rt, alloc, runtime, clients) {
+        Ok(report) => drop(report),
+        Err(unjoined) => drop(unjoined.abandon(rt)),
     }
 }
 
-/// Ends the runtime, and gives its report and the clock. Where that isn't had all threads have ended too.
-fn end<R: Threads + Wait>(
+/// Ends the runtime once it is at rest, and gives its report and the clock. Where that isn't had all threads have ended too.
+fn end_at_rest<R: Threads + Wait>(
     rt: &R,
     alloc: Global,
     runtime: Runtime<LineClock>,
     clients: Vec<Client>,
 ) -> Result<(Report, LineClock), RunFault>
     requires { AreClients runtime.board clients.items }
-    ensures ended { IfOk result (λ t. (poller : Pass) × (workers : List Pass) × IsReport runtime.board (poller ∷ (map submitter_of clients.items ++ workers)) t.0 × IsAtLine t.1.lines.items t.1.next t.1.tries t.1.most t.1.is_stuck (seen_of poller) × (poller.view.role ≡ Poller (length runtime.board.layout.cells))) }
+    ensures ended { IfOk result (λ t. (poller : Pass) × (workers : List Pass) × IsReport runtime.board (poller ∷ (map submitter_of clients.items ++ workers)) t.0 × IsAtLine t.1.lines.items t.1.next t.1.tries t.1.most t.1.is_stuck (seen_of poller) × (poller.view.role ≡ Poller (length runtime.board.layout.cells)) × CameToRest runtime.board poller workers) }
     ensures unstuck { IfErr result IsUnstuck }
 {
-    match join_with_clock(rt, alloc, runtime, clients) {
-        Ok(ended) => Ok(ended),
-        Err(unjoined) => Err(RunFault::from(unjoined.abandon(rt))),
+    let rested = match join_at_rest(rt, alloc, runtime, clients) {
+        Ok(rested) => rested,
+        Err(unjoined) => return Err(RunFault::from(unjoined.abandon(rt))),
+    };
+    if !rested.is_at_rest {
+        return Err(RunFault::Memory);
     }
+    let Rested { report, clock, .. } = rested;
+    Ok((report, clock))
 }
 
 /// Of two rings' halts, or none, the one that is told: one that stops all comes first, then the lower ring's.

@@ -1,5 +1,5 @@
 //! How a thread waits for a run to go on, and how it finds that it can't.
-ghost use Rattle.script_run.specs.Hands.{Went, AllWent};
+ghost use Rattle.script_run.specs.Hands.{Went};
 
 use crate::hand::Hand;
 use crate::stage::Stage;
@@ -198,74 +198,4 @@ impl Watch {
         }
         self.nap(rt, stage, hand)
     }
-
-    /// A look after the last line, where no completion was there, and a pause. Whether the run is at its end. Where the clock alone
-    /// isn't, since its line waits for what doesn't come, that is in haste.
-    fn finish<R: Wait>(
-        &mut self,
-        rt: &R,
-        stage: &Stage<'_>,
-        hand: &mut Hand,
-    ) -> Result<bool, AllocError>
-        ensures { Went hand.old hand.new }
-    {
-        let clock = &stage.barrier.pulse.clock;
-        if self.look(stage, hand) && clock.is_over() {
-            return Ok(true);
-        }
-        clock.hurry(0 < self.looks);
-        if !self.is_quick() {
-            self.nap(rt, stage, hand)?;
-        }
-        Ok(false)
-    }
-}
-
-/// Takes the completions that are there. Whether there was one.
-fn take_all<R: Wait>(rt: &R, hands: &mut Vec<Hand>) -> Result<bool, AllocError>
-    ensures { AllWent hands.old.items hands.new.items }
-{
-    let mut some = false;
-    let mut is_short = false;
-    for hand in hands.iter_mut() {
-        match hand.take_all(rt) {
-            Ok(has_taken) => some = some || has_taken,
-            Err(_) => is_short = true,
-        }
-    }
-    if is_short { Err(AllocError) } else { Ok(some) }
-}
-
-/// `Watch::finish`, by the first of the hands.
-fn finish_by_first<R: Wait>(
-    rt: &R,
-    stage: &Stage<'_>,
-    watch: &mut Watch,
-    hands: &mut Vec<Hand>,
-) -> Result<bool, AllocError>
-    ensures { AllWent hands.old.items hands.new.items }
-{
-    match hands.first_mut() {
-        Some(hand) => watch.finish(rt, stage, hand),
-        None => Ok(true),
-    }
-}
-
-/// Takes completions until the clock has come to its end, the workers have nothing to do, and no request can go on.
-pub(crate) fn go_on<R: Wait>(
-    rt: &R,
-    stage: &Stage<'_>,
-    hands: &mut Vec<Hand>,
-) -> Result<(), AllocError>
-    ensures { AllWent hands.old.items hands.new.items }
-{
-    let mut watch = Watch::new();
-    for _ in rt.forever() {
-        if take_all(rt, hands)? {
-            watch.begin_again(stage);
-        } else if finish_by_first(rt, stage, &mut watch, hands)? {
-            return Ok(());
-        }
-    }
-    unreachable!()
 }

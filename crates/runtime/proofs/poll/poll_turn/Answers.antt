@@ -5,15 +5,14 @@ use Rattle.work.specs.Passes.{Pass, seen_of}
 use Rattle.runtime.specs.declared.lists.Intake.{Intake}
 use Rattle.runtime.specs.Backlogs.{Owed}
 use Rattle.runtime.specs.Desks.{AreHeldBack, ArePending, cares_of, taken_in}
-use Rattle.runtime.specs.PollTurns.{Desk, IsIdle, IsPollTurn, IsPollers, IsTaken}
+use Rattle.runtime.specs.PollTurns.{Desk, IsPollTurn, IsPollers, IsStill, IsTaken}
 use Rattle.runtime.specs.Shelves.{Places}
 use Rattle.steps.specs.Rule.{Begins}
 use Rattle.runtime.specs.Parts.{HasRung, IsStuck}
 use Rattle.runtime.proofs.ClockLaws.{stays_along, still_pollers}
-use Rattle.runtime.proofs.TurnLaws.{did_retry, did_ring, did_then, moved_not_idle, nothing_done, turned}
+use Rattle.runtime.proofs.TurnLaws.{did_retry, did_ring, did_then, nothing_done, turned}
 use Rattle.runtime.proofs.DeskLaws.{after_on, all_done_with, all_rung, held_later, held_sooner, is_stopped, no_answers, pending_later, pending_sooner, rung_is, rung_on, rung_sooner, went_room}
 use Rattle.runtime.proofs.poll.poll_turn.Goals as goal
-use Rattle.runtime.proofs.poll.poll_turn.Goals.{then-has_work, else-has_work}
 
 pub look_after-requires-clause-rings : goal.look_after-requires-clause-rings
 look_after-requires-clause-rings g c =
@@ -41,7 +40,7 @@ returns-in_err-look_after-clause-follows g c role f =
 pub returns-clause-turned : goal.returns-clause-turned
 returns-clause-turned g c =
     let own : IsOfQueue c.args.queue.now c.desk.inside.hands.ready = subst (λ (d : Desk). IsOfQueue c.args.queue.now d.ready) (sym c.desk.view_is) c.requires.ready in
-    let w = c.has_work-has_work in let h = c.look_after.new.hands in let k = w.new.hands in let l = w.new.lists in
+    let w = c.came_to-turn in let h = c.look_after.new.hands in let k = w.new.hands in let l = w.new.lists in
     let went = w.ensures.went_on no_answers in
     let d : Desk = record { poller = k.poller; sleeper = c.collect.new.sleeper; ready = k.ready; kept = k.kept.numbers; places = c.desk.inside.places; rings = length l.rings.items; intakes = l.rings.items; waiting = l.waiting.items; watched = l.watchers.items; deadlines = l.timers } in
     let first = did_then _ _ _ _ _ _ c.look_after.new.outbox _ c.look_after.ensures.did (did_retry c.args.board.now c.args.queue.now h c.retry_rest.new.self c.look_after.new.outbox c.look_after.ensures.did.goes.kept c.retry_rest.ensures.handed c.retry_rest.ensures.same.0 c.retry_rest.ensures.same.1 c.retry_rest.ensures.quiet) in
@@ -51,7 +50,7 @@ returns-clause-turned g c =
 
 pub returns-clause-taken_up : goal.returns-clause-taken_up
 returns-clause-taken_up g c =
-    let w = c.has_work-has_work in let h = c.look_after.new.hands in let k = w.new.hands in let l = w.new.lists in
+    let w = c.came_to-turn in let h = c.look_after.new.hands in let k = w.new.hands in let l = w.new.lists in
     let went = w.ensures.went_on no_answers in
     let d : Desk = record { poller = k.poller; sleeper = c.collect.new.sleeper; ready = k.ready; kept = k.kept.numbers; places = c.desk.inside.places; rings = length l.rings.items; intakes = l.rings.items; waiting = l.waiting.items; watched = l.watchers.items; deadlines = l.timers } in
     let none : length c.args.outbox.now.answered ≡ 0 = ap (λ (xs : List Req). length xs) c.requires.outbox.0 in
@@ -68,7 +67,7 @@ returns-clause-taken_up g c =
 
 pub returns-clause-tried : goal.returns-clause-tried
 returns-clause-tried g c =
-    let w = c.has_work-has_work in let h = c.look_after.new.hands in let k = w.new.hands in let l = w.new.lists in
+    let w = c.came_to-turn in let h = c.look_after.new.hands in let k = w.new.hands in let l = w.new.lists in
     let went = w.ensures.went_on no_answers in
     let d : Desk = record { poller = k.poller; sleeper = c.collect.new.sleeper; ready = k.ready; kept = k.kept.numbers; places = c.desk.inside.places; rings = length l.rings.items; intakes = l.rings.items; waiting = l.waiting.items; watched = l.watchers.items; deadlines = l.timers } in
     let none : length c.args.outbox.now.answered ≡ 0 = ap (λ (xs : List Req). length xs) c.requires.outbox.0 in
@@ -87,7 +86,7 @@ returns-clause-tried g c =
 
 pub returns-clause-rung : goal.returns-clause-rung
 returns-clause-rung g c =
-    let w = c.has_work-has_work in let h = c.look_after.new.hands in let k = w.new.hands in let l = w.new.lists in
+    let w = c.came_to-turn in let h = c.look_after.new.hands in let k = w.new.hands in let l = w.new.lists in
     let went = w.ensures.went_on no_answers in
     let d : Desk = record { poller = k.poller; sleeper = c.collect.new.sleeper; ready = k.ready; kept = k.kept.numbers; places = c.desk.inside.places; rings = length l.rings.items; intakes = l.rings.items; waiting = l.waiting.items; watched = l.watchers.items; deadlines = l.timers } in
     let asked = c.ask_clock.ensures.ticked.goes in
@@ -105,7 +104,7 @@ returns-clause-rung g c =
 
 pub returns-clause-counted : goal.returns-clause-counted
 returns-clause-counted g c =
-    let w = c.has_work-has_work in let h = c.look_after.new.hands in let k = w.new.hands in let l = w.new.lists in
+    let w = c.came_to-turn in let h = c.look_after.new.hands in let k = w.new.hands in let l = w.new.lists in
     let went = w.ensures.went_on no_answers in
     let d : Desk = record { poller = k.poller; sleeper = c.collect.new.sleeper; ready = k.ready; kept = k.kept.numbers; places = c.desk.inside.places; rings = length l.rings.items; intakes = l.rings.items; waiting = l.waiting.items; watched = l.watchers.items; deadlines = l.timers } in
     let asked = c.ask_clock.ensures.ticked.goes in
@@ -119,23 +118,24 @@ returns-clause-counted g c =
     (λ f. inr (omega (arith, f, none, room, at_first)))
     c.in_ok-look_after.ensures.counted
 
+pub returns-clause-still : goal.returns-clause-still
+returns-clause-still g c e =
+    let w = c.came_to-turn in let h = c.look_after.new.hands in let k = w.new.hands in let l = w.new.lists in
+    let first = did_then _ _ _ _ _ _ c.look_after.new.outbox _ c.look_after.ensures.did (did_retry c.args.board.now c.args.queue.now h c.retry_rest.new.self c.look_after.new.outbox c.look_after.ensures.did.goes.kept c.retry_rest.ensures.handed c.retry_rest.ensures.same.0 c.retry_rest.ensures.same.1 c.retry_rest.ensures.quiet) in
+    let all = did_then _ _ _ _ _ _ c.look_after.new.outbox _ first (did_ring _ _ _ _ _ _ (w.ensures.went_on c.look_after.new.outbox)) in
+    let rest = w.ensures.still e in
+    let done = nothing_done _ _ _ _ _ _ _ c.ask_clock.ensures.ticked all c.requires.outbox.0 rest.0 in
+    subst (λ (o : Desk). IsStill c.args.board.now o (record { poller = k.poller; sleeper = c.collect.new.sleeper; ready = k.ready; kept = k.kept.numbers; places = c.desk.inside.places; rings = length l.rings.items; intakes = l.rings.items; waiting = l.waiting.items; watched = l.watchers.items; deadlines = l.timers }) c.look_after.new.outbox) c.desk.view_is
+    (record { kept = rest.1; goes = done.0; alone = done.1; ready = done.2; answered = done.3 })
+
 pub returns-clause-idle : goal.returns-clause-idle
-returns-clause-idle g c = elim c.if-has_work.branch [
-  | then-has_work v ↦ λ e. absurd (moved_not_idle _ v.result-is e)
-  | else-has_work v ↦ λ e.
-      let w = c.has_work-has_work in let h = c.look_after.new.hands in let k = w.new.hands in let l = w.new.lists in
-      let went = w.ensures.went_on no_answers in
-      let first = did_then _ _ _ _ _ _ c.look_after.new.outbox _ c.look_after.ensures.did (did_retry c.args.board.now c.args.queue.now h c.retry_rest.new.self c.look_after.new.outbox c.look_after.ensures.did.goes.kept c.retry_rest.ensures.handed c.retry_rest.ensures.same.0 c.retry_rest.ensures.same.1 c.retry_rest.ensures.quiet) in
-      let all = did_then _ _ _ _ _ _ c.look_after.new.outbox _ first (did_ring _ _ _ _ _ _ (w.ensures.went_on c.look_after.new.outbox)) in
-      let rest = w.ensures.none v.if-has_work.false in
-      let done = nothing_done _ _ _ _ _ _ _ c.ask_clock.ensures.ticked all c.requires.outbox.0 rest.0 in
-      subst (λ (o : Desk). IsIdle c.args.board.now o (record { poller = k.poller; sleeper = c.collect.new.sleeper; ready = k.ready; kept = k.kept.numbers; places = c.desk.inside.places; rings = length l.rings.items; intakes = l.rings.items; waiting = l.waiting.items; watched = l.watchers.items; deadlines = l.timers }) c.look_after.new.outbox) c.desk.view_is
-      (record { kept = rest.1; goes = done.0; alone = done.1; ready = done.2; answered = done.3; done = all_done_with (cares_of l) k.poller.view.seen w.ensures.cared rest.2 rest.3 })
-]
+returns-clause-idle g c e =
+    let w = c.came_to-turn in let none = w.ensures.none e in
+    all_done_with (cares_of w.new.lists) w.new.hands.poller.view.seen w.ensures.cared none.0 none.1
 
 pub returns-clause-follows : goal.returns-clause-follows
 returns-clause-follows g c role f =
-    let w = c.has_work-has_work in let h = c.look_after.new.hands in let k = w.new.hands in let l = w.new.lists in
+    let w = c.came_to-turn in let h = c.look_after.new.hands in let k = w.new.hands in let l = w.new.lists in
     let went = w.ensures.went_on no_answers in
     let first = did_then _ _ _ _ _ _ c.look_after.new.outbox _ c.look_after.ensures.did (did_retry c.args.board.now c.args.queue.now h c.retry_rest.new.self c.look_after.new.outbox c.look_after.ensures.did.goes.kept c.retry_rest.ensures.handed c.retry_rest.ensures.same.0 c.retry_rest.ensures.same.1 c.retry_rest.ensures.quiet) in
     let all = did_then _ _ _ _ _ _ c.look_after.new.outbox _ first (did_ring _ _ _ _ _ _ (w.ensures.went_on c.look_after.new.outbox)) in

@@ -52,6 +52,3 @@ loop-k-preserved g c =
       stuck = λ s. absurd (free_unstuck c.loop-k.hands kept some (i.stuck s));
       stopped = λ s. absurd (free_goes_on c.loop-k.hands c.loop-k.lists.waiting kept some (c.is_full.ensures.open c.if-is_full.false) (i.stopped s));
     }
-
-pub returns-then-tail-eq-END-clause-did : goal.returns-then-tail-eq-END-clause-did
-returns-then-tail-eq-END-clause-did g c = did_still _ _ _ _ c.requires.own.0.0

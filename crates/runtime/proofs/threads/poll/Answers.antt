@@ -2,11 +2,10 @@ use Rattle.std.proofs.Common.{rules, ◌≤◌, sym, ap, ◌∙◌, subst}
 use Rattle.work.specs.Passes.{seen_of}
 use Rattle.runtime.specs.PollTurns.{Desk}
 use Rattle.runtime.specs.Loops.{IsPolling}
-use Rattle.runtime.proofs.CrewLaws.{back_too}
 use Rattle.runtime.proofs.threads.poll.Goals as goal
 
-pub loop-preserved-then-is_none : goal.loop-preserved-then-is_none
-loop-preserved-then-is_none g c =
+pub loop-preserved-then-not-is_over : goal.loop-preserved-then-not-is_over
+loop-preserved-then-not-is_over g c =
     let before = c.poll_round-turn.ensures.desk in
     let same = c.rest.ensures.same in
     record {
@@ -23,9 +22,3 @@ loop-preserved-then-is_none g c =
       worker = search rules;
       outbox = (c.poll_round-turn.ensures.outbox.0, subst (λ (d : Desk). d.places ≤ c.poll_round-turn.new.outbox.places) (sym same) c.poll_round-turn.ensures.outbox.1);
     }
-
-pub returns-then-is_over-clause-worker : goal.returns-then-is_over-clause-worker
-returns-then-is_over-clause-worker g c =
-    let same = c.serve_own-next.ensures.same in
-    let i = c.loop.invariant.worker in
-    back_too c.args.shared.now c.serve_own-next.result.0 c.args.side.own _ (same.0 ∙ i.1) (same.1 ∙ i.2) (c.end_of.ensures c.args.shared.now c.serve_own-next.ensures.own)

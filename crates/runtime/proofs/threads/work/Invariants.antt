@@ -7,5 +7,5 @@ abbrev pub invariant-loop : goal.invariant-loop
 invariant-loop g l = record {
   desk : IsServing l.shared l.desk l.worker;
   places : widest l.shared.board.layout.cells ≤ l.outbox.places;
-  share : l.desk.ready.share ≡ l.fn.desk.ready.share;
+  share : l.desk.ready.share ≡ l.fn.side.desk.ready.share;
 }

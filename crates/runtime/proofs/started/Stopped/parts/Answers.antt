@@ -1,24 +1,41 @@
-use Rattle.std.proofs.Common.{All, List, sum_by, sym, ap, ◌∙◌, subst, arith}
-use Rattle.std.proofs.lemmas.List.Elements.{All-push}
-use Rattle.std.proofs.lemmas.List.Sums.{sum_by_push}
-use Rattle.ready.specs.Ready.{Moves, IsOf as IsOfQueue}
+use Rattle.std.proofs.Common.{◌≡◌, ◌+◌, ◌++◌, ◌∷◌, [], ℕ, All, List, length, map, sym, ap, ◌∙◌, subst, arith}
+use Rattle.std.proofs.lemmas.List.{length-map}
 use Rattle.std.specs.Arc.{arc_value}
+use Rattle.ready.specs.Ready.{AreAll, Moves, IsOf as IsOfQueue}
+use Rattle.ready.specs.QueueParts.{IsRoom}
 use Rattle.board.specs.Reports.{AreOf}
-use Rattle.runtime.specs.Crews.{Crew}
-use Rattle.board.proofs.PassLists.{are_of}
+use Rattle.work.specs.Passes.{Pass}
+use Rattle.runtime.specs.Crews.{Crew, all_passes, ready_of, worker_of}
+use Rattle.runtime.proofs.CrewLaws.{passes_all, passes_long, passes_own, workers_own}
 use Rattle.runtime.proofs.started.Stopped.parts.Goals as goal
 
 pub returns-clause-workers : goal.returns-clause-workers
-returns-clause-workers g c = (
-  subst (λ (k : Crew). AreOf k.shared.board c.self.inside.workers.items) c.self.view_is (are_of _ _ c.self.invariant.0.workers_are),
-  c.self.invariant.0.count ∙ ap (λ (k : Crew). k.shared.board.workers) c.self.view_is,
-)
+returns-clause-workers g c =
+    let i = c.self.invariant.0 in
+    let own = subst (λ (ps : List Pass). AreOf (arc_value c.self.inside.shared).board ps) (sym c.passes_of-workers.ensures.workers) (workers_own (arc_value c.self.inside.shared) c.self.inside.workers.items i.workers_are) in
+    let count = ap (λ (ps : List Pass). length ps) c.passes_of-workers.ensures.workers ∙ (length-map c.self.inside.workers.items worker_of ∙ i.count) in (
+      c.passes_of-workers.ensures.workers ∙ ap (λ (k : Crew). map worker_of k.workers) c.self.view_is,
+      subst (λ (k : Crew). AreOf k.shared.board c.passes_of-workers.result.0.items) c.self.view_is own,
+      count ∙ ap (λ (k : Crew). k.shared.board.workers) c.self.view_is,
+    )
 
 pub returns-clause-passes : goal.returns-clause-passes
 returns-clause-passes g c =
-    let i = c.self.invariant.2 in
+    let i = c.self.invariant.0 in
     let s = arc_value c.self.inside.shared in
-    let own : All (λ p. IsOfQueue s.queue p) c.push_reserved.new.self.items = subst (λ (z : List Moves). All (λ p. IsOfQueue s.queue p) z) (sym c.push_reserved.ensures.items) (All-push (λ (p : Moves). IsOfQueue s.queue p) _ _ i.own i.poller_is) in (
+    let d = c.self.inside.side.desk in
+    let ws = c.self.inside.workers.items in
+    let are : c.push_reserved.new.self.items ≡ all_passes d ws = c.push_reserved.ensures.items ∙ (ap (λ (ps : List Moves). ps ++ c.parts-poller.result.2 ∷ []) c.passes_of-workers.ensures.passes ∙ ap (λ (p : Moves). map ready_of ws ++ p ∷ []) c.parts-poller.ensures.2) in
+    let own = subst (λ (ps : List Moves). All (λ p. IsOfQueue s.queue p) ps) (sym are) (passes_own s d ws i.side_is.desk.ready i.workers_are) in
+    let all = subst (λ (ps : List Moves). AreAll ps) (sym are) (passes_all d ws i.shares) in (
+      are ∙ ap (λ (k : Crew). all_passes k.desk k.workers) c.self.view_is,
       subst (λ (k : Crew). All (λ p. IsOfQueue k.shared.queue p) c.push_reserved.new.self.items) c.self.view_is own,
-      omega (arith, i.shares, ap (λ (z : List Moves). sum_by (λ (p : Moves). p.share) z) c.push_reserved.ensures.items, sum_by_push (λ (p : Moves). p.share) c.self.inside.passes.items c.self.inside.ready),
+      all,
     )
+
+pub returns-clause-room : goal.returns-clause-room
+returns-clause-room g c =
+    let i = c.self.invariant.0 in
+    let s = arc_value c.self.inside.shared in
+    let long : s.board.workers + 1 ≡ length c.push_reserved.new.self.items = omega (arith, i.count, length-map c.self.inside.workers.items ready_of, ap (λ (ps : List Moves). length ps) c.passes_of-workers.ensures.passes, ap (λ (ps : List Moves). length ps) c.push_reserved.ensures.items, Rattle.std.proofs.Common.length-append c.passes_of-workers.result.1.items (c.parts-poller.result.2 ∷ [])) in
+    subst (λ (k : Crew). IsRoom k.shared.queue.places (length c.push_reserved.new.self.items) c.self.inside.room.gather) c.self.view_is (subst (λ (n : ℕ). IsRoom s.queue.places n c.self.inside.room.gather) long c.self.invariant.1.gather)

@@ -1,11 +1,13 @@
-use Rattle.std.proofs.Common.{◌≡◌, ◌≤◌}
+use Rattle.std.proofs.Common.{◌≡◌, ◌≤◌, []}
 use Rattle.board.specs.ShapeLimits.{widest}
+use Rattle.runtime.specs.declared.turn.Turn.TheVariants.{Idle}
 use Rattle.runtime.specs.Loops.{IsServing}
-use Rattle.runtime.proofs.threads.OwnWorker.serve.Given as goal
+use Rattle.runtime.proofs.threads.WorkSide.serve.Given as goal
 
 abbrev pub invariant-loop-run : goal.invariant-loop-run
 invariant-loop-run g l = record {
   desk : IsServing l.shared l.desk l.worker;
   places : widest l.shared.board.layout.cells ≤ l.outbox.places;
+  idle : l.last ≡ Idle → l.desk.kept ≡ [];
   share : l.desk.ready.share ≡ l.fn.self.desk.ready.share;
 }

@@ -1,0 +1,14 @@
+use Rattle.std.proofs.Common.{rules, ◌≡◌, [], List, ap, subst, arith}
+use Rattle.history.specs.declared.req.Req.{Req}
+use Rattle.ready.specs.Ready.{Moves, all_put, all_taken, times}
+use Rattle.runtime.proofs.DeskLaws.{none_there}
+use Rattle.runtime.proofs.join.end.Goals as goal
+
+pub returns-clause-drained : goal.returns-clause-drained
+returns-clause-drained g c empty r =
+    let same = c.gather_in-left.result.ok.0 in
+    let zero_long : c.gather_in-left.result.len ≡ 0 = search rules in
+    let none = none_there c.gather_in-left.result.items (omega (arith, same, zero_long)) in
+    let zero = ap (λ (rs : List Req). times r rs) none in
+    let law = c.gather_in-left.ensures.law r in
+    subst (λ (ps : List Moves). times r (all_put ps) ≡ times r (all_taken ps)) c.parts-shared.ensures.passes.0 (omega (arith, law, zero))

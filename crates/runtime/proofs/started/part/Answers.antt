@@ -1,0 +1,23 @@
+use Rattle.std.proofs.Common.{rules, ◌≡◌, ◌++◌, ◌∷◌, [], All, List, length, length-append, sym, ap, subst, arith}
+use Rattle.std.proofs.lemmas.List.Elements.{All-push}
+use Rattle.std.proofs.lemmas.List.Sums.{sum_by_push}
+use Rattle.runtime.specs.declared.threads.WorkSide.{WorkSide}
+use Rattle.runtime.specs.Crews.{own_in, own_share, shares_in}
+use Rattle.runtime.specs.Loops.{IsWorkSide}
+use Rattle.runtime.proofs.started.part.Goals as goal
+
+pub returns-in-Some-clause-ended : goal.returns-in-Some-clause-ended
+returns-in-Some-clause-ended g c =
+    let s = c.args.shared.now in
+    let own : IsWorkSide s c.in-Some.own = search rules in
+    let one : own_in c.args.side.own ≡ 1 = search rules in
+    let more = ap (λ (z : List WorkSide). length z) c.push_reserved.ensures.items in (
+      subst (λ (z : List WorkSide). All (λ w. IsWorkSide s w) z) (sym c.push_reserved.ensures.items) (All-push (λ (w : WorkSide). IsWorkSide s w) _ _ c.requires.ended own),
+      omega (arith, one, more, length-append c.args.ended.now.items (c.in-Some.own ∷ [])),
+    )
+
+pub returns-in-Some-clause-shares : goal.returns-in-Some-clause-shares
+returns-in-Some-clause-shares g c =
+    let share : own_share c.args.side.own ≡ c.in-Some.own.desk.ready.share = search rules in
+    let sum = ap (λ (z : List WorkSide). shares_in z) c.push_reserved.ensures.items in
+    omega (arith, share, sum, sum_by_push (λ (w : WorkSide). w.desk.ready.share) c.args.ended.now.items c.in-Some.own)

@@ -1,5 +1,0 @@
-use Rattle.script_run.specs.Hands.{AllWent}
-use Rattle.script_run.proofs.watch.take_all.Given as goal
-
-abbrev pub invariant-loop-hand : goal.invariant-loop-hand
-invariant-loop-hand g l = AllWent l.fn.hands.items l.hand-items
