@@ -102,6 +102,7 @@ fn told(alloc: Global, turn: Turn, answered: &[Req]) -> Result<String, Fail> {
     let mut text = String::new(alloc);
     text.push_str(match turn {
         Turn::Moved => "moved",
+        Turn::Still => "still",
         Turn::Idle => "idle",
     })?;
     for req in answered {
