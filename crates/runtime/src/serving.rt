@@ -107,6 +107,13 @@ impl WorkDesk {
         ready
     }
 
+    /// Wakes no others any more, and shares nothing with them.
+    pub(crate) fn part(&mut self)
+        ensures { self.new ≡ self.old }
+    {
+        drop(self.others.take());
+    }
+
     /// Counts what its turns came to. What they answered was posted.
     pub(crate) fn tell(&mut self, tally: &Tally)
         ensures { self.new ≡ self.old }

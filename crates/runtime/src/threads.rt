@@ -349,6 +349,7 @@ pub(crate) fn work<R: Wait, G: Turnstile>(
         if shared.is_over.load(Ordering::SeqCst)
             && (is_done || !shared.is_resting.load(Ordering::SeqCst))
         {
+            desk.part();
             return WorkSide {
                 desk,
                 worker,
