@@ -55,7 +55,7 @@ fn writes(bytes: u8, flags: u8, user_data: u64, first: u8) -> Entry {
 fn a_poll_turn_does_not_tick_by_itself(rt: HostRuntime) -> Result<(), Fail> {
     let first = [reads(4, LINK, 21, 90), plain(link_timeout(5), 0, 22)];
     let told = play(&rt, rt.alloc(), &[4], 4, &first, &[], "f p1000 l0 l1", 0)?;
-    assert_eq!(rt; told.as_str(), "0.0 moved ready armed5 on");
+    assert_eq!(rt; told.as_str(), "0.0 still ready armed5 on");
     Ok(())
 }
 
@@ -141,7 +141,7 @@ fn a_timeout_runs_out_once(rt: HostRuntime) -> Result<(), Fail> {
     let told = play(&rt, rt.alloc(), &[2], 2, &first, &[], words, 8)?;
     assert_eq!(rt;
         told.as_str(),
-        "0.0 moved armed7 armed5 moved moved+0.1 moved moved+0.0 idle idle -62 -62 past"
+        "0.0 moved armed7 armed5 moved moved+0.1 still moved+0.0 idle idle -62 -62 past"
     );
     Ok(())
 }
@@ -159,7 +159,7 @@ fn a_timeout_is_answered_once_it_has_counted(rt: HostRuntime) -> Result<(), Fail
     let told = play(&rt, rt.alloc(), &[4], 4, &first, &[], words, 0)?;
     assert_eq!(rt;
         told.as_str(),
-        "0.0 moved armed100 moved+0.0 moved moved+0.2 moved moved+0.3 moved+0.1 idle 0 0 on"
+        "0.0 moved armed100 moved+0.0 still moved+0.2 still moved+0.3 moved+0.1 idle 0 0 on"
     );
     Ok(())
 }
@@ -171,7 +171,7 @@ fn a_clock_goes_on_once_a_timer_is_armed(rt: HostRuntime) -> Result<(), Fail> {
     let told = play(&rt, rt.alloc(), &[2], 2, &first, &[], words, 7)?;
     assert_eq!(rt;
         told.as_str(),
-        "0.0 moved moved held moved+0.0 moved armed8 moved+0.1 idle -62 past"
+        "0.0 moved still held moved+0.0 moved armed8 moved+0.1 idle -62 past"
     );
     Ok(())
 }
