@@ -18,11 +18,7 @@ use std::sync::Wait;
 const ROUNDS: u32 = 65_536;
 
 /// Serves each of these workers until it finds nothing to do, or for `RUNS` turns. Whether the last turn of each was idle.
-fn serve_all<R: Wait>(
-    rt: &R,
-    shared: &Shared,
-    mut workers: Vec<WorkSide>,
-) -> (Vec<WorkSide>, Turn)
+fn serve_all<R: Wait>(rt: &R, shared: &Shared, mut workers: Vec<WorkSide>) -> (Vec<WorkSide>, Turn)
     requires workers { All (λ w. IsWorkSide shared.now w) workers.items }
     requires room { length workers.items ≤ vec_capacity workers }
     ensures workers { All (λ w. IsWorkSide shared.now w) result.0.items × (length result.0.items ≡ length workers.items) }

@@ -14,9 +14,9 @@ ghost use Rattle.runtime.specs.Loops.{IsPollSide, IsWorkSide};
 ghost use Rattle.runtime.specs.Rests.{HasRested};
 
 use crate::client::Client;
+use crate::settling::settle;
 use crate::shared::Shared;
 use crate::threads::{PollSide, WorkSide};
-use crate::settling::settle;
 use board::{Poller, ReportRoom, Worker};
 use controls::Clock;
 use ready::{GatherRoom, ReadyPass};

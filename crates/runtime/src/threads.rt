@@ -287,7 +287,11 @@ pub(crate) fn poll<R: Wait, G: Turnstile, C: Clock>(
         let (next, served) = serve_own(rt, shared, turnstile, own);
         own = next;
         let has_moved = desk.has_moved() || served == Turn::Moved;
-        still = if has_moved { 0 } else { still.saturating_add(1) };
+        still = if has_moved {
+            0
+        } else {
+            still.saturating_add(1)
+        };
         let is_over = desk.is_over();
         if is_over && (SETTLED <= still || !shared.is_resting.load(Ordering::SeqCst)) {
             shared.is_over.store(true, Ordering::SeqCst);

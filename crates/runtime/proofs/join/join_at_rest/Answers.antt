@@ -22,14 +22,14 @@ returns-clause-ended g c =
     let report = subst (λ (ps : List Pass). IsReport h.stopped.shared.board (p ∷ (ps ++ ws)) c.end-report.result.0) (ap (λ v. map submitter_of v.items) still.1 ∙ same_submitters c.args.clients.items was.clients.items same.1) c.end-report.ensures.report in
     let at_rest : IsTrue c.if-is_drained.is_at_rest → CameToRest c.args.runtime.board p ws = elim c.if-is_drained.branch [
       | then-is_drained v ↦ λ e. record {
-          queue = h.stopped.shared.queue;
-          desk = h.stopped.desk;
-          sides = h.stopped.workers;
-          rested = subst (λ (b : Facts). HasRested b h.stopped.shared.queue h.stopped.desk h.stopped.workers) board (c.settle-halted.ensures.rest (search rules));
-          drained = c.end-report.ensures.drained (search rules);
-          poller_is = refl;
-          workers_are = refl;
-        }
+        queue = h.stopped.shared.queue;
+        desk = h.stopped.desk;
+        sides = h.stopped.workers;
+        rested = subst (λ (b : Facts). HasRested b h.stopped.shared.queue h.stopped.desk h.stopped.workers) board (c.settle-halted.ensures.rest (search rules));
+        drained = c.end-report.ensures.drained (search rules);
+        poller_is = refl;
+        workers_are = refl;
+      }
       | else-is_drained v ↦ λ e. absurd (search rules)
     ] in (
       p,
