@@ -2,10 +2,10 @@
 ghost use Rattle.std.specs.Prelude.{◌≡◌, [], IfOk};
 
 use crate::stage::{Entry, batch_of};
-use board::{Completion, RingShape, Shape};
+use board::{Completion, Report, RingShape, Shape};
 use controls::{Clock, Turnstile};
 use history::Req;
-use runtime::{Client, Runtime, join_all, start};
+use runtime::{Client, Runtime, join_all, join_at_rest, start};
 use std::alloc::{AllocError, Global};
 use std::marker::Model;
 use std::sync::Wait;
@@ -93,6 +93,17 @@ fn shown(alloc: Global, completion: Completion) -> Result<String, Fail> {
     let mut text = format!(in alloc; "{}.{} {} {}", req.ring, req.k, cqe.user_data, cqe.res)?;
     for byte in buffer.as_slice() {
         write!(text, ":{byte}")?;
+    }
+    Ok(text)
+}
+
+/// The lines of a report, as text: each request, its result, and whether the end cut it off.
+fn told(alloc: Global, report: &Report) -> Result<String, Fail> {
+    let mut text = String::new(alloc);
+    for (completion, is_cut) in report.lines() {
+        let req = completion.req;
+        let res = completion.cqe.res;
+        write!(text, "{}.{} {res} {is_cut};", req.ring, req.k)?;
     }
     Ok(text)
 }
@@ -200,12 +211,26 @@ impl<C: Clock + Drop> Pair<C> {
         let Ok(report) = join_all(rt, alloc, runtime, clients) else {
             return Err(Fail::new("the runtime isn't ended"));
         };
-        let mut text = String::new(alloc);
-        for (completion, is_cut) in report.lines() {
-            let req = completion.req;
-            let res = completion.cqe.res;
-            write!(text, "{}.{} {res} {is_cut};", req.ring, req.k)?;
+        told(alloc, &report)
+    }
+
+    /// Ends the runtime once it is at rest. The lines of its report, as `end` tells them.
+    pub fn end_at_rest<R: Threads + Wait>(self, rt: &R) -> Result<String, Fail> {
+        let Pair {
+            alloc,
+            runtime,
+            zero,
+            one,
+        } = self;
+        let mut clients = Vec::new(alloc);
+        clients.push(one)?;
+        clients.push(zero)?;
+        let Ok(rested) = join_at_rest(rt, alloc, runtime, clients) else {
+            return Err(Fail::new("the runtime isn't ended"));
+        };
+        if !rested.is_at_rest {
+            return Err(Fail::new("the runtime isn't at rest"));
         }
-        Ok(text)
+        told(alloc, &rested.report)
     }
 }

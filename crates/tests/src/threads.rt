@@ -406,3 +406,47 @@ fn a_runtime_of_eight_workers_is_ended_while_all_sleep(rt: HostRuntime) -> Resul
     assert!(rt; ends_asleep(rt, rt.alloc(), 8)?);
     Ok(())
 }
+
+/// What the end at rest reports of two NOPs and a WRITE that are linked, of a READ of that pipe, and of one of an empty pipe.
+const RESTED: &str = "0.0 0 false;0.1 0 false;0.2 3 false;1.0 3 false;1.1 -125 true;";
+
+/// A runtime with so many workers that is to rest as soon as all is submitted, whether all but the READ of an empty pipe is answered.
+fn rests<R: Threads + Wait + Copy + Send + 'static>(
+    rt: R,
+    alloc: Global,
+    workers: u32,
+) -> Result<bool, Fail> {
+    let mut pair = Pair::new(rt, alloc, workers, 3, Open, NoClock)?;
+    let reads = [
+        entry(read(0, 5, 0), 0, 61, 5, 60),
+        entry(read(2, 5, 0), 0, 62, 5, 0),
+    ];
+    pair.submit(1, &reads)?;
+    let chain = [
+        entry(nop(), LINK, 63, 0, 0),
+        entry(nop(), LINK, 64, 0, 0),
+        entry(write(1, 3, 0), 0, 65, 3, 7),
+    ];
+    pair.submit(0, &chain)?;
+    let report = pair.end_at_rest(&rt)?;
+    Ok(report.as_str() == RESTED)
+}
+
+/// A thousand such runtimes with 1, 2 and 8 workers, whether each was as wanted.
+fn rests_often<R: Threads + Wait + Copy + Send + 'static>(
+    rt: R,
+    alloc: Global,
+) -> Result<bool, Fail> {
+    for _runtime in 0..1_000u32 {
+        if !rests(rt, alloc, 1)? || !rests(rt, alloc, 2)? || !rests(rt, alloc, 8)? {
+            return Ok(false);
+        }
+    }
+    Ok(true)
+}
+
+#[test]
+fn a_runtime_at_rest_has_answered_what_it_can(rt: HostRuntime) -> Result<(), Fail> {
+    assert!(rt; rests_often(rt, rt.alloc())?);
+    Ok(())
+}
