@@ -432,12 +432,12 @@ fn rests<R: Threads + Wait + Copy + Send + 'static>(
     Ok(report.as_str() == RESTED)
 }
 
-/// A thousand such runtimes with 1, 2 and 8 workers, whether each was as wanted.
+/// A hundred such runtimes with 1, 2 and 8 workers each, whether each was as wanted.
 fn rests_often<R: Threads + Wait + Copy + Send + 'static>(
     rt: R,
     alloc: Global,
 ) -> Result<bool, Fail> {
-    for _runtime in 0..1_000u32 {
+    for _runtime in 0..100u32 {
         if !rests(rt, alloc, 1)? || !rests(rt, alloc, 2)? || !rests(rt, alloc, 8)? {
             return Ok(false);
         }
