@@ -31,8 +31,9 @@ const SPINS: u32 = 256;
 /// How many silent turns in a row a worker makes before it sleeps. To sleep and to be woken takes longer than most requests.
 const AWAKE: u32 = 1024;
 
-/// After how many turns in a row that did nothing the poller of a runtime that is to come to rest ends.
-const SETTLED: u32 = 1024;
+/// After how many turns in a row that did nothing the poller of a runtime that is to come to rest ends. It makes them at once: beside
+/// other programs a thread that yields so often would wait for long.
+const SETTLED: u32 = 2048;
 
 /// How many turns the worker of the poller's thread makes at most between two turns of the poller.
 const RUNS: u32 = 64;
@@ -307,7 +308,7 @@ pub(crate) fn poll<R: Wait, G: Turnstile, C: Clock>(
         if idling.note(both(turn, served)) && clock.ask().is_none() && !is_over {
             rest(rt, &shared.bell, &mut desk);
         } else if !has_moved {
-            pause(still);
+            pause(if is_over { 0 } else { still });
         }
     }
     unreachable!()
