@@ -1,11 +1,9 @@
 -- Numbers that a worker's desk moves, however they are counted.
-use Rattle.std.proofs.Common.{◌≡◌, ℕ, ◌+◌, List, [], ◌∷◌, ◌++◌, sum_by, sym, refl, ap, ◌∙◌, subst, arith}
+use Rattle.std.proofs.Common.{◌≡◌, List, [], ◌∷◌, ◌++◌, sum_by, sym, ap, ◌∙◌, subst, arith}
 use Rattle.std.proofs.lemmas.List.{append_assoc, append-nil}
 use Rattle.std.proofs.lemmas.List.Sums.{sum_by-cons, sum_by-append, sum_by_push}
-use Rattle.std.proofs.Common.{Option, Some, None, ◌≤◌, length}
 use Rattle.history.specs.declared.req.Req.{Req}
 use Rattle.ready.specs.Ready.{Moves}
-use Rattle.runtime.specs.Turns.{HandedOver, kept_in}
 use Rattle.runtime.specs.WorkTurns.{Desk, PutsBack, Shifts}
 
 puts_then : (x y z : Moves) (ps ts qs us : List Req) → y ≡ record x { put = x.put ++ ps; taken = x.taken ++ ts } → z ≡ record y { put = y.put ++ qs; taken = y.taken ++ us } → z ≡ record x { put = x.put ++ (ps ++ qs); taken = x.taken ++ (ts ++ us) }

@@ -17,8 +17,6 @@ use Rattle.board.proofs.GoesLaws.{own_both}
 use Rattle.ready.specs.Ready.{Facts as QueueFacts, Moves, IsOf as IsOfQueue}
 use Rattle.outbox.specs.Outbox.{Waiting, with_answered}
 use Rattle.runtime.specs.declared.hands.Hands.{Hands}
-use Rattle.runtime.specs.declared.turn.Turn.{Turn}
-use Rattle.runtime.specs.declared.turn.Turn.TheVariants.{Moved, Idle}
 use Rattle.runtime.specs.Turns.{GoesOn, HandedOver, answered_by, answered_one}
 use Rattle.runtime.specs.Backlogs.{Owed}
 use Rattle.runtime.proofs.ClockLaws.{none_then, still_pollers, ticks_then}

@@ -1,4 +1,4 @@
-use Rattle.std.proofs.Common.{rules, ◌≡◌, [], List, ap, subst, arith}
+use Rattle.std.proofs.Common.{rules, ◌≡◌, List, ap, subst, arith}
 use Rattle.history.specs.declared.req.Req.{Req}
 use Rattle.ready.specs.Ready.{Moves, all_put, all_taken, times}
 use Rattle.runtime.proofs.DeskLaws.{none_there}

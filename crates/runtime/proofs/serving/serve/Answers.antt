@@ -1,4 +1,4 @@
-use Rattle.std.proofs.Common.{◌≡◌, ℕ, ◌+◌, ◌*◌, ◌<◌, ◌≤◌, Bool, true, false, cond, refl, sym, ap, ◌∙◌, subst, inl, inr, List, [], ◌∷◌, ◌++◌, length, arith}
+use Rattle.std.proofs.Common.{◌≡◌, ℕ, ◌+◌, ◌<◌, ◌≤◌, Bool, true, false, cond, refl, sym, ap, ◌∙◌, subst, inl, inr, List, [], ◌∷◌, ◌++◌, length, arith}
 use Rattle.std.proofs.lemmas.List.{append_assoc, append-nil, length-append}
 use mathlib.Core.Bool.{not}
 use Rattle.board.specs.ShapeLimits.{widest}
@@ -9,7 +9,7 @@ use Rattle.work.specs.Board.{Facts, IsOf}
 use Rattle.history.specs.declared.req.Req.{Req}
 use Rattle.outbox.specs.Outbox.{Waiting, with_answered}
 use Rattle.work.specs.Passes.{Pass}
-use Rattle.runtime.specs.WorkTurns.{Desk, Worked, answered_in, ended_in}
+use Rattle.runtime.specs.WorkTurns.{Worked, answered_in, ended_in}
 use Rattle.runtime.proofs.serving.serve.Goals as goal
 
 -- a run takes fewer requests than the widest ring has cells

@@ -1,4 +1,4 @@
-use Rattle.std.proofs.Common.{rules, ◌≡◌, ◌+◌, ◌<◌, ◌≤◌, refl, sym, ap, ◌∙◌, subst, cond, true, false, Bool, List, inl, inr, [], ◌∷◌, ◌++◌, length, arith}
+use Rattle.std.proofs.Common.{rules, ◌≡◌, ◌+◌, refl, sym, ap, ◌∙◌, subst, cond, Bool, List, inl, inr, [], ◌∷◌, ◌++◌, length, arith}
 use Rattle.std.proofs.lemmas.List.{append-nil, length-append}
 use Rattle.history.specs.declared.req.Req.{Req}
 use Rattle.runtime.specs.WorkTurns.{Desk, Shifts}

@@ -1,4 +1,4 @@
-use Rattle.std.proofs.Common.{rules, ◌≡◌, ◌<◌, ◌≤◌, ◌++◌, ◌∷◌, [], All, List, Some, length, length-append, sym, ap, subst, arith}
+use Rattle.std.proofs.Common.{rules, ◌≡◌, ◌∷◌, [], All, List, Some, length, length-append, sym, ap, subst, arith}
 use Rattle.std.proofs.lemmas.List.Elements.{All-pop, All-push}
 use Rattle.runtime.specs.declared.threads.WorkSide.{WorkSide}
 use Rattle.runtime.specs.Loops.{IsWorkSide}

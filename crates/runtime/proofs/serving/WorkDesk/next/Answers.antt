@@ -1,4 +1,4 @@
-use Rattle.std.proofs.Common.{ap, sym, subst, refl, [], ◌∷◌}
+use Rattle.std.proofs.Common.{ap, subst, refl, [], ◌∷◌}
 use Rattle.runtime.specs.Shelves.{Places}
 use Rattle.runtime.specs.WorkTurns.{Desk, Shifts}
 use Rattle.runtime.proofs.ShiftLaws.{shifts_out, shifts_taken}

@@ -6,7 +6,7 @@ use Rattle.ready.specs.QueueParts.{IsRoom}
 use Rattle.board.specs.Reports.{AreOf}
 use Rattle.work.specs.Passes.{Pass}
 use Rattle.runtime.specs.Crews.{Crew, all_passes, ready_of, worker_of}
-use Rattle.runtime.proofs.CrewLaws.{passes_all, passes_long, passes_own, workers_own}
+use Rattle.runtime.proofs.CrewLaws.{passes_all, passes_own, workers_own}
 use Rattle.runtime.proofs.started.Stopped.parts.Goals as goal
 
 pub returns-clause-workers : goal.returns-clause-workers
