@@ -1,5 +1,5 @@
 -- What the clients of a run have done: the lines that they carried out, and the completions that they took.
-use Rattle.std.specs.Prelude.{◌≡◌, ℕ, ◌<◌, ◌++◌, length, List, [], ◌∷◌, All, Some, None, slice_get, slice_index_or}
+use Rattle.std.specs.Prelude.{◌≡◌, ℕ, ◌++◌, List, [], ◌∷◌, All, Some, None, slice_get}
 use Rattle.std.specs.Global.{Vec}
 use Rattle.entry.specs.Entry.{Entry}
 use Rattle.history.specs.declared.event.Event.{Event}
