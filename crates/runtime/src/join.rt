@@ -207,9 +207,9 @@ pub struct Rested<C> {
     pub is_at_rest: bool,
 }
 
-/// As `join_all`, once the runtime is at rest: all that its clients submitted is taken up, the ready queue is empty, no worker has
-/// anything to do, no timer is due, no request that waits could go on, and the clock asks for nothing more. So what is cut off waits for
-/// what doesn't come. Where the clock never comes to its end this waits on. The threads make their turns until nothing happens any
+/// As `join_all`, once the runtime is at rest: all that was submitted by the tails which the poller read last is taken up, the ready
+/// queue is empty, no worker keeps a number, no timer is due, and no request that waits could go on. It waits until the clock asks for
+/// nothing more, which no clause says; where that never comes, this waits on. The threads make their turns until nothing happens any
 /// more; then they end, and this one makes the last turns.
 pub fn join_at_rest<R: Threads + Wait, C: Clock>(
     rt: &R,
