@@ -151,10 +151,11 @@ fn halt<R: Threads, C: Clock>(
     if clients.len() != runtime.rings() {
         return Err(Unjoined::new(JoinError::Missing, runtime, clients));
     }
-    let (Ok(report), Ok(submitters)) = (
-        runtime.make_room(alloc),
-        Vec::with_capacity(alloc, clients.len()),
-    ) else {
+    let Ok(report) = runtime.make_room(alloc) else {
+        return Err(Unjoined::new(JoinError::Memory, runtime, clients));
+    };
+    let Ok(submitters) = Vec::with_capacity(alloc, clients.len()) else {
+        drop(report);
         return Err(Unjoined::new(JoinError::Memory, runtime, clients));
     };
     if at_rest {

@@ -2,6 +2,7 @@
 use crate::locks::PostLocks;
 use bell::Bell;
 use board::Board;
+use crossbeam_utils::CachePadded;
 use ready::ReadyQueue;
 use std::hint;
 use std::sync::atomic::{AtomicBool, AtomicU64, Ordering};
@@ -25,9 +26,15 @@ pub(crate) struct Shared {
 
 /// How many numbers went to the workers, from the poller and from the pipes, and with how many of these they are done. What was answered
 /// is posted before it is counted. The poller counts its numbers in the turn in which it hands them over, and how often a turn began or ended:
-/// where that is odd it is in a turn.
+/// where that is odd it is in a turn. The poller writes it in each turn, so it lies apart from what clients look at.
 #[derive(Drop)]
 pub(crate) struct Tally {
+    counts: CachePadded<Counts>,
+}
+
+/// The counts of a tally.
+#[derive(Drop)]
+struct Counts {
     given: AtomicU64,
     done: AtomicU64,
     turns: AtomicU64,
@@ -37,29 +44,31 @@ impl Tally {
     /// None yet.
     pub fn new() -> Tally {
         Tally {
-            given: AtomicU64::new(0),
-            done: AtomicU64::new(0),
-            turns: AtomicU64::new(0),
+            counts: CachePadded::new(Counts {
+                given: AtomicU64::new(0),
+                done: AtomicU64::new(0),
+                turns: AtomicU64::new(0),
+            }),
         }
     }
 
     /// More numbers went to the workers.
     pub fn give(&self, count: u64) {
         if count > 0 {
-            self.given.fetch_add(count, Ordering::SeqCst);
+            self.counts.given.fetch_add(count, Ordering::SeqCst);
         }
     }
 
     /// The workers are done with more of them.
     pub fn finish(&self, count: u64) {
         if count > 0 {
-            self.done.fetch_add(count, Ordering::SeqCst);
+            self.counts.done.fetch_add(count, Ordering::SeqCst);
         }
     }
 
     /// A turn of the poller begins, or ends.
     pub fn turn(&self) {
-        self.turns.fetch_add(1, Ordering::SeqCst);
+        self.counts.turns.fetch_add(1, Ordering::SeqCst);
     }
 
     /// How many numbers had gone to the workers at a moment between two turns of the poller, where they were done with all of them. It
@@ -76,10 +85,10 @@ impl Tally {
 
     /// The same, of this moment.
     fn evened_now(&self) -> Option<u64> {
-        let turns = self.turns.load(Ordering::SeqCst);
-        let done = self.done.load(Ordering::SeqCst);
-        let given = self.given.load(Ordering::SeqCst);
-        if turns % 2 == 0 && given == done && self.turns.load(Ordering::SeqCst) == turns {
+        let turns = self.counts.turns.load(Ordering::SeqCst);
+        let done = self.counts.done.load(Ordering::SeqCst);
+        let given = self.counts.given.load(Ordering::SeqCst);
+        if turns % 2 == 0 && given == done && self.counts.turns.load(Ordering::SeqCst) == turns {
             Some(given)
         } else {
             None

@@ -466,10 +466,10 @@ fn abandon<R: Threads, C: Clock + Drop>(
     threads: Vec<WorkThread>,
 ) {
     tell_end(clients);
-    poller.join(rt);
+    drop(poller.join(rt));
     for thread in threads {
         let WorkThread { handle } = thread;
-        handle.join(rt);
+        drop(handle.join(rt));
     }
 }
 
