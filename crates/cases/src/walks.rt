@@ -236,8 +236,8 @@ impl Walk {
             state.push(words.number())?;
         }
         self.object.push_state(&mut state)?;
-        let unpacked = unpacked(alloc, &state.into_bytes())?;
-        debugged(alloc, &unpacked)
+        let all = unpacked(alloc, &state.into_bytes())?;
+        debugged(alloc, &all)
     }
 }
 
