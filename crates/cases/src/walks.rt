@@ -4,9 +4,9 @@ use crate::told::{Digits, Named, Slip, Told, debugged, said, shown};
 use crate::words::Words;
 use history::{Bytes, Event, Req};
 use limits::TICK;
-use model::{Memory, Object, Refused};
+use model::{Memory, Object, Packing, Refused};
 use prep::with_user_data;
-use std::alloc::Global;
+use std::alloc::{AllocError, Global};
 
 /// The most pipes of a ring.
 const PIPES: u32 = 16;
@@ -231,11 +231,29 @@ impl Walk {
     /// The words of the state, behind those of the line.
     fn state(&self, words: &mut Words<'_>) -> Told {
         let alloc = words.alloc;
-        let mut state = Vec::new(alloc);
+        let mut state = Packing::new(Vec::new(alloc));
         if words.rest.is_some() {
             state.push(words.number())?;
         }
         self.object.push_state(&mut state)?;
-        debugged(alloc, &state)
+        let all = unpacked(alloc, &state.into_bytes())?;
+        debugged(alloc, &all)
     }
+}
+
+/// The words of these bytes, which have seven bits of one each, the low ones first, and 128 more in all but a word's last.
+fn unpacked(alloc: Global, bytes: &[u8]) -> Result<Vec<u64>, AllocError> {
+    let mut words = Vec::new(alloc);
+    let (mut word, mut place): (u64, u32) = (0, 0);
+    for byte in bytes {
+        word |= u64::from(*byte % 128).wrapping_shl(place);
+        if *byte < 128 {
+            words.push(word)?;
+            word = 0;
+            place = 0;
+        } else {
+            place = place.saturating_add(7);
+        }
+    }
+    Ok(words)
 }

@@ -5,6 +5,8 @@ pub mod Cancels
 pub mod CatchReplies
 pub mod ChainWalks
 pub mod RunAgreement
+pub mod RequestsBack
+pub mod PackedWords
 pub mod PipeEnds
 pub mod PipesAfterReplies
 pub mod RingWrites

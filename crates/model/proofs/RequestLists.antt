@@ -45,10 +45,10 @@ pub lists-push : (ms : List ℕ) (n k : ℕ) → lists (ms ++ n ∷ []) k ≡ li
 lists-push [] n k = elim (n == k) as (λ b. (b || false) ≡ b) [ true ↦ refl | false ↦ refl ]
 lists-push (m ∷ ms) n k = elim (m == k) as (λ b. (b || lists (ms ++ n ∷ []) k) ≡ ((b || lists ms k) || (n == k))) [ true ↦ refl | false ↦ lists-push ms n k ]
 
-lists_more : (ms : List ℕ) (n k : ℕ) → lists ms k ≡ true → lists (ms ++ n ∷ []) k ≡ true
+pub lists_more : (ms : List ℕ) (n k : ℕ) → lists ms k ≡ true → lists (ms ++ n ∷ []) k ≡ true
 lists_more ms n k i = lists-push ms n k ∙ or_left (lists ms k) (n == k) i
 
-lists_last : (ms : List ℕ) (n k : ℕ) → (n == k) ≡ true → lists (ms ++ n ∷ []) k ≡ true
+pub lists_last : (ms : List ℕ) (n k : ℕ) → (n == k) ≡ true → lists (ms ++ n ∷ []) k ≡ true
 lists_last ms n k i = lists-push ms n k ∙ or_right (lists ms k) (n == k) i
 
 -- all but one number are left
@@ -108,3 +108,7 @@ Listed-stage xs ms ns k y lt l e f = Listed-set xs ms ns k y lt l (λ i w j. rw 
 
 pub Listed-same : (xs : List Request) (ms : List ℕ) (k : ℕ) (y : Request) → k < length xs → Listed xs ms → (is_pending y.stage ≡ true → pending_of (slice_get xs k) ≡ true) → Listed (set xs k y) ms
 Listed-same xs ms k y lt l p = Listed-set xs ms ms k y lt l (λ i w j. j) (λ q. l k (p q))
+
+-- the request k was written, whose number is there in any case
+pub Listed-back : (xs : List Request) (ms : List ℕ) (k : ℕ) (y : Request) → k < length xs → Listed xs ms → Listed (set xs k y) (ms ++ k ∷ [])
+Listed-back xs ms k y lt l = Listed-set xs ms (ms ++ k ∷ []) k y lt l (λ i w j. lists_more ms k i j) (λ p. lists_last ms k k (eq-eqb k k refl))

@@ -8,6 +8,8 @@ pub mod Ends
 pub mod Fresh
 pub mod Machine
 pub mod Moves
+pub mod Near
+pub mod Packed
 pub mod Ready
 pub mod Replies
 pub mod Run
