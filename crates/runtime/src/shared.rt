@@ -2,7 +2,6 @@
 use crate::locks::PostLocks;
 use bell::Bell;
 use board::Board;
-use crossbeam_utils::CachePadded;
 use ready::ReadyQueue;
 use std::hint;
 use std::sync::atomic::{AtomicBool, AtomicU64, Ordering};
@@ -26,15 +25,9 @@ pub(crate) struct Shared {
 
 /// How many numbers went to the workers, from the poller and from the pipes, and with how many of these they are done. What was answered
 /// is posted before it is counted. The poller counts its numbers in the turn in which it hands them over, and how often a turn began or ended:
-/// where that is odd it is in a turn. The poller writes it in each turn, so it lies apart from what clients look at.
+/// where that is odd it is in a turn.
 #[derive(Drop)]
 pub(crate) struct Tally {
-    counts: CachePadded<Counts>,
-}
-
-/// The counts of a tally.
-#[derive(Drop)]
-struct Counts {
     given: AtomicU64,
     done: AtomicU64,
     turns: AtomicU64,
@@ -44,31 +37,29 @@ impl Tally {
     /// None yet.
     pub fn new() -> Tally {
         Tally {
-            counts: CachePadded::new(Counts {
-                given: AtomicU64::new(0),
-                done: AtomicU64::new(0),
-                turns: AtomicU64::new(0),
-            }),
+            given: AtomicU64::new(0),
+            done: AtomicU64::new(0),
+            turns: AtomicU64::new(0),
         }
     }
 
     /// More numbers went to the workers.
     pub fn give(&self, count: u64) {
         if count > 0 {
-            self.counts.given.fetch_add(count, Ordering::SeqCst);
+            self.given.fetch_add(count, Ordering::SeqCst);
         }
     }
 
     /// The workers are done with more of them.
     pub fn finish(&self, count: u64) {
         if count > 0 {
-            self.counts.done.fetch_add(count, Ordering::SeqCst);
+            self.done.fetch_add(count, Ordering::SeqCst);
         }
     }
 
     /// A turn of the poller begins, or ends.
     pub fn turn(&self) {
-        self.counts.turns.fetch_add(1, Ordering::SeqCst);
+        self.turns.fetch_add(1, Ordering::SeqCst);
     }
 
     /// How many numbers had gone to the workers at a moment between two turns of the poller, where they were done with all of them. It
@@ -85,10 +76,10 @@ impl Tally {
 
     /// The same, of this moment.
     fn evened_now(&self) -> Option<u64> {
-        let turns = self.counts.turns.load(Ordering::SeqCst);
-        let done = self.counts.done.load(Ordering::SeqCst);
-        let given = self.counts.given.load(Ordering::SeqCst);
-        if turns % 2 == 0 && given == done && self.counts.turns.load(Ordering::SeqCst) == turns {
+        let turns = self.turns.load(Ordering::SeqCst);
+        let done = self.done.load(Ordering::SeqCst);
+        let given = self.given.load(Ordering::SeqCst);
+        if turns % 2 == 0 && given == done && self.turns.load(Ordering::SeqCst) == turns {
             Some(given)
         } else {
             None

@@ -38,9 +38,6 @@ const SETTLED: u32 = 2048;
 /// How many turns the worker of the poller's thread makes at most between two turns of the poller.
 const RUNS: u32 = 64;
 
-/// After so many answers a worker posts them, so that their client goes on while it answers others. Each post takes a lock.
-const PIECE: usize = 16;
-
 /// Between a turn that did nothing and the next, after so many such turns in a row.
 fn pause(still: u32) {
     if still < SPINS {
@@ -124,8 +121,8 @@ fn call_for(caller: &mut Caller, puts: u32) {
     }
 }
 
-/// One turn of a worker. What it answered stays in the outbox until that has a piece, or no room for another turn. What it came to,
-/// and whether it answered nothing.
+/// One turn of a worker. What it answered stays in the outbox while that has room for another turn. What it came to, and
+/// whether it answered nothing.
 fn work_round<R: Wait, G: Turnstile>(
     rt: &R,
     shared: &Shared,
@@ -142,7 +139,7 @@ fn work_round<R: Wait, G: Turnstile>(
     ensures places { outbox.new.places ≡ outbox.old.places }
     ensures share { desk.new.ready.share ≡ desk.old.ready.share }
 {
-    if PIECE <= outbox.len() || outbox.room() < shared.board.widest() as usize {
+    if outbox.room() < shared.board.widest() as usize {
         post_all(rt, &shared.posts, turnstile, outbox);
     }
     let before = outbox.len();
