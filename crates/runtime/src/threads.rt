@@ -23,10 +23,14 @@ use std::sync::Wait;
 use std::sync::atomic::Ordering;
 use std::{hint, thread};
 
-/// How many turns in a row that did nothing a thread makes at once, before it lets other threads have its processor.
+/// How many turns in a row that did nothing the poller makes at once, before it lets other threads have its processor.
 /// A call of the system after each would take longer than most requests. Pauses that double, as the kit's `Backoff` makes them, would
 /// let a request wait as long again as the thread had been idle.
 const SPINS: u32 = 256;
+
+/// How many silent turns in a row a worker makes at once. There may be more workers than processors, and a client that was woken waits
+/// for one of these.
+const WORK_SPINS: u32 = 32;
 
 /// How many silent turns in a row a worker makes before it sleeps. To sleep and to be woken takes longer than most requests.
 const AWAKE: u32 = 1024;
@@ -38,9 +42,9 @@ const SETTLED: u32 = 2048;
 /// How many turns the worker of the poller's thread makes at most between two turns of the poller.
 const RUNS: u32 = 64;
 
-/// Between a turn that did nothing and the next, after so many such turns in a row.
-fn pause(still: u32) {
-    if still < SPINS {
+/// Between a turn that did nothing and the next, after so many such turns in a row, of which so many are made at once.
+fn pause(still: u32, spins: u32) {
+    if still < spins {
         hint::spin_loop();
     } else {
         thread::yield_now();
@@ -308,7 +312,7 @@ pub(crate) fn poll<R: Wait, G: Turnstile, C: Clock>(
         if idling.note(both(turn, served)) && clock.ask().is_none() && !is_over {
             rest(rt, &shared.bell, &mut desk);
         } else if !has_moved {
-            pause(if is_over { 0 } else { still });
+            pause(if is_over { 0 } else { still }, SPINS);
         }
     }
     unreachable!()
@@ -362,7 +366,7 @@ pub(crate) fn work<R: Wait, G: Turnstile>(
             };
         }
         if silent < AWAKE {
-            pause(silent);
+            pause(silent, WORK_SPINS);
             silent += 1;
         } else {
             (worker, listener) = doze(

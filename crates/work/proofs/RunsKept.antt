@@ -422,19 +422,10 @@ both_turned j p n r both = (λ e. both.0 (sym e), both.2, both.1, λ m ne nk. bo
 pub pipe_still : (v w : View) (n : ℕ) (c : Conduit) → w.layout ≡ v.layout → IsSamePipe v w n → IsPipe (slice_index v.layout.caps n) c (flow (events_of v.seen) n) → IsPipe (slice_index w.layout.caps n) c (flow (events_of w.seen) n)
 pipe_still v w n c layout same' is = subst (λ (z : Layout × Flow). IsPipe (slice_index z.0.caps n) c z.1) (λ i. (sym layout i, (sym same' i).0)) is
 
--- what a worker has in hand once its pipe was put back, and then its parcel
-pub in_both_hands : (old a b c : Seated) (n s : ℕ) (x y : Option Thing) → old.1 ≡ (n, None) ∷ (s, None) ∷ [] → a ≡ (old.0, (n, x) ∷ rest old.1) → b ≡ (a.0, turned a.1) → c ≡ (b.0, (s, y) ∷ rest b.1) → c ≡ (old.0, (s, y) ∷ (n, x) ∷ [])
-in_both_hands old a b c n s x y out ea eb ec =
-    let first : a ≡ (old.0, (n, x) ∷ (s, None) ∷ []) = ea ∙ ap (λ (cs : List (ℕ × Option Thing)). (let m : Seated = (old.0, (n, x) ∷ rest cs) in m)) out in
-    let second : b ≡ (old.0, (s, None) ∷ (n, x) ∷ []) = eb ∙ ap (λ (z : Seated). (let m : Seated = (z.0, turned z.1) in m)) first in
-    ec ∙ ap (λ (z : Seated). (let m : Seated = (z.0, (s, y) ∷ rest z.1) in m)) second
-
--- the same of two pipes, of which the upper one is put back first
-pub in_three_hands : (old a b c d e : Seated) (n m s : ℕ) (x y z : Option Thing) → old.1 ≡ (n, None) ∷ (m, None) ∷ (s, None) ∷ [] → a ≡ (old.0, (n, x) ∷ rest old.1) → b ≡ (a.0, turned a.1) → c ≡ (b.0, (m, y) ∷ rest b.1) → d ≡ (c.0, turned c.1) → e ≡ (d.0, (s, z) ∷ rest d.1)
-    → e ≡ (old.0, (s, z) ∷ (n, x) ∷ (m, y) ∷ [])
-in_three_hands old a b c d e n m s x y z out ea eb ec ed ee =
-    let first : a ≡ (old.0, (n, x) ∷ (m, None) ∷ (s, None) ∷ []) = ea ∙ ap (λ (cs : List (ℕ × Option Thing)). (let k : Seated = (old.0, (n, x) ∷ rest cs) in k)) out in
-    let second : b ≡ (old.0, (m, None) ∷ (s, None) ∷ (n, x) ∷ []) = eb ∙ ap (λ (k : Seated). (let l : Seated = (k.0, turned k.1) in l)) first in
-    let third : c ≡ (old.0, (m, y) ∷ (s, None) ∷ (n, x) ∷ []) = ec ∙ ap (λ (k : Seated). (let l : Seated = (k.0, (m, y) ∷ rest k.1) in l)) second in
-    let fourth : d ≡ (old.0, (s, None) ∷ (n, x) ∷ (m, y) ∷ []) = ed ∙ ap (λ (k : Seated). (let l : Seated = (k.0, turned k.1) in l)) third in
-    ee ∙ ap (λ (k : Seated). (let l : Seated = (k.0, (s, z) ∷ rest k.1) in l)) fourth
+-- what a worker has in hand that has two pipes, once both were put back, the upper one first, and its parcel's slot is in front
+pub in_three_hands : (old a b c d : Seated) (n m s : ℕ) (x y z : Option Thing) → old.1 ≡ (n, None) ∷ (m, None) ∷ (s, z) ∷ [] → a ≡ (old.0, (n, x) ∷ rest old.1) → b ≡ (a.0, turned a.1) → c ≡ (b.0, (m, y) ∷ rest b.1) → d ≡ (c.0, turned c.1) → d ≡ (old.0, (s, z) ∷ (n, x) ∷ (m, y) ∷ [])
+in_three_hands old a b c d n m s x y z out ea eb ec ed =
+    let first : a ≡ (old.0, (n, x) ∷ (m, None) ∷ (s, z) ∷ []) = ea ∙ ap (λ (cs : List (ℕ × Option Thing)). (let k : Seated = (old.0, (n, x) ∷ rest cs) in k)) out in
+    let second : b ≡ (old.0, (m, None) ∷ (s, z) ∷ (n, x) ∷ []) = eb ∙ ap (λ (k : Seated). (let l : Seated = (k.0, turned k.1) in l)) first in
+    let third : c ≡ (old.0, (m, y) ∷ (s, z) ∷ (n, x) ∷ []) = ec ∙ ap (λ (k : Seated). (let l : Seated = (k.0, (m, y) ∷ rest k.1) in l)) second in
+    ed ∙ ap (λ (k : Seated). (let l : Seated = (k.0, turned k.1) in l)) third

@@ -2,6 +2,7 @@
 use Rattle.std.specs.Prelude.{◌≡◌, ◌≢◌, ℕ, suc, ◌+◌, ◌<◌, ◌≤◌, cond, true, false, List, [], ◌∷◌, ◌++◌, length, slice_index, vec_capacity, Bool, Option, Some, None}
 use Rattle.atomic_table.specs.Seated.{TableId}
 use Rattle.atomic_table.specs.declared.shared.Seat.{Seat}
+use Rattle.entry.specs.Entry.{Entry}
 use Rattle.history.specs.declared.req.Req.{Req}
 use Rattle.history.specs.declared.event.Event.{Event}
 use Rattle.history.specs.Chains.{is_timer}
@@ -15,6 +16,7 @@ use Rattle.steps.specs.declared.line.Laid.TheVariants.{NoRequest}
 use Rattle.steps.specs.declared.line.Line.{Line}
 use Rattle.steps.specs.declared.parcel.Parcel.{Parcel}
 use Rattle.steps.specs.declared.parcel.Thing.{Thing}
+use Rattle.steps.specs.declared.parcel.Thing.TheVariants.{Full}
 use Rattle.steps.specs.declared.parcel.WaitedPipe.{WaitedPipe}
 use Rattle.steps.specs.declared.view.Role.{Role}
 use Rattle.steps.specs.declared.view.Role.TheVariants.{Idle, Busy}
@@ -133,15 +135,23 @@ pub record IsGridOf (table : TableId) (K : List ℕ) (v : View) : Type 0 where
   pub cells_are : v.layout.cells ≡ K
   pub wide : table.words ≡ words_of (total K)
 
--- its seat, with the parcel in hand, and no pipe; if it runs a cancel, that has neither taken a request nor found one running, and there is room for a list of those that it takes
-pub record IsBusySeat (table : TableId) (K : List ℕ) (s : Seat (Option Thing) View) (x g : ℕ) (r : Req) (p : Parcel) (pipes : ℕ) (lists : Lists) : Type 0 where
+-- the parcel with this entry
+abbrev pub with_sqe : Parcel → Entry → Parcel
+with_sqe p e = record p { sqe = e }
+
+-- what a worker has of the request that it runs. If that is a cancel, it has neither taken a request nor found one running, and there is room for a list of those that it takes
+pub record IsTask (table : TableId) (K : List ℕ) (s : Seat (Option Thing) View) (x g : ℕ) (r : Req) (p : Parcel) (pipes : ℕ) (lists : Lists) : Type 0 where
   pub table_is : s.table_id ≡ table
   pub grid : IsGridOf table K s.me.0
   pub runs : RunsIt table s.me.0 x g r p pipes
   pub unhit : hit (events_of s.me.0.seen) r ≡ nothing
   pub spare : HasRooms K lists
   pub marked : AreMarked lists.marks s.me.0.seen
-  pub out : s.me.1 ≡ (slot_at x, None) ∷ []
+
+-- the same, with no pipe in hand
+pub record IsBusySeat (table : TableId) (K : List ℕ) (s : Seat (Option Thing) View) (x g : ℕ) (r : Req) (p : Parcel) (pipes : ℕ) (lists : Lists) : Type 0 where
+  pub task : IsTask table K s x g r p pipes lists
+  pub out : s.me.1 ≡ (slot_at x, Some (Full p)) ∷ []
   pub bare : (n : ℕ) → holder s.me.0.seen n ≢ Some r
 
 -- those lie with the pipe in hand that do by what was seen, and there is a place for each cell
@@ -150,13 +160,8 @@ LiesAs K v n c = (c.lying.items ≡ lying v.seen n) × (vec_capacity c.lying ≡
 
 -- the same with a pipe in hand that the entry is answered from, as what was seen tells, and no other
 pub record IsHoldingSeat (table : TableId) (K : List ℕ) (s : Seat (Option Thing) View) (x g : ℕ) (r : Req) (p : Parcel) (pipes n : ℕ) (c : WaitedPipe) (lists : Lists) : Type 0 where
-  pub table_is : s.table_id ≡ table
-  pub grid : IsGridOf table K s.me.0
-  pub runs : RunsIt table s.me.0 x g r p pipes
-  pub unhit : hit (events_of s.me.0.seen) r ≡ nothing
-  pub spare : HasRooms K lists
-  pub marked : AreMarked lists.marks s.me.0.seen
-  pub out : s.me.1 ≡ (n, None) ∷ (slot_at x, None) ∷ []
+  pub task : IsTask table K s x g r p pipes lists
+  pub out : s.me.1 ≡ (n, None) ∷ (slot_at x, Some (Full p)) ∷ []
   pub alone : HasAlone s.me.0.seen n r
   pub named : (uses_at p.sqe.op n ≡ true) × (n < pipes)
   pub pipe_is : IsPipe (slice_index s.me.0.layout.caps n) c.pipe (flow (events_of s.me.0.seen) n)
@@ -171,13 +176,8 @@ pub record Holding : Type 0 where
 
 -- the same with both pipes in hand that the entry joins, and no other
 pub record IsJoiningSeat (table : TableId) (K : List ℕ) (s : Seat (Option Thing) View) (x g : ℕ) (r : Req) (p : Parcel) (pipes a b : ℕ) (c d : WaitedPipe) (lists : Lists) : Type 0 where
-  pub table_is : s.table_id ≡ table
-  pub grid : IsGridOf table K s.me.0
-  pub runs : RunsIt table s.me.0 x g r p pipes
-  pub unhit : hit (events_of s.me.0.seen) r ≡ nothing
-  pub spare : HasRooms K lists
-  pub marked : AreMarked lists.marks s.me.0.seen
-  pub out : s.me.1 ≡ (b, None) ∷ (a, None) ∷ (slot_at x, None) ∷ []
+  pub task : IsTask table K s x g r p pipes lists
+  pub out : s.me.1 ≡ (b, None) ∷ (a, None) ∷ (slot_at x, Some (Full p)) ∷ []
   pub both : HasBoth s.me.0.seen a b r
   pub named : UsesBoth p.sqe.op pipes a b
   pub source_is : IsPipe (slice_index s.me.0.layout.caps a) c.pipe (flow (events_of s.me.0.seen) a)

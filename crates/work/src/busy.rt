@@ -1,6 +1,5 @@
 //! A worker that runs a request.
 ghost use Rattle.std.specs.Prelude.{◌≡◌, ℕ, ◌<◌, ◌*◌, true, [], ◌∷◌, List, Some, None, length, IfOk, IfErr};
-ghost use Rattle.atomic_table.specs.Table.{rest};
 ghost use Rattle.entry.specs.Entry.{Entry};
 ghost use Rattle.history.specs.declared.event.Event.{Event};
 ghost use Rattle.history.specs.declared.event.Event.TheVariants.{Park, Reply};
@@ -9,61 +8,41 @@ ghost use Rattle.history.specs.Users.{uses_at};
 ghost use Rattle.answers.specs.declared.named.NamedPipes.TheVariants.{One};
 ghost use Rattle.answers.specs.NamedEnds.{UsesNone, UsesOne};
 ghost use Rattle.steps.specs.declared.line.Line.TheVariants.{Did, Hold};
-ghost use Rattle.steps.specs.declared.parcel.Thing.TheVariants.{Full};
 ghost use Rattle.steps.specs.declared.view.Role.TheVariants.{Idle, Busy as RoleBusy};
-ghost use Rattle.steps.specs.Cells.{cells_in, pipe_at, slot_at};
+ghost use Rattle.steps.specs.Cells.{cells_in, pipe_at};
 ghost use Rattle.steps.specs.Rule.{Looks, Extends, IsStep};
 ghost use Rattle.steps.specs.Sleepers.{NoneSleeps};
 ghost use Rattle.work.specs.Board.{Facts, IsOf};
 
 use crate::cancel::{Wanted, wanted_of};
-use crate::grid::Grid;
 use crate::holding::Holding;
 use crate::hunt::hunt;
 use crate::lists::Lists;
 use crate::placed::{fails_placed, op_placed};
 use crate::run::{Parked, Ran};
+use crate::task::Task;
 use crate::worker::Worker;
 use answers::{NamedPipes, answer_without, pipes_of};
-use entry::{Cqe, Sqe};
-use history::Req;
+use entry::Cqe;
 use std::marker::Model;
-use steps::layout::slot;
-use steps::{Parcel, TableSeat, Thing, Words, parcel, pipes, seat};
+use steps::{TableSeat, parcel, pipes, seat};
 
 /// A worker that runs a request. It has to be spent, by `run` or `park`.
 pub struct Busy<'a> {
-    pub(crate) words: &'a Words,
-    pub(crate) grid: &'a Grid,
+    pub(crate) task: Task<'a>,
     pub(crate) seat: TableSeat,
-    pub(crate) cell: usize,
-    pub(crate) generation: u32,
-    pub(crate) req: Req,
-    pub(crate) parcel: Parcel,
-    pub(crate) pipes: usize,
-    pub(crate) lists: Lists,
+    pub(crate) lists: Box<Lists>,
 }
 
 impl<'a> Model for Busy<'a> {
-    ghost use Rattle.work.specs.Passes.{Running, pass_of, woken_of, IsBusySeat};
+    ghost use Rattle.work.specs.Passes.{Running, pass_of, woken_of, with_sqe, IsBusySeat};
+    ghost use Rattle.steps.specs.declared.parcel.Parcel.{Parcel};
 
     ghost Value = { Running };
 
-    ghost view = { λ b. record { pass = pass_of b.seat; req = b.req; took = b.lists.took.items; woken = woken_of b.lists } };
+    ghost view = { λ b. record { pass = pass_of b.seat; req = b.task.req; took = b.lists.value.took.items; woken = woken_of b.lists.value } };
 
-    ghost invariant = { λ b. IsBusySeat b.words.now.table_id b.grid.now b.seat b.cell b.generation b.req b.parcel b.pipes b.lists };
-}
-
-/// Puts the parcel back into the slot that the seat has.
-pub(crate) fn put_back(words: &Words, seat: &mut TableSeat, cell: usize, parcel: Parcel)
-    requires table { seat.old.table_id ≡ words.now.table_id }
-    requires out { seat.old.me.1 ≡ (slot_at cell, None) ∷ rest seat.old.me.1 }
-    requires small { cell < 16384 }
-    ensures seat { (seat.new.table_id ≡ seat.old.table_id) × (seat.new.id ≡ seat.old.id) × (seat.new.me ≡ (seat.old.me.0, (slot_at cell, Some (Full parcel)) ∷ rest seat.old.me.1)) }
-{
-    let None = words.exchange(seat, slot(cell), Some(Thing::Full(parcel))) else {
-        unreachable!()
-    };
+    ghost invariant = { λ b. (z : Parcel) × IsBusySeat b.task.words.now.table_id b.task.grid.now b.seat b.task.cell b.task.generation b.task.req (with_sqe z b.task.sqe) b.task.pipes b.lists.value };
 }
 
 impl<'a> Busy<'a> {
@@ -80,18 +59,11 @@ impl<'a> Busy<'a> {
         ensures parked { (result.table ≡ self.entry.pass.table) × Extends self.entry.pass.view (Did (Park self.entry.req)) Idle result.view }
     {
         let Busy {
-            words,
-            grid: _,
+            task,
             mut seat,
-            cell,
-            generation,
-            req: _,
-            parcel,
-            pipes: _,
-            lists,
+            mut lists,
         } = self;
-        put_back(words, &mut seat, cell, parcel);
-        seat::park(words, &mut seat, cell, generation);
+        seat::park(task.words, &mut seat, task.cell, task.generation);
         Worker::after(seat, lists)
     }
 
@@ -118,24 +90,24 @@ impl<'a> Busy<'a> {
         ensures user_data { (e : Entry) → IsPlaced (seen_of self.entry.pass) self.entry.req e → result.1.user_data ≡ e.user_data }
     {
         let Busy {
-            words,
-            grid: _,
+            task,
             mut seat,
-            cell,
-            generation,
-            req: _,
-            parcel,
-            pipes,
             mut lists,
         } = self;
-        let res = answer_without(op_placed(&parcel.sqe), pipes as u64);
-        let fails = fails_placed(&parcel.sqe, res);
+        let res = answer_without(op_placed(&task.sqe), task.pipes as u64);
+        let fails = fails_placed(&task.sqe, res);
         let cqe = Cqe {
-            user_data: parcel.sqe.user_data(),
+            user_data: task.sqe.user_data(),
             res,
         };
-        put_back(words, &mut seat, cell, parcel);
-        seat::reply(words, &mut seat, cell, generation, fails, res);
+        seat::reply(
+            task.words,
+            &mut seat,
+            task.cell,
+            task.generation,
+            fails,
+            res,
+        );
         lists.clear();
         (Worker::after(seat, lists), cqe)
     }
@@ -148,40 +120,18 @@ impl<'a> Busy<'a> {
         ensures woken { IfErr result (λ b. b.woken ≡ []) }
     {
         let Busy {
-            words,
-            grid,
+            task,
             mut seat,
-            cell,
-            generation,
-            req,
-            parcel,
-            pipes,
             mut lists,
         } = self;
         lists.rest();
-        if !pipes::hold(words, &mut seat, pipe) {
-            return Err(Busy {
-                words,
-                grid,
-                seat,
-                cell,
-                generation,
-                req,
-                parcel,
-                pipes,
-                lists,
-            });
+        if !pipes::hold(task.words, &mut seat, pipe) {
+            return Err(Busy { task, seat, lists });
         }
-        let thing = words.exchange(&mut seat, pipe, None);
+        let thing = task.words.exchange(&mut seat, pipe, None);
         Ok(Holding {
-            words,
-            grid,
+            task,
             seat,
-            cell,
-            generation,
-            req,
-            parcel,
-            pipes,
             lists,
             pipe,
             waited: parcel::pipe_of(thing),
@@ -201,25 +151,26 @@ impl<'a> Busy<'a> {
         ensures steps { FewSteps self.entry.pass.view result.0.view 4 (5 * cells_in self.entry.pass.view.layout.cells self.entry.req.ring) }
     {
         let Busy {
-            words,
-            grid,
+            task,
             mut seat,
-            cell,
-            generation,
-            req,
-            parcel,
-            pipes: _,
             mut lists,
         } = self;
-        lists.clear();
-        let res = hunt(words, &mut seat, grid, req, wanted, &mut lists);
-        let fails = fails_placed(&parcel.sqe, res);
+        let found = &mut *lists;
+        found.clear();
+        let res = hunt(task.words, &mut seat, task.grid, task.req, wanted, found);
+        let fails = fails_placed(&task.sqe, res);
         let cqe = Cqe {
-            user_data: parcel.sqe.user_data(),
+            user_data: task.sqe.user_data(),
             res,
         };
-        put_back(words, &mut seat, cell, parcel);
-        seat::reply(words, &mut seat, cell, generation, fails, res);
+        seat::reply(
+            task.words,
+            &mut seat,
+            task.cell,
+            task.generation,
+            fails,
+            res,
+        );
         (Worker::after(seat, lists), cqe)
     }
 
@@ -233,7 +184,7 @@ impl<'a> Busy<'a> {
         ensures steps { StepsAt (One pipe) self.entry.pass.view result.0.view self.entry.req result.1 }
         ensures ran { IsRun self.entry result.0 result.1 }
     {
-        prove!(pipe < self.pipes);
+        prove!(pipe < self.task.pipes);
         let holding = match self.hold(pipe) {
             Ok(holding) => holding,
             Err(busy) => return (busy.give_up(), Ran::Parked(Parked::PipeBusy)),
@@ -256,11 +207,11 @@ impl<'a> Busy<'a> {
         ensures steps { (e : Entry) → IsPlaced (seen_of self.entry.pass) self.entry.req e → HasStepped self.entry result.0.view e result.1 }
         ensures ran { IsRun self.entry result.0 result.1 }
     {
-        if let Some(wanted) = wanted_of(self.parcel.sqe.op()) {
+        if let Some(wanted) = wanted_of(self.task.sqe.op()) {
             let (worker, cqe) = self.cancel(wanted);
             return (worker, Ran::Replied { cqe });
         }
-        match pipes_of(self.parcel.sqe.op(), self.pipes as u64) {
+        match pipes_of(self.task.sqe.op(), self.task.pipes as u64) {
             NamedPipes::Nothing => {
                 let (worker, cqe) = self.answer();
                 (worker, Ran::Replied { cqe })

@@ -11,39 +11,32 @@ ghost use Rattle.steps.specs.declared.view.View.{View};
 ghost use Rattle.steps.specs.Cells.{claim_at, pipe_at};
 ghost use Rattle.steps.specs.Rule.{Extends, IsStep, IsTwoSteps, leaves};
 
-use crate::busy::{Busy, put_back};
-use crate::grid::Grid;
+use crate::busy::Busy;
 use crate::lists::{Lists, settle};
+use crate::task::{Task, answer_in};
 use crate::worker::Worker;
-use answers::answer_with;
 use entry::{Cqe, fails};
-use history::Req;
 use std::marker::Model;
-use steps::{Parcel, TableSeat, Thing, WaitedPipe, Words, pipes};
+use steps::{TableSeat, Thing, WaitedPipe, pipes};
 
 /// A worker that runs a request, and has taken a pipe that its entry is answered from.
 pub(crate) struct Holding<'a> {
-    pub(crate) words: &'a Words,
-    pub(crate) grid: &'a Grid,
+    pub(crate) task: Task<'a>,
     pub(crate) seat: TableSeat,
-    pub(crate) cell: usize,
-    pub(crate) generation: u32,
-    pub(crate) req: Req,
-    pub(crate) parcel: Parcel,
-    pub(crate) pipes: usize,
-    pub(crate) lists: Lists,
+    pub(crate) lists: Box<Lists>,
     pub(crate) pipe: usize,
     pub(crate) waited: WaitedPipe,
 }
 
 impl<'a> Model for Holding<'a> {
-    ghost use Rattle.work.specs.Passes.{Holding as Held, pass_of, IsHoldingSeat};
+    ghost use Rattle.work.specs.Passes.{Holding as Held, pass_of, with_sqe, IsHoldingSeat};
+    ghost use Rattle.steps.specs.declared.parcel.Parcel.{Parcel};
 
     ghost Value = { Held };
 
-    ghost view = { λ h. record { pass = pass_of h.seat; req = h.req; pipe = h.pipe } };
+    ghost view = { λ h. record { pass = pass_of h.seat; req = h.task.req; pipe = h.pipe } };
 
-    ghost invariant = { λ h. IsHoldingSeat h.words.now.table_id h.grid.now h.seat h.cell h.generation h.req h.parcel h.pipes h.pipe h.waited h.lists };
+    ghost invariant = { λ h. (z : Parcel) × IsHoldingSeat h.task.words.now.table_id h.task.grid.now h.seat h.task.cell h.task.generation h.task.req (with_sqe z h.task.sqe) h.task.pipes h.pipe h.waited h.lists.value };
 }
 
 impl<'a> Holding<'a> {
@@ -63,50 +56,54 @@ impl<'a> Holding<'a> {
         ensures unanswered { IfErr result (λ b. (e : Entry) → IsPlaced (seen_of self.entry.pass) self.entry.req e → Unanswered self.entry.pass.view self.entry.req e) }
     {
         let Holding {
-            words,
-            grid,
+            task,
             mut seat,
-            cell,
-            generation,
-            req,
-            mut parcel,
-            pipes,
             mut lists,
             pipe,
             mut waited,
         } = self;
-        let answer = answer_with(
-            parcel.sqe.op(),
+        let found = &mut *lists;
+        seat.turn();
+        let answer = answer_in(
+            task.words,
+            &mut seat,
+            task.cell,
+            task.sqe.op(),
             &mut waited.pipe,
-            parcel.buffer.as_mut_slice(),
         );
-        let laid = settle(&mut waited.lying, &mut lists.woken, req, answer.is_some());
-        let None = words.exchange(&mut seat, pipe, Some(Thing::Piped(waited))) else {
+        seat.turn();
+        let laid = settle(
+            &mut waited.lying,
+            &mut found.woken,
+            task.req,
+            answer.is_some(),
+        );
+        let None = task
+            .words
+            .exchange(&mut seat, pipe, Some(Thing::Piped(waited)))
+        else {
             unreachable!()
         };
         let Some(res) = answer else {
-            pipes::free(words, &mut seat, pipe, laid);
-            return Err(Busy {
-                words,
-                grid,
-                seat,
-                cell,
-                generation,
-                req,
-                parcel,
-                pipes,
-                lists,
-            });
+            pipes::free(task.words, &mut seat, pipe, laid);
+            return Err(Busy { task, seat, lists });
         };
         seat.turn();
-        let fails = fails(&parcel.sqe, res);
+        let fails = fails(&task.sqe, res);
         let cqe = Cqe {
-            user_data: parcel.sqe.user_data(),
+            user_data: task.sqe.user_data(),
             res,
         };
-        put_back(words, &mut seat, cell, parcel);
-        pipes::reply(words, &mut seat, cell, generation, fails, res, pipe);
-        lists.took.clear();
+        pipes::reply(
+            task.words,
+            &mut seat,
+            task.cell,
+            task.generation,
+            fails,
+            res,
+            pipe,
+        );
+        found.took.clear();
         Ok((Worker::after(seat, lists), cqe))
     }
 }

@@ -17,29 +17,22 @@ ghost use Rattle.steps.specs.Rule.{Looks, Extends, IsStep, IsThreeSteps, leaves,
 ghost use Rattle.steps.specs.Plays.{HasBoth};
 ghost use Rattle.work.specs.Board.{Facts, IsOf};
 
-use crate::busy::{Busy, put_back};
-use crate::grid::Grid;
+use crate::busy::Busy;
 use crate::holding::Holding;
 use crate::lists::{Lists, settle_once};
 use crate::run::{Parked, Ran};
+use crate::task::Task;
 use crate::worker::Worker;
 use answers::answer_both;
 use entry::{Cqe, fails};
-use history::Req;
 use std::marker::Model;
-use steps::{Laid, Parcel, TableSeat, Thing, WaitedPipe, Words, parcel, pipes};
+use steps::{Laid, TableSeat, Thing, WaitedPipe, parcel, pipes};
 
 /// A worker that runs a SPLICE, and has taken both pipes that its entry joins.
 pub(crate) struct Joining<'a> {
-    pub(crate) words: &'a Words,
-    pub(crate) grid: &'a Grid,
+    pub(crate) task: Task<'a>,
     pub(crate) seat: TableSeat,
-    pub(crate) cell: usize,
-    pub(crate) generation: u32,
-    pub(crate) req: Req,
-    pub(crate) parcel: Parcel,
-    pub(crate) pipes: usize,
-    pub(crate) lists: Lists,
+    pub(crate) lists: Box<Lists>,
     pub(crate) source: usize,
     pub(crate) target: usize,
     pub(crate) from: WaitedPipe,
@@ -47,13 +40,14 @@ pub(crate) struct Joining<'a> {
 }
 
 impl<'a> Model for Joining<'a> {
-    ghost use Rattle.work.specs.Passes.{Joining as Joined, pass_of, IsJoiningSeat};
+    ghost use Rattle.work.specs.Passes.{Joining as Joined, pass_of, with_sqe, IsJoiningSeat};
+    ghost use Rattle.steps.specs.declared.parcel.Parcel.{Parcel};
 
     ghost Value = { Joined };
 
-    ghost view = { λ k. record { pass = pass_of k.seat; req = k.req; source = k.source; target = k.target } };
+    ghost view = { λ k. record { pass = pass_of k.seat; req = k.task.req; source = k.source; target = k.target } };
 
-    ghost invariant = { λ k. IsJoiningSeat k.words.now.table_id k.grid.now k.seat k.cell k.generation k.req k.parcel k.pipes k.source k.target k.from k.into k.lists };
+    ghost invariant = { λ k. (z : Parcel) × IsJoiningSeat k.task.words.now.table_id k.task.grid.now k.seat k.task.cell k.task.generation k.task.req (with_sqe z k.task.sqe) k.task.pipes k.source k.target k.from k.into k.lists.value };
 }
 
 impl<'a> Holding<'a> {
@@ -68,45 +62,26 @@ impl<'a> Holding<'a> {
         ensures woken { IfErr result (λ b. b.woken ≡ []) }
     {
         let Holding {
-            words,
-            grid,
+            task,
             mut seat,
-            cell,
-            generation,
-            req,
-            parcel,
-            pipes,
-            lists,
+            mut lists,
             pipe,
             waited,
         } = self;
-        if !pipes::hold_second(words, &mut seat, target) {
-            let None = words.exchange(&mut seat, pipe, Some(Thing::Piped(waited))) else {
+        if !pipes::hold_second(task.words, &mut seat, target) {
+            let None = task
+                .words
+                .exchange(&mut seat, pipe, Some(Thing::Piped(waited)))
+            else {
                 unreachable!()
             };
-            pipes::free(words, &mut seat, pipe, Laid::NoRequest);
-            return Err(Busy {
-                words,
-                grid,
-                seat,
-                cell,
-                generation,
-                req,
-                parcel,
-                pipes,
-                lists,
-            });
+            pipes::free(task.words, &mut seat, pipe, Laid::NoRequest);
+            return Err(Busy { task, seat, lists });
         }
-        let thing = words.exchange(&mut seat, target, None);
+        let thing = task.words.exchange(&mut seat, target, None);
         Ok(Joining {
-            words,
-            grid,
+            task,
             seat,
-            cell,
-            generation,
-            req,
-            parcel,
-            pipes,
             lists,
             source: pipe,
             target,
@@ -133,60 +108,70 @@ impl<'a> Joining<'a> {
         ensures unanswered { IfErr result (λ b. (e : Entry) → IsPlaced (seen_of self.entry.pass) self.entry.req e → Unanswered self.entry.pass.view self.entry.req e) }
     {
         let Joining {
-            words,
-            grid,
+            task,
             mut seat,
-            cell,
-            generation,
-            req,
-            parcel,
-            pipes,
             mut lists,
             source,
             target,
             mut from,
             mut into,
         } = self;
-        let answer = answer_both(parcel.sqe.op(), &mut from.pipe, &mut into.pipe);
+        let found = &mut *lists;
+        let answer = answer_both(task.sqe.op(), &mut from.pipe, &mut into.pipe);
         let answered = answer.is_some();
-        let under = settle_once(&mut from.lying, &mut lists.source, req, answered);
-        let laid = settle_once(&mut into.lying, &mut lists.woken, req, answered);
-        let None = words.exchange(&mut seat, target, Some(Thing::Piped(into))) else {
+        let under = settle_once(
+            &mut from.lying,
+            &mut found.source,
+            task.req,
+            answered,
+        );
+        let laid = settle_once(
+            &mut into.lying,
+            &mut found.woken,
+            task.req,
+            answered,
+        );
+        let None = task
+            .words
+            .exchange(&mut seat, target, Some(Thing::Piped(into)))
+        else {
             unreachable!()
         };
         let Some(res) = answer else {
-            pipes::free_one(words, &mut seat, target, laid);
-            let None = words.exchange(&mut seat, source, Some(Thing::Piped(from))) else {
+            pipes::free_one(task.words, &mut seat, target, laid);
+            let None = task
+                .words
+                .exchange(&mut seat, source, Some(Thing::Piped(from)))
+            else {
                 unreachable!()
             };
-            pipes::free(words, &mut seat, source, under);
-            return Err(Busy {
-                words,
-                grid,
-                seat,
-                cell,
-                generation,
-                req,
-                parcel,
-                pipes,
-                lists,
-            });
+            pipes::free(task.words, &mut seat, source, under);
+            return Err(Busy { task, seat, lists });
         };
         seat.turn();
-        let None = words.exchange(&mut seat, source, Some(Thing::Piped(from))) else {
+        let None = task
+            .words
+            .exchange(&mut seat, source, Some(Thing::Piped(from)))
+        else {
             unreachable!()
         };
         seat.turn();
-        let fails = fails(&parcel.sqe, res);
+        let fails = fails(&task.sqe, res);
         let cqe = Cqe {
-            user_data: parcel.sqe.user_data(),
+            user_data: task.sqe.user_data(),
             res,
         };
-        put_back(words, &mut seat, cell, parcel);
         pipes::reply_both(
-            words, &mut seat, cell, generation, fails, res, target, source,
+            task.words,
+            &mut seat,
+            task.cell,
+            task.generation,
+            fails,
+            res,
+            target,
+            source,
         );
-        lists.took.clear();
+        found.took.clear();
         Ok((Worker::after(seat, lists), cqe))
     }
 }
@@ -205,7 +190,7 @@ impl<'a> Busy<'a> {
         ensures steps { StepsAt (Both source target) self.entry.pass.view result.0.view self.entry.req result.1 }
         ensures ran { IsRun self.entry result.0 result.1 }
     {
-        prove!(source < self.pipes);
+        prove!(source < self.task.pipes);
         let holding = match self.hold(source) {
             Ok(holding) => holding,
             Err(busy) => return (busy.give_up(), Ran::Parked(Parked::PipeBusy)),

@@ -14,6 +14,7 @@ pub mod pass;
 mod placed;
 pub mod run;
 mod sweep;
+mod task;
 pub mod worker;
 
 pub use busy::Busy;

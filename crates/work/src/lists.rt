@@ -24,19 +24,20 @@ pub struct Lists {
 
 impl Lists {
     /// Empty lists, for rings of which the widest has so many cells beside one, and which have so many in all.
-    pub fn new(alloc: Global, others: usize, cells: usize) -> Result<Lists, AllocError>
-        ensures { IfOk result (λ l. (K : List ℕ) → ((i : ℕ) → cells_in K i ≤ suc others) → total K ≡ cells → HasRooms K l) }
+    pub fn new(alloc: Global, others: usize, cells: usize) -> Result<Box<Lists>, AllocError>
+        ensures { IfOk result (λ l. (K : List ℕ) → ((i : ℕ) → cells_in K i ≤ suc others) → total K ≡ cells → HasRooms K l.value) }
     {
         let took = Vec::with_capacity(alloc, others)?;
         let source = Vec::with_capacity(alloc, cells)?;
         let woken = Vec::with_capacity(alloc, cells)?;
         let marks = Marks::new(alloc)?;
-        Ok(Self {
+        let lists = Self {
             took,
             source,
             woken,
             marks,
-        })
+        };
+        Ok(Box::new(alloc, lists)?)
     }
 
     /// Empties the lists of those that were taken along.

@@ -11,19 +11,18 @@ use crate::busy::Busy;
 use crate::grid::Grid;
 use crate::lists::Lists;
 use crate::pass::{Messenger, Pass};
+use crate::task::{Task, entry_in};
 use claim::GENERATIONS;
 use history::Req;
 use std::marker::Model;
-use steps::layout::slot;
-use steps::parcel::parcel_of;
 use steps::{TableSeat, Words, seat, table};
 
 /// A worker without a request. Contracts see its table, what it knows, which requests its last run ended, and which it took along
-/// from the pipes that it gave back.
+/// from the pipes that it gave back. Its lists lie on the heap, since each of its calls moves the worker.
 #[derive(Drop)]
 pub struct Worker {
     seat: TableSeat,
-    lists: Lists,
+    lists: Box<Lists>,
 }
 
 impl Model for Worker {
@@ -31,18 +30,18 @@ impl Model for Worker {
 
     ghost Value = { Pass };
 
-    ghost view = { λ w. record { table = w.seat.table_id; view = w.seat.me.0; took = w.lists.took.items; woken = woken_of w.lists } };
+    ghost view = { λ w. record { table = w.seat.table_id; view = w.seat.me.0; took = w.lists.value.took.items; woken = woken_of w.lists.value } };
 
-    ghost invariant = { λ w. IsIdleSeat w.seat × HasRooms w.seat.me.0.layout.cells w.lists × AreMarked w.lists.marks w.seat.me.0.seen };
+    ghost invariant = { λ w. IsIdleSeat w.seat × HasRooms w.seat.me.0.layout.cells w.lists.value × AreMarked w.lists.value.marks w.seat.me.0.seen };
 }
 
 impl Worker {
     ghost use Rattle.work.specs.Passes.{pass_of, AreMarked, HasRooms, IsIdleSeat, woken_of};
 
     /// The pass of an idle seat. The lists are emptied.
-    pub fn new(seat: TableSeat, mut lists: Lists) -> Worker
+    pub fn new(seat: TableSeat, mut lists: Box<Lists>) -> Worker
         requires seat { IsIdleSeat seat }
-        requires room { HasRooms seat.me.0.layout.cells lists }
+        requires room { HasRooms seat.me.0.layout.cells lists.value }
         ensures { result ≡ pass_of seat }
     {
         lists.clear();
@@ -51,11 +50,11 @@ impl Worker {
     }
 
     /// The same after a run that listed these requests.
-    pub(crate) fn after(seat: TableSeat, lists: Lists) -> Worker
+    pub(crate) fn after(seat: TableSeat, lists: Box<Lists>) -> Worker
         requires seat { IsIdleSeat seat }
-        requires room { HasRooms seat.me.0.layout.cells lists }
-        requires marked { AreMarked lists.marks seat.me.0.seen }
-        ensures { result ≡ record (pass_of seat) { took = lists.took.items; woken = woken_of lists } }
+        requires room { HasRooms seat.me.0.layout.cells lists.value }
+        requires marked { AreMarked lists.value.marks seat.me.0.seen }
+        ensures { result ≡ record (pass_of seat) { took = lists.value.took.items; woken = woken_of lists.value } }
     {
         Self { seat, lists }
     }
@@ -136,17 +135,16 @@ impl Worker {
         if !seat::begin(words, &mut seat, spot.cell, generation) {
             return Err(Worker { seat, lists });
         }
-        let thing = words.exchange(&mut seat, slot(spot.cell), None);
-        Ok(Busy {
+        let sqe = entry_in(words, &mut seat, spot.cell);
+        let task = Task {
             words,
             grid,
-            seat,
             cell: spot.cell,
             generation,
             req,
-            parcel: parcel_of(thing),
+            sqe,
             pipes,
-            lists,
-        })
+        };
+        Ok(Busy { task, seat, lists })
     }
 }

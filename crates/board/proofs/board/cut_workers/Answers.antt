@@ -37,5 +37,5 @@ pub new-requires-in-loop-clause-room : goal.new-requires-in-loop-clause-room
 new-requires-in-loop-clause-room c =
     let r = c.requires.seat in let k = c.loop.invariant.0 r.0 r.1 in
     let cells : c.next_worker-cut.result.me.0.layout.cells ≡ c.args.seat.now.me.0.layout.cells = ap (λ (m : Me (Option Thing) View). m.0.layout.cells) c.next_worker-cut.ensures.worker.1 ∙ ap (λ (L : Layout). L.cells) k.layout_is in
-    subst (λ (K : List ℕ). HasRooms K c.in_ok-lists.lists) (sym cells)
+    subst (λ (K : List ℕ). HasRooms K c.in_ok-lists.lists.value) (sym cells)
     (c.in_ok-lists.ensures c.args.seat.now.me.0.layout.cells (λ ring. (let wide = c.requires.widest ring in omega arith)) (ap total (sym c.requires.grid) ∙ sym c.total.ensures))

@@ -1,0 +1,70 @@
+//! The request that a worker runs.
+ghost use Rattle.std.specs.Prelude.{◌≡◌, ◌<◌, ◌∷◌, Some, length};
+ghost use Rattle.atomic_table.specs.Table.{rest};
+ghost use Rattle.answers.specs.Answered.{Answered};
+ghost use Rattle.answers.specs.NamedEnds.{UsesSome};
+ghost use Rattle.history.specs.Legal.{FitsOp};
+ghost use Rattle.steps.specs.declared.parcel.Parcel.{Parcel};
+ghost use Rattle.steps.specs.declared.parcel.Thing.TheVariants.{Full};
+ghost use Rattle.steps.specs.Cells.{slot_at};
+ghost use Rattle.steps.specs.Rule.{IsSameSeat};
+
+use crate::grid::Grid;
+use answers::answer_with;
+use entry::{Op, Sqe};
+use history::Req;
+use pipe::Pipe;
+use steps::layout::slot;
+use steps::parcel::parcel_of;
+use steps::{TableSeat, Thing, Words};
+
+/// What a worker knows of the request that it runs. The parcel stays in its slot, which is the worker's until it replies or parks: no
+/// run moves it.
+#[derive(Clone, Copy)]
+pub(crate) struct Task<'a> {
+    pub(crate) words: &'a Words,
+    pub(crate) grid: &'a Grid,
+    pub(crate) cell: usize,
+    pub(crate) generation: u32,
+    pub(crate) req: Req,
+    pub(crate) sqe: Sqe,
+    pub(crate) pipes: usize,
+}
+
+/// The entry of the parcel in the slot that the seat took last.
+pub(crate) fn entry_in(words: &Words, seat: &mut TableSeat, cell: usize) -> Sqe
+    requires table { seat.old.table_id ≡ words.now.table_id }
+    requires full { (p : Parcel) × (seat.old.me.1 ≡ (slot_at cell, Some (Full p)) ∷ rest seat.old.me.1) }
+    requires small { cell < 16384 }
+    ensures seat { IsSameSeat seat.old seat.new × (seat.new.me ≡ seat.old.me) }
+    ensures entry { (p : Parcel) → seat.old.me.1 ≡ (slot_at cell, Some (Full p)) ∷ rest seat.old.me.1 → result ≡ p.sqe }
+{
+    let Some(Thing::Full(parcel)) = &*seat.slot_mut(words, slot(cell)) else {
+        unreachable!()
+    };
+    parcel.sqe
+}
+
+/// Answers the operation by the pipe, where it has an answer now, with the buffer of the parcel in the slot that the seat took last.
+pub(crate) fn answer_in(
+    words: &Words,
+    seat: &mut TableSeat,
+    cell: usize,
+    op: Op,
+    pipe: &mut Pipe,
+) -> Option<i32>
+    requires table { seat.old.table_id ≡ words.now.table_id }
+    requires full { (p : Parcel) × (seat.old.me.1 ≡ (slot_at cell, Some (Full p)) ∷ rest seat.old.me.1) × FitsOp op (length p.buffer.items) }
+    requires used { UsesSome op }
+    requires small { cell < 16384 }
+    ensures seat { IsSameSeat seat.old seat.new }
+    ensures answered { (p : Parcel) → seat.old.me.1 ≡ (slot_at cell, Some (Full p)) ∷ rest seat.old.me.1 → (q : Parcel) × (seat.new.me ≡ (seat.old.me.0, (slot_at cell, Some (Full q)) ∷ rest seat.old.me.1)) × (q.sqe ≡ p.sqe) × (q.last ≡ p.last) × Answered op result pipe.old pipe.new p.buffer.items q.buffer.items }
+{
+    let slot = slot(cell);
+    let mut parcel = parcel_of(words.exchange(seat, slot, None));
+    let answer = answer_with(op, pipe, parcel.buffer.as_mut_slice());
+    let None = words.exchange(seat, slot, Some(Thing::Full(parcel))) else {
+        unreachable!()
+    };
+    answer
+}
