@@ -63,7 +63,13 @@ impl<'a> Busy<'a> {
             mut seat,
             mut lists,
         } = self;
-        seat::park(task.words, &mut seat, task.cell, task.generation);
+        let Task {
+            words,
+            cell,
+            generation,
+            ..
+        } = task;
+        seat::park(words, &mut seat, cell, generation);
         Worker::after(seat, lists)
     }
 
@@ -94,20 +100,21 @@ impl<'a> Busy<'a> {
             mut seat,
             mut lists,
         } = self;
-        let res = answer_without(op_placed(&task.sqe), task.pipes as u64);
-        let fails = fails_placed(&task.sqe, res);
+        let Task {
+            words,
+            cell,
+            generation,
+            sqe,
+            pipes,
+            ..
+        } = task;
+        let res = answer_without(op_placed(&sqe), pipes as u64);
+        let fails = fails_placed(&sqe, res);
         let cqe = Cqe {
-            user_data: task.sqe.user_data(),
+            user_data: sqe.user_data(),
             res,
         };
-        seat::reply(
-            task.words,
-            &mut seat,
-            task.cell,
-            task.generation,
-            fails,
-            res,
-        );
+        seat::reply(words, &mut seat, cell, generation, fails, res);
         lists.clear();
         (Worker::after(seat, lists), cqe)
     }
@@ -124,11 +131,12 @@ impl<'a> Busy<'a> {
             mut seat,
             mut lists,
         } = self;
+        let words = task.words;
         lists.rest();
-        if !pipes::hold(task.words, &mut seat, pipe) {
+        if !pipes::hold(words, &mut seat, pipe) {
             return Err(Busy { task, seat, lists });
         }
-        let thing = task.words.exchange(&mut seat, pipe, None);
+        let thing = words.exchange(&mut seat, pipe, None);
         Ok(Holding {
             task,
             seat,
@@ -155,22 +163,24 @@ impl<'a> Busy<'a> {
             mut seat,
             mut lists,
         } = self;
+        let Task {
+            words,
+            grid,
+            cell,
+            generation,
+            req,
+            sqe,
+            ..
+        } = task;
         let found = &mut *lists;
         found.clear();
-        let res = hunt(task.words, &mut seat, task.grid, task.req, wanted, found);
-        let fails = fails_placed(&task.sqe, res);
+        let res = hunt(words, &mut seat, grid, req, wanted, found);
+        let fails = fails_placed(&sqe, res);
         let cqe = Cqe {
-            user_data: task.sqe.user_data(),
+            user_data: sqe.user_data(),
             res,
         };
-        seat::reply(
-            task.words,
-            &mut seat,
-            task.cell,
-            task.generation,
-            fails,
-            res,
-        );
+        seat::reply(words, &mut seat, cell, generation, fails, res);
         (Worker::after(seat, lists), cqe)
     }
 

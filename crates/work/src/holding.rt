@@ -62,47 +62,33 @@ impl<'a> Holding<'a> {
             pipe,
             mut waited,
         } = self;
+        let Task {
+            words,
+            cell,
+            generation,
+            req,
+            sqe,
+            ..
+        } = task;
         let found = &mut *lists;
         seat.turn();
-        let answer = answer_in(
-            task.words,
-            &mut seat,
-            task.cell,
-            task.sqe.op(),
-            &mut waited.pipe,
-        );
+        let answer = answer_in(words, &mut seat, cell, sqe.op(), &mut waited.pipe);
         seat.turn();
-        let laid = settle(
-            &mut waited.lying,
-            &mut found.woken,
-            task.req,
-            answer.is_some(),
-        );
-        let None = task
-            .words
-            .exchange(&mut seat, pipe, Some(Thing::Piped(waited)))
-        else {
+        let laid = settle(&mut waited.lying, &mut found.woken, req, answer.is_some());
+        let None = words.exchange(&mut seat, pipe, Some(Thing::Piped(waited))) else {
             unreachable!()
         };
         let Some(res) = answer else {
-            pipes::free(task.words, &mut seat, pipe, laid);
+            pipes::free(words, &mut seat, pipe, laid);
             return Err(Busy { task, seat, lists });
         };
         seat.turn();
-        let fails = fails(&task.sqe, res);
+        let fails = fails(&sqe, res);
         let cqe = Cqe {
-            user_data: task.sqe.user_data(),
+            user_data: sqe.user_data(),
             res,
         };
-        pipes::reply(
-            task.words,
-            &mut seat,
-            task.cell,
-            task.generation,
-            fails,
-            res,
-            pipe,
-        );
+        pipes::reply(words, &mut seat, cell, generation, fails, res, pipe);
         found.took.clear();
         Ok((Worker::after(seat, lists), cqe))
     }

@@ -68,17 +68,15 @@ impl<'a> Holding<'a> {
             pipe,
             waited,
         } = self;
-        if !pipes::hold_second(task.words, &mut seat, target) {
-            let None = task
-                .words
-                .exchange(&mut seat, pipe, Some(Thing::Piped(waited)))
-            else {
+        let words = task.words;
+        if !pipes::hold_second(words, &mut seat, target) {
+            let None = words.exchange(&mut seat, pipe, Some(Thing::Piped(waited))) else {
                 unreachable!()
             };
-            pipes::free(task.words, &mut seat, pipe, Laid::NoRequest);
+            pipes::free(words, &mut seat, pipe, Laid::NoRequest);
             return Err(Busy { task, seat, lists });
         }
-        let thing = task.words.exchange(&mut seat, target, None);
+        let thing = words.exchange(&mut seat, target, None);
         Ok(Joining {
             task,
             seat,
@@ -116,60 +114,42 @@ impl<'a> Joining<'a> {
             mut from,
             mut into,
         } = self;
+        let Task {
+            words,
+            cell,
+            generation,
+            req,
+            sqe,
+            ..
+        } = task;
         let found = &mut *lists;
-        let answer = answer_both(task.sqe.op(), &mut from.pipe, &mut into.pipe);
+        let answer = answer_both(sqe.op(), &mut from.pipe, &mut into.pipe);
         let answered = answer.is_some();
-        let under = settle_once(
-            &mut from.lying,
-            &mut found.source,
-            task.req,
-            answered,
-        );
-        let laid = settle_once(
-            &mut into.lying,
-            &mut found.woken,
-            task.req,
-            answered,
-        );
-        let None = task
-            .words
-            .exchange(&mut seat, target, Some(Thing::Piped(into)))
-        else {
+        let under = settle_once(&mut from.lying, &mut found.source, req, answered);
+        let laid = settle_once(&mut into.lying, &mut found.woken, req, answered);
+        let None = words.exchange(&mut seat, target, Some(Thing::Piped(into))) else {
             unreachable!()
         };
         let Some(res) = answer else {
-            pipes::free_one(task.words, &mut seat, target, laid);
-            let None = task
-                .words
-                .exchange(&mut seat, source, Some(Thing::Piped(from)))
-            else {
+            pipes::free_one(words, &mut seat, target, laid);
+            let None = words.exchange(&mut seat, source, Some(Thing::Piped(from))) else {
                 unreachable!()
             };
-            pipes::free(task.words, &mut seat, source, under);
+            pipes::free(words, &mut seat, source, under);
             return Err(Busy { task, seat, lists });
         };
         seat.turn();
-        let None = task
-            .words
-            .exchange(&mut seat, source, Some(Thing::Piped(from)))
-        else {
+        let None = words.exchange(&mut seat, source, Some(Thing::Piped(from))) else {
             unreachable!()
         };
         seat.turn();
-        let fails = fails(&task.sqe, res);
+        let fails = fails(&sqe, res);
         let cqe = Cqe {
-            user_data: task.sqe.user_data(),
+            user_data: sqe.user_data(),
             res,
         };
         pipes::reply_both(
-            task.words,
-            &mut seat,
-            task.cell,
-            task.generation,
-            fails,
-            res,
-            target,
-            source,
+            words, &mut seat, cell, generation, fails, res, target, source,
         );
         found.took.clear();
         Ok((Worker::after(seat, lists), cqe))

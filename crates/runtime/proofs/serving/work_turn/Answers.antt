@@ -15,6 +15,17 @@ keep-requires g c =
     let places : c.serve-worker.new.desk.places ≡ c.next.new.self.places = ap (λ (d : Desk). d.places) tried.4 in
     let put = c.put_kept-2.ensures.few in record { room = omega (arith, fit, given.0, given.1, woken, places, put.0, put.1, tried.5) }
 
+pub returns-then-not-make_room-clause-turned : goal.returns-then-not-make_room-clause-turned
+returns-then-not-make_room-clause-turned g c = record {
+  of = c.requires.worker;
+  answered = [];
+  gone = [];
+  woken = [];
+  serves = inl (refl, refl, refl, refl);
+  outbox = ap (λ (l : List Req). record c.args.outbox.now { answered = l }) (sym (append-nil c.args.outbox.now.answered));
+  numbers = shifts_put _ _ (back_same _ _ _ c.put_kept.ensures.back c.make_room.ensures.same);
+}
+
 pub returns-in_default-clause-turned : goal.returns-in_default-clause-turned
 returns-in_default-clause-turned g c = record {
   of = c.requires.worker;
