@@ -47,11 +47,13 @@ impl Units {
     /// The entries of the next unit, which has one or both.
     fn entries(&self) -> (Option<Sqe>, Option<Sqe>) {
         let (target, pipe) = (self.next.wrapping_mul(2), 2 * (self.next % 64) as i32);
-        let linked = with_flags(write(pipe + 1, BYTES, 0), LINK);
         let is_first = self.next == self.first;
         let is_last = self.end <= self.next.saturating_add(1);
         match (self.setup.kind, self.ring) {
-            (Kind::Pair, _) => (Some(linked), Some(read(pipe, BYTES, 0))),
+            (Kind::Pair, _) => {
+                let linked = with_flags(write(pipe + 1, BYTES, 0), LINK);
+                (Some(linked), Some(read(pipe, BYTES, 0)))
+            }
             (Kind::ReadCancel, _) => (Some(read(0, BYTES, 0)), Some(cancel(target))),
             (Kind::TimeoutRemove, _) => (Some(timeout(LATE, 0)), Some(timeout_remove(target))),
             (Kind::Byte, 0) => (Some(write(1, 1, 0)), None),
