@@ -32,7 +32,9 @@ impl<L: Load> Driver<L> {
         let mut looks = 0;
         for _ in rt.forever() {
             if let Some(completion) = self.client.take(rt) {
-                self.take(completion)?;
+                if let Err(wrong) = self.take(completion) {
+                    return refuse(wrong);
+                }
                 looks = 0;
             } else if self.load.is_over() {
                 return Ok(());
@@ -65,18 +67,27 @@ impl<L: Load> Driver<L> {
         self.told.submitted = self.told.submitted.saturating_add(count);
         if awaited == 1 {
             let completion = self.client.wait(rt);
-            self.take(completion)?;
+            if let Err(wrong) = self.take(completion) {
+                return refuse(wrong);
+            }
         }
         Ok(())
     }
 
-    /// Hands a completion to the load.
-    fn take(&mut self, completion: Completion) -> Result<()>
+    /// Hands a completion to the load. It comes back where it is wrong.
+    fn take(&mut self, completion: Completion) -> Result<(), Completion>
         ensures { self.new.client ≡ self.old.client }
     {
         self.told.taken = self.told.taken.saturating_add(1);
         self.load.take(completion)
     }
+}
+
+/// Ends the load, since this completion is wrong. An error of `anyhow` has room for its text, which no completion that is right should
+/// have to move.
+fn refuse(wrong: Completion) -> Result<()> {
+    let (number, reply) = (wrong.req.k, wrong.cqe.res);
+    bail!("request {number} has the reply {reply}, or other bytes")
 }
 
 /// Waits a moment, after so many looks in vain, and counts one more.

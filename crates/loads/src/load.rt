@@ -49,8 +49,8 @@ pub(crate) trait Load: Drop {
     /// Takes a batch back that found no room.
     fn refused(&mut self, batch: Batch);
 
-    /// Notes a completion that was taken.
-    fn take(&mut self, completion: Completion) -> Result<()>;
+    /// Notes a completion that was taken. One that has another reply than its request is for, or other bytes, comes back.
+    fn take(&mut self, completion: Completion) -> Result<(), Completion>;
 
     /// Notes a line of the report, and whether the end cut it off.
     fn report(&mut self, completion: &Completion, is_cut: bool) -> Result<()>;

@@ -190,9 +190,12 @@ impl Load for Mix {
         self.drawn.clear();
     }
 
-    fn take(&mut self, completion: Completion) -> Result<()> {
+    fn take(&mut self, completion: Completion) -> Result<(), Completion> {
         self.taken = self.taken.saturating_add(1);
-        self.tell(&completion, false)
+        match self.tell(&completion, false) {
+            Ok(()) => Ok(()),
+            Err(_) => Err(completion),
+        }
     }
 
     fn report(&mut self, completion: &Completion, is_cut: bool) -> Result<()> {

@@ -143,8 +143,8 @@ impl Load for Units {
     }
 
     /// Notes a completion, which must have the reply that its unit is for, and its bytes.
-    fn take(&mut self, completion: Completion) -> Result<()> {
-        let Completion { req, cqe, buffer } = completion;
+    fn take(&mut self, completion: Completion) -> Result<(), Completion> {
+        let cqe = completion.cqe;
         let is_first = cqe.user_data % 2 == 0;
         let res = match self.setup.kind {
             Kind::Pair => BYTES as i32,
@@ -152,10 +152,9 @@ impl Load for Units {
             Kind::Byte | Kind::Echo => 1,
             _ => 0,
         };
-        let is_right = res <= 0 || are_bytes(&buffer, cqe.user_data / 2);
+        let is_right = res <= 0 || are_bytes(&completion.buffer, cqe.user_data / 2);
         if cqe.res != res || cqe.user_data == LEFT || !is_right {
-            let (number, reply) = (req.k, cqe.res);
-            bail!("request {number} has the reply {reply}, or other bytes");
+            return Err(completion);
         }
         self.open = self.open.saturating_sub(1);
         Ok(())

@@ -21,7 +21,7 @@ use outbox::Outbox;
 use ready::ReadyPass;
 use std::sync::Wait;
 use std::sync::atomic::Ordering;
-use std::{hint, thread};
+use std::thread;
 
 /// How many turns in a row that did nothing the poller makes at once, before it lets other threads have its processor.
 /// A call of the system after each would take longer than most requests. Pauses that double, as the kit's `Backoff` makes them, would
@@ -42,11 +42,10 @@ const SETTLED: u32 = 2048;
 /// How many turns the worker of the poller's thread makes at most between two turns of the poller.
 const RUNS: u32 = 64;
 
-/// Between a turn that did nothing and the next, after so many such turns in a row, of which so many are made at once.
+/// Between a turn that did nothing and the next, after so many such turns in a row, of which so many are made at once. A turn is long
+/// enough that a pause of the processor after it would only let a request wait.
 fn pause(still: u32, spins: u32) {
-    if still < spins {
-        hint::spin_loop();
-    } else {
+    if spins <= still {
         thread::yield_now();
     }
 }
@@ -279,6 +278,7 @@ pub(crate) fn poll<R: Wait, G: Turnstile, C: Clock>(
         count: 0,
     };
     let (mut still, mut called, mut given) = (0u32, 0u32, 0u32);
+    let mut served = Turn::Moved;
     for _ in rt.forever() {
         shared.tally.turn();
         let turn = poll_round(rt, shared, &mut desk, &mut clock, turnstile, &mut outbox);
@@ -288,9 +288,10 @@ pub(crate) fn poll<R: Wait, G: Turnstile, C: Clock>(
         shared.tally.turn();
         let puts = desk.puts();
         call_for(&mut caller, puts.wrapping_sub(called));
+        if served == Turn::Moved || puts != called {
+            (own, served) = serve_own(rt, shared, turnstile, own);
+        }
         called = puts;
-        let (next, served) = serve_own(rt, shared, turnstile, own);
-        own = next;
         let has_moved = desk.has_moved() || served == Turn::Moved;
         still = if has_moved {
             0
