@@ -18,8 +18,8 @@ use steps::layout::slot;
 use steps::parcel::parcel_of;
 use steps::{TableSeat, Thing, Words};
 
-/// What a worker knows of the request that it runs. The parcel stays in its slot, which is the worker's until it replies or parks: no
-/// run moves it.
+/// What a worker knows of the request that it runs. The parcel stays in its slot, which is the worker's until it replies or parks; only
+/// the answer of a pipe takes it out, for its buffer.
 #[derive(Clone, Copy)]
 pub(crate) struct Task<'a> {
     pub(crate) words: &'a Words,
