@@ -1,7 +1,10 @@
 use Rattle.std.proofs.Common.{rules, ◌≡◌, ◌+◌, refl, sym, ap, ◌∙◌, subst, cond, Bool, List, inl, inr, [], ◌∷◌, ◌++◌, length, arith}
 use Rattle.std.proofs.lemmas.List.{append-nil, length-append}
 use Rattle.history.specs.declared.req.Req.{Req}
-use Rattle.runtime.specs.WorkTurns.{Desk, Shifts}
+use Rattle.outbox.specs.Outbox.{Waiting}
+use Rattle.work.specs.Board.{Facts, IsOf}
+use Rattle.work.specs.Passes.{Pass}
+use Rattle.runtime.specs.WorkTurns.{Desk, IsWorkTurn, Shifts}
 use Rattle.runtime.proofs.ShiftLaws.{back_same, shifts_again, shifts_put, shifts_tried}
 use Rattle.runtime.proofs.serving.work_turn.Goals as goal
 use Rattle.runtime.proofs.serving.work_turn.Goals.{then-left-2, else-left-2}
@@ -15,27 +18,23 @@ keep-requires g c =
     let places : c.serve-worker.new.desk.places ≡ c.next.new.self.places = ap (λ (d : Desk). d.places) tried.4 in
     let put = c.put_kept-2.ensures.few in record { room = omega (arith, fit, given.0, given.1, woken, places, put.0, put.1, tried.5) }
 
-pub returns-then-not-make_room-clause-turned : goal.returns-then-not-make_room-clause-turned
-returns-then-not-make_room-clause-turned g c = record {
-  of = c.requires.worker;
+-- a turn that tried no request
+untried : (b : Facts) (old new : Desk) (p : Pass) (before : Waiting) → IsOf b p → Shifts old [] [] new → IsWorkTurn b old new p p before before
+untried b old new p before own numbers = record {
+  of = own;
   answered = [];
   gone = [];
   woken = [];
   serves = inl (refl, refl, refl, refl);
-  outbox = ap (λ (l : List Req). record c.args.outbox.now { answered = l }) (sym (append-nil c.args.outbox.now.answered));
-  numbers = shifts_put _ _ (back_same _ _ _ c.put_kept.ensures.back c.make_room.ensures.same);
+  outbox = ap (λ (l : List Req). record before { answered = l }) (sym (append-nil before.answered));
+  numbers = numbers;
 }
 
+pub returns-then-not-make_room-clause-turned : goal.returns-then-not-make_room-clause-turned
+returns-then-not-make_room-clause-turned g c = untried _ _ _ _ _ c.requires.worker (shifts_put _ _ (back_same _ _ _ c.put_kept.ensures.back c.make_room.ensures.same))
+
 pub returns-in_default-clause-turned : goal.returns-in_default-clause-turned
-returns-in_default-clause-turned g c = record {
-  of = c.requires.worker;
-  answered = [];
-  gone = [];
-  woken = [];
-  serves = inl (refl, refl, refl, refl);
-  outbox = ap (λ (l : List Req). record c.args.outbox.now { answered = l }) (sym (append-nil c.args.outbox.now.answered));
-  numbers = subst (λ (d : Desk). Shifts c.args.desk.now [] [] d) (sym c.in_default.ensures.shifts) (shifts_put _ _ (back_same _ _ _ c.put_kept.ensures.back c.make_room.ensures.same));
-}
+returns-in_default-clause-turned g c = untried _ _ _ _ _ c.requires.worker (subst (λ (d : Desk). Shifts c.args.desk.now [] [] d) (sym c.in_default.ensures.shifts) (shifts_put _ _ (back_same _ _ _ c.put_kept.ensures.back c.make_room.ensures.same)))
 
 pub returns-clause-turned : goal.returns-clause-turned
 returns-clause-turned g c =
