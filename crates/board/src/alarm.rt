@@ -21,6 +21,7 @@ use claim::unpack_facts;
 use gates::Row;
 use history::Req;
 use steps::facts::{LINK_TIMEOUT, TIMEOUT};
+use steps::layout::{COUNT, FACTS};
 use steps::{TableSeat, seat, timers};
 use work::Spot;
 
@@ -50,12 +51,12 @@ fn timer_in(board: &Board, seat: &mut TableSeat, spot: Spot, req: Req) -> Option
     ensures told { spot.generation < 16777216 → (IsReplied (phase (events_of seat.new.me.0.seen) req) → ⊥) → IsTimerAs (events_of seat.new.me.0.seen) req result }
     ensures steps { Paid seat.old.me.0 seat.new.me.0 0 (looks_at result) }
 {
-    let facts = unpack_facts(seat::look_at_note(&board.table.shared, seat, spot.cell, 0));
+    let facts = unpack_facts(seat::look_at_note(&board.table.shared, seat, spot.cell, FACTS));
     if u64::from(facts.generation) != spot.generation {
         return None;
     }
     if facts.row == TIMEOUT {
-        let count = seat::look_at_note(&board.table.shared, seat, spot.cell, 2);
+        let count = seat::look_at_note(&board.table.shared, seat, spot.cell, COUNT);
         return Some(Timer {
             ticks: facts.payload,
             alarm: Alarm::Alone(!facts.etime_success, count),

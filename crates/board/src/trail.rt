@@ -25,6 +25,7 @@ use claim::{FactsWord, unpack_facts};
 use gates::{Asked, Row, Traits};
 use history::Req;
 use steps::facts::{INVALID, LINK_TIMEOUT, TIMEOUT};
+use steps::layout::FACTS;
 use steps::{TableSeat, seat};
 use work::Spot;
 
@@ -99,7 +100,7 @@ fn facts_in(board: &Board, seat: &mut TableSeat, spot: Spot, req: Req) -> Option
     ensures told { ToldFacts (events_of seat.new.me.0.seen) req result }
     ensures steps { Paid seat.old.me.0 seat.new.me.0 0 1 }
 {
-    let word = seat::look_at_note(&board.table.shared, seat, spot.cell, 0);
+    let word = seat::look_at_note(&board.table.shared, seat, spot.cell, FACTS);
     let facts = unpack_facts(word);
     if u64::from(facts.generation) == spot.generation {
         Some(facts)

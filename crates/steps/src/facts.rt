@@ -7,7 +7,10 @@ ghost use Rattle.steps.specs.Notes.{count_in, etime_in, facts_of, row_number, ti
 use claim::{FactsWord, pack_facts};
 use entry::{Op, Sqe, by_opcode};
 
-/// The number of TIMEOUT among the facts.
+/// The number of NOP among the facts.
+pub const NOP: u8 = 0;
+
+/// That of TIMEOUT.
 pub const TIMEOUT: u8 = 2;
 
 /// That of LINK_TIMEOUT.
@@ -26,7 +29,7 @@ macro_rules! row_number {
 }
 
 macro_rules! number_of {
-    (0) => { 0 };
+    (0) => { NOP };
     (6) => { 1 };
     (11) => { TIMEOUT };
     (12) => { 3 };

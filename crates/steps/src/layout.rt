@@ -12,6 +12,15 @@ const FIRST_LINE: usize = 72;
 /// How many words a cell has.
 const LINE: usize = 8;
 
+/// The note word with the facts of a request.
+pub const FACTS: usize = 0;
+
+/// The note word with its user_data.
+pub const USER_DATA: usize = 1;
+
+/// The note word with the count of a TIMEOUT.
+pub const COUNT: usize = 2;
+
 /// The word of the clock.
 pub const CLOCK_WORD: usize = 0;
 

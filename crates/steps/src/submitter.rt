@@ -17,19 +17,10 @@ ghost use Rattle.steps.specs.Notes.{count_in, count_notes, facts_of, notes_of, w
 ghost use Rattle.steps.specs.Rule.{Extends, ExtendsAfter, ExtendsNoted, ExtendsTwice, IsStep, AreSteps, IsTwoSteps, Vacant, Fits, IsSameSeat, IsDone, IsOutcome};
 
 use crate::facts::{count_in, facts};
-use crate::layout::{claim_word, note_word, slot};
+use crate::layout::{COUNT, FACTS, USER_DATA, claim_word, note_word, slot};
 use crate::parcel::{Parcel, Thing, parcel_of};
 use crate::table::{TableSeat, Words};
 use crate::{claims, plays};
-
-/// The note word with the facts of a request.
-const FACTS: usize = 0;
-
-/// The note word with its user_data.
-const USER_DATA: usize = 1;
-
-/// The note word with the count of a TIMEOUT.
-const COUNT: usize = 2;
 
 /// Notes the facts, takes the slot of a cell that is free, and puts the parcel there.
 fn fill(

@@ -49,7 +49,7 @@ use Rattle.work.specs.Searches.{wanted_in}
 use Rattle.work.specs.declared.cancel.Wanted.{Wanted}
 use Rattle.work.specs.declared.lists.Lists.{Lists}
 use Rattle.work.specs.declared.run.Ran.{Ran}
-use Rattle.work.specs.WorkerRuns.{AreFew, DidReply, EndsBy, FoundOut, HasStepped, MissedPipe, StepsAt, StepsBy, op_run, run_as}
+use Rattle.work.specs.WorkerRuns.{AreFew, DidReply, EndsBy, FoundOut, MissedPipe, StepsAt, StepsBy, op_run, run_as}
 use Rattle.work.proofs.OwnEvents.{own_append, silent_line}
 use Rattle.work.proofs.PassesKept.{extended_of}
 
@@ -351,8 +351,8 @@ pub wanted_run : (op : Op) → wanted_in (op_run op) ≡ wanted_in op
 wanted_run (LinkTimeout ticks) = refl
 wanted_run op = refl
 
-pub steps_plain : (b : Running) (w : View) (e : Entry) (ran : Ran) → wanted_in e.op ≡ None → (named : NamedPipes) → AreNamed e.op (length b.pass.view.layout.caps) named → StepsAt named b.pass.view w b.req ran → HasStepped b w e ran
-steps_plain b w e ran is named are t = subst (λ (u : Option Wanted). StepsBy u b w e ran) (sym is) (named, are, t)
+pub steps_plain : (b : Running) (w : View) (e : Entry) (ran : Ran) → wanted_in e.op ≡ None → (named : NamedPipes) → AreNamed e.op (length b.pass.view.layout.caps) named → StepsAt 0 named b.pass.view w b.req ran → StepsBy 0 (wanted_in e.op) b w e ran
+steps_plain b w e ran is named are t = subst (λ (u : Option Wanted). StepsBy 0 u b w e ran) (sym is) (named, are, t)
 
 is_below : (caps : List ℕ) (n : ℕ) → is_pipe caps n ≡ true → n < length caps
 is_below caps n there = ltb-true n (length caps) there

@@ -16,7 +16,7 @@ use Rattle.steps.specs.Rule.{Looks, Extends}
 use Rattle.steps.proofs.ViewsKept.{layout_after}
 use Rattle.work.specs.declared.lists.Lists.{Lists}
 use Rattle.work.specs.declared.marks.Marks.{Marks}
-use Rattle.work.specs.Passes.{AreMarked, HasRooms, IsTask, RunsIt, with_sqe}
+use Rattle.work.specs.Passes.{AreMarked, HasRooms, IsTask, RunsIt, with_asked}
 use Rattle.work.specs.Searches.{WorkerSeat}
 use Rattle.work.proofs.MarksKept.{marked_after, marked_looked}
 use Rattle.work.proofs.RunsKept.{grid_on, runs_on, runs_look, runs_same, same_hit_looked, same_hit_silent}
@@ -75,9 +75,9 @@ task_parcel table K s x g r p pipes lists k c sqe last items = record {
   marked = k.marked;
 }
 
--- a parcel with the entry that it has
-pub its_own : (p : Parcel) (e : Entry) → p.sqe ≡ e → p ≡ with_sqe p e
-its_own p e is = λ i. with_sqe p (is i)
+-- a parcel that asks for what it has
+pub its_own : (p : Parcel) (e : Entry) → e.op ≡ p.sqe.op → e.user_data ≡ p.sqe.user_data → p ≡ with_asked p e
+its_own p e op user_data = λ i. record p { sqe = record p.sqe { user_data = sym user_data i; op = sym op i } }
 
 -- ---- the slots in hand
 

@@ -3,10 +3,12 @@ use Rattle.std.specs.Prelude.{◌≡◌, ◌≢◌, ℕ, suc, ◌+◌, ◌<◌, 
 use Rattle.atomic_table.specs.Seated.{TableId}
 use Rattle.atomic_table.specs.declared.shared.Seat.{Seat}
 use Rattle.entry.specs.Entry.{Entry}
+use Rattle.entry.specs.declared.op.Op.{Op}
+use Rattle.entry.specs.declared.op.Op.TheVariants.{Nop}
 use Rattle.history.specs.declared.req.Req.{Req}
 use Rattle.history.specs.declared.event.Event.{Event}
 use Rattle.history.specs.Chains.{is_timer}
-use Rattle.history.specs.History.{hit, nothing, phase, IsReplied}
+use Rattle.history.specs.History.{hit, nothing, phase, runs, IsReplied}
 use Rattle.history.specs.Pipes.{flow}
 use Rattle.history.specs.Users.{uses_at}
 use Rattle.answers.specs.Answered.{IsPipe}
@@ -130,14 +132,23 @@ pub record RunsIt (table : TableId) (v : View) (x g : ℕ) (r : Req) (p : Parcel
   pub orderly : Orderly v.layout v.seen
   pub legal : Legal (setup_of v.layout) (events_of v.seen)
 
+-- by what the worker has seen it runs the request, and has done nothing else yet
+abbrev pub IsUnderway : View → Req → Type 0
+IsUnderway v r = phase (events_of v.seen) r ≡ runs
+
+-- how many notes a worker reads to know what a request asks for: of a NOP its facts and its user_data, of any other its facts
+abbrev pub notes_read : Op → ℕ
+notes_read Nop = 2
+notes_read _ = 1
+
 -- its table has the cells of the rings that have so many each
 pub record IsGridOf (table : TableId) (K : List ℕ) (v : View) : Type 0 where
   pub cells_are : v.layout.cells ≡ K
   pub wide : table.words ≡ words_of (total K)
 
--- the parcel with this entry
-abbrev pub with_sqe : Parcel → Entry → Parcel
-with_sqe p e = record p { sqe = e }
+-- the parcel with the operation and the user_data of this entry
+abbrev pub with_asked : Parcel → Entry → Parcel
+with_asked p e = record p { sqe = record p.sqe { user_data = e.user_data; op = e.op } }
 
 -- what a worker has of the request that it runs. If that is a cancel, it has neither taken a request nor found one running, and there is room for a list of those that it takes
 pub record IsTask (table : TableId) (K : List ℕ) (s : Seat (Option Thing) View) (x g : ℕ) (r : Req) (p : Parcel) (pipes : ℕ) (lists : Lists) : Type 0 where

@@ -134,6 +134,13 @@ pub record FewSteps (v w : View) (n all : ℕ) : Type 0 where
   pub few : (x : ℕ) → steps_at (claim_at x) steps ≤ n
   pub most : length steps ≤ all
 
+-- all steps were looks at notes, exactly so many
+pub record ReadNotes (v w : View) (count : ℕ) : Type 0 where
+  pub steps : List Step
+  pub is : w.steps ≡ steps ++ v.steps
+  pub bare : (x : ℕ) → steps_at (claim_at x) steps ≡ 0
+  pub count_is : length steps ≡ count
+
 -- at most n steps at each claim word, fewer at that of the cell of c, and at most so many in all
 pub record FewerSteps (v w : View) (c : Req) (n all : ℕ) : Type 0 where
   pub steps : List Step

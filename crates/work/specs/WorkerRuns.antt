@@ -1,5 +1,5 @@
 -- What a run does.
-use Rattle.std.specs.Prelude.{◌≡◌, ◌≢◌, ◌⊎◌, ℕ, ◌*◌, ◌<◌, ◌≤◌, true, false, ℤ, pos, negsuc, List, [], ◌∷◌, ◌++◌, length, Option, Some, None}
+use Rattle.std.specs.Prelude.{◌≡◌, ◌≢◌, ◌⊎◌, ℕ, ◌+◌, ◌*◌, ◌<◌, ◌≤◌, true, false, ℤ, pos, negsuc, List, [], ◌∷◌, ◌++◌, length, Option, Some, None}
 use Rattle.entry.specs.declared.op.Op.{Op}
 use Rattle.entry.specs.declared.op.Op.TheVariants.{LinkTimeout, Invalid}
 use Rattle.entry.specs.Entry.{Entry}
@@ -31,7 +31,7 @@ use Rattle.work.specs.declared.run.Ran.TheVariants.{Replied, Parked}
 use Rattle.work.specs.declared.cancel.Searched.{Searched}
 use Rattle.work.specs.declared.cancel.Searched.TheVariants.{NoneLeft, Ended, Found}
 use Rattle.work.specs.declared.cancel.Wanted.{Wanted}
-use Rattle.work.specs.Passes.{Pass, Running, Took, seen_of, own_of}
+use Rattle.work.specs.Passes.{Pass, Running, Took, notes_read, seen_of, own_of}
 use Rattle.work.specs.Searches.{FewSteps, WentBy, wanted_in}
 
 -- what a worker runs: of the LINK_TIMEOUTs those alone that have no target, and are placed as Invalid
@@ -138,24 +138,25 @@ abbrev pub IsRun : Running → Pass → Ran → Type 0
 IsRun b w (Replied cqe) = DidReply b w cqe.res × ((e : Entry) → IsPlaced (seen_of b.pass) b.req e → cqe.user_data ≡ e.user_data)
 IsRun b w (Parked why) = EndsBy b.pass.view w.view b.req [] (Park b.req) × (w.took ≡ []) × ((e : Entry) → IsPlaced (seen_of b.pass) b.req e → (p : ℕ) × (p < length b.pass.view.layout.caps) × (uses_at e.op p ≡ true) × IsReason b.pass.view w.view b.req e p why)
 
--- the steps of a run that is no cancel's, by the pipes of the board that its entry names. Of two the source is taken first
-abbrev pub StepsAt : NamedPipes → View → View → Req → Ran → Type 0
-StepsAt Nothing v w r (Replied cqe) = Took v w 1
-StepsAt Nothing v w r (Parked why) = ⊥
-StepsAt (One p) v w r (Replied cqe) = Took v w 3
-StepsAt (One p) v w r (Parked NotReady) = Took v w 3
-StepsAt (One p) v w r (Parked PipeBusy) = Took v w 2
-StepsAt (Both s t) v w r (Replied cqe) = Took v w 5
-StepsAt (Both s t) v w r (Parked NotReady) = Took v w 5
-StepsAt (Both s t) v w r (Parked PipeBusy) = (Took v w 2 × FoundOut v w r s) ⊎ (Took v w 4 × FoundOut v w r t)
+-- the steps of a run that is no cancel's and read n notes, by the pipes of the board that its entry names. Of two the source is taken first
+abbrev pub StepsAt : ℕ → NamedPipes → View → View → Req → Ran → Type 0
+StepsAt n Nothing v w r (Replied cqe) = Took v w (1 + n)
+StepsAt n Nothing v w r (Parked why) = ⊥
+StepsAt n (One p) v w r (Replied cqe) = Took v w (3 + n)
+StepsAt n (One p) v w r (Parked NotReady) = Took v w (3 + n)
+StepsAt n (One p) v w r (Parked PipeBusy) = Took v w (2 + n)
+StepsAt n (Both s t) v w r (Replied cqe) = Took v w (5 + n)
+StepsAt n (Both s t) v w r (Parked NotReady) = Took v w (5 + n)
+StepsAt n (Both s t) v w r (Parked PipeBusy) = (Took v w (2 + n) × FoundOut v w r s) ⊎ (Took v w (4 + n) × FoundOut v w r t)
 
-abbrev pub StepsBy : Option Wanted → Running → View → Entry → Ran → Type 0
-StepsBy (Some u) b w e ran = FewSteps b.pass.view w 4 (5 * cells_in b.pass.view.layout.cells b.req.ring)
-StepsBy None b w e ran = (named : NamedPipes) × AreNamed e.op (length b.pass.view.layout.caps) named × StepsAt named b.pass.view w b.req ran
+-- a cancel takes at most four at each claim word, and beside its notes at most five for each cell of its ring in all
+abbrev pub StepsBy : ℕ → Option Wanted → Running → View → Entry → Ran → Type 0
+StepsBy n (Some u) b w e ran = FewSteps b.pass.view w 4 (n + 5 * cells_in b.pass.view.layout.cells b.req.ring)
+StepsBy n None b w e ran = (named : NamedPipes) × AreNamed e.op (length b.pass.view.layout.caps) named × StepsAt n named b.pass.view w b.req ran
 
--- the steps of a run: a cancel takes at most four at each claim word, and at most five for each cell of its ring in all
+-- the steps of a run, by what its entry asks for
 abbrev pub HasStepped : Running → View → Entry → Ran → Type 0
-HasStepped b w e ran = StepsBy (wanted_in e.op) b w e ran
+HasStepped b w e ran = StepsBy (notes_read e.op) (wanted_in e.op) b w e ran
 
 -- the run of r replied so with the pipe p in hand, and took along these: all that lay there
 abbrev pub TookAlong : Req → ℕ → ℤ → View → List Req → Type 0

@@ -21,6 +21,7 @@ use entry::{Op, by_opcode};
 use history::Req;
 use steps::claims::{Standing, looked_for, stands_at};
 use steps::facts::{LINK_TIMEOUT, TIMEOUT};
+use steps::layout::{FACTS, USER_DATA};
 use steps::{TableSeat, Words, cancels, seat};
 
 /// What a cancel asks for: the user_data of what it is meant for, whether that has to be a TIMEOUT, and whether it means all
@@ -96,11 +97,11 @@ fn may_match(words: &Words, seat: &mut TableSeat, target: Target, wanted: Wanted
     ensures meant { result ≡ true → (c : Request) → Cancels words.now.table_id seat.old c wanted → IsMeant seat.new.me.0 c (target_in seat.old target) }
     ensures steps { StepsIn seat.old.me.0 seat.new.me.0 target.cell 0 2 }
 {
-    let user_data = seat::look_at_note(words, seat, target.cell, 1);
+    let user_data = seat::look_at_note(words, seat, target.cell, USER_DATA);
     if user_data != wanted.user_data {
         return false;
     }
-    let facts = unpack_facts(seat::look_at_note(words, seat, target.cell, 0));
+    let facts = unpack_facts(seat::look_at_note(words, seat, target.cell, FACTS));
     facts.generation == target.generation && is_kind(facts.row, wanted.timeout)
 }
 

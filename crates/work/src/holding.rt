@@ -11,17 +11,18 @@ ghost use Rattle.steps.specs.declared.view.View.{View};
 ghost use Rattle.steps.specs.Cells.{claim_at, pipe_at};
 ghost use Rattle.steps.specs.Rule.{Extends, IsStep, IsTwoSteps, leaves};
 
-use crate::busy::Busy;
+use crate::answering::Answering;
 use crate::lists::{Lists, settle};
 use crate::task::{Task, answer_in};
 use crate::worker::Worker;
-use entry::{Cqe, fails};
+use entry::{Cqe, Sqe, fails};
 use std::marker::Model;
 use steps::{TableSeat, Thing, WaitedPipe, pipes};
 
 /// A worker that runs a request, and has taken a pipe that its entry is answered from.
 pub(crate) struct Holding<'a> {
     pub(crate) task: Task<'a>,
+    pub(crate) asked: Sqe,
     pub(crate) seat: TableSeat,
     pub(crate) lists: Box<Lists>,
     pub(crate) pipe: usize,
@@ -29,14 +30,14 @@ pub(crate) struct Holding<'a> {
 }
 
 impl<'a> Model for Holding<'a> {
-    ghost use Rattle.work.specs.Passes.{Holding as Held, pass_of, with_sqe, IsHoldingSeat};
+    ghost use Rattle.work.specs.Passes.{Holding as Held, pass_of, with_asked, IsHoldingSeat};
     ghost use Rattle.steps.specs.declared.parcel.Parcel.{Parcel};
 
     ghost Value = { Held };
 
     ghost view = { λ h. record { pass = pass_of h.seat; req = h.task.req; pipe = h.pipe } };
 
-    ghost invariant = { λ h. (z : Parcel) × IsHoldingSeat h.task.words.now.table_id h.task.grid.now h.seat h.task.cell h.task.generation h.task.req (with_sqe z h.task.sqe) h.task.pipes h.pipe h.waited h.lists.value };
+    ghost invariant = { λ h. (z : Parcel) × IsHoldingSeat h.task.words.now.table_id h.task.grid.now h.seat h.task.cell h.task.generation h.task.req (with_asked z h.asked) h.task.pipes h.pipe h.waited h.lists.value };
 }
 
 impl<'a> Holding<'a> {
@@ -45,7 +46,7 @@ impl<'a> Holding<'a> {
 
     /// Answers the request by its pipe, and gives the pipe back, from which it takes along all that lie there; or gives it back as it
     /// was and lays the request down there, where there is no answer now.
-    pub(crate) fn answer(self) -> Result<(Worker, Cqe), Busy<'a>>
+    pub(crate) fn answer(self) -> Result<(Worker, Cqe), Answering<'a>>
         requires named { (e : Entry) → IsPlaced (seen_of self.pass) self.req e → UsesOne e.op (length self.pass.view.layout.caps) self.pipe }
         ensures replied { IfOk result (λ t. (t.0.table ≡ self.entry.pass.table) × (data' : List ℕ) × (mid : View) × Extends self.entry.pass.view (Did (Reply self.entry.req t.1.res data')) (Leaving self.entry.req) mid × (found : ℕ) × (t.0.view ≡ leaves (pipe_at self.entry.pipe) found mid)) }
         ensures took { IfOk result (λ t. t.0.took ≡ []) }
@@ -57,6 +58,7 @@ impl<'a> Holding<'a> {
     {
         let Holding {
             task,
+            asked,
             mut seat,
             mut lists,
             pipe,
@@ -67,12 +69,11 @@ impl<'a> Holding<'a> {
             cell,
             generation,
             req,
-            sqe,
             ..
         } = task;
         let found = &mut *lists;
         seat.turn();
-        let answer = answer_in(words, &mut seat, cell, sqe.op(), &mut waited.pipe);
+        let answer = answer_in(words, &mut seat, cell, asked.op(), &mut waited.pipe);
         seat.turn();
         let laid = settle(&mut waited.lying, &mut found.woken, req, answer.is_some());
         let None = words.exchange(&mut seat, pipe, Some(Thing::Piped(waited))) else {
@@ -80,12 +81,17 @@ impl<'a> Holding<'a> {
         };
         let Some(res) = answer else {
             pipes::free(words, &mut seat, pipe, laid);
-            return Err(Busy { task, seat, lists });
+            return Err(Answering {
+                task,
+                asked,
+                seat,
+                lists,
+            });
         };
         seat.turn();
-        let fails = fails(&sqe, res);
+        let fails = fails(&asked, res);
         let cqe = Cqe {
-            user_data: sqe.user_data(),
+            user_data: asked.user_data(),
             res,
         };
         pipes::reply(words, &mut seat, cell, generation, fails, res, pipe);

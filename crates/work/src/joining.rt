@@ -17,20 +17,21 @@ ghost use Rattle.steps.specs.Rule.{Looks, Extends, IsStep, IsThreeSteps, leaves,
 ghost use Rattle.steps.specs.Plays.{HasBoth};
 ghost use Rattle.work.specs.Board.{Facts, IsOf};
 
-use crate::busy::Busy;
+use crate::answering::Answering;
 use crate::holding::Holding;
 use crate::lists::{Lists, settle_once};
 use crate::run::{Parked, Ran};
 use crate::task::Task;
 use crate::worker::Worker;
 use answers::answer_both;
-use entry::{Cqe, fails};
+use entry::{Cqe, Sqe, fails};
 use std::marker::Model;
 use steps::{Laid, TableSeat, Thing, WaitedPipe, parcel, pipes};
 
 /// A worker that runs a SPLICE, and has taken both pipes that its entry joins.
 pub(crate) struct Joining<'a> {
     pub(crate) task: Task<'a>,
+    pub(crate) asked: Sqe,
     pub(crate) seat: TableSeat,
     pub(crate) lists: Box<Lists>,
     pub(crate) source: usize,
@@ -40,14 +41,14 @@ pub(crate) struct Joining<'a> {
 }
 
 impl<'a> Model for Joining<'a> {
-    ghost use Rattle.work.specs.Passes.{Joining as Joined, pass_of, with_sqe, IsJoiningSeat};
+    ghost use Rattle.work.specs.Passes.{Joining as Joined, pass_of, with_asked, IsJoiningSeat};
     ghost use Rattle.steps.specs.declared.parcel.Parcel.{Parcel};
 
     ghost Value = { Joined };
 
     ghost view = { λ k. record { pass = pass_of k.seat; req = k.task.req; source = k.source; target = k.target } };
 
-    ghost invariant = { λ k. (z : Parcel) × IsJoiningSeat k.task.words.now.table_id k.task.grid.now k.seat k.task.cell k.task.generation k.task.req (with_sqe z k.task.sqe) k.task.pipes k.source k.target k.from k.into k.lists.value };
+    ghost invariant = { λ k. (z : Parcel) × IsJoiningSeat k.task.words.now.table_id k.task.grid.now k.seat k.task.cell k.task.generation k.task.req (with_asked z k.asked) k.task.pipes k.source k.target k.from k.into k.lists.value };
 }
 
 impl<'a> Holding<'a> {
@@ -55,7 +56,7 @@ impl<'a> Holding<'a> {
     ghost use Rattle.work.specs.WorkerRuns.{MissedPipe};
 
     /// Takes the target of a SPLICE, whose source it has; or gives the source back, where another worker has the target.
-    fn hold(self, target: usize) -> Result<Joining<'a>, Busy<'a>>
+    fn hold(self, target: usize) -> Result<Joining<'a>, Answering<'a>>
         requires named { (e : Entry) → IsPlaced (seen_of self.pass) self.req e → UsesBoth e.op (length self.pass.view.layout.caps) self.pipe target }
         ensures held { IfOk result (λ k. (k.req ≡ self.entry.req) × (k.source ≡ self.entry.pipe) × (k.target ≡ target) × (k.pass.table ≡ self.entry.pass.table) × IsStep (pipe_at target) 0 self.entry.pass.view k.pass.view × Extends self.entry.pass.view (Hold self.entry.req target) (RoleBusy self.entry.req) k.pass.view × HasBoth k.pass.view.seen self.entry.pipe target self.entry.req) }
         ensures busy { IfErr result (λ b. (b.req ≡ self.entry.req) × (b.pass.table ≡ self.entry.pass.table) × (mid : View) × Looks self.entry.pass.view mid × MissedPipe self.entry.pass.view mid target self.entry.req × Extends mid (Free self.entry.req self.entry.pipe NoRequest) (RoleBusy self.entry.req) b.pass.view × ((found : ℕ) × IsStep (pipe_at self.entry.pipe) found mid b.pass.view)) }
@@ -63,6 +64,7 @@ impl<'a> Holding<'a> {
     {
         let Holding {
             task,
+            asked,
             mut seat,
             mut lists,
             pipe,
@@ -74,11 +76,17 @@ impl<'a> Holding<'a> {
                 unreachable!()
             };
             pipes::free(words, &mut seat, pipe, Laid::NoRequest);
-            return Err(Busy { task, seat, lists });
+            return Err(Answering {
+                task,
+                asked,
+                seat,
+                lists,
+            });
         }
         let thing = words.exchange(&mut seat, target, None);
         Ok(Joining {
             task,
+            asked,
             seat,
             lists,
             source: pipe,
@@ -95,7 +103,7 @@ impl<'a> Joining<'a> {
 
     /// Answers the request by its pipes, and gives them back, from which it takes along all that lie there; or gives them back as
     /// they were and lays the request down at each where it does not lie already, where there is no answer now.
-    fn answer(self) -> Result<(Worker, Cqe), Busy<'a>>
+    fn answer(self) -> Result<(Worker, Cqe), Answering<'a>>
         ensures replied { IfOk result (λ t. (t.0.table ≡ self.entry.pass.table) × (mid : View) × Extends self.entry.pass.view (Did (Reply self.entry.req t.1.res [])) (Leaving self.entry.req) mid × (found : ℕ) × (last : ℕ) × (t.0.view ≡ leaves (pipe_at self.entry.source) last (leaves_one self.entry.req self.entry.source (pipe_at self.entry.target) found mid))) }
         ensures took { IfOk result (λ t. t.0.took ≡ []) }
         ensures woken { IfOk result (λ t. (a : List Request) × (b : List Request) × TookAlong self.entry.req self.entry.source t.1.res t.0.view a × TookAlong self.entry.req self.entry.target t.1.res t.0.view b × (t.0.woken ≡ a ++ b)) }
@@ -107,6 +115,7 @@ impl<'a> Joining<'a> {
     {
         let Joining {
             task,
+            asked,
             mut seat,
             mut lists,
             source,
@@ -119,11 +128,10 @@ impl<'a> Joining<'a> {
             cell,
             generation,
             req,
-            sqe,
             ..
         } = task;
         let found = &mut *lists;
-        let answer = answer_both(sqe.op(), &mut from.pipe, &mut into.pipe);
+        let answer = answer_both(asked.op(), &mut from.pipe, &mut into.pipe);
         let answered = answer.is_some();
         let under = settle_once(&mut from.lying, &mut found.source, req, answered);
         let laid = settle_once(&mut into.lying, &mut found.woken, req, answered);
@@ -136,16 +144,21 @@ impl<'a> Joining<'a> {
                 unreachable!()
             };
             pipes::free(words, &mut seat, source, under);
-            return Err(Busy { task, seat, lists });
+            return Err(Answering {
+                task,
+                asked,
+                seat,
+                lists,
+            });
         };
         seat.turn();
         let None = words.exchange(&mut seat, source, Some(Thing::Piped(from))) else {
             unreachable!()
         };
         seat.turn();
-        let fails = fails(&sqe, res);
+        let fails = fails(&asked, res);
         let cqe = Cqe {
-            user_data: sqe.user_data(),
+            user_data: asked.user_data(),
             res,
         };
         pipes::reply_both(
@@ -156,7 +169,7 @@ impl<'a> Joining<'a> {
     }
 }
 
-impl<'a> Busy<'a> {
+impl<'a> Answering<'a> {
     ghost use Rattle.work.specs.Passes.{seen_of};
     ghost use Rattle.work.specs.WorkerRuns.{StepsAt, IsRun, WakesAt};
 
@@ -167,7 +180,7 @@ impl<'a> Busy<'a> {
         ensures kept { (b : Facts) → IsOf b self.entry.pass → IsOf b result.0 }
         ensures took { result.0.took ≡ [] }
         ensures woken { WakesAt (Both source target) self.entry result.0 result.1 }
-        ensures steps { StepsAt (Both source target) self.entry.pass.view result.0.view self.entry.req result.1 }
+        ensures steps { StepsAt 0 (Both source target) self.entry.pass.view result.0.view self.entry.req result.1 }
         ensures ran { IsRun self.entry result.0 result.1 }
     {
         prove!(source < self.task.pipes);

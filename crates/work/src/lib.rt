@@ -2,6 +2,7 @@
 #![tactic(auto)]
 
 mod advance;
+mod answering;
 pub mod busy;
 mod cancel;
 pub mod grid;

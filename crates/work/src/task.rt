@@ -1,22 +1,27 @@
 //! The request that a worker runs.
-ghost use Rattle.std.specs.Prelude.{◌≡◌, ◌<◌, ◌∷◌, Some, length};
+ghost use Rattle.std.specs.Prelude.{◌≡◌, ℕ, ◌<◌, ◌∷◌, Some, length};
 ghost use Rattle.atomic_table.specs.Table.{rest};
 ghost use Rattle.answers.specs.Answered.{Answered};
 ghost use Rattle.answers.specs.NamedEnds.{UsesSome};
+ghost use Rattle.history.specs.declared.req.Req.{Req as Request};
 ghost use Rattle.history.specs.Legal.{FitsOp};
 ghost use Rattle.steps.specs.declared.parcel.Parcel.{Parcel};
 ghost use Rattle.steps.specs.declared.parcel.Thing.TheVariants.{Full};
 ghost use Rattle.steps.specs.Cells.{slot_at};
-ghost use Rattle.steps.specs.Rule.{IsSameSeat};
+ghost use Rattle.steps.specs.Rule.{IsSameSeat, Looks};
+ghost use Rattle.work.specs.Passes.{IsUnderway, RunsIt, notes_read};
+ghost use Rattle.work.specs.Searches.{ReadNotes};
 
 use crate::grid::Grid;
 use answers::answer_with;
+use claim::unpack_facts;
 use entry::{Op, Sqe};
 use history::Req;
 use pipe::Pipe;
-use steps::layout::slot;
+use steps::facts::NOP;
+use steps::layout::{FACTS, USER_DATA, slot};
 use steps::parcel::parcel_of;
-use steps::{TableSeat, Thing, Words};
+use steps::{TableSeat, Thing, Words, seat};
 
 /// What a worker knows of the request that it runs. The parcel stays in its slot, which is the worker's until it replies or parks; only
 /// the answer of a pipe takes it out, for its buffer.
@@ -27,7 +32,6 @@ pub(crate) struct Task<'a> {
     pub(crate) cell: usize,
     pub(crate) generation: u32,
     pub(crate) req: Req,
-    pub(crate) sqe: Sqe,
     pub(crate) pipes: usize,
 }
 
@@ -43,6 +47,23 @@ pub(crate) fn entry_in(words: &Words, seat: &mut TableSeat, cell: usize) -> Sqe
         unreachable!()
     };
     parcel.sqe
+}
+
+/// What the request asks for that the seat runs: an entry with its operation and its user_data. Those of a NOP are read off its notes, and
+/// its slot is left alone, so that the submitter has it at hand when it takes it back. Any other's are its parcel's.
+pub(crate) fn asked_of(words: &Words, seat: &mut TableSeat, cell: usize) -> Sqe
+    requires table { seat.old.table_id ≡ words.now.table_id }
+    requires underway { (g : ℕ) × (r : Request) × (p : Parcel) × (n : ℕ) × RunsIt words.now.table_id seat.old.me.0 cell g r p n × IsUnderway seat.old.me.0 r × (seat.old.me.1 ≡ (slot_at cell, Some (Full p)) ∷ rest seat.old.me.1) }
+    ensures seat { IsSameSeat seat.old seat.new × (seat.new.me.1 ≡ seat.old.me.1) }
+    ensures looks { Looks seat.old.me.0 seat.new.me.0 }
+    ensures asked { (g : ℕ) (r : Request) (p : Parcel) (n : ℕ) → RunsIt words.now.table_id seat.old.me.0 cell g r p n → IsUnderway seat.old.me.0 r → seat.old.me.1 ≡ (slot_at cell, Some (Full p)) ∷ rest seat.old.me.1 → (result.op ≡ p.sqe.op) × (result.user_data ≡ p.sqe.user_data) × ReadNotes seat.old.me.0 seat.new.me.0 (notes_read p.sqe.op) }
+{
+    let facts = unpack_facts(seat::look_at_note(words, seat, cell, FACTS));
+    if facts.row != NOP {
+        return entry_in(words, seat, cell);
+    }
+    let user_data = seat::look_at_note(words, seat, cell, USER_DATA);
+    Sqe::of_row(Op::Nop.row(), 0, user_data)
 }
 
 /// Answers the operation by the pipe, where it has an answer now, with the buffer of the parcel in the slot that the seat took last.

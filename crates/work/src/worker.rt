@@ -11,7 +11,7 @@ use crate::busy::Busy;
 use crate::grid::Grid;
 use crate::lists::Lists;
 use crate::pass::{Messenger, Pass};
-use crate::task::{Task, entry_in};
+use crate::task::Task;
 use claim::GENERATIONS;
 use history::Req;
 use std::marker::Model;
@@ -135,14 +135,12 @@ impl Worker {
         if !seat::begin(words, &mut seat, spot.cell, generation) {
             return Err(Worker { seat, lists });
         }
-        let sqe = entry_in(words, &mut seat, spot.cell);
         let task = Task {
             words,
             grid,
             cell: spot.cell,
             generation,
             req,
-            sqe,
             pipes,
         };
         Ok(Busy { task, seat, lists })

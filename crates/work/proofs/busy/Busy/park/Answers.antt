@@ -7,19 +7,19 @@ use Rattle.steps.specs.declared.parcel.Thing.TheVariants.{Full}
 use Rattle.steps.specs.declared.view.Role.TheVariants.{Idle}
 use Rattle.steps.specs.declared.view.View.{View}
 use Rattle.steps.specs.Cells.{request_at, slot_at, IsParcel}
-use Rattle.work.specs.Passes.{Pass, Running, with_sqe}
+use Rattle.work.specs.Passes.{Pass, Running}
 use Rattle.work.proofs.MarksKept.{marked_after}
 use Rattle.work.proofs.PassesKept.{took_one}
 use Rattle.work.proofs.TaskKept.{in_front}
 use Rattle.work.proofs.busy.Busy.park.Goals as goal
 
 pub park-requires-clause-parcel : goal.park-requires-clause-parcel
-park-requires-clause-parcel c = let own = c.self.inside in let b = own.task in let p : Parcel = with_sqe c.self.invariant.0 b.sqe in let i = c.self.invariant.1 in
+park-requires-clause-parcel c = let own = c.self.inside in let b = own.task in let p : Parcel = c.self.invariant.1 in let i = c.self.invariant.2 in
     (p, in_front own.seat.me.1 (slot_at b.cell, Some (Full p)) _ i.out, subst (λ (q : Req). IsParcel own.seat.me.0.seen q [] p) (sym i.task.runs.req_is) i.task.runs.parcel)
 
 pub after-requires-clause-marked : goal.after-requires-clause-marked
 after-requires-clause-marked c = let own = c.self.inside in let b = own.task in let w : View = c.park.new.seat.me.0 in
-    marked_after own.lists.value.marks own.seat.me.0 w (Did (Park (request_at own.seat.me.0.layout.cells b.cell b.generation))) Idle c.park.ensures.parks c.self.invariant.1.task.marked
+    marked_after own.lists.value.marks own.seat.me.0 w (Did (Park (request_at own.seat.me.0.layout.cells b.cell b.generation))) Idle c.park.ensures.parks c.self.invariant.2.task.marked
 
 pub returns-clause-steps : goal.returns-clause-steps
 returns-clause-steps c = took_one c.args.self.pass.view c.self.inside.seat.me.0 c.park.new.seat.me.0 c.after.result.view _ _ (ap (λ (r : Running). r.pass.view) c.self.view_is) c.park.ensures.step (ap (λ (p : Pass). p.view) c.after.ensures)
