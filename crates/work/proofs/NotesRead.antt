@@ -1,10 +1,9 @@
 -- What the notes of a request tell the worker that runs it; and what a run came to that began with looks at them.
-use Rattle.std.proofs.Common.{◌≡◌, ◌≢◌, ◌⊎◌, ⊎_elim, inl, inr, ℕ, ◌+◌, ◌*◌, ◌<◌, ◌==◌, ne_eqb, Bool, true, false, cond, true≢false, ℤ, List, [], ◌∷◌, ◌++◌, length, Option, Some, None, IsTrue, sym, refl, ap, ◌∙◌, subst, arith, length-append}
+use Rattle.std.proofs.Common.{◌≡◌, ◌⊎◌, ⊎_elim, inl, inr, ℕ, ◌+◌, ◌*◌, ◌==◌, ne_eqb, Bool, true, false, cond, ℤ, List, [], ◌∷◌, ◌++◌, Option, Some, None, IsTrue, sym, refl, ap, ◌∙◌, subst, arith, length-append}
 use Rattle.std.proofs.lemmas.List.{append_assoc}
 use Rattle.atomic_table.specs.Seated.{TableId}
 use Rattle.answers.specs.declared.named.NamedPipes.{NamedPipes}
 use Rattle.answers.specs.declared.named.NamedPipes.TheVariants.{Nothing, One, Both}
-use Rattle.answers.specs.NamedEnds.{AreNamed}
 use Rattle.claim.specs.Facts.{Facts, packed_facts, fits_facts}
 use Rattle.entry.specs.declared.op.Op.{Op}
 use Rattle.entry.specs.declared.op.Op.TheVariants.{Nop, PollAdd, Timeout, TimeoutRemove, AsyncCancel, LinkTimeout, Close, Read, Write, Splice, Invalid}
@@ -12,14 +11,13 @@ use Rattle.entry.specs.Entry.{Entry}
 use Rattle.history.specs.declared.req.Req.{Req}
 use Rattle.history.specs.declared.event.Event.{Event}
 use Rattle.history.specs.declared.event.Event.TheVariants.{Begin, Park, Reply}
-use Rattle.history.specs.History.{Cause, Submission, phase, replied, runs, submission, unborn, was_shut}
+use Rattle.history.specs.History.{Cause, phase, replied, runs, submission, unborn, was_shut}
 use Rattle.history.specs.Chains.{IsPlaced}
 use Rattle.history.specs.Legal.{Legal, Setup}
 use Rattle.history.proofs.Requests.{bool_cases, same_itself}
 use Rattle.steps.specs.declared.line.Line.{Line}
 use Rattle.steps.specs.declared.line.Line.TheVariants.{Did}
 use Rattle.steps.specs.declared.parcel.Parcel.{Parcel}
-use Rattle.steps.specs.declared.view.Layout.{Layout}
 use Rattle.steps.specs.declared.view.Role.{Role}
 use Rattle.steps.specs.declared.view.Role.TheVariants.{Busy}
 use Rattle.steps.specs.declared.view.Step.{Step}
@@ -39,9 +37,9 @@ use Rattle.work.specs.declared.run.Ran.{Ran}
 use Rattle.work.specs.declared.run.Ran.TheVariants.{Replied, Parked}
 use Rattle.work.specs.Passes.{IsUnderway, Pass, RunsIt, Running, Took, notes_read, own_of, seen_of}
 use Rattle.work.specs.Searches.{FewSteps, ReadNotes, steps_at, wanted_in}
-use Rattle.work.specs.WorkerRuns.{DidReply, EndsBy, FoundOut, HasStepped, HasWoken, IsReason, IsRun, LaidDown, NoAnswer, StepsAt, StepsBy, WakesAt, op_run, run_as}
+use Rattle.work.specs.WorkerRuns.{EndsBy, FoundOut, HasStepped, HasWoken, IsReason, IsRun, LaidDown, StepsAt, StepsBy, WakesAt, op_run, run_as}
 use Rattle.work.proofs.CancelSearch.{steps_both}
-use Rattle.work.proofs.RunsKept.{begins_both, runs_look, runs_placed, took_both}
+use Rattle.work.proofs.RunsKept.{begins_both, runs_placed, took_both}
 
 -- ---- the notes of what runs are its own
 

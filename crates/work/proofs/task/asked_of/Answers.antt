@@ -1,10 +1,8 @@
-use Rattle.std.proofs.Common.{rules, ◌≡◌, ℕ, ◌<◌, ◌∷◌, ◌∙◌, List, Option, Some, arith, refl, sym, ap, subst}
+use Rattle.std.proofs.Common.{rules, ℕ, ◌∙◌, Some, refl, sym, ap, subst}
 use Rattle.std.proofs.lemmas.Bool.{lt-ltb}
-use Rattle.atomic_table.specs.Table.{rest}
 use Rattle.claim.specs.Facts.{Facts}
 use Rattle.entry.specs.declared.op.Op.TheVariants.{Nop}
 use Rattle.entry.specs.Entry.{Entry}
-use Rattle.steps.specs.declared.parcel.Thing.{Thing}
 use Rattle.steps.specs.declared.parcel.Thing.TheVariants.{Full}
 use Rattle.steps.specs.declared.view.View.{View}
 use Rattle.steps.specs.Cells.{slot_at}

@@ -1,4 +1,4 @@
-use Rattle.std.proofs.Common.{◌≡◌, ℕ, suc, ◌≤◌, List, [], Some, sym, refl, ap, ◌∙◌, subst}
+use Rattle.std.proofs.Common.{[], Some, sym, ap, subst}
 use Rattle.history.specs.declared.req.Req.{Req}
 use Rattle.history.specs.declared.event.Event.TheVariants.{Park}
 use Rattle.steps.specs.declared.line.Line.TheVariants.{Did}

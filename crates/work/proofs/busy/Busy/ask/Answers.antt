@@ -1,9 +1,6 @@
-use Rattle.std.proofs.Common.{◌≡◌, ℕ, ◌∷◌, [], List, Option, Some, sym, ap, ◌∙◌, subst}
+use Rattle.std.proofs.Common.{◌≡◌, Some, sym, ap, ◌∙◌, subst}
 use Rattle.entry.specs.Entry.{Entry}
-use Rattle.history.specs.declared.req.Req.{Req}
 use Rattle.history.specs.Chains.{IsPlaced}
-use Rattle.history.specs.Legal.{Legal, Setup}
-use Rattle.steps.specs.declared.line.Line.{Line}
 use Rattle.steps.specs.declared.parcel.Parcel.{Parcel}
 use Rattle.steps.specs.declared.parcel.Thing.TheVariants.{Full}
 use Rattle.steps.specs.declared.view.Role.TheVariants.{Busy}
@@ -11,7 +8,7 @@ use Rattle.steps.specs.declared.view.View.{View}
 use Rattle.steps.specs.Cells.{slot_at}
 use Rattle.steps.specs.Journal.{events_of}
 use Rattle.steps.proofs.PipeSteps.{lacks_after}
-use Rattle.work.specs.Passes.{IsBusySeat, Running, notes_read, seen_of, with_asked}
+use Rattle.work.specs.Passes.{IsBusySeat, Running, notes_read, seen_of}
 use Rattle.work.specs.Searches.{ReadNotes}
 use Rattle.work.proofs.NotesRead.{placed_looked, reads_run}
 use Rattle.work.proofs.RunsKept.{runs_entry}

@@ -1,4 +1,4 @@
-use Rattle.std.proofs.Common.{◌≡◌, ℕ, subst}
+use Rattle.std.proofs.Common.{subst}
 use Rattle.entry.specs.Entry.{Entry}
 use Rattle.history.specs.declared.req.Req.{Req}
 use Rattle.history.specs.Chains.{IsPlaced}

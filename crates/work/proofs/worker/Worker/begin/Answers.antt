@@ -2,12 +2,10 @@ use Rattle.std.proofs.Common.{◌≡◌, ◌≢◌, ℕ, ◌<◌, List, [], ◌�
 use Rattle.history.specs.declared.req.Req.{Req}
 use Rattle.history.specs.declared.event.Event.TheVariants.{Begin}
 use Rattle.steps.specs.declared.line.Line.TheVariants.{Did}
-use Rattle.steps.specs.declared.parcel.Parcel.{Parcel}
 use Rattle.steps.specs.declared.parcel.Thing.TheVariants.{Full}
 use Rattle.steps.specs.declared.view.Role.TheVariants.{Busy as RoleBusy}
 use Rattle.steps.specs.Cells.{IsCell, IsParcel, request_at, slot_at, total, words_of}
 use Rattle.steps.specs.Journal.{holder}
-use Rattle.steps.specs.Plays.{Seated}
 use Rattle.steps.specs.Rule.{Extends}
 use Rattle.steps.proofs.ViewsKept.{layout_after}
 use Rattle.work.specs.Passes.{Pass, HasRooms, IsTask}
