@@ -1,7 +1,7 @@
 -- What is tested of a batch, and what its submission comes to, entry by entry.
-use Rattle.std.proofs.Common.{◌≡◌, ℕ, zero, suc, ◌+◌, ◌/◌, ◌==◌, ◌<◌, ◌≤◌, Bool, cond, true, false, List, [], ◌∷◌, ◌++◌, Some, None, length, drop, reverse, get_or, sym, refl, ap, ◌∙◌, subst, arith, eq-eqb, ne_eqb, append-nil}
+use Rattle.std.proofs.Common.{◌≡◌, ℕ, zero, suc, ◌+◌, ◌/◌, ◌==◌, ◌<◌, ◌≤◌, Bool, cond, true, false, List, [], ◌∷◌, ◌++◌, Some, None, length, drop, get_or, sym, refl, ap, ◌∙◌, subst, arith, eq-eqb, ne_eqb, append-nil}
 use Rattle.std.proofs.Math.Seq.{drop-cons}
-use Rattle.std.proofs.lemmas.List.{append_assoc, reverse-append}
+use Rattle.std.proofs.lemmas.List.{append_assoc}
 use Rattle.std.specs.Global.{Vec}
 use Rattle.entry.specs.Entry.{Entry}
 use Rattle.history.specs.declared.req.Req.{Req}
@@ -132,10 +132,6 @@ counted_notes c m false = refl
 pub took_noted : (c : ℕ) (e : Entry) (v w : View) → AreSteps (facts_at c ∷ words_in (notes_of c e)) (claim_at c) v w → Took v w (steps_for e)
 took_noted c e v w x = subst (λ (n : ℕ). Took v w n) (counted_notes c (count_of e.op) (is_timeout e.op)) (took_each (facts_at c ∷ words_in (notes_of c e)) (claim_at c) v w x)
 
--- the entry that is taken off the end of a list turned round
-pub popped : (xs ys : Entries) (x : Entry × Vec ℕ) → xs ≡ ys ++ x ∷ [] → reverse xs ≡ x ∷ reverse ys
-popped xs ys x is = ap reverse is ∙ reverse-append ys (x ∷ [])
-
 pub empty_is : (xs : Entries) → is_empty xs ≡ (length xs == 0)
 empty_is [] = refl
 empty_is (x ∷ xs) = sym (ne_eqb (length (x ∷ xs)) 0 (λ e. let n : ℕ = length xs in omega arith))
@@ -150,18 +146,9 @@ module _ (b : Facts) (p q : Pass) (ring k : ℕ) (all rest : Entries) (x : Entry
       subst (λ (z : ℕ). IsFree b.layout.cells (seen_of q) (nth z (submits (seen_of q) z)) × (submits (seen_of q) z / cells_in b.layout.cells z < 16777215)) r
       (subst (λ (z : ℕ). IsFree b.layout.cells (seen_of q) (nth ring z)) at (g.ready.free 0 (let n : ℕ = length rest in omega arith)), subst (λ (z : ℕ). z / cells_in b.layout.cells ring < 16777215) at (g.ready.fresh 0 (let n : ℕ = length rest in omega arith)))
 
--- nothing is left
-pub reverse_none : (xs : Entries) → length xs ≡ 0 → reverse xs ≡ []
-reverse_none [] e = refl
-reverse_none (x ∷ xs) e = absurd (let n : ℕ = length xs in omega arith)
-
 pub going_end : (b : Facts) (p q : Pass) (ring k : ℕ) (all rest : Entries) → rest ≡ [] → Going b p q ring k all rest → Goes b p (submits_of ring k all) q × Took p.view q.view (steps_in all)
 going_end b p q ring k all rest none g = let e : submits_of ring k all ≡ g.done = g.events ∙ ap (λ (z : Entries). submits_of ring g.at z ++ g.done) none in let t = g.took in let n : steps_in all ≡ t.0 = (let z : steps_in rest ≡ 0 = ap steps_in none in let c = t.2 in omega arith) in
     (subst (λ (es : List Event). Goes b p es q) (sym e) g.goes, subst (λ (m : ℕ). Took p.view q.view m) (sym n) t.1)
-
-pub turned_back : (xs : Entries) → reverse (reverse xs) ≡ xs
-turned_back [] = refl
-turned_back (x ∷ xs) = ap reverse (reverse-append (x ∷ []) xs) ∙ (reverse-append (reverse xs) (x ∷ []) ∙ ap (λ (z : Entries). x ∷ z) (turned_back xs))
 
 -- why there was no room for a batch
 pub batch_reason : (b : Facts) (xs : Entries) (ring k : ℕ) (p q : Pass) (error : SubmitError) → AreFit xs → RefusesRoom b.layout.cells ring k (length xs) p q error → RefusesBatch b xs ring k p q error

@@ -1,5 +1,5 @@
 //! The submission of an entry, and of a batch.
-ghost use Rattle.std.specs.Prelude.{◌≡◌, ℕ, ◌+◌, ◌/◌, ◌<◌, ◌≤◌, true, [], ◌∷◌, Some, length, reverse, IfOk, IfErr};
+ghost use Rattle.std.specs.Prelude.{◌≡◌, ℕ, ◌+◌, ◌/◌, ◌<◌, ◌≤◌, true, [], ◌∷◌, Some, length, IfOk, IfErr};
 ghost use Rattle.history.specs.declared.event.Event.TheVariants.{Submit};
 ghost use Rattle.history.specs.History.{submits};
 ghost use Rattle.history.specs.Chains.{before_in};
@@ -76,20 +76,19 @@ impl Board {
             return Err((error, batch));
         }
         let req = submitter.next_request();
-        let mut left = batch;
-        left.reverse();
-        self.submit_all(submitter, left);
+        self.submit_all(submitter, batch);
         Ok(req)
     }
 
-    /// Submits these entries, the last one first, as the ring's next requests, whose cells are free.
-    fn submit_all(&self, submitter: &mut Submitter, mut left: Vec<(Sqe, Vec<u8>)>)
-        requires ready { (ring : ℕ) × IsReady self.now submitter.old ring (submits (seen_of submitter.old) ring) (reverse left.items) }
-        ensures submitted { (ring : ℕ) → submitter.old.view.role ≡ SubmitterRole ring → Goes self.now submitter.old (submits_of ring (submits (seen_of submitter.old) ring) (reverse left.items)) submitter.new }
-        ensures steps { Took submitter.old.view submitter.new.view (steps_in (reverse left.items)) }
+    /// Submits these entries, in order, as the ring's next requests, whose cells are free.
+    fn submit_all(&self, submitter: &mut Submitter, batch: Vec<(Sqe, Vec<u8>)>)
+        requires ready { (ring : ℕ) × IsReady self.now submitter.old ring (submits (seen_of submitter.old) ring) batch.items }
+        ensures submitted { (ring : ℕ) → submitter.old.view.role ≡ SubmitterRole ring → Goes self.now submitter.old (submits_of ring (submits (seen_of submitter.old) ring) batch.items) submitter.new }
+        ensures steps { Took submitter.old.view submitter.new.view (steps_in batch.items) }
     {
-        while let Some((sqe, buffer)) = left.pop() {
-            let last = left.is_empty();
+        let mut left = batch.into_iter();
+        while let Some((sqe, buffer)) = left.next() {
+            let last = left.len() == 0;
             let parcel = Parcel { sqe, buffer, last };
             self.submit_next(submitter, parcel);
         }
