@@ -1,7 +1,7 @@
 //! A client at work on its load.
 ghost use Rattle.std.specs.Prelude.{◌≡◌};
 
-use crate::load::{Load, Told};
+use crate::load::{Fault, Load, Told};
 use anyhow::{Result, bail};
 use board::{Completion, SubmitError};
 use runtime::Client;
@@ -31,26 +31,30 @@ impl<L: Load> Driver<L> {
         self.load.begin(count);
         let mut looks = 0;
         for _ in rt.forever() {
-            if let Some(completion) = self.client.take(rt) {
-                if let Err(wrong) = self.take(completion) {
-                    return refuse(wrong);
-                }
+            let went = if let Some(completion) = self.client.take(rt) {
                 looks = 0;
+                self.take(completion)
             } else if self.load.is_over() {
                 return Ok(());
             } else {
-                self.submit(rt)?;
+                let went = self.submit(rt);
                 looks = waited(looks);
+                went
+            };
+            if let Err(fault) = went {
+                return refuse(fault);
             }
         }
         unreachable!()
     }
 
     /// Submits the next batch, if there is something in it, and blocks until as many completions are there as the load awaits.
-    fn submit<R: Wait>(&mut self, rt: &R) -> Result<()>
+    fn submit<R: Wait>(&mut self, rt: &R) -> Result<(), Fault>
         ensures { self.new.client.board ≡ self.old.client.board }
     {
-        let (batch, awaited) = self.load.next_batch()?;
+        let Ok((batch, awaited)) = self.load.next_batch() else {
+            return Err(Fault::Memory);
+        };
         if batch.is_empty() {
             return Ok(());
         }
@@ -62,20 +66,18 @@ impl<L: Load> Driver<L> {
         match sent {
             Ok(_first) => self.load.sent()?,
             Err((SubmitError::Full, batch)) => return Ok(self.load.refused(batch)),
-            Err(_) => bail!("a batch was refused that should fit"),
+            Err(_) => return Err(Fault::Refused),
         }
         self.told.submitted = self.told.submitted.saturating_add(count);
         if awaited == 1 {
             let completion = self.client.wait(rt);
-            if let Err(wrong) = self.take(completion) {
-                return refuse(wrong);
-            }
+            self.take(completion)?;
         }
         Ok(())
     }
 
-    /// Hands a completion to the load. It comes back where it is wrong.
-    fn take(&mut self, completion: Completion) -> Result<(), Completion>
+    /// Hands a completion to the load.
+    fn take(&mut self, completion: Completion) -> Result<(), Fault>
         ensures { self.new.client ≡ self.old.client }
     {
         self.told.taken = self.told.taken.saturating_add(1);
@@ -83,11 +85,9 @@ impl<L: Load> Driver<L> {
     }
 }
 
-/// Ends the load, since this completion is wrong. An error of `anyhow` has room for its text, which no completion that is right should
-/// have to move.
-fn refuse(wrong: Completion) -> Result<()> {
-    let (number, reply) = (wrong.req.k, wrong.cqe.res);
-    bail!("request {number} has the reply {reply}, or other bytes")
+/// Ends the load for this reason.
+fn refuse(fault: Fault) -> Result<()> {
+    bail!("{fault}")
 }
 
 /// Waits a moment, after so many looks in vain, and counts one more.

@@ -1,7 +1,7 @@
 //! The mixed load of one client: batches of requests of all kinds, and what it checks of each request.
 use crate::draws::{Draws, LINKS, VALUES};
 use crate::flow::{Flow, buffer_of};
-use crate::load::{Batch, Load};
+use crate::load::{Batch, Fault, Load};
 use crate::replies::may_reply;
 use crate::setup::{Kind, Setup};
 use anyhow::{Result, bail};
@@ -101,18 +101,18 @@ impl Mix {
     }
 
     /// Notes a completion. Its request had none before, and may have this one, with this buffer.
-    fn tell(&mut self, completion: &Completion, is_cut: bool) -> Result<()> {
+    fn tell(&mut self, completion: &Completion, is_cut: bool) -> Result<(), Fault> {
         let (number, cqe) = (completion.req.k, completion.cqe);
         let record = self.place(number).and_then(|place| place.take());
         let Some(record) = record.filter(|record| record.number == number) else {
-            bail!("request {number} was told twice, or never submitted");
+            return Err(Fault::Twice(number));
         };
         let (op, res, buffer) = (record.sqe.op(), cqe.res, completion.buffer.as_slice());
         if cqe.user_data != record.sqe.user_data() || !may_reply(op, res, is_cut) {
-            bail!("request {number}, {op:?}, can't have the reply {res}");
+            return Err(Fault::Reply(number, res));
         }
         if !self.flow.is_right(op, record.from, res, buffer) {
-            bail!("the buffer of request {number}, {op:?}, with reply {res}, is wrong");
+            return Err(Fault::Buffer(number, res));
         }
         self.flow.finish(op, res);
         Ok(())
@@ -172,11 +172,11 @@ impl Load for Mix {
         Ok((batch, awaited))
     }
 
-    fn sent(&mut self) -> Result<()> {
+    fn sent(&mut self) -> Result<(), Fault> {
         for record in mem::replace(&mut self.drawn, Vec::new(self.alloc)) {
             match self.place(record.number) {
                 Some(slot) if slot.is_none() => *slot = Some(record),
-                _ => bail!("request {} has a cell that is in use", record.number),
+                _ => return Err(Fault::InUse(record.number)),
             }
             self.submitted = self.submitted.saturating_add(1);
         }
@@ -190,15 +190,15 @@ impl Load for Mix {
         self.drawn.clear();
     }
 
-    fn take(&mut self, completion: Completion) -> Result<(), Completion> {
+    fn take(&mut self, completion: Completion) -> Result<(), Fault> {
         self.taken = self.taken.saturating_add(1);
-        match self.tell(&completion, false) {
-            Ok(()) => Ok(()),
-            Err(_) => Err(completion),
-        }
+        self.tell(&completion, false)
     }
 
     fn report(&mut self, completion: &Completion, is_cut: bool) -> Result<()> {
-        self.tell(completion, is_cut)
+        match self.tell(completion, is_cut) {
+            Ok(()) => Ok(()),
+            Err(fault) => bail!("{fault}"),
+        }
     }
 }

@@ -1,6 +1,6 @@
 //! The loads that are measured, unit by unit: so many units are kept in flight.
 use crate::flow::{are_bytes, buffer_of};
-use crate::load::{Batch, Load};
+use crate::load::{Batch, Fault, Load};
 use crate::replies::LATE;
 use crate::setup::{Kind, Setup};
 use anyhow::{Result, bail};
@@ -143,8 +143,8 @@ impl Load for Units {
     }
 
     /// Notes a completion, which must have the reply that its unit is for, and its bytes.
-    fn take(&mut self, completion: Completion) -> Result<(), Completion> {
-        let cqe = completion.cqe;
+    fn take(&mut self, completion: Completion) -> Result<(), Fault> {
+        let (number, cqe) = (completion.req.k, completion.cqe);
         let is_first = cqe.user_data % 2 == 0;
         let res = match self.setup.kind {
             Kind::Pair => BYTES as i32,
@@ -152,9 +152,11 @@ impl Load for Units {
             Kind::Byte | Kind::Echo => 1,
             _ => 0,
         };
-        let is_right = res <= 0 || are_bytes(&completion.buffer, cqe.user_data / 2);
-        if cqe.res != res || cqe.user_data == LEFT || !is_right {
-            return Err(completion);
+        if cqe.res != res || cqe.user_data == LEFT {
+            return Err(Fault::Reply(number, cqe.res));
+        }
+        if 0 < res && !are_bytes(&completion.buffer, cqe.user_data / 2) {
+            return Err(Fault::Buffer(number, res));
         }
         self.open = self.open.saturating_sub(1);
         Ok(())
