@@ -35,27 +35,26 @@ use Rattle.std.proofs.alloc.Calls.{token, Goes-blank}
 use Rattle.std.specs.Box.Ownership.{box_owns}
 use Rattle.std.proofs.BoxSteps.Form.{Bx, D, R, P, B, args, box_ty, word, box_typed}
 use Rattle.std.proofs.BoxSteps.Steps.{box_out, box_in}
-use Rattle.ring_c.specs.contracts.parts.Parts as parts
-use Rattle.std.specs.contracts.boxed.Box.from_raw as Fr
-use Rattle.std.proofs.boxed.Box.from_raw.Symbol as raw_sym
-use Rattle.std.proofs.boxed.Box.from_raw.Met as raw_met
-use Rattle.ring_c.specs.contracts.parts.Parts.into_box as F
-use Rattle.ring_c.specs.contracts.parts.Parts.into_box.Key.{name as #self}
-use Rattle.ring_c.proofs.parts.Parts.into_box.Statement as stated
-use Rattle.ring_c.proofs.parts.Parts.into_box.Code as code
+use Rattle.ring_c.specs.contracts.parts.Parts
+use Rattle.std.specs.contracts.boxed.Box.from_raw
+use Rattle.std.proofs.boxed.Box.from_raw.Symbol
+use Rattle.std.proofs.boxed.Box.from_raw.Met
+use Rattle.ring_c.specs.contracts.parts.Parts.into_box
+use Rattle.ring_c.proofs.parts.Parts.into_box.Statement
+use Rattle.ring_c.proofs.parts.Parts.into_box.Code
 
 abbrev rest : Body
 rest = seq (assign (place 0 []) (rv_opd (copy (place 4 [])))) return
 
 module _ (E : Bx) where
   abbrev fn' : Fn
-  fn' = inst_fn (args E) code.function
+  fn' = inst_fn (args E) Code.function
 
   abbrev ended : Ended
-  ended = F.ended E.row E.al.row E.al.g E.al.d E.al.drops
+  ended = into_box.ended E.row E.al.row E.al.g E.al.d E.al.drops
 
   abbrev From : RattleType
-  From = parts.the_row (R E) (P E) E.al.g
+  From = Parts.the_row (R E) (P E) E.al.g
 
   abbrev stayed : Stays ended.signature.params ended.kept
   stayed = (stay_dropped (plain (λ _. From)) no, tt)
@@ -64,12 +63,12 @@ module _ (E : Bx) where
     open 𝓛 use {H}
 
     abbrev held : Clauses 𝓤 ended
-    held = F.clauses E.row E.al.row E.al.g E.al.d E.al.drops 𝓛 at_mem run
+    held = into_box.clauses E.row E.al.row E.al.g E.al.d E.al.drops 𝓛 at_mem run
 
     abbrev Shuts : Contract 𝓤
-    Shuts = triple_of 𝓛 (Fr.signature E.row E.al.row E.al.g E.al.d E.al.drops) (Fr.spec E.row E.al.row E.al.g E.al.d E.al.drops 𝓛 at_mem run)
+    Shuts = triple_of 𝓛 (from_raw.signature E.row E.al.row E.al.g E.al.d E.al.drops) (from_raw.spec E.row E.al.row E.al.g E.al.d E.al.drops 𝓛 at_mem run)
 
-    walk : Triple 𝓤 (𝓣.C (raw_sym.name (args E))) Shuts → (z : (walk_of 𝓛 ended stayed held).Ghost) → ent 𝓤 ((walk_of 𝓛 ended stayed held).pre z) (WpFn 𝓤 H 𝓣.C 𝓣.Λ fn' (z.0.4.0 ++ []) ((walk_of 𝓛 ended stayed held).post z))
+    walk : Triple 𝓤 (𝓣.C (Symbol.name (args E))) Shuts → (z : (walk_of 𝓛 ended stayed held).Ghost) → ent 𝓤 ((walk_of 𝓛 ended stayed held).pre z) (WpFn 𝓤 H 𝓣.C 𝓣.Λ fn' (z.0.4.0 ++ []) ((walk_of 𝓛 ended stayed held).post z))
     walk kn z =
         let κs = z.0.0 in let qs = z.0.1 in let a = z.0.3.0.alloc in let x = z.0.3.0.value in let Post = (walk_of 𝓛 ended stayed held).post z in
         let v : D E = record { ptr = z.0.3.0.ptr; alloc = a; value = x } in
@@ -97,12 +96,12 @@ module _ (E : Bx) where
         suffices ! _ (ends_at 𝓛 ended stayed held z u r ((tt, (tt, tt)), tt) (tt, tt)) $ says ! same $
         nothing ! $ nothing ! $ fjoin ! $ join ! $ move ! (1 ∷ 0 ∷ []) $ join ! $ done !)))))))))
 
-pub into_box_spec : {M : Type 1} → stated.statement M
+pub into_box_spec : {M : Type 1} → Statement.statement M
 unfolding tables_of
 into_box_spec 𝓤 𝓛 𝓜 𝓡 wired X Z LX LZ g d dd allocator md =
     let E : Bx = record { row = X; laws = LX; al = record { row = Z; laws = LZ; g = g; d = d; drops = dd } } in
     let 𝓣 : Tables 𝓤 𝓛.H = tables_of 𝓤 𝓛.H 𝓜 (tables 𝓤 𝓛.H 𝓜 𝓡 𝓡.env) in
     let fn = fn' E in
-    entered 𝓤 𝓛.H (triple_of 𝓛 (ended E).signature (F.spec X Z g d dd 𝓛 𝓜.mem 𝓡.returns)) 𝓣.C 𝓣.Λ (#self (args E)) fn (code.unfolded 𝓤 𝓛.H 𝓜 𝓡 wired (X, (Z, tt)) d dd)
+    entered 𝓤 𝓛.H (triple_of 𝓛 (ended E).signature (into_box.spec X Z g d dd 𝓛 𝓜.mem 𝓡.returns)) 𝓣.C 𝓣.Λ (into_box.Key.name (args E)) fn (Code.unfolded 𝓤 𝓛.H 𝓜 𝓡 wired (X, (Z, tt)) d dd)
     (walk_Meets 𝓛 (ended E) (stayed E) (Goes-blank 𝓛 2 (plain (λ _. From E)) no (λ κs x f. tt), tt) (held E 𝓛 𝓜.mem 𝓡.returns 𝓣) (WpFn 𝓤 𝓛.H 𝓣.C 𝓣.Λ fn) (WpFn-mono 𝓤 𝓛.H 𝓛.laws 𝓣 fn)
-    (walk E 𝓛 𝓜.mem 𝓡.returns 𝓣 (raw_met.met 𝓤 𝓛 𝓜 𝓡 (code.calls-std_alloc::boxed::Box::from_raw 𝓡.env wired) X Z LX LZ g d dd allocator md)))
+    (walk E 𝓛 𝓜.mem 𝓡.returns 𝓣 (Met.met 𝓤 𝓛 𝓜 𝓡 (Code.calls-std_alloc::boxed::Box::from_raw 𝓡.env wired) X Z LX LZ g d dd allocator md)))
