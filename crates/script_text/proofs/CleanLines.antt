@@ -12,7 +12,7 @@ use Rattle.limits.specs.declared.TheConstants.{CAPACITY, CELLS, PIPES, POSTS, RI
 use Rattle.script.specs.Rules.{is_ring}
 use Rattle.text.specs.Number.{number_in}
 use Rattle.script_text.specs.declared.keyword.Keyword.{Keyword}
-use Rattle.script_text.specs.declared.keyword.Keyword.TheVariants.{Pipe, Ring, On, Submit, Wait, Tick, Armed, Entry as EntryLine}
+use Rattle.script_text.specs.declared.keyword.Keyword.TheVariants.{Pipe, Ring, On, Submit, Wait, Tick, Armed}
 use Rattle.script_text.specs.Above.{actor_in, has_ring_in, has_ring_with, pipes_in, pipes_with, rings_in, rings_with, stated_in}
 use Rattle.script_text.specs.EntryLines.{Stated}
 use Rattle.script_text.specs.LineEntries.{posts_in}
@@ -79,7 +79,7 @@ pipes_step p lines u (Some Submit) words given pipes c e are = are
 pipes_step p lines u (Some Wait) words given pipes c e are = are
 pipes_step p lines u (Some Tick) words given pipes c e are = are
 pipes_step p lines u (Some Armed) words given pipes c e are = are
-pipes_step p lines u (Some (EntryLine kind)) words given pipes c e are = are
+pipes_step p lines u (Some (Keyword.Entry kind)) words given pipes c e are = are
 
 pub pipes_ok : (all above : List Sentence) → AreClean all above → ArePipes (pipes_in above)
 pipes_ok all [] c = record { each = refl; few = omega arith }
@@ -124,7 +124,7 @@ rings_step p lines u (Some Submit) words given rings c e are = are
 rings_step p lines u (Some Wait) words given rings c e are = are
 rings_step p lines u (Some Tick) words given rings c e are = are
 rings_step p lines u (Some Armed) words given rings c e are = are
-rings_step p lines u (Some (EntryLine kind)) words given rings c e are = are
+rings_step p lines u (Some (Keyword.Entry kind)) words given rings c e are = are
 
 pub rings_ok : (all above : List Sentence) → AreClean all above → AreRings (rings_in above)
 rings_ok all [] c = record { each = refl; few = omega arith }
@@ -140,7 +140,7 @@ some_ring_step (Some Submit) words rings has some e = some e
 some_ring_step (Some Wait) words rings has some e = some e
 some_ring_step (Some Tick) words rings has some e = some e
 some_ring_step (Some Armed) words rings has some e = some e
-some_ring_step (Some (EntryLine kind)) words rings has some e = some e
+some_ring_step (Some (Keyword.Entry kind)) words rings has some e = some e
 
 pub some_ring : (above : List Sentence) → has_ring_in above ≡ true → 0 < length (rings_in above)
 some_ring [] e = absurd cc
