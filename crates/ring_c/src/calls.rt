@@ -10,7 +10,7 @@ ghost use Rattle.ring_c.specs.Results.{counted_as, looked_as, polled_as, reaped_
 
 use crate::code::{Code, answer_number};
 use crate::handle::Handle;
-use crate::inside::{Inside, bytes_in, look_in, poll_in, submit_in, took_in};
+use crate::inside::{bytes_in, look_in, poll_in, reap_in, submit_in, tick_in, took_in, work_in};
 use crate::number::Number;
 use crate::results::{Counted, Looked, Polled, Reaped};
 use history::Req;
@@ -58,10 +58,7 @@ pub extern "C" fn ring_c_reap(alloc: Global, handle: &mut Handle, ring: u16, k: 
     let Some(mut inside) = handle.take(alloc) else {
         return Reaped::of(Err(Code::Closed));
     };
-    let answer = match &mut *inside {
-        Inside::Client(client) => client.reap(Req { ring, k }),
-        _ => Err(Code::WrongKind),
-    };
+    let answer = reap_in(&mut inside, Req { ring, k });
     handle.put(inside);
     Reaped::of(answer)
 }
@@ -90,10 +87,7 @@ pub extern "C" fn ring_c_work(alloc: Global, handle: &mut Handle, ring: u16, k: 
     let Some(mut inside) = handle.take(alloc) else {
         return Reaped::of(Err(Code::Closed));
     };
-    let answer = match &mut *inside {
-        Inside::Hand(hand) => hand.run(Req { ring, k }),
-        _ => Err(Code::WrongKind),
-    };
+    let answer = work_in(&mut inside, Req { ring, k });
     handle.put(inside);
     Reaped::of(answer)
 }
@@ -142,10 +136,7 @@ pub extern "C" fn ring_c_tick(alloc: Global, handle: &mut Handle, to: u32) -> u3
     let Some(mut inside) = handle.take(alloc) else {
         return Code::Closed.number();
     };
-    let answer = match &mut *inside {
-        Inside::Desk(desk) => desk.tick(to),
-        _ => Err(Code::WrongKind),
-    };
+    let answer = tick_in(&mut inside, to);
     handle.put(inside);
     answer_number(answer)
 }
