@@ -32,11 +32,9 @@ use Rattle.script_text.proofs.ReadingLines.{as_many_entries, entries_of_parts, l
 -- ---- the rules, by what lines say
 
 ring_line_all : (cells n : ℕ) (acts : List Act) → list_all (deed_fits cells n) (deeds acts) ≡ list_all (is_ring_line cells n) acts
-ring_line_all cells n [] = refl
 ring_line_all cells n (Act.Submit places ∷ acts) = ap (λ (b : Bool). is_ring_line cells n (Act.Submit places) && b) (ring_line_all cells n acts)
 ring_line_all cells n (Act.Wait place ∷ acts) = ap (λ (b : Bool). nat_lt place n && b) (ring_line_all cells n acts)
-ring_line_all cells n (Act.Armed place ∷ acts) = refl
-ring_line_all cells n (Act.Tick to ∷ acts) = refl
+ring_line_all cells n _ = refl
 
 lines_ok : (n : ℕ) (rs : List (ℕ × Option ℕ)) (vs : List (Vec Act)) → length vs ≡ length rs → ((r : ℕ) → AtRing rs n r (deeds_at vs r)) → are_lines n rs vs ≡ true
 lines_ok n [] [] e at = refl
@@ -48,9 +46,7 @@ lines_ok n (r ∷ rs) [] e at = absurd (omega (arith, e))
 places_as : (acts : List Act) → places_in acts ≡ places_in_deeds (deeds acts)
 places_as [] = refl
 places_as (Act.Submit places ∷ acts) = ap (λ (xs : List ℕ). places.items ++ xs) (places_as acts)
-places_as (Act.Wait place ∷ acts) = places_as acts
-places_as (Act.Armed place ∷ acts) = places_as acts
-places_as (Act.Tick to ∷ acts) = places_as acts
+places_as (_ ∷ acts) = places_as acts
 
 often_places : (q : ℕ) (vs : List (Vec Act)) → often q (places_of vs) ≡ sum_to (length vs) (λ r. often q (places_in_deeds (deeds_at vs r)))
 often_places q [] = refl
@@ -80,10 +76,8 @@ clock_line_all es (a ∷ acts) = let x = clock_line_as es a in let y = clock_lin
 
 rises_as : (m : ℕ) (acts : List Act) → deeds_rise m (deeds acts) ≡ rises m acts
 rises_as m [] = refl
-rises_as m (Act.Submit places ∷ acts) = rises_as m acts
-rises_as m (Act.Wait place ∷ acts) = rises_as m acts
-rises_as m (Act.Armed place ∷ acts) = rises_as m acts
 rises_as m (Act.Tick to ∷ acts) = ap (λ (b : Bool). nat_le m to && b) (rises_as to acts)
+rises_as m (_ ∷ acts) = rises_as m acts
 
 differ_as : (es : List Named) → distinct (map label_of (all_entered es)) ≡ labels_differ es
 differ_as [] = refl

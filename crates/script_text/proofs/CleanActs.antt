@@ -10,7 +10,7 @@ use Rattle.entry.specs.Entry.{Entry}
 use Rattle.text.specs.Number.{number_in}
 use Rattle.script_text.specs.declared.actor.Actor.{Actor}
 use Rattle.script_text.specs.declared.keyword.Keyword.{Keyword}
-use Rattle.script_text.specs.declared.keyword.Keyword.TheVariants.{Pipe, Ring, On, Submit, Wait, Tick, Armed}
+use Rattle.script_text.specs.declared.keyword.Keyword.TheVariants.{Ring, On, Submit, Wait, Tick, Armed}
 use Rattle.script_text.specs.Above.{Deed, actor_in, actor_with, batch_in, batch_with, deeds_in, deeds_with, is_same_actor, place_in, rings_in, rings_with, sets, stated_in, stated_with, submits, waits, waits_armed}
 use Rattle.script_text.specs.Actors.{IsKnown, is_clock, named_actor, ring_named}
 use Rattle.script_text.specs.EntryLines.{Stated, declares, label_faults, line_of, place_of, unknown_faults}
@@ -25,22 +25,16 @@ use Rattle.script_text.proofs.ReadingLines.{stated_bounds}
 -- ---- actors
 
 pub same_ring : (a : Actor) (r : ℕ) → is_same_actor (Actor.Ring r) a ≡ true → a ≡ Actor.Ring r
-same_ring Actor.Start r e = absurd cc
 same_ring (Actor.Ring m) r e = ap (λ (n : ℕ). Actor.Ring n) (sym (eqb-true r m e))
-same_ring Actor.Clock r e = absurd cc
-same_ring Actor.Stranger r e = absurd cc
+same_ring _ r e = absurd cc
 
 pub same_clock : (a : Actor) → is_same_actor Actor.Clock a ≡ true → a ≡ Actor.Clock
-same_clock Actor.Start e = absurd cc
-same_clock (Actor.Ring m) e = absurd cc
 same_clock Actor.Clock e = refl
-same_clock Actor.Stranger e = absurd cc
+same_clock _ e = absurd cc
 
 pub clock_is : (a : Actor) → is_clock a ≡ true → a ≡ Actor.Clock
-clock_is Actor.Start e = absurd cc
-clock_is (Actor.Ring m) e = absurd cc
 clock_is Actor.Clock e = refl
-clock_is Actor.Stranger e = absurd cc
+clock_is _ e = absurd cc
 
 known_ring : (o : Option ℕ) (n : ℕ) → IsKnown (ring_named o n) n
 known_ring None n = tt
@@ -50,21 +44,13 @@ known_named : (word : List ℕ) (n : ℕ) → IsKnown (named_actor word n) n
 known_named word n = cond_both _ Actor.Clock (ring_named (number_in word) n) (λ (a : Actor). IsKnown a n) (λ e. tt) (λ e. known_ring (number_in word) n)
 
 pub known_more : (a : Actor) (m n : ℕ) → m ≤ n → IsKnown a m → IsKnown a n
-known_more Actor.Start m n le known = tt
 known_more (Actor.Ring r) m n le known = omega (arith, known)
-known_more Actor.Clock m n le known = tt
-known_more Actor.Stranger m n le known = tt
+known_more _ m n le known = tt
 
 known_step : (k : Option Keyword) (words : List (List ℕ)) (rings : List (ℕ × Option ℕ)) (a : Actor) → IsKnown a (length rings) → IsKnown (actor_with k words (length rings) a) (length (rings_with k words rings))
-known_step None words rings a known = known
-known_step (Some Pipe) words rings a known = known
 known_step (Some Ring) words rings a known = rw length_push (known_more a (length rings) (length rings + 1) (omega arith) known)
 known_step (Some On) words rings a known = cond_both (nat_lt 1 (length words)) (named_actor (word_at words 1) (length rings)) a (λ (b : Actor). IsKnown b (length rings)) (λ e. known_named (word_at words 1) (length rings)) (λ e. known)
-known_step (Some Submit) words rings a known = known
-known_step (Some Wait) words rings a known = known
-known_step (Some Tick) words rings a known = known
-known_step (Some Armed) words rings a known = known
-known_step (Some (Keyword.Entry kind)) words rings a known = known
+known_step _ words rings a known = known
 
 pub known_in : (above : List Sentence) → IsKnown (actor_in above) (length (rings_in above))
 known_in [] = tt
@@ -111,15 +97,9 @@ push_below false false ss x batch n le all = all
 
 below_step : (k : Option Keyword) (words : List (List ℕ)) (given : Option Entry) (own : Bool) (ss : List Stated) (batch : List ℕ) (n : ℕ) → length (stated_with k words given ss) ≤ n → list_all (λ q. nat_lt q n) batch ≡ true
     → list_all (λ q. nat_lt q n) (batch_with k words own (length ss) batch) ≡ true
-below_step None words given own ss batch n le all = all
-below_step (Some Pipe) words given own ss batch n le all = all
-below_step (Some Ring) words given own ss batch n le all = all
-below_step (Some On) words given own ss batch n le all = all
 below_step (Some Submit) words given own ss batch n le all = cond_both own [] batch (λ (b : List ℕ). list_all (λ q. nat_lt q n) b ≡ true) (λ e. refl) (λ e. all)
-below_step (Some Wait) words given own ss batch n le all = all
-below_step (Some Tick) words given own ss batch n le all = all
-below_step (Some Armed) words given own ss batch n le all = all
 below_step (Some (Keyword.Entry kind)) words given own ss batch n le all = push_below own (nat_lt 1 (length words)) ss _ batch n le all
+below_step _ words given own ss batch n le all = all
 
 pub stated_above : (s : Sentence) (above : List Sentence) → length (stated_in above) ≤ length (stated_in (s ∷ above))
 stated_above s above = (stated_bounds (first_of s) s.words s.given (stated_in above)).0
@@ -193,10 +173,7 @@ not_clock a r is e = absurd (let b : is_clock (Actor.Ring r) ≡ true = subst (�
 ring_step : (p : Standing) (lines : List Stated) (u : Bool) (k : Option Keyword) (words : List (List ℕ)) (given : Option Entry) (r : ℕ) (ds : List Deed) → IsCleanIf p lines u k words given → IsKnown p.actor (length p.rings)
     → list_all (λ q. nat_lt q (length lines)) (p.pending r) ≡ true → AtRing p.rings (length lines) r ds
     → AtRing (rings_with k words p.rings) (length lines) r (deeds_with lines k words (is_same_actor (Actor.Ring r) p.actor) (p.pending r) ds)
-ring_step p lines u None words given r ds c known below at = at
-ring_step p lines u (Some Pipe) words given r ds c known below at = at
 ring_step p lines u (Some Ring) words given r ds c known below at = at_pushed p.rings _ (length lines) r ds at
-ring_step p lines u (Some On) words given r ds c known below at = at
 ring_step p lines u (Some Submit) words given r ds c known below at =
     at_if (is_same_actor (Actor.Ring r) p.actor) p.rings (length lines) r ds (submits (p.pending r)) (submit_fits p lines u words given (length lines) r c known below) at
 ring_step p lines u (Some Wait) words given r ds c known below at =
@@ -206,7 +183,7 @@ ring_step p lines u (Some Tick) words given r ds c known below at =
     at_if (is_same_actor (Actor.Ring r) p.actor) p.rings (length lines) r ds _ (λ own. not_clock p.actor r (same_ring p.actor r own) c.place) at
 ring_step p lines u (Some Armed) words given r ds c known below at =
     at_if (is_same_actor (Actor.Ring r) p.actor) p.rings (length lines) r ds _ (λ own. not_clock p.actor r (same_ring p.actor r own) (and_parts (is_clock p.actor) _ c.place).0) at
-ring_step p lines u (Some (Keyword.Entry kind)) words given r ds c known below at = at
+ring_step p lines u _ words given r ds c known below at = at
 
 pub ring_ok : (all above : List Sentence) (r : ℕ) → AreClean all above → length (stated_in above) ≤ length (stated_in all) → AtRing (rings_in above) (length (stated_in all)) r (deeds_in (stated_in all) (Actor.Ring r) above)
 ring_ok all [] r c le = refl

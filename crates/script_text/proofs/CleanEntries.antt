@@ -16,7 +16,6 @@ use Rattle.script_text.specs.declared.fault.Fault.TheVariants.{BadBytes, OutOfRa
 use Rattle.script_text.specs.declared.keyword.Kind.{Kind}
 use Rattle.script_text.specs.declared.keyword.Kind.TheVariants.{Nop, Read, Write, Close, Poll, Timeout, LinkTimeout, Cancel, Remove, Splice, Raw}
 use Rattle.script_text.specs.declared.keyword.Keyword.{Keyword}
-use Rattle.script_text.specs.declared.keyword.Keyword.TheVariants.{Pipe, Ring, On, Submit, Wait, Tick, Armed}
 use Rattle.script_text.specs.Above.{Entered, actor_in, entered_in, entered_line, entered_with, stated_in, stated_line, stated_with}
 use Rattle.script_text.specs.EntryLines.{Stated, argument_faults, count_of, declares, etime_bit, fd_in, len_in, len_of, mask_in, options_of, splice_len_in, target_in, text_bytes, text_faults, text_len, ticks_in}
 use Rattle.script_text.specs.LineEntries.{line_buffer, line_entry}
@@ -72,17 +71,9 @@ fits_write : (fd len flags : ℕ) (bytes : List ℕ) → len ≡ length bytes �
 fits_write fd len flags bytes is le ok = rw (lt-ltb len 2147483648 (omega (arith, le)), ok) (eq-eqb (length bytes) len (sym is))
 
 raw_fits : (o : Op) → nat_lt BUFFER (len_of o) ≡ false → fits_buffer o (length {A = ℕ} (cond (nat_lt BUFFER (len_of o)) [] (replicate (len_of o) 0))) ≡ true
-raw_fits Op.Nop e = refl
-raw_fits (Op.PollAdd fd mask) e = refl
-raw_fits (Op.Timeout ticks success count) e = refl
-raw_fits (Op.TimeoutRemove target) e = refl
-raw_fits (Op.AsyncCancel target all) e = refl
-raw_fits (Op.LinkTimeout ticks) e = refl
-raw_fits (Op.Close fd) e = refl
 raw_fits (Op.Read fd offset len) e = rw (e, length-replicate {A = ℕ} len 0) (and_from (len == len) (nat_le len BUFFER) (eq-eqb len len refl) (le-leb len BUFFER (ltb-false BUFFER len e)))
 raw_fits (Op.Write fd offset len) e = rw (e, length-replicate {A = ℕ} len 0) (eq-eqb len len refl)
-raw_fits (Op.Splice fd_in' fd_out len) e = refl
-raw_fits Op.Invalid e = refl
+raw_fits _ e = refl
 
 one_fault : BadBytes ∷ [] ≡ [] → ⊥
 one_fault e = cc
@@ -130,14 +121,6 @@ pub record AreEntries (ss : List Stated) (es : List Entered) : Type 0 where
 
 entries_step : (p : Standing) (lines : List Stated) (u : Bool) (k : Option Keyword) (words : List (List ℕ)) (given : Option Entry) (ss : List Stated) (es : List Entered)
     → IsCleanIf p lines u k words given → p.entries ≡ length ss → AreEntries ss es → AreEntries (stated_with k words given ss) (entered_with lines k words given es)
-entries_step p lines u None words given ss es c e are = are
-entries_step p lines u (Some Pipe) words given ss es c e are = are
-entries_step p lines u (Some Ring) words given ss es c e are = are
-entries_step p lines u (Some On) words given ss es c e are = are
-entries_step p lines u (Some Submit) words given ss es c e are = are
-entries_step p lines u (Some Wait) words given ss es c e are = are
-entries_step p lines u (Some Tick) words given ss es c e are = are
-entries_step p lines u (Some Armed) words given ss es c e are = are
 entries_step p lines u (Some (Keyword.Entry kind)) words given ss es c e are =
     let x = entered_line lines kind words given (length es + 1) in
     let clean = clean_entry p lines u kind words given c in
@@ -148,6 +131,7 @@ entries_step p lines u (Some (Keyword.Entry kind)) words given ss es c e are =
       each = rw (long, list_all-append) (and_from (list_all entry_ok es) (entry_ok x && true) are.each (and_from (entry_ok x) true ok refl));
       few = rw (long, length_push) (omega (arith, few, e));
     }
+entries_step p lines u _ words given ss es c e are = are
 
 pub entries_ok : (all above : List Sentence) → AreClean all above → AreEntries (stated_in above) (entered_in (stated_in all) above)
 entries_ok all [] c = record { each = refl; few = omega arith }
@@ -170,20 +154,13 @@ distinct_push (x ∷ ls) l d e =
 
 labels_step : (p : Standing) (lines : List Stated) (u : Bool) (k : Option Keyword) (words : List (List ℕ)) (given : Option Entry) (ss : List Stated)
     → IsCleanIf p lines u k words given → p.declares (word_at words 1) ≡ list_any (declares (word_at words 1)) ss → distinct (map label_stated ss) ≡ true → distinct (map label_stated (stated_with k words given ss)) ≡ true
-labels_step p lines u None words given ss c e d = d
-labels_step p lines u (Some Pipe) words given ss c e d = d
-labels_step p lines u (Some Ring) words given ss c e d = d
-labels_step p lines u (Some On) words given ss c e d = d
-labels_step p lines u (Some Submit) words given ss c e d = d
-labels_step p lines u (Some Wait) words given ss c e d = d
-labels_step p lines u (Some Tick) words given ss c e d = d
-labels_step p lines u (Some Armed) words given ss c e d = d
 labels_step p lines u (Some (Keyword.Entry kind)) words given ss c e d =
     let label = word_at words 1 in
     let new = sym e ∙ (clean_entry p lines u kind words given c).new in
     let long = lt-ltb 1 (length words) (long_entry p lines u kind words given c) in
     let none : list_any (λ m. is_same m label) (map label_stated ss) ≡ false = any_map (λ m. is_same m label) label_stated ss ∙ new in
     rw (long, map_push label_stated ss (stated_line kind words given (length ss + 1))) (distinct_push (map label_stated ss) label d none)
+labels_step p lines u _ words given ss c e d = d
 
 pub labels_ok : (all above : List Sentence) → AreClean all above → distinct (map label_stated (stated_in above)) ≡ true
 labels_ok all [] c = refl

@@ -1,5 +1,5 @@
 -- Where no line has a fault each entry is submitted once.
-use Rattle.std.proofs.Common.{◌≡◌, ◌<◌, ◌≤◌, ◌+◌, ℕ, zero, suc, Bool, true, false, List, [], ◌∷◌, ◌++◌, ◌&&◌, Option, None, Some, append_assoc, cond, length, refl, sym, ap, subst, ◌∙◌, arith, ⊎_elim}
+use Rattle.std.proofs.Common.{◌≡◌, ◌<◌, ◌≤◌, ◌+◌, ℕ, zero, suc, Bool, true, false, List, [], ◌∷◌, ◌++◌, ◌&&◌, Option, Some, append_assoc, cond, length, refl, sym, ap, subst, ◌∙◌, arith, ⊎_elim}
 use Rattle.std.specs.Prelude.{◌==◌, ◌⊎◌, count_by, nat_lt}
 use Rattle.std.proofs.lemmas.Bool.{cases_order, cond_both, eq-eqb, le-ltb, lt-ltb, ltb-false, ne_eqb}
 use Rattle.std.proofs.lemmas.List.{length_push}
@@ -10,7 +10,7 @@ use Rattle.text.specs.Number.{number_in}
 use Rattle.script_text.specs.declared.actor.Actor.{Actor}
 use Rattle.script_text.specs.declared.keyword.Kind.{Kind}
 use Rattle.script_text.specs.declared.keyword.Keyword.{Keyword}
-use Rattle.script_text.specs.declared.keyword.Keyword.TheVariants.{Pipe, Ring, On, Submit, Wait, Tick, Armed}
+use Rattle.script_text.specs.declared.keyword.Keyword.TheVariants.{Ring, Submit, Wait, Tick, Armed}
 use Rattle.script_text.specs.Above.{Deed, actor_in, batch_in, batch_with, deeds_in, deeds_with, is_same_actor, last_submit_in, last_submit_with, place_in, rings_in, rings_with, sets, stated_in, stated_with, submits, waits, waits_armed}
 use Rattle.script_text.specs.Actors.{IsKnown, is_ring}
 use Rattle.script_text.specs.EntryLines.{Stated}
@@ -26,15 +26,8 @@ use Rattle.script_text.proofs.NoFault.{IsClean, IsCleanIf, clean_entry, long_ent
 -- ---- nothing is left at the end
 
 submit_within : (k : Option Keyword) (own : Bool) (line last : ℕ) → last ≤ line → last_submit_with k own line last ≤ line
-submit_within None own line last le = le
-submit_within (Some Pipe) own line last le = le
-submit_within (Some Ring) own line last le = le
-submit_within (Some On) own line last le = le
 submit_within (Some Submit) own line last le = cond_both own line last (λ (x : ℕ). x ≤ line) (λ e. omega arith) (λ e. le)
-submit_within (Some Wait) own line last le = le
-submit_within (Some Tick) own line last le = le
-submit_within (Some Armed) own line last le = le
-submit_within (Some (Keyword.Entry kind)) own line last le = le
+submit_within _ own line last le = le
 
 last_within : (a : Actor) (above : List Sentence) → last_submit_in a above ≤ length above
 last_within a [] = omega arith
@@ -47,17 +40,10 @@ left_entry false b batch place e other = e
 -- what the line makes of a batch, where the actor's last `submit` is this one
 left_step : (k : Option Keyword) (words : List (List ℕ)) (own : Bool) (place line last end : ℕ) (batch : List ℕ) → last < line → (last ≡ end → batch ≡ []) → ((kind : Kind) → k ≡ Some (Keyword.Entry kind) → own ≡ true → line ≤ end)
     → last_submit_with k own line last ≡ end → batch_with k words own place batch ≡ []
-left_step None words own place line last end batch lt nil more e = nil e
-left_step (Some Pipe) words own place line last end batch lt nil more e = nil e
-left_step (Some Ring) words own place line last end batch lt nil more e = nil e
-left_step (Some On) words own place line last end batch lt nil more e = nil e
 left_step (Some Submit) words true place line last end batch lt nil more e = refl
-left_step (Some Submit) words false place line last end batch lt nil more e = nil e
-left_step (Some Wait) words own place line last end batch lt nil more e = nil e
-left_step (Some Tick) words own place line last end batch lt nil more e = nil e
-left_step (Some Armed) words own place line last end batch lt nil more e = nil e
 left_step (Some (Keyword.Entry kind)) words own place line last end batch lt nil more e =
     left_entry own (nat_lt 1 (length words)) batch place (nil e) (λ o. (let le = more kind refl o in omega (arith, le, lt, e)))
+left_step _ words _ place line last end batch lt nil more e = nil e
 
 not_left : (p : Standing) (lines : List Stated) (all above : List Sentence) (k : Option Keyword) (words : List (List ℕ)) (given : Option Entry) (r line : ℕ) → IsCleanIf p lines (is_left (actor_in above) all line) k words given
     → (kind : Kind) → k ≡ Some (Keyword.Entry kind) → is_same_actor (Actor.Ring r) (actor_in above) ≡ true → line ≤ last_submit_in (Actor.Ring r) all
@@ -115,9 +101,7 @@ often_append q xs ys = sum_by-append (λ p. cond (p == q) 1 0) xs ys
 places_push : (ds : List Deed) (d : Deed) → places_in_deeds (ds ++ d ∷ []) ≡ places_in_deeds ds ++ places_in_deeds (d ∷ [])
 places_push [] d = refl
 places_push (submits places ∷ ds) d = ap (λ (xs : List ℕ). places ++ xs) (places_push ds d) ∙ sym (append_assoc places (places_in_deeds ds) (places_in_deeds (d ∷ [])))
-places_push (waits place ∷ ds) d = places_push ds d
-places_push (waits_armed place ∷ ds) d = places_push ds d
-places_push (sets to ∷ ds) d = places_push ds d
+places_push (_ ∷ ds) d = places_push ds d
 
 abbrev both : ℕ → List Deed → List ℕ → ℕ
 both q ds batch = often q (places_in_deeds ds) + often q batch
@@ -145,10 +129,8 @@ sum_zero zero = refl
 sum_zero (suc n) = let a = sum_zero n in omega (arith, a)
 
 ring_is : (a : Actor) → is_ring a ≡ true → (r : ℕ) × (a ≡ Actor.Ring r)
-ring_is Actor.Start e = absurd cc
 ring_is (Actor.Ring r) e = (r, refl)
-ring_is Actor.Clock e = absurd cc
-ring_is Actor.Stranger e = absurd cc
+ring_is _ e = absurd cc
 
 one_more : (q m : ℕ) → cond (nat_lt q (m + 1)) 1 0 ≡ cond (nat_lt q m) 1 0 + cond (m == q) 1 0
 one_more q m = ⊎_elim
@@ -180,26 +162,16 @@ entry_more p lines u kind words given n q ss D B c known e =
 once_step : (p : Standing) (lines : List Stated) (u : Bool) (k : Option Keyword) (words : List (List ℕ)) (given : Option Entry) (n q : ℕ) (ss : List Stated) (D : ℕ → List Deed) (B : ℕ → List ℕ)
     → IsCleanIf p lines u k words given → IsKnown p.actor n → sum_to n (λ r. both q (D r) (B r)) ≡ cond (nat_lt q (length ss)) 1 0
     → sum_to n (λ r. both q (deeds_with lines k words (is_same_actor (Actor.Ring r) p.actor) (B r) (D r)) (batch_with k words (is_same_actor (Actor.Ring r) p.actor) (length ss) (B r))) ≡ cond (nat_lt q (length (stated_with k words given ss))) 1 0
-once_step p lines u None words given n q ss D B c known e = e
-once_step p lines u (Some Pipe) words given n q ss D B c known e = e
-once_step p lines u (Some Ring) words given n q ss D B c known e = e
-once_step p lines u (Some On) words given n q ss D B c known e = e
 once_step p lines u (Some Submit) words given n q ss D B c known e = sum_same n _ (λ r. both q (D r) (B r)) (λ r. both_submit (is_same_actor (Actor.Ring r) p.actor) q (D r) (B r)) ∙ e
 once_step p lines u (Some Wait) words given n q ss D B c known e = sum_same n _ (λ r. both q (D r) (B r)) (λ r. both_other (is_same_actor (Actor.Ring r) p.actor) q (D r) (waits (place_in lines (word_at words 1))) (B r) refl) ∙ e
 once_step p lines u (Some Tick) words given n q ss D B c known e = sum_same n _ (λ r. both q (D r) (B r)) (λ r. both_other (is_same_actor (Actor.Ring r) p.actor) q (D r) (sets (number_or (number_in (word_at words 1)) 0 TICK)) (B r) refl) ∙ e
 once_step p lines u (Some Armed) words given n q ss D B c known e = sum_same n _ (λ r. both q (D r) (B r)) (λ r. both_other (is_same_actor (Actor.Ring r) p.actor) q (D r) (waits_armed (place_in lines (word_at words 1))) (B r) refl) ∙ e
 once_step p lines u (Some (Keyword.Entry kind)) words given n q ss D B c known e = entry_more p lines u kind words given n q ss D B c known e
+once_step p lines u _ words given n q ss D B c known e = e
 
 rings_grow : (k : Option Keyword) (words : List (List ℕ)) (rings : List (ℕ × Option ℕ)) → length rings ≤ length (rings_with k words rings)
-rings_grow None words rings = omega arith
-rings_grow (Some Pipe) words rings = omega arith
 rings_grow (Some Ring) words rings = rw length_push (omega arith)
-rings_grow (Some On) words rings = omega arith
-rings_grow (Some Submit) words rings = omega arith
-rings_grow (Some Wait) words rings = omega arith
-rings_grow (Some Tick) words rings = omega arith
-rings_grow (Some Armed) words rings = omega arith
-rings_grow (Some (Keyword.Entry kind)) words rings = omega arith
+rings_grow _ words rings = omega arith
 
 once_in : (all above : List Sentence) (n q : ℕ) → AreClean all above → length (rings_in above) ≤ n
     → sum_to n (λ r. both q (deeds_in (stated_in all) (Actor.Ring r) above) (batch_in (Actor.Ring r) above)) ≡ cond (nat_lt q (length (stated_in above))) 1 0

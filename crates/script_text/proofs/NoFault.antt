@@ -8,7 +8,7 @@ use Rattle.script.specs.Rules.{is_label}
 use Rattle.script_text.specs.declared.actor.Actor.{Actor}
 use Rattle.script_text.specs.declared.fault.Fault.{Fault}
 use Rattle.script_text.specs.declared.keyword.Kind.{Kind}
-use Rattle.script_text.specs.declared.keyword.Kind.TheVariants.{Nop, Read, Write, Close, Poll, Timeout, LinkTimeout, Cancel, Remove, Splice, Raw}
+use Rattle.script_text.specs.declared.keyword.Kind.TheVariants.{Nop}
 use Rattle.script_text.specs.declared.keyword.Keyword.{Keyword}
 use Rattle.script_text.specs.declared.keyword.Keyword.TheVariants.{Ring}
 use Rattle.script_text.specs.Actors.{is_ring}
@@ -83,10 +83,8 @@ clean_line p lines u h text words given e =
 -- ---- what each kind of line has
 
 pub is_ring_from_pending : (a : Actor) (pending : ℕ → List ℕ) → not (length (pending_of a pending) == 0) ≡ true → IsTrue (is_ring a)
-is_ring_from_pending Actor.Start pending e = absurd cc
 is_ring_from_pending (Actor.Ring ring) pending e = refl
-is_ring_from_pending Actor.Clock pending e = absurd cc
-is_ring_from_pending Actor.Stranger pending e = absurd cc
+is_ring_from_pending _ pending e = absurd cc
 
 pub few_rings : (p : Standing) (lines : List Stated) (u : Bool) (words : List (List ℕ)) (given : Option Entry) → IsClean p lines u Ring words given → length p.rings < RINGS
 few_rings p lines u words given c =
@@ -115,16 +113,7 @@ clean_entry p lines u kind words given c =
 
 some_arguments : (kind : Kind) → 1 ≤ arguments_of kind
 some_arguments Nop = omega arith
-some_arguments Read = omega arith
-some_arguments Write = omega arith
-some_arguments Close = omega arith
-some_arguments Poll = omega arith
-some_arguments Timeout = omega arith
-some_arguments LinkTimeout = omega arith
-some_arguments Cancel = omega arith
-some_arguments Remove = omega arith
-some_arguments Splice = omega arith
-some_arguments Raw = omega arith
+some_arguments _ = omega arith
 
 pub long_entry : (p : Standing) (lines : List Stated) (u : Bool) (kind : Kind) (words : List (List ℕ)) (given : Option Entry) → IsClean p lines u (Keyword.Entry kind) words given → 1 < length words
 long_entry p lines u kind words given c =
