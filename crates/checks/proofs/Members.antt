@@ -6,7 +6,7 @@ use Rattle.std.specs.Cmp.Derive.Mapped.{lex_map}
 use Rattle.std.specs.Global.{Vec}
 use Rattle.std.proofs.lemmas.List.{drop_all}
 use Rattle.script.specs.declared.table.Table.{Table}
-use Rattle.script.specs.contracts.table.TableOrd.TheImpl as order
+use Rattle.script.specs.contracts.table.TableOrd
 use Rattle.script.specs.Rows.{row_cmp, rows_cmp, rows_of}
 use Rattle.script.proofs.Items.{rest_at}
 use Rattle.explore.specs.Courses.{Among}
@@ -14,7 +14,7 @@ use Rattle.checks.specs.Tallies.{is_equal}
 use Rattle.checks.specs.Verdicts.{AreAmong}
 
 abbrev pub table_cmp : Table → Table → Ordering
-table_cmp = order.cmp-value.it
+table_cmp = TableOrd.TheImpl.cmp-value.it
 
 pub table_rows : (x y : Table) → table_cmp x y ≡ rows_cmp (rows_of x) (rows_of y)
 table_rows x y = sym (lex_map (λ (l : ℤ × Vec ℕ). (let r : ℤ × List ℕ = (l.0, l.1.items) in r)) row_cmp x.lines.items y.lines.items)

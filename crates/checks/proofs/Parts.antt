@@ -1,6 +1,6 @@
 -- The text of several tables, one table further; and what is told of a part.
 use Rattle.std.proofs.Common.{◌≡◌, ◌⊎◌, ℕ, zero, suc, ◌<◌, ℤ, List, [], ◌∷◌, ◌++◌, codes, length, map, vec_len, refl, subst, sym, ap, ◌∙◌, append_assoc, inl, inr, arith}
-use Rattle.std.proofs.lemmas.List.{append-nil, length-map, map_push}
+use Rattle.std.proofs.lemmas.List.{append-nil, length-map, map_push, nil_from_length}
 use Rattle.std.specs.Global.{Vec}
 use Rattle.script.specs.Rows.{rows_of}
 use Rattle.script.specs.declared.table.Table.{Table}
@@ -11,10 +11,7 @@ use Rattle.script_text.specs.declared.fault.ScriptFault.TheVariants.{Line, Memor
 use Rattle.checks.specs.TableFiles.{count_text, tables_text, AreTables, IsPartFault, IsTablesFault, IsTablesText}
 
 text_more : (c : Script) (xs : List (List (ℤ × List ℕ))) (x : List (ℤ × List ℕ)) → tables_text c (xs ++ x ∷ []) ≡ tables_text c xs ++ (table_text c.entries.items x ++ codes "\n")
-text_more c [] x = refl_nil (table_text c.entries.items x ++ codes "\n") where
-  refl_nil : (t : List ℕ) → t ++ [] ≡ t
-  refl_nil [] = refl
-  refl_nil (y ∷ t) = ap (λ (l : List ℕ). y ∷ l) (refl_nil t)
+text_more c [] x = append-nil (table_text c.entries.items x ++ codes "\n")
 text_more c (y ∷ ys) x =
     ap (λ (l : List ℕ). (table_text c.entries.items y ++ codes "\n") ++ l) (text_more c ys x)
     ∙ sym (append_assoc (table_text c.entries.items y ++ codes "\n") (tables_text c ys) (table_text c.entries.items x ++ codes "\n"))
@@ -59,22 +56,18 @@ positive (suc n) never = omega arith
 pub count_is : (v : Vec Table) → vec_len v ≡ length (map rows_of v.items)
 count_is v = v.ok.0 ∙ sym (length-map v.items rows_of)
 
-pub none_of : {X : Type 0} (xs : List X) → length xs ≡ 0 → xs ≡ []
-none_of [] e = refl
-none_of (x ∷ xs) e = absurd (omega arith)
-
 -- one table alone
 pub alone : (c : Script) (old : Vec Table) (new : List Table) (t : Table) (bytes rest : List ℕ) → vec_len old ≡ 0 → new ≡ old.items ++ t ∷ []
     → bytes ≡ tables_text c (map rows_of old.items) ++ rest → IsTableText c.entries.items (rows_of t) rest → IsTablesText c (map rows_of new) bytes
 alone c old new t bytes rest none is so_far text =
-    let nothing : old.items ≡ [] = none_of old.items (sym (old.ok.0) ∙ none) in
+    let nothing : old.items ≡ [] = nil_from_length old.items (sym (old.ok.0) ∙ none) in
     let one : map rows_of new ≡ rows_of t ∷ [] = ap (map rows_of) (is ∙ ap (λ (l : List Table). l ++ t ∷ []) nothing) in
     let all : bytes ≡ rest = so_far ∙ ap (λ (l : List Table). tables_text c (map rows_of l) ++ rest) nothing in
     inl (rows_of t, one, subst (IsTableText c.entries.items (rows_of t)) (sym all) text)
 
 pub nothing_before : (c : Script) (old : Vec Table) (bytes rest : List ℕ) → vec_len old ≡ 0 → bytes ≡ tables_text c (map rows_of old.items) ++ rest → bytes ≡ tables_text c [] ++ (rest ++ [])
 nothing_before c old bytes rest none so_far =
-    let nothing : old.items ≡ [] = none_of old.items (sym (old.ok.0) ∙ none) in
+    let nothing : old.items ≡ [] = nil_from_length old.items (sym (old.ok.0) ∙ none) in
     so_far ∙ (ap (λ (l : List Table). tables_text c (map rows_of l) ++ rest) nothing ∙ sym (append-nil rest))
 
 -- several

@@ -7,7 +7,7 @@ use Rattle.clap.specs.declared.builder.arg.Arg.{Arg}
 use Rattle.clap.specs.Simple.{app_of_fields}
 use Rattle.clap.specs.declared.builder.command.Command.{Command}
 use Rattle.clap.specs.declared.builder.command.Command.TheOpen.{Command-F}
-use Rattle.clap.specs.declared.builder.command.Command.TheViews.{out-Command as fields_of}
+use Rattle.clap.specs.declared.builder.command.Command.TheViews.{out-Command}
 use Rattle.clap.proofs.OnLiterals.{clap_on_literals}
 use Rattle.command_line.specs.CommandLine.{IsApp, IsRead, ringrun}
 
@@ -21,18 +21,18 @@ adds_word old x new a r is read it = (it.shape read.1 ∙ ap₂ with_rule is.0 r
 
 -- a command's name with its texts
 pub explains : (bare about help : Command) (text example : Bor Text) (a : App)
-    → fields_of about ≡ record (fields_of bare) { about = Some text } → fields_of help ≡ record (fields_of about) { after_help = Some example } → IsApp bare a → IsApp help a
+    → out-Command about ≡ record (out-Command bare) { about = Some text } → out-Command help ≡ record (out-Command about) { after_help = Some example } → IsApp bare a → IsApp help a
 explains bare about help text example a first second is =
-    let fields : fields_of help ≡ record (fields_of bare) { about = Some text; after_help = Some example } =
+    let fields : out-Command help ≡ record (out-Command bare) { about = Some text; after_help = Some example } =
     second ∙ ap (λ (f : Command-F Command). record f { after_help = Some example }) first in
     (ap app_of_fields fields ∙ is.0, ap (λ (f : Command-F Command). f.has_globals) fields ∙ is.1)
 
 -- and a longer one
 pub explains_more : (bare about long help : Command) (text more example : Bor Text) (a : App)
-    → fields_of about ≡ record (fields_of bare) { about = Some text } → fields_of long ≡ record (fields_of about) { long_about = Some more }
-    → fields_of help ≡ record (fields_of long) { after_help = Some example } → IsApp bare a → IsApp help a
+    → out-Command about ≡ record (out-Command bare) { about = Some text } → out-Command long ≡ record (out-Command about) { long_about = Some more }
+    → out-Command help ≡ record (out-Command long) { after_help = Some example } → IsApp bare a → IsApp help a
 explains_more bare about long help text more example a first second third is =
-    let fields : fields_of help ≡ record (fields_of bare) { about = Some text; long_about = Some more; after_help = Some example } =
+    let fields : out-Command help ≡ record (out-Command bare) { about = Some text; long_about = Some more; after_help = Some example } =
     third ∙ ap (λ (f : Command-F Command). record f { after_help = Some example }) (second ∙ ap (λ (f : Command-F Command). record f { long_about = Some more }) first) in
     (ap app_of_fields fields ∙ is.0, ap (λ (f : Command-F Command). f.has_globals) fields ∙ is.1)
 
@@ -41,11 +41,11 @@ settled a = record a { top = record (a.top) { has_version = true; subcommand_req
 
 -- the program's name with its texts and settings
 pub settles : (bare version about help required last : Command) (number text example : Bor Text) (a : App)
-    → fields_of version ≡ record (fields_of bare) { version = Some number } → fields_of about ≡ record (fields_of version) { about = Some text }
-    → fields_of help ≡ record (fields_of about) { after_help = Some example } → fields_of required ≡ record (fields_of help) { subcommand_required = true }
-    → fields_of last ≡ record (fields_of required) { arg_required_else_help = true } → IsApp bare a → IsApp last (settled a)
+    → out-Command version ≡ record (out-Command bare) { version = Some number } → out-Command about ≡ record (out-Command version) { about = Some text }
+    → out-Command help ≡ record (out-Command about) { after_help = Some example } → out-Command required ≡ record (out-Command help) { subcommand_required = true }
+    → out-Command last ≡ record (out-Command required) { arg_required_else_help = true } → IsApp bare a → IsApp last (settled a)
 settles bare version about help required last number text example a first second third fourth fifth is =
-    let fields : fields_of last ≡ record (fields_of bare) { version = Some number; about = Some text; after_help = Some example; subcommand_required = true; arg_required_else_help = true } =
+    let fields : out-Command last ≡ record (out-Command bare) { version = Some number; about = Some text; after_help = Some example; subcommand_required = true; arg_required_else_help = true } =
     fifth ∙ ap (λ (f : Command-F Command). record f { arg_required_else_help = true })
     (fourth ∙ ap (λ (f : Command-F Command). record f { subcommand_required = true })
     (third ∙ ap (λ (f : Command-F Command). record f { after_help = Some example })

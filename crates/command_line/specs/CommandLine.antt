@@ -3,10 +3,10 @@ use Rattle.std.specs.Prelude.{◌≡◌, ◌≤◌, ℕ, pos, true, false, List,
 use Rattle.std.specs.Borrow.{Bor}
 use Rattle.clap.specs.Words.{App, Row, Rule, Text, all_of, app_of, first_of, new_app, new_rule, one_of, rule_of, subcommand_of, with_rule, with_subcommand}
 use Rattle.clap.specs.declared.builder.command.Command.{Command}
-use Rattle.clap.specs.declared.builder.command.Command.TheViews.{out-Command as fields_of}
+use Rattle.clap.specs.declared.builder.command.Command.TheViews.{out-Command}
 use Rattle.clap.specs.declared.builder.ArgAction.TheVariants.{Set, SetTrue, Append}
 use Rattle.clap.specs.declared.builder.arg.Arg.{Arg}
-use Rattle.clap.specs.declared.builder.value_parser.ValueParser.TheVariants as parser
+use Rattle.clap.specs.declared.builder.value_parser.ValueParser.{ValueParser}
 use Rattle.limits.specs.declared.TheConstants.{WORKERS}
 use Rattle.command_line.specs.declared.job.Invocation.{Invocation}
 use Rattle.command_line.specs.declared.job.Job.{Job}
@@ -22,7 +22,7 @@ workers_rule = record (new_rule (codes "workers")) {
   long = Some (codes "workers");
   value_names = 1;
   defaults = codes "2" ∷ [];
-  parser = Some (parser.Signed (pos 1) (pos 64));
+  parser = Some (ValueParser.Signed (pos 1) (pos 64));
 }
 
 -- `--turns N`, 1 to 2^32 - 1
@@ -31,7 +31,7 @@ turns_rule = record (new_rule (codes "turns")) {
   long = Some (codes "turns");
   value_names = 1;
   defaults = codes "10000000" ∷ [];
-  parser = Some (parser.Signed (pos 1) (pos 4294967295));
+  parser = Some (ValueParser.Signed (pos 1) (pos 4294967295));
 }
 
 -- `--times N`, 1 to 10000
@@ -39,7 +39,7 @@ abbrev pub times_rule : Rule
 times_rule = record (new_rule (codes "times")) {
   long = Some (codes "times");
   value_names = 1;
-  parser = Some (parser.Signed (pos 1) (pos 10000));
+  parser = Some (ValueParser.Signed (pos 1) (pos 10000));
 }
 
 -- `--limit N`, 1 to 2^32 - 1, 200000 where it isn't given
@@ -48,7 +48,7 @@ limit_rule = record (new_rule (codes "limit")) {
   long = Some (codes "limit");
   value_names = 1;
   defaults = codes "200000" ∷ [];
-  parser = Some (parser.Signed (pos 1) (pos 4294967295));
+  parser = Some (ValueParser.Signed (pos 1) (pos 4294967295));
 }
 
 -- a flag, `--stats`, `--explain`, `--progress`, `--json`, `--lanes` or `--mermaid`
@@ -73,7 +73,7 @@ IsRead a rule = (rule_of a ≡ rule) × (a.global ≡ false)
 
 -- the command reads its words so, and has no argument that other commands read too
 abbrev pub IsApp : Command → App → Type 0
-IsApp c app = (app_of c ≡ app) × ((fields_of c).has_globals ≡ false)
+IsApp c app = (app_of c ≡ app) × ((out-Command c).has_globals ≡ false)
 
 abbrev pub run_app : App
 run_app = with_rule (with_rule (with_rule (with_rule (with_rule (new_app (codes "run")) workers_rule) turns_rule) times_rule) (flag_rule (codes "json"))) file_rule

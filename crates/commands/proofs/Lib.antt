@@ -1,4 +1,4 @@
 mod Listings
-mod Printing
+pub mod Printing
 mod Problems
 mod Telling

@@ -1,18 +1,18 @@
 -- What goes to standard error, part by part, and what is told of it.
-use Rattle.std.proofs.Common.{◌≡◌, ◌+◌, ◌++◌, ℕ, Bool, true, false, List, [], ◌∷◌, Some, None, Ok, Err, length, take, sym, subst, ap, ◌∙◌, add-one, length-append, arith}
+use Rattle.std.proofs.Common.{◌≡◌, ◌+◌, ◌++◌, ℕ, Bool, true, false, List, Some, None, Ok, Err, length, take, sym, subst, ap, ◌∙◌, length-append, arith}
 use Rattle.std.proofs.lemmas.List.{take-append-le}
 use Rattle.std.specs.Prelude.{Option, Result, OnErr, OnOk, IfErr, IfOk}
 use Rattle.std.specs.Global.{Vec}
 use Rattle.std.specs.Io.KnownBytes.{Appends, Keeps}
 use Rattle.std.proofs.KnownBytes.{Appends-kept, Appends-trans}
-use Rattle.std.proofs.Math.Seq.{take-length}
+use Rattle.std.proofs.Math.Seq.{take-length, take-append-add}
 use Rattle.script.specs.declared.script.Script.{Script}
 use Rattle.explore.specs.Search.{HasStates}
 use Rattle.streams.specs.Streams.{AppendsBeginning}
 use Rattle.commands.specs.declared.answer.FullAnswer.{FullAnswer}
 use Rattle.commands.specs.declared.told.Stats.{Stats}
 use Rattle.commands.specs.declared.job.Job.{Job}
-use Rattle.commands.specs.declared.job.Job.TheVariants.{Run, Outcomes, History}
+use Rattle.commands.specs.declared.job.Job.TheVariants.{Outcomes}
 use Rattle.commands.specs.declared.problem.Problem.{Problem}
 use Rattle.commands.specs.Printed.{AppendsSome, IsOutcomesText, IsQuiet, Prints, Reads}
 use Rattle.commands.specs.Told.{CountsFor, CountsIf, CountsOf, HasCounted, HasCounts, IsPlain, PutsCounts}
@@ -39,16 +39,10 @@ some_longer a b x y it =
     let long = length-append x y in let le = it.1 in
     (it.0, omega arith, subst (Appends a b) (sym (take-append-le it.0 x y it.1)) it.2)
 
-take_past : (xs ys : List ℕ) (n : ℕ) → take (length xs + n) (xs ++ ys) ≡ xs ++ take n ys
-take_past [] ys n = ap (λ (k : ℕ). take k ys) (let z : 0 + n ≡ n = omega arith in z)
-take_past (x ∷ xs) ys n = ap (λ (k : ℕ). take k (x ∷ (xs ++ ys))) (let z : length (x ∷ xs) + n ≡ (length xs + n) + 1 = omega arith in z) ∙ (one x (xs ++ ys) (length xs + n) ∙ ap (λ (l : List ℕ). x ∷ l) (take_past xs ys n)) where
-  one : (y : ℕ) (l : List ℕ) (k : ℕ) → take (k + 1) (y ∷ l) ≡ y ∷ take k l
-  one y l k = ap (λ (m : ℕ). take m (y ∷ l)) (add-one k)
-
 pub after_all : (a b c : Option (List ℕ)) (x y : List ℕ) → Appends a b x → AppendsSome b c y → AppendsSome a c (x ++ y)
 after_all a b c x y gone it =
     let long = length-append x y in let le = it.1 in
-    (length x + it.0, omega arith, subst (Appends a c) (sym (take_past x y it.0)) (Appends-trans a b c x (take it.0 y) gone it.2))
+    (length x + it.0, omega arith, subst (Appends a c) (sym (take-append-add x y it.0)) (Appends-trans a b c x (take it.0 y) gone it.2))
 
 pub begun_some : (a b : Option (List ℕ)) (x : List ℕ) → AppendsBeginning a b x → AppendsSome a b x
 begun_some a b x (count, less, went) = (count, omega arith, went)
@@ -110,16 +104,12 @@ put_none : (a b : Option (List ℕ)) (stats : Option Stats) → stats ≡ None �
 put_none a b stats is put = subst (λ (o : Option Stats). PutsCounts o a b) is put
 
 pub counted_for : (job : Job) (s a b : Option (List ℕ)) (stats : Option Stats) → CountsFor job s stats → PutsCounts stats a b → HasCounted job s a b
-counted_for (Run workers turns) s a b stats k put = put_none a b stats k put
 counted_for (Outcomes true) s a b stats k put = put_counts s a b stats k put
-counted_for (Outcomes false) s a b stats k put = put_none a b stats k put
-counted_for History s a b stats k put = put_none a b stats k put
+counted_for _ s a b stats k put = put_none a b stats k put
 
 pub quiet_counted : (job : Job) (s a b : Option (List ℕ)) → HasCounted job s a b → IsQuiet job → Keeps a b
-quiet_counted (Run workers turns) s a b k quiet = k
 quiet_counted (Outcomes true) s a b k quiet = absurd quiet
-quiet_counted (Outcomes false) s a b k quiet = k
-quiet_counted History s a b k quiet = k
+quiet_counted _ s a b k quiet = k
 
 -- ---- what a call ends with
 

@@ -4,9 +4,8 @@ use Rattle.std.specs.Global.{Vec}
 use Rattle.std.specs.Io.KnownBytes.{Keeps}
 use Rattle.std.specs.String.{string_bytes}
 use Rattle.script.specs.declared.script.Script.{Script}
-use Rattle.script_text.specs.declared.fault.Fault.{Fault}
-use Rattle.script_text.specs.declared.fault.Fault.TheVariants.{NotAscii, UnknownWord, OutOfPlace, MissingArgument, ExtraArgument, BadLabel, BadNumber, BadBytes, OutOfRange, DuplicateLabel, UnknownLabel, UnsubmittedEntries, BadTable}
-use Rattle.script_text.specs.declared.fault.ScriptFault.TheVariants.{Memory as NoMemory, Line as FaultyLine}
+use Rattle.script_text.specs.FaultWords.{fault_words}
+use Rattle.script_text.specs.declared.fault.ScriptFault.{ScriptFault}
 use Rattle.explore.specs.Search.{HasStates}
 use Rattle.commands.specs.declared.answer.FullAnswer.{FullAnswer}
 use Rattle.commands.specs.declared.told.Line.{Line}
@@ -14,7 +13,7 @@ use Rattle.commands.specs.declared.told.Stats.{Stats}
 use Rattle.commands.specs.declared.job.Job.{Job}
 use Rattle.commands.specs.declared.job.Job.TheVariants.{Outcomes}
 use Rattle.commands.specs.declared.problem.Problem.{Problem}
-use Rattle.commands.specs.declared.problem.Problem.TheVariants.{Input, Output, Stuck, Line as FaultOf, Workers, TooManyStates, Memory as OutOfMemory, Shared as BoardLeft}
+use Rattle.commands.specs.declared.problem.Problem.TheVariants.{Input, Output, Stuck, Workers, TooManyStates}
 use Rattle.commands.specs.Printed.{AppendsSome, Reads}
 use Rattle.commands.specs.Status.{status_of, Ends}
 
@@ -22,32 +21,17 @@ use Rattle.commands.specs.Status.{status_of, Ends}
 abbrev pub text_of : Line → List ℕ
 text_of line = line.lead.now ++ (line.name.now ++ (line.mark.now ++ (line.words.now ++ codes "\n")))
 
-abbrev pub fault_words : Fault → List ℕ
-fault_words NotAscii = codes "not ascii"
-fault_words UnknownWord = codes "unknown word"
-fault_words OutOfPlace = codes "out of place"
-fault_words MissingArgument = codes "missing argument"
-fault_words ExtraArgument = codes "extra argument"
-fault_words BadLabel = codes "bad label"
-fault_words BadNumber = codes "bad number"
-fault_words BadBytes = codes "bad bytes"
-fault_words OutOfRange = codes "out of range"
-fault_words DuplicateLabel = codes "duplicate label"
-fault_words UnknownLabel = codes "unknown label"
-fault_words UnsubmittedEntries = codes "unsubmitted entries"
-fault_words BadTable = codes "bad table"
-
 -- the line that tells a problem
 abbrev pub line_of : Problem → List ℕ
 line_of Input = codes "fault: input\n"
 line_of Output = codes "fault: output\n"
-line_of OutOfMemory = codes "fault: memory\n"
-line_of BoardLeft = codes "fault: shared\n"
+line_of Problem.Memory = codes "fault: memory\n"
+line_of Problem.Shared = codes "fault: shared\n"
 line_of Workers = codes "fault: workers\n"
 line_of TooManyStates = codes "fault: too many states\n"
 line_of (Stuck label) = codes "stuck " ++ (string_bytes label ++ codes "\n")
-line_of (FaultOf (FaultyLine line fault)) = codes "line " ++ (decimal line ++ (codes ": " ++ (fault_words fault ++ codes "\n")))
-line_of (FaultOf NoMemory) = codes "fault: memory\n"
+line_of (Problem.Line (ScriptFault.Line line fault)) = codes "line " ++ (decimal line ++ (codes ": " ++ (fault_words fault ++ codes "\n")))
+line_of (Problem.Line ScriptFault.Memory) = codes "fault: memory\n"
 
 -- how many in a second, where there were so many in some nanoseconds
 abbrev pub rate_in : ℕ → ℕ → ℕ

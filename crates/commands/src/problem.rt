@@ -1,15 +1,13 @@
 //! Why a command gives no answer.
 ghost use Rattle.std.specs.Prelude.{◌≡◌};
-ghost use Rattle.commands.specs.declared.problem.Problem.TheVariants.{Memory as OutOfMemory};
-ghost use Rattle.commands.specs.declared.problem.Problem.TheVariants.{Output as NotWritten};
 ghost use Rattle.commands.specs.Status.{of_input, of_script, of_search, of_run};
-ghost use Rattle.commands.specs.Told.{fault_words};
+ghost use Rattle.commands.specs.declared.problem.Problem.{Problem};
 
 use crate::told::Line;
 use explore::ExploreError;
 use itoa::Buffer;
 use script_run::RunFault;
-use script_text::{Fault, Memory, ScriptFault};
+use script_text::{Memory, ScriptFault};
 use std::alloc::{AllocError, AllocFailed};
 use std::fmt;
 use streams::{InputFault, OutputFault};
@@ -70,30 +68,9 @@ impl Problem {
                 lead: "line ",
                 name: digits.format(*line),
                 mark: ": ",
-                words: words_of(*fault),
+                words: fault.words(),
             },
         }
-    }
-}
-
-/// The words that tell a fault of a line.
-fn words_of(fault: Fault) -> &'static str
-    ensures { result.now ≡ fault_words fault }
-{
-    match fault {
-        Fault::NotAscii => "not ascii",
-        Fault::UnknownWord => "unknown word",
-        Fault::OutOfPlace => "out of place",
-        Fault::MissingArgument => "missing argument",
-        Fault::ExtraArgument => "extra argument",
-        Fault::BadLabel => "bad label",
-        Fault::BadNumber => "bad number",
-        Fault::BadBytes => "bad bytes",
-        Fault::OutOfRange => "out of range",
-        Fault::DuplicateLabel => "duplicate label",
-        Fault::UnknownLabel => "unknown label",
-        Fault::UnsubmittedEntries => "unsubmitted entries",
-        Fault::BadTable => "bad table",
     }
 }
 
@@ -121,7 +98,7 @@ impl From<InputFault> for Problem {
 }
 
 impl From<OutputFault> for Problem {
-    ghost from_gives = { λ _ p. p ≡ NotWritten };
+    ghost from_gives = { λ _ p. p ≡ Problem.Output };
 
     fn from(fault: OutputFault) -> Problem {
         match fault {
@@ -166,7 +143,7 @@ impl From<RunFault> for Problem {
 }
 
 impl From<Memory> for Problem {
-    ghost from_gives = { λ _ p. p ≡ OutOfMemory };
+    ghost from_gives = { λ _ p. p ≡ Problem.Memory };
 
     fn from(_e: Memory) -> Problem {
         Problem::Memory
@@ -174,7 +151,7 @@ impl From<Memory> for Problem {
 }
 
 impl From<AllocError> for Problem {
-    ghost from_gives = { λ _ p. p ≡ OutOfMemory };
+    ghost from_gives = { λ _ p. p ≡ Problem.Memory };
 
     fn from(_e: AllocError) -> Problem {
         Problem::Memory
@@ -182,7 +159,7 @@ impl From<AllocError> for Problem {
 }
 
 impl<T: Drop> From<AllocFailed<T>> for Problem {
-    ghost from_gives = { λ _ p. p ≡ OutOfMemory };
+    ghost from_gives = { λ _ p. p ≡ Problem.Memory };
 
     fn from(_e: AllocFailed<T>) -> Problem {
         Problem::Memory

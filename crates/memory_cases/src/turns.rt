@@ -1,7 +1,7 @@
 //! The turns of a poller and of a worker, one after another in one thread, on a board of one ring.
 ghost use Rattle.std.specs.Prelude.{◌≡◌, length, IfSome};
 ghost use Rattle.bell.specs.BellPasses.{IsRingerOf, IsSleeperOf};
-ghost use Rattle.ready.specs.Ready.{IsOf as IsOfQueue};
+ghost use Rattle.ready.specs.Ready;
 ghost use Rattle.work.specs.Board.{IsOf};
 
 use crate::boards::{Batch, add, new_board, shape_of, submit};
@@ -61,8 +61,8 @@ fn signals_of(alloc: Global) -> Option<(Bell, Ringer, Sleeper)>
 
 /// A ready queue, with a pass for the poller and one for the worker.
 fn lane_of(alloc: Global) -> Option<(ReadyQueue, ReadyPass, ReadyPass)>
-    ensures poller { IfSome result (λ t. IsOfQueue t.0 t.1) }
-    ensures worker { IfSome result (λ t. IsOfQueue t.0 t.2) }
+    ensures poller { IfSome result (λ t. Ready.IsOf t.0 t.1) }
+    ensures worker { IfSome result (λ t. Ready.IsOf t.0 t.2) }
 {
     let Ok((queue, mut passes)) = ReadyQueue::new(alloc, CELLS, 2) else {
         return None;
@@ -171,14 +171,14 @@ struct Stage {
 impl Model for Stage {
     ghost use Rattle.std.specs.Prelude.{◌≡◌, IfSome};
     ghost use Rattle.bell.specs.BellPasses.{IsRingerOf, IsSleeperOf};
-    ghost use Rattle.ready.specs.Ready.{IsOf as IsOfQueue};
+    ghost use Rattle.ready.specs.Ready;
     ghost use Rattle.work.specs.Board.{Facts, IsOf};
 
     ghost Value = { Facts };
 
     ghost view = { λ s. s.board };
 
-    ghost invariant = { λ s. IsOf s.board s.desk.poller × IsSleeperOf s.bell s.desk.sleeper × (s.desk.rings ≡ s.bell.rings) × IsOfQueue s.queue s.desk.ready × IsOfQueue s.queue s.work.ready × IfSome s.worker (λ w. IsOf s.board w) × IsOf s.board s.submitter × IsRingerOf s.bell s.ringer × (s.ringer.tail ≡ s.tail) };
+    ghost invariant = { λ s. IsOf s.board s.desk.poller × IsSleeperOf s.bell s.desk.sleeper × (s.desk.rings ≡ s.bell.rings) × Ready.IsOf s.queue s.desk.ready × Ready.IsOf s.queue s.work.ready × IfSome s.worker (λ w. IsOf s.board w) × IsOf s.board s.submitter × IsRingerOf s.bell s.ringer × (s.ringer.tail ≡ s.tail) };
 }
 
 /// Tells what was answered.

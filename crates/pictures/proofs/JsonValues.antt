@@ -5,7 +5,7 @@ use Rattle.std.specs.Global.{Vec}
 use Rattle.std.proofs.lemmas.List.{append-nil}
 use Rattle.pictures.proofs.Turns.{ends_here}
 use Rattle.history.specs.declared.event.Event.{Event}
-use Rattle.history.specs.declared.event.Event.TheVariants.{Submit, Begin, Park, Reply, Take, Miss, Tick, Arm, Expire, Count, Fire, FireMiss, Settle, Sever, Reap, Shut, Cut}
+use Rattle.history.specs.declared.event.Event.TheVariants.{Reply, Settle}
 use Rattle.script.specs.declared.named.Named.{Named}
 use Rattle.script.specs.declared.script.Script.{Script}
 use Rattle.script_text.specs.HistoryText.{label_of, settled}
@@ -55,23 +55,9 @@ reply_plain word label (pos n) = refl
 reply_plain word label (negsuc n) = refl
 
 event_plain : (c : Script) (before : List Event) (e : Event) → has_float (event_data c before e) ≡ false
-event_plain c before (Submit r e bytes last) = refl
-event_plain c before (Begin r) = refl
-event_plain c before (Park r) = refl
-event_plain c before (Expire r) = refl
-event_plain c before (Count r) = refl
-event_plain c before (Sever r) = refl
-event_plain c before (Reap r) = refl
-event_plain c before (Cut r) = refl
 event_plain c before (Reply r res bytes) = reply_plain (codes "reply") (label_of c r) res
 event_plain c before (Settle r) = reply_plain (codes "settle") (label_of c r) (settled before r)
-event_plain c before (Take r t) = refl
-event_plain c before (Miss r t) = refl
-event_plain c before (Fire r t) = refl
-event_plain c before (FireMiss r t) = refl
-event_plain c before (Tick n) = refl
-event_plain c before (Arm r d) = refl
-event_plain c before Shut = refl
+event_plain c before _ = refl
 
 events_plain : (c : Script) (before es : List Event) → items_have_float (items_of (events_after c before es)) ≡ false
 events_plain c before [] = refl

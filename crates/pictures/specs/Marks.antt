@@ -8,7 +8,6 @@ use Rattle.history.specs.History.{same}
 use Rattle.script.specs.declared.script.Script.{Script}
 use Rattle.script_text.specs.HistoryText.{event_text}
 use Rattle.pictures.specs.declared.marks.Lane.{Lane}
-use Rattle.pictures.specs.declared.marks.Lane.TheVariants as lane
 use Rattle.pictures.specs.declared.marks.Mark.{Mark}
 
 -- ---- the workers, each with the request that it runs
@@ -45,23 +44,23 @@ workers_after ws (e ∷ es) = workers_after (let_go (taken_up ws e) e) es
 
 -- who takes the step: the submitter of a ring, the poller, a worker, the clock, or the end
 abbrev pub lane_of : List (Option Req) → Event → Lane
-lane_of ws (Submit r e bytes last) = lane.Ring r.ring
-lane_of ws (Reap r) = lane.Ring r.ring
-lane_of ws (Begin r) = lane.Worker (place_of (Some r) ws)
-lane_of ws (Park r) = lane.Worker (place_of (Some r) ws)
-lane_of ws (Reply r res data') = lane.Worker (place_of (Some r) ws)
-lane_of ws (Take r t) = lane.Worker (place_of (Some r) ws)
-lane_of ws (Miss r t) = lane.Worker (place_of (Some r) ws)
-lane_of ws (Arm r d) = lane.Poller
-lane_of ws (Expire r) = lane.Poller
-lane_of ws (Count r) = lane.Poller
-lane_of ws (Fire r t) = lane.Poller
-lane_of ws (FireMiss r t) = lane.Poller
-lane_of ws (Settle r) = lane.Poller
-lane_of ws (Sever r) = lane.Poller
-lane_of ws (Tick n) = lane.Clock
-lane_of ws Shut = lane.End
-lane_of ws (Cut r) = lane.End
+lane_of ws (Submit r e bytes last) = Lane.Ring r.ring
+lane_of ws (Reap r) = Lane.Ring r.ring
+lane_of ws (Begin r) = Lane.Worker (place_of (Some r) ws)
+lane_of ws (Park r) = Lane.Worker (place_of (Some r) ws)
+lane_of ws (Reply r res data') = Lane.Worker (place_of (Some r) ws)
+lane_of ws (Take r t) = Lane.Worker (place_of (Some r) ws)
+lane_of ws (Miss r t) = Lane.Worker (place_of (Some r) ws)
+lane_of ws (Arm r d) = Lane.Poller
+lane_of ws (Expire r) = Lane.Poller
+lane_of ws (Count r) = Lane.Poller
+lane_of ws (Fire r t) = Lane.Poller
+lane_of ws (FireMiss r t) = Lane.Poller
+lane_of ws (Settle r) = Lane.Poller
+lane_of ws (Sever r) = Lane.Poller
+lane_of ws (Tick n) = Lane.Clock
+lane_of ws Shut = Lane.End
+lane_of ws (Cut r) = Lane.End
 
 -- the ring of the request that a cancel has hit, or that a timer has ended
 abbrev pub target_of : Event → Option ℕ

@@ -1,5 +1,5 @@
 -- Loops over files and runs: what is made so far goes on with whatever is made of the rest.
-use Rattle.std.proofs.Common.{◌≡◌, ℕ, zero, suc, ◌+◌, ◌<◌, ◌≤◌, Bool, true, false, List, [], ◌∷◌, ◌++◌, drop, get_or, length, map, reverse, refl, sym, ap, ◌∙◌, subst, append_assoc, add-one, inl, inr, arith}
+use Rattle.std.proofs.Common.{◌≡◌, ℕ, zero, suc, ◌+◌, ◌<◌, ◌≤◌, Bool, true, false, List, [], ◌∷◌, ◌++◌, drop, get_or, length, map, reverse, refl, sym, ap, ◌∙◌, subst, append_assoc, add-one, inl, inr}
 use Rattle.std.proofs.Math.Seq.{drop-cons}
 use Rattle.std.specs.Prelude.{Option, ◌&&◌, if◌then◌else◌}
 use Rattle.std.specs.Borrow.{Bor}
@@ -121,7 +121,3 @@ run_more c workers old new t wrote run is so_far rest are =
 
 pub runs_all : (c : Script) (workers : ℕ) (made : List Table) → RunsOn c workers made → AreRuns c workers made
 runs_all c workers made so_far = subst (AreRuns c workers) (append-nil made) (so_far [] tt)
-
-pub none_of : {X : Type 0} (xs : List X) → length xs ≡ 0 → xs ≡ []
-none_of [] e = refl
-none_of (x ∷ xs) e = absurd (omega arith)

@@ -13,16 +13,16 @@ use Rattle.checks.specs.TableFiles.{IsTablesText}
 use Rattle.checks.specs.Verdicts.{AreAmong, IsVerdict}
 use Rattle.command_line.specs.declared.job.Look.{Look}
 use Rattle.commands.specs.declared.problem.Problem.{Problem}
-use Rattle.commands.specs.declared.problem.Problem.TheVariants.{Input, Output, Stuck, Line, Workers, TooManyStates, Memory, Shared}
+use Rattle.commands.specs.declared.problem.Problem.TheVariants.{Input, Output, Line, Memory}
 use Rattle.command_line.specs.declared.job.Job.{Job}
 use Rattle.command_line.specs.declared.job.Job.TheVariants.{Run, Outcomes, History, Check}
-use Rattle.commands.specs.Printed.{AreAll, Reads}
+use Rattle.commands.specs.Printed.{AreAll}
 use Rattle.commands.specs.Status.{of_script}
+use Rattle.commands.proofs.Printing.{reads_of}
 use Rattle.script.specs.Rows.{rows_of}
 use Rattle.script.specs.declared.table.Table.{Table}
 use Rattle.script_text.specs.Scripts.{IsToldOfText, SaysScript}
 use Rattle.script_text.specs.declared.fault.ScriptFault.{ScriptFault}
-use Rattle.script_text.specs.declared.fault.ScriptFault.TheVariants.{Memory as NoMemory, Line as FaultyLine}
 use Rattle.queries.specs.declared.answer.Reply.{Reply}
 use Rattle.queries.specs.Answers.{none_text, runs_text, AreRuns, IsLookText, IsRunsText, PrintsOf}
 use Rattle.queries.specs.Ends.{CountsFor, EndsBy, IsAnswer}
@@ -32,22 +32,13 @@ use Rattle.queries.specs.Reasons.{Explains, IsOfBytes, IsOfFile, IsOfFiles, IsOf
 pub of_files : (c : Script) (given : List (List ℕ × List ℕ)) (x : List ℕ × List ℕ) (p : Problem) → Among x given → IsOfFile c x.1 p → IsOfFiles c given p
 of_files c given x (Line fault) there is = (x, there, is)
 of_files c given x Memory there is = tt
-of_files c given x Input there is = is
-of_files c given x Output there is = is
-of_files c given x (Stuck label) there is = absurd is
-of_files c given x Workers there is = is
-of_files c given x TooManyStates there is = is
-of_files c given x Shared there is = is
+of_files c given x _ there is = absurd is
 
 of_table : (c : Script) (given : List (List ℕ × List ℕ)) (x : List ℕ × List ℕ) (p : Problem) → Among x given → IsOfBytes c x.1 p → IsOfTable c given p
 of_table c given x (Line fault) there is = (x, there, is)
 of_table c given x Memory there is = tt
 of_table c given x Input there is = tt
-of_table c given x Output there is = is
-of_table c given x (Stuck label) there is = absurd is
-of_table c given x Workers there is = is
-of_table c given x TooManyStates there is = is
-of_table c given x Shared there is = is
+of_table c given x _ there is = absurd is
 
 -- the first that is given
 pub first_given : (given : List (Bor (List ℕ) × Vec ℕ)) (x : Bor (List ℕ) × Vec ℕ) → 1 ≤ length given → x ≡ get_or given 0 x → map given_of given ≡ given_of x ∷ map given_of (drop 1 given)
@@ -83,12 +74,9 @@ many_runs r c workers times n json tables is are many told =
 
 -- ---- what is told of what was read
 
-pub reads_of : (known : Option (List ℕ)) (bytes now : List ℕ) (c : Script) → AreAll known bytes → now ≡ bytes → SaysScript now c → Reads known c
-reads_of known bytes now c all is says = record { bytes = now; all = subst (AreAll known) (sym is) all; says = says }
-
 pub of_script_fault : (job : Job) (s : Option (List ℕ)) (ts : List Known) (bytes now : List ℕ) (e : ScriptFault) (p : Problem) → AreAll s bytes → now ≡ bytes → IsToldOfText now e → p ≡ of_script e → Explains job s ts p
-of_script_fault job s ts bytes now NoMemory p all is told same = rw same (inl tt)
-of_script_fault job s ts bytes now (FaultyLine line fault) p all is told same = rw same (inl (record { bytes = now; all = subst (AreAll s) (sym is) all; is_first = told }))
+of_script_fault job s ts bytes now ScriptFault.Memory p all is told same = rw same (inl tt)
+of_script_fault job s ts bytes now (ScriptFault.Line line fault) p all is told same = rw same (inl (record { bytes = now; all = subst (AreAll s) (sym is) all; is_first = told }))
 
 pub answered : (r : Result Reply Problem) (job : Job) (s : Option (List ℕ)) (ts : List Known) (bytes now : List ℕ) (c : Script) (given : List (List ℕ × List ℕ))
     → AreAll s bytes → now ≡ bytes → SaysScript now c → AreRead ts given → IfOk r (λ a. PrintsOf job c given a.status a.text.items) → IfOk r (λ a. CountsFor job c a.stats)
@@ -112,13 +100,7 @@ no_output (Check limit progress json) c given (inr h) = h
 pub ends_by : (job : Job) (s : Option (List ℕ)) (ts : List Known) (old new : Option (List ℕ)) (p : Problem) → Explains job s ts p → Keeps old new → EndsBy job s ts old new p
 ends_by job s ts old new Output (inl h) kept = absurd h
 ends_by job s ts old new Output (inr h) kept = absurd (no_output job h.says h.given h.why)
-ends_by job s ts old new Input h kept = (h, kept)
-ends_by job s ts old new Memory h kept = (h, kept)
-ends_by job s ts old new Shared h kept = (h, kept)
-ends_by job s ts old new Workers h kept = (h, kept)
-ends_by job s ts old new TooManyStates h kept = (h, kept)
-ends_by job s ts old new (Stuck label) h kept = (h, kept)
-ends_by job s ts old new (Line fault) h kept = (h, kept)
+ends_by job s ts old new _ h kept = (h, kept)
 
 -- the second of two cases, as another
 pub right_as : {A B C : Type 0} → A ⊎ B → (B → C) → A ⊎ C

@@ -6,7 +6,7 @@ use Rattle.commands.specs.Printed.{AppendsSome}
 use Rattle.commands.specs.Told.{line_of}
 use Rattle.commands.specs.Status.{status_of}
 use Rattle.commands.specs.declared.problem.Problem.{Problem}
-use Rattle.commands.specs.declared.problem.Problem.TheVariants.{Input, Memory as OutOfMemory}
+use Rattle.commands.specs.declared.problem.Problem.TheVariants.{Input}
 use Rattle.command_line.specs.declared.job.Job.{Job}
 use Rattle.queries.specs.Ends.{Ends}
 use Rattle.queries.specs.Given.{Known}
@@ -21,7 +21,7 @@ AreTablesAt {F} opens file (n ∷ ns) (k ∷ ks) = ((k.0 ≡ n) × (x : F) × op
 -- a file could not be opened, or memory ran out; nothing was read
 pub record IsClosed (out-old out-new err-old err-new : Option (List ℕ)) (status : ℕ) : Type 0 where
   pub problem : Problem
-  pub which : (problem ≡ Input) ⊎ (problem ≡ OutOfMemory)
+  pub which : (problem ≡ Input) ⊎ (problem ≡ Problem.Memory)
   pub status_is : status ≡ status_of problem
   pub kept : Keeps out-old out-new
   pub line : AppendsSome err-old err-new (line_of problem)

@@ -3,19 +3,19 @@ use mir.Syntax.{impl, tnil, dnil}
 use mathlib.Core.List.{[]}
 use denote.Signature.{Slot, plain}
 use Rattle.std.proofs.BoxSteps.Form.{Bx}
-use Rattle.std.specs.contracts.alloc.Global as Heap
+use Rattle.std.specs.contracts.alloc.Global
 use Rattle.std.specs.contracts.impls.GlobalAllocator.TheImpl.{ghosts, dict}
-use Rattle.std.proofs.alloc.Global.TheLaws as heap
-use Rattle.ring_c.specs.contracts.inside.Inside as Inside
-use Rattle.ring_c.proofs.inside.Inside.TheLaws as inside
-use Rattle.ring_c.specs.contracts.parts.Parts as Parts
-use Rattle.ring_c.specs.contracts.slot.Slot as SlotRow
+use Rattle.std.proofs.alloc
+use Rattle.ring_c.specs.contracts.inside.Inside
+use Rattle.ring_c.proofs.inside
+use Rattle.ring_c.specs.contracts.parts.Parts
+use Rattle.ring_c.specs.contracts.slot
 
 abbrev pub E : Bx
-E = record { row = Inside.the_row; laws = inside.the_row_laws; al = record { row = Heap.the_row; laws = heap.the_row_laws; g = ghosts; d = dict; drops = impl [] tnil dnil } }
+E = record { row = Inside.the_row; laws = inside.Inside.TheLaws.the_row_laws; al = record { row = Global.the_row; laws = alloc.Global.TheLaws.the_row_laws; g = ghosts; d = dict; drops = impl [] tnil dnil } }
 
 abbrev pub FromParts : Slot 0
-FromParts = plain (λ _. Parts.the_row Inside.the_row Heap.the_row ghosts)
+FromParts = plain (λ _. Parts.the_row Inside.the_row Global.the_row ghosts)
 
 abbrev pub FromSlot : Slot 0
-FromSlot = plain (λ _. SlotRow.the_row)
+FromSlot = plain (λ _. slot.Slot.the_row)

@@ -1,9 +1,7 @@
 -- The numbers of the codes.
 use Rattle.std.specs.Prelude.{ℕ, Result, Ok, Err}
 use Rattle.board.specs.declared.error.SubmitError.{SubmitError}
-use Rattle.board.specs.declared.error.SubmitError.TheVariants as submit
 use Rattle.board.specs.declared.error.ReapError.{ReapError}
-use Rattle.board.specs.declared.error.ReapError.TheVariants as reap
 use Rattle.ring_c.specs.declared.code.Code.{Code}
 use Rattle.ring_c.specs.declared.code.Code.TheVariants.{Closed, WrongKind, InUse, Memory, Length, Full, BufferLength, Spent, NotYet, Gone, Foreign, NotReady, Parked, PipeBusy, ClockEnd, BadShape, Missing}
 
@@ -32,11 +30,11 @@ answer_of (Ok x) = 0
 answer_of (Err c) = number_of c
 
 abbrev pub code_for : SubmitError → Code
-code_for submit.Full = Full
-code_for submit.BufferLength = BufferLength
-code_for submit.Spent = Spent
+code_for SubmitError.Full = Full
+code_for SubmitError.BufferLength = BufferLength
+code_for SubmitError.Spent = Spent
 
 abbrev pub reap_code_for : ReapError → Code
-reap_code_for reap.NotYet = NotYet
-reap_code_for reap.Gone = Gone
-reap_code_for reap.Foreign = Foreign
+reap_code_for ReapError.NotYet = NotYet
+reap_code_for ReapError.Gone = Gone
+reap_code_for ReapError.Foreign = Foreign

@@ -7,13 +7,13 @@ use Rattle.steps.specs.declared.line.Line.TheVariants.{Did}
 use Rattle.steps.specs.declared.view.Role.TheVariants.{Busy}
 use Rattle.steps.specs.Rule.{Extends, Looks}
 use Rattle.work.specs.declared.run.Ran.{Ran}
-use Rattle.work.specs.declared.run.Ran.TheVariants.{Replied, Parked as PutBack}
-use Rattle.work.specs.declared.run.Parked.TheVariants as why
+use Rattle.work.specs.declared.run.Ran.TheVariants.{Replied}
+use Rattle.work.specs.declared.run.Parked.{Parked}
 use Rattle.work.specs.Board.{Facts, IsOf}
 use Rattle.work.specs.Passes.{Pass, Running, FoundNotReady}
 use Rattle.work.specs.WorkerRuns.{IsRun}
 use Rattle.ring_c.specs.declared.code.Code.{Code}
-use Rattle.ring_c.specs.declared.code.Code.TheVariants.{NotReady, Parked, PipeBusy}
+use Rattle.ring_c.specs.declared.code.Code.TheVariants.{NotReady, PipeBusy}
 
 -- the worker p began r, ran it so, and is q then
 pub record HasRun (b : Facts) (r : Req) (p q : Pass) (ran : Ran) : Type 0 where
@@ -31,8 +31,8 @@ pub record HasFoundIt (b : Facts) (r : Req) (p q : Pass) : Type 0 where
 
 abbrev pub Works : Facts → Req → Pass → Pass → Result Cqe Code → Type 0
 Works b r p q (Ok cqe) = HasRun b r p q (Replied cqe)
-Works b r p q (Err Parked) = HasRun b r p q (PutBack why.NotReady)
-Works b r p q (Err PipeBusy) = HasRun b r p q (PutBack why.PipeBusy)
+Works b r p q (Err Code.Parked) = HasRun b r p q (Ran.Parked Parked.NotReady)
+Works b r p q (Err PipeBusy) = HasRun b r p q (Ran.Parked Parked.PipeBusy)
 Works b r p q (Err NotReady) = HasFoundIt b r p q
 Works b r p q (Err code) = ⊥
 

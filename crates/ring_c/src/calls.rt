@@ -1,16 +1,16 @@
 //! The calls on a pass, as C makes them.
 ghost use Rattle.std.specs.Prelude.{◌≡◌, ◌≢◌, ℕ, Result};
-ghost use Rattle.entry.specs.declared.cqe.Cqe.{Cqe as Completed};
-ghost use Rattle.board.specs.declared.phase.Phase.{Phase as Standing};
-ghost use Rattle.ring_c.specs.declared.code.Code.{Code as Why};
-ghost use Rattle.ring_c.specs.declared.results.Turn.{Turn as Told};
+ghost use Rattle.entry.specs.declared.cqe.Cqe.{Cqe};
+ghost use Rattle.board.specs.declared.phase.Phase.{Phase};
+ghost use Rattle.ring_c.specs.declared.code.Code.{Code};
+ghost use Rattle.ring_c.specs.declared.results.Turn.{Turn};
 ghost use Rattle.ring_c.specs.Codes.{answer_of};
 ghost use Rattle.ring_c.specs.Handles.{GivesBytes, GivesTook, LooksIn, OfClient, OfDesk, OfHand, PollsThe, ReapsThe, SubmitsThe, Through, TicksAt, WorksAt};
 ghost use Rattle.ring_c.specs.Results.{counted_as, looked_as, polled_as, reaped_as};
 
 use crate::code::{Code, answer_number};
 use crate::handle::Handle;
-use crate::inside::{Inside, bytes_in, look_in, poll_in, submit_in, took_in};
+use crate::inside::{bytes_in, look_in, poll_in, reap_in, submit_in, tick_in, took_in, work_in};
 use crate::number::Number;
 use crate::results::{Counted, Looked, Polled, Reaped};
 use history::Req;
@@ -19,7 +19,7 @@ use std::alloc::Global;
 /// Where a request stands, by a pass of any kind.
 #[unsafe(no_mangle)]
 pub extern "C" fn ring_c_look(alloc: Global, handle: &mut Handle, ring: u16, k: u64) -> Looked
-    ensures looked { (a : Result Standing Why) × (result ≡ looked_as a) × Through (LooksIn (record { ring = ring; k = k })) handle.old.slot.inside handle.new.slot.inside a }
+    ensures looked { (a : Result Phase Code) × (result ≡ looked_as a) × Through (LooksIn (record { ring = ring; k = k })) handle.old.slot.inside handle.new.slot.inside a }
     ensures stamp { handle.new.stamp ≡ handle.old.stamp }
 {
     let Some(mut inside) = handle.take(alloc) else {
@@ -38,7 +38,7 @@ pub extern "C" fn ring_c_submit(
     entries: &[u8],
     bytes: &[u8],
 ) -> Counted
-    ensures submitted { (a : Result ℕ Why) × (result ≡ counted_as a) × Through (OfClient (SubmitsThe entries.now bytes.now)) handle.old.slot.inside handle.new.slot.inside a }
+    ensures submitted { (a : Result ℕ Code) × (result ≡ counted_as a) × Through (OfClient (SubmitsThe entries.now bytes.now)) handle.old.slot.inside handle.new.slot.inside a }
     ensures stamp { handle.new.stamp ≡ handle.old.stamp }
 {
     let Some(mut inside) = handle.take(alloc) else {
@@ -52,16 +52,13 @@ pub extern "C" fn ring_c_submit(
 /// Takes the request's completion, by a client, which keeps its buffer.
 #[unsafe(no_mangle)]
 pub extern "C" fn ring_c_reap(alloc: Global, handle: &mut Handle, ring: u16, k: u64) -> Reaped
-    ensures reaped { (a : Result (Completed × ℕ) Why) × (result ≡ reaped_as a) × Through (OfClient (ReapsThe (record { ring = ring; k = k }))) handle.old.slot.inside handle.new.slot.inside a }
+    ensures reaped { (a : Result (Cqe × ℕ) Code) × (result ≡ reaped_as a) × Through (OfClient (ReapsThe (record { ring = ring; k = k }))) handle.old.slot.inside handle.new.slot.inside a }
     ensures stamp { handle.new.stamp ≡ handle.old.stamp }
 {
     let Some(mut inside) = handle.take(alloc) else {
         return Reaped::of(Err(Code::Closed));
     };
-    let answer = match &mut *inside {
-        Inside::Client(client) => client.reap(Req { ring, k }),
-        _ => Err(Code::WrongKind),
-    };
+    let answer = reap_in(&mut inside, Req { ring, k });
     handle.put(inside);
     Reaped::of(answer)
 }
@@ -69,7 +66,7 @@ pub extern "C" fn ring_c_reap(alloc: Global, handle: &mut Handle, ring: u16, k: 
 /// Copies the buffer of the completion that the client reaped last.
 #[unsafe(no_mangle)]
 pub extern "C" fn ring_c_bytes(alloc: Global, handle: &mut Handle, out: &mut [u8]) -> Counted
-    ensures bytes { (a : Result ℕ Why) × (result ≡ counted_as a) × Through (OfClient (GivesBytes out.old out.new)) handle.old.slot.inside handle.new.slot.inside a }
+    ensures bytes { (a : Result ℕ Code) × (result ≡ counted_as a) × Through (OfClient (GivesBytes out.old out.new)) handle.old.slot.inside handle.new.slot.inside a }
     ensures still { result.code ≢ 0 → out.new ≡ out.old }
     ensures stamp { handle.new.stamp ≡ handle.old.stamp }
 {
@@ -84,16 +81,13 @@ pub extern "C" fn ring_c_bytes(alloc: Global, handle: &mut Handle, out: &mut [u8
 /// Begins the request and runs it, by a worker.
 #[unsafe(no_mangle)]
 pub extern "C" fn ring_c_work(alloc: Global, handle: &mut Handle, ring: u16, k: u64) -> Reaped
-    ensures worked { (a : Result (Completed × ℕ) Why) × (result ≡ reaped_as a) × Through (OfHand (WorksAt (record { ring = ring; k = k }))) handle.old.slot.inside handle.new.slot.inside a }
+    ensures worked { (a : Result (Cqe × ℕ) Code) × (result ≡ reaped_as a) × Through (OfHand (WorksAt (record { ring = ring; k = k }))) handle.old.slot.inside handle.new.slot.inside a }
     ensures stamp { handle.new.stamp ≡ handle.old.stamp }
 {
     let Some(mut inside) = handle.take(alloc) else {
         return Reaped::of(Err(Code::Closed));
     };
-    let answer = match &mut *inside {
-        Inside::Hand(hand) => hand.run(Req { ring, k }),
-        _ => Err(Code::WrongKind),
-    };
+    let answer = work_in(&mut inside, Req { ring, k });
     handle.put(inside);
     Reaped::of(answer)
 }
@@ -101,7 +95,7 @@ pub extern "C" fn ring_c_work(alloc: Global, handle: &mut Handle, ring: u16, k: 
 /// Copies which requests the worker's last run ended besides the one that it ran.
 #[unsafe(no_mangle)]
 pub extern "C" fn ring_c_took(alloc: Global, handle: &mut Handle, list: &mut [Number]) -> Counted
-    ensures took { (a : Result ℕ Why) × (result ≡ counted_as a) × Through (OfHand (GivesTook list.old list.new)) handle.old.slot.inside handle.new.slot.inside a }
+    ensures took { (a : Result ℕ Code) × (result ≡ counted_as a) × Through (OfHand (GivesTook list.old list.new)) handle.old.slot.inside handle.new.slot.inside a }
     ensures still { result.code ≢ 0 → list.new ≡ list.old }
     ensures stamp { handle.new.stamp ≡ handle.old.stamp }
 {
@@ -121,7 +115,7 @@ pub extern "C" fn ring_c_poll(
     ready: &mut [Number],
     answered: &mut [Number],
 ) -> Polled
-    ensures polled { (a : Result Told Why) × (result ≡ polled_as a) × Through (OfDesk (PollsThe ready.old ready.new answered.old answered.new)) handle.old.slot.inside handle.new.slot.inside a }
+    ensures polled { (a : Result Turn Code) × (result ≡ polled_as a) × Through (OfDesk (PollsThe ready.old ready.new answered.old answered.new)) handle.old.slot.inside handle.new.slot.inside a }
     ensures still { result.code ≢ 0 → (ready.new ≡ ready.old) × (answered.new ≡ answered.old) }
     ensures stamp { handle.new.stamp ≡ handle.old.stamp }
 {
@@ -136,16 +130,13 @@ pub extern "C" fn ring_c_poll(
 /// Sets the clock on, by a poller.
 #[unsafe(no_mangle)]
 pub extern "C" fn ring_c_tick(alloc: Global, handle: &mut Handle, to: u32) -> u32
-    ensures ticked { (a : Result (Unit {0}) Why) × (result ≡ answer_of a) × Through (OfDesk (TicksAt to)) handle.old.slot.inside handle.new.slot.inside a }
+    ensures ticked { (a : Result (Unit {0}) Code) × (result ≡ answer_of a) × Through (OfDesk (TicksAt to)) handle.old.slot.inside handle.new.slot.inside a }
     ensures stamp { handle.new.stamp ≡ handle.old.stamp }
 {
     let Some(mut inside) = handle.take(alloc) else {
         return Code::Closed.number();
     };
-    let answer = match &mut *inside {
-        Inside::Desk(desk) => desk.tick(to),
-        _ => Err(Code::WrongKind),
-    };
+    let answer = tick_in(&mut inside, to);
     handle.put(inside);
     answer_number(answer)
 }

@@ -1,6 +1,5 @@
 //! The passes of a board leave its poller's desk, and come back.
-ghost use Rattle.std.specs.Prelude.{◌≡◌, [], IfOk, IfErr};
-ghost use Rattle.ring_c.specs.declared.inside.Inside.TheVariants.{Desk as DeskIn};
+ghost use Rattle.std.specs.Prelude.{◌≡◌, IfOk, IfErr};
 ghost use Rattle.ring_c.specs.Sides.{DeskFacts};
 ghost use Rattle.ring_c.specs.declared.code.Code.TheVariants.{Memory, BadShape};
 ghost use Rattle.ring_c.specs.Lives.{AreOfTwo, GivesPass, IsMade, IsShapeOf, IsUnmade, TakesIn};
@@ -75,7 +74,7 @@ pub(crate) fn poller_of(
     pipes: &[u32],
     workers: u32,
 ) -> Result<Box<Inside>, Code>
-    ensures made { IfOk result (λ m. (x : DeskFacts) × (m.value ≡ DeskIn x) × IsMade rings.now pipes.now workers x) }
+    ensures made { IfOk result (λ m. (x : DeskFacts) × (m.value ≡ Inside.Desk x) × IsMade rings.now pipes.now workers x) }
     ensures refused { IfErr result (λ c. IsUnmade rings.now pipes.now workers c) }
 {
     let mut made = match empty_box(alloc) {

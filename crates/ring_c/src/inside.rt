@@ -1,6 +1,6 @@
 //! What a handle leads to, and its calls.
 ghost use Rattle.std.specs.Prelude.{◌≡◌, IfErr};
-ghost use Rattle.ring_c.specs.Handles.{EndsIn, GivesBytes, GivesTook, LooksIn, OfClient, OfDesk, OfHand, PollsThe, SubmitsThe};
+ghost use Rattle.ring_c.specs.Handles.{EndsIn, GivesBytes, GivesTook, LooksIn, OfClient, OfDesk, OfHand, PollsThe, ReapsThe, SubmitsThe, TicksAt, WorksAt};
 
 use crate::client::Client;
 use crate::code::Code;
@@ -9,6 +9,7 @@ use crate::hand::Hand;
 use crate::number::{Number, copy_numbers};
 use crate::results::Turn;
 use board::{Phase, Report};
+use entry::Cqe;
 use history::Req;
 use std::alloc::Global;
 use std::mem::replace;
@@ -54,6 +55,36 @@ pub(crate) fn submit_in(
 {
     match inside {
         Inside::Client(client) => client.submit(alloc, entries, bytes),
+        _ => Err(Code::WrongKind),
+    }
+}
+
+/// Takes the request's completion, by a client, which keeps its buffer. How long that is.
+pub(crate) fn reap_in(inside: &mut Inside, req: Req) -> Result<(Cqe, u64), Code>
+    ensures { OfClient (ReapsThe req) inside.old inside.new result }
+{
+    match inside {
+        Inside::Client(client) => client.reap(req),
+        _ => Err(Code::WrongKind),
+    }
+}
+
+/// Begins the request and runs it, by a worker. How many requests that ended besides.
+pub(crate) fn work_in(inside: &mut Inside, req: Req) -> Result<(Cqe, u64), Code>
+    ensures { OfHand (WorksAt req) inside.old inside.new result }
+{
+    match inside {
+        Inside::Hand(hand) => hand.run(req),
+        _ => Err(Code::WrongKind),
+    }
+}
+
+/// Sets the clock on, by a poller.
+pub(crate) fn tick_in(inside: &mut Inside, to: u32) -> Result<(), Code>
+    ensures { OfDesk (TicksAt to) inside.old inside.new result }
+{
+    match inside {
+        Inside::Desk(desk) => desk.tick(to),
         _ => Err(Code::WrongKind),
     }
 }

@@ -1,9 +1,9 @@
 //! How C opens a board, gets its passes, gives them back and ends it.
 ghost use Rattle.std.specs.Prelude.{◌≡◌, ◌≢◌, ℕ, Result, None};
-ghost use Rattle.ring_c.specs.declared.results.Line.{Line as Told};
+ghost use Rattle.ring_c.specs.declared.results.Line.{Line};
 ghost use Rattle.ring_c.specs.Reports.{GivesLineBytes, TellsLine};
 ghost use Rattle.ring_c.specs.Results.{counted_as, line_as};
-ghost use Rattle.ring_c.specs.declared.code.Code.{Code as Why};
+ghost use Rattle.ring_c.specs.declared.code.Code.{Code};
 ghost use Rattle.ring_c.specs.Codes.{answer_of};
 ghost use Rattle.ring_c.specs.Handles.{EndsIn, Through};
 ghost use Rattle.ring_c.specs.Lives.{AreOfOne, GivesOut, GivesPass, Opens, TakesBack};
@@ -27,7 +27,7 @@ pub extern "C" fn ring_c_new(
     workers: u32,
     poller: &mut Handle,
 ) -> u32
-    ensures opened { (a : Result (Unit {0}) Why) × (result ≡ answer_of a) × Opens rings.now pipes.now workers poller.old.slot.inside poller.new.slot.inside a }
+    ensures opened { (a : Result (Unit {0}) Code) × (result ≡ answer_of a) × Opens rings.now pipes.now workers poller.old.slot.inside poller.new.slot.inside a }
     ensures stamp { result ≡ 0 → poller.new.stamp ≡ stamp }
 {
     if poller.is_open() {
@@ -50,7 +50,7 @@ pub extern "C" fn ring_c_give(
     pass: &mut Handle,
     is_worker: bool,
 ) -> u32
-    ensures given { (a : Result (Unit {0}) Why) × (result ≡ answer_of a) × GivesOut (GivesPass is_worker) poller.old.slot.inside poller.new.slot.inside pass.old.slot.inside pass.new.slot.inside a }
+    ensures given { (a : Result (Unit {0}) Code) × (result ≡ answer_of a) × GivesOut (GivesPass is_worker) poller.old.slot.inside poller.new.slot.inside pass.old.slot.inside pass.new.slot.inside a }
     ensures stamp { (poller.new.stamp ≡ poller.old.stamp) × (result ≡ 0 → pass.new.stamp ≡ poller.old.stamp) }
 {
     if pass.is_open() {
@@ -74,7 +74,7 @@ pub extern "C" fn ring_c_give(
 #[unsafe(no_mangle)]
 pub extern "C" fn ring_c_back(alloc: Global, poller: &mut Handle, pass: &mut Handle) -> u32
     requires stamped { poller.old.stamp ≡ pass.old.stamp → AreOfOne poller.old.slot.inside pass.old.slot.inside }
-    ensures back { (a : Result (Unit {0}) Why) × (result ≡ answer_of a) × TakesBack poller.old.slot.inside poller.new.slot.inside pass.old.slot.inside pass.new.slot.inside a }
+    ensures back { (a : Result (Unit {0}) Code) × (result ≡ answer_of a) × TakesBack poller.old.slot.inside poller.new.slot.inside pass.old.slot.inside pass.new.slot.inside a }
     ensures stamp { poller.new.stamp ≡ poller.old.stamp }
 {
     if poller.stamp() != pass.stamp() {
@@ -101,7 +101,7 @@ pub extern "C" fn ring_c_back(alloc: Global, poller: &mut Handle, pass: &mut Han
 /// Ends the board of a poller that all passes have come back to. The handle leads to the report then. How many lines that has.
 #[unsafe(no_mangle)]
 pub extern "C" fn ring_c_finish(alloc: Global, handle: &mut Handle) -> Counted
-    ensures finished { (a : Result ℕ Why) × (result ≡ counted_as a) × Through EndsIn handle.old.slot.inside handle.new.slot.inside a }
+    ensures finished { (a : Result ℕ Code) × (result ≡ counted_as a) × Through EndsIn handle.old.slot.inside handle.new.slot.inside a }
     ensures stamp { handle.new.stamp ≡ handle.old.stamp }
 {
     let Some(mut inside) = handle.take(alloc) else {
@@ -115,7 +115,7 @@ pub extern "C" fn ring_c_finish(alloc: Global, handle: &mut Handle) -> Counted
 /// A line of a report: a request that was not reaped.
 #[unsafe(no_mangle)]
 pub extern "C" fn ring_c_line(alloc: Global, handle: &mut Handle, index: u64) -> Line
-    ensures line { (a : Result Told Why) × (result ≡ line_as a) × Through (TellsLine index) handle.old.slot.inside handle.new.slot.inside a }
+    ensures line { (a : Result Line Code) × (result ≡ line_as a) × Through (TellsLine index) handle.old.slot.inside handle.new.slot.inside a }
     ensures stamp { handle.new.stamp ≡ handle.old.stamp }
 {
     let Some(inside) = handle.take(alloc) else {
@@ -134,7 +134,7 @@ pub extern "C" fn ring_c_line_bytes(
     index: u64,
     out: &mut [u8],
 ) -> Counted
-    ensures bytes { (a : Result ℕ Why) × (result ≡ counted_as a) × Through (GivesLineBytes index out.old out.new) handle.old.slot.inside handle.new.slot.inside a }
+    ensures bytes { (a : Result ℕ Code) × (result ≡ counted_as a) × Through (GivesLineBytes index out.old out.new) handle.old.slot.inside handle.new.slot.inside a }
     ensures still { result.code ≢ 0 → out.new ≡ out.old }
     ensures stamp { handle.new.stamp ≡ handle.old.stamp }
 {

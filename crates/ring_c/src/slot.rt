@@ -1,6 +1,6 @@
 //! The pointer in a handle.
 ghost use Rattle.std.specs.Prelude.{◌≡◌, Option, Some, None};
-ghost use Rattle.ring_c.specs.declared.inside.Inside.{Inside as Held};
+ghost use Rattle.ring_c.specs.declared.inside.Inside.{Inside};
 ghost use Rattle.ring_c.specs.Slots.{slot_owns};
 
 use crate::inside::Inside;
@@ -15,7 +15,7 @@ use std::ptr::null_mut;
 pub struct Slot {
     ptr: *mut u8,
     alloc: Global,
-    pub ghost inside: { Option Held },
+    pub ghost inside: { Option Inside },
 }
 
 impl Model for Slot {
@@ -44,7 +44,7 @@ impl Slot {
 
     /// The parts of the box that it leads to.
     pub(crate) fn into_parts(self) -> Parts<Inside, Global>
-        requires { (x : Held) × (self.inside ≡ Some x) }
+        requires { (x : Inside) × (self.inside ≡ Some x) }
         ensures { Some result.value ≡ self.inside }
     {
         let Slot { ptr, alloc } = self;

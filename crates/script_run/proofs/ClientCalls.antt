@@ -1,5 +1,6 @@
 -- What a client's calls make of what it has carried out and taken.
-use Rattle.std.proofs.Common.{◌≡◌, ℕ, zero, suc, ◌+◌, ◌<◌, ◌≤◌, ◌==◌, Bool, true, false, cond, List, [], ◌∷◌, ◌++◌, Some, None, length, drop, get_or, sym, refl, ap, ◌∙◌, subst, ⊎_elim, arith, true≢false, length-append}
+use Rattle.std.proofs.Common.{◌≡◌, ℕ, zero, suc, ◌+◌, ◌<◌, ◌≤◌, ◌==◌, Bool, true, false, cond, List, [], ◌∷◌, ◌++◌, Some, length, drop, get_or, sym, refl, ap, ◌∙◌, subst, ⊎_elim, arith, true≢false, length-append}
+use Rattle.std.proofs.lemmas.Option.{none-some}
 use Rattle.std.specs.Prelude.{slice_get, slice_index}
 use Rattle.std.specs.Global.{Vec}
 use Rattle.std.proofs.Math.Seq.{drop-cons, get_or-append_seam}
@@ -8,8 +9,7 @@ use Rattle.std.proofs.lemmas.Bool.Decides.{nat_tests}
 use Rattle.entry.specs.Entry.{Entry}
 use Rattle.history.specs.declared.req.Req.{Req}
 use Rattle.history.specs.declared.event.Event.{Event}
-use Rattle.history.specs.declared.event.Event.TheVariants as event
-use Rattle.history.specs.History.{Phase, unborn, waits, runs, armed, replied, reaped, concerns, answers, data_in, data_of, phase, submits, adds_to, IsReplied}
+use Rattle.history.specs.History.{Phase, unborn, replied, reaped, concerns, answers, data_in, data_of, phase, submits, adds_to, IsReplied}
 use Rattle.history.specs.Legal.{Setup, Legal}
 use Rattle.history.proofs.Requests.{bool_cases}
 use Rattle.history.proofs.Growth.{MayChange, may_change, counted, replied_of_reply, reply_stays, submission_stays}
@@ -34,24 +34,21 @@ use Rattle.script_run.specs.Hands.{IsEntryAt, AreEntries, AreTaken}
 -- ---- a completion stays one
 
 answers_concern : (e : Event) (q : Req) → answers e q ≡ true → concerns e q ≡ true
-answers_concern (event.Reply r res data') q w = w
-answers_concern (event.Take c t) q w = w
-answers_concern (event.Expire r) q w = w
-answers_concern (event.Count r) q w = w
-answers_concern (event.Fire l t) q w = w
-answers_concern (event.Settle l) q w = w
-answers_concern (event.Sever r) q w = w
-answers_concern (event.Cut r) q w = w
+answers_concern (Event.Reply r res data') q w = w
+answers_concern (Event.Take c t) q w = w
+answers_concern (Event.Expire r) q w = w
+answers_concern (Event.Count r) q w = w
+answers_concern (Event.Fire l t) q w = w
+answers_concern (Event.Settle l) q w = w
+answers_concern (Event.Sever r) q w = w
+answers_concern (Event.Cut r) q w = w
 answers_concern e q w = absurd (true≢false (sym w))
 
 no_answer : (p : Phase) (e : Event) (q : Req) → IsReplied p → MayChange p e → answers e q ≡ false
-no_answer (replied c res) (event.Reap r) q i m = refl
+no_answer (replied c res) (Event.Reap r) q i m = refl
 no_answer (replied c res) e q i m = absurd m
 no_answer (reaped c res) e q i m = absurd m
-no_answer unborn e q i m = absurd i
-no_answer waits e q i m = absurd i
-no_answer runs e q i m = absurd i
-no_answer (armed d) e q i m = absurd i
+no_answer _ e q i m = absurd i
 
 -- the data of an answered request stay
 pub data_lasts : (s : Setup) (e : Event) (h : List Event) (q : Req) → Legal s (e ∷ h) → IsReplied (phase h q) → data_of (e ∷ h) q ≡ data_of h q
@@ -93,7 +90,7 @@ taken_more h (y ∷ xs) x k i = (k.0, taken_more h xs x k.1 i)
 -- ---- what others do, and what it reaps, leaves it where it is
 
 foreign : (i : ℕ) (e : Event) → owns (Submitter i) (Did e) ≡ false → adds_to e i ≡ 0
-foreign i (event.Submit r e bytes last) n = grind (arith, nat_tests)
+foreign i (Event.Submit r e bytes last) n = grind (arith, nat_tests)
 foreign i _ n = refl
 
 zero_sum : (b : Bool) (i : ℕ) (e : Event) (own : List Event) → (b ≡ false → adds_to e i ≡ 0) → submits (cond b (e ∷ own) own) i ≡ 0 → (adds_to e i ≡ 0) × (submits own i ≡ 0)
@@ -126,11 +123,11 @@ carried_without c s i acts n later seen l none k = carried_by c s i acts n later
 
 submits_long : (i k : ℕ) (xs : Entries) → length (submits_of i k xs) ≡ length xs
 submits_long i k [] = refl
-submits_long i k (x ∷ xs) = let a = length-append (submits_of i (suc k) xs) (event.Submit (nth i k) x.0 x.1.items (is_empty xs) ∷ []) in let b = submits_long i (suc k) xs in omega arith
+submits_long i k (x ∷ xs) = let a = length-append (submits_of i (suc k) xs) (Event.Submit (nth i k) x.0 x.1.items (is_empty xs) ∷ []) in let b = submits_long i (suc k) xs in omega arith
 
 -- the entry at n of a batch
 abbrev HasAt : ℕ → ℕ → Entries → ℕ → Event → Type 0
-HasAt i k xs n e = (x : Entry × Vec ℕ) × (slice_get xs n ≡ Some x) × (e ≡ event.Submit (nth i (k + n)) x.0 x.1.items (n + 1 == length xs))
+HasAt i k xs n e = (x : Entry × Vec ℕ) × (slice_get xs n ≡ Some x) × (e ≡ Event.Submit (nth i (k + n)) x.0 x.1.items (n + 1 == length xs))
 
 is_last : (xs : Entries) → is_empty xs ≡ (0 + 1 == suc (length xs))
 is_last [] = refl
@@ -141,27 +138,24 @@ submit_at i k [] m n d e = absurd (omega arith)
 submit_at i k (x ∷ xs) m zero d e =
     let long = submits_long i (suc k) xs in
     let here : m ≡ length (submits_of i (suc k) xs) = omega arith in
-    let a : Event = event.Submit (nth i k) x.0 x.1.items (is_empty xs) in (
+    let a : Event = Event.Submit (nth i k) x.0 x.1.items (is_empty xs) in (
       x,
       refl,
       ap (λ (z : ℕ). get_or (submits_of i (suc k) xs ++ a ∷ []) z d) here ∙ (get_or-append_seam (submits_of i (suc k) xs) a [] d
-          ∙ (λ j. event.Submit (nth i (add-none j)) x.0 x.1.items (is_last xs j))),
+          ∙ (λ j. Event.Submit (nth i (add-none j)) x.0 x.1.items (is_last xs j))),
     ) where
       add-none : k ≡ k + 0
       add-none = omega arith
 submit_at i k (x ∷ xs) m (suc n) d e =
     let long = submits_long i (suc k) xs in
-    let a : Event = event.Submit (nth i k) x.0 x.1.items (is_empty xs) in
+    let a : Event = Event.Submit (nth i k) x.0 x.1.items (is_empty xs) in
     let r = submit_at i (suc k) xs m n d (omega arith) in
-    (r.0, r.1, get_or-append (submits_of i (suc k) xs) (a ∷ []) d m (omega arith) ∙ (r.2 ∙ (λ j. event.Submit (nth i (moved j)) r.0.0 r.0.1.items (flag j)))) where
+    (r.0, r.1, get_or-append (submits_of i (suc k) xs) (a ∷ []) d m (omega arith) ∙ (r.2 ∙ (λ j. Event.Submit (nth i (moved j)) r.0.0 r.0.1.items (flag j)))) where
       moved : suc k + n ≡ k + suc n
       moved = omega arith
 
       flag : (n + 1 == length xs) ≡ (suc n + 1 == suc (length xs))
       flag = grind (arith, nat_tests)
-
-none_some : {X : Type 0} → (x : X) → None ≡ Some x → ⊥
-none_some x e = cc
 
 nil_cons : {X : Type 0} → (x : X) (xs : List X) → [] ≡ x ∷ xs → ⊥
 nil_cons x xs e = cc
@@ -181,8 +175,8 @@ drop_none (x ∷ S) (suc m) q = let i = drop_none S m q in omega arith
 entry_at : (c : Script) (ps : List ℕ) (xs : Entries) → AreEntries c ps xs → (length ps ≡ length xs) × ((n : ℕ) (x : Entry × Vec ℕ) → slice_get xs n ≡ Some x → IsEntryAt c (slice_index ps n) x)
 entry_at c [] [] a = (refl, λ n x e. absurd (nothing n x e)) where
   nothing : (n : ℕ) (x : Entry × Vec ℕ) → slice_get (let z : Entries = [] in z) n ≡ Some x → ⊥
-  nothing zero x e = none_some x e
-  nothing (suc n) x e = none_some x e
+  nothing zero x e = none-some x e
+  nothing (suc n) x e = none-some x e
 entry_at c [] (x ∷ xs) a = absurd a
 entry_at c (p ∷ ps) [] a = absurd a
 entry_at c (p ∷ ps) (x ∷ xs) a =
@@ -216,10 +210,10 @@ module _ (c : Script) (s : Setup) (i k : ℕ) (v : Vec Act) (acts left : List Ac
       let long : length places.items ≡ length xs = both.0 in
       let y = both.1 n x.0 x.1 in
       let flag : (n + 1 == length xs) ≡ (n + 1 == length places.items) = ap (λ (z : ℕ). n + 1 == z) (sym long) in
-      let is : e ≡ event.Submit (nth i (k + n)) y.0.sqe y.0.buffer.items (n + 1 == length places.items) = head ∙ (x.2 ∙ (λ j. event.Submit (nth i (k + n)) (y.2 j) (y.3 j) (flag j))) in
+      let is : e ≡ Event.Submit (nth i (k + n)) y.0.sqe y.0.buffer.items (n + 1 == length places.items) = head ∙ (x.2 ∙ (λ j. Event.Submit (nth i (k + n)) (y.2 j) (y.3 j) (flag j))) in
       let old : HasCarried c i acts n (events_of (later ++ seen)) = more n (omega arith) tail in
       let new = hands_next c s i v acts left places n (nth i (k + n)) y.0 (n + 1 == length places.items) (events_of (later ++ seen)) at lines (omega arith) y.1 refl refl (subst (λ (z : Event). Legal s (z ∷ events_of (later ++ seen))) is l) old in
-      subst (λ (z : Event). HasCarried c i acts (suc n) (z ∷ events_of (later ++ seen))) (sym is) (subst (λ (z : ℕ). HasCarried c i acts z (event.Submit (nth i (k + n)) y.0.sqe y.0.buffer.items (n + 1 == length places.items) ∷ events_of (later ++ seen))) (let z : n + 1 ≡ suc n = omega arith in z) new)
+      subst (λ (z : Event). HasCarried c i acts (suc n) (z ∷ events_of (later ++ seen))) (sym is) (subst (λ (z : ℕ). HasCarried c i acts z (Event.Submit (nth i (k + n)) y.0.sqe y.0.buffer.items (n + 1 == length places.items) ∷ events_of (later ++ seen))) (let z : n + 1 ≡ suc n = omega arith in z) new)
 
   -- so many of the entries are handed in by these lines
   handed_by : (later : List Line) (m n : ℕ) → n + m ≡ length xs → Legal s (events_of (later ++ seen)) → own_of (Submitter i) later ≡ drop m S → HasCarried c i acts 0 (events_of seen) → HasCarried c i acts n (events_of (later ++ seen))

@@ -1,25 +1,24 @@
 -- The clock of a script, line by line.
 use Rattle.std.proofs.Common.{◌≡◌, ◌⊎◌, ℕ, zero, suc, ◌+◌, ◌<◌, ◌≤◌, ◌&&◌, ◌||◌, ◌^◌, nat_le, min, max, Bool, true, false, List, [], ◌∷◌, ◌++◌, Option, Some, None, length, take, drop, get_or, sym, refl, ap, ◌∙◌, subst, ⊎_elim, arith, true≢false}
+use Rattle.std.proofs.Math.Bool.{or-false}
 use Rattle.std.specs.Prelude.{slice_get}
 use Rattle.std.specs.List.{list_all}
-use Rattle.std.proofs.lemmas.List.{take-append-drop}
-use Rattle.std.proofs.lemmas.Option.{slice_get_within, get_or_from_slice_get}
+use Rattle.std.proofs.lemmas.List.{take-append-drop, take_all}
+use Rattle.std.proofs.lemmas.Option.{slice_get_within, get_or_from_slice_get, none-some}
 use Rattle.std.proofs.lemmas.Bool.{and_parts, leb-true, leb-false}
 use Rattle.history.specs.declared.req.Req.{Req}
 use Rattle.history.specs.declared.event.Event.{Event}
-use Rattle.history.specs.declared.event.Event.TheVariants as event
 use Rattle.history.specs.History.{phase, clock_of}
 use Rattle.history.specs.Legal.{Setup, Allowed, Legal}
 use Rattle.history.specs.Ticked.{ticked}
 use Rattle.steps.specs.declared.line.Line.{Line}
 use Rattle.steps.specs.Journal.{events_of}
-use Rattle.board.specs.declared.phase.Phase.{Phase as Standing}
-use Rattle.board.specs.declared.phase.Phase.TheVariants.{Unborn, Held, Ready, Running, Armed as Ringing, Done, Gone}
+use Rattle.board.specs.declared.phase.Phase.{Phase}
+use Rattle.board.specs.declared.phase.Phase.TheVariants.{Unborn, Held, Ready, Running, Done, Gone}
 use Rattle.board.specs.Calls.{Stands}
 use Rattle.controls.specs.Clocks.{Asked}
 use Rattle.history.proofs.Requests.{bool_cases}
 use Rattle.script.specs.declared.act.Act.{Act}
-use Rattle.script.specs.declared.act.Act.TheVariants as act
 use Rattle.script.specs.declared.script.Script.{Script}
 use Rattle.script.specs.Carried.{HasTimed, steps_in}
 use Rattle.script.specs.Rules.{is_clock_line, rises, keeps_limits, keeps_parts, keeps_acts, keeps_clock}
@@ -36,13 +35,10 @@ pub timed_more : (c : Script) (lines : List ClockLine) (next : ℕ) (s : Setup) 
 timed_more c lines next s [] h l none k = k
 timed_more c lines next s (e ∷ more) h l none k = timed_stays c lines next s e (more ++ h) l (omega arith) (timed_more c lines next s more h l.1 (omega arith) k)
 
-none_some : {X : Type 0} → (x : X) → None ≡ Some x → ⊥
-none_some x e = cc
-
 -- the script's line at a place of the clock's
 pub act_at : (c : Script) (acts : List Act) (lines : List ClockLine) (n : ℕ) (l : ClockLine) → AreClockLines c acts lines → slice_get lines n ≡ Some l → (a : Act) × (slice_get acts n ≡ Some a) × IsClockLine c a l
-act_at c [] [] zero l k e = absurd (none_some l e)
-act_at c [] [] (suc n) l k e = absurd (none_some l e)
+act_at c [] [] zero l k e = absurd (none-some l e)
+act_at c [] [] (suc n) l k e = absurd (none-some l e)
 act_at c [] (x ∷ lines) n l k e = absurd k
 act_at c (a ∷ acts) [] n l k e = absurd k
 act_at c (a ∷ acts) (x ∷ lines) zero l k e = let same : x ≡ l = cc in (a, refl, subst (IsClockLine c a) same k.0)
@@ -83,41 +79,35 @@ replied_now h o r e w = ap (holds_for is_replied h) e ∙ w
 pub waited : (c : Script) (lines : List ClockLine) (next : ℕ) (r : Req) (p : ℕ) (h : List Event) → slice_get lines next ≡ Some (Wait r p) → is_replied (phase h r) ≡ true → IsTimed c lines next h → IsTimed c lines (next + 1) h
 waited c lines next r p h at w k = let x = act_at c c.clock.items lines next (Wait r p) k.lines_are at in by x.0 x.1 x.2 where
   by : (a : Act) → slice_get c.clock.items next ≡ Some a → IsClockLine c a (Wait r p) → IsTimed c lines (next + 1) h
-  by (act.Wait q) e i = passed c lines next (act.Wait q) h e refl (λ m left. refl) (ap (holds_for is_replied h) i.0 ∙ w) k
-  by (act.Armed q) e i = absurd i
-  by (act.Tick n) e i = absurd i
-  by (act.Submit ps) e i = absurd i
+  by (Act.Wait q) e i = passed c lines next (Act.Wait q) h e refl (λ m left. refl) (ap (holds_for is_replied h) i.0 ∙ w) k
+  by _ e i = absurd i
 
 pub ready : (c : Script) (lines : List ClockLine) (next : ℕ) (r : Req) (p : ℕ) (h : List Event) → slice_get lines next ≡ Some (Armed r p) → holds_for (λ x. is_armed x || is_replied x) h (Some r) ≡ true → IsTimed c lines next h → IsTimed c lines (next + 1) h
 ready c lines next r p h at w k = let x = act_at c c.clock.items lines next (Armed r p) k.lines_are at in by x.0 x.1 x.2 where
   by : (a : Act) → slice_get c.clock.items next ≡ Some a → IsClockLine c a (Armed r p) → IsTimed c lines (next + 1) h
-  by (act.Armed q) e i = passed c lines next (act.Armed q) h e refl (λ m left. refl) (ap (holds_for (λ x. is_armed x || is_replied x) h) i.0 ∙ w) k
-  by (act.Wait q) e i = absurd i
-  by (act.Tick n) e i = absurd i
-  by (act.Submit ps) e i = absurd i
+  by (Act.Armed q) e i = passed c lines next (Act.Armed q) h e refl (λ m left. refl) (ap (holds_for (λ x. is_armed x || is_replied x) h) i.0 ∙ w) k
+  by _ e i = absurd i
 
 -- the line sets the clock
-tick_at : (c : Script) (lines : List ClockLine) (next n : ℕ) (h : List Event) → slice_get lines next ≡ Some (Tick n) → IsTimed c lines next h → slice_get c.clock.items next ≡ Some (act.Tick n)
+tick_at : (c : Script) (lines : List ClockLine) (next n : ℕ) (h : List Event) → slice_get lines next ≡ Some (Tick n) → IsTimed c lines next h → slice_get c.clock.items next ≡ Some (Act.Tick n)
 tick_at c lines next n h at k = let x = act_at c c.clock.items lines next (Tick n) k.lines_are at in by x.0 x.1 x.2 where
-  by : (a : Act) → slice_get c.clock.items next ≡ Some a → IsClockLine c a (Tick n) → slice_get c.clock.items next ≡ Some (act.Tick n)
-  by (act.Tick m) e i = e ∙ ap (λ (z : ℕ). Some (act.Tick z)) i
-  by (act.Wait q) e i = absurd i
-  by (act.Armed q) e i = absurd i
-  by (act.Submit ps) e i = absurd i
+  by : (a : Act) → slice_get c.clock.items next ≡ Some a → IsClockLine c a (Tick n) → slice_get c.clock.items next ≡ Some (Act.Tick n)
+  by (Act.Tick m) e i = e ∙ ap (λ (z : ℕ). Some (Act.Tick z)) i
+  by _ e i = absurd i
 
-pub was_set : (c : Script) (lines : List ClockLine) (next n : ℕ) (s : Setup) (h : List Event) → slice_get lines next ≡ Some (Tick n) → Legal s (event.Tick n ∷ h) → IsTimed c lines next h → IsTimed c lines (next + 1) (event.Tick n ∷ h)
+pub was_set : (c : Script) (lines : List ClockLine) (next n : ℕ) (s : Setup) (h : List Event) → slice_get lines next ≡ Some (Tick n) → Legal s (Event.Tick n ∷ h) → IsTimed c lines next h → IsTimed c lines (next + 1) (Event.Tick n ∷ h)
 was_set c lines next n s h at l k =
-    let z = around c.clock.items next (act.Tick n) (tick_at c lines next n h at k) in
-    let old : HasTimed c (take next c.clock.items) (act.Tick n ∷ drop (next + 1) c.clock.items) h = subst (λ (left : List Act). HasTimed c (take next c.clock.items) left h) z.rest k.timed in
+    let z = around c.clock.items next (Act.Tick n) (tick_at c lines next n h at k) in
+    let old : HasTimed c (take next c.clock.items) (Act.Tick n ∷ drop (next + 1) c.clock.items) h = subst (λ (left : List Act). HasTimed c (take next c.clock.items) left h) z.rest k.timed in
     record {
       lines_are = k.lines_are;
-      timed = subst (λ (acts : List Act). HasTimed c acts (drop (next + 1) c.clock.items) (event.Tick n ∷ h)) (sym z.front) (sets_next c s (take next c.clock.items) (drop (next + 1) c.clock.items) n h z.whole l old);
+      timed = subst (λ (acts : List Act). HasTimed c acts (drop (next + 1) c.clock.items) (Event.Tick n ∷ h)) (sym z.front) (sets_next c s (take next c.clock.items) (drop (next + 1) c.clock.items) n h z.whole l old);
     }
 
 -- no line is before its time, or after the clock's end
 all_at : (test : Act → Bool) (acts : List Act) (n : ℕ) (a : Act) → list_all test acts ≡ true → slice_get acts n ≡ Some a → test a ≡ true
-all_at test [] zero a k e = absurd (none_some a e)
-all_at test [] (suc n) a k e = absurd (none_some a e)
+all_at test [] zero a k e = absurd (none-some a e)
+all_at test [] (suc n) a k e = absurd (none-some a e)
 all_at test (x ∷ acts) zero a k e = let same : x ≡ a = cc in ap test (sym same) ∙ (and_parts (test x) (list_all test acts) k).0
 all_at test (x ∷ acts) (suc n) a k e = all_at test acts n a (and_parts (test x) (list_all test acts) k).1 e
 
@@ -130,8 +120,8 @@ clock_rules c =
 pub on_time : (c : Script) (lines : List ClockLine) (next n : ℕ) (h : List Event) → slice_get lines next ≡ Some (Tick n) → IsTimed c lines next h → (n < clock_of h) ⊎ (2147483647 < n) → ⊥
 on_time c lines next n h at k late =
     let a = tick_at c lines next n h at k in
-    let z = around c.clock.items next (act.Tick n) a in
-    let small : n ≤ 2147483647 = leb-true n 2147483647 (all_at (is_clock_line c.entries.items) c.clock.items next (act.Tick n) (clock_rules c).0 a) in
+    let z = around c.clock.items next (Act.Tick n) a in
+    let small : n ≤ 2147483647 = leb-true n 2147483647 (all_at (is_clock_line c.entries.items) c.clock.items next (Act.Tick n) (clock_rules c).0 a) in
     let rising = subst (λ (left : List Act). rises (clock_of h) left ≡ true) z.rest k.timed.on_time in
     let up : clock_of h ≤ n = leb-true (clock_of h) n (and_parts (nat_le (clock_of h) n) (rises n (drop (next + 1) c.clock.items)) rising).0 in
     ⊎_elim (λ (x : n < clock_of h). absurd (omega arith)) (λ (x : 2147483647 < n). absurd (omega arith)) late
@@ -144,12 +134,7 @@ begins c lines k = record { lines_are = k; timed = record { keeps = tt; count = 
 pub ends : (c : Script) (lines : List ClockLine) (next : ℕ) (h : List Event) → length lines ≤ next → IsTimed c lines next h → HasTimed c c.clock.items (drop next c.clock.items) h
 ends c lines next h le k =
     let n = same_count c c.clock.items lines k.lines_are in
-    subst (λ (acts : List Act). HasTimed c acts (drop next c.clock.items) h) (past c.clock.items next (omega arith)) k.timed where
-      past : (xs : List Act) (n : ℕ) → length xs ≤ n → take n xs ≡ xs
-      past [] zero le = refl
-      past [] (suc n) le = refl
-      past (x ∷ xs) zero le = absurd (omega arith)
-      past (x ∷ xs) (suc n) le = ap (λ (z : List Act). x ∷ z) (past xs n (omega arith))
+    subst (λ (acts : List Act). HasTimed c acts (drop next c.clock.items) h) (take_all next c.clock.items (omega arith)) k.timed
 
 -- ---- whatever script has these lines
 
@@ -163,7 +148,7 @@ pub along_ready : (lines : List ClockLine) (next : ℕ) (r : Req) (p : ℕ) (h :
 along_ready lines next r p h at w k = λ c are. ready c lines next r p h at w (k c are)
 
 -- the Tick that the line tells is the one that comes, and none is refused. A script has these lines only if its clock goes up
-pub along_set : (lines : List ClockLine) (next n : ℕ) (s : Setup) (more h : List Event) → slice_get lines next ≡ Some (Tick n) → Legal s (more ++ h) → ticked more ≡ 0 → IsAlong lines next h → Allowed s (more ++ h) (event.Tick n) → IsAlong lines (next + 1) (event.Tick n ∷ (more ++ h))
+pub along_set : (lines : List ClockLine) (next n : ℕ) (s : Setup) (more h : List Event) → slice_get lines next ≡ Some (Tick n) → Legal s (more ++ h) → ticked more ≡ 0 → IsAlong lines next h → Allowed s (more ++ h) (Event.Tick n) → IsAlong lines (next + 1) (Event.Tick n ∷ (more ++ h))
 along_set lines next n s more h at l none k a = λ c are. was_set c lines next n s (more ++ h) at (a, l) (timed_more c lines next s more h l none (k c are))
 
 pub along_refused : (lines : List ClockLine) (next n : ℕ) (s : Setup) (more h : List Event) → slice_get lines next ≡ Some (Tick n) → Legal s (more ++ h) → ticked more ≡ 0 → IsAlong lines next h → (n < clock_of (more ++ h)) ⊎ (2147483647 < n) → IsAlong lines (next + 1) (more ++ h)
@@ -171,61 +156,54 @@ along_refused lines next n s more h at l none k late = λ c are. absurd (on_time
 
 -- ---- what it was told of the request that it asked for
 
-pub told_reply : (j : List Line) (r : Req) (x : Standing) → Stands j r x → has_reply (Some x) ≡ true → is_replied (phase (events_of j) r) ≡ true
+pub told_reply : (j : List Line) (r : Req) (x : Phase) → Stands j r x → has_reply (Some x) ≡ true → is_replied (phase (events_of j) r) ≡ true
 told_reply j r Gone s w = ap is_replied s.2
 told_reply j r (Done n) s w = ap is_replied s.1
-told_reply j r Unborn s w = absurd (true≢false (sym w))
-told_reply j r Held s w = absurd (true≢false (sym w))
-told_reply j r Ready s w = absurd (true≢false (sym w))
-told_reply j r Running s w = absurd (true≢false (sym w))
-told_reply j r (Ringing d) s w = absurd (true≢false (sym w))
+told_reply j r _ s w = absurd (true≢false (sym w))
 
-pub told_ready : (j : List Line) (r : Req) (x : Standing) → Stands j r x → is_ready (Some x) ≡ true → holds_for (λ x. is_armed x || is_replied x) (events_of j) (Some r) ≡ true
+pub told_ready : (j : List Line) (r : Req) (x : Phase) → Stands j r x → is_ready (Some x) ≡ true → holds_for (λ x. is_armed x || is_replied x) (events_of j) (Some r) ≡ true
 told_ready j r Gone s w = ap (λ x. is_armed x || is_replied x) s.2
 told_ready j r (Done n) s w = ap (λ x. is_armed x || is_replied x) s.1
-told_ready j r (Ringing d) s w = ap (λ x. is_armed x || is_replied x) s
-told_ready j r Unborn s w = absurd (true≢false (sym w))
-told_ready j r Held s w = absurd (true≢false (sym w))
-told_ready j r Ready s w = absurd (true≢false (sym w))
-told_ready j r Running s w = absurd (true≢false (sym w))
+told_ready j r (Phase.Armed d) s w = ap (λ x. is_armed x || is_replied x) s
+told_ready j r _ s w = absurd (true≢false (sym w))
 
 -- ---- what the clock makes of it
 
 pub line_there : (b : Bool) (lines : List ClockLine) (n : ℕ) (l : ClockLine) → line_at b lines n ≡ Some l → slice_get lines n ≡ Some l
-line_there true lines n l e = absurd (none_some l e)
+line_there true lines n l e = absurd (none-some l e)
 line_there false lines n l e = e
 
 stays_at : (lines new : List ClockLine) (next next' : ℕ) (h : List Event) → new ≡ lines → next' ≡ next → IsAlong lines next h → IsAlong new next' h
 stays_at lines new next next' h same at k = subst (λ (z : List ClockLine × ℕ). IsAlong z.0 z.1 h) (λ i. (sym same i, sym at i)) k
 
-pub asked_is : (b : Bool) (lines : List ClockLine) (n : ℕ) (l : ClockLine) (phase' : Option Standing) (j : List Line) → line_at b lines n ≡ Some l → Asked j (asked_of (line_at b lines n)) phase' → Asked j (Some (asked_at l)) phase'
+pub asked_is : (b : Bool) (lines : List ClockLine) (n : ℕ) (l : ClockLine) (phase' : Option Phase) (j : List Line) → line_at b lines n ≡ Some l → Asked j (asked_of (line_at b lines n)) phase' → Asked j (Some (asked_at l)) phase'
 asked_is b lines n l phase' j e a = subst (λ (o : Option ClockLine). Asked j (asked_of o) phase') e a
 
-waits_for : (lines : List ClockLine) (next : ℕ) (r : Req) (p : ℕ) (phase' : Option Standing) (j : List Line) → slice_get lines next ≡ Some (Wait r p) → has_reply phase' ≡ true → Asked j (Some r) phase' → IsAlong lines next (events_of j) → IsAlong lines (next + 1) (events_of j)
+waits_for : (lines : List ClockLine) (next : ℕ) (r : Req) (p : ℕ) (phase' : Option Phase) (j : List Line) → slice_get lines next ≡ Some (Wait r p) → has_reply phase' ≡ true → Asked j (Some r) phase' → IsAlong lines next (events_of j) → IsAlong lines (next + 1) (events_of j)
 waits_for lines next r p None j at w a k = absurd a
 waits_for lines next r p (Some x) j at w a k = along_waited lines next r p (events_of j) at (told_reply j r x a w) k
 
-arms_for : (lines : List ClockLine) (next : ℕ) (r : Req) (p : ℕ) (phase' : Option Standing) (j : List Line) → slice_get lines next ≡ Some (Armed r p) → is_ready phase' ≡ true → Asked j (Some r) phase' → IsAlong lines next (events_of j) → IsAlong lines (next + 1) (events_of j)
+arms_for : (lines : List ClockLine) (next : ℕ) (r : Req) (p : ℕ) (phase' : Option Phase) (j : List Line) → slice_get lines next ≡ Some (Armed r p) → is_ready phase' ≡ true → Asked j (Some r) phase' → IsAlong lines next (events_of j) → IsAlong lines (next + 1) (events_of j)
 arms_for lines next r p None j at w a k = absurd a
 arms_for lines next r p (Some x) j at w a k = along_ready lines next r p (events_of j) at (told_ready j r x a w) k
 
-pub told_waiting : (b : Bool) (lines new : List ClockLine) (next next' : ℕ) (r : Req) (p : ℕ) (done : Bool) (phase' : Option Standing) (j : List Line) → line_at b lines next ≡ Some (Wait r p) → new ≡ lines → (done ≡ true → next' ≡ next + 1) → (done ≡ false → next' ≡ next) → done ≡ has_reply phase'
+pub told_waiting : (b : Bool) (lines new : List ClockLine) (next next' : ℕ) (r : Req) (p : ℕ) (done : Bool) (phase' : Option Phase) (j : List Line) → line_at b lines next ≡ Some (Wait r p) → new ≡ lines → (done ≡ true → next' ≡ next + 1) → (done ≡ false → next' ≡ next) → done ≡ has_reply phase'
     → IsAlong lines next (events_of j) → Asked j (asked_of (line_at b lines next)) phase' → IsAlong new next' (events_of j)
 told_waiting b lines new next next' r p done phase' j at same gone still is k a = ⊎_elim
     (λ (w : done ≡ true). stays_at lines new (next + 1) next' (events_of j) same (gone w) (waits_for lines next r p phase' j (line_there b lines next (Wait r p) at) (sym is ∙ w) (asked_is b lines next (Wait r p) phase' j at a) k))
     (λ (w : done ≡ false). stays_at lines new next next' (events_of j) same (still w) k) (bool_cases done)
 
-pub told_arming : (b : Bool) (lines new : List ClockLine) (next next' : ℕ) (r : Req) (p : ℕ) (done : Bool) (phase' : Option Standing) (j : List Line) → line_at b lines next ≡ Some (Armed r p) → new ≡ lines → (done ≡ true → next' ≡ next + 1) → (done ≡ false → next' ≡ next) → done ≡ is_ready phase'
+pub told_arming : (b : Bool) (lines new : List ClockLine) (next next' : ℕ) (r : Req) (p : ℕ) (done : Bool) (phase' : Option Phase) (j : List Line) → line_at b lines next ≡ Some (Armed r p) → new ≡ lines → (done ≡ true → next' ≡ next + 1) → (done ≡ false → next' ≡ next) → done ≡ is_ready phase'
     → IsAlong lines next (events_of j) → Asked j (asked_of (line_at b lines next)) phase' → IsAlong new next' (events_of j)
 told_arming b lines new next next' r p done phase' j at same gone still is k a = ⊎_elim
     (λ (w : done ≡ true). stays_at lines new (next + 1) next' (events_of j) same (gone w) (arms_for lines next r p phase' j (line_there b lines next (Armed r p) at) (sym is ∙ w) (asked_is b lines next (Armed r p) phase' j at a) k))
     (λ (w : done ≡ false). stays_at lines new next next' (events_of j) same (still w) k) (bool_cases done)
 
 pub told_setting : (b : Bool) (lines new : List ClockLine) (next next' n : ℕ) (j : List Line) → line_at b lines next ≡ Some (Tick n) → new ≡ lines → next' ≡ next + 1 → IsAlong lines next (events_of j)
-    → (s : Setup) (more : List Event) → Legal s (more ++ events_of j) → ticked more ≡ 0 → (Allowed s (more ++ events_of j) (event.Tick n) → IsAlong new next' (event.Tick n ∷ (more ++ events_of j))) × (((n < clock_of (more ++ events_of j)) ⊎ (2147483647 < n)) → IsAlong new next' (more ++ events_of j))
+    → (s : Setup) (more : List Event) → Legal s (more ++ events_of j) → ticked more ≡ 0 → (Allowed s (more ++ events_of j) (Event.Tick n) → IsAlong new next' (Event.Tick n ∷ (more ++ events_of j))) × (((n < clock_of (more ++ events_of j)) ⊎ (2147483647 < n)) → IsAlong new next' (more ++ events_of j))
 told_setting b lines new next next' n j at same gone k s more l none =
     let line = line_there b lines next (Tick n) at in (
-      λ a. stays_at lines new (next + 1) next' (event.Tick n ∷ (more ++ events_of j)) same gone (along_set lines next n s more (events_of j) line l none k a),
+      λ a. stays_at lines new (next + 1) next' (Event.Tick n ∷ (more ++ events_of j)) same gone (along_set lines next n s more (events_of j) line l none k a),
       λ late. stays_at lines new (next + 1) next' (more ++ events_of j) same gone (along_refused lines next n s more (events_of j) line l none k late),
     )
 
@@ -238,27 +216,24 @@ lines_more c (b ∷ acts) a (m ∷ lines) l k i = (k.0, lines_more c acts a line
 -- ---- how often it was tried
 
 -- it was not what it was asked for
-told_unreplied : (j : List Line) (r : Req) (x : Standing) → Stands j r x → has_reply (Some x) ≡ false → is_replied (phase (events_of j) r) ≡ false
-told_unreplied j r Gone s w = absurd (true≢false w)
-told_unreplied j r (Done n) s w = absurd (true≢false w)
+told_unreplied : (j : List Line) (r : Req) (x : Phase) → Stands j r x → has_reply (Some x) ≡ false → is_replied (phase (events_of j) r) ≡ false
 told_unreplied j r Unborn s w = ap is_replied s
 told_unreplied j r Held s w = ap is_replied s.0
 told_unreplied j r Ready s w = ap is_replied s.0
 told_unreplied j r Running s w = ap is_replied s
-told_unreplied j r (Ringing d) s w = ap is_replied s
+told_unreplied j r (Phase.Armed d) s w = ap is_replied s
+told_unreplied j r _ s w = absurd (true≢false w)
 
-told_unready : (j : List Line) (r : Req) (x : Standing) → Stands j r x → is_ready (Some x) ≡ false → (is_armed (phase (events_of j) r) || is_replied (phase (events_of j) r)) ≡ false
-told_unready j r Gone s w = absurd (true≢false w)
-told_unready j r (Done n) s w = absurd (true≢false w)
-told_unready j r (Ringing d) s w = absurd (true≢false w)
+told_unready : (j : List Line) (r : Req) (x : Phase) → Stands j r x → is_ready (Some x) ≡ false → (is_armed (phase (events_of j) r) || is_replied (phase (events_of j) r)) ≡ false
 told_unready j r Unborn s w = ap (λ x. is_armed x || is_replied x) s
 told_unready j r Held s w = ap (λ x. is_armed x || is_replied x) s.0
 told_unready j r Ready s w = ap (λ x. is_armed x || is_replied x) s.0
 told_unready j r Running s w = ap (λ x. is_armed x || is_replied x) s
+told_unready j r _ s w = absurd (true≢false w)
 
 -- a clock that has a line is not stuck
 pub not_stuck : (b : Bool) (lines : List ClockLine) (n : ℕ) (l : ClockLine) → line_at b lines n ≡ Some l → b ≡ false
-not_stuck true lines n l e = absurd (none_some l e)
+not_stuck true lines n l e = absurd (none-some l e)
 not_stuck false lines n l e = refl
 
 -- it goes on to a line that was never tried
@@ -276,16 +251,13 @@ pub tried_again : (lines : List ClockLine) (next tries tries' most : ℕ) (is_st
 tried_again lines next tries tries' most is_stuck is_stuck' h small more told goes undone k =
     let few : tries < max most 1 = k.few goes in
     let one : tries' ≡ suc tries = omega arith in
-    let now : is_stuck' ≡ nat_le most tries' = told ∙ (ap (λ (b : Bool). nat_le most tries' || b) goes ∙ or_false (nat_le most tries')) in
+    let now : is_stuck' ≡ nat_le most tries' = told ∙ (ap (λ (b : Bool). nat_le most tries' || b) goes ∙ or-false (nat_le most tries')) in
     record {
       along = k.along;
       tried = subst (λ (n : ℕ). WasTried (slice_get lines next) n h) (sym one) ([], h, refl, undone, k.tried);
       few = λ off. (let above : tries' < most = leb-false most tries' (sym now ∙ off) in omega arith);
       all = λ on. (let below : most ≤ tries' = leb-true most tries' (sym now ∙ on) in omega arith);
-    } where
-      or_false : (b : Bool) → (b || false) ≡ b
-      or_false true = refl
-      or_false false = refl
+    }
 
 -- the same clock, part by part
 pub at_same : (lines new : List ClockLine) (next next' tries tries' most most' : ℕ) (b b' : Bool) (h : List Event) → new ≡ lines → next' ≡ next → tries' ≡ tries → most' ≡ most → b' ≡ b → IsAtLine lines next tries most b h → IsAtLine new next' tries' most' b' h
@@ -300,11 +272,11 @@ pub record Counted (lines new : List ClockLine) (next next' tries tries' most mo
   pub gone : done ≡ true → (next' ≡ next + 1) × (tries' ≡ 0) × (b' ≡ b)
   pub still : done ≡ false → (next' ≡ next) × (tries' ≡ min (tries + 1) 4294967295) × (b' ≡ (nat_le most tries' || b))
 
-pub waits_still : (o : Option ClockLine) (r : Req) (p : ℕ) (phase' : Option Standing) (j : List Line) → o ≡ Some (Wait r p) → has_reply phase' ≡ false → Asked j (Some r) phase' → IsUndone o (events_of j)
+pub waits_still : (o : Option ClockLine) (r : Req) (p : ℕ) (phase' : Option Phase) (j : List Line) → o ≡ Some (Wait r p) → has_reply phase' ≡ false → Asked j (Some r) phase' → IsUndone o (events_of j)
 waits_still o r p None j at w a = absurd a
 waits_still o r p (Some x) j at w a = subst (λ (z : Option ClockLine). IsUndone z (events_of j)) (sym at) (told_unreplied j r x a w)
 
-pub arms_still : (o : Option ClockLine) (r : Req) (p : ℕ) (phase' : Option Standing) (j : List Line) → o ≡ Some (Armed r p) → is_ready phase' ≡ false → Asked j (Some r) phase' → IsUndone o (events_of j)
+pub arms_still : (o : Option ClockLine) (r : Req) (p : ℕ) (phase' : Option Phase) (j : List Line) → o ≡ Some (Armed r p) → is_ready phase' ≡ false → Asked j (Some r) phase' → IsUndone o (events_of j)
 arms_still o r p None j at w a = absurd a
 arms_still o r p (Some x) j at w a = subst (λ (z : Option ClockLine). IsUndone z (events_of j)) (sym at) (told_unready j r x a w)
 

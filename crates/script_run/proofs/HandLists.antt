@@ -1,5 +1,5 @@
 -- Lists of hands, of clients and of rows, one element more or less.
-use Rattle.std.proofs.Common.{◌≡◌, ◌⊎◌, ℕ, zero, suc, ◌<◌, List, [], ◌∷◌, ◌++◌, length, map, reverse, get_or, slice_get, slice_index_or, length-append, Option, Some, None, inl, inr, ⊎_elim, refl, sym, ap, ◌∙◌, arith}
+use Rattle.std.proofs.Common.{◌≡◌, ◌⊎◌, ℕ, zero, suc, ◌<◌, List, [], ◌∷◌, ◌++◌, length, map, reverse, slice_get, slice_index_or, length-append, Option, Some, None, inl, inr, ⊎_elim, refl, sym, ap, ◌∙◌, arith}
 use Rattle.std.proofs.lemmas.Option.{none-some}
 use Rattle.std.proofs.lemmas.List.{append_assoc, map-append, reverse-append}
 use Rattle.board.specs.declared.completion.Completion.{Completion}
@@ -38,12 +38,6 @@ next_client clients left old h at = append_assoc clients (client_of h ∷ []) (m
 
 pub next_taken : (all : List Completion) (left old : List Hand) (h : Hand) → old ≡ left ++ h ∷ [] → (all ++ h.taken.items) ++ taken_by (reverse left) ≡ all ++ taken_by (reverse old)
 next_taken all left old h at = append_assoc all h.taken.items (taken_by (reverse left)) ∙ ap (λ (z : List Hand). all ++ taken_by z) (sym (last_first left h) ∙ ap reverse (sym at))
-
--- an element of a mapped list
-pub get_map : {A B : Type 0} (f : A → B) (xs : List A) (k : ℕ) (a : A) (b : B) → k < length xs → get_or (map f xs) k b ≡ f (get_or xs k a)
-get_map {A} {B} f [] k a b lt = absurd (omega arith)
-get_map {A} {B} f (x ∷ xs) zero a b lt = refl
-get_map {A} {B} f (x ∷ xs) (suc k) a b lt = get_map f xs k a b (omega arith)
 
 -- one hand more whose lines were carried out
 carried_at : (c : Script) (turns : ℕ) (xs ys : List Hand) (x y : Hand) → AllCarriedOut c turns xs ys → CarriedOut c turns x y → (k : ℕ) (d e : Hand) → k < length (xs ++ x ∷ []) → CarriedOut c turns (slice_index_or (xs ++ x ∷ []) k d) (slice_index_or (ys ++ y ∷ []) k e)

@@ -11,7 +11,6 @@ use native.Mathlib.Decide.{ℕ_discrete}
 use Rattle.std.proofs.Common.{true≢false, add-one, Option, None, ⊎_elim}
 use Rattle.history.specs.declared.req.Req.{Req}
 use Rattle.history.specs.declared.event.Event.{Event}
-use Rattle.history.specs.declared.event.Event.TheVariants as event
 use Rattle.history.specs.History.{submits, phase, replied, reaped, IsReplied}
 use Rattle.history.specs.Legal.{Legal}
 use Rattle.steps.specs.declared.line.Line.{Line}
@@ -22,13 +21,12 @@ use Rattle.steps.specs.Cells.{setup_of}
 use Rattle.work.specs.Board.{Facts}
 use Rattle.work.specs.Passes.{Pass, seen_of, own_of}
 use Rattle.board.specs.declared.completion.Completion.{Completion}
-use Rattle.board.specs.declared.phase.Phase.{Phase as Standing}
-use Rattle.board.specs.declared.phase.Phase.TheVariants.{Unborn, Held, Ready, Running, Armed, Done, Gone}
+use Rattle.board.specs.declared.phase.Phase.{Phase}
+use Rattle.board.specs.declared.phase.Phase.TheVariants.{Done, Gone}
 use Rattle.board.specs.Batches.{Entries, submits_of}
 use Rattle.board.specs.Calls.{Goes, Stands, next_of}
 use Rattle.board.specs.Headline.{IsCompletion}
 use Rattle.script.specs.declared.act.Act.{Act}
-use Rattle.script.specs.declared.act.Act.TheVariants as act
 use Rattle.script.specs.declared.script.Script.{Script}
 use Rattle.script.specs.Carried.{HasCarried}
 use Rattle.script.specs.Homes.{home}
@@ -39,7 +37,6 @@ use Rattle.script_run.specs.declared.hand.Hand.{Hand}
 use Rattle.script_run.specs.ClockLines.{has_reply}
 use Rattle.script_run.specs.Tries.{IsInVain, TriedInVain, RanOut, IfStuck, IsFor, IsLowest, IsStuckLine}
 use Rattle.script_run.specs.declared.lines.Halt.{Halt}
-use Rattle.script_run.specs.declared.lines.Halt.TheVariants as halt
 use Rattle.script_run.specs.Hands.{seen_by, AreTaken, AreEntries, Stayed, HandAt, Went, HandedIn, Carries, IsCarried, IsThrough}
 use Rattle.script_run.proofs.ClientCalls.{taken_by_line, taken_more, carried_by, batch_handed}
 
@@ -78,29 +75,29 @@ went_looked b old new board ring taken halt g = record {
 
 -- it took a completion
 pub went_took : (b : Facts) (old new : Hand) (x : Completion) → new.client.board ≡ old.client.board → new.client.ring ≡ old.client.ring → new.taken.items ≡ old.taken.items ++ x ∷ [] → new.halt ≡ old.halt
-    → Goes b old.client.submitter (event.Reap x.req ∷ []) new.client.submitter → IsCompletion (seen_by new) x.req x → Went old new
+    → Goes b old.client.submitter (Event.Reap x.req ∷ []) new.client.submitter → IsCompletion (seen_by new) x.req x → Went old new
 went_took b old new x board ring taken halt g is = record {
   stayed = record {
     board = board;
     ring = ring;
     role = g.role_is;
-    taken = λ k. subst (AreTaken (seen_by new)) (sym taken) (taken_more (seen_by new) old.taken.items x (taken_on b old.client.submitter new.client.submitter (event.Reap x.req ∷ []) old.taken.items g k) is);
+    taken = λ k. subst (AreTaken (seen_by new)) (sym taken) (taken_more (seen_by new) old.taken.items x (taken_on b old.client.submitter new.client.submitter (Event.Reap x.req ∷ []) old.taken.items g k) is);
   };
-  at = at_on b old new (event.Reap x.req ∷ []) ring g refl;
+  at = at_on b old new (Event.Reap x.req ∷ []) ring g refl;
   halt = halt;
 }
 
 -- it took one for which there was no place
 pub went_lost : (b : Facts) (old new : Hand) (x : Completion) → new.client.board ≡ old.client.board → new.client.ring ≡ old.client.ring → new.taken.items ≡ old.taken.items → new.halt ≡ old.halt
-    → Goes b old.client.submitter (event.Reap x.req ∷ []) new.client.submitter → Went old new
+    → Goes b old.client.submitter (Event.Reap x.req ∷ []) new.client.submitter → Went old new
 went_lost b old new x board ring taken halt g = record {
   stayed = record {
     board = board;
     ring = ring;
     role = g.role_is;
-    taken = λ k. subst (AreTaken (seen_by new)) (sym taken) (taken_on b old.client.submitter new.client.submitter (event.Reap x.req ∷ []) old.taken.items g k);
+    taken = λ k. subst (AreTaken (seen_by new)) (sym taken) (taken_on b old.client.submitter new.client.submitter (Event.Reap x.req ∷ []) old.taken.items g k);
   };
-  at = at_on b old new (event.Reap x.req ∷ []) ring g refl;
+  at = at_on b old new (Event.Reap x.req ∷ []) ring g refl;
   halt = halt;
 }
 
@@ -124,7 +121,7 @@ went_then x y z a b = record { stayed = stayed_then x y z a.stayed b.stayed; at 
 
 -- ---- a line
 
-pub carries_batch : (c : Script) (places : Vec ℕ) (xs : Entries) (old mid new : Hand) → AreEntries c places.items xs → Went old mid → HandedIn xs mid new → Carries c (act.Submit places) old new
+pub carries_batch : (c : Script) (places : Vec ℕ) (xs : Entries) (old mid new : Hand) → AreEntries c places.items xs → Went old mid → HandedIn xs mid new → Carries c (Act.Submit places) old new
 carries_batch c places xs old mid new are w h = record {
   stayed = stayed_then old mid new w.stayed h.stayed;
   at = λ v acts left at lines k. (
@@ -137,32 +134,28 @@ carries_batch c places xs old mid new are w h = record {
       (batch_handed c (setup_of b.layout) i (submits (seen_by mid) i) v acts left places xs p.view.seen (ap (slice_get c.acts.items) w.stayed.ring ∙ at) lines are g.later (went_legal b p q all g) own m.carried) in
       record {
         role = g.role_is ∙ (m.role ∙ ap Submitter (sym h.stayed.ring));
-        carried = subst (λ (z : ℕ). HasCarried c z (acts ++ act.Submit places ∷ []) 0 (seen_of q)) (sym h.stayed.ring) (line_handed c i acts places (seen_of q) on);
+        carried = subst (λ (z : ℕ). HasCarried c z (acts ++ Act.Submit places ∷ []) 0 (seen_of q)) (sym h.stayed.ring) (line_handed c i acts places (seen_of q) on);
       });
 }
 
 replied_test : (h : List Event) (r : Req) → IsReplied (phase h r) → is_replied (phase h r) ≡ true
 replied_test h r i = elim (phase h r) as (λ p. IsReplied p → is_replied p ≡ true) [ Rattle.history.specs.History.unborn ↦ λ z. absurd z | Rattle.history.specs.History.waits ↦ λ z. absurd z | Rattle.history.specs.History.runs ↦ λ z. absurd z | Rattle.history.specs.History.armed d ↦ λ z. absurd z | replied c res ↦ λ z. refl | reaped c res ↦ λ z. refl ] i
 
-pub carries_wait : (c : Script) (p : ℕ) (r : Req) (old new : Hand) → home c p ≡ Some r → Went old new → IsReplied (phase (seen_by new) r) → Carries c (act.Wait p) old new
+pub carries_wait : (c : Script) (p : ℕ) (r : Req) (old new : Hand) → home c p ≡ Some r → Went old new → IsReplied (phase (seen_by new) r) → Carries c (Act.Wait p) old new
 carries_wait c p r old new is w i = record {
   stayed = w.stayed;
   at = λ v acts left at lines k. (
       let m = w.at c acts 0 k in
-      let done : is_done c (seen_by new) (act.Wait p) ≡ true = ap (holds_for is_replied (seen_by new)) is ∙ replied_test (seen_by new) r i in
+      let done : is_done c (seen_by new) (Act.Wait p) ≡ true = ap (holds_for is_replied (seen_by new)) is ∙ replied_test (seen_by new) r i in
       record { role = m.role; carried = line_done c new.client.ring acts p (seen_by new) done m.carried });
 }
 
 -- ---- where a request stands that was found
 
-pub reply_found : (j : List Line) (r : Req) (x : Standing) → Stands j r x → has_reply (Some x) ≡ true → IsReplied (phase (events_of j) r)
+pub reply_found : (j : List Line) (r : Req) (x : Phase) → Stands j r x → has_reply (Some x) ≡ true → IsReplied (phase (events_of j) r)
 reply_found j r Gone s w = subst IsReplied (sym s.2) tt
 reply_found j r (Done n) s w = subst IsReplied (sym s.1) tt
-reply_found j r Unborn s w = absurd (true≢false (sym w))
-reply_found j r Held s w = absurd (true≢false (sym w))
-reply_found j r Ready s w = absurd (true≢false (sym w))
-reply_found j r Running s w = absurd (true≢false (sym w))
-reply_found j r (Armed d) s w = absurd (true≢false (sym w))
+reply_found j r _ s w = absurd (true≢false (sym w))
 
 -- an element is the same whatever stands past the end
 same_at : (xs : List Hand) (k : ℕ) (d e : Hand) → k < length xs → get_or xs k e ≡ get_or xs k d
@@ -260,24 +253,21 @@ stuck_as c turns p h new client k = record {
 }
 
 pub if_stuck : (P Q : ℕ → Type 0) (h : Halt) → ((p : ℕ) → P p → Q p) → IfStuck P h → IfStuck Q h
-if_stuck P Q (halt.Stuck p) f k = f p k
-if_stuck P Q halt.Refused f k = tt
-if_stuck P Q halt.Memory f k = tt
-if_stuck P Q halt.Thread f k = tt
-if_stuck P Q halt.Stopped f k = tt
+if_stuck P Q (Halt.Stuck p) f k = f p k
+if_stuck P Q _ f k = tt
 
 -- the halt that is told of one hand more
 pub halts_more : (hands : List Hand) (i : ℕ) (h : Hand) (old new : Option Halt) → i < length hands → h ≡ get_or hands i h
-    → (new ≡ None → (old ≡ None) × (h.halt ≡ None)) → ((p : ℕ) → new ≡ Some (halt.Stuck p) → (old ≡ Some (halt.Stuck p)) ⊎ ((old ≡ None) × (h.halt ≡ Some (halt.Stuck p))))
-    → (old ≡ None → (k : ℕ) (d : Hand) → k < i → (get_or hands k d).halt ≡ None) → ((p : ℕ) → old ≡ Some (halt.Stuck p) → IsLowest hands i p)
-    → (new ≡ None → (k : ℕ) (d : Hand) → k < i + 1 → (get_or hands k d).halt ≡ None) × ((p : ℕ) → new ≡ Some (halt.Stuck p) → IsLowest hands (i + 1) p)
+    → (new ≡ None → (old ≡ None) × (h.halt ≡ None)) → ((p : ℕ) → new ≡ Some (Halt.Stuck p) → (old ≡ Some (Halt.Stuck p)) ⊎ ((old ≡ None) × (h.halt ≡ Some (Halt.Stuck p))))
+    → (old ≡ None → (k : ℕ) (d : Hand) → k < i → (get_or hands k d).halt ≡ None) → ((p : ℕ) → old ≡ Some (Halt.Stuck p) → IsLowest hands i p)
+    → (new ≡ None → (k : ℕ) (d : Hand) → k < i + 1 → (get_or hands k d).halt ≡ None) × ((p : ℕ) → new ≡ Some (Halt.Stuck p) → IsLowest hands (i + 1) p)
 halts_more hands i h old new lt is told_none told_stuck none stuck = (
   λ w k d in'. (let e = told_none w in dite (ℕ_discrete k i)
       (λ same. ap (λ (z : ℕ). (get_or hands z d).halt) same ∙ (at d ∙ e.1))
       (λ other. none e.0 k d (omega arith))),
   λ p w. ⊎_elim
-      (λ (x : old ≡ Some (halt.Stuck p)). (let low = stuck p x in let below = low.below in record { ring = low.ring; below = omega arith; stuck = low.stuck; lower = low.lower }))
-      (λ (x : (old ≡ None) × (h.halt ≡ Some (halt.Stuck p))). record { ring = i; below = omega arith; stuck = λ d. at d ∙ x.1; lower = λ k d under. none x.0 k d under })
+      (λ (x : old ≡ Some (Halt.Stuck p)). (let low = stuck p x in let below = low.below in record { ring = low.ring; below = omega arith; stuck = low.stuck; lower = low.lower }))
+      (λ (x : (old ≡ None) × (h.halt ≡ Some (Halt.Stuck p))). record { ring = i; below = omega arith; stuck = λ d. at d ∙ x.1; lower = λ k d under. none x.0 k d under })
       (told_stuck p w),
 ) where
   at : (d : Hand) → (get_or hands i d).halt ≡ h.halt

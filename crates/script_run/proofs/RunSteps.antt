@@ -1,10 +1,10 @@
 -- The hands of a run, from its start to the end of all lines.
 use Rattle.std.proofs.Common.{◌≡◌, ℕ, zero, suc, ◌+◌, ◌<◌, ◌≤◌, Bool, List, [], ◌∷◌, ◌++◌, All, None, length, map, drop, get_or, sym, refl, ap, ◌∙◌, subst, arith}
 use Rattle.std.specs.Prelude.{IfOk, Result, Ok, Err}
-use Rattle.std.proofs.lemmas.List.{length-map}
+use Rattle.std.proofs.lemmas.List.{length-map, get_or-map}
 use Rattle.steps.specs.declared.line.Line.{Line}
 use Rattle.steps.specs.declared.view.Role.TheVariants.{Poller, Submitter}
-use Rattle.steps.specs.Cells.{setup_of as board_setup}
+use Rattle.steps.specs.Cells
 use Rattle.steps.specs.Journal.{events_of}
 use Rattle.work.specs.Board.{Facts}
 use Rattle.work.specs.Passes.{Pass, seen_of}
@@ -26,7 +26,6 @@ use Rattle.script_run.specs.declared.clock.ClockLine.{ClockLine}
 use Rattle.script_run.specs.ClockLines.{AreClockLines, IsAlong}
 use Rattle.script_run.specs.ClockTries.{IsAtLine}
 use Rattle.script_run.proofs.ClockSteps.{ends}
-use Rattle.script_run.proofs.HandLists.{get_map}
 
 -- ---- the end of all lines
 
@@ -44,7 +43,7 @@ pub of_board : (b : Facts) (hands : List Hand) → AreInOrder b hands → AreCli
 of_board b [] o k d lt = absurd (omega arith)
 of_board b (h ∷ hands) o k d lt =
     let long = length-map (h ∷ hands) client_of in
-    ap (λ (x : ClientFacts). x.board) (get_map client_of (h ∷ hands) k h d (omega arith)) ∙ o.board k h (omega arith)
+    ap (λ (x : ClientFacts). x.board) (get_or-map client_of (h ∷ hands) k h d (omega arith)) ∙ o.board k h (omega arith)
 
 -- ---- the start
 
@@ -71,7 +70,7 @@ starts c s b hands clients is order new =
     let long : length (map client_of hands) ≡ length hands = length-map hands client_of in
     let count : length hands ≡ length clients = sym long ∙ ap length order in
     let one : (k : ℕ) (d : Hand) → k < length hands → IsNewClient b k (get_or hands k d).client = λ k d lt. (
-    subst (λ (x : ClientFacts). IsNewClient b k x) (ap (λ (xs : List ClientFacts). get_or xs k (client_of d)) (sym order) ∙ get_map client_of hands k d (client_of d) lt) (subst (λ (m : ℕ). IsNewClient b m (get_or clients k (client_of d))) (let z : 0 + k ≡ k = omega arith in z) (new_at b 0 clients k (client_of d) is.each (omega arith)))) in
+    subst (λ (x : ClientFacts). IsNewClient b k x) (ap (λ (xs : List ClientFacts). get_or xs k (client_of d)) (sym order) ∙ get_or-map client_of hands k d (client_of d) lt) (subst (λ (m : ℕ). IsNewClient b m (get_or clients k (client_of d))) (let z : 0 + k ≡ k = omega arith in z) (new_at b 0 clients k (client_of d) is.each (omega arith)))) in
     record {
       order = record {
         count = count ∙ (is.count ∙ (sym (counts_long s.rings.items) ∙ ap length (sym is.cells)));
@@ -81,7 +80,7 @@ starts c s b hands clients is order new =
       new = λ k d lt. (new_hand c b k (get_or hands k d) (one k d lt) (new k d lt).0, (new k d lt).1);
     }
 
-pub same_setup : (c : Script) (s : Shape) (b : Facts) (clients : List ClientFacts) → IsStarted s b clients → length s.rings.items ≡ length c.rings.items → s.pipes.items ≡ c.pipes.items → board_setup b.layout ≡ setup_of c
+pub same_setup : (c : Script) (s : Shape) (b : Facts) (clients : List ClientFacts) → IsStarted s b clients → length s.rings.items ≡ length c.rings.items → s.pipes.items ≡ c.pipes.items → Cells.setup_of b.layout ≡ setup_of c
 same_setup c s b clients is rings pipes =
     let count : length b.layout.cells ≡ length c.rings.items = ap length is.cells ∙ (counts_long s.rings.items ∙ rings) in
     let caps : b.layout.caps ≡ c.pipes.items = is.caps ∙ pipes in

@@ -10,16 +10,14 @@ use Rattle.board.specs.Reports.{IsReport}
 use Rattle.runtime.specs.Clients.{ClientFacts, submitter_of}
 use Rattle.runtime.specs.Rests.{CameToRest}
 use Rattle.script.specs.declared.act.Act.{Act}
-use Rattle.script.specs.declared.act.Act.TheVariants as act
 use Rattle.script.specs.declared.script.Script.{Script}
 use Rattle.script.specs.Carried.{HasTimed}
 use Rattle.script.specs.Tables.{is_done, is_replied, is_armed, holds_for}
 use Rattle.script_run.specs.declared.clock.ClockLine.{ClockLine}
 use Rattle.script_run.specs.declared.clock.ClockLine.TheVariants.{Wait, Armed, Tick}
-use Rattle.script_run.specs.declared.clock.Ended.TheVariants.{Stuck as EndsStuck}
+use Rattle.script_run.specs.declared.clock.Ended.{Ended}
 use Rattle.script_run.specs.declared.hand.Hand.{Hand}
 use Rattle.script_run.specs.declared.fault.RunFault.{RunFault}
-use Rattle.script_run.specs.declared.fault.RunFault.TheVariants as fault
 use Rattle.script_run.specs.ClockLines.{AreClockLines, IsClockLine, IsTimed}
 use Rattle.script_run.specs.ClockTries.{EndsAs, IsAtLine, IsOfPlace, IsUndone, WasTried}
 use Rattle.script_run.specs.Faults.{IfStuckOn, IsUnstuck}
@@ -31,17 +29,14 @@ use Rattle.script_run.proofs.ClockSteps.{act_at, around}
 use Rattle.script_run.proofs.RunSteps.{in_order}
 
 pub if_stuck_on : (P Q : List ℕ → Type 0) (f : RunFault) → ((label : List ℕ) → P label → Q label) → IfStuckOn P f → IfStuckOn Q f
-if_stuck_on P Q (fault.Stuck label) f k = f _ k
-if_stuck_on P Q fault.Memory f k = tt
-if_stuck_on P Q fault.Thread f k = tt
-if_stuck_on P Q fault.Workers f k = tt
-if_stuck_on P Q fault.Shared f k = tt
+if_stuck_on P Q (RunFault.Stuck label) f k = f _ k
+if_stuck_on P Q _ f k = tt
 
 -- of a fault that is no line's anything may be said
 pub unstuck : (P : List ℕ → Type 0) (f : RunFault) → IsUnstuck f → IfStuckOn P f
 unstuck P f k = if_stuck_on (λ _. ⊥) P f (λ label none. absurd none) k
 
-pub memory_unstuck : (P : List ℕ → Type 0) (f : RunFault) → f ≡ fault.Memory → IfStuckOn P f
+pub memory_unstuck : (P : List ℕ → Type 0) (f : RunFault) → f ≡ RunFault.Memory → IfStuckOn P f
 memory_unstuck P f is = subst (IfStuckOn P) (sym is) tt
 
 -- ---- a ring's line
@@ -63,39 +58,23 @@ stuck_ring c turns b xs ys p label s out low is =
 -- ---- the clock's line
 
 is_for_place : (c : Script) (a : Act) (l : ClockLine) (p : ℕ) → IsClockLine c a l → IsOfPlace l p → IsFor a p
-is_for_place c (act.Wait q) (Wait r x) p i o = i.1 ∙ o
-is_for_place c (act.Armed q) (Armed r x) p i o = i.1 ∙ o
-is_for_place c (act.Wait q) (Armed r x) p i o = absurd i
-is_for_place c (act.Wait q) (Tick n) p i o = absurd i
-is_for_place c (act.Armed q) (Wait r x) p i o = absurd i
-is_for_place c (act.Armed q) (Tick n) p i o = absurd i
-is_for_place c (act.Tick m) (Wait r x) p i o = absurd i
-is_for_place c (act.Tick m) (Armed r x) p i o = absurd i
-is_for_place c (act.Tick m) (Tick n) p i o = absurd o
-is_for_place c (act.Submit ps) (Wait r x) p i o = absurd i
-is_for_place c (act.Submit ps) (Armed r x) p i o = absurd i
-is_for_place c (act.Submit ps) (Tick n) p i o = absurd i
+is_for_place c (Act.Wait q) (Wait r x) p i o = i.1 ∙ o
+is_for_place c (Act.Armed q) (Armed r x) p i o = i.1 ∙ o
+is_for_place c (Act.Tick m) (Tick n) p i o = absurd o
+is_for_place c _ _ p i o = absurd i
 
 undone_now : (c : Script) (a : Act) (l : ClockLine) (h : List Event) → IsClockLine c a l → IsUndone (Some l) h → is_done c h a ≡ false
-undone_now c (act.Wait q) (Wait r x) h i u = ap (holds_for is_replied h) i.0 ∙ u
-undone_now c (act.Armed q) (Armed r x) h i u = ap (holds_for (λ y. is_armed y || is_replied y) h) i.0 ∙ u
-undone_now c (act.Wait q) (Armed r x) h i u = absurd i
-undone_now c (act.Wait q) (Tick n) h i u = absurd i
-undone_now c (act.Armed q) (Wait r x) h i u = absurd i
-undone_now c (act.Armed q) (Tick n) h i u = absurd i
-undone_now c (act.Tick m) (Wait r x) h i u = absurd i
-undone_now c (act.Tick m) (Armed r x) h i u = absurd i
-undone_now c (act.Tick m) (Tick n) h i u = absurd u
-undone_now c (act.Submit ps) (Wait r x) h i u = absurd i
-undone_now c (act.Submit ps) (Armed r x) h i u = absurd i
-undone_now c (act.Submit ps) (Tick n) h i u = absurd i
+undone_now c (Act.Wait q) (Wait r x) h i u = ap (holds_for is_replied h) i.0 ∙ u
+undone_now c (Act.Armed q) (Armed r x) h i u = ap (holds_for (λ y. is_armed y || is_replied y) h) i.0 ∙ u
+undone_now c (Act.Tick m) (Tick n) h i u = absurd u
+undone_now c _ _ h i u = absurd i
 
 all_undone : (c : Script) (a : Act) (l : ClockLine) (n : ℕ) (h : List Event) → IsClockLine c a l → WasTried (Some l) n h → WasUndone c a n h
 all_undone c a l zero h i k = tt
 all_undone c a l (suc n) h i k = (k.0, k.1, k.2, undone_now c a l k.1 i k.3, all_undone c a l n k.1 i k.4)
 
 pub stuck_clock : (c : Script) (turns : ℕ) (b : Facts) (hands : List Hand) (clients : List ClientFacts) (own lines : List ClockLine) (next tries most : ℕ) (is_stuck : Bool) (report : List (Completion × Bool)) (p : ℕ) (label : List ℕ)
-    → AreInOrder b hands → All (λ h. IsCarried c h) hands → AreClockLines c c.clock.items lines → EndsAs own next most is_stuck lines turns (EndsStuck p)
+    → AreInOrder b hands → All (λ h. IsCarried c h) hands → AreClockLines c c.clock.items lines → EndsAs own next most is_stuck lines turns (Ended.Stuck p)
     → (poller : Pass) × (workers : List Pass) × IsReport b (poller ∷ (map submitter_of clients ++ workers)) report × IsAtLine own next tries most is_stuck (seen_of poller) × (poller.view.role ≡ Poller (length b.layout.cells)) × CameToRest b poller workers
     → HasLabel c p label → IsStuckClock c turns b label
 stuck_clock c turns b hands clients own lines next tries most is_stuck report p label order carried are e x label_is =

@@ -3,12 +3,11 @@ use Rattle.std.proofs.Common.{◌≡◌, ℕ, zero, suc, ◌<◌, ◌≤◌, Boo
 use Rattle.std.specs.Prelude.{slice_get}
 use Rattle.std.specs.Option.{option_map}
 use Rattle.std.specs.Global.{Vec}
-use Rattle.std.proofs.lemmas.Option.{slice_get_cases, slice_get_within, slice_get-map}
-use Rattle.std.proofs.lemmas.List.{length-map, take-append-le}
+use Rattle.std.proofs.lemmas.Option.{slice_get_cases, slice_get_within, slice_get-map, none-some}
+use Rattle.std.proofs.lemmas.List.{length-map, take-append-le, get_or-map}
 use Rattle.std.proofs.Math.Seq.{take-length}
 use Rattle.history.specs.declared.req.Req.{Req}
 use Rattle.history.specs.declared.event.Event.{Event}
-use Rattle.history.specs.declared.event.Event.TheVariants as event
 use Rattle.history.specs.History.{data_of, was_shut}
 use Rattle.history.specs.Legal.{Setup, Legal}
 use Rattle.history.specs.Ticked.{counts_tick}
@@ -17,7 +16,7 @@ use Rattle.steps.specs.declared.line.Line.TheVariants.{Did}
 use Rattle.steps.specs.declared.view.Role.{Role}
 use Rattle.steps.specs.declared.view.Role.TheVariants.{Poller, Submitter}
 use Rattle.steps.specs.Journal.{events_of}
-use Rattle.steps.specs.Cells.{setup_of as board_setup}
+use Rattle.steps.specs.Cells
 use Rattle.steps.specs.Rule.{owns, NoneOf, Saw}
 use Rattle.work.specs.Board.{Facts}
 use Rattle.work.specs.Passes.{Pass}
@@ -41,20 +40,16 @@ use Rattle.script_run.specs.declared.hand.Hand.{Hand}
 use Rattle.script_run.specs.Hands.{client_of, taken_by, AreTaken, HandAt, IsCarried}
 use Rattle.script_run.specs.Played.{IsPlayed}
 use Rattle.script_run.specs.RunRows.{IsFound, IsRow, AreRows}
-use Rattle.script_run.proofs.HandLists.{get_map}
 use Rattle.script_run.proofs.ClientCalls.{all_taken, carried_without, taken_by_line}
-
-none_some : {X : Type 0} → (x : X) → None ≡ Some x → ⊥
-none_some x e = cc
 
 -- ---- the history that was ended
 
-legal_shut : (s : Setup) (h : List Event) (lines : List (Completion × Bool)) → Legal s (ended lines h) → Legal s (event.Shut ∷ h)
+legal_shut : (s : Setup) (h : List Event) (lines : List (Completion × Bool)) → Legal s (ended lines h) → Legal s (Event.Shut ∷ h)
 legal_shut s h [] l = l
 legal_shut s h ((x, true) ∷ lines) l = legal_shut s h lines l.1
 legal_shut s h ((x, false) ∷ lines) l = legal_shut s h lines l
 
-keeps_ended : (c : Script) (h : List Event) (lines : List (Completion × Bool)) → Keeps c (event.Shut ∷ h) → Keeps c (ended lines h)
+keeps_ended : (c : Script) (h : List Event) (lines : List (Completion × Bool)) → Keeps c (Event.Shut ∷ h) → Keeps c (ended lines h)
 keeps_ended c h [] k = k
 keeps_ended c h ((x, true) ∷ lines) k = (tt, keeps_ended c h lines k)
 keeps_ended c h ((x, false) ∷ lines) k = keeps_ended c h lines k
@@ -65,8 +60,8 @@ shut_ended h ((x, true) ∷ lines) = shut_ended h lines
 shut_ended h ((x, false) ∷ lines) = shut_ended h lines
 
 taken_ended : (s : Setup) (h : List Event) (lines : List (Completion × Bool)) (xs : List Completion) → Legal s (ended lines h) → AreTaken h xs → AreTaken (ended lines h) xs
-taken_ended s h [] xs l k = all_taken s event.Shut h xs l k
-taken_ended s h ((x, true) ∷ lines) xs l k = all_taken s (event.Cut x.req) (ended lines h) xs l (taken_ended s h lines xs l.1 k)
+taken_ended s h [] xs l k = all_taken s Event.Shut h xs l k
+taken_ended s h ((x, true) ∷ lines) xs l k = all_taken s (Event.Cut x.req) (ended lines h) xs l (taken_ended s h lines xs l.1 k)
 taken_ended s h ((x, false) ∷ lines) xs l k = taken_ended s h lines xs l k
 
 -- ---- what each pass lacks none of
@@ -78,7 +73,7 @@ saw_at j (p ∷ ps) qs (suc k) d s lt = saw_at j ps qs k d s.1 (omega arith)
 
 -- the poller's clock goes no further without it
 no_tick : (n : ℕ) (e : Event) → owns (Poller n) (Did e) ≡ false → counts_tick e ≡ 0
-no_tick n (event.Tick m) w = absurd (true≢false w)
+no_tick n (Event.Tick m) w = absurd (true≢false w)
 no_tick n _ w = refl
 
 timed_without : (c : Script) (s : Setup) (acts left : List Act) (n : ℕ) (later seen : List Line) → Legal s (events_of (later ++ seen)) → NoneOf (Poller n) later → HasTimed c acts left (events_of seen) → HasTimed c acts left (events_of (later ++ seen))
@@ -88,7 +83,7 @@ timed_without c s acts left n (_ ∷ later) seen l none k = timed_without c s ac
 
 -- ---- the run as a whole
 
-module _ (c : Script) (b : Facts) (taken : List Completion) (lines : List (Completion × Bool)) (p : IsPlayed c b taken lines) (same : board_setup b.layout ≡ setup_of c) where
+module _ (c : Script) (b : Facts) (taken : List Completion) (lines : List (Completion × Bool)) (p : IsPlayed c b taken lines) (same : Cells.setup_of b.layout ≡ setup_of c) where
   abbrev s : Setup
   s = setup_of c
 
@@ -98,7 +93,7 @@ module _ (c : Script) (b : Facts) (taken : List Completion) (lines : List (Compl
   legal : Legal s (ended lines h)
   legal = subst (λ (z : Setup). Legal z (ended lines h)) same p.report.legal
 
-  shut : Legal s (event.Shut ∷ h)
+  shut : Legal s (Event.Shut ∷ h)
   shut = legal_shut s h lines legal
 
   -- what the hand of a ring has done
@@ -112,10 +107,10 @@ module _ (c : Script) (b : Facts) (taken : List Completion) (lines : List (Compl
   hand_at k d lt =
       let passes : List Pass = map submitter_of (map client_of p.hands) in
       let x : Hand = get_or p.hands k d in
-      let one : get_or (map client_of p.hands) k (client_of d) ≡ client_of x = get_map client_of p.hands k d (client_of d) lt in
+      let one : get_or (map client_of p.hands) k (client_of d) ≡ client_of x = get_or-map client_of p.hands k d (client_of d) lt in
       let long : length (map client_of p.hands) ≡ length p.hands = length-map p.hands client_of in
       let more : length passes ≡ length (map client_of p.hands) = length-map (map client_of p.hands) submitter_of in
-      let two : get_or passes k (submitter_of (client_of d)) ≡ submitter_of (client_of x) = get_map submitter_of (map client_of p.hands) k (client_of d) (submitter_of (client_of d)) (omega arith) ∙ ap submitter_of one in
+      let two : get_or passes k (submitter_of (client_of d)) ≡ submitter_of (client_of x) = get_or-map submitter_of (map client_of p.hands) k (client_of d) (submitter_of (client_of d)) (omega arith) ∙ ap submitter_of one in
       record {
         hand = x;
         ring = p.order.rings k d lt;
@@ -173,8 +168,8 @@ module _ (c : Script) (b : Facts) (taken : List Completion) (lines : List (Compl
       let passes : List Pass = map submitter_of (map client_of p.hands) in
       let long : length (map client_of p.hands) ≡ length p.hands = length-map p.hands client_of in
       let more : length passes ≡ length (map client_of p.hands) = length-map (map client_of p.hands) submitter_of in
-      let one : get_or (map client_of p.hands) k (client_of d) ≡ client_of x = get_map client_of p.hands k d (client_of d) lt in
-      let two : get_or passes k (submitter_of (client_of d)) ≡ submitter_of (client_of x) = get_map submitter_of (map client_of p.hands) k (client_of d) (submitter_of (client_of d)) (omega arith) ∙ ap submitter_of one in
+      let one : get_or (map client_of p.hands) k (client_of d) ≡ client_of x = get_or-map client_of p.hands k d (client_of d) lt in
+      let two : get_or passes k (submitter_of (client_of d)) ≡ submitter_of (client_of x) = get_or-map submitter_of (map client_of p.hands) k (client_of d) (submitter_of (client_of d)) (omega arith) ∙ ap submitter_of one in
       let saw : Saw x.client.submitter.view.role x.client.submitter.view.seen p.report.all = subst (λ (q : Pass). Saw q.view.role q.view.seen p.report.all) two (saw_at p.report.all passes p.workers k (submitter_of (client_of d)) p.report.own.1 (omega arith)) in
       let l : Legal s (events_of (saw.later ++ x.client.submitter.view.seen)) = subst (λ (z : List Line). Legal s (events_of z)) saw.is shut.1 in
       taken_ended s h lines x.taken.items legal (subst (λ (z : List Line). AreTaken (events_of z) x.taken.items) (sym saw.is) (taken_by_line s saw.later x.client.submitter.view.seen x.taken.items l (p.carried k d lt).taken))
@@ -192,14 +187,14 @@ module _ (c : Script) (b : Facts) (taken : List Completion) (lines : List (Compl
   -- ---- the rows
 
   one_taken : (xs : List Completion) (i : ℕ) (x : Completion) → AreTaken (ended lines h) xs → slice_get xs i ≡ Some x → IsCompletion (ended lines h) x.req x
-  one_taken [] zero x k e = absurd (none_some x e)
-  one_taken [] (suc i) x k e = absurd (none_some x e)
+  one_taken [] zero x k e = absurd (none-some x e)
+  one_taken [] (suc i) x k e = absurd (none-some x e)
   one_taken (y ∷ xs) zero x k e = let same : y ≡ x = cc in subst (λ (z : Completion). IsCompletion (ended lines h) z.req z) same k.0
   one_taken (y ∷ xs) (suc i) x k e = one_taken xs i x k.1 e
 
   one_left : (ls : List (Completion × Bool)) (i : ℕ) (x : Completion) (is_cut : Bool) → AllTell (ended lines h) ls → slice_get ls i ≡ Some (x, is_cut) → IsCompletion (ended lines h) x.req x
-  one_left [] zero x is_cut k e = absurd (none_some (x, is_cut) e)
-  one_left [] (suc i) x is_cut k e = absurd (none_some (x, is_cut) e)
+  one_left [] zero x is_cut k e = absurd (none-some (x, is_cut) e)
+  one_left [] (suc i) x is_cut k e = absurd (none-some (x, is_cut) e)
   one_left (y ∷ ls) zero x is_cut k e = let same : y ≡ (x, is_cut) = cc in subst (λ (z : Completion × Bool). IsCompletion (ended lines h) z.0.req z.0) same k.0.completion
   one_left (y ∷ ls) (suc i) x is_cut k e = one_left ls i x is_cut k.1 e
 

@@ -2,10 +2,9 @@
 use Rattle.std.specs.Prelude.{◌≡◌, ℕ, cond, take, drop, slice_get, Bool, true, false, List, [], ◌∷◌, Option, Some, None}
 use Rattle.history.specs.declared.req.Req.{Req}
 use Rattle.history.specs.declared.event.Event.{Event}
-use Rattle.board.specs.declared.phase.Phase.{Phase as Standing}
-use Rattle.board.specs.declared.phase.Phase.TheVariants.{Done, Gone, Armed as Ringing}
+use Rattle.board.specs.declared.phase.Phase.{Phase}
+use Rattle.board.specs.declared.phase.Phase.TheVariants.{Done, Gone}
 use Rattle.script.specs.declared.act.Act.{Act}
-use Rattle.script.specs.declared.act.Act.TheVariants as act
 use Rattle.script.specs.declared.script.Script.{Script}
 use Rattle.script.specs.Carried.{HasTimed}
 use Rattle.script.specs.Homes.{home}
@@ -14,9 +13,9 @@ use Rattle.script_run.specs.declared.clock.ClockLine.TheVariants.{Wait, Armed, T
 
 -- the line is this one of the script, with the request and the place of its entry
 abbrev pub IsClockLine : Script → Act → ClockLine → Type 0
-IsClockLine c (act.Wait p) (Wait r q) = (home c p ≡ Some r) × (p ≡ q)
-IsClockLine c (act.Armed p) (Armed r q) = (home c p ≡ Some r) × (p ≡ q)
-IsClockLine c (act.Tick n) (Tick m) = n ≡ m
+IsClockLine c (Act.Wait p) (Wait r q) = (home c p ≡ Some r) × (p ≡ q)
+IsClockLine c (Act.Armed p) (Armed r q) = (home c p ≡ Some r) × (p ≡ q)
+IsClockLine c (Act.Tick n) (Tick m) = n ≡ m
 IsClockLine c _ _ = ⊥
 
 abbrev pub AreClockLines : Script → List Act → List ClockLine → Type 0
@@ -49,13 +48,13 @@ abbrev pub IsAlong : List ClockLine → ℕ → List Event → Type 0
 IsAlong lines next h = (c : Script) → AreClockLines c c.clock.items lines → IsTimed c lines next h
 
 -- where a request that the clock asked for stands: it has its reply, or it is armed or has it
-abbrev pub has_reply : Option Standing → Bool
+abbrev pub has_reply : Option Phase → Bool
 has_reply (Some (Done res)) = true
 has_reply (Some Gone) = true
 has_reply _ = false
 
-abbrev pub is_ready : Option Standing → Bool
-is_ready (Some (Ringing d)) = true
+abbrev pub is_ready : Option Phase → Bool
+is_ready (Some (Phase.Armed d)) = true
 is_ready (Some (Done res)) = true
 is_ready (Some Gone) = true
 is_ready _ = false

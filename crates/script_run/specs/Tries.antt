@@ -2,7 +2,7 @@
 use Rattle.std.specs.Prelude.{◌≡◌, ℕ, zero, suc, ◌<◌, ◌++◌, length, false, List, ◌∷◌, Some, None, slice_get, slice_index_or}
 use Rattle.std.specs.Global.{Vec}
 use Rattle.history.specs.declared.req.Req.{Req}
-use Rattle.board.specs.declared.phase.Phase.{Phase as Standing}
+use Rattle.board.specs.declared.phase.Phase.{Phase}
 use Rattle.board.specs.declared.error.SubmitError.TheVariants.{Full}
 use Rattle.board.specs.Batches.{Entries}
 use Rattle.board.specs.Calls.{Finds, next_of}
@@ -13,9 +13,8 @@ use Rattle.script.specs.declared.script.Script.{Script}
 use Rattle.script.specs.Homes.{home}
 use Rattle.script_run.specs.declared.hand.Hand.{Hand}
 use Rattle.script_run.specs.declared.lines.Halt.{Halt}
-use Rattle.script_run.specs.declared.lines.Halt.TheVariants.{Stuck as StuckAt}
 use Rattle.script_run.specs.declared.hand.Tried.{Tried}
-use Rattle.script_run.specs.declared.hand.Tried.TheVariants.{Submitted, Full as NotFree, Refused}
+use Rattle.script_run.specs.declared.hand.Tried.TheVariants.{Submitted, Refused}
 use Rattle.script_run.specs.ClockLines.{has_reply}
 use Rattle.script_run.specs.Hands.{AreEntries, HandAt, HandedIn, IsCarried, IsNewHand, Went}
 
@@ -30,7 +29,7 @@ IsFor (Tick n) q = ⊥
 
 -- its client looked where the request stands, which had no reply
 abbrev pub LooksInVain : Req → Hand → Hand → Type 0
-LooksInVain r old new = (s : Standing) × Finds old.client.board r s old.client.submitter new.client.submitter × (has_reply (Some s) ≡ false)
+LooksInVain r old new = (s : Phase) × Finds old.client.board r s old.client.submitter new.client.submitter × (has_reply (Some s) ≡ false)
 
 -- its client was refused the batch, since not all of its cells were free
 abbrev pub FindsFull : Entries → Hand → Hand → Type 0
@@ -39,7 +38,7 @@ FindsFull xs old new = RefusesBatch old.client.board xs old.client.ring (next_of
 -- what a try to submit these entries came to
 abbrev pub CameTo : Entries → Hand → Hand → Tried → Type 0
 CameTo xs old new Submitted = HandedIn xs old new
-CameTo xs old new (NotFree batch) = Went old new × (batch.items ≡ xs) × FindsFull xs old new
+CameTo xs old new (Tried.Full batch) = Went old new × (batch.items ≡ xs) × FindsFull xs old new
 CameTo xs old new Refused = Went old new
 
 -- it tried this line, in vain
@@ -68,7 +67,7 @@ pub record RanOut (c : Script) (turns : ℕ) (act : Act) (p : ℕ) (old new : Ha
 
 -- what is said of the place of a line that ran out of tries
 abbrev pub IfStuck : (ℕ → Type 0) → Halt → Type 0
-IfStuck P (StuckAt p) = P p
+IfStuck P (Halt.Stuck p) = P p
 IfStuck P _ = Unit {0}
 
 -- the client of the hand has carried out the lines of its ring before one that ran out of tries
@@ -90,7 +89,7 @@ pub record CarriedOut (c : Script) (turns : ℕ) (old new : Hand) : Type 0 where
   pub board : new.client.board ≡ old.client.board
   pub ring : new.client.ring ≡ old.client.ring
   pub carried : IsNewHand c old → new.halt ≡ None → IsCarried c new
-  pub stuck : (p : ℕ) → IsNewHand c old → new.halt ≡ Some (StuckAt p) → IsStuckLine c turns p new
+  pub stuck : (p : ℕ) → IsNewHand c old → new.halt ≡ Some (Halt.Stuck p) → IsStuckLine c turns p new
 
 -- place by place, each of these came so of the one that stands there
 abbrev pub AllCarriedOut : Script → ℕ → List Hand → List Hand → Type 0
@@ -100,5 +99,5 @@ AllCarriedOut c turns xs ys = (length ys ≡ length xs) × ((k : ℕ) (d e : Han
 pub record IsLowest (hands : List Hand) (n p : ℕ) : Type 0 where
   pub ring : ℕ
   pub below : ring < n
-  pub stuck : (d : Hand) → (slice_index_or hands ring d).halt ≡ Some (StuckAt p)
+  pub stuck : (d : Hand) → (slice_index_or hands ring d).halt ≡ Some (Halt.Stuck p)
   pub lower : (k : ℕ) (d : Hand) → k < ring → (slice_index_or hands k d).halt ≡ None

@@ -4,7 +4,7 @@ ghost use Rattle.script.specs.declared.act.Act.TheVariants.{Submit, Wait};
 ghost use Rattle.script.specs.Homes.{AreHomes};
 ghost use Rattle.script_run.specs.Hands.{AreEntries, Carries, IsNewHand, IsCarried};
 ghost use Rattle.script_run.specs.Tries.{CarriedOut, IfStuck, IsStuckLine, RanOut};
-ghost use Rattle.script_run.specs.declared.lines.Halt.TheVariants.{Memory as NoMemory};
+ghost use Rattle.script_run.specs.declared.lines.Halt.{Halt};
 
 use crate::hand::{Batch, Hand, Tried};
 use crate::stage::{Stage, home_of};
@@ -29,7 +29,7 @@ pub(crate) enum Halt {
 }
 
 impl From<AllocError> for Halt {
-    ghost from_gives = { λ _ halt. halt ≡ NoMemory };
+    ghost from_gives = { λ _ halt. halt ≡ Halt.Memory };
 
     fn from(_error: AllocError) -> Halt {
         Halt::Memory
@@ -37,7 +37,7 @@ impl From<AllocError> for Halt {
 }
 
 impl<T: Drop> From<AllocFailed<T>> for Halt {
-    ghost from_gives = { λ _ halt. halt ≡ NoMemory };
+    ghost from_gives = { λ _ halt. halt ≡ Halt.Memory };
 
     fn from(_error: AllocFailed<T>) -> Halt {
         Halt::Memory

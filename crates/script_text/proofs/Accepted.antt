@@ -12,9 +12,8 @@ use Rattle.limits.specs.Limits.{is_capacity}
 use Rattle.limits.specs.declared.TheConstants.{ENTRIES, PIPES, RINGS}
 use Rattle.script.specs.Rules.{are_lines, each_once, has_own_label, is_clock_line, is_entry, is_ring, is_ring_line, is_timed_at, keeps_acts, keeps_clock, keeps_limits, keeps_parts, keeps_rules, labels_differ, places_in, places_of, rises}
 use Rattle.script.specs.declared.act.Act.{Act}
-use Rattle.script.specs.declared.act.Act.TheVariants as act
 use Rattle.script.specs.declared.named.Named.{Named}
-use Rattle.script_text.specs.declared.actor.Actor.TheVariants as who
+use Rattle.script_text.specs.declared.actor.Actor.{Actor}
 use Rattle.script_text.specs.declared.parts.Parts.{Parts}
 use Rattle.script_text.specs.Above.{Deed, Entered, deeds_in, has_ring_in, stated_in}
 use Rattle.script_text.specs.Acts.{deed, deeds, deeds_at}
@@ -33,11 +32,9 @@ use Rattle.script_text.proofs.ReadingLines.{as_many_entries, entries_of_parts, l
 -- ---- the rules, by what lines say
 
 ring_line_all : (cells n : ℕ) (acts : List Act) → list_all (deed_fits cells n) (deeds acts) ≡ list_all (is_ring_line cells n) acts
-ring_line_all cells n [] = refl
-ring_line_all cells n (act.Submit places ∷ acts) = ap (λ (b : Bool). is_ring_line cells n (act.Submit places) && b) (ring_line_all cells n acts)
-ring_line_all cells n (act.Wait place ∷ acts) = ap (λ (b : Bool). nat_lt place n && b) (ring_line_all cells n acts)
-ring_line_all cells n (act.Armed place ∷ acts) = refl
-ring_line_all cells n (act.Tick to ∷ acts) = refl
+ring_line_all cells n (Act.Submit places ∷ acts) = ap (λ (b : Bool). is_ring_line cells n (Act.Submit places) && b) (ring_line_all cells n acts)
+ring_line_all cells n (Act.Wait place ∷ acts) = ap (λ (b : Bool). nat_lt place n && b) (ring_line_all cells n acts)
+ring_line_all cells n _ = refl
 
 lines_ok : (n : ℕ) (rs : List (ℕ × Option ℕ)) (vs : List (Vec Act)) → length vs ≡ length rs → ((r : ℕ) → AtRing rs n r (deeds_at vs r)) → are_lines n rs vs ≡ true
 lines_ok n [] [] e at = refl
@@ -48,10 +45,8 @@ lines_ok n (r ∷ rs) [] e at = absurd (omega (arith, e))
 
 places_as : (acts : List Act) → places_in acts ≡ places_in_deeds (deeds acts)
 places_as [] = refl
-places_as (act.Submit places ∷ acts) = ap (λ (xs : List ℕ). places.items ++ xs) (places_as acts)
-places_as (act.Wait place ∷ acts) = places_as acts
-places_as (act.Armed place ∷ acts) = places_as acts
-places_as (act.Tick to ∷ acts) = places_as acts
+places_as (Act.Submit places ∷ acts) = ap (λ (xs : List ℕ). places.items ++ xs) (places_as acts)
+places_as (_ ∷ acts) = places_as acts
 
 often_places : (q : ℕ) (vs : List (Vec Act)) → often q (places_of vs) ≡ sum_to (length vs) (λ r. often q (places_in_deeds (deeds_at vs r)))
 often_places q [] = refl
@@ -70,10 +65,10 @@ timed_as None = refl
 timed_as (Some e) = refl
 
 clock_line_as : (es : List Named) (a : Act) → clock_fits (all_entered es) (deed a) ≡ is_clock_line es a
-clock_line_as es (act.Submit places) = refl
-clock_line_as es (act.Wait place) = ap (λ (n : ℕ). nat_lt place n) (length-map es entered)
-clock_line_as es (act.Armed place) = ap timed_at (slice_get-map entered es place) ∙ timed_as (slice_get es place)
-clock_line_as es (act.Tick to) = refl
+clock_line_as es (Act.Submit places) = refl
+clock_line_as es (Act.Wait place) = ap (λ (n : ℕ). nat_lt place n) (length-map es entered)
+clock_line_as es (Act.Armed place) = ap timed_at (slice_get-map entered es place) ∙ timed_as (slice_get es place)
+clock_line_as es (Act.Tick to) = refl
 
 clock_line_all : (es : List Named) (acts : List Act) → list_all (clock_fits (all_entered es)) (deeds acts) ≡ list_all (is_clock_line es) acts
 clock_line_all es [] = refl
@@ -81,10 +76,8 @@ clock_line_all es (a ∷ acts) = let x = clock_line_as es a in let y = clock_lin
 
 rises_as : (m : ℕ) (acts : List Act) → deeds_rise m (deeds acts) ≡ rises m acts
 rises_as m [] = refl
-rises_as m (act.Submit places ∷ acts) = rises_as m acts
-rises_as m (act.Wait place ∷ acts) = rises_as m acts
-rises_as m (act.Armed place ∷ acts) = rises_as m acts
-rises_as m (act.Tick to ∷ acts) = ap (λ (b : Bool). nat_le m to && b) (rises_as to acts)
+rises_as m (Act.Tick to ∷ acts) = ap (λ (b : Bool). nat_le m to && b) (rises_as to acts)
+rises_as m (_ ∷ acts) = rises_as m acts
 
 differ_as : (es : List Named) → distinct (map label_of (all_entered es)) ≡ labels_differ es
 differ_as [] = refl
@@ -149,7 +142,7 @@ acts_ok ss p none st =
     let even = st.even.acts in
     let once : (q : ℕ) → q < n → often q (places_of vs) ≡ 1 = λ q lt. (
     often_places q vs
-    ∙ (sum_same (length vs) (λ r. often q (places_in_deeds (deeds_at vs r))) (λ r. often q (places_in_deeds (deeds_in lines (who.Ring r) all))) (λ r. ap (λ (ds : List Deed). often q (places_in_deeds ds)) (st.acts r))
+    ∙ (sum_same (length vs) (λ r. often q (places_in_deeds (deeds_at vs r))) (λ r. often q (places_in_deeds (deeds_in lines (Actor.Ring r) all))) (λ r. ap (λ (ds : List Deed). often q (places_in_deeds ds)) (st.acts r))
     ∙ once_each all (length vs) q clean (omega (arith, long, even)) (omega (arith, lt, many)))) in
     and_from (are_lines n p.rings.items vs) (each_once n (places_of vs)) (lines_ok n p.rings.items vs even at) (each_from n (places_of vs) once)
 

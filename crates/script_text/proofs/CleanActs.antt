@@ -9,9 +9,8 @@ use Rattle.std.proofs.lemmas.Option.{slice_get-get_or, slice_get_within}
 use Rattle.entry.specs.Entry.{Entry}
 use Rattle.text.specs.Number.{number_in}
 use Rattle.script_text.specs.declared.actor.Actor.{Actor}
-use Rattle.script_text.specs.declared.actor.Actor.TheVariants as who
 use Rattle.script_text.specs.declared.keyword.Keyword.{Keyword}
-use Rattle.script_text.specs.declared.keyword.Keyword.TheVariants.{Pipe, Ring, On, Submit, Wait, Tick, Armed, Entry as EntryLine}
+use Rattle.script_text.specs.declared.keyword.Keyword.TheVariants.{Ring, On, Submit, Wait, Tick, Armed}
 use Rattle.script_text.specs.Above.{Deed, actor_in, actor_with, batch_in, batch_with, deeds_in, deeds_with, is_same_actor, place_in, rings_in, rings_with, sets, stated_in, stated_with, submits, waits, waits_armed}
 use Rattle.script_text.specs.Actors.{IsKnown, is_clock, named_actor, ring_named}
 use Rattle.script_text.specs.EntryLines.{Stated, declares, label_faults, line_of, place_of, unknown_faults}
@@ -25,47 +24,33 @@ use Rattle.script_text.proofs.ReadingLines.{stated_bounds}
 
 -- ---- actors
 
-pub same_ring : (a : Actor) (r : ℕ) → is_same_actor (who.Ring r) a ≡ true → a ≡ who.Ring r
-same_ring who.Start r e = absurd cc
-same_ring (who.Ring m) r e = ap (λ (n : ℕ). who.Ring n) (sym (eqb-true r m e))
-same_ring who.Clock r e = absurd cc
-same_ring who.Stranger r e = absurd cc
+pub same_ring : (a : Actor) (r : ℕ) → is_same_actor (Actor.Ring r) a ≡ true → a ≡ Actor.Ring r
+same_ring (Actor.Ring m) r e = ap (λ (n : ℕ). Actor.Ring n) (sym (eqb-true r m e))
+same_ring _ r e = absurd cc
 
-pub same_clock : (a : Actor) → is_same_actor who.Clock a ≡ true → a ≡ who.Clock
-same_clock who.Start e = absurd cc
-same_clock (who.Ring m) e = absurd cc
-same_clock who.Clock e = refl
-same_clock who.Stranger e = absurd cc
+pub same_clock : (a : Actor) → is_same_actor Actor.Clock a ≡ true → a ≡ Actor.Clock
+same_clock Actor.Clock e = refl
+same_clock _ e = absurd cc
 
-pub clock_is : (a : Actor) → is_clock a ≡ true → a ≡ who.Clock
-clock_is who.Start e = absurd cc
-clock_is (who.Ring m) e = absurd cc
-clock_is who.Clock e = refl
-clock_is who.Stranger e = absurd cc
+pub clock_is : (a : Actor) → is_clock a ≡ true → a ≡ Actor.Clock
+clock_is Actor.Clock e = refl
+clock_is _ e = absurd cc
 
 known_ring : (o : Option ℕ) (n : ℕ) → IsKnown (ring_named o n) n
 known_ring None n = tt
-known_ring (Some m) n = cond_both (nat_lt m n) (who.Ring m) who.Stranger (λ (a : Actor). IsKnown a n) (λ e. ltb-true m n e) (λ e. tt)
+known_ring (Some m) n = cond_both (nat_lt m n) (Actor.Ring m) Actor.Stranger (λ (a : Actor). IsKnown a n) (λ e. ltb-true m n e) (λ e. tt)
 
 known_named : (word : List ℕ) (n : ℕ) → IsKnown (named_actor word n) n
-known_named word n = cond_both _ who.Clock (ring_named (number_in word) n) (λ (a : Actor). IsKnown a n) (λ e. tt) (λ e. known_ring (number_in word) n)
+known_named word n = cond_both _ Actor.Clock (ring_named (number_in word) n) (λ (a : Actor). IsKnown a n) (λ e. tt) (λ e. known_ring (number_in word) n)
 
 pub known_more : (a : Actor) (m n : ℕ) → m ≤ n → IsKnown a m → IsKnown a n
-known_more who.Start m n le known = tt
-known_more (who.Ring r) m n le known = omega (arith, known)
-known_more who.Clock m n le known = tt
-known_more who.Stranger m n le known = tt
+known_more (Actor.Ring r) m n le known = omega (arith, known)
+known_more _ m n le known = tt
 
 known_step : (k : Option Keyword) (words : List (List ℕ)) (rings : List (ℕ × Option ℕ)) (a : Actor) → IsKnown a (length rings) → IsKnown (actor_with k words (length rings) a) (length (rings_with k words rings))
-known_step None words rings a known = known
-known_step (Some Pipe) words rings a known = known
 known_step (Some Ring) words rings a known = rw length_push (known_more a (length rings) (length rings + 1) (omega arith) known)
 known_step (Some On) words rings a known = cond_both (nat_lt 1 (length words)) (named_actor (word_at words 1) (length rings)) a (λ (b : Actor). IsKnown b (length rings)) (λ e. known_named (word_at words 1) (length rings)) (λ e. known)
-known_step (Some Submit) words rings a known = known
-known_step (Some Wait) words rings a known = known
-known_step (Some Tick) words rings a known = known
-known_step (Some Armed) words rings a known = known
-known_step (Some (EntryLine kind)) words rings a known = known
+known_step _ words rings a known = known
 
 pub known_in : (above : List Sentence) → IsKnown (actor_in above) (length (rings_in above))
 known_in [] = tt
@@ -112,15 +97,9 @@ push_below false false ss x batch n le all = all
 
 below_step : (k : Option Keyword) (words : List (List ℕ)) (given : Option Entry) (own : Bool) (ss : List Stated) (batch : List ℕ) (n : ℕ) → length (stated_with k words given ss) ≤ n → list_all (λ q. nat_lt q n) batch ≡ true
     → list_all (λ q. nat_lt q n) (batch_with k words own (length ss) batch) ≡ true
-below_step None words given own ss batch n le all = all
-below_step (Some Pipe) words given own ss batch n le all = all
-below_step (Some Ring) words given own ss batch n le all = all
-below_step (Some On) words given own ss batch n le all = all
 below_step (Some Submit) words given own ss batch n le all = cond_both own [] batch (λ (b : List ℕ). list_all (λ q. nat_lt q n) b ≡ true) (λ e. refl) (λ e. all)
-below_step (Some Wait) words given own ss batch n le all = all
-below_step (Some Tick) words given own ss batch n le all = all
-below_step (Some Armed) words given own ss batch n le all = all
-below_step (Some (EntryLine kind)) words given own ss batch n le all = push_below own (nat_lt 1 (length words)) ss _ batch n le all
+below_step (Some (Keyword.Entry kind)) words given own ss batch n le all = push_below own (nat_lt 1 (length words)) ss _ batch n le all
+below_step _ words given own ss batch n le all = all
 
 pub stated_above : (s : Sentence) (above : List Sentence) → length (stated_in above) ≤ length (stated_in (s ∷ above))
 stated_above s above = (stated_bounds (first_of s) s.words s.given (stated_in above)).0
@@ -165,7 +144,7 @@ at_if false rings n r ds d fits at = at
 no_shape : ℕ × Option ℕ
 no_shape = (0, None)
 
-shape_of : (p : Standing) (r : ℕ) → IsKnown p.actor (length p.rings) → p.actor ≡ who.Ring r → slice_get p.rings r ≡ Some (get_or p.rings r no_shape)
+shape_of : (p : Standing) (r : ℕ) → IsKnown p.actor (length p.rings) → p.actor ≡ Actor.Ring r → slice_get p.rings r ≡ Some (get_or p.rings r no_shape)
 shape_of p r known is = slice_get-get_or p.rings r no_shape (subst (λ (a : Actor). IsKnown a (length p.rings)) is known)
 
 some_batch : (batch : List ℕ) → not (length batch == 0) ≡ true → 0 < length batch
@@ -173,7 +152,7 @@ some_batch [] e = absurd cc
 some_batch (b ∷ batch) e = omega arith
 
 submit_fits : (p : Standing) (lines : List Stated) (u : Bool) (words : List (List ℕ)) (given : Option Entry) (n r : ℕ) → IsClean p lines u Submit words given → IsKnown p.actor (length p.rings)
-    → list_all (λ q. nat_lt q n) (p.pending r) ≡ true → is_same_actor (who.Ring r) p.actor ≡ true → FitsRing p.rings n r (submits (p.pending r))
+    → list_all (λ q. nat_lt q n) (p.pending r) ≡ true → is_same_actor (Actor.Ring r) p.actor ≡ true → FitsRing p.rings n r (submits (p.pending r))
 submit_fits p lines u words given n r c known below own =
     let is = same_ring p.actor r own in
     let shape = get_or p.rings r no_shape in
@@ -188,30 +167,27 @@ submit_fits p lines u words given n r c known below own =
           (and_from (nat_lt 0 (length batch)) (nat_le (length batch) shape.0) (lt-ltb 0 (length batch) some) (le-leb (length batch) shape.0 (ltb-false shape.0 (length batch) few))) below,
     )
 
-not_clock : {A : Type 0} (a : Actor) (r : ℕ) → a ≡ who.Ring r → is_clock a ≡ true → A
-not_clock a r is e = absurd (let b : is_clock (who.Ring r) ≡ true = subst (λ (x : Actor). is_clock x ≡ true) is e in cc)
+not_clock : {A : Type 0} (a : Actor) (r : ℕ) → a ≡ Actor.Ring r → is_clock a ≡ true → A
+not_clock a r is e = absurd (let b : is_clock (Actor.Ring r) ≡ true = subst (λ (x : Actor). is_clock x ≡ true) is e in cc)
 
 ring_step : (p : Standing) (lines : List Stated) (u : Bool) (k : Option Keyword) (words : List (List ℕ)) (given : Option Entry) (r : ℕ) (ds : List Deed) → IsCleanIf p lines u k words given → IsKnown p.actor (length p.rings)
     → list_all (λ q. nat_lt q (length lines)) (p.pending r) ≡ true → AtRing p.rings (length lines) r ds
-    → AtRing (rings_with k words p.rings) (length lines) r (deeds_with lines k words (is_same_actor (who.Ring r) p.actor) (p.pending r) ds)
-ring_step p lines u None words given r ds c known below at = at
-ring_step p lines u (Some Pipe) words given r ds c known below at = at
+    → AtRing (rings_with k words p.rings) (length lines) r (deeds_with lines k words (is_same_actor (Actor.Ring r) p.actor) (p.pending r) ds)
 ring_step p lines u (Some Ring) words given r ds c known below at = at_pushed p.rings _ (length lines) r ds at
-ring_step p lines u (Some On) words given r ds c known below at = at
 ring_step p lines u (Some Submit) words given r ds c known below at =
-    at_if (is_same_actor (who.Ring r) p.actor) p.rings (length lines) r ds (submits (p.pending r)) (submit_fits p lines u words given (length lines) r c known below) at
+    at_if (is_same_actor (Actor.Ring r) p.actor) p.rings (length lines) r ds (submits (p.pending r)) (submit_fits p lines u words given (length lines) r c known below) at
 ring_step p lines u (Some Wait) words given r ds c known below at =
-    at_if (is_same_actor (who.Ring r) p.actor) p.rings (length lines) r ds (waits (place_in lines (word_at words 1)))
+    at_if (is_same_actor (Actor.Ring r) p.actor) p.rings (length lines) r ds (waits (place_in lines (word_at words 1)))
     (λ own. (get_or p.rings r no_shape, shape_of p r known (same_ring p.actor r own), lt-ltb (place_in lines (word_at words 1)) (length lines) (place_below lines (word_at words 1) c.own))) at
 ring_step p lines u (Some Tick) words given r ds c known below at =
-    at_if (is_same_actor (who.Ring r) p.actor) p.rings (length lines) r ds _ (λ own. not_clock p.actor r (same_ring p.actor r own) c.place) at
+    at_if (is_same_actor (Actor.Ring r) p.actor) p.rings (length lines) r ds _ (λ own. not_clock p.actor r (same_ring p.actor r own) c.place) at
 ring_step p lines u (Some Armed) words given r ds c known below at =
-    at_if (is_same_actor (who.Ring r) p.actor) p.rings (length lines) r ds _ (λ own. not_clock p.actor r (same_ring p.actor r own) (and_parts (is_clock p.actor) _ c.place).0) at
-ring_step p lines u (Some (EntryLine kind)) words given r ds c known below at = at
+    at_if (is_same_actor (Actor.Ring r) p.actor) p.rings (length lines) r ds _ (λ own. not_clock p.actor r (same_ring p.actor r own) (and_parts (is_clock p.actor) _ c.place).0) at
+ring_step p lines u _ words given r ds c known below at = at
 
-pub ring_ok : (all above : List Sentence) (r : ℕ) → AreClean all above → length (stated_in above) ≤ length (stated_in all) → AtRing (rings_in above) (length (stated_in all)) r (deeds_in (stated_in all) (who.Ring r) above)
+pub ring_ok : (all above : List Sentence) (r : ℕ) → AreClean all above → length (stated_in above) ≤ length (stated_in all) → AtRing (rings_in above) (length (stated_in all)) r (deeds_in (stated_in all) (Actor.Ring r) above)
 ring_ok all [] r c le = refl
 ring_ok all (s ∷ above) r c le =
     let grows = stated_above s above in
     let before : length (stated_in above) ≤ length (stated_in all) = omega (arith, grows, le) in
-    ring_step (standing_in above) (stated_in all) (is_left (actor_in above) all (length above + 1)) (first_of s) s.words s.given r (deeds_in (stated_in all) (who.Ring r) above) (is_clean all above s c.0).known (known_in above) (batch_below (who.Ring r) above (length (stated_in all)) before) (ring_ok all above r c.1 before)
+    ring_step (standing_in above) (stated_in all) (is_left (actor_in above) all (length above + 1)) (first_of s) s.words s.given r (deeds_in (stated_in all) (Actor.Ring r) above) (is_clean all above s c.0).known (known_in above) (batch_below (Actor.Ring r) above (length (stated_in all)) before) (ring_ok all above r c.1 before)

@@ -8,7 +8,6 @@ use Rattle.std.proofs.lemmas.List.Folds.{list_all-append}
 use Rattle.entry.specs.Entry.{Entry}
 use Rattle.entry.specs.Table.{allowed_flags}
 use Rattle.entry.specs.declared.op.Op.{Op}
-use Rattle.entry.specs.declared.op.Op.TheVariants as op
 use Rattle.limits.specs.declared.TheConstants.{BUFFER, ENTRIES, FD, LENGTH}
 use Rattle.prep.specs.Built.{flagged, link_timeout_op, offset_of, plain, poll_op, splice_op, timeout_count_op}
 use Rattle.script.specs.Rules.{fits_buffer, is_label}
@@ -17,7 +16,6 @@ use Rattle.script_text.specs.declared.fault.Fault.TheVariants.{BadBytes, OutOfRa
 use Rattle.script_text.specs.declared.keyword.Kind.{Kind}
 use Rattle.script_text.specs.declared.keyword.Kind.TheVariants.{Nop, Read, Write, Close, Poll, Timeout, LinkTimeout, Cancel, Remove, Splice, Raw}
 use Rattle.script_text.specs.declared.keyword.Keyword.{Keyword}
-use Rattle.script_text.specs.declared.keyword.Keyword.TheVariants.{Pipe, Ring, On, Submit, Wait, Tick, Armed, Entry as EntryLine}
 use Rattle.script_text.specs.Above.{Entered, actor_in, entered_in, entered_line, entered_with, stated_in, stated_line, stated_with}
 use Rattle.script_text.specs.EntryLines.{Stated, argument_faults, count_of, declares, etime_bit, fd_in, len_in, len_of, mask_in, options_of, splice_len_in, target_in, text_bytes, text_faults, text_len, ticks_in}
 use Rattle.script_text.specs.LineEntries.{line_buffer, line_entry}
@@ -47,50 +45,42 @@ flag_bits false false false = refl
 
 fits_none : (o : Op) (flags : ℕ) → fits_buffer o 0 ≡ true → fits_buffer (flagged (plain o) flags).op 0 ≡ true
 fits_none o flags e =
-    cond_both (bit_and flags (allowed_flags o) == flags) (record { user_data = 0; flags = flags; op = o }) (record { user_data = 0; flags = bit_and flags 12; op = op.Invalid })
+    cond_both (bit_and flags (allowed_flags o) == flags) (record { user_data = 0; flags = flags; op = o }) (record { user_data = 0; flags = bit_and flags 12; op = Op.Invalid })
     (λ (x : Entry). fits_buffer x.op 0 ≡ true) (λ _. e) (λ _. refl)
 
 fits_poll : (mask n : ℕ) → fits_buffer (poll_op (pos n) mask) 0 ≡ true
-fits_poll mask n = cond_both (bit_and mask 29 == mask) (op.PollAdd (pos n) mask) op.Invalid (λ (o : Op). fits_buffer o 0 ≡ true) (λ _. refl) (λ _. refl)
+fits_poll mask n = cond_both (bit_and mask 29 == mask) (Op.PollAdd (pos n) mask) Op.Invalid (λ (o : Op). fits_buffer o 0 ≡ true) (λ _. refl) (λ _. refl)
 
 fits_timeout : (ticks count flags : ℕ) → fits_buffer (timeout_count_op ticks count flags) 0 ≡ true
 fits_timeout ticks count flags =
-    cond_both (nat_lt count 1024 && (nat_lt ticks 2147483648 && ((flags == 0) || (flags == 32)))) (op.Timeout ticks (flags == 32) count) op.Invalid (λ (o : Op). fits_buffer o 0 ≡ true) (λ _. refl) (λ _. refl)
+    cond_both (nat_lt count 1024 && (nat_lt ticks 2147483648 && ((flags == 0) || (flags == 32)))) (Op.Timeout ticks (flags == 32) count) Op.Invalid (λ (o : Op). fits_buffer o 0 ≡ true) (λ _. refl) (λ _. refl)
 
 fits_link_timeout : (ticks : ℕ) → fits_buffer (link_timeout_op ticks) 0 ≡ true
-fits_link_timeout ticks = cond_both (nat_lt ticks 2147483648) (op.LinkTimeout ticks) op.Invalid (λ (o : Op). fits_buffer o 0 ≡ true) (λ _. refl) (λ _. refl)
+fits_link_timeout ticks = cond_both (nat_lt ticks 2147483648) (Op.LinkTimeout ticks) Op.Invalid (λ (o : Op). fits_buffer o 0 ≡ true) (λ _. refl) (λ _. refl)
 
 fits_splice : (fd_in' fd_out len : ℕ) → fits_buffer (splice_op (pos fd_in') (pos fd_out) len) 0 ≡ true
-fits_splice fd_in' fd_out len = cond_both (nat_lt len 2147483648) (op.Splice (pos fd_in') (pos fd_out) len) op.Invalid (λ (o : Op). fits_buffer o 0 ≡ true) (λ _. refl) (λ _. refl)
+fits_splice fd_in' fd_out len = cond_both (nat_lt len 2147483648) (Op.Splice (pos fd_in') (pos fd_out) len) Op.Invalid (λ (o : Op). fits_buffer o 0 ≡ true) (λ _. refl) (λ _. refl)
 
-fits_read : (fd len flags : ℕ) → len ≤ BUFFER → (bit_and flags 14 == flags) ≡ true → fits_buffer (flagged (plain (cond (nat_lt len 2147483648) (op.Read (pos fd) (offset_of 0) len) op.Invalid)) flags).op (length {A = ℕ} (replicate len 0)) ≡ true
+fits_read : (fd len flags : ℕ) → len ≤ BUFFER → (bit_and flags 14 == flags) ≡ true → fits_buffer (flagged (plain (cond (nat_lt len 2147483648) (Op.Read (pos fd) (offset_of 0) len) Op.Invalid)) flags).op (length {A = ℕ} (replicate len 0)) ≡ true
 fits_read fd len flags le ok =
     rw (lt-ltb len 2147483648 (omega (arith, le)), ok, length-replicate {A = ℕ} len 0)
     (and_from (len == len) (nat_le len BUFFER) (eq-eqb len len refl) (le-leb len BUFFER le))
 
 fits_write : (fd len flags : ℕ) (bytes : List ℕ) → len ≡ length bytes → len ≤ LENGTH → (bit_and flags 14 == flags) ≡ true
-    → fits_buffer (flagged (plain (cond (nat_lt len 2147483648) (op.Write (pos fd) (offset_of 0) len) op.Invalid)) flags).op (length bytes) ≡ true
+    → fits_buffer (flagged (plain (cond (nat_lt len 2147483648) (Op.Write (pos fd) (offset_of 0) len) Op.Invalid)) flags).op (length bytes) ≡ true
 fits_write fd len flags bytes is le ok = rw (lt-ltb len 2147483648 (omega (arith, le)), ok) (eq-eqb (length bytes) len (sym is))
 
 raw_fits : (o : Op) → nat_lt BUFFER (len_of o) ≡ false → fits_buffer o (length {A = ℕ} (cond (nat_lt BUFFER (len_of o)) [] (replicate (len_of o) 0))) ≡ true
-raw_fits op.Nop e = refl
-raw_fits (op.PollAdd fd mask) e = refl
-raw_fits (op.Timeout ticks success count) e = refl
-raw_fits (op.TimeoutRemove target) e = refl
-raw_fits (op.AsyncCancel target all) e = refl
-raw_fits (op.LinkTimeout ticks) e = refl
-raw_fits (op.Close fd) e = refl
-raw_fits (op.Read fd offset len) e = rw (e, length-replicate {A = ℕ} len 0) (and_from (len == len) (nat_le len BUFFER) (eq-eqb len len refl) (le-leb len BUFFER (ltb-false BUFFER len e)))
-raw_fits (op.Write fd offset len) e = rw (e, length-replicate {A = ℕ} len 0) (eq-eqb len len refl)
-raw_fits (op.Splice fd_in' fd_out len) e = refl
-raw_fits op.Invalid e = refl
+raw_fits (Op.Read fd offset len) e = rw (e, length-replicate {A = ℕ} len 0) (and_from (len == len) (nat_le len BUFFER) (eq-eqb len len refl) (le-leb len BUFFER (ltb-false BUFFER len e)))
+raw_fits (Op.Write fd offset len) e = rw (e, length-replicate {A = ℕ} len 0) (eq-eqb len len refl)
+raw_fits _ e = refl
 
 one_fault : BadBytes ∷ [] ≡ [] → ⊥
 one_fault e = cc
 
-kind_fits : (p : Standing) (lines : List Stated) (u : Bool) (kind : Kind) (words : List (List ℕ)) (given : Option Entry) (number : ℕ) → IsClean p lines u (EntryLine kind) words given
+kind_fits : (p : Standing) (lines : List Stated) (u : Bool) (kind : Kind) (words : List (List ℕ)) (given : Option Entry) (number : ℕ) → IsClean p lines u (Keyword.Entry kind) words given
     → fits_buffer (line_entry lines kind words number given).op (length (line_buffer kind words (line_entry lines kind words number given))) ≡ true
-kind_fits p lines u Nop words given number c = fits_none op.Nop (flags_in (options_of Nop words)) refl
+kind_fits p lines u Nop words given number c = fits_none Op.Nop (flags_in (options_of Nop words)) refl
 kind_fits p lines u Read words given number c =
     let options = options_of Read words in
     fits_read (fd_in (word_at words 2)) (len_in (word_at words 3)) (flags_in options) (number_within (number_in (word_at words 3)) 0 BUFFER (omega arith)).1
@@ -105,15 +95,15 @@ kind_fits p lines u Write words given number c =
     let is : text_len (word_at words 3) ≡ length bytes = ap (λ (b : Bool). cond b 0 (length bytes)) short in
     fits_write (fd_in (word_at words 2)) (text_len (word_at words 3)) (flags_in options) bytes is (rw is (ltb-false LENGTH (length bytes) short))
     (flag_bits (has_option (codes "drain") options) (has_option (codes "link") options) (has_option (codes "hard") options))
-kind_fits p lines u Close words given number c = fits_none (op.Close (pos (fd_in (word_at words 2)))) (flags_in (options_of Close words)) refl
+kind_fits p lines u Close words given number c = fits_none (Op.Close (pos (fd_in (word_at words 2)))) (flags_in (options_of Close words)) refl
 kind_fits p lines u Poll words given number c = fits_none (poll_op (pos (fd_in (word_at words 2))) (mask_in (word_at words 3))) (flags_in (options_of Poll words)) (fits_poll (mask_in (word_at words 3)) (fd_in (word_at words 2)))
 kind_fits p lines u Timeout words given number c =
     let count = count_of (options_of Timeout words) in
     let bit = etime_bit (has_etime Timeout (options_of Timeout words)) in
     fits_none (timeout_count_op (ticks_in (word_at words 2)) count bit) (flags_in (options_of Timeout words)) (fits_timeout (ticks_in (word_at words 2)) count bit)
 kind_fits p lines u LinkTimeout words given number c = fits_none (link_timeout_op (ticks_in (word_at words 2))) (flags_in (options_of LinkTimeout words)) (fits_link_timeout (ticks_in (word_at words 2)))
-kind_fits p lines u Cancel words given number c = fits_none (op.AsyncCancel (target_in lines (word_at words 2)) (has_all Cancel (options_of Cancel words))) (flags_in (options_of Cancel words)) refl
-kind_fits p lines u Remove words given number c = fits_none (op.TimeoutRemove (target_in lines (word_at words 2))) (flags_in (options_of Remove words)) refl
+kind_fits p lines u Cancel words given number c = fits_none (Op.AsyncCancel (target_in lines (word_at words 2)) (has_all Cancel (options_of Cancel words))) (flags_in (options_of Cancel words)) refl
+kind_fits p lines u Remove words given number c = fits_none (Op.TimeoutRemove (target_in lines (word_at words 2))) (flags_in (options_of Remove words)) refl
 kind_fits p lines u Splice words given number c =
     let len = splice_len_in (word_at words 4) in
     fits_none (splice_op (pos (fd_in (word_at words 2))) (pos (fd_in (word_at words 3))) len) (flags_in (options_of Splice words)) (fits_splice (fd_in (word_at words 2)) (fd_in (word_at words 3)) len)
@@ -131,15 +121,7 @@ pub record AreEntries (ss : List Stated) (es : List Entered) : Type 0 where
 
 entries_step : (p : Standing) (lines : List Stated) (u : Bool) (k : Option Keyword) (words : List (List ℕ)) (given : Option Entry) (ss : List Stated) (es : List Entered)
     → IsCleanIf p lines u k words given → p.entries ≡ length ss → AreEntries ss es → AreEntries (stated_with k words given ss) (entered_with lines k words given es)
-entries_step p lines u None words given ss es c e are = are
-entries_step p lines u (Some Pipe) words given ss es c e are = are
-entries_step p lines u (Some Ring) words given ss es c e are = are
-entries_step p lines u (Some On) words given ss es c e are = are
-entries_step p lines u (Some Submit) words given ss es c e are = are
-entries_step p lines u (Some Wait) words given ss es c e are = are
-entries_step p lines u (Some Tick) words given ss es c e are = are
-entries_step p lines u (Some Armed) words given ss es c e are = are
-entries_step p lines u (Some (EntryLine kind)) words given ss es c e are =
+entries_step p lines u (Some (Keyword.Entry kind)) words given ss es c e are =
     let x = entered_line lines kind words given (length es + 1) in
     let clean = clean_entry p lines u kind words given c in
     let few = clean.few in
@@ -149,6 +131,7 @@ entries_step p lines u (Some (EntryLine kind)) words given ss es c e are =
       each = rw (long, list_all-append) (and_from (list_all entry_ok es) (entry_ok x && true) are.each (and_from (entry_ok x) true ok refl));
       few = rw (long, length_push) (omega (arith, few, e));
     }
+entries_step p lines u _ words given ss es c e are = are
 
 pub entries_ok : (all above : List Sentence) → AreClean all above → AreEntries (stated_in above) (entered_in (stated_in all) above)
 entries_ok all [] c = record { each = refl; few = omega arith }
@@ -171,20 +154,13 @@ distinct_push (x ∷ ls) l d e =
 
 labels_step : (p : Standing) (lines : List Stated) (u : Bool) (k : Option Keyword) (words : List (List ℕ)) (given : Option Entry) (ss : List Stated)
     → IsCleanIf p lines u k words given → p.declares (word_at words 1) ≡ list_any (declares (word_at words 1)) ss → distinct (map label_stated ss) ≡ true → distinct (map label_stated (stated_with k words given ss)) ≡ true
-labels_step p lines u None words given ss c e d = d
-labels_step p lines u (Some Pipe) words given ss c e d = d
-labels_step p lines u (Some Ring) words given ss c e d = d
-labels_step p lines u (Some On) words given ss c e d = d
-labels_step p lines u (Some Submit) words given ss c e d = d
-labels_step p lines u (Some Wait) words given ss c e d = d
-labels_step p lines u (Some Tick) words given ss c e d = d
-labels_step p lines u (Some Armed) words given ss c e d = d
-labels_step p lines u (Some (EntryLine kind)) words given ss c e d =
+labels_step p lines u (Some (Keyword.Entry kind)) words given ss c e d =
     let label = word_at words 1 in
     let new = sym e ∙ (clean_entry p lines u kind words given c).new in
     let long = lt-ltb 1 (length words) (long_entry p lines u kind words given c) in
     let none : list_any (λ m. is_same m label) (map label_stated ss) ≡ false = any_map (λ m. is_same m label) label_stated ss ∙ new in
     rw (long, map_push label_stated ss (stated_line kind words given (length ss + 1))) (distinct_push (map label_stated ss) label d none)
+labels_step p lines u _ words given ss c e d = d
 
 pub labels_ok : (all above : List Sentence) → AreClean all above → distinct (map label_stated (stated_in above)) ≡ true
 labels_ok all [] c = refl

@@ -12,7 +12,7 @@ use Rattle.limits.specs.declared.TheConstants.{CAPACITY, CELLS, PIPES, POSTS, RI
 use Rattle.script.specs.Rules.{is_ring}
 use Rattle.text.specs.Number.{number_in}
 use Rattle.script_text.specs.declared.keyword.Keyword.{Keyword}
-use Rattle.script_text.specs.declared.keyword.Keyword.TheVariants.{Pipe, Ring, On, Submit, Wait, Tick, Armed, Entry as EntryLine}
+use Rattle.script_text.specs.declared.keyword.Keyword.TheVariants.{Pipe, Ring}
 use Rattle.script_text.specs.Above.{actor_in, has_ring_in, has_ring_with, pipes_in, pipes_with, rings_in, rings_with, stated_in}
 use Rattle.script_text.specs.EntryLines.{Stated}
 use Rattle.script_text.specs.LineEntries.{posts_in}
@@ -65,7 +65,6 @@ pub record ArePipes (pipes : List ℕ) : Type 0 where
 
 pipes_step : (p : Standing) (lines : List Stated) (u : Bool) (k : Option Keyword) (words : List (List ℕ)) (given : Option Entry) (pipes : List ℕ)
     → IsCleanIf p lines u k words given → p.pipes ≡ length pipes → ArePipes pipes → ArePipes (pipes_with k words pipes)
-pipes_step p lines u None words given pipes c e are = are
 pipes_step p lines u (Some Pipe) words given pipes c e are =
     let x = number_or (number_in (word_at words 1)) 1 CAPACITY in
     let few = few_pipes p lines u words given c in
@@ -73,13 +72,7 @@ pipes_step p lines u (Some Pipe) words given pipes c e are =
       each = rw list_all-append (and_from (list_all is_capacity pipes) (is_capacity x && true) are.each (and_from (is_capacity x) true (capacity_ok (number_in (word_at words 1))) refl));
       few = rw length_push (omega (arith, few, e));
     }
-pipes_step p lines u (Some Ring) words given pipes c e are = are
-pipes_step p lines u (Some On) words given pipes c e are = are
-pipes_step p lines u (Some Submit) words given pipes c e are = are
-pipes_step p lines u (Some Wait) words given pipes c e are = are
-pipes_step p lines u (Some Tick) words given pipes c e are = are
-pipes_step p lines u (Some Armed) words given pipes c e are = are
-pipes_step p lines u (Some (EntryLine kind)) words given pipes c e are = are
+pipes_step p lines u _ words given pipes c e are = are
 
 pub pipes_ok : (all above : List Sentence) → AreClean all above → ArePipes (pipes_in above)
 pipes_ok all [] c = record { each = refl; few = omega arith }
@@ -109,8 +102,6 @@ pub record AreRings (rings : List (ℕ × Option ℕ)) : Type 0 where
 
 rings_step : (p : Standing) (lines : List Stated) (u : Bool) (k : Option Keyword) (words : List (List ℕ)) (given : Option Entry) (rings : List (ℕ × Option ℕ))
     → IsCleanIf p lines u k words given → p.rings ≡ rings → AreRings rings → AreRings (rings_with k words rings)
-rings_step p lines u None words given rings c e are = are
-rings_step p lines u (Some Pipe) words given rings c e are = are
 rings_step p lines u (Some Ring) words given rings c e are =
     let x : ℕ × Option ℕ = (number_or (number_in (word_at words 1)) 1 CELLS, posts_in words) in
     let few = few_rings p lines u words given c in
@@ -119,12 +110,7 @@ rings_step p lines u (Some Ring) words given rings c e are =
       each = rw list_all-append (and_from (list_all is_ring rings) (is_ring x && true) are.each (and_from (is_ring x) true (ring_ok p lines u words given c) refl));
       few = rw length_push (omega (arith, few, same));
     }
-rings_step p lines u (Some On) words given rings c e are = are
-rings_step p lines u (Some Submit) words given rings c e are = are
-rings_step p lines u (Some Wait) words given rings c e are = are
-rings_step p lines u (Some Tick) words given rings c e are = are
-rings_step p lines u (Some Armed) words given rings c e are = are
-rings_step p lines u (Some (EntryLine kind)) words given rings c e are = are
+rings_step p lines u _ words given rings c e are = are
 
 pub rings_ok : (all above : List Sentence) → AreClean all above → AreRings (rings_in above)
 rings_ok all [] c = record { each = refl; few = omega arith }
@@ -132,15 +118,8 @@ rings_ok all (s ∷ above) c = rings_step (standing_in above) (stated_in all) (i
 
 -- a file with a `ring` line has a ring
 some_ring_step : (k : Option Keyword) (words : List (List ℕ)) (rings : List (ℕ × Option ℕ)) (has : Bool) → (has ≡ true → 0 < length rings) → has_ring_with k has ≡ true → 0 < length (rings_with k words rings)
-some_ring_step None words rings has some e = some e
-some_ring_step (Some Pipe) words rings has some e = some e
 some_ring_step (Some Ring) words rings has some e = rw length_push (omega arith)
-some_ring_step (Some On) words rings has some e = some e
-some_ring_step (Some Submit) words rings has some e = some e
-some_ring_step (Some Wait) words rings has some e = some e
-some_ring_step (Some Tick) words rings has some e = some e
-some_ring_step (Some Armed) words rings has some e = some e
-some_ring_step (Some (EntryLine kind)) words rings has some e = some e
+some_ring_step _ words rings has some e = some e
 
 pub some_ring : (above : List Sentence) → has_ring_in above ≡ true → 0 < length (rings_in above)
 some_ring [] e = absurd cc

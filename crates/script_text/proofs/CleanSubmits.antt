@@ -1,5 +1,5 @@
 -- Where no line has a fault each entry is submitted once.
-use Rattle.std.proofs.Common.{◌≡◌, ◌<◌, ◌≤◌, ◌+◌, ℕ, zero, suc, Bool, true, false, List, [], ◌∷◌, ◌++◌, ◌&&◌, Option, None, Some, append_assoc, cond, length, refl, sym, ap, subst, ◌∙◌, arith, ⊎_elim}
+use Rattle.std.proofs.Common.{◌≡◌, ◌<◌, ◌≤◌, ◌+◌, ℕ, zero, suc, Bool, true, false, List, [], ◌∷◌, ◌++◌, ◌&&◌, Option, Some, append_assoc, cond, length, refl, sym, ap, subst, ◌∙◌, arith, ⊎_elim}
 use Rattle.std.specs.Prelude.{◌==◌, ◌⊎◌, count_by, nat_lt}
 use Rattle.std.proofs.lemmas.Bool.{cases_order, cond_both, eq-eqb, le-ltb, lt-ltb, ltb-false, ne_eqb}
 use Rattle.std.proofs.lemmas.List.{length_push}
@@ -8,10 +8,9 @@ use Rattle.entry.specs.Entry.{Entry}
 use Rattle.limits.specs.declared.TheConstants.{TICK}
 use Rattle.text.specs.Number.{number_in}
 use Rattle.script_text.specs.declared.actor.Actor.{Actor}
-use Rattle.script_text.specs.declared.actor.Actor.TheVariants as who
 use Rattle.script_text.specs.declared.keyword.Kind.{Kind}
 use Rattle.script_text.specs.declared.keyword.Keyword.{Keyword}
-use Rattle.script_text.specs.declared.keyword.Keyword.TheVariants.{Pipe, Ring, On, Submit, Wait, Tick, Armed, Entry as EntryLine}
+use Rattle.script_text.specs.declared.keyword.Keyword.TheVariants.{Ring, Submit, Wait, Tick, Armed}
 use Rattle.script_text.specs.Above.{Deed, actor_in, batch_in, batch_with, deeds_in, deeds_with, is_same_actor, last_submit_in, last_submit_with, place_in, rings_in, rings_with, sets, stated_in, stated_with, submits, waits, waits_armed}
 use Rattle.script_text.specs.Actors.{IsKnown, is_ring}
 use Rattle.script_text.specs.EntryLines.{Stated}
@@ -27,15 +26,8 @@ use Rattle.script_text.proofs.NoFault.{IsClean, IsCleanIf, clean_entry, long_ent
 -- ---- nothing is left at the end
 
 submit_within : (k : Option Keyword) (own : Bool) (line last : ℕ) → last ≤ line → last_submit_with k own line last ≤ line
-submit_within None own line last le = le
-submit_within (Some Pipe) own line last le = le
-submit_within (Some Ring) own line last le = le
-submit_within (Some On) own line last le = le
 submit_within (Some Submit) own line last le = cond_both own line last (λ (x : ℕ). x ≤ line) (λ e. omega arith) (λ e. le)
-submit_within (Some Wait) own line last le = le
-submit_within (Some Tick) own line last le = le
-submit_within (Some Armed) own line last le = le
-submit_within (Some (EntryLine kind)) own line last le = le
+submit_within _ own line last le = le
 
 last_within : (a : Actor) (above : List Sentence) → last_submit_in a above ≤ length above
 last_within a [] = omega arith
@@ -46,37 +38,30 @@ left_entry true b batch place e other = absurd (other refl)
 left_entry false b batch place e other = e
 
 -- what the line makes of a batch, where the actor's last `submit` is this one
-left_step : (k : Option Keyword) (words : List (List ℕ)) (own : Bool) (place line last end : ℕ) (batch : List ℕ) → last < line → (last ≡ end → batch ≡ []) → ((kind : Kind) → k ≡ Some (EntryLine kind) → own ≡ true → line ≤ end)
+left_step : (k : Option Keyword) (words : List (List ℕ)) (own : Bool) (place line last end : ℕ) (batch : List ℕ) → last < line → (last ≡ end → batch ≡ []) → ((kind : Kind) → k ≡ Some (Keyword.Entry kind) → own ≡ true → line ≤ end)
     → last_submit_with k own line last ≡ end → batch_with k words own place batch ≡ []
-left_step None words own place line last end batch lt nil more e = nil e
-left_step (Some Pipe) words own place line last end batch lt nil more e = nil e
-left_step (Some Ring) words own place line last end batch lt nil more e = nil e
-left_step (Some On) words own place line last end batch lt nil more e = nil e
 left_step (Some Submit) words true place line last end batch lt nil more e = refl
-left_step (Some Submit) words false place line last end batch lt nil more e = nil e
-left_step (Some Wait) words own place line last end batch lt nil more e = nil e
-left_step (Some Tick) words own place line last end batch lt nil more e = nil e
-left_step (Some Armed) words own place line last end batch lt nil more e = nil e
-left_step (Some (EntryLine kind)) words own place line last end batch lt nil more e =
+left_step (Some (Keyword.Entry kind)) words own place line last end batch lt nil more e =
     left_entry own (nat_lt 1 (length words)) batch place (nil e) (λ o. (let le = more kind refl o in omega (arith, le, lt, e)))
+left_step _ words _ place line last end batch lt nil more e = nil e
 
 not_left : (p : Standing) (lines : List Stated) (all above : List Sentence) (k : Option Keyword) (words : List (List ℕ)) (given : Option Entry) (r line : ℕ) → IsCleanIf p lines (is_left (actor_in above) all line) k words given
-    → (kind : Kind) → k ≡ Some (EntryLine kind) → is_same_actor (who.Ring r) (actor_in above) ≡ true → line ≤ last_submit_in (who.Ring r) all
+    → (kind : Kind) → k ≡ Some (Keyword.Entry kind) → is_same_actor (Actor.Ring r) (actor_in above) ≡ true → line ≤ last_submit_in (Actor.Ring r) all
 not_left p lines all above k words given r line c kind is own =
-    let clean : IsClean p lines (is_left (actor_in above) all line) (EntryLine kind) words given = subst (λ (x : Option Keyword). IsCleanIf p lines (is_left (actor_in above) all line) x words given) is c in
+    let clean : IsClean p lines (is_left (actor_in above) all line) (Keyword.Entry kind) words given = subst (λ (x : Option Keyword). IsCleanIf p lines (is_left (actor_in above) all line) x words given) is c in
     let submitted = (clean_entry p lines (is_left (actor_in above) all line) kind words given clean).submitted in
-    let at : is_left (who.Ring r) all line ≡ false = subst (λ (a : Actor). is_left a all line ≡ false) (same_ring (actor_in above) r own) submitted in
-    ltb-false (last_submit_in (who.Ring r) all) line at
+    let at : is_left (Actor.Ring r) all line ≡ false = subst (λ (a : Actor). is_left a all line ≡ false) (same_ring (actor_in above) r own) submitted in
+    ltb-false (last_submit_in (Actor.Ring r) all) line at
 
-left_in : (all above : List Sentence) (r : ℕ) → AreClean all above → last_submit_in (who.Ring r) above ≡ last_submit_in (who.Ring r) all → batch_in (who.Ring r) above ≡ []
+left_in : (all above : List Sentence) (r : ℕ) → AreClean all above → last_submit_in (Actor.Ring r) above ≡ last_submit_in (Actor.Ring r) all → batch_in (Actor.Ring r) above ≡ []
 left_in all [] r c e = refl
 left_in all (s ∷ above) r c e =
-    let within = last_within (who.Ring r) above in
-    left_step (first_of s) s.words (is_same_actor (who.Ring r) (actor_in above)) (length (stated_in above)) (length above + 1) (last_submit_in (who.Ring r) above) (last_submit_in (who.Ring r) all) (batch_in (who.Ring r) above)
+    let within = last_within (Actor.Ring r) above in
+    left_step (first_of s) s.words (is_same_actor (Actor.Ring r) (actor_in above)) (length (stated_in above)) (length above + 1) (last_submit_in (Actor.Ring r) above) (last_submit_in (Actor.Ring r) all) (batch_in (Actor.Ring r) above)
     (omega (arith, within)) (left_in all above r c.1)
     (not_left (standing_in above) (stated_in all) all above (first_of s) s.words s.given r (length above + 1) (is_clean all above s c.0).known) e
 
-pub none_left : (all : List Sentence) (r : ℕ) → AreClean all all → batch_in (who.Ring r) all ≡ []
+pub none_left : (all : List Sentence) (r : ℕ) → AreClean all all → batch_in (Actor.Ring r) all ≡ []
 none_left all r c = left_in all all r c refl
 
 -- ---- sums over rings
@@ -116,9 +101,7 @@ often_append q xs ys = sum_by-append (λ p. cond (p == q) 1 0) xs ys
 places_push : (ds : List Deed) (d : Deed) → places_in_deeds (ds ++ d ∷ []) ≡ places_in_deeds ds ++ places_in_deeds (d ∷ [])
 places_push [] d = refl
 places_push (submits places ∷ ds) d = ap (λ (xs : List ℕ). places ++ xs) (places_push ds d) ∙ sym (append_assoc places (places_in_deeds ds) (places_in_deeds (d ∷ [])))
-places_push (waits place ∷ ds) d = places_push ds d
-places_push (waits_armed place ∷ ds) d = places_push ds d
-places_push (sets to ∷ ds) d = places_push ds d
+places_push (_ ∷ ds) d = places_push ds d
 
 abbrev both : ℕ → List Deed → List ℕ → ℕ
 both q ds batch = often q (places_in_deeds ds) + often q batch
@@ -145,11 +128,9 @@ sum_zero : (n : ℕ) → sum_to n (λ r. 0) ≡ 0
 sum_zero zero = refl
 sum_zero (suc n) = let a = sum_zero n in omega (arith, a)
 
-ring_is : (a : Actor) → is_ring a ≡ true → (r : ℕ) × (a ≡ who.Ring r)
-ring_is who.Start e = absurd cc
-ring_is (who.Ring r) e = (r, refl)
-ring_is who.Clock e = absurd cc
-ring_is who.Stranger e = absurd cc
+ring_is : (a : Actor) → is_ring a ≡ true → (r : ℕ) × (a ≡ Actor.Ring r)
+ring_is (Actor.Ring r) e = (r, refl)
+ring_is _ e = absurd cc
 
 one_more : (q m : ℕ) → cond (nat_lt q (m + 1)) 1 0 ≡ cond (nat_lt q m) 1 0 + cond (m == q) 1 0
 one_more q m = ⊎_elim
@@ -163,8 +144,8 @@ often_one : (q m : ℕ) (batch : List ℕ) → often q (batch ++ m ∷ []) ≡ o
 often_one q m batch = let a = often_append q batch (m ∷ []) in omega (arith, a)
 
 entry_more : (p : Standing) (lines : List Stated) (u : Bool) (kind : Kind) (words : List (List ℕ)) (given : Option Entry) (n q : ℕ) (ss : List Stated) (D : ℕ → List Deed) (B : ℕ → List ℕ)
-    → IsClean p lines u (EntryLine kind) words given → IsKnown p.actor n → sum_to n (λ r. both q (D r) (B r)) ≡ cond (nat_lt q (length ss)) 1 0
-    → sum_to n (λ r. both q (D r) (cond (is_same_actor (who.Ring r) p.actor && nat_lt 1 (length words)) (B r ++ length ss ∷ []) (B r))) ≡ cond (nat_lt q (length (stated_with (Some (EntryLine kind)) words given ss))) 1 0
+    → IsClean p lines u (Keyword.Entry kind) words given → IsKnown p.actor n → sum_to n (λ r. both q (D r) (B r)) ≡ cond (nat_lt q (length ss)) 1 0
+    → sum_to n (λ r. both q (D r) (cond (is_same_actor (Actor.Ring r) p.actor && nat_lt 1 (length words)) (B r ++ length ss ∷ []) (B r))) ≡ cond (nat_lt q (length (stated_with (Some (Keyword.Entry kind)) words given ss))) 1 0
 entry_more p lines u kind words given n q ss D B c known e =
     let ring = ring_is p.actor c.place in
     let i = ring.0 in
@@ -180,42 +161,32 @@ entry_more p lines u kind words given n q ss D B c known e =
 
 once_step : (p : Standing) (lines : List Stated) (u : Bool) (k : Option Keyword) (words : List (List ℕ)) (given : Option Entry) (n q : ℕ) (ss : List Stated) (D : ℕ → List Deed) (B : ℕ → List ℕ)
     → IsCleanIf p lines u k words given → IsKnown p.actor n → sum_to n (λ r. both q (D r) (B r)) ≡ cond (nat_lt q (length ss)) 1 0
-    → sum_to n (λ r. both q (deeds_with lines k words (is_same_actor (who.Ring r) p.actor) (B r) (D r)) (batch_with k words (is_same_actor (who.Ring r) p.actor) (length ss) (B r))) ≡ cond (nat_lt q (length (stated_with k words given ss))) 1 0
-once_step p lines u None words given n q ss D B c known e = e
-once_step p lines u (Some Pipe) words given n q ss D B c known e = e
-once_step p lines u (Some Ring) words given n q ss D B c known e = e
-once_step p lines u (Some On) words given n q ss D B c known e = e
-once_step p lines u (Some Submit) words given n q ss D B c known e = sum_same n _ (λ r. both q (D r) (B r)) (λ r. both_submit (is_same_actor (who.Ring r) p.actor) q (D r) (B r)) ∙ e
-once_step p lines u (Some Wait) words given n q ss D B c known e = sum_same n _ (λ r. both q (D r) (B r)) (λ r. both_other (is_same_actor (who.Ring r) p.actor) q (D r) (waits (place_in lines (word_at words 1))) (B r) refl) ∙ e
-once_step p lines u (Some Tick) words given n q ss D B c known e = sum_same n _ (λ r. both q (D r) (B r)) (λ r. both_other (is_same_actor (who.Ring r) p.actor) q (D r) (sets (number_or (number_in (word_at words 1)) 0 TICK)) (B r) refl) ∙ e
-once_step p lines u (Some Armed) words given n q ss D B c known e = sum_same n _ (λ r. both q (D r) (B r)) (λ r. both_other (is_same_actor (who.Ring r) p.actor) q (D r) (waits_armed (place_in lines (word_at words 1))) (B r) refl) ∙ e
-once_step p lines u (Some (EntryLine kind)) words given n q ss D B c known e = entry_more p lines u kind words given n q ss D B c known e
+    → sum_to n (λ r. both q (deeds_with lines k words (is_same_actor (Actor.Ring r) p.actor) (B r) (D r)) (batch_with k words (is_same_actor (Actor.Ring r) p.actor) (length ss) (B r))) ≡ cond (nat_lt q (length (stated_with k words given ss))) 1 0
+once_step p lines u (Some Submit) words given n q ss D B c known e = sum_same n _ (λ r. both q (D r) (B r)) (λ r. both_submit (is_same_actor (Actor.Ring r) p.actor) q (D r) (B r)) ∙ e
+once_step p lines u (Some Wait) words given n q ss D B c known e = sum_same n _ (λ r. both q (D r) (B r)) (λ r. both_other (is_same_actor (Actor.Ring r) p.actor) q (D r) (waits (place_in lines (word_at words 1))) (B r) refl) ∙ e
+once_step p lines u (Some Tick) words given n q ss D B c known e = sum_same n _ (λ r. both q (D r) (B r)) (λ r. both_other (is_same_actor (Actor.Ring r) p.actor) q (D r) (sets (number_or (number_in (word_at words 1)) 0 TICK)) (B r) refl) ∙ e
+once_step p lines u (Some Armed) words given n q ss D B c known e = sum_same n _ (λ r. both q (D r) (B r)) (λ r. both_other (is_same_actor (Actor.Ring r) p.actor) q (D r) (waits_armed (place_in lines (word_at words 1))) (B r) refl) ∙ e
+once_step p lines u (Some (Keyword.Entry kind)) words given n q ss D B c known e = entry_more p lines u kind words given n q ss D B c known e
+once_step p lines u _ words given n q ss D B c known e = e
 
 rings_grow : (k : Option Keyword) (words : List (List ℕ)) (rings : List (ℕ × Option ℕ)) → length rings ≤ length (rings_with k words rings)
-rings_grow None words rings = omega arith
-rings_grow (Some Pipe) words rings = omega arith
 rings_grow (Some Ring) words rings = rw length_push (omega arith)
-rings_grow (Some On) words rings = omega arith
-rings_grow (Some Submit) words rings = omega arith
-rings_grow (Some Wait) words rings = omega arith
-rings_grow (Some Tick) words rings = omega arith
-rings_grow (Some Armed) words rings = omega arith
-rings_grow (Some (EntryLine kind)) words rings = omega arith
+rings_grow _ words rings = omega arith
 
 once_in : (all above : List Sentence) (n q : ℕ) → AreClean all above → length (rings_in above) ≤ n
-    → sum_to n (λ r. both q (deeds_in (stated_in all) (who.Ring r) above) (batch_in (who.Ring r) above)) ≡ cond (nat_lt q (length (stated_in above))) 1 0
+    → sum_to n (λ r. both q (deeds_in (stated_in all) (Actor.Ring r) above) (batch_in (Actor.Ring r) above)) ≡ cond (nat_lt q (length (stated_in above))) 1 0
 once_in all [] n q c le = rw (le-ltb q 0 (omega arith)) (sum_zero n)
 once_in all (s ∷ above) n q c le =
     let grow = rings_grow (first_of s) s.words (rings_in above) in
     let before : length (rings_in above) ≤ n = omega (arith, grow, le) in
-    once_step (standing_in above) (stated_in all) (is_left (actor_in above) all (length above + 1)) (first_of s) s.words s.given n q (stated_in above) (λ r. deeds_in (stated_in all) (who.Ring r) above) (λ r. batch_in (who.Ring r) above)
+    once_step (standing_in above) (stated_in all) (is_left (actor_in above) all (length above + 1)) (first_of s) s.words s.given n q (stated_in above) (λ r. deeds_in (stated_in all) (Actor.Ring r) above) (λ r. batch_in (Actor.Ring r) above)
     (is_clean all above s c.0).known (known_more (actor_in above) (length (rings_in above)) n before (known_in above)) (once_in all above n q c.1 before)
 
 -- each entry stands once among what the rings submit
 pub once_each : (all : List Sentence) (n q : ℕ) → AreClean all all → length (rings_in all) ≤ n → q < length (stated_in all)
-    → sum_to n (λ r. often q (places_in_deeds (deeds_in (stated_in all) (who.Ring r) all))) ≡ 1
+    → sum_to n (λ r. often q (places_in_deeds (deeds_in (stated_in all) (Actor.Ring r) all))) ≡ 1
 once_each all n q c le lt =
     let e = once_in all all n q c le in
-    let same = sum_same n (λ r. often q (places_in_deeds (deeds_in (stated_in all) (who.Ring r) all))) (λ r. both q (deeds_in (stated_in all) (who.Ring r) all) (batch_in (who.Ring r) all))
+    let same = sum_same n (λ r. often q (places_in_deeds (deeds_in (stated_in all) (Actor.Ring r) all))) (λ r. both q (deeds_in (stated_in all) (Actor.Ring r) all) (batch_in (Actor.Ring r) all))
     (λ r. rw (none_left all r c) (omega arith)) in
     same ∙ (e ∙ ap (λ (b : Bool). cond b 1 0) (lt-ltb q (length (stated_in all)) lt))

@@ -10,7 +10,7 @@ use Rattle.script.specs.Rules.{is_label, is_label_byte, is_letter}
 use Rattle.script.specs.declared.named.Named.{Named}
 use Rattle.entry.specs.Entry.{Entry}
 use Rattle.script_text.specs.declared.keyword.Kind.{Kind}
-use Rattle.script_text.specs.declared.keyword.Keyword.TheVariants.{Entry as EntryLine}
+use Rattle.script_text.specs.declared.keyword.Keyword.{Keyword}
 use Rattle.script_text.specs.Above.{batch_with, entered_line, entered_with}
 use Rattle.script_text.specs.EntryLines.{Stated}
 use Rattle.script_text.specs.Parts.{all_entered, entered}
@@ -49,12 +49,12 @@ label_is_text bs e = IsUtf8-from_ascii bs (label_small bs e)
 
 pub entries_more : (lines : List Stated) (kind : Kind) (words : List (List ℕ)) (given : Option Entry) (old new : List Named) (named : Named) → 1 < length words
     → new ≡ old ++ named ∷ [] → entered named ≡ entered_line lines kind words given (length old + 1)
-    → all_entered new ≡ entered_with lines (Some (EntryLine kind)) words given (all_entered old)
+    → all_entered new ≡ entered_with lines (Some (Keyword.Entry kind)) words given (all_entered old)
 entries_more lines kind words given old new named lt is same =
     let many = length-map old entered in
     rw (is, lt-ltb 1 (length words) lt, map_push entered old named, same, many) refl
 
 pub batch_more : (kind : Kind) (words : List (List ℕ)) (own : Bool) (place : ℕ) (batch : List ℕ) → 1 < length words
-    → cond own (batch ++ place ∷ []) batch ≡ batch_with (Some (EntryLine kind)) words own place batch
+    → cond own (batch ++ place ∷ []) batch ≡ batch_with (Some (Keyword.Entry kind)) words own place batch
 batch_more kind words true place batch lt = rw (lt-ltb 1 (length words) lt) refl
 batch_more kind words false place batch lt = refl

@@ -24,10 +24,8 @@ use Rattle.script_text.proofs.Mapped.{stated_of_found}
 -- ---- one entry line more
 
 placed : (known : Option ℕ) (is_one : Bool) (place : ℕ) → (is_one ≡ true → is_some known ≡ false) → cond is_one (Some place) known ≡ known_or known is_one place
-placed None true place new = refl
-placed None false place new = refl
 placed (Some first) true place new = absurd (false≢true (sym (new refl)))
-placed (Some first) false place new = refl
+placed _ _ place new = refl
 
 pub inserted : (old new : BTreeMap (Bor (List ℕ)) ℕ) (label : List ℕ) (place : ℕ) → is_some (place_at old label) ≡ false
     → UpdatesBy (λ x y. slice_cmp nat_cmp x.now y.now) (λ k. slice_cmp nat_cmp label k.now) old new (Some place) → Adds old new label place

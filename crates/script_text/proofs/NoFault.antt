@@ -6,12 +6,11 @@ use Rattle.entry.specs.Entry.{Entry}
 use Rattle.limits.specs.declared.TheConstants.{ENTRIES, RINGS}
 use Rattle.script.specs.Rules.{is_label}
 use Rattle.script_text.specs.declared.actor.Actor.{Actor}
-use Rattle.script_text.specs.declared.actor.Actor.TheVariants as actor
 use Rattle.script_text.specs.declared.fault.Fault.{Fault}
 use Rattle.script_text.specs.declared.keyword.Kind.{Kind}
-use Rattle.script_text.specs.declared.keyword.Kind.TheVariants.{Nop, Read, Write, Close, Poll, Timeout, LinkTimeout, Cancel, Remove, Splice, Raw}
+use Rattle.script_text.specs.declared.keyword.Kind.TheVariants.{Nop}
 use Rattle.script_text.specs.declared.keyword.Keyword.{Keyword}
-use Rattle.script_text.specs.declared.keyword.Keyword.TheVariants.{Ring, Entry as EntryLine}
+use Rattle.script_text.specs.declared.keyword.Keyword.TheVariants.{Ring}
 use Rattle.script_text.specs.Actors.{is_ring}
 use Rattle.script_text.specs.EntryLines.{Stated}
 use Rattle.script_text.specs.Keywords.{arguments_of, keyword_of, kind_of}
@@ -84,10 +83,8 @@ clean_line p lines u h text words given e =
 -- ---- what each kind of line has
 
 pub is_ring_from_pending : (a : Actor) (pending : ℕ → List ℕ) → not (length (pending_of a pending) == 0) ≡ true → IsTrue (is_ring a)
-is_ring_from_pending actor.Start pending e = absurd cc
-is_ring_from_pending (actor.Ring ring) pending e = refl
-is_ring_from_pending actor.Clock pending e = absurd cc
-is_ring_from_pending actor.Stranger pending e = absurd cc
+is_ring_from_pending (Actor.Ring ring) pending e = refl
+is_ring_from_pending _ pending e = absurd cc
 
 pub few_rings : (p : Standing) (lines : List Stated) (u : Bool) (words : List (List ℕ)) (given : Option Entry) → IsClean p lines u Ring words given → length p.rings < RINGS
 few_rings p lines u words given c =
@@ -102,7 +99,7 @@ pub record IsCleanEntry (p : Standing) (words : List (List ℕ)) (unsubmitted : 
   pub new : p.declares (word_at words 1) ≡ false
   pub submitted : unsubmitted ≡ false
 
-pub clean_entry : (p : Standing) (lines : List Stated) (u : Bool) (kind : Kind) (words : List (List ℕ)) (given : Option Entry) → IsClean p lines u (EntryLine kind) words given → IsCleanEntry p words u
+pub clean_entry : (p : Standing) (lines : List Stated) (u : Bool) (kind : Kind) (words : List (List ℕ)) (given : Option Entry) → IsClean p lines u (Keyword.Entry kind) words given → IsCleanEntry p words u
 clean_entry p lines u kind words given c =
     let a = both_nil _ _ (both_nil _ _ c.own).0 in
     let b = both_nil _ _ a.1 in
@@ -116,18 +113,9 @@ clean_entry p lines u kind words given c =
 
 some_arguments : (kind : Kind) → 1 ≤ arguments_of kind
 some_arguments Nop = omega arith
-some_arguments Read = omega arith
-some_arguments Write = omega arith
-some_arguments Close = omega arith
-some_arguments Poll = omega arith
-some_arguments Timeout = omega arith
-some_arguments LinkTimeout = omega arith
-some_arguments Cancel = omega arith
-some_arguments Remove = omega arith
-some_arguments Splice = omega arith
-some_arguments Raw = omega arith
+some_arguments _ = omega arith
 
-pub long_entry : (p : Standing) (lines : List Stated) (u : Bool) (kind : Kind) (words : List (List ℕ)) (given : Option Entry) → IsClean p lines u (EntryLine kind) words given → 1 < length words
+pub long_entry : (p : Standing) (lines : List Stated) (u : Bool) (kind : Kind) (words : List (List ℕ)) (given : Option Entry) → IsClean p lines u (Keyword.Entry kind) words given → 1 < length words
 long_entry p lines u kind words given c =
     let some = some_arguments kind in
     let le = ltb-false (length words) (1 + arguments_of kind) c.long in

@@ -1,5 +1,5 @@
 -- What the parts and the outline say, one line after the other.
-use Rattle.std.proofs.Common.{◌≡◌, ◌<◌, ◌≤◌, ◌+◌, ℕ, Bool, true, false, List, [], ◌∷◌, ◌++◌, ◌||◌, Option, None, Some, cond, length, refl, sym, ap, ◌∙◌, arith}
+use Rattle.std.proofs.Common.{◌≡◌, ◌<◌, ◌≤◌, ◌+◌, ℕ, Bool, true, false, List, [], ◌∷◌, ◌++◌, ◌||◌, Option, Some, cond, length, refl, sym, ap, ◌∙◌, arith}
 use Rattle.std.specs.Prelude.{◌==◌, ◌&&◌, map, nat_lt, not, reverse, slice_get}
 use Rattle.std.specs.List.{list_any}
 use Rattle.std.proofs.lemmas.Bool.{cond_both}
@@ -7,11 +7,10 @@ use Rattle.std.proofs.lemmas.List.{length-map, length-append, map_push}
 use Rattle.entry.specs.Entry.{Entry}
 use Rattle.limits.specs.declared.TheConstants.{RINGS}
 use Rattle.script_text.specs.declared.actor.Actor.{Actor}
-use Rattle.script_text.specs.declared.actor.Actor.TheVariants as actor
 use Rattle.script_text.specs.declared.fault.ScriptFault.{ScriptFault}
 use Rattle.script_text.specs.declared.fault.ScriptFault.TheVariants.{Line, Memory}
 use Rattle.script_text.specs.declared.keyword.Keyword.{Keyword}
-use Rattle.script_text.specs.declared.keyword.Keyword.TheVariants.{Pipe, Ring, On, Submit, Wait, Tick, Armed, Entry as EntryLine}
+use Rattle.script_text.specs.declared.keyword.Keyword.TheVariants.{Ring, Submit}
 use Rattle.script_text.specs.declared.outline.Outline.{Outline}
 use Rattle.script_text.specs.declared.parts.Parts.{Parts}
 use Rattle.script_text.specs.Above.{Entered, actor_in, batch_in, entered_in, entered_with, is_of, is_same_actor, last_submit_with, rings_in, rings_with, stated_in, stated_with}
@@ -41,15 +40,8 @@ push_if false es ss e s is same = is
 
 labels_with : (lines : List Stated) (k : Option Keyword) (words : List (List ℕ)) (given : Option Entry) (es : List Entered) (ss : List Stated) → map label_of es ≡ map label_stated ss
     → map label_of (entered_with lines k words given es) ≡ map label_stated (stated_with k words given ss)
-labels_with lines None words given es ss is = is
-labels_with lines (Some Pipe) words given es ss is = is
-labels_with lines (Some Ring) words given es ss is = is
-labels_with lines (Some On) words given es ss is = is
-labels_with lines (Some Submit) words given es ss is = is
-labels_with lines (Some Wait) words given es ss is = is
-labels_with lines (Some Tick) words given es ss is = is
-labels_with lines (Some Armed) words given es ss is = is
-labels_with lines (Some (EntryLine kind)) words given es ss is = push_if (nat_lt 1 (length words)) es ss _ _ is refl
+labels_with lines (Some (Keyword.Entry kind)) words given es ss is = push_if (nat_lt 1 (length words)) es ss _ _ is refl
+labels_with lines _ words given es ss is = is
 
 -- the entries have the labels of the entry lines
 pub labels_in : (lines : List Stated) (above : List Sentence) → map label_of (entered_in lines above) ≡ map label_stated (stated_in above)
@@ -86,7 +78,7 @@ stands_more lines above s old new st t =
       rings = rw (← st.rings) t.rings;
       entries = rw (← st.entries) t.entries;
       acts = λ ring. rw (← st.actor, ← st.pending ring, ← st.acts ring) (t.acts ring);
-      clock = rw (← st.actor, ← st.clock) (t.clock (batch_in actor.Clock above));
+      clock = rw (← st.actor, ← st.clock) (t.clock (batch_in Actor.Clock above));
       pending = λ ring. rw (← st.actor, ← many, ← st.pending ring) (t.pending ring);
       even = t.even;
     }
@@ -116,10 +108,8 @@ standing_same lines above p st =
 -- ---- faults
 
 left_same : (a : Actor) (rings : ℕ) (all : List Sentence) (o : Outline) (n : ℕ) → IsKnown a rings → rings ≤ RINGS → Outlines all o → is_unsubmitted a o.last_submits n ≡ is_left a all n
-left_same actor.Start rings all o n known few out = refl
-left_same (actor.Ring ring) rings all o n known few out = ap (λ (x : Option ℕ). is_past x n) (out.submits ring (omega (arith, known, few)))
-left_same actor.Clock rings all o n known few out = refl
-left_same actor.Stranger rings all o n known few out = refl
+left_same (Actor.Ring ring) rings all o n known few out = ap (λ (x : Option ℕ). is_past x n) (out.submits ring (omega (arith, known, few)))
+left_same _ rings all o n known few out = refl
 
 pub faults_same : (all above : List Sentence) (p : Parts) (o : Outline) (n : ℕ) (s : Sentence) → Outlines all o → Stands (stated_in all) above p → faults_here p o n s ≡ faults_of all above n s
 faults_same all above p o n s out st =
@@ -133,53 +123,32 @@ faults_same all above p o n s out st =
 -- a line adds an entry line, or none
 pub stated_bounds : (k : Option Keyword) (words : List (List ℕ)) (given : Option Entry) (lines : List Stated)
     → (length lines ≤ length (stated_with k words given lines)) × (length (stated_with k words given lines) ≤ length lines + 1)
-stated_bounds None words given lines = (omega arith, omega arith)
-stated_bounds (Some Pipe) words given lines = (omega arith, omega arith)
-stated_bounds (Some Ring) words given lines = (omega arith, omega arith)
-stated_bounds (Some On) words given lines = (omega arith, omega arith)
-stated_bounds (Some Submit) words given lines = (omega arith, omega arith)
-stated_bounds (Some Wait) words given lines = (omega arith, omega arith)
-stated_bounds (Some Tick) words given lines = (omega arith, omega arith)
-stated_bounds (Some Armed) words given lines = (omega arith, omega arith)
-stated_bounds (Some (EntryLine kind)) words given lines =
+stated_bounds (Some (Keyword.Entry kind)) words given lines =
     cond_both (nat_lt 1 (length words)) _ lines (λ (ls : List Stated). (length lines ≤ length ls) × (length ls ≤ length lines + 1))
     (λ e. (simp length-append (omega arith), simp length-append (omega arith))) (λ e. (omega arith, omega arith))
+stated_bounds _ words given lines = (omega arith, omega arith)
 
 -- ---- the outline
 
 rings_more : (k : Option Keyword) (words : List (List ℕ)) (rings : List (ℕ × Option ℕ)) → length (rings_with k words rings) ≤ length rings + 1
-rings_more None words rings = omega arith
-rings_more (Some Pipe) words rings = omega arith
 rings_more (Some Ring) words rings = simp length-append (omega arith)
-rings_more (Some On) words rings = omega arith
-rings_more (Some Submit) words rings = omega arith
-rings_more (Some Wait) words rings = omega arith
-rings_more (Some Tick) words rings = omega arith
-rings_more (Some Armed) words rings = omega arith
-rings_more (Some (EntryLine kind)) words rings = omega arith
+rings_more _ words rings = omega arith
 
 pub few_rings_above : (above : List Sentence) → length (rings_in above) ≤ length above
 few_rings_above [] = omega arith
 few_rings_above (s ∷ above) = let a = rings_more (first_of s) s.words (rings_in above) in let b = few_rings_above above in omega (arith, a, b)
 
 rings_as : (k : Option Keyword) (words : List (List ℕ)) (rings : List (ℕ × Option ℕ)) (n : ℕ) → n ≡ length rings → more_with k n ≡ length (rings_with k words rings)
-rings_as None words rings n e = e
-rings_as (Some Pipe) words rings n e = e
 rings_as (Some Ring) words rings n e = simp length-append (omega arith)
-rings_as (Some On) words rings n e = e
-rings_as (Some Submit) words rings n e = e
-rings_as (Some Wait) words rings n e = e
-rings_as (Some Tick) words rings n e = e
-rings_as (Some Armed) words rings n e = e
-rings_as (Some (EntryLine kind)) words rings n e = e
+rings_as _ words rings n e = e
 
 pub outlines_more : (above : List Sentence) (s : Sentence) (n : ℕ) (old new : Outline) → Outlines above old → n ≡ length above + 1 → Notes s n old new → Outlines (s ∷ above) new
 outlines_more above s n old new out number t = record {
   stated = rw (← out.stated) t.stated;
   submits = λ ring lt. t.submits ring lt ∙ ap Some (
-      ap (λ (a : Actor). last_submit_with (first_of s) (is_same_actor (actor.Ring ring) a) n (last_of (slice_get old.last_submits ring))) out.actor
-      ∙ (ap (λ (m : ℕ). last_submit_with (first_of s) (is_of (actor.Ring ring) above) m (last_of (slice_get old.last_submits ring))) number
-      ∙ ap (λ (o : Option ℕ). last_submit_with (first_of s) (is_of (actor.Ring ring) above) (length above + 1) (last_of o)) (out.submits ring lt)));
+      ap (λ (a : Actor). last_submit_with (first_of s) (is_same_actor (Actor.Ring ring) a) n (last_of (slice_get old.last_submits ring))) out.actor
+      ∙ (ap (λ (m : ℕ). last_submit_with (first_of s) (is_of (Actor.Ring ring) above) m (last_of (slice_get old.last_submits ring))) number
+      ∙ ap (λ (o : Option ℕ). last_submit_with (first_of s) (is_of (Actor.Ring ring) above) (length above + 1) (last_of o)) (out.submits ring lt)));
   rings = t.rings ∙ rings_as (first_of s) s.words (rings_in above) old.rings out.rings;
   has_ring = rw (← out.has_ring) t.has_ring;
   actor = rw (← out.rings, ← out.actor) t.actor;
@@ -188,17 +157,12 @@ outlines_more above s n old new out number t = record {
 -- ---- what a line without a fault has
 
 fits_with : (p : Parts) (lines : List Stated) (u : Bool) (k : Option Keyword) (words : List (List ℕ)) (given : Option Entry) → IsCleanIf (standing p) lines u k words given → Fits k words p
-fits_with p lines u None words given c = tt
-fits_with p lines u (Some Pipe) words given c = tt
 fits_with p lines u (Some Ring) words given c = few_rings (standing p) lines u words given c
-fits_with p lines u (Some On) words given c = tt
 fits_with p lines u (Some Submit) words given c = is_ring_from_pending p.actor (pending_at p.acts.pending.items) c.place
-fits_with p lines u (Some Wait) words given c = tt
-fits_with p lines u (Some Tick) words given c = tt
-fits_with p lines u (Some Armed) words given c = tt
-fits_with p lines u (Some (EntryLine kind)) words given c =
+fits_with p lines u (Some (Keyword.Entry kind)) words given c =
     let e = clean_entry (standing p) lines u kind words given c in
     (long_entry (standing p) lines u kind words given c, e.label, e.few)
+fits_with p lines u _ words given c = tt
 
 pub fits_of : (p : Parts) (o : Outline) (n : ℕ) (s : Sentence) → faults_here p o n s ≡ [] → Fits (first_of s) s.words p
 fits_of p o n s e =

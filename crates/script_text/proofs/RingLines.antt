@@ -14,11 +14,9 @@ get_set_same (x ∷ xs) zero a lt = refl
 get_set_same (x ∷ xs) (suc i) a lt = get_set_same xs i a (omega arith)
 
 pub get_set_other : {A : Type 0} (xs : List A) (i j : ℕ) (a : A) → (j ≡ i → ⊥) → slice_get (set xs i a) j ≡ slice_get xs j
-get_set_other [] i j a ne = refl
 get_set_other (x ∷ xs) zero zero a ne = absurd (ne refl)
-get_set_other (x ∷ xs) zero (suc j) a ne = refl
-get_set_other (x ∷ xs) (suc i) zero a ne = refl
 get_set_other (x ∷ xs) (suc i) (suc j) a ne = get_set_other xs i j a (λ e. ne (ap suc e))
+get_set_other _ _ _ a ne = refl
 
 -- one more line of a ring
 pub deeds_set : (vs : List (Vec Act)) (i : ℕ) (v w : Vec Act) (act : Act) (ring : ℕ) → i < length vs → slice_get vs i ≡ Some v → w.items ≡ v.items ++ act ∷ []

@@ -5,10 +5,9 @@ use Rattle.entry.specs.Entry.{Entry}
 use Rattle.limits.specs.declared.TheConstants.{CAPACITY, CELLS, TICK}
 use Rattle.text.specs.Number.{number_in}
 use Rattle.script_text.specs.declared.actor.Actor.{Actor}
-use Rattle.script_text.specs.declared.actor.Actor.TheVariants as actor
 use Rattle.script_text.specs.declared.keyword.Kind.{Kind}
 use Rattle.script_text.specs.declared.keyword.Keyword.{Keyword}
-use Rattle.script_text.specs.declared.keyword.Keyword.TheVariants.{Pipe, Ring, On, Submit, Wait, Tick, Armed, Entry as EntryLine}
+use Rattle.script_text.specs.declared.keyword.Keyword.TheVariants.{Pipe, Ring, On, Submit, Wait, Tick, Armed}
 use Rattle.script_text.specs.Actors.{named_actor}
 use Rattle.script_text.specs.EntryLines.{Stated, options_of, place_of, user_data_or}
 use Rattle.script_text.specs.Keywords.{is_raw}
@@ -52,13 +51,13 @@ actor_with (Some On) words rings actor = if nat_lt 1 (length words) then named_a
 actor_with _ words rings actor = actor
 
 abbrev pub actor_in : List Sentence → Actor
-actor_in [] = actor.Start
+actor_in [] = Actor.Start
 actor_in (s ∷ above) = actor_with (first_of s) s.words (length (rings_in above)) (actor_in above)
 
 -- a ring or the clock, and the same one
 abbrev pub is_same_actor : Actor → Actor → Bool
-is_same_actor (actor.Ring m) (actor.Ring n) = m == n
-is_same_actor actor.Clock actor.Clock = true
+is_same_actor (Actor.Ring m) (Actor.Ring n) = m == n
+is_same_actor Actor.Clock Actor.Clock = true
 is_same_actor _ _ = false
 
 -- the line below these is the actor's
@@ -89,7 +88,7 @@ abbrev pub stated_line : Kind → List (List ℕ) → Option Entry → ℕ → S
 stated_line kind words given number = record { label = word_at words 1; kind = kind; user_data = user_data_of kind words given number }
 
 abbrev pub stated_with : Option Keyword → List (List ℕ) → Option Entry → List Stated → List Stated
-stated_with (Some (EntryLine kind)) words given lines = if nat_lt 1 (length words) then lines ++ stated_line kind words given (length lines + 1) ∷ [] else lines
+stated_with (Some (Keyword.Entry kind)) words given lines = if nat_lt 1 (length words) then lines ++ stated_line kind words given (length lines + 1) ∷ [] else lines
 stated_with _ words given lines = lines
 
 -- the entry lines in the order of the file
@@ -111,7 +110,7 @@ entered_line lines kind words given number = record {
 }
 
 abbrev pub entered_with : List Stated → Option Keyword → List (List ℕ) → Option Entry → List Entered → List Entered
-entered_with lines (Some (EntryLine kind)) words given entries =
+entered_with lines (Some (Keyword.Entry kind)) words given entries =
     if nat_lt 1 (length words) then entries ++ entered_line lines kind words given (length entries + 1) ∷ [] else entries
 entered_with lines _ words given entries = entries
 
@@ -124,7 +123,7 @@ entered_in lines (s ∷ above) = entered_with lines (first_of s) s.words s.given
 
 abbrev pub batch_with : Option Keyword → List (List ℕ) → Bool → ℕ → List ℕ → List ℕ
 batch_with (Some Submit) words own place batch = if own then [] else batch
-batch_with (Some (EntryLine kind)) words own place batch = if own && nat_lt 1 (length words) then batch ++ place ∷ [] else batch
+batch_with (Some (Keyword.Entry kind)) words own place batch = if own && nat_lt 1 (length words) then batch ++ place ∷ [] else batch
 batch_with _ words own place batch = batch
 
 abbrev pub batch_in : Actor → List Sentence → List ℕ

@@ -2,7 +2,6 @@
 use Rattle.std.specs.Prelude.{ℕ, List, [], Option, Some, None, map, slice_get}
 use Rattle.std.specs.Global.{Vec}
 use Rattle.script.specs.declared.act.Act.{Act}
-use Rattle.script.specs.declared.act.Act.TheVariants as act
 use Rattle.script_text.specs.Above.{Deed, sets, submits, waits, waits_armed}
 
 abbrev pub items_or_none : {A : Type 0} → Option (Vec A) → List A
@@ -14,10 +13,10 @@ abbrev pub pending_at : List (Vec ℕ) → ℕ → List ℕ
 pending_at pending ring = items_or_none (slice_get pending ring)
 
 abbrev pub deed : Act → Deed
-deed (act.Submit places) = submits places.items
-deed (act.Wait place) = waits place
-deed (act.Armed place) = waits_armed place
-deed (act.Tick to) = sets to
+deed (Act.Submit places) = submits places.items
+deed (Act.Wait place) = waits place
+deed (Act.Armed place) = waits_armed place
+deed (Act.Tick to) = sets to
 
 abbrev pub deeds : List Act → List Deed
 deeds acts = map deed acts

@@ -3,7 +3,6 @@ use Rattle.std.specs.Prelude.{◌≡◌, ℕ, ◌+◌, List, [], ◌∷◌, ◌+
 use denote.Bor.{Bor}
 use Rattle.std.specs.List.{find, position}
 use Rattle.entry.specs.declared.op.Op.{Op}
-use Rattle.entry.specs.declared.op.Op.TheVariants as op
 use Rattle.entry.specs.Entry.{Entry}
 use Rattle.prep.specs.Built.{flagged, link_timeout_op, plain, poll_op, read_op, splice_op, timeout_count_op, write_op}
 use Rattle.entry.specs.Text.{Says}
@@ -131,18 +130,18 @@ count_of options = long_or (given_count options)
 
 -- the operation that the words ask for; ticks above 2147483647, a count above 1023 and a mask with other bits make it Invalid
 abbrev pub op_of : List Stated → Kind → List (List ℕ) → Op
-op_of lines Nop words = op.Nop
+op_of lines Nop words = Op.Nop
 op_of lines Read words = read_op (pos (fd_in (word_at words 2))) (len_in (word_at words 3)) 0
 op_of lines Write words = write_op (pos (fd_in (word_at words 2))) (text_len (word_at words 3)) 0
-op_of lines Close words = op.Close (pos (fd_in (word_at words 2)))
+op_of lines Close words = Op.Close (pos (fd_in (word_at words 2)))
 op_of lines Poll words = poll_op (pos (fd_in (word_at words 2))) (mask_in (word_at words 3))
 op_of lines Timeout words =
     timeout_count_op (ticks_in (word_at words 2)) (count_of (options_of Timeout words)) (etime_bit (has_etime Timeout (options_of Timeout words)))
 op_of lines LinkTimeout words = link_timeout_op (ticks_in (word_at words 2))
-op_of lines Cancel words = op.AsyncCancel (target_in lines (word_at words 2)) (has_all Cancel (options_of Cancel words))
-op_of lines Remove words = op.TimeoutRemove (target_in lines (word_at words 2))
+op_of lines Cancel words = Op.AsyncCancel (target_in lines (word_at words 2)) (has_all Cancel (options_of Cancel words))
+op_of lines Remove words = Op.TimeoutRemove (target_in lines (word_at words 2))
 op_of lines Splice words = splice_op (pos (fd_in (word_at words 2))) (pos (fd_in (word_at words 3))) (splice_len_in (word_at words 4))
-op_of lines Raw words = op.Nop
+op_of lines Raw words = Op.Nop
 
 -- the number that is given, or else the number of the entry line in the file, from 1
 abbrev pub user_data_or : Option ℕ → ℕ → ℕ
@@ -171,8 +170,8 @@ buffer_in _ words = []
 
 -- how many bytes a READ or WRITE asks for
 abbrev pub len_of : Op → ℕ
-len_of (op.Read fd offset len) = len
-len_of (op.Write fd offset len) = len
+len_of (Op.Read fd offset len) = len
+len_of (Op.Write fd offset len) = len
 len_of _ = 0
 
 -- the 64 bytes that 128 lower-case hexadecimal digits write, and the entry that they say

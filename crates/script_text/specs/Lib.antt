@@ -1,6 +1,7 @@
 pub mod TextWords
 pub mod Keywords
 pub mod Noted
+pub mod FaultWords
 pub mod Options
 pub mod Actors
 pub mod EntryLines

@@ -1,20 +1,19 @@
 -- The entry of each entry line, and what a `ring` line declares.
 use Rattle.std.specs.Prelude.{◌≡◌, ℕ, Bool, true, false, List, Option, Some, None, length, nat_lt, if◌then◌else◌}
 use Rattle.entry.specs.Entry.{Entry}
-use Rattle.entry.specs.declared.op.Op.TheVariants as op
+use Rattle.entry.specs.declared.op.Op.{Op}
 use Rattle.limits.specs.declared.TheConstants.{POSTS}
 use Rattle.prep.specs.Built.{plain}
 use Rattle.text.specs.Number.{number_in}
 use Rattle.script_text.specs.declared.keyword.Kind.{Kind}
 use Rattle.script_text.specs.declared.keyword.Keyword.{Keyword}
-use Rattle.script_text.specs.declared.keyword.Keyword.TheVariants.{Entry as EntryLine}
 use Rattle.script_text.specs.EntryLines.{IsRawEntry, Stated, buffer_in, entry_of, raw_buffer}
 use Rattle.script_text.specs.Keywords.{is_raw}
 use Rattle.script_text.specs.Noted.{number_or}
 use Rattle.script_text.specs.TextWords.{word_at}
 
 abbrev pub is_raw_line : Option Keyword → Bool
-is_raw_line (Some (EntryLine kind)) = is_raw kind
+is_raw_line (Some (Keyword.Entry kind)) = is_raw kind
 is_raw_line _ = false
 
 abbrev pub IsGivenIf : Bool → List (List ℕ) → Option Entry → Type 0
@@ -26,7 +25,7 @@ abbrev pub IsGiven : Option Keyword → List (List ℕ) → Option Entry → Typ
 IsGiven keyword words given = IsGivenIf (is_raw_line keyword) words given
 
 abbrev pub raw_or_nop : Option Entry → Entry
-raw_or_nop None = plain op.Nop
+raw_or_nop None = plain Op.Nop
 raw_or_nop (Some e) = e
 
 -- the entry of a line, the file's number-th

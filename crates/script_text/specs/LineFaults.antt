@@ -6,12 +6,11 @@ use Rattle.limits.specs.declared.TheConstants.{CAPACITY, CELLS, ENTRIES, PIPES, 
 use Rattle.script.specs.Rules.{is_label}
 use Rattle.text.specs.Number.{number_in}
 use Rattle.script_text.specs.declared.actor.Actor.{Actor}
-use Rattle.script_text.specs.declared.actor.Actor.TheVariants as actor
 use Rattle.script_text.specs.declared.fault.Fault.{Fault}
 use Rattle.script_text.specs.declared.fault.Fault.TheVariants.{NotAscii, UnknownWord, OutOfPlace, MissingArgument, ExtraArgument, BadLabel, OutOfRange, DuplicateLabel, UnsubmittedEntries}
 use Rattle.script_text.specs.declared.keyword.Kind.{Kind}
 use Rattle.script_text.specs.declared.keyword.Keyword.{Keyword}
-use Rattle.script_text.specs.declared.keyword.Keyword.TheVariants.{Pipe, Ring, On, Submit, Wait, Tick, Armed, Entry as EntryLine}
+use Rattle.script_text.specs.declared.keyword.Keyword.TheVariants.{Pipe, Ring, On, Submit, Wait, Tick, Armed}
 use Rattle.script_text.specs.Actors.{is_clock, is_ring, is_start, is_stranger, named_actor}
 use Rattle.script_text.specs.EntryLines.{Stated, entry_faults, label_faults, line_of, raw_faults}
 use Rattle.script_text.specs.Keywords.{is_raw, is_timer, keyword_of, least_words, most_words}
@@ -36,7 +35,7 @@ pub record Standing : Type 0 where
 
 -- what an actor has not submitted yet
 abbrev pub pending_of : Actor → (ℕ → List ℕ) → List ℕ
-pending_of (actor.Ring ring) pending = pending ring
+pending_of (Actor.Ring ring) pending = pending ring
 pending_of _ pending = []
 
 abbrev pub is_longer : Option (ℕ × Option ℕ) → List ℕ → Bool
@@ -45,7 +44,7 @@ is_longer (Some ring) batch = nat_lt ring.0 (length batch)
 
 -- the batch of an actor has more entries than its ring has cells
 abbrev pub is_long_batch : Actor → List (ℕ × Option ℕ) → (ℕ → List ℕ) → Bool
-is_long_batch (actor.Ring ring) rings pending = is_longer (slice_get rings ring) (pending ring)
+is_long_batch (Actor.Ring ring) rings pending = is_longer (slice_get rings ring) (pending ring)
 is_long_batch _ rings pending = false
 
 -- ---- the place of a line
@@ -58,7 +57,7 @@ abbrev pub in_place : Standing → List Stated → Keyword → List (List ℕ) �
 in_place p lines Pipe words = is_start p.actor
 in_place p lines Ring words = is_start p.actor
 in_place p lines On words = nat_lt (length words) 2 || not (is_stranger (named_actor (word_at words 1) (length p.rings)))
-in_place p lines (EntryLine kind) words = is_ring p.actor
+in_place p lines (Keyword.Entry kind) words = is_ring p.actor
 in_place p lines Submit words = not (length (pending_of p.actor p.pending) == 0)
 in_place p lines Wait words = is_ring p.actor || is_clock p.actor
 in_place p lines Tick words = is_clock p.actor
@@ -102,7 +101,7 @@ own_faults p lines unsubmitted Submit words given = fault_if (is_long_batch p.ac
 own_faults p lines unsubmitted Wait words given = label_faults lines (word_at words 1)
 own_faults p lines unsubmitted Tick words given = number_faults (word_at words 1) p.time TICK
 own_faults p lines unsubmitted Armed words given = label_faults lines (word_at words 1)
-own_faults p lines unsubmitted (EntryLine kind) words given = declare_faults p (word_at words 1) unsubmitted ++ kind_faults lines kind words given
+own_faults p lines unsubmitted (Keyword.Entry kind) words given = declare_faults p (word_at words 1) unsubmitted ++ kind_faults lines kind words given
 
 -- ---- the whole line
 

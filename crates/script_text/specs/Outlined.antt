@@ -2,7 +2,6 @@
 use Rattle.std.specs.Prelude.{◌≡◌, ◌==◌, ℕ, ◌+◌, ◌<◌, ◌&&◌, Bool, true, false, List, Option, Some, None, length, nat_lt, not, slice_get}
 use Rattle.limits.specs.declared.TheConstants.{RINGS}
 use Rattle.script_text.specs.declared.actor.Actor.{Actor}
-use Rattle.script_text.specs.declared.actor.Actor.TheVariants as actor
 use Rattle.script_text.specs.declared.fault.Fault.{Fault}
 use Rattle.script_text.specs.declared.outline.Outline.{Outline}
 use Rattle.script_text.specs.declared.parts.Parts.{Parts}
@@ -20,7 +19,7 @@ is_past (Some last) line = nat_lt last line
 
 -- no `submit` of the actor follows, where these are the lines of the rings' last
 abbrev pub is_unsubmitted : Actor → List ℕ → ℕ → Bool
-is_unsubmitted (actor.Ring ring) submits line = is_past (slice_get submits ring) line
+is_unsubmitted (Actor.Ring ring) submits line = is_past (slice_get submits ring) line
 is_unsubmitted _ submits line = false
 
 abbrev pub last_of : Option ℕ → ℕ
@@ -34,7 +33,7 @@ more_with _ rings = rings
 -- a line taken in, the file's number-th
 pub record Notes (s : Sentence) (number : ℕ) (old new : Outline) : Type 0 where
   pub stated : all_stated new.labels.lines.items ≡ stated_with (first_of s) s.words s.given (all_stated old.labels.lines.items)
-  pub submits : (ring : ℕ) → ring < RINGS → slice_get new.last_submits ring ≡ Some (last_submit_with (first_of s) (is_same_actor (actor.Ring ring) old.actor) number (last_of (slice_get old.last_submits ring)))
+  pub submits : (ring : ℕ) → ring < RINGS → slice_get new.last_submits ring ≡ Some (last_submit_with (first_of s) (is_same_actor (Actor.Ring ring) old.actor) number (last_of (slice_get old.last_submits ring)))
   pub rings : new.rings ≡ more_with (first_of s) old.rings
   pub has_ring : new.has_ring ≡ has_ring_with (first_of s) old.has_ring
   pub actor : new.actor ≡ actor_with (first_of s) s.words old.rings old.actor
@@ -42,7 +41,7 @@ pub record Notes (s : Sentence) (number : ℕ) (old new : Outline) : Type 0 wher
 -- what these lines declare
 pub record Outlines (above : List Sentence) (o : Outline) : Type 0 where
   pub stated : all_stated o.labels.lines.items ≡ stated_in above
-  pub submits : (ring : ℕ) → ring < RINGS → slice_get o.last_submits ring ≡ Some (last_submit_in (actor.Ring ring) above)
+  pub submits : (ring : ℕ) → ring < RINGS → slice_get o.last_submits ring ≡ Some (last_submit_in (Actor.Ring ring) above)
   pub rings : o.rings ≡ length (rings_in above)
   pub has_ring : o.has_ring ≡ has_ring_in above
   pub actor : o.actor ≡ actor_in above

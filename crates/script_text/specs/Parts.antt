@@ -5,9 +5,9 @@ use Rattle.std.specs.String.{string_bytes}
 use Rattle.limits.specs.declared.TheConstants.{ENTRIES, RINGS}
 use Rattle.script.specs.Rules.{is_label}
 use Rattle.script.specs.declared.named.Named.{Named}
-use Rattle.script_text.specs.declared.actor.Actor.TheVariants as who
+use Rattle.script_text.specs.declared.actor.Actor.{Actor}
 use Rattle.script_text.specs.declared.keyword.Keyword.{Keyword}
-use Rattle.script_text.specs.declared.keyword.Keyword.TheVariants.{Ring, Submit, Entry as EntryLine}
+use Rattle.script_text.specs.declared.keyword.Keyword.TheVariants.{Ring, Submit}
 use Rattle.script_text.specs.declared.parts.Parts.{Parts}
 use Rattle.script_text.specs.Above.{Entered, actor_in, actor_with, batch_in, batch_with, deeds_in, deeds_with, entered_in, entered_with, is_same_actor, pipes_in, pipes_with, rings_in, rings_with, time_in, time_with}
 use Rattle.script_text.specs.Actors.{IsKnown, is_ring}
@@ -52,7 +52,7 @@ pub record IsEven (p : Parts) : Type 0 where
 abbrev pub Fits : Option Keyword → List (List ℕ) → Parts → Type 0
 Fits (Some Ring) words p = length p.rings.items < RINGS
 Fits (Some Submit) words p = IsTrue (is_ring p.actor)
-Fits (Some (EntryLine kind)) words p = (1 < length words) × IsTrue (is_label (word_at words 1)) × (length p.entries.items < ENTRIES)
+Fits (Some (Keyword.Entry kind)) words p = (1 < length words) × IsTrue (is_label (word_at words 1)) × (length p.entries.items < ENTRIES)
 Fits _ words p = Unit {0}
 
 -- a line taken in, where the file has these entry lines
@@ -62,9 +62,9 @@ pub record Takes (lines : List Stated) (keyword : Option Keyword) (s : Sentence)
   pub pipes : new.pipes.items ≡ pipes_with keyword s.words old.pipes.items
   pub rings : new.rings.items ≡ rings_with keyword s.words old.rings.items
   pub entries : all_entered new.entries.items ≡ entered_with lines keyword s.words s.given (all_entered old.entries.items)
-  pub acts : (ring : ℕ) → deeds_at new.acts.by_ring.items ring ≡ deeds_with lines keyword s.words (is_same_actor (who.Ring ring) old.actor) (pending_at old.acts.pending.items ring) (deeds_at old.acts.by_ring.items ring)
-  pub clock : (batch : List ℕ) → deeds new.acts.clock.items ≡ deeds_with lines keyword s.words (is_same_actor who.Clock old.actor) batch (deeds old.acts.clock.items)
-  pub pending : (ring : ℕ) → pending_at new.acts.pending.items ring ≡ batch_with keyword s.words (is_same_actor (who.Ring ring) old.actor) (length old.entries.items) (pending_at old.acts.pending.items ring)
+  pub acts : (ring : ℕ) → deeds_at new.acts.by_ring.items ring ≡ deeds_with lines keyword s.words (is_same_actor (Actor.Ring ring) old.actor) (pending_at old.acts.pending.items ring) (deeds_at old.acts.by_ring.items ring)
+  pub clock : (batch : List ℕ) → deeds new.acts.clock.items ≡ deeds_with lines keyword s.words (is_same_actor Actor.Clock old.actor) batch (deeds old.acts.clock.items)
+  pub pending : (ring : ℕ) → pending_at new.acts.pending.items ring ≡ batch_with keyword s.words (is_same_actor (Actor.Ring ring) old.actor) (length old.entries.items) (pending_at old.acts.pending.items ring)
   pub even : IsEven new
 
 -- the parts are what the lines above say
@@ -74,7 +74,7 @@ pub record Stands (lines : List Stated) (above : List Sentence) (p : Parts) : Ty
   pub pipes : p.pipes.items ≡ pipes_in above
   pub rings : p.rings.items ≡ rings_in above
   pub entries : all_entered p.entries.items ≡ entered_in lines above
-  pub acts : (ring : ℕ) → deeds_at p.acts.by_ring.items ring ≡ deeds_in lines (who.Ring ring) above
-  pub clock : deeds p.acts.clock.items ≡ deeds_in lines who.Clock above
-  pub pending : (ring : ℕ) → pending_at p.acts.pending.items ring ≡ batch_in (who.Ring ring) above
+  pub acts : (ring : ℕ) → deeds_at p.acts.by_ring.items ring ≡ deeds_in lines (Actor.Ring ring) above
+  pub clock : deeds p.acts.clock.items ≡ deeds_in lines Actor.Clock above
+  pub pending : (ring : ℕ) → pending_at p.acts.pending.items ring ≡ batch_in (Actor.Ring ring) above
   pub even : IsEven p

@@ -3,7 +3,6 @@ use Rattle.std.specs.Prelude.{◌≡◌, ◌==◌, ℕ, ◌+◌, ◌<◌, ◌&&�
 use Rattle.std.specs.List.{list_any}
 use Rattle.script.specs.declared.script.Script.{Script}
 use Rattle.script_text.specs.declared.actor.Actor.{Actor}
-use Rattle.script_text.specs.declared.actor.Actor.TheVariants as actor
 use Rattle.script_text.specs.declared.fault.Fault.{Fault}
 use Rattle.script_text.specs.declared.fault.ScriptFault.{ScriptFault}
 use Rattle.script_text.specs.declared.fault.ScriptFault.TheVariants.{Line, Memory}
@@ -28,12 +27,12 @@ standing_in above = record {
   rings = rings_in above;
   entries = length (stated_in above);
   declares = λ label. list_any (declares label) (stated_in above);
-  pending = λ ring. batch_in (actor.Ring ring) above;
+  pending = λ ring. batch_in (Actor.Ring ring) above;
 }
 
 -- no `submit` of the ring stands on this line or below it
 abbrev pub is_left : Actor → List Sentence → ℕ → Bool
-is_left (actor.Ring ring) all line = nat_lt (last_submit_in (actor.Ring ring) all) line
+is_left (Actor.Ring ring) all line = nat_lt (last_submit_in (Actor.Ring ring) all) line
 is_left _ all line = false
 
 -- the line is the first of a file without a `ring` line
@@ -78,8 +77,8 @@ pub record IsScriptOf (lines : List Sentence) (script : Script) : Type 0 where
   pub rings : script.rings.items ≡ rings_in (reverse lines)
   pub entries : all_entered script.entries.items ≡ entered_in (stated_in (reverse lines)) (reverse lines)
   pub each_ring : length script.acts.items ≡ length (rings_in (reverse lines))
-  pub acts : (ring : ℕ) → deeds_at script.acts.items ring ≡ deeds_in (stated_in (reverse lines)) (actor.Ring ring) (reverse lines)
-  pub clock : deeds script.clock.items ≡ deeds_in (stated_in (reverse lines)) actor.Clock (reverse lines)
+  pub acts : (ring : ℕ) → deeds_at script.acts.items ring ≡ deeds_in (stated_in (reverse lines)) (Actor.Ring ring) (reverse lines)
+  pub clock : deeds script.clock.items ≡ deeds_in (stated_in (reverse lines)) Actor.Clock (reverse lines)
 
 -- ---- texts
 

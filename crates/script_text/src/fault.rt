@@ -38,8 +38,12 @@ pub enum Fault {
 }
 
 impl Fault {
+    ghost use Rattle.script_text.specs.FaultWords.{fault_words};
+
     /// The words that it is reported with.
-    fn words(self) -> &'static str {
+    pub fn words(self) -> &'static str
+        ensures { result.now ≡ fault_words self }
+    {
         match self {
             Fault::NotAscii => "not ascii",
             Fault::UnknownWord => "unknown word",

@@ -2,7 +2,7 @@
 ghost use Rattle.std.specs.Prelude.{◌≡◌, ◌+◌, ◌^◌, ◌<◌, ◌≤◌};
 ghost use Rattle.gates.specs.EntryRows.{added};
 
-use entry::{Row as Columns, Sqe};
+use entry::Sqe;
 use gates::{Asked, Gate, Row, RowFull, Traits};
 use std::process::Abort;
 use std::test::Fail;
@@ -14,7 +14,7 @@ const LINK: u8 = 4;
 const HARD: u8 = 8;
 
 fn entry_of(opcode: u8, fd: i32, addr: u64, len: u32, flags: u8) -> Sqe {
-    let columns = Columns {
+    let columns = entry::Row {
         opcode,
         fd,
         off: 0,

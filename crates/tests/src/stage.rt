@@ -1,7 +1,7 @@
 //! A board with its poller's and one worker's desks, for turns in one thread.
 ghost use Rattle.std.specs.Prelude.{◌≡◌, ◌<◌, All, None, Some, IfOk, IfSome};
 ghost use Rattle.bell.specs.BellPasses.{IsRingerOf, IsSleeperOf};
-ghost use Rattle.ready.specs.Ready.{IsOf as IsOfQueue};
+ghost use Rattle.ready.specs.Ready;
 ghost use Rattle.work.specs.Board.{IsOf};
 
 use bell::{Bell, Ringer, Sleeper};
@@ -177,16 +177,16 @@ fn bell_of(alloc: Global, rings: u16) -> Result<(Bell, Vec<Ringer>, Sleeper), Fa
 /// A new ready queue and its passes, one for the poller and one for the worker.
 fn queue_of(alloc: Global, places: u32) -> Result<(ReadyQueue, Vec<ReadyPass>), Fail>
     requires { 0 < places }
-    ensures { IfOk result (λ t. All (λ p. IsOfQueue t.0 p) t.1.items) }
+    ensures { IfOk result (λ t. All (λ p. Ready.IsOf t.0 p) t.1.items) }
 {
     Ok(ReadyQueue::new(alloc, places, 2)?)
 }
 
 /// The last pass of the queue that is left.
 fn last_pass(queue: &ReadyQueue, passes: &mut Vec<ReadyPass>) -> Option<ReadyPass>
-    requires { All (λ p. IsOfQueue queue.now p) passes.old.items }
-    ensures rest { All (λ p. IsOfQueue queue.now p) passes.new.items }
-    ensures pass { IfSome result (λ p. IsOfQueue queue.now p) }
+    requires { All (λ p. Ready.IsOf queue.now p) passes.old.items }
+    ensures rest { All (λ p. Ready.IsOf queue.now p) passes.new.items }
+    ensures pass { IfSome result (λ p. Ready.IsOf queue.now p) }
 {
     let _ = queue;
     passes.pop()
@@ -316,14 +316,14 @@ struct Stage {
 impl Model for Stage {
     ghost use Rattle.std.specs.Prelude.{◌≡◌, IfSome};
     ghost use Rattle.bell.specs.BellPasses.{IsRingerOf, IsSleeperOf};
-    ghost use Rattle.ready.specs.Ready.{IsOf as IsOfQueue};
+    ghost use Rattle.ready.specs.Ready;
     ghost use Rattle.work.specs.Board.{Facts, IsOf};
 
     ghost Value = { Facts };
 
     ghost view = { λ s. s.board };
 
-    ghost invariant = { λ s. IsOf s.board s.desk.poller × IsSleeperOf s.bell s.desk.sleeper × (s.desk.rings ≡ s.bell.rings) × IsOfQueue s.queue s.desk.ready × IsOfQueue s.queue s.work.ready × IfSome s.worker (λ w. IsOf s.board w) × IsOf s.board s.zero.submitter × IsRingerOf s.bell s.zero.ringer × (s.zero.ringer.tail ≡ s.zero.tail) × IfSome s.one (λ c. IsOf s.board c.submitter × IsRingerOf s.bell c.ringer × (c.ringer.tail ≡ c.tail)) };
+    ghost invariant = { λ s. IsOf s.board s.desk.poller × IsSleeperOf s.bell s.desk.sleeper × (s.desk.rings ≡ s.bell.rings) × Ready.IsOf s.queue s.desk.ready × Ready.IsOf s.queue s.work.ready × IfSome s.worker (λ w. IsOf s.board w) × IsOf s.board s.zero.submitter × IsRingerOf s.bell s.zero.ringer × (s.zero.ringer.tail ≡ s.zero.tail) × IfSome s.one (λ c. IsOf s.board c.submitter × IsRingerOf s.bell c.ringer × (c.ringer.tail ≡ c.tail)) };
 }
 
 /// The shape of a board with one pipe, one worker, and a ring of so many cells for each of `cells`.

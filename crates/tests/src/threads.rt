@@ -30,15 +30,6 @@ fn entry(sqe: Sqe, flags: u8, user_data: u64, bytes: u8, first: u8) -> Entry {
     }
 }
 
-/// Ends a runtime. Whether all was as wanted until then, and its report has no line.
-fn ends<R: Threads + Wait>(
-    pair: Pair<NoClock>,
-    rt: &R,
-    was_so: Result<bool, Fail>,
-) -> Result<bool, Fail> {
-    reports(pair, rt, was_so, &[""])
-}
-
 /// A WRITE of ring 1 and a READ linked to it, whether both transfer three bytes.
 fn goes_through<R: Wait>(pair: &mut Pair<NoClock>, rt: &R) -> Result<bool, Fail> {
     let batch = [
@@ -60,8 +51,8 @@ fn goes_through<R: Wait>(pair: &mut Pair<NoClock>, rt: &R) -> Result<bool, Fail>
 #[test]
 fn a_linked_write_and_read_go_through_the_pipe(rt: HostRuntime) -> Result<(), Fail> {
     let mut pair = Pair::new(rt, rt.alloc(), 2, 3, Open, NoClock)?;
-    let was_so = goes_through(&mut pair, &rt);
-    assert!(rt; ends(pair, &rt, was_so)?);
+    assert!(rt; goes_through(&mut pair, &rt)?);
+    assert!(rt; reports(pair, &rt, &[""])?);
     Ok(())
 }
 
@@ -78,8 +69,8 @@ fn a_request_is_held_until_another_thread_has_posted(rt: HostRuntime) -> Result<
     let mut holds = Vec::new(rt.alloc());
     holds.push(Hold::new((Point::Run, nth(0, 0)), (Point::Post, nth(0, 1))))?;
     let mut pair = Pair::new(rt, rt.alloc(), 2, 1, Holds { holds }, NoClock)?;
-    let was_so = comes_second_first(&mut pair, &rt);
-    assert!(rt; ends(pair, &rt, was_so)?);
+    assert!(rt; comes_second_first(&mut pair, &rt)?);
+    assert!(rt; reports(pair, &rt, &[""])?);
     Ok(())
 }
 
@@ -99,26 +90,13 @@ fn wakes_the_poller<R: Wait>(
     Ok(req == nth(0, round) && told.as_str() == wanted.as_str())
 }
 
-/// So many rounds, whether each was as wanted.
-fn wakes_often<R: Wait>(
-    pair: &mut Pair<NoClock>,
-    rt: &R,
-    alloc: Global,
-    rounds: u64,
-) -> Result<bool, Fail> {
-    for round in 0..rounds {
-        if !wakes_the_poller(pair, rt, alloc, round)? {
-            return Ok(false);
-        }
-    }
-    Ok(true)
-}
-
 #[test]
 fn a_sleeper_is_back_after_it_was_rung(rt: HostRuntime) -> Result<(), Fail> {
     let mut pair = Pair::new(rt, rt.alloc(), 1, 0, Open, NoClock)?;
-    let was_so = wakes_often(&mut pair, &rt, rt.alloc(), 20);
-    assert!(rt; ends(pair, &rt, was_so)?);
+    for round in 0..20u64 {
+        assert!(rt; wakes_the_poller(&mut pair, &rt, rt.alloc(), round)?);
+    }
+    assert!(rt; reports(pair, &rt, &[""])?);
     Ok(())
 }
 
@@ -152,23 +130,17 @@ fn takes_one<R: Wait>(pair: &mut Pair<NoClock>, rt: &R) -> Result<bool, Fail> {
     Ok(zero == nth(0, 0) && one == nth(1, 0))
 }
 
-/// Ends a runtime. Whether all was as wanted until then, and its report is one of these.
-fn reports<R: Threads + Wait>(
-    pair: Pair<NoClock>,
-    rt: &R,
-    was_so: Result<bool, Fail>,
-    wanted: &[&str],
-) -> Result<bool, Fail> {
-    let was_so = was_so?;
+/// Ends a runtime. Whether its report is one of these.
+fn reports<R: Threads + Wait>(pair: Pair<NoClock>, rt: &R, wanted: &[&str]) -> Result<bool, Fail> {
     let report = pair.end(rt)?;
-    Ok(was_so && is_one_of(report.as_str(), wanted))
+    Ok(is_one_of(report.as_str(), wanted))
 }
 
 #[test]
 fn the_report_has_what_nobody_took(rt: HostRuntime) -> Result<(), Fail> {
     let mut pair = Pair::new(rt, rt.alloc(), 3, 5, Open, NoClock)?;
-    let was_so = takes_one(&mut pair, &rt);
-    assert!(rt; reports(pair, &rt, was_so, &REPORTS)?);
+    assert!(rt; takes_one(&mut pair, &rt)?);
+    assert!(rt; reports(pair, &rt, &REPORTS)?);
     Ok(())
 }
 
@@ -186,22 +158,14 @@ fn waits<R: Wait>(
     Ok(req == nth(0, number) && has_come)
 }
 
-/// Ten thousand rounds, whether each was as wanted.
-fn waits_often<R: Wait>(pair: &mut Pair<NoClock>, rt: &R, alloc: Global) -> Result<bool, Fail> {
-    for round in 0..10_000u32 {
-        if !waits(pair, rt, alloc, round)? {
-            return Ok(false);
-        }
-    }
-    Ok(true)
-}
-
 /// A put between a worker's last look and its sleep, a post between a client's, and a tail between the poller's: each wakes who sleeps.
 #[test]
 fn a_client_waits_ten_thousand_times(rt: HostRuntime) -> Result<(), Fail> {
     let mut pair = Pair::new(rt, rt.alloc(), 2, 0, Open, NoClock)?;
-    let was_so = waits_often(&mut pair, &rt, rt.alloc());
-    assert!(rt; ends(pair, &rt, was_so)?);
+    for round in 0..10_000u32 {
+        assert!(rt; waits(&mut pair, &rt, rt.alloc(), round)?);
+    }
+    assert!(rt; reports(pair, &rt, &[""])?);
     Ok(())
 }
 
@@ -234,22 +198,14 @@ fn writes_and_reads<R: Wait>(
     Ok(has_read && has_written)
 }
 
-/// Ten thousand rounds, whether each was as wanted.
-fn writes_often<R: Wait>(pair: &mut Pair<NoClock>, rt: &R, alloc: Global) -> Result<bool, Fail> {
-    for round in 0..10_000u32 {
-        if !writes_and_reads(pair, rt, alloc, round)? {
-            return Ok(false);
-        }
-    }
-    Ok(true)
-}
-
 /// The WRITE comes before the READ finds the pipe empty, between that look and its park, or when it lies with the pipe.
 #[test]
 fn a_write_answers_the_other_clients_read_ten_thousand_times(rt: HostRuntime) -> Result<(), Fail> {
     let mut pair = Pair::new(rt, rt.alloc(), 2, 0, Open, NoClock)?;
-    let was_so = writes_often(&mut pair, &rt, rt.alloc());
-    assert!(rt; ends(pair, &rt, was_so)?);
+    for round in 0..10_000u32 {
+        assert!(rt; writes_and_reads(&mut pair, &rt, rt.alloc(), round)?);
+    }
+    assert!(rt; reports(pair, &rt, &[""])?);
     Ok(())
 }
 
@@ -288,25 +244,15 @@ fn serves_the_second<R: Wait>(
     Ok(has_read)
 }
 
-/// Ten thousand rounds, whether each was as wanted.
-fn cancels_often<R: Wait>(pair: &mut Pair<NoClock>, rt: &R, alloc: Global) -> Result<bool, Fail> {
-    for round in 0..10_000u32 {
-        if !cancels_the_first(pair, rt, alloc, round)? {
-            return Ok(false);
-        }
-        if !serves_the_second(pair, rt, alloc, round)? {
-            return Ok(false);
-        }
-    }
-    Ok(true)
-}
-
 /// With one worker both READs lie with the pipe when the cancel takes the first. Its number is woken with the second.
 #[test]
 fn bytes_after_a_cancel_are_the_next_reads_ten_thousand_times(rt: HostRuntime) -> Result<(), Fail> {
     let mut pair = Pair::new(rt, rt.alloc(), 1, 0, Open, NoClock)?;
-    let was_so = cancels_often(&mut pair, &rt, rt.alloc());
-    assert!(rt; ends(pair, &rt, was_so)?);
+    for round in 0..10_000u32 {
+        assert!(rt; cancels_the_first(&mut pair, &rt, rt.alloc(), round)?);
+        assert!(rt; serves_the_second(&mut pair, &rt, rt.alloc(), round)?);
+    }
+    assert!(rt; reports(pair, &rt, &[""])?);
     Ok(())
 }
 
@@ -327,23 +273,15 @@ fn closes<R: Wait>(
     Ok(is_answered)
 }
 
-/// The same at each of 64 pipes.
-fn closes_all<R: Wait>(pair: &mut Pair<NoClock>, rt: &R, alloc: Global) -> Result<bool, Fail> {
-    for pipe in 0..64u8 {
-        if !closes(pair, rt, alloc, pipe)? {
-            return Ok(false);
-        }
-    }
-    Ok(true)
-}
-
 /// Each READ is answered by the end of its pipe, whether it lies there or comes later. Each runtime has 64 pipes.
 #[test]
 fn a_close_wakes_each_read_ten_thousand_times(rt: HostRuntime) -> Result<(), Fail> {
     for _runtime in 0..157u32 {
         let mut pair = Pair::new(rt, rt.alloc(), 2, 0, Open, NoClock)?;
-        let was_so = closes_all(&mut pair, &rt, rt.alloc());
-        assert!(rt; ends(pair, &rt, was_so)?);
+        for pipe in 0..64u8 {
+            assert!(rt; closes(&mut pair, &rt, rt.alloc(), pipe)?);
+        }
+        assert!(rt; reports(pair, &rt, &[""])?);
     }
     Ok(())
 }
@@ -362,8 +300,8 @@ fn waits_for_three<R: Wait>(pair: &mut Pair<NoClock>, rt: &R) -> Result<bool, Fa
 #[test]
 fn a_submission_waits_for_so_many_completions(rt: HostRuntime) -> Result<(), Fail> {
     let mut pair = Pair::new(rt, rt.alloc(), 1, 0, Open, NoClock)?;
-    let was_so = waits_for_three(&mut pair, &rt);
-    assert!(rt; ends(pair, &rt, was_so)?);
+    assert!(rt; waits_for_three(&mut pair, &rt)?);
+    assert!(rt; reports(pair, &rt, &[""])?);
     Ok(())
 }
 
@@ -376,7 +314,7 @@ fn ends_asleep<R: Threads + Wait + Clock + Copy + Send + 'static>(
     for _runtime in 0..2_500u32 {
         let pair = Pair::new(rt, alloc, workers, 0, Open, NoClock)?;
         thread::sleep(&rt, Duration::from_micros(500));
-        if !ends(pair, &rt, Ok(true))? {
+        if !reports(pair, &rt, &[""])? {
             return Ok(false);
         }
     }

@@ -1,9 +1,9 @@
 use Rattle.std.proofs.Common.{◌++◌, ◌∷◌, [], ap, arith, inl, inr, refl, length, length-append, map, sym, ◌∙◌}
-use Rattle.std.proofs.lemmas.List.{append-nil}
+use Rattle.std.proofs.lemmas.List.{append-nil, nil_from_length}
 use Rattle.std.proofs.lemmas.Result.{err_from_is_err_and}
 use Rattle.script.specs.Rows.{rows_of}
 use Rattle.checks.specs.TableFiles.{count_text, tables_text}
-use Rattle.checks.proofs.Parts.{alone, count_is, fault_of_part, none_of, nothing_before, several, table_further, tables_more}
+use Rattle.checks.proofs.Parts.{alone, count_is, fault_of_part, nothing_before, several, table_further, tables_more}
 use Rattle.checks.proofs.table_files.read_tables.Goals as goal
 
 pub loop-part-preserved : goal.loop-part-preserved
@@ -35,7 +35,7 @@ returns-then-count-eq0-clause-found c =
 
 pub returns-then-rest-eq0-clause-found : goal.returns-then-rest-eq0-clause-found
 returns-then-rest-eq0-clause-found c =
-    several c.args.script.now c.loop-part.tables _ c.loop-part.rest.now c.loop-part.invariant.are (λ e. c.if-count-eq0.false (c.len-count.ensures ∙ e)) c.loop-part.invariant.text (inl (none_of _ c.if-rest-eq0.true))
+    several c.args.script.now c.loop-part.tables _ c.loop-part.rest.now c.loop-part.invariant.are (λ e. c.if-count-eq0.false (c.len-count.ensures ∙ e)) c.loop-part.invariant.text (inl (nil_from_length _ c.if-rest-eq0.true))
 
 pub returns-then-branch-clause-found : goal.returns-then-branch-clause-found
 returns-then-branch-clause-found c =

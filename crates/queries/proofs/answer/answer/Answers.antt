@@ -2,7 +2,8 @@ use Rattle.std.proofs.Common.{map}
 use Rattle.std.proofs.lemmas.Result.{err_from_is_err_and}
 use Rattle.queries.specs.Given.{given_of}
 use Rattle.queries.proofs.Lines.{said_of, unsaid}
-use Rattle.queries.proofs.Problems.{answered, explained, of_script_fault, reads_of}
+use Rattle.commands.proofs.Printing.{reads_of}
+use Rattle.queries.proofs.Problems.{answered, explained, of_script_fault}
 use Rattle.queries.proofs.answer.answer.Goals as goal
 
 pub returns-in_err-script-clause-explains : goal.returns-in_err-script-clause-explains

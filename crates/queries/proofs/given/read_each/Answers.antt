@@ -1,5 +1,6 @@
 use Rattle.std.proofs.Common.{refl, sym, ◌∙◌}
-use Rattle.queries.proofs.Gone.{none_of, read_all_of, read_further}
+use Rattle.std.proofs.lemmas.List.{nil_from_length}
+use Rattle.queries.proofs.Gone.{read_all_of, read_further}
 use Rattle.queries.proofs.given.read_each.Goals as goal
 
 pub loop-name-preserved : goal.loop-name-preserved
@@ -9,4 +10,4 @@ loop-name-preserved g c =
 
 pub returns-clause-read : goal.returns-clause-read
 returns-clause-read g c =
-    read_all_of (λ t. (t.0.now, g.T.Read.remaining t.1)) c.args.tables.items c.loop-name.left.items c.loop-name.given.items _ (none_of _ (sym (c.loop-name.left.ok.0) ∙ c.in_default.ensures.cases.0)) c.reverse.ensures.items c.loop-name.invariant
+    read_all_of (λ t. (t.0.now, g.T.Read.remaining t.1)) c.args.tables.items c.loop-name.left.items c.loop-name.given.items _ (nil_from_length _ (sym (c.loop-name.left.ok.0) ∙ c.in_default.ensures.cases.0)) c.reverse.ensures.items c.loop-name.invariant

@@ -1,5 +1,5 @@
 use Rattle.std.proofs.Common.{Some, refl}
-use Rattle.script.specs.declared.act.Act.TheVariants as act
+use Rattle.script.specs.declared.act.Act.{Act}
 use Rattle.script.proofs.HomesRead.{home_is}
 use Rattle.script_run.proofs.HandSteps.{carries_wait, went_then, went_same, tried_more, ran_out}
 use Rattle.script_run.proofs.lines.wait.Goals as goal
@@ -21,8 +21,8 @@ loop-try-preserved g c =
     let looked = went_then c.loop-try.hand c.take_all.new.self c.sees_reply.new.self c.take_all.ensures c.sees_reply.ensures.went in
     record {
       went = went_then c.args.hand.now c.loop-try.hand c.wait.new.hand c.loop-try.invariant.went (went_then c.loop-try.hand c.sees_reply.new.self c.wait.new.hand looked c.wait.ensures);
-      tried = tried_more script (act.Wait c.args.place) c.loop-try._try c.args.hand.now c.loop-try.hand c.take_all.new.self c.sees_reply.new.self c.wait.new.hand c.loop-try.invariant.tried c.take_all.ensures (c.in-Some.req, home, c.sees_reply.ensures.vain c.if-sees_reply.false) c.wait.ensures;
+      tried = tried_more script (Act.Wait c.args.place) c.loop-try._try c.args.hand.now c.loop-try.hand c.take_all.new.self c.sees_reply.new.self c.wait.new.hand c.loop-try.invariant.tried c.take_all.ensures (c.in-Some.req, home, c.sees_reply.ensures.vain c.if-sees_reply.false) c.wait.ensures;
     }
 
 pub returns-clause-stuck : goal.returns-clause-stuck
-returns-clause-stuck g c = ran_out c.args.stage.now.script.now (act.Wait c.args.place) c.args.stage.now.turns c.loop-try._try c.args.place c.args.hand.now c.loop-try.hand c.loop-try.auto._try-end c.loop-try-test.false refl c.loop-try.invariant.tried
+returns-clause-stuck g c = ran_out c.args.stage.now.script.now (Act.Wait c.args.place) c.args.stage.now.turns c.loop-try._try c.args.place c.args.hand.now c.loop-try.hand c.loop-try.auto._try-end c.loop-try-test.false refl c.loop-try.invariant.tried
