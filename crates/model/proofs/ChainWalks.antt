@@ -68,8 +68,7 @@ module _ (xs : List Request) where
 
 severs_parts : (a : Option Entry) (b : Option ℤ) → severs_by a b ≡ true → (e : Entry) × (res : ℤ) × (a ≡ Some e) × (b ≡ Some res) × (severs e res ≡ true)
 severs_parts (Some e) (Some res) is = (e, res, refl, refl, is)
-severs_parts (Some e) None is = absurd (true≢false (sym is))
-severs_parts None b is = absurd (true≢false (sym is))
+severs_parts _ _ is = absurd (true≢false (sym is))
 
 pub severs_at_by : (xs : List Request) (k : ℕ) → severs_at xs k ≡ true → (e : Entry) × (res : ℤ) × (placed_in xs k ≡ Some e) × (reply_in_of (slice_get xs k) ≡ Some res) × (severs e res ≡ true)
 severs_at_by xs k is = severs_parts (placed_in xs k) (reply_in_of (slice_get xs k)) is

@@ -25,11 +25,7 @@ use Rattle.model.proofs.TimerEvents.{armed_unreplied}
 
 answered_staged : (p : Phase) → is_replied p ≡ is_answered (stage_of p)
 answered_staged unborn = refl
-answered_staged waits = refl
-answered_staged runs = refl
-answered_staged (armed d) = refl
-answered_staged (replied c res) = refl
-answered_staged (reaped c res) = refl
+answered_staged _ = refl
 
 abbrev one_if : Bool → ℕ
 one_if b = cond b 1 0

@@ -67,11 +67,9 @@ blocks_pending d None is = is
 blocks_pending d (Some x) is = and_left _ _ is
 
 runs_pending_at : (s : Stage) → is_running (Some s) ≡ true → is_pending s ≡ true
-runs_pending_at Runs is = refl
-runs_pending_at Waits is = refl
-runs_pending_at (Armed d) is = refl
 runs_pending_at (Replied res) is = is
 runs_pending_at (Reaped res) is = is
+runs_pending_at _ is = refl
 
 runs_pending : (o : Option Request) → runs_of o ≡ true → pending_of o ≡ true
 runs_pending None is = is

@@ -29,11 +29,7 @@ reply_as (Some s) = reply_at s
 
 reply_of_stage : (p : Phase) → reply_in p ≡ reply_as (stage_of p)
 reply_of_stage unborn = refl
-reply_of_stage waits = refl
-reply_of_stage runs = refl
-reply_of_stage (armed d) = refl
-reply_of_stage (replied c res) = refl
-reply_of_stage (reaped c res) = refl
+reply_of_stage _ = refl
 
 reply_as_at : (o : Option Request) → reply_as (stage_at o) ≡ reply_in_of o
 reply_as_at None = refl

@@ -50,23 +50,11 @@ pub record Calm (h : List Event) (e : Event) : Type 0 where
   pub shut : was_shut (e ∷ h) ≡ was_shut h
 
 pub calm : (e : Event) → is_step e ≡ true → (h : List Event) → Calm h e
-calm (Begin r) w h = record { counts = λ j. omega arith; flows = λ p. refl; clock = refl; shut = refl }
-calm (Park r) w h = record { counts = λ j. omega arith; flows = λ p. refl; clock = refl; shut = refl }
-calm (Take c t) w h = record { counts = λ j. omega arith; flows = λ p. refl; clock = refl; shut = refl }
-calm (Miss c t) w h = record { counts = λ j. omega arith; flows = λ p. refl; clock = refl; shut = refl }
-calm (Arm r d) w h = record { counts = λ j. omega arith; flows = λ p. refl; clock = refl; shut = refl }
-calm (Expire r) w h = record { counts = λ j. omega arith; flows = λ p. refl; clock = refl; shut = refl }
-calm (Count r) w h = record { counts = λ j. omega arith; flows = λ p. refl; clock = refl; shut = refl }
-calm (Fire l t) w h = record { counts = λ j. omega arith; flows = λ p. refl; clock = refl; shut = refl }
-calm (FireMiss l t) w h = record { counts = λ j. omega arith; flows = λ p. refl; clock = refl; shut = refl }
-calm (Settle l) w h = record { counts = λ j. omega arith; flows = λ p. refl; clock = refl; shut = refl }
-calm (Sever r) w h = record { counts = λ j. omega arith; flows = λ p. refl; clock = refl; shut = refl }
-calm (Reap r) w h = record { counts = λ j. omega arith; flows = λ p. refl; clock = refl; shut = refl }
-calm (Cut r) w h = record { counts = λ j. omega arith; flows = λ p. refl; clock = refl; shut = refl }
 calm (Submit r e bytes last) w h = absurd (true≢false (sym w))
 calm (Reply r res data') w h = absurd (true≢false (sym w))
 calm (Tick n) w h = absurd (true≢false (sym w))
 calm Shut w h = absurd (true≢false (sym w))
+calm _ w h = record { counts = λ j. omega arith; flows = λ p. refl; clock = refl; shut = refl }
 
 pub same_setup : (m : Machine) (i : ℕ) (ys : List Request) → setup_of (put_row m i ys) ≡ setup_of m
 same_setup m i ys = ap (λ (n : ℕ). let s : Setup = record { rings = n; caps = (setup_of m).caps } in s) (length-set m.rings i ys)

@@ -34,22 +34,7 @@ and_so b c t e w = rw (w, eq-eqb c.ring t.ring e) refl
 
 none_come : (clock : ℕ) (e : Event) → is_step e ≡ true → may_step clock [] e ≡ false
 none_come clock (Begin r) w = refl
-none_come clock (Park r) w = refl
-none_come clock (Arm r d) w = refl
-none_come clock (Expire r) w = refl
-none_come clock (Count r) w = refl
-none_come clock (Settle r) w = refl
-none_come clock (Sever r) w = refl
-none_come clock (Reap r) w = refl
-none_come clock (Cut r) w = refl
-none_come clock (Take c t) w = refl
-none_come clock (Miss c t) w = refl
-none_come clock (Fire c t) w = refl
-none_come clock (FireMiss c t) w = refl
-none_come clock (Submit r e bytes last) w = refl
-none_come clock (Reply r res data') w = refl
-none_come clock (Tick n) w = refl
-none_come clock Shut w = refl
+none_come clock _ w = refl
 
 module _ (m : Machine) (h : List Event) (a : Agrees h m) where
   abbrev at : Event → List Request
@@ -69,10 +54,7 @@ module _ (m : Machine) (h : List Event) (a : Agrees h m) where
   step_may (Miss c t) b = subst (λ z. MayCome (setup_of m) h (Miss c z)) (named c.ring t (one_ring _ c t b)) (miss_may m h a c.ring c.k t.k (and_left (may_miss (row m.rings c.ring) c.k t.k) _ b))
   step_may (Fire c t) b = subst (λ z. MayCome (setup_of m) h (Fire c z)) (named c.ring t (one_ring _ c t b)) (fire_may m h a c.ring c.k t.k (and_left (may_fire m.clock (row m.rings c.ring) c.k t.k) _ b))
   step_may (FireMiss c t) b = subst (λ z. MayCome (setup_of m) h (FireMiss c z)) (named c.ring t (one_ring _ c t b)) (fire_miss_may m h a c.ring c.k t.k (and_left (may_fire_miss m.clock (row m.rings c.ring) c.k t.k) _ b))
-  step_may (Submit r e bytes last) b = absurd (true≢false (sym b))
-  step_may (Reply r res data') b = absurd (true≢false (sym b))
-  step_may (Tick n) b = absurd (true≢false (sym b))
-  step_may Shut b = absurd (true≢false (sym b))
+  step_may _ b = absurd (true≢false (sym b))
 
   may_step_is : (e : Event) → is_step e ≡ true → MayCome (setup_of m) h e → may_step m.clock (at e) e ≡ true
   may_step_is (Begin r) w y = may_begin_is m h a r.ring r.k y
@@ -88,10 +70,7 @@ module _ (m : Machine) (h : List Event) (a : Agrees h m) where
   may_step_is (Miss c t) w y = let e = aimed (is_all y.1.0.op) h c t y.1.2 in and_so _ c t e (may_miss_is m h a c.ring c.k t.k (subst (λ z. MayCome (setup_of m) h (Miss c z)) (sym (named c.ring t e)) y))
   may_step_is (Fire c t) w y = let e = sym y.2.1 in and_so _ c t e (may_fire_is m h a c.ring c.k t.k (subst (λ z. MayCome (setup_of m) h (Fire c z)) (sym (named c.ring t e)) y))
   may_step_is (FireMiss c t) w y = let e = sym y.2.1 in and_so _ c t e (may_fire_miss_is m h a c.ring c.k t.k (subst (λ z. MayCome (setup_of m) h (FireMiss c z)) (sym (named c.ring t e)) y))
-  may_step_is (Submit r e bytes last) w y = absurd (true≢false (sym w))
-  may_step_is (Reply r res data') w y = absurd (true≢false (sym w))
-  may_step_is (Tick n) w y = absurd (true≢false (sym w))
-  may_step_is Shut w y = absurd (true≢false (sym w))
+  may_step_is _ w y = absurd (true≢false (sym w))
 
   step_kept : (e : Event) → may_step m.clock (at e) e ≡ true → m.shut ≡ shut_for e → Agrees (e ∷ h) (put_row m (ring_of e) (put_step (at e) e))
   step_kept (Begin r) b s = begin_kept m h a r.ring r.k b s
@@ -107,10 +86,7 @@ module _ (m : Machine) (h : List Event) (a : Agrees h m) where
   step_kept (Miss c t) b s = subst (λ z. Agrees (Miss c z ∷ h) (put_row m c.ring (put_step (row m.rings c.ring) (Miss c z)))) (named c.ring t (one_ring _ c t b)) (miss_kept m h a c.ring c.k t.k (and_left (may_miss (row m.rings c.ring) c.k t.k) _ b) s)
   step_kept (Fire c t) b s = subst (λ z. Agrees (Fire c z ∷ h) (put_row m c.ring (put_step (row m.rings c.ring) (Fire c z)))) (named c.ring t (one_ring _ c t b)) (fire_kept m h a c.ring c.k t.k (and_left (may_fire m.clock (row m.rings c.ring) c.k t.k) _ b) s)
   step_kept (FireMiss c t) b s = subst (λ z. Agrees (FireMiss c z ∷ h) (put_row m c.ring (put_step (row m.rings c.ring) (FireMiss c z)))) (named c.ring t (one_ring _ c t b)) (fire_miss_kept m h a c.ring c.k t.k (and_left (may_fire_miss m.clock (row m.rings c.ring) c.k t.k) _ b) s)
-  step_kept (Submit r e bytes last) b s = absurd (true≢false (sym b))
-  step_kept (Reply r res data') b s = absurd (true≢false (sym b))
-  step_kept (Tick n) b s = absurd (true≢false (sym b))
-  step_kept Shut b s = absurd (true≢false (sym b))
+  step_kept _ b s = absurd (true≢false (sym b))
 
 -- as the code meets it
 pub step_decides : (e : Event) (i : ℕ) → i ≡ ring_of e → is_step e ≡ true → IsDecided e i (λ m r. may_step m.clock r e) (λ r. put_step r e)

@@ -48,10 +48,7 @@ armed_unreplied p d e r = subst IsReplied e r
 pub idle_unreplied : (p : Phase) → IsIdle p → ¬ IsReplied p
 idle_unreplied waits i r = r
 idle_unreplied (armed d) i r = r
-idle_unreplied unborn i r = i
-idle_unreplied runs i r = i
-idle_unreplied (replied c res) i r = i
-idle_unreplied (reaped c res) i r = i
+idle_unreplied _ i r = i
 
 head : (e : Entry) (b : Bool) → is_link_timeout e.op ≡ b → is_link_timeout (cond (b && true) (record e { op = Invalid }) e).op ≡ true → ⊥
 head e true is w = true≢false (sym w)
