@@ -1,24 +1,7 @@
 -- The events of a cancel: Take, Miss.
 use Rattle.std.proofs.Common.{◌≡◌, ℕ, ◌<◌, ◌==◌, ◌&&◌, not, nat_lt, Bool, true, false, cond, List, ◌∷◌, Option, Some, None, refl, sym, ap, ◌∙◌, true≢false, eq-eqb, arith}
-use Rattle.std.specs.List.{slice_get}
+use Rattle.model.proofs.Common.{slice_get, Entry, Req, Event, Take, Miss, Request, runs, took, submission, phase, hit, fired, data_of, IsReplied, is_all, AimsAt, MayHit, Catch, catch_in, with_took, with_missed, MayCome, Machine, setup_of, found_in, Seen, seen, seen_of, stage_of, stage_at, placed_in, wanted, any_below, Agrees, put_stage, put_found, is_running, is_idle, cancelled, is_none, aims_at, aims_as, comes_upon, may_take, may_miss, not_true, and_left, and_right, missed_in}
 use Rattle.std.proofs.lemmas.Bool.{ltb-true, lt-ltb}
-use Rattle.entry.specs.Entry.{Entry}
-use Rattle.history.specs.declared.req.Req.{Req}
-use Rattle.history.specs.declared.event.Event.{Event}
-use Rattle.history.specs.declared.event.Event.TheVariants.{Take, Miss}
-use Rattle.model.specs.declared.request.Request.{Request}
-use Rattle.history.specs.History.{runs, took, submission, phase, hit, fired, data_of, IsReplied}
-use Rattle.history.specs.Answers.{is_all, AimsAt, MayHit}
-use Rattle.history.specs.State.{Catch, catch_in, with_took, with_missed}
-use Rattle.history.specs.Legal.{MayCome}
-use Rattle.model.specs.Machine.{Machine, setup_of}
-use Rattle.model.specs.Seen.{found_in, Seen, seen, seen_of, stage_of, stage_at, placed_in}
-use Rattle.model.specs.Decides.{wanted, any_below}
-use Rattle.model.specs.Agrees.{Agrees}
-use Rattle.model.specs.Moves.{put_stage, put_found, is_running, is_idle, cancelled}
-use Rattle.model.specs.Cancels.{is_none, aims_at, aims_as, comes_upon, may_take, may_miss}
-use Rattle.history.proofs.Requests.{not_true, and_left, and_right}
-use Rattle.history.proofs.Catches.{missed_in}
 use Rattle.model.proofs.RequestLists.{apart}
 use Rattle.model.proofs.RequestWrites.{some_at, put_length}
 use Rattle.model.proofs.Phases.{runs_from, idle_from, from_idle}

@@ -1,13 +1,6 @@
 -- What a cancel has come to, and what it replies by that.
 use Rattle.std.proofs.Common.{◌≡◌, ℕ, ◌==◌, nat_lt, Bool, true, false, cond, ℤ, pos, negsuc, List, [], ◌∷◌, length, refl, sym, ap, ◌∙◌, subst, ⊎_elim, true≢false, eqb-true, arith}
-use Rattle.history.specs.declared.req.Req.{Req}
-use Rattle.history.specs.declared.event.Event.{Event}
-use Rattle.history.specs.History.{Hit, nothing}
-use Rattle.history.specs.Answers.{now, later, NoneLeft, AllTried, CancelAnswers, CancelBy}
-use Rattle.history.specs.State.{Catch, none_yet, catch_in}
-use Rattle.model.specs.Cancels.{is_none, answer_all, answer_one}
-use Rattle.history.proofs.Requests.{bool_cases, and_left, and_right}
-use Rattle.history.proofs.Catches.{tally_in, uncaught, one_answer, answers_one, one_answers}
+use Rattle.model.proofs.Common.{Req, Event, Hit, nothing, now, later, NoneLeft, AllTried, CancelAnswers, CancelBy, Catch, none_yet, catch_in, is_none, answer_all, answer_one, bool_cases, and_left, and_right, tally_in, uncaught, one_answer, answers_one, one_answers}
 
 no_length : (ms : List ℕ) → length ms ≡ 0 → ms ≡ []
 no_length [] e = refl

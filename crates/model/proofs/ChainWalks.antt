@@ -1,12 +1,6 @@
 -- What the walks along a chain find.
 use Rattle.std.proofs.Common.{◌≡◌, ℕ, zero, suc, ◌<◌, ◌≤◌, ◌==◌, ◌||◌, not, Bool, true, false, ℤ, List, Option, Some, None, refl, sym, ap, ◌∙◌, ⊎_elim, true≢false, eqb-true, eq-eqb, arith}
-use Rattle.std.specs.List.{slice_get}
-use Rattle.entry.specs.Entry.{Entry}
-use Rattle.model.specs.declared.request.Request.{Request}
-use Rattle.history.specs.Chains.{joins, severs}
-use Rattle.model.specs.Seen.{handed_in, placed_in}
-use Rattle.model.specs.Decides.{reply_in_of, severs_by, severs_at, severed_in, pending_of, chain_done}
-use Rattle.history.proofs.Requests.{bool_cases, not_true, and_left, and_right}
+use Rattle.model.proofs.Common.{slice_get, Entry, Request, joins, severs, handed_in, placed_in, reply_in_of, severs_by, severs_at, severed_in, pending_of, chain_done, bool_cases, not_true, and_left, and_right}
 
 -- every entry from m on joins the next, up to k
 abbrev pub Joined : List Request → ℕ → ℕ → Type 0

@@ -1,21 +1,8 @@
 -- The event of a TIMEOUT that has counted enough completions: Count.
 use Rattle.std.proofs.Common.{◌≡◌, ℕ, zero, suc, ◌+◌, ◌-◌, ◌<◌, ◌≤◌, nat_lt, nat_le, Bool, true, false, cond, List, ◌∷◌, length, take, drop, get_or, Option, Some, None, refl, sym, ap, ◌∙◌, subst, true≢false, eq-eqb, ltb-true, lt-ltb, leb-true, le-leb, length-drop, get_or-drop, take_all, arith}
-use Rattle.std.specs.List.{slice_get, filter}
+use Rattle.model.proofs.Common.{slice_get, filter, slice_get_within, slice_get-get_or, Entry, Req, Event, Count, Request, placed, MayCome, count_of, Machine, setup_of, seen, seen_of, stage_of, stage_at, placed_in, Agrees, put_stage, is_armed, is_answered, is_done, later_answered, counts_up, may_count, counted, and_left, and_right}
 use Rattle.std.proofs.lemmas.List.Filters.{length-filter_more}
-use Rattle.std.proofs.lemmas.Option.{slice_get_within, slice_get-get_or}
-use Rattle.entry.specs.Entry.{Entry}
-use Rattle.history.specs.declared.req.Req.{Req}
-use Rattle.history.specs.declared.event.Event.{Event}
-use Rattle.history.specs.declared.event.Event.TheVariants.{Count}
-use Rattle.model.specs.declared.request.Request.{Request}
 use Rattle.history.specs.History.{Phase, unborn, waits, runs, armed, replied, reaped, phase, submits, is_replied, replies_from, later_replies}
-use Rattle.history.specs.Chains.{placed}
-use Rattle.history.specs.Legal.{MayCome, count_of}
-use Rattle.model.specs.Machine.{Machine, setup_of}
-use Rattle.model.specs.Seen.{seen, seen_of, stage_of, stage_at, placed_in}
-use Rattle.model.specs.Agrees.{Agrees}
-use Rattle.model.specs.Moves.{put_stage, is_armed, is_answered, is_done, later_answered, counts_up, may_count, counted}
-use Rattle.history.proofs.Requests.{and_left, and_right}
 use Rattle.model.proofs.Phases.{armed_from}
 use Rattle.model.proofs.RequestReading.{stage_is, placed_is}
 use Rattle.model.proofs.RequestWrites.{some_at}

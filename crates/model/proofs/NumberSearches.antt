@@ -1,18 +1,7 @@
 -- A search over the numbers in a list is a search over all numbers, where the list has those that count.
 use Rattle.std.proofs.Common.{◌≡◌, ℕ, zero, suc, ◌<◌, ◌≤◌, ◌==◌, ◌&&◌, ◌||◌, not, nat_lt, Bool, true, false, List, [], ◌∷◌, length, Option, Some, None, refl, sym, ap, ◌∙◌, subst, ⊎_elim, true≢false, eqb-true, eq-eqb, arith}
-use Rattle.std.specs.List.{slice_get, list_any}
-use Rattle.std.proofs.lemmas.Option.{slice_get_past}
+use Rattle.model.proofs.Common.{slice_get, list_any, slice_get_past, Op, Request, Stage, Waits, Runs, Armed, Replied, Reaped, is_pending, Catch, untried, pending_of, any_below, lists, Listed, blocks, wanted, severed_in, chain_done, drains_of, held_back, clear_in, is_running, runs_of, bool_cases, and_left, and_right}
 use Rattle.std.proofs.lemmas.Bool.{ltb-true, lt-ltb}
-use Rattle.entry.specs.declared.op.Op.{Op}
-use Rattle.model.specs.declared.request.Request.{Request}
-use Rattle.model.specs.declared.request.Stage.{Stage}
-use Rattle.model.specs.declared.request.Stage.TheVariants.{Waits, Runs, Armed, Replied, Reaped}
-use Rattle.model.specs.Seen.{is_pending}
-use Rattle.history.specs.State.{Catch}
-use Rattle.model.specs.Cancels.{untried}
-use Rattle.model.specs.Decides.{pending_of, any_below, lists, Listed, blocks, wanted, severed_in, chain_done, drains_of, held_back, clear_in}
-use Rattle.model.specs.Moves.{is_running, runs_of}
-use Rattle.history.proofs.Requests.{bool_cases, and_left, and_right}
 
 -- one passes
 pub any_at : (p : ℕ → Bool) (n m : ℕ) → m < n → p m ≡ true → any_below p n ≡ true

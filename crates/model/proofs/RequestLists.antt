@@ -2,18 +2,7 @@
 use Rattle.std.proofs.Common.{◌≡◌, ℕ, zero, suc, ◌<◌, ◌==◌, ◌||◌, not, Bool, true, false, cond, List, [], ◌∷◌, ◌++◌, length, set, get_or, Some, None, refl, sym, ap, ◌∙◌, subst, ⊎_elim, true≢false, eqb-true, eq-eqb, arith}
 use Prim.Native.Nat.compare
 use lib.Dec.{compare_is_eq}
-use Rattle.std.specs.List.{slice_get, filter}
-use Rattle.std.specs.Prelude.{OnOk, OnErr}
-use Rattle.std.specs.declared.result.Result.{Result}
-use Rattle.std.specs.declared.result.Result.TheVariants.{Ok, Err}
-use Rattle.std.proofs.lemmas.List.{set-get_or}
-use Rattle.std.proofs.lemmas.Option.{slice_get_read}
-use Rattle.model.specs.declared.request.Request.{Request}
-use Rattle.history.specs.State.{Catch}
-use Rattle.model.specs.Seen.{is_pending}
-use Rattle.model.specs.Decides.{pending_of, lists, Listed}
-use Rattle.model.specs.Moves.{put, put_at, put_found}
-use Rattle.history.proofs.Requests.{bool_cases, not_true}
+use Rattle.model.proofs.Common.{slice_get, filter, OnOk, OnErr, Result, Ok, Err, set-get_or, slice_get_read, Request, Catch, is_pending, pending_of, lists, Listed, put, put_at, put_found, bool_cases, not_true}
 
 pub apart : (i j : ℕ) → ¬ (i ≡ j) → (i == j) ≡ false
 apart i j n = not_true (i == j) (λ e. n (eqb-true i j e))

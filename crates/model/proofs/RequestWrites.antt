@@ -1,13 +1,6 @@
 -- Writing one request of a ring.
 use Rattle.std.proofs.Common.{◌≡◌, ℕ, Bool, true, false, List, length, Option, Some, None, refl, sym, ◌∙◌, true≢false, ℤ}
-use Rattle.std.specs.List.{slice_get}
-use Rattle.model.specs.declared.request.Request.{Request}
-use Rattle.model.specs.declared.request.Stage.{Stage}
-use Rattle.model.specs.declared.request.Stage.TheVariants.{Replied, Reaped}
-use Rattle.std.proofs.Math.ListN.{length-set}
-use Rattle.history.specs.State.{Catch}
-use Rattle.model.specs.Seen.{stage_at}
-use Rattle.model.specs.Moves.{put, put_at, put_stage, put_found, put_fired, put_taken, put_reaped, taken_out}
+use Rattle.model.proofs.Common.{slice_get, Request, Stage, Replied, Reaped, length-set, Catch, stage_at, put, put_at, put_stage, put_found, put_fired, put_taken, put_reaped, taken_out}
 
 -- a request whose stage passes a test is there
 pub some_at : (p : Option Stage → Bool) → p None ≡ false → (o : Option Request) → p (stage_at o) ≡ true → (x : Request) × (o ≡ Some x)

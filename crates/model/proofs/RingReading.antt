@@ -1,17 +1,7 @@
 -- Reading the requests of a ring.
 use Rattle.std.proofs.Common.{◌≡◌, ℕ, zero, suc, ◌-◌, ◌<◌, ◌==◌, ◌&&◌, ◌⊎◌, inl, inr, not, cond, sub-one, Bool, true, false, List, length, Option, Some, None, get_or, refl, sym, ap, subst, ◌∙◌, arith}
-use Rattle.std.specs.List.{slice_get}
-use Rattle.std.proofs.lemmas.Bool.{and_parts}
-use Rattle.std.proofs.lemmas.Option.{slice_get_read}
-use Rattle.entry.specs.declared.op.Op.{Op}
-use Rattle.entry.specs.declared.op.Op.TheVariants.{Invalid}
-use Rattle.entry.specs.Entry.{Entry}
+use Rattle.model.proofs.Common.{slice_get, and_parts, slice_get_read, Op, Invalid, Entry, Request, Submission, joins, hosts, is_link_timeout, placed_behind, placed_from, reply_at, handed_of, handed_at, handed_in, placed_in, with_op, reply_in_of, severs_by, severs_at, severed_in, pending_of, chain_done}
 use Rattle.entry.specs.Table.{fits, fits_op}
-use Rattle.model.specs.declared.request.Request.{Request}
-use Rattle.history.specs.History.{Submission}
-use Rattle.history.specs.Chains.{joins, hosts, is_link_timeout, placed_behind, placed_from}
-use Rattle.model.specs.Seen.{reply_at, handed_of, handed_at, handed_in, placed_in, with_op}
-use Rattle.model.specs.Decides.{reply_in_of, severs_by, severs_at, severed_in, pending_of, chain_done}
 
 pub kept : (xs : List Request) (k : ℕ) (x : Request) → k < length xs → x ≡ get_or xs k x → slice_get xs k ≡ Some x
 kept xs k x lt is = slice_get_read xs (length xs) k x refl lt is

@@ -1,25 +1,6 @@
 -- What is kept goes on agreeing with the history when the requests of one ring are written.
 use Rattle.std.proofs.Common.{◌≡◌, ℕ, zero, suc, ◌<◌, ◌≤◌, ◌==◌, ◌≢◌, Bool, true, false, cond, List, [], ◌∷◌, length, get_or, set, Some, refl, sym, ap, ◌∙◌, subst, ⊎_elim, true≢false, eqb-true, eq-eqb, get_or-set_same, get_or-set_other, arith}
-use Rattle.std.specs.Prelude.{IfOk, OnErr}
-use Rattle.std.specs.declared.result.Result.{Result}
-use Rattle.std.specs.declared.result.Result.TheVariants.{Ok, Err}
-use Rattle.std.proofs.lemmas.List.{set-get_or}
-use Rattle.std.specs.List.{slice_get}
-use Rattle.std.proofs.Math.ListN.{length-set}
-use Rattle.std.proofs.lemmas.Option.{slice_get_within}
-use Rattle.history.specs.declared.req.Req.{Req}
-use Rattle.history.specs.declared.event.Event.{Event}
-use Rattle.history.specs.declared.event.Event.TheVariants.{Submit, Begin, Park, Reply, Take, Miss, Tick, Arm, Expire, Count, Fire, FireMiss, Settle, Sever, Reap, Shut, Cut}
-use Rattle.model.specs.declared.request.Request.{Request}
-use Rattle.history.specs.History.{submits, clock_of, was_shut}
-use Rattle.history.specs.Pipes.{flow}
-use Rattle.history.specs.Legal.{Setup, MayCome, Legal, shut_for}
-use Rattle.model.specs.Machine.{Machine, setup_of}
-use Rattle.model.specs.Seen.{Seen, seen, seen_of}
-use Rattle.model.specs.Agrees.{PipeIs, Agrees, Carries, MayFollow, Decided}
-use Rattle.model.specs.Moves.{put, put_at}
-use Rattle.model.specs.Steps.{is_step}
-use Rattle.history.proofs.Requests.{bool_cases}
+use Rattle.model.proofs.Common.{IfOk, OnErr, Result, Ok, Err, set-get_or, slice_get, length-set, slice_get_within, Req, Event, Submit, Begin, Park, Reply, Take, Miss, Tick, Arm, Expire, Count, Fire, FireMiss, Settle, Sever, Reap, Shut, Cut, Request, submits, clock_of, was_shut, flow, Setup, MayCome, Legal, shut_for, Machine, setup_of, Seen, seen, seen_of, PipeIs, Agrees, Carries, MayFollow, Decided, put, put_at, is_step, bool_cases}
 use Rattle.model.proofs.RequestLists.{slice_get-set}
 use Rattle.model.proofs.RequestWrites.{put_length}
 

@@ -1,22 +1,7 @@
 -- The events that one request alone decides: Begin, Park, Sever, Reap, Cut.
 use Rattle.std.proofs.Common.{◌≡◌, ℕ, zero, suc, ◌-◌, ◌&&◌, not, true, false, cond, List, [], ◌∷◌, Option, Some, None, refl, sym, ap, ◌∙◌, subst, true≢false, eq-eqb, sub-one, arith}
-use Rattle.std.specs.List.{slice_get}
-use Rattle.history.specs.declared.req.Req.{Req}
-use Rattle.history.specs.declared.event.Event.{Event}
-use Rattle.history.specs.declared.event.Event.TheVariants.{Begin, Park, Sever, Reap, Cut}
-use Rattle.model.specs.declared.request.Request.{Request}
-use Rattle.model.specs.declared.request.Stage.{Stage}
-use Rattle.model.specs.declared.request.Stage.TheVariants.{Waits, Runs, Armed, Replied, Reaped}
-use Rattle.history.specs.History.{Phase, waits, runs, armed, replied, phase, reaped, unborn, after_reap, IsPending, IsReplied}
-use Rattle.history.specs.Chains.{previous, is_link_timeout_in, gate_of, Open, IsClear, is_timer}
-use Rattle.history.specs.Legal.{MayCome}
-use Rattle.model.specs.Machine.{Machine, setup_of}
-use Rattle.model.specs.Seen.{Seen, seen, seen_of, stage_of, stage_at, placed_in}
-use Rattle.model.specs.Decides.{severed_in, pending_of}
-use Rattle.model.specs.Agrees.{Agrees}
+use Rattle.model.proofs.Common.{slice_get, Req, Event, Begin, Park, Sever, Reap, Cut, Request, Stage, Waits, Runs, Armed, Replied, Reaped, Phase, waits, runs, armed, replied, phase, reaped, unborn, after_reap, IsPending, IsReplied, previous, is_link_timeout_in, gate_of, Open, IsClear, is_timer, MayCome, Machine, setup_of, Seen, seen, seen_of, stage_of, stage_at, placed_in, severed_in, pending_of, Agrees, put_stage, is_waits, is_running, placed_as, gate_in, open_in, may_begin, may_park, may_sever, may_reap, may_cut, put_reaped, taken_out, cancelled, is_replied, not_true, and_left, and_right}
 use Rattle.history.proofs.Untaken.{untaken}
-use Rattle.model.specs.Moves.{put_stage, is_waits, is_running, placed_as, gate_in, open_in, may_begin, may_park, may_sever, may_reap, may_cut, put_reaped, taken_out, cancelled, is_replied}
-use Rattle.history.proofs.Requests.{not_true, and_left, and_right}
 use Rattle.model.proofs.Phases.{waits_from, runs_from, replied_from, pending_as, pending_at, pending_from, from_pending}
 use Rattle.model.proofs.RequestReading.{stage_is, placed_is, placed_of, clear_is, was_clear, kept_before, severed_is, was_severed}
 use Rattle.model.proofs.RequestWrites.{some_at}

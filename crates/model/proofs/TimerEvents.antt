@@ -1,25 +1,7 @@
 -- The events of the timers: Arm, Expire, Fire, FireMiss, Settle.
 use Rattle.std.proofs.Common.{◌≡◌, ℕ, zero, suc, ◌+◌, ◌-◌, ◌<◌, ◌≤◌, ◌==◌, ◌&&◌, ◌||◌, not, Bool, true, false, cond, negsuc, List, ◌∷◌, Option, Some, None, inl, inr, refl, sym, ap, ◌∙◌, subst, ⊎_elim, true≢false, eqb-true, eq-eqb, arith}
-use Rattle.std.specs.List.{slice_get}
-use Rattle.std.proofs.lemmas.Option.{slice_get_within}
+use Rattle.model.proofs.Common.{slice_get, slice_get_within, Entry, Op, Invalid, Req, Event, Arm, Expire, Fire, FireMiss, Settle, Request, Armed, Replied, by_settle, Phase, unborn, waits, runs, armed, replied, reaped, submission, phase, hit, fired, data_of, clock_of, IsReplied, IsIdle, placed, placed_from, is_timeout, is_link_timeout, IsTarget, MayCome, ticks_of, IsDue, catch_in, Machine, setup_of, fired_of, Seen, seen, seen_of, stage_of, stage_at, placed_in, handed_at, Agrees, put, put_at, put_stage, put_fired, put_settled, is_waits, is_running, is_due, is_armed, is_idle, is_answered, placed_as, open_in, falls_due, arms, may_arm, may_expire, runs_out, may_fire, may_fire_miss, may_settle, cancelled, timed_out, bool_cases, not_true, and_left, and_right}
 use Rattle.std.proofs.lemmas.Bool.{le-leb}
-use Rattle.entry.specs.Entry.{Entry}
-use Rattle.entry.specs.declared.op.Op.{Op}
-use Rattle.entry.specs.declared.op.Op.TheVariants.{Invalid}
-use Rattle.history.specs.declared.req.Req.{Req}
-use Rattle.history.specs.declared.event.Event.{Event}
-use Rattle.history.specs.declared.event.Event.TheVariants.{Arm, Expire, Fire, FireMiss, Settle}
-use Rattle.model.specs.declared.request.Request.{Request}
-use Rattle.model.specs.declared.request.Stage.TheVariants.{Armed, Replied}
-use Rattle.history.specs.History.{by_settle, Phase, unborn, waits, runs, armed, replied, reaped, submission, phase, hit, fired, data_of, clock_of, IsReplied, IsIdle}
-use Rattle.history.specs.Chains.{placed, placed_from, is_timeout, is_link_timeout, IsTarget}
-use Rattle.history.specs.Legal.{MayCome, ticks_of, IsDue}
-use Rattle.history.specs.State.{catch_in}
-use Rattle.model.specs.Machine.{Machine, setup_of}
-use Rattle.model.specs.Seen.{fired_of, Seen, seen, seen_of, stage_of, stage_at, placed_in, handed_at}
-use Rattle.model.specs.Agrees.{Agrees}
-use Rattle.model.specs.Moves.{put, put_at, put_stage, put_fired, put_settled, is_waits, is_running, is_due, is_armed, is_idle, is_answered, placed_as, open_in, falls_due, arms, may_arm, may_expire, runs_out, may_fire, may_fire_miss, may_settle, cancelled, timed_out}
-use Rattle.history.proofs.Requests.{bool_cases, not_true, and_left, and_right}
 use Rattle.model.proofs.RequestLists.{slice_get-set, apart}
 use Rattle.model.proofs.RequestWrites.{some_at, put_length}
 use Rattle.model.proofs.Phases.{waits_from, runs_from, due_from, armed_from, idle_from, from_idle, answered_from, from_answered}

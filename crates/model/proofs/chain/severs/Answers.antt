@@ -1,6 +1,5 @@
 use Rattle.std.proofs.Common.{rules, ◌∙◌, ap, SFits, w32}
-use Rattle.std.proofs.lemmas.Int.{to_z-of_z}
-use Rattle.entry.specs.Entry.{fails_op}
+use Rattle.model.proofs.Common.{to_z-of_z, fails_op}
 use Rattle.model.proofs.RingReading.{severs_kept, placed_ops}
 use Rattle.model.proofs.chain.severs.Goals as goal
 

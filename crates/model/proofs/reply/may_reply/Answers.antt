@@ -1,7 +1,5 @@
 use Rattle.std.proofs.Common.{◌≡◌, ◌∙◌, sym, ap}
-use Rattle.history.specs.Answers.{now}
-use Rattle.model.specs.Seen.{handed_in, with_op}
-use Rattle.model.specs.Answers.{answer_in}
+use Rattle.model.proofs.Common.{now, handed_in, with_op, answer_in}
 use Rattle.model.proofs.PipeEnds.{signed}
 use Rattle.model.proofs.ReplyEvents.{answered_within}
 use Rattle.model.proofs.reply.may_reply.Goals as goal

@@ -1,6 +1,5 @@
 use Rattle.std.proofs.Common.{◌∙◌, sym, ap}
-use Rattle.model.specs.Content.{Content}
-use Rattle.model.specs.Ends.{end_as}
+use Rattle.model.proofs.Common.{Content, end_as}
 use Rattle.model.proofs.PipeEnds.{pipe_there, splice_there}
 use Rattle.model.proofs.splice.splice_from.Goals as goal
 

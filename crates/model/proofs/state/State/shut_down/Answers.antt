@@ -1,9 +1,5 @@
 use Rattle.std.proofs.Common.{rules, ◌≡◌, true, false, sym, ap, ◌∙◌, subst}
-use Rattle.std.specs.List.{list_any}
-use Rattle.history.specs.declared.event.Event.TheVariants.{Shut}
-use Rattle.model.specs.Machine.{Machine}
-use Rattle.model.specs.Agrees.{Carries}
-use Rattle.model.specs.Moves.{runs_in}
+use Rattle.model.proofs.Common.{list_any, Shut, Machine, Carries, runs_in}
 use Rattle.model.proofs.WideEvents.{shut_carries, shut_refuses}
 use Rattle.model.proofs.state.State.shut_down.Goals as goal
 
