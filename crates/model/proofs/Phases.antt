@@ -1,7 +1,7 @@
 -- What a stage tells of the phase.
 use Rattle.std.proofs.Common.{◌≡◌, ℕ, ◌≤◌, Bool, true, false, ℤ, Option, Some, None, refl, sym, true≢false}
 use Rattle.std.proofs.lemmas.Bool.{leb-true}
-use Rattle.model.proofs.Common.{Request, Stage, Cause, Phase, unborn, waits, runs, armed, replied, reaped, IsReplied, IsPending, IsIdle, is_pending, stage_of, stage_at, pending_of, is_waits, is_running, is_due, is_armed, is_idle, is_replied, is_answered}
+use Rattle.model.proofs.Common.{Request, Stage, Cause, Phase, waits, runs, armed, replied, reaped, IsReplied, IsPending, IsIdle, is_pending, stage_of, stage_at, pending_of, is_waits, is_running, is_due, is_armed, is_idle, is_replied, is_answered}
 
 pub waits_from : (p : Phase) → is_waits (stage_of p) ≡ true → p ≡ waits
 waits_from waits e = refl

@@ -1,6 +1,6 @@
 -- What is kept goes on agreeing with the history when the requests of one ring are written.
 use Rattle.std.proofs.Common.{◌≡◌, ℕ, zero, suc, ◌<◌, ◌≤◌, ◌==◌, ◌≢◌, Bool, true, false, cond, List, [], ◌∷◌, length, get_or, set, Some, refl, sym, ap, ◌∙◌, subst, ⊎_elim, true≢false, eqb-true, eq-eqb, get_or-set_same, get_or-set_other, arith}
-use Rattle.model.proofs.Common.{IfOk, OnErr, Result, Ok, Err, set-get_or, slice_get, length-set, slice_get_within, Req, Event, Submit, Begin, Park, Reply, Take, Miss, Tick, Arm, Expire, Count, Fire, FireMiss, Settle, Sever, Reap, Shut, Cut, Request, submits, clock_of, was_shut, flow, Setup, MayCome, Legal, shut_for, Machine, setup_of, Seen, seen, seen_of, PipeIs, Agrees, Carries, MayFollow, Decided, put, put_at, is_step, bool_cases}
+use Rattle.model.proofs.Common.{IfOk, OnErr, Result, Ok, Err, set-get_or, slice_get, length-set, slice_get_within, Req, Event, Submit, Reply, Tick, Shut, Request, submits, clock_of, was_shut, flow, Setup, MayCome, Legal, shut_for, Machine, setup_of, Seen, seen, seen_of, PipeIs, Agrees, Carries, MayFollow, Decided, put, put_at, is_step, bool_cases}
 use Rattle.model.proofs.RequestLists.{slice_get-set}
 use Rattle.model.proofs.RequestWrites.{put_length}
 
