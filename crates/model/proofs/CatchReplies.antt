@@ -1,5 +1,6 @@
 -- What a cancel has come to, and what it replies by that.
 use Rattle.std.proofs.Common.{◌≡◌, ℕ, ◌==◌, nat_lt, Bool, true, false, cond, ℤ, pos, negsuc, List, [], ◌∷◌, length, refl, sym, ap, ◌∙◌, subst, ⊎_elim, true≢false, eqb-true, arith}
+use Rattle.std.proofs.lemmas.Grind.{common_steps}
 use Rattle.model.proofs.Common.{Req, Event, Hit, nothing, now, later, NoneLeft, AllTried, CancelAnswers, CancelBy, Catch, none_yet, catch_in, is_none, answer_all, answer_one, bool_cases, and_left, and_right, tally_in, uncaught, one_answer, answers_one, one_answers}
 
 no_length : (ms : List ℕ) → length ms ≡ 0 → ms ≡ []
@@ -7,9 +8,7 @@ no_length [] e = refl
 no_length (m ∷ ms) e = absurd (omega arith)
 
 none_is : (x : Catch) → is_none x ≡ true → x ≡ none_yet
-none_is x w =
-    let e : x.ended ≡ 0 = eqb-true x.ended 0 (and_left (x.ended == 0) _ w) in
-    let n : x.escaped ≡ [] = no_length x.escaped (eqb-true (length x.escaped) 0 (and_right (x.ended == 0) _ w)) in λ i. record { ended = e i; escaped = n i }
+none_is = grind (arith, common_steps)
 
 pub none_from : (x : Hit) → is_none (catch_in x) ≡ true → x ≡ nothing
 none_from x w = uncaught x (none_is (catch_in x) w)

@@ -1,5 +1,6 @@
 -- What the walks along a chain find.
 use Rattle.std.proofs.Common.{◌≡◌, ℕ, zero, suc, ◌<◌, ◌≤◌, ◌==◌, ◌||◌, not, Bool, true, false, ℤ, List, Option, Some, refl, sym, ap, ◌∙◌, ⊎_elim, true≢false, eqb-true, eq-eqb, arith}
+use Rattle.std.proofs.lemmas.Grind.{common_steps}
 use Rattle.model.proofs.Common.{slice_get, Entry, Request, joins, severs, handed_in, placed_in, reply_in_of, severs_by, severs_at, severed_in, pending_of, chain_done, bool_cases, not_true, and_left, and_right}
 
 -- every entry from m on joins the next, up to k
@@ -12,10 +13,7 @@ or_cases false b e n = e
 
 -- one more entry joins
 joined_more : (xs : List Request) (m k : ℕ) → Joined xs m k → joins (handed_in xs k) ≡ true → Joined xs m (suc k)
-joined_more xs m k l e j a b = ⊎_elim
-    (λ (w : (j == k) ≡ true). ap (λ z. joins (handed_in xs z)) (eqb-true j k w) ∙ e)
-    (λ (w : (j == k) ≡ false). let n : ¬ (j ≡ k) = λ u. true≢false (sym (eq-eqb j k u) ∙ w) in l j a (omega arith))
-    (bool_cases (j == k))
+joined_more = grind (arith, common_steps)
 
 joined_fewer : (xs : List Request) (m k : ℕ) → Joined xs m (suc k) → Joined xs m k
 joined_fewer xs m k l j a b = l j a (omega arith)

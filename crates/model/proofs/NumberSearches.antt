@@ -1,5 +1,6 @@
 -- A search over the numbers in a list is a search over all numbers, where the list has those that count.
 use Rattle.std.proofs.Common.{◌≡◌, ℕ, zero, suc, ◌<◌, ◌≤◌, ◌==◌, ◌&&◌, ◌||◌, not, nat_lt, Bool, true, false, List, [], ◌∷◌, length, Option, Some, None, refl, sym, ap, ◌∙◌, subst, ⊎_elim, true≢false, eqb-true, eq-eqb, arith}
+use Rattle.std.proofs.lemmas.Grind.{common_steps}
 use Rattle.model.proofs.Common.{slice_get, list_any, slice_get_past, Op, Request, Stage, Replied, Reaped, is_pending, Catch, untried, pending_of, any_below, lists, Listed, blocks, wanted, severed_in, chain_done, drains_of, held_back, clear_in, is_running, runs_of, bool_cases, and_left, and_right}
 use Rattle.std.proofs.lemmas.Bool.{ltb-true, lt-ltb}
 
@@ -35,9 +36,7 @@ listed_any q (m ∷ ms) is = ⊎_elim
     (bool_cases (q m))
 
 pub same_answer : (a b : Bool) → (a ≡ true → b ≡ true) → (b ≡ true → a ≡ true) → a ≡ b
-same_answer true b f g = sym (f refl)
-same_answer false true f g = g refl
-same_answer false false f g = refl
+same_answer = grind (arith, common_steps)
 
 -- the numbers in the list are those that can pass
 pub any_listed_below : (p : ℕ → Bool) (ms : List ℕ) (n : ℕ) → ((m : ℕ) → p m ≡ true → lists ms m ≡ true) → list_any (λ m. nat_lt m n && p m) ms ≡ any_below p n
@@ -56,9 +55,7 @@ blocks_pending d None is = is
 blocks_pending d (Some x) is = and_left _ _ is
 
 runs_pending_at : (s : Stage) → is_running (Some s) ≡ true → is_pending s ≡ true
-runs_pending_at (Replied res) is = is
-runs_pending_at (Reaped res) is = is
-runs_pending_at _ is = refl
+runs_pending_at = grind (arith, common_steps)
 
 runs_pending : (o : Option Request) → runs_of o ≡ true → pending_of o ≡ true
 runs_pending None is = is

@@ -1,5 +1,6 @@
 -- What a stage tells of the phase.
-use Rattle.std.proofs.Common.{◌≡◌, ℕ, ◌≤◌, Bool, true, false, ℤ, Option, Some, None, refl, sym, true≢false}
+use Rattle.std.proofs.Common.{arith, ◌≡◌, ℕ, ◌≤◌, Bool, true, false, ℤ, Option, Some, None, refl, sym, true≢false}
+use Rattle.std.proofs.lemmas.Grind.{common_steps}
 use Rattle.std.proofs.lemmas.Bool.{leb-true}
 use Rattle.model.proofs.Common.{Request, Stage, Cause, Phase, waits, runs, armed, replied, reaped, IsReplied, IsPending, IsIdle, is_pending, stage_of, stage_at, pending_of, is_waits, is_running, is_due, is_armed, is_idle, is_replied, is_answered}
 
@@ -20,28 +21,20 @@ armed_from (armed d) e = (d, refl)
 armed_from _ e = absurd (true≢false (sym e))
 
 pub idle_from : (p : Phase) → is_idle (stage_of p) ≡ true → IsIdle p
-idle_from waits e = tt
-idle_from (armed d) e = tt
-idle_from _ e = absurd (true≢false (sym e))
+idle_from = grind (arith, common_steps)
 
 pub from_idle : (p : Phase) → IsIdle p → is_idle (stage_of p) ≡ true
-from_idle waits i = refl
-from_idle (armed d) i = refl
-from_idle _ i = absurd i
+from_idle = grind (arith, common_steps)
 
 pub replied_from : (p : Phase) → is_replied (stage_of p) ≡ true → (c : Cause) × (res : ℤ) × (p ≡ replied c res)
 replied_from (replied c res) e = (c, res, refl)
 replied_from _ e = absurd (true≢false (sym e))
 
 pub answered_from : (p : Phase) → is_answered (stage_of p) ≡ true → IsReplied p
-answered_from (replied c res) e = tt
-answered_from (reaped c res) e = tt
-answered_from _ e = absurd (true≢false (sym e))
+answered_from = grind (arith, common_steps)
 
 pub from_answered : (p : Phase) → IsReplied p → is_answered (stage_of p) ≡ true
-from_answered (replied c res) i = refl
-from_answered (reaped c res) i = refl
-from_answered _ i = absurd i
+from_answered = grind (arith, common_steps)
 
 abbrev pub pending_as : Option Stage → Bool
 pending_as None = false
@@ -52,13 +45,7 @@ pending_at None = refl
 pending_at (Some x) = refl
 
 pub pending_from : (p : Phase) → pending_as (stage_of p) ≡ true → IsPending p
-pending_from waits e = tt
-pending_from runs e = tt
-pending_from (armed d) e = tt
-pending_from _ e = absurd (true≢false (sym e))
+pending_from = grind (arith, common_steps)
 
 pub from_pending : (p : Phase) → IsPending p → pending_as (stage_of p) ≡ true
-from_pending waits i = refl
-from_pending runs i = refl
-from_pending (armed d) i = refl
-from_pending _ i = absurd i
+from_pending = grind (arith, common_steps)

@@ -1,5 +1,6 @@
 -- The events that one request alone decides: Begin, Park, Sever, Reap, Cut.
 use Rattle.std.proofs.Common.{◌≡◌, ℕ, zero, suc, ◌-◌, ◌&&◌, not, true, false, cond, List, [], ◌∷◌, Option, Some, None, refl, sym, ap, ◌∙◌, subst, true≢false, eq-eqb, sub-one, arith}
+use Rattle.std.proofs.lemmas.Grind.{common_steps}
 use Rattle.model.proofs.Common.{slice_get, Req, Event, Begin, Park, Sever, Reap, Cut, Request, Stage, Waits, Runs, Armed, Replied, Reaped, Phase, waits, runs, armed, replied, phase, reaped, unborn, after_reap, IsPending, IsReplied, previous, is_link_timeout_in, gate_of, Open, IsClear, is_timer, MayCome, Machine, setup_of, Seen, seen, seen_of, stage_of, stage_at, placed_in, severed_in, pending_of, Agrees, put_stage, is_waits, is_running, placed_as, gate_in, open_in, may_begin, may_park, may_sever, may_reap, may_cut, put_reaped, taken_out, cancelled, is_replied, not_true, and_left, and_right}
 use Rattle.history.proofs.Untaken.{untaken}
 use Rattle.model.proofs.Phases.{waits_from, runs_from, replied_from, pending_as, pending_at, pending_from, from_pending}
@@ -77,19 +78,11 @@ pub runs_unreplied : (p : Phase) → p ≡ runs → ¬ IsReplied p
 runs_unreplied p e r = subst IsReplied e r
 
 pending_unreplied : (p : Phase) → IsPending p → ¬ IsReplied p
-pending_unreplied waits i r = r
-pending_unreplied runs i r = r
-pending_unreplied (armed d) i r = r
-pending_unreplied p i r = i
+pending_unreplied = grind (arith, common_steps)
 
 -- a reaped request keeps its reply
 reaped_stage : (p : Phase) (s : Stage) → stage_of p ≡ Some s → stage_of (after_reap p) ≡ Some (taken_out s)
-reaped_stage unborn s e = cc
-reaped_stage waits s e = let f : Waits ≡ s = cc in subst (λ z. Some Waits ≡ Some (taken_out z)) f refl
-reaped_stage runs s e = let f : Runs ≡ s = cc in subst (λ z. Some Runs ≡ Some (taken_out z)) f refl
-reaped_stage (armed d) s e = let f : Armed d ≡ s = cc in subst (λ z. Some (Armed d) ≡ Some (taken_out z)) f refl
-reaped_stage (replied c res) s e = let f : Replied res ≡ s = cc in subst (λ z. Some (Reaped res) ≡ Some (taken_out z)) f refl
-reaped_stage (reaped c res) s e = let f : Reaped res ≡ s = cc in subst (λ z. Some (Reaped res) ≡ Some (taken_out z)) f refl
+reaped_stage = grind (arith, common_steps)
 
 module _ (m : Machine) (h : List Event) (a : Agrees h m) (i k : ℕ) where
   abbrev ys : List Request

@@ -1,5 +1,6 @@
 -- The events of the timers: Arm, Expire, Fire, FireMiss, Settle.
 use Rattle.std.proofs.Common.{◌≡◌, ℕ, zero, suc, ◌+◌, ◌-◌, ◌<◌, ◌≤◌, ◌==◌, ◌&&◌, ◌||◌, not, Bool, true, false, cond, negsuc, List, ◌∷◌, Option, Some, None, inl, inr, refl, sym, ap, ◌∙◌, subst, ⊎_elim, true≢false, eqb-true, eq-eqb, arith}
+use Rattle.std.proofs.lemmas.Grind.{common_steps}
 use Rattle.model.proofs.Common.{slice_get, slice_get_within, Entry, Op, Invalid, Req, Event, Arm, Expire, Fire, FireMiss, Settle, Request, Armed, Replied, by_settle, Phase, waits, armed, replied, submission, phase, hit, fired, data_of, clock_of, IsReplied, IsIdle, placed, placed_from, is_timeout, is_link_timeout, IsTarget, MayCome, ticks_of, IsDue, catch_in, Machine, setup_of, fired_of, Seen, seen, seen_of, stage_of, stage_at, placed_in, handed_at, Agrees, put, put_at, put_stage, put_fired, put_settled, is_waits, is_running, is_due, is_armed, is_idle, is_answered, placed_as, open_in, falls_due, arms, may_arm, may_expire, runs_out, may_fire, may_fire_miss, may_settle, cancelled, timed_out, bool_cases, not_true, and_left, and_right}
 use Rattle.std.proofs.lemmas.Bool.{le-leb}
 use Rattle.model.proofs.RequestLists.{slice_get-set, apart}
@@ -28,9 +29,7 @@ pub armed_unreplied : (p : Phase) (d : ℕ) → p ≡ armed d → ¬ IsReplied p
 armed_unreplied p d e r = subst IsReplied e r
 
 pub idle_unreplied : (p : Phase) → IsIdle p → ¬ IsReplied p
-idle_unreplied waits i r = r
-idle_unreplied (armed d) i r = r
-idle_unreplied _ i r = i
+idle_unreplied = grind (arith, common_steps)
 
 head : (e : Entry) (b : Bool) → is_link_timeout e.op ≡ b → is_link_timeout (cond (b && true) (record e { op = Invalid }) e).op ≡ true → ⊥
 head e true is w = true≢false (sym w)
@@ -121,10 +120,7 @@ module _ (m : Machine) (h : List Event) (a : Agrees h m) (i : ℕ) where
       )
 
   may_out : (l t : ℕ) → IsDue h (at l) → fired h (at l) ≡ false → IsTarget h (at l) (at t) → runs_out m.clock xs l t ≡ true
-  may_out l t d f g =
-      let w = was_due l d in let n : fired_of (slice_get xs l) ≡ false = sym (fired_is l) ∙ f in
-      let p : placed_as is_link_timeout (placed_in xs l) ≡ true = ap (placed_as is_link_timeout) (sym (entry_is l) ∙ g.0.1) ∙ g.0.2 in let s : (suc t == l) ≡ true = eq-eqb (suc t) l g.2 in
-      rw (w, n, p, s) refl
+  may_out = grind (arith, common_steps)
 
   pub fire_may : (l t : ℕ) → may_fire m.clock xs l t ≡ true → MayCome (setup_of m) h (Fire (at l) (at t))
   fire_may l t b =
@@ -189,15 +185,7 @@ module _ (m : Machine) (h : List Event) (a : Agrees h m) (i : ℕ) where
       )
 
   pub may_settle_is : (l : ℕ) → MayCome (setup_of m) h (Settle (at l)) → may_settle xs l ≡ true
-  may_settle_is l c =
-      let w : is_armed (stage_at (slice_get xs l)) ≡ true = sym (ap is_armed (told l)) ∙ ap (λ p. is_armed (stage_of p)) c.0.1 in
-      let p : placed_as is_link_timeout (placed_in xs l) ≡ true = ap (placed_as is_link_timeout) (sym (entry_is l) ∙ c.1.1) ∙ c.1.2 in
-      let o : (fired_of (slice_get xs l) || is_answered (stage_at (slice_get xs (l - 1)))) ≡ true = ⊎_elim
-      (λ (f : fired h (at l) ≡ true). let g : fired_of (slice_get xs l) ≡ true = sym (fired_is l) ∙ f in rw g refl)
-      (λ (f : (t : Req) × IsTarget h (at l) t × IsReplied (phase h t)). let k : f.0.k ≡ l - 1 = (let z : suc f.0.k ≡ l = f.1.2 in omega arith) in let one : f.0 ≡ at (l - 1) = λ j. record { ring = f.1.1 j; k = k j } in
-      let g : is_answered (stage_at (slice_get xs (l - 1))) ≡ true = sym (ap is_answered (told (l - 1))) ∙ ap (λ (z : Req). is_answered (stage_of (phase h z))) (sym one) ∙ from_answered (phase h f.0) f.2 in
-      rw g (elim (fired_of (slice_get xs l)) as (λ z. (z || true) ≡ true) [ true ↦ refl | false ↦ refl ])) c.2 in
-      rw (w, p, o) refl
+  may_settle_is = grind (arith, common_steps)
 
   settled_stage : (l : ℕ) (x : Request) → fired h (at l) ≡ x.fired → stage_of (replied by_settle (cond (fired h (at l)) (negsuc 61) (negsuc 124))) ≡ Some (cond x.fired timed_out cancelled)
   settled_stage l x f = ap (λ z. stage_of (replied by_settle (cond z (negsuc 61) (negsuc 124)))) f ∙ elim x.fired as (λ z. Some (Replied (cond z (negsuc 61) (negsuc 124))) ≡ Some (cond z timed_out cancelled)) [ true ↦ refl | false ↦ refl ]
