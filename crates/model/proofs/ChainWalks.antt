@@ -8,8 +8,7 @@ abbrev pub Joined : List Request → ℕ → ℕ → Type 0
 Joined xs m k = (j : ℕ) → m ≤ j → j < k → joins (handed_in xs j) ≡ true
 
 or_cases : (a b : Bool) → (a || b) ≡ true → ¬ (a ≡ true) → b ≡ true
-or_cases true b e n = absurd (n refl)
-or_cases false b e n = e
+or_cases = grind (arith, common_steps)
 
 -- one more entry joins
 joined_more : (xs : List Request) (m k : ℕ) → Joined xs m k → joins (handed_in xs k) ≡ true → Joined xs m (suc k)

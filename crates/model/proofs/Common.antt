@@ -1,17 +1,17 @@
 -- The words of other modules that the proofs of this crate use.
 pub use Rattle.entry.specs.Entry.{Entry, drains, fails_op}
 pub use Rattle.entry.specs.declared.op.Op.{Op}
-pub use Rattle.entry.specs.declared.op.Op.TheVariants.{AsyncCancel, Close, Invalid, LinkTimeout, Nop, PollAdd, Read, Splice, Timeout, TimeoutRemove, Write}
+pub use Rattle.entry.specs.declared.op.Op.TheVariants.{AsyncCancel, Close, Invalid, LinkTimeout, PollAdd, Read, Splice, Timeout, TimeoutRemove, Write}
 pub use Rattle.history.proofs.Catches.{answers_one, missed_in, one_answer, one_answers, tally_in, uncaught}
 pub use Rattle.history.proofs.Requests.{and_left, and_right, bool_cases, not_true}
-pub use Rattle.history.specs.Answers.{AimsAt, AllTried, Answer, CancelAnswers, CancelBy, IsFirst, Matches, MayHit, NoneLeft, OpAnswers, answer_poll, answer_read, answer_splice, answer_write, asks_for, bad_end, close_of, free_in, is_all, is_pipe, later, most_spliced, now, poll_of, read_events, read_from, splice_into, splice_of, write_events, write_to}
+pub use Rattle.history.specs.Answers.{AimsAt, AllTried, Answer, CancelAnswers, CancelBy, IsFirst, Matches, MayHit, NoneLeft, OpAnswers, answer_poll, answer_read, answer_splice, answer_write, asks_for, bad_end, close_of, is_all, is_pipe, later, now, poll_of, read_events, read_from, splice_into, splice_of, write_events, write_to}
 pub use Rattle.history.specs.Chains.{IsBefore, IsClear, IsTarget, Open, Severed, gate_of, hosts, is_link_timeout, is_link_timeout_in, is_timeout, is_timer, joins, placed, placed_behind, placed_from, previous, severs}
-pub use Rattle.history.specs.History.{Cause, Hit, IsIdle, IsPending, IsReplied, Phase, Submission, adds_to, after_reap, armed, by_settle, clock_of, data_of, fired, has_missed, hit, nothing, phase, reaped, replied, reply, reply_in, runs, same, submission, submits, took, unborn, waits, was_shut}
+pub use Rattle.history.specs.History.{Cause, Hit, IsIdle, IsPending, IsReplied, Phase, Submission, adds_to, after_reap, armed, by_settle, clock_of, data_of, fired, has_missed, hit, nothing, phase, replied, reply, reply_in, runs, same, submission, submits, took, waits, was_shut}
 pub use Rattle.history.specs.Legal.{Fits, IsDue, Legal, MayCome, Setup, count_of, shut_for, ticks_of}
-pub use Rattle.history.specs.Pipes.{End, Flow, closes, content, contents, end_of, flow, flows, flows_as, given_at, is_zero, no_end, offered, read_end, reads, size, untouched, write_end, writes}
+pub use Rattle.history.specs.Pipes.{End, Flow, closes, content, contents, end_of, flow, flows, given_at, is_zero, no_end, offered, read_end, reads, size, untouched, write_end, writes}
 pub use Rattle.history.specs.State.{Catch, Held, Standing, absent, bit, catch_in, held, held_words, none_yet, pipes_words, requests_words, rings_words, standing, standing_in, standing_words, state_of, with_missed, with_took}
 pub use Rattle.history.specs.declared.event.Event.{Event}
-pub use Rattle.history.specs.declared.event.Event.TheVariants.{Arm, Begin, Count, Cut, Expire, Fire, FireMiss, Miss, Park, Reap, Reply, Settle, Sever, Shut, Submit, Take, Tick}
+pub use Rattle.history.specs.declared.event.Event.TheVariants.{Arm, Begin, Count, Cut, Expire, Fire, FireMiss, Miss, Park, Reap, Reply, Settle, Sever, Shut, Submit, Take}
 pub use Rattle.history.specs.declared.req.Req.{Req}
 pub use Rattle.model.specs.Agrees.{Agrees, Carries, Decided, Decision, IsNext, MayFollow, PipeIs, Refuses}
 pub use Rattle.model.specs.Answers.{answer_by, answer_in, op_answer}
@@ -33,7 +33,7 @@ pub use Rattle.model.specs.declared.request.Request.{Request}
 pub use Rattle.model.specs.declared.request.Stage.{Stage}
 pub use Rattle.model.specs.declared.request.Stage.TheVariants.{Armed, Reaped, Replied, Runs, Waits}
 pub use Rattle.std.proofs.Math.ListN.{length-set}
-pub use Rattle.std.proofs.Math.Nat.{mod-add-div, suc-add}
+pub use Rattle.std.proofs.Math.Nat.{mod-add-div}
 pub use Rattle.std.proofs.lemmas.Bool.{and_parts, cases_lt}
 pub use Rattle.std.proofs.lemmas.Int.{to_z-of_z}
 pub use Rattle.std.proofs.lemmas.List.{length-map, set-get_or}

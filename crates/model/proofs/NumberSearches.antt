@@ -1,7 +1,7 @@
 -- A search over the numbers in a list is a search over all numbers, where the list has those that count.
-use Rattle.std.proofs.Common.{◌≡◌, ℕ, zero, suc, ◌<◌, ◌≤◌, ◌==◌, ◌&&◌, ◌||◌, not, nat_lt, Bool, true, false, List, [], ◌∷◌, length, Option, Some, None, refl, sym, ap, ◌∙◌, subst, ⊎_elim, true≢false, eqb-true, eq-eqb, arith}
+use Rattle.std.proofs.Common.{◌≡◌, ℕ, zero, suc, ◌<◌, ◌≤◌, ◌==◌, ◌&&◌, ◌||◌, not, nat_lt, Bool, true, false, List, [], ◌∷◌, length, Option, Some, refl, sym, ap, ◌∙◌, subst, ⊎_elim, true≢false, eqb-true, eq-eqb, arith}
 use Rattle.std.proofs.lemmas.Grind.{common_steps}
-use Rattle.model.proofs.Common.{slice_get, list_any, slice_get_past, Op, Request, Stage, Replied, Reaped, is_pending, Catch, untried, pending_of, any_below, lists, Listed, blocks, wanted, severed_in, chain_done, drains_of, held_back, clear_in, is_running, runs_of, bool_cases, and_left, and_right}
+use Rattle.model.proofs.Common.{slice_get, list_any, slice_get_past, Op, Request, Stage, is_pending, Catch, untried, pending_of, any_below, lists, Listed, blocks, wanted, severed_in, chain_done, drains_of, held_back, clear_in, is_running, runs_of, bool_cases, and_left, and_right}
 use Rattle.std.proofs.lemmas.Bool.{ltb-true, lt-ltb}
 
 -- one passes
@@ -51,15 +51,13 @@ any_listed_all p ms n l none = same_answer _ _
     (λ is. let f = any_found p n is in any_listed p ms f.0 (l f.0 f.2) f.2)
 
 blocks_pending : (d : Bool) (o : Option Request) → blocks d o ≡ true → pending_of o ≡ true
-blocks_pending d None is = is
-blocks_pending d (Some x) is = and_left _ _ is
+blocks_pending = grind (arith, common_steps, and_left)
 
 runs_pending_at : (s : Stage) → is_running (Some s) ≡ true → is_pending s ≡ true
 runs_pending_at = grind (arith, common_steps)
 
 runs_pending : (o : Option Request) → runs_of o ≡ true → pending_of o ≡ true
-runs_pending None is = is
-runs_pending (Some x) is = runs_pending_at x.stage is
+runs_pending = grind (arith, common_steps, runs_pending_at)
 
 -- the searches of a ring
 module _ (xs ys : List Request) (ms : List ℕ) (l : Listed xs ms) (v : xs ≡ ys) where

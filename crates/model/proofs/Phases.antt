@@ -1,24 +1,20 @@
 -- What a stage tells of the phase.
-use Rattle.std.proofs.Common.{arith, ◌≡◌, ℕ, ◌≤◌, Bool, true, false, ℤ, Option, Some, None, refl, sym, true≢false}
+use Rattle.std.proofs.Common.{arith, ◌≡◌, ℕ, ◌≤◌, Bool, true, false, ℤ, Option, Some, None}
 use Rattle.std.proofs.lemmas.Grind.{common_steps}
 use Rattle.std.proofs.lemmas.Bool.{leb-true}
-use Rattle.model.proofs.Common.{Request, Stage, Cause, Phase, waits, runs, armed, replied, reaped, IsReplied, IsPending, IsIdle, is_pending, stage_of, stage_at, pending_of, is_waits, is_running, is_due, is_armed, is_idle, is_replied, is_answered}
+use Rattle.model.proofs.Common.{Request, Stage, Cause, Phase, waits, runs, armed, replied, IsReplied, IsPending, IsIdle, is_pending, stage_of, stage_at, pending_of, is_waits, is_running, is_due, is_armed, is_idle, is_replied, is_answered}
 
 pub waits_from : (p : Phase) → is_waits (stage_of p) ≡ true → p ≡ waits
-waits_from waits e = refl
-waits_from _ e = absurd (true≢false (sym e))
+waits_from = grind (arith, common_steps)
 
 pub runs_from : (p : Phase) → is_running (stage_of p) ≡ true → p ≡ runs
-runs_from runs e = refl
-runs_from _ e = absurd (true≢false (sym e))
+runs_from = grind (arith, common_steps)
 
 pub due_from : (clock : ℕ) (p : Phase) → is_due clock (stage_of p) ≡ true → (d : ℕ) × (p ≡ armed d) × (d ≤ clock)
-due_from clock (armed d) e = (d, refl, leb-true d clock e)
-due_from clock _ e = absurd (true≢false (sym e))
+due_from = grind (arith, common_steps, leb-true)
 
 pub armed_from : (p : Phase) → is_armed (stage_of p) ≡ true → (d : ℕ) × (p ≡ armed d)
-armed_from (armed d) e = (d, refl)
-armed_from _ e = absurd (true≢false (sym e))
+armed_from = grind (arith, common_steps)
 
 pub idle_from : (p : Phase) → is_idle (stage_of p) ≡ true → IsIdle p
 idle_from = grind (arith, common_steps)
@@ -27,8 +23,7 @@ pub from_idle : (p : Phase) → IsIdle p → is_idle (stage_of p) ≡ true
 from_idle = grind (arith, common_steps)
 
 pub replied_from : (p : Phase) → is_replied (stage_of p) ≡ true → (c : Cause) × (res : ℤ) × (p ≡ replied c res)
-replied_from (replied c res) e = (c, res, refl)
-replied_from _ e = absurd (true≢false (sym e))
+replied_from = grind (arith, common_steps)
 
 pub answered_from : (p : Phase) → is_answered (stage_of p) ≡ true → IsReplied p
 answered_from = grind (arith, common_steps)
@@ -41,8 +36,7 @@ pending_as None = false
 pending_as (Some s) = is_pending s
 
 pub pending_at : (o : Option Request) → pending_of o ≡ pending_as (stage_at o)
-pending_at None = refl
-pending_at (Some x) = refl
+pending_at = grind (arith, common_steps)
 
 pub pending_from : (p : Phase) → pending_as (stage_of p) ≡ true → IsPending p
 pending_from = grind (arith, common_steps)

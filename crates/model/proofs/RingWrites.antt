@@ -1,7 +1,7 @@
 -- What is kept goes on agreeing with the history when the requests of one ring are written.
-use Rattle.std.proofs.Common.{◌≡◌, ℕ, zero, suc, ◌<◌, ◌≤◌, ◌==◌, ◌≢◌, Bool, true, false, cond, List, [], ◌∷◌, length, get_or, set, Some, refl, sym, ap, ◌∙◌, subst, ⊎_elim, true≢false, eqb-true, eq-eqb, get_or-set_same, get_or-set_other, arith}
+use Rattle.std.proofs.Common.{◌≡◌, ℕ, ◌<◌, ◌≤◌, ◌==◌, Bool, true, false, cond, List, [], ◌∷◌, length, get_or, set, Some, refl, sym, ap, ◌∙◌, subst, ⊎_elim, eqb-true, arith}
 use Rattle.std.proofs.lemmas.Grind.{common_steps}
-use Rattle.model.proofs.Common.{IfOk, OnErr, Result, Ok, Err, set-get_or, slice_get, length-set, slice_get_within, Req, Event, Submit, Reply, Tick, Shut, Request, submits, clock_of, was_shut, flow, Setup, MayCome, Legal, shut_for, Machine, setup_of, Seen, seen, seen_of, PipeIs, Agrees, Carries, MayFollow, Decided, put, put_at, is_step, bool_cases}
+use Rattle.model.proofs.Common.{IfOk, OnErr, Result, set-get_or, slice_get, length-set, slice_get_within, Req, Event, Request, submits, clock_of, was_shut, flow, Setup, MayCome, shut_for, Machine, setup_of, Seen, seen, seen_of, Agrees, Carries, MayFollow, Decided, put, put_at, is_step, bool_cases}
 use Rattle.model.proofs.RequestLists.{slice_get-set}
 use Rattle.model.proofs.RequestWrites.{put_length}
 
@@ -74,8 +74,7 @@ module _ (m : Machine) (h : List Event) (a : Agrees h m) (i k : ℕ) (x : Reques
       (put_own m h a i (λ j. seen (e ∷ h) (at m h a i j)) (row m.rings i) k f x is here (λ j w. there j w ∙ a.requests (at m h a i j))) others
 
 pub decides : (b : Bool) (m n' n : Machine) (e : Event) → n ≡ cond b n' m → (b ≡ true → Carries m e n') → (b ≡ false → (h : List Event) → Agrees h m → ¬ MayCome (setup_of m) h e) → Decided b m e n
-decides true m n' n e is yes' no' = subst (λ (z : Machine). Carries m e z) (sym is) (yes' refl)
-decides false m n' n e is yes' no' = (is, no' refl)
+decides = grind (arith, common_steps)
 
 -- a contract over a row, as the code meets it
 get_or_same : (rings : List (List Request)) (i : ℕ) (c d : List Request) → i < length rings → get_or rings i c ≡ get_or rings i d
@@ -88,8 +87,7 @@ unwritten : (m : Machine) (i : ℕ) (s : List Request) → s ≡ row m.rings i �
 unwritten m i s e = ap (put_row m i) e ∙ ap (λ (z : List (List Request)). let n : Machine = record m { rings = z } in n) (set-get_or m.rings i [])
 
 after_row : (m : Machine) (i : ℕ) (r s : List Request) (b : Bool) (ys : List Request → List Request) → i < length m.rings → r ≡ row m.rings i → s ≡ cond b (ys r) r → put_row m i s ≡ cond b (put_row m i (ys (row m.rings i))) m
-after_row m i r s true ys lt e f = ap (put_row m i) (f ∙ ap ys e)
-after_row m i r s false ys lt e f = unwritten m i s (f ∙ e)
+after_row = grind (arith, common_steps, unwritten)
 
 abbrev pub IsDecided : Event → ℕ → (Machine → List Request → Bool) → (List Request → List Request) → Type 0
 IsDecided e i may ys = (m n : Machine) (b : Bool) → m.shut ≡ shut_for e → b ≡ may m (row m.rings i) → n ≡ cond b (put_row m i (ys (row m.rings i))) m → Decided b m e n
@@ -112,9 +110,7 @@ module _ {E : Type 0} where
 
   pub follows_if : (answer : Result Bool E) (e : Event) (i : ℕ) (may : Machine → List Request → Bool) → ((m : Machine) → may m (row m.rings i) ≡ true → MayFollow m e)
       → (m now : Machine) → m ≡ now → (r : List Request) → i < length m.rings → r ≡ get_or m.rings i r → OnErr answer (may m r ≡ true) → OnErr answer (MayFollow now e)
-  follows_if (Ok b) e i may f m now v r lt is x = tt
-  follows_if (Err z) e i may f m now v r lt is x = subst (λ (z : Machine). MayFollow z e) v (f m (sym (ap (may m) (row_of m.rings i r lt is)) ∙ x))
+  follows_if = grind (arith, common_steps, row_of)
 
   pub same_if : (answer : Result Bool E) (m now : Machine) → m ≡ now → (i : ℕ) (r s : List Request) → i < length m.rings → r ≡ get_or m.rings i r → OnErr answer (s ≡ r) → OnErr answer (put_row m i s ≡ now)
-  same_if (Ok b) m now v i r s lt is x = tt
-  same_if (Err z) m now v i r s lt is x = unwritten m i s (x ∙ row_of m.rings i r lt is) ∙ v
+  same_if = grind (arith, common_steps, unwritten, row_of)

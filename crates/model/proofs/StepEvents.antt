@@ -1,5 +1,6 @@
 -- Every event of the requests of one ring: whether it may come, and that what is kept goes on agreeing.
-use Rattle.std.proofs.Common.{◌≡◌, ℕ, ◌==◌, ◌&&◌, Bool, true, false, List, [], ◌∷◌, refl, sym, ap, ◌∙◌, subst, true≢false, eqb-true, eq-eqb}
+use Rattle.std.proofs.Common.{arith, ◌≡◌, ℕ, ◌==◌, ◌&&◌, Bool, true, false, List, [], ◌∷◌, refl, sym, ap, ◌∙◌, subst, true≢false, eqb-true, eq-eqb}
+use Rattle.std.proofs.lemmas.Grind.{common_steps}
 use Rattle.model.proofs.Common.{Req, Event, Begin, Park, Take, Miss, Arm, Expire, Count, Fire, FireMiss, Settle, Sever, Reap, Cut, is_all, AimsAt, MayCome, shut_for, Request, Machine, setup_of, Agrees, MayFollow, may_take, may_miss, may_fire, may_fire_miss, ring_of, is_step, may_step, put_step, and_left, and_right}
 use Rattle.model.proofs.RingWrites.{row, put_row, same_setup, IsDecided, decides}
 use Rattle.model.proofs.SingleEvents.{begin_may, may_begin_is, begin_kept, park_may, may_park_is, park_kept, sever_may, may_sever_is, sever_kept, reap_may, may_reap_is, reap_kept, cut_may, may_cut_is, cut_kept}
@@ -12,8 +13,7 @@ named : (i : ℕ) (t : Req) → i ≡ t.ring → record { ring = i; k = t.k } �
 named i t e = λ j. record { ring = e j; k = t.k }
 
 aimed : (b : Bool) (h : List Event) (c t : Req) → AimsAt b h c t → c.ring ≡ t.ring
-aimed true h c t a = sym a.0.0.0
-aimed false h c t a = sym a.1.matches.0.0
+aimed = grind (arith, common_steps)
 
 one_ring : (b : Bool) (c t : Req) → (b && (c.ring == t.ring)) ≡ true → c.ring ≡ t.ring
 one_ring b c t w = eqb-true c.ring t.ring (and_right b (c.ring == t.ring) w)
@@ -22,8 +22,7 @@ and_so : (b : Bool) (c t : Req) → c.ring ≡ t.ring → b ≡ true → (b && (
 and_so b c t e w = rw (w, eq-eqb c.ring t.ring e) refl
 
 none_come : (clock : ℕ) (e : Event) → is_step e ≡ true → may_step clock [] e ≡ false
-none_come clock (Begin r) w = refl
-none_come clock _ w = refl
+none_come = grind (arith, common_steps)
 
 module _ (m : Machine) (h : List Event) (a : Agrees h m) where
   abbrev at : Event → List Request

@@ -1,29 +1,26 @@
 -- The events of the timers: Arm, Expire, Fire, FireMiss, Settle.
-use Rattle.std.proofs.Common.{◌≡◌, ℕ, zero, suc, ◌+◌, ◌-◌, ◌<◌, ◌≤◌, ◌==◌, ◌&&◌, ◌||◌, not, Bool, true, false, cond, negsuc, List, ◌∷◌, Option, Some, None, inl, inr, refl, sym, ap, ◌∙◌, subst, ⊎_elim, true≢false, eqb-true, eq-eqb, arith}
+use Rattle.std.proofs.Common.{◌≡◌, ℕ, suc, ◌+◌, ◌-◌, ◌<◌, ◌≤◌, ◌==◌, ◌&&◌, ◌||◌, not, Bool, true, false, cond, negsuc, List, ◌∷◌, Option, Some, None, inl, inr, refl, sym, ap, ◌∙◌, subst, ⊎_elim, true≢false, eqb-true, eq-eqb, arith}
 use Rattle.std.proofs.lemmas.Grind.{common_steps}
-use Rattle.model.proofs.Common.{slice_get, slice_get_within, Entry, Op, Invalid, Req, Event, Arm, Expire, Fire, FireMiss, Settle, Request, Armed, Replied, by_settle, Phase, waits, armed, replied, submission, phase, hit, fired, data_of, clock_of, IsReplied, IsIdle, placed, placed_from, is_timeout, is_link_timeout, IsTarget, MayCome, ticks_of, IsDue, catch_in, Machine, setup_of, fired_of, Seen, seen, seen_of, stage_of, stage_at, placed_in, handed_at, Agrees, put, put_at, put_stage, put_fired, put_settled, is_waits, is_running, is_due, is_armed, is_idle, is_answered, placed_as, open_in, falls_due, arms, may_arm, may_expire, runs_out, may_fire, may_fire_miss, may_settle, cancelled, timed_out, bool_cases, not_true, and_left, and_right}
+use Rattle.model.proofs.Common.{slice_get, slice_get_within, Entry, Op, Invalid, Req, Event, Arm, Expire, Fire, FireMiss, Settle, Request, Armed, Replied, by_settle, Phase, armed, replied, submission, phase, hit, fired, data_of, clock_of, IsReplied, IsIdle, placed, placed_from, is_timeout, is_link_timeout, IsTarget, MayCome, ticks_of, IsDue, catch_in, Machine, setup_of, fired_of, Seen, seen, seen_of, stage_of, stage_at, placed_in, handed_at, Agrees, put, put_at, put_stage, put_fired, put_settled, is_waits, is_running, is_due, is_armed, is_idle, is_answered, placed_as, open_in, falls_due, arms, may_arm, may_expire, runs_out, may_fire, may_fire_miss, may_settle, cancelled, timed_out, bool_cases, not_true, and_left, and_right}
 use Rattle.std.proofs.lemmas.Bool.{le-leb}
 use Rattle.model.proofs.RequestLists.{slice_get-set, apart}
 use Rattle.model.proofs.RequestWrites.{some_at, put_length}
-use Rattle.model.proofs.Phases.{waits_from, runs_from, due_from, armed_from, idle_from, from_idle, answered_from, from_answered}
+use Rattle.model.proofs.Phases.{waits_from, runs_from, due_from, armed_from, idle_from, from_idle, answered_from}
 use Rattle.model.proofs.RequestReading.{stage_is, placed_is}
 use Rattle.model.proofs.RingWrites.{row, put_row, row_within, calm, here_is, one_kept, ring_kept, put_own}
 use Rattle.model.proofs.SingleEvents.{reads, open_is, was_open, nothing_taken}
 
 falls_by : (clock d : ℕ) (t : Option ℕ) → falls_due clock d t ≡ true → (n : ℕ) × (t ≡ Some n) × (d ≡ clock + n)
-falls_by clock d None e = absurd (true≢false (sym e))
-falls_by clock d (Some n) e = (n, refl, eqb-true d (clock + n) e)
+falls_by = grind (arith, common_steps, eqb-true)
 
 arms_by : (clock d : ℕ) (o : Option Entry) → arms clock d o ≡ true → (e : Entry) × (n : ℕ) × (o ≡ Some e) × (ticks_of e.op ≡ Some n) × (d ≡ clock + n)
-arms_by clock d None w = absurd (true≢false (sym w))
-arms_by clock d (Some e) w = let f = falls_by clock d (ticks_of e.op) w in (e, f.0, refl, f.1, f.2)
+arms_by = grind (arith, common_steps, falls_by)
 
 arms_from : (clock d : ℕ) (o : Option Entry) (e : Entry) (n : ℕ) → o ≡ Some e → ticks_of e.op ≡ Some n → d ≡ clock + n → arms clock d o ≡ true
 arms_from clock d o e n p t s = ap (arms clock d) p ∙ ap (falls_due clock d) t ∙ eq-eqb d (clock + n) s
 
 pub placed_by : (p : Op → Bool) (o : Option Entry) → placed_as p o ≡ true → (e : Entry) × (o ≡ Some e) × (p e.op ≡ true)
-placed_by p None w = absurd (true≢false (sym w))
-placed_by p (Some e) w = (e, refl, w)
+placed_by = grind (arith, common_steps)
 
 pub armed_unreplied : (p : Phase) (d : ℕ) → p ≡ armed d → ¬ IsReplied p
 armed_unreplied p d e r = subst IsReplied e r
@@ -32,17 +29,14 @@ pub idle_unreplied : (p : Phase) → IsIdle p → ¬ IsReplied p
 idle_unreplied = grind (arith, common_steps)
 
 head : (e : Entry) (b : Bool) → is_link_timeout e.op ≡ b → is_link_timeout (cond (b && true) (record e { op = Invalid }) e).op ≡ true → ⊥
-head e true is w = true≢false (sym w)
-head e false is w = true≢false (sym w ∙ is)
+head = grind (arith, common_steps)
 
 -- nothing is placed as LINK_TIMEOUT at the head of a ring
 first_is_none : (o : Option Request) → placed_as is_link_timeout (placed_from None (handed_at o)) ≡ true → ⊥
-first_is_none None w = true≢false (sym w)
-first_is_none (Some x) w = head x.sqe (is_link_timeout x.sqe.op) refl w
+first_is_none = grind (arith, common_steps, head)
 
 not_first : (xs : List Request) (l : ℕ) → placed_as is_link_timeout (placed_in xs l) ≡ true → 0 < l
-not_first xs zero w = absurd (first_is_none (slice_get xs zero) w)
-not_first xs (suc l) w = omega arith
+not_first = grind (arith, common_steps, first_is_none)
 
 -- the other requests are left
 pub put_other : (xs : List Request) (k j : ℕ) (f : Request → Request) (x : Request) → slice_get xs k ≡ Some x → (k == j) ≡ false → slice_get (put xs k f) j ≡ slice_get xs j
@@ -96,8 +90,7 @@ module _ (m : Machine) (h : List Event) (a : Agrees h m) (i : ℕ) where
       (due_is k (and_left (is_due m.clock (stage_at (slice_get xs k))) _ b), (e.0, entry_is k ∙ e.1, e.2))
 
   pub may_expire_is : (k : ℕ) → MayCome (setup_of m) h (Expire (at k)) → may_expire m.clock xs k ≡ true
-  may_expire_is k c =
-      let w = was_due k c.0 in let t : placed_as is_timeout (placed_in xs k) ≡ true = ap (placed_as is_timeout) (sym (entry_is k) ∙ c.1.1) ∙ c.1.2 in rw (w, t) refl
+  may_expire_is = grind (arith, common_steps, was_due, entry_is)
 
   pub expire_kept : (k : ℕ) → may_expire m.clock xs k ≡ true → m.shut ≡ false → Agrees (Expire (at k) ∷ h) (put_row m i (put_stage xs k timed_out))
   expire_kept k b s =
@@ -127,16 +120,14 @@ module _ (m : Machine) (h : List Event) (a : Agrees h m) (i : ℕ) where
       let o = out_may l t (and_left (runs_out m.clock xs l t) _ b) in (o.0, o.1, o.2, idle_from (phase h (at t)) (ap is_idle (told t) ∙ and_right (runs_out m.clock xs l t) _ b))
 
   pub may_fire_is : (l t : ℕ) → MayCome (setup_of m) h (Fire (at l) (at t)) → may_fire m.clock xs l t ≡ true
-  may_fire_is l t c =
-      let o = may_out l t c.0 c.1 c.2 in let w : is_idle (stage_at (slice_get xs t)) ≡ true = sym (ap is_idle (told t)) ∙ from_idle (phase h (at t)) c.3 in rw (o, w) refl
+  may_fire_is = grind (arith, common_steps, may_out, told, from_idle)
 
   pub fire_miss_may : (l t : ℕ) → may_fire_miss m.clock xs l t ≡ true → MayCome (setup_of m) h (FireMiss (at l) (at t))
   fire_miss_may l t b =
       let o = out_may l t (and_left (runs_out m.clock xs l t) _ b) in (o.0, o.1, o.2, runs_from (phase h (at t)) (ap is_running (told t) ∙ and_right (runs_out m.clock xs l t) _ b))
 
   pub may_fire_miss_is : (l t : ℕ) → MayCome (setup_of m) h (FireMiss (at l) (at t)) → may_fire_miss m.clock xs l t ≡ true
-  may_fire_miss_is l t c =
-      let o = may_out l t c.0 c.1 c.2 in let w : is_running (stage_at (slice_get xs t)) ≡ true = sym (ap is_running (told t)) ∙ ap (λ p. is_running (stage_of p)) c.3 in rw (o, w) refl
+  may_fire_miss_is = grind (arith, common_steps, may_out, told)
 
   due_kept : (l t : ℕ) → runs_out m.clock xs l t ≡ true → (x : Request) × (slice_get xs l ≡ Some x)
   due_kept l t b = some_at (is_due m.clock) refl (slice_get xs l) (and_left (is_due m.clock (stage_at (slice_get xs l))) _ (and_left (is_due m.clock (stage_at (slice_get xs l)) && not (fired_of (slice_get xs l))) _ b))
