@@ -39,6 +39,7 @@ fn op_now(ring: &Ring, pipes: &[Pipe], k: u64, request: &Request, op: Op) -> Rea
 
 impl Ring {
     /// What the request comes to, where it runs.
+    #[tactic(auto, using(crate::proofs::RingReading::placed_fits))]
     pub fn now(&self, pipes: &[Pipe], k: u64) -> Ready
         ensures { answer_as pipes.now result ≡ answer_in pipes.now self.now k }
     {
