@@ -1,7 +1,6 @@
 -- The events of a cancel: Take, Miss.
 use Rattle.std.proofs.Common.{◌≡◌, ℕ, ◌<◌, ◌==◌, ◌&&◌, not, nat_lt, Bool, true, false, cond, List, ◌∷◌, Option, Some, refl, sym, ap, ◌∙◌, true≢false, eq-eqb, arith}
-use Rattle.std.proofs.lemmas.Grind.{common_steps}
-use Rattle.model.proofs.Common.{slice_get, Entry, Req, Event, Take, Miss, Request, runs, took, submission, phase, hit, fired, data_of, IsReplied, is_all, AimsAt, MayHit, Catch, catch_in, with_took, with_missed, MayCome, Machine, setup_of, found_in, Seen, seen, seen_of, stage_of, stage_at, placed_in, wanted, any_below, Agrees, put_stage, put_found, is_running, is_idle, cancelled, is_none, aims_at, aims_as, comes_upon, may_take, may_miss, not_true, and_left, and_right, missed_in}
+use Rattle.model.proofs.Common.{common_steps, slice_get, Entry, Req, Event, Take, Miss, Request, runs, took, submission, phase, hit, fired, data_of, IsReplied, is_all, AimsAt, MayHit, Catch, catch_in, with_took, with_missed, MayCome, Machine, setup_of, found_in, Seen, seen, seen_of, stage_of, stage_at, placed_in, wanted, any_below, Agrees, put_stage, put_found, is_running, is_idle, cancelled, is_none, aims_at, aims_as, comes_upon, may_take, may_miss, not_true, and_left, and_right, missed_in}
 use Rattle.std.proofs.lemmas.Bool.{ltb-true, lt-ltb}
 use Rattle.model.proofs.RequestLists.{apart}
 use Rattle.model.proofs.RequestWrites.{some_at, put_length}

@@ -1,10 +1,6 @@
 -- What a cancel has come to, and what it replies by that.
-use Rattle.std.proofs.Common.{◌≡◌, ℕ, nat_lt, Bool, true, false, cond, ℤ, pos, negsuc, List, [], length, refl, sym, ap, ◌∙◌, subst, ⊎_elim, true≢false, arith}
-use Rattle.std.proofs.lemmas.Grind.{common_steps}
-use Rattle.model.proofs.Common.{Req, Event, Hit, nothing, now, later, NoneLeft, AllTried, CancelAnswers, CancelBy, Catch, none_yet, catch_in, is_none, answer_all, answer_one, bool_cases, tally_in, uncaught, one_answer, answers_one, one_answers}
-
-no_length : (ms : List ℕ) → length ms ≡ 0 → ms ≡ []
-no_length = grind (arith, common_steps)
+use Rattle.std.proofs.Common.{◌≡◌, ℕ, nat_lt, Bool, true, false, cond, ℤ, pos, negsuc, List, [], refl, sym, ap, ◌∙◌, subst, ⊎_elim, true≢false, arith}
+use Rattle.model.proofs.Common.{common_steps, Req, Event, Hit, nothing, now, later, NoneLeft, AllTried, CancelAnswers, CancelBy, Catch, none_yet, catch_in, is_none, answer_all, answer_one, bool_cases, tally_in, uncaught, one_answer, answers_one, one_answers}
 
 none_is : (x : Catch) → is_none x ≡ true → x ≡ none_yet
 none_is = grind (arith, common_steps)

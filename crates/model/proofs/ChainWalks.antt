@@ -1,7 +1,6 @@
 -- What the walks along a chain find.
 use Rattle.std.proofs.Common.{◌≡◌, ℕ, zero, suc, ◌<◌, ◌≤◌, ◌==◌, ◌||◌, not, Bool, true, false, ℤ, List, Option, Some, refl, sym, ap, ◌∙◌, ⊎_elim, true≢false, eqb-true, eq-eqb, arith}
-use Rattle.std.proofs.lemmas.Grind.{common_steps}
-use Rattle.model.proofs.Common.{slice_get, Entry, Request, joins, severs, handed_in, placed_in, reply_in_of, severs_by, severs_at, severed_in, pending_of, chain_done, bool_cases, not_true, and_left, and_right}
+use Rattle.model.proofs.Common.{common_steps, slice_get, Entry, Request, joins, severs, handed_in, placed_in, reply_in_of, severs_by, severs_at, severed_in, pending_of, chain_done, bool_cases, not_true, and_left, and_right}
 
 -- every entry from m on joins the next, up to k
 abbrev pub Joined : List Request → ℕ → ℕ → Type 0

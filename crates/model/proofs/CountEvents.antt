@@ -1,7 +1,6 @@
 -- The event of a TIMEOUT that has counted enough completions: Count.
 use Rattle.std.proofs.Common.{◌≡◌, ℕ, zero, suc, ◌+◌, ◌-◌, ◌<◌, ◌≤◌, nat_lt, nat_le, Bool, true, false, cond, List, ◌∷◌, length, take, drop, get_or, Option, Some, refl, sym, ap, ◌∙◌, subst, eq-eqb, ltb-true, lt-ltb, leb-true, le-leb, length-drop, get_or-drop, take_all, arith}
-use Rattle.std.proofs.lemmas.Grind.{common_steps}
-use Rattle.model.proofs.Common.{slice_get, filter, slice_get_within, slice_get-get_or, Entry, Req, Event, Count, Request, placed, MayCome, count_of, Machine, setup_of, seen, seen_of, stage_of, stage_at, placed_in, Agrees, put_stage, is_armed, is_answered, is_done, later_answered, counts_up, may_count, counted, and_left, and_right}
+use Rattle.model.proofs.Common.{common_steps, slice_get, filter, slice_get_within, slice_get-get_or, Entry, Req, Event, Count, Request, placed, MayCome, count_of, Machine, setup_of, seen, seen_of, stage_of, stage_at, placed_in, Agrees, put_stage, is_armed, is_answered, is_done, later_answered, counts_up, may_count, counted, and_left, and_right}
 use Rattle.std.proofs.lemmas.List.Filters.{length-filter_more}
 use Rattle.history.specs.History.{Phase, phase, submits, is_replied, replies_from, later_replies}
 use Rattle.model.proofs.Phases.{armed_from}

@@ -1,7 +1,6 @@
 -- A search over the numbers in a list is a search over all numbers, where the list has those that count.
 use Rattle.std.proofs.Common.{◌≡◌, ℕ, zero, suc, ◌<◌, ◌≤◌, ◌==◌, ◌&&◌, ◌||◌, not, nat_lt, Bool, true, false, List, [], ◌∷◌, length, Option, Some, refl, sym, ap, ◌∙◌, subst, ⊎_elim, true≢false, eqb-true, eq-eqb, arith}
-use Rattle.std.proofs.lemmas.Grind.{common_steps}
-use Rattle.model.proofs.Common.{slice_get, list_any, slice_get_past, Op, Request, Stage, is_pending, Catch, untried, pending_of, any_below, lists, Listed, blocks, wanted, severed_in, chain_done, drains_of, held_back, clear_in, is_running, runs_of, bool_cases, and_left, and_right}
+use Rattle.model.proofs.Common.{common_steps, slice_get, list_any, slice_get_past, Op, Request, Stage, is_pending, Catch, untried, pending_of, any_below, lists, Listed, blocks, wanted, severed_in, chain_done, drains_of, held_back, clear_in, is_running, runs_of, bool_cases, and_left, and_right}
 use Rattle.std.proofs.lemmas.Bool.{ltb-true, lt-ltb}
 
 -- one passes

@@ -1,9 +1,8 @@
 -- The requests of a ring after a write, and those of them that were not answered.
 use Rattle.std.proofs.Common.{◌≡◌, ℕ, zero, suc, ◌<◌, ◌==◌, ◌||◌, not, Bool, true, false, cond, List, [], ◌∷◌, ◌++◌, length, set, get_or, Some, None, refl, sym, ap, ◌∙◌, subst, ⊎_elim, true≢false, eqb-true, eq-eqb, arith}
-use Rattle.std.proofs.lemmas.Grind.{common_steps}
 use Prim.Native.Nat.compare
 use lib.Dec.{compare_is_eq}
-use Rattle.model.proofs.Common.{slice_get, filter, OnOk, OnErr, Result, Ok, Err, set-get_or, slice_get_read, Request, Catch, is_pending, pending_of, lists, Listed, put, put_at, put_found, bool_cases, not_true}
+use Rattle.model.proofs.Common.{common_steps, slice_get, filter, OnOk, OnErr, Result, Ok, Err, set-get_or, slice_get_read, Request, Catch, is_pending, pending_of, lists, Listed, put, put_at, put_found, bool_cases, not_true}
 
 pub apart : (i j : ℕ) → ¬ (i ≡ j) → (i == j) ≡ false
 apart i j n = not_true (i == j) (λ e. n (eqb-true i j e))

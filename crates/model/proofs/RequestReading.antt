@@ -1,7 +1,6 @@
 -- What the requests of a ring tell is what the history tells of them.
 use Rattle.std.proofs.Common.{◌≡◌, ℕ, ◌-◌, ◌<◌, ◌==◌, ◌&&◌, ◌||◌, not, Bool, true, false, cond, ℤ, List, length, get_or, Option, Some, None, inl, inr, refl, sym, ap, ◌∙◌, subst, ⊎_elim, true≢false, arith}
-use Rattle.std.proofs.lemmas.Grind.{common_steps}
-use Rattle.model.proofs.Common.{slice_get, slice_get_within, slice_get-get_or, Entry, drains, Op, Invalid, Req, Event, Request, Stage, Phase, Hit, has_missed, submission, phase, reply_in, reply, IsReplied, joins, placed_behind, placed_from, placed, IsBefore, Severed, IsClear, asks_for, Matches, IsFirst, NoneLeft, AllTried, catch_in, is_pending, reply_at, stage_of, Seen, seen, seen_of, handed_at, stage_at, handed_in, placed_in, reply_in_of, severed_in, pending_of, chain_done, any_below, drains_of, blocks, held_back, clear_in, asked_for, wanted, is_escaped, untried, is_answered, bool_cases, not_true, and_left, and_right, missed_in}
+use Rattle.model.proofs.Common.{common_steps, slice_get, slice_get_within, slice_get-get_or, Entry, drains, Op, Invalid, Req, Event, Request, Stage, Phase, Hit, has_missed, submission, phase, reply_in, reply, IsReplied, joins, placed_behind, placed_from, placed, IsBefore, Severed, IsClear, asks_for, Matches, IsFirst, NoneLeft, AllTried, catch_in, is_pending, reply_at, stage_of, Seen, seen, seen_of, handed_at, stage_at, handed_in, placed_in, reply_in_of, severed_in, pending_of, chain_done, any_below, drains_of, blocks, held_back, clear_in, asked_for, wanted, is_escaped, untried, is_answered, bool_cases, not_true, and_left, and_right, missed_in}
 use Rattle.model.proofs.Phases.{answered_from, from_answered}
 use Rattle.model.proofs.NumberSearches.{any_at, any_found}
 use Rattle.model.proofs.ChainWalks.{severed_by, severed_from, done_by, done_from, severs_at_by, severs_at_from}

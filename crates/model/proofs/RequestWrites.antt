@@ -1,7 +1,6 @@
 -- Writing one request of a ring.
 use Rattle.std.proofs.Common.{arith, ◌≡◌, ℕ, Bool, true, false, List, length, Option, Some, None, ℤ}
-use Rattle.std.proofs.lemmas.Grind.{common_steps}
-use Rattle.model.proofs.Common.{slice_get, Request, Stage, Replied, Reaped, length-set, Catch, stage_at, put, put_at, put_stage, put_found, put_fired, put_taken, put_reaped, taken_out}
+use Rattle.model.proofs.Common.{common_steps, slice_get, Request, Stage, Replied, Reaped, length-set, Catch, stage_at, put, put_at, put_stage, put_found, put_fired, put_taken, put_reaped, taken_out}
 
 -- a request whose stage passes a test is there
 pub some_at : (p : Option Stage → Bool) → p None ≡ false → (o : Option Request) → p (stage_at o) ≡ true → (x : Request) × (o ≡ Some x)

@@ -1,7 +1,6 @@
 -- Reading the requests of a ring.
 use Rattle.std.proofs.Common.{◌≡◌, ℕ, ◌-◌, ◌<◌, ◌==◌, ◌&&◌, ◌⊎◌, not, cond, sub-one, Bool, true, false, List, length, Option, Some, None, get_or, refl, sym, ap, subst, ◌∙◌, arith}
-use Rattle.std.proofs.lemmas.Grind.{common_steps}
-use Rattle.model.proofs.Common.{slice_get, and_parts, slice_get_read, Op, Invalid, Entry, Request, Submission, joins, hosts, is_link_timeout, placed_behind, placed_from, reply_at, handed_of, handed_at, handed_in, placed_in, with_op, reply_in_of, severs_by, severs_at, severed_in, pending_of, chain_done}
+use Rattle.model.proofs.Common.{common_steps, slice_get, and_parts, slice_get_read, Op, Invalid, Entry, Request, Submission, joins, hosts, is_link_timeout, placed_behind, placed_from, reply_at, handed_of, handed_at, handed_in, placed_in, with_op, reply_in_of, severs_by, severs_at, severed_in, pending_of, chain_done}
 use Rattle.entry.specs.Table.{fits, fits_op}
 
 pub kept : (xs : List Request) (k : ℕ) (x : Request) → k < length xs → x ≡ get_or xs k x → slice_get xs k ≡ Some x

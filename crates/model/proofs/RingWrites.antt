@@ -1,7 +1,6 @@
 -- What is kept goes on agreeing with the history when the requests of one ring are written.
 use Rattle.std.proofs.Common.{◌≡◌, ℕ, ◌<◌, ◌≤◌, ◌==◌, Bool, true, false, cond, List, [], ◌∷◌, length, get_or, set, Some, refl, sym, ap, ◌∙◌, subst, ⊎_elim, eqb-true, arith}
-use Rattle.std.proofs.lemmas.Grind.{common_steps}
-use Rattle.model.proofs.Common.{IfOk, OnErr, Result, set-get_or, slice_get, length-set, slice_get_within, Req, Event, Request, submits, clock_of, was_shut, flow, Setup, MayCome, shut_for, Machine, setup_of, Seen, seen, seen_of, Agrees, Carries, MayFollow, Decided, put, put_at, is_step, bool_cases}
+use Rattle.model.proofs.Common.{common_steps, IfOk, OnErr, Result, set-get_or, slice_get, length-set, slice_get_within, Req, Event, Request, submits, clock_of, was_shut, flow, Setup, MayCome, shut_for, Machine, setup_of, Seen, seen, seen_of, Agrees, Carries, MayFollow, Decided, put, put_at, is_step, bool_cases}
 use Rattle.model.proofs.RequestLists.{slice_get-set}
 use Rattle.model.proofs.RequestWrites.{put_length}
 
@@ -14,10 +13,6 @@ put_row m i ys = record m { rings = set m.rings i ys }
 
 pub row_within : (rings : List (List Request)) (i k : ℕ) (x : Request) → slice_get (row rings i) k ≡ Some x → i < length rings
 row_within = grind (arith, common_steps)
-
--- the rows after a write
-pub row_put : (rings : List (List Request)) (i j : ℕ) (ys : List Request) → i < length rings → row (set rings i ys) j ≡ cond (i == j) ys (row rings j)
-row_put = grind (arith, common_steps)
 
 -- the event leaves the counts, the pipes, the clock and the end as they were
 pub record Calm (h : List Event) (e : Event) : Type 0 where
@@ -38,9 +33,6 @@ module _ (m : Machine) (h : List Event) (a : Agrees h m) (i : ℕ) where
 
   -- the requests of the ring i are ys after the event e
   module _ (e : Event) (ys : List Request) (lt : i < length m.rings) where
-    row_is : (j : ℕ) (b : Bool) → (i == j) ≡ b → row (set m.rings i ys) j ≡ cond b ys (row m.rings j)
-    row_is j b w = row_put m.rings i j ys lt ∙ ap (λ z. cond z ys (row m.rings j)) w
-
     pub rows_kept : ((k : ℕ) → seen (e ∷ h) (at k) ≡ seen_of (slice_get ys k)) → ((q : Req) → (i == q.ring) ≡ false → seen (e ∷ h) q ≡ seen h q) → (q : Req) → seen (e ∷ h) q ≡ seen_of (slice_get (row (set m.rings i ys) q.ring) q.k)
     rows_kept = grind (arith, common_steps)
 
@@ -85,9 +77,6 @@ row_of rings i r lt e = e ∙ get_or_same rings i r [] lt
 
 unwritten : (m : Machine) (i : ℕ) (s : List Request) → s ≡ row m.rings i → put_row m i s ≡ m
 unwritten m i s e = ap (put_row m i) e ∙ ap (λ (z : List (List Request)). let n : Machine = record m { rings = z } in n) (set-get_or m.rings i [])
-
-after_row : (m : Machine) (i : ℕ) (r s : List Request) (b : Bool) (ys : List Request → List Request) → i < length m.rings → r ≡ row m.rings i → s ≡ cond b (ys r) r → put_row m i s ≡ cond b (put_row m i (ys (row m.rings i))) m
-after_row = grind (arith, common_steps, unwritten)
 
 abbrev pub IsDecided : Event → ℕ → (Machine → List Request → Bool) → (List Request → List Request) → Type 0
 IsDecided e i may ys = (m n : Machine) (b : Bool) → m.shut ≡ shut_for e → b ≡ may m (row m.rings i) → n ≡ cond b (put_row m i (ys (row m.rings i))) m → Decided b m e n

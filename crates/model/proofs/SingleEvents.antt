@@ -1,7 +1,6 @@
 -- The events that one request alone decides: Begin, Park, Sever, Reap, Cut.
 use Rattle.std.proofs.Common.{◌≡◌, ℕ, zero, suc, ◌-◌, ◌&&◌, not, true, false, cond, List, [], ◌∷◌, Option, Some, refl, sym, ap, ◌∙◌, subst, true≢false, eq-eqb, sub-one, arith}
-use Rattle.std.proofs.lemmas.Grind.{common_steps}
-use Rattle.model.proofs.Common.{slice_get, Req, Event, Begin, Park, Sever, Reap, Cut, Request, Stage, Waits, Runs, Phase, waits, runs, phase, after_reap, IsPending, IsReplied, previous, is_link_timeout_in, gate_of, Open, IsClear, is_timer, MayCome, Machine, setup_of, Seen, seen, seen_of, stage_of, stage_at, placed_in, severed_in, pending_of, Agrees, put_stage, is_waits, is_running, placed_as, gate_in, open_in, may_begin, may_park, may_sever, may_reap, may_cut, put_reaped, taken_out, cancelled, is_replied, not_true, and_left, and_right}
+use Rattle.model.proofs.Common.{common_steps, slice_get, Req, Event, Begin, Park, Sever, Reap, Cut, Request, Stage, Waits, Runs, Phase, waits, runs, phase, after_reap, IsPending, IsReplied, previous, is_link_timeout_in, gate_of, Open, IsClear, is_timer, MayCome, Machine, setup_of, Seen, seen, seen_of, stage_of, stage_at, placed_in, severed_in, pending_of, Agrees, put_stage, is_waits, is_running, placed_as, gate_in, open_in, may_begin, may_park, may_sever, may_reap, may_cut, put_reaped, taken_out, cancelled, is_replied, not_true, and_left, and_right}
 use Rattle.history.proofs.Untaken.{untaken}
 use Rattle.model.proofs.Phases.{waits_from, runs_from, replied_from, pending_as, pending_at, pending_from, from_pending}
 use Rattle.model.proofs.RequestReading.{stage_is, placed_is, placed_of, clear_is, was_clear, kept_before, severed_is, was_severed}

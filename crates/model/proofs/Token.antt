@@ -20,7 +20,7 @@ pub use denote.Triple.Walked.{Goes-dropped, Goes-ref, Stays, ends_at, says, stay
 pub use mir.MapTy.{inst_fn}
 pub use mir.Syntax.{a_type, named}
 pub use types.ByLocal.{alloc_all, free_all, get, look_at, pass_all, sets}
-pub use types.Kit.{!, done, feq_i, frame, fsplit3, group, join, keep, move, qed, raw, split, suffices, use0, ‵, ◌$◌, ◌∵◌, ◌⊛◌}
+pub use types.Kit.{ !, done, feq_i, frame, fsplit3, group, join, keep, move, qed, raw, split, suffices, use0, ‵, ◌$◌, ◌∵◌, ◌⊛◌}
 pub use types.Part.{agg}
 pub use types.Run.{and_then, enter, no_more, of_opd, returns, unit_lit}
 
