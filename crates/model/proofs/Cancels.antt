@@ -1,24 +1,7 @@
 -- The events of a cancel: Take, Miss.
-use Rattle.std.proofs.Common.{◌≡◌, ℕ, ◌<◌, ◌==◌, ◌&&◌, not, nat_lt, Bool, true, false, cond, List, ◌∷◌, Option, Some, None, refl, sym, ap, ◌∙◌, true≢false, eq-eqb, arith}
-use Rattle.std.specs.List.{slice_get}
+use Rattle.std.proofs.Common.{◌≡◌, ℕ, ◌<◌, ◌==◌, ◌&&◌, not, nat_lt, Bool, true, false, cond, List, ◌∷◌, Option, Some, refl, sym, ap, ◌∙◌, true≢false, eq-eqb, arith}
+use Rattle.model.proofs.Common.{common_steps, slice_get, Entry, Req, Event, Take, Miss, Request, runs, took, submission, phase, hit, fired, data_of, IsReplied, is_all, AimsAt, MayHit, Catch, catch_in, with_took, with_missed, MayCome, Machine, setup_of, found_in, Seen, seen, seen_of, stage_of, stage_at, placed_in, wanted, any_below, Agrees, put_stage, put_found, is_running, is_idle, cancelled, is_none, aims_at, aims_as, comes_upon, may_take, may_miss, not_true, and_left, and_right, missed_in}
 use Rattle.std.proofs.lemmas.Bool.{ltb-true, lt-ltb}
-use Rattle.entry.specs.Entry.{Entry}
-use Rattle.history.specs.declared.req.Req.{Req}
-use Rattle.history.specs.declared.event.Event.{Event}
-use Rattle.history.specs.declared.event.Event.TheVariants.{Take, Miss}
-use Rattle.model.specs.declared.request.Request.{Request}
-use Rattle.history.specs.History.{runs, took, submission, phase, hit, fired, data_of, IsReplied}
-use Rattle.history.specs.Answers.{is_all, AimsAt, MayHit}
-use Rattle.history.specs.State.{Catch, catch_in, with_took, with_missed}
-use Rattle.history.specs.Legal.{MayCome}
-use Rattle.model.specs.Machine.{Machine, setup_of}
-use Rattle.model.specs.Seen.{found_in, Seen, seen, seen_of, stage_of, stage_at, placed_in}
-use Rattle.model.specs.Decides.{wanted, any_below}
-use Rattle.model.specs.Agrees.{Agrees}
-use Rattle.model.specs.Moves.{put_stage, put_found, is_running, is_idle, cancelled}
-use Rattle.model.specs.Cancels.{is_none, aims_at, aims_as, comes_upon, may_take, may_miss}
-use Rattle.history.proofs.Requests.{not_true, and_left, and_right}
-use Rattle.history.proofs.Catches.{missed_in}
 use Rattle.model.proofs.RequestLists.{apart}
 use Rattle.model.proofs.RequestWrites.{some_at, put_length}
 use Rattle.model.proofs.Phases.{runs_from, idle_from, from_idle}
@@ -32,8 +15,7 @@ not_so : (b : Bool) → not b ≡ true → b ≡ false
 not_so b e = not_true b (λ u. true≢false (sym e ∙ ap not u))
 
 aims_by : (xs : List Request) (x : Catch) (o : Option Entry) (t : ℕ) → aims_as xs x o t ≡ true → (d : Entry) × (o ≡ Some d) × (wanted xs d.op t ≡ true) × (aims_at (is_all d.op) xs d.op x t ≡ true)
-aims_by xs x None t w = absurd (true≢false (sym w))
-aims_by xs x (Some d) t w = (d, refl, and_left (wanted xs d.op t) _ w, and_right (wanted xs d.op t) _ w)
+aims_by = grind (arith, common_steps, and_left, and_right)
 
 module _ (m : Machine) (h : List Event) (a : Agrees h m) (i : ℕ) where
   abbrev xs : List Request
@@ -99,9 +81,7 @@ module _ (m : Machine) (h : List Event) (a : Agrees h m) (i : ℕ) where
   miss_may c t b = let u = upon_may c t (and_left (comes_upon xs c t) _ b) in (u.0, u.1, runs_from (phase h (at t)) (ap is_running (told t) ∙ and_right (comes_upon xs c t) _ b))
 
   pub may_miss_is : (c t : ℕ) → MayCome (setup_of m) h (Miss (at c) (at t)) → may_miss xs c t ≡ true
-  may_miss_is c t y =
-      let u = may_upon c t y.0 y.1 (runs_unreplied (phase h (at t)) y.2) in let w : is_running (stage_at (slice_get xs t)) ≡ true = sym (ap is_running (told t)) ∙ ap (λ p. is_running (stage_of p)) y.2 in
-      ap (λ b. b && is_running (stage_at (slice_get xs t))) u ∙ w
+  may_miss_is = grind (arith, common_steps, may_upon, runs_unreplied, told)
 
   pub miss_kept : (c t : ℕ) → may_miss xs c t ≡ true → m.shut ≡ false → Agrees (Miss (at c) (at t) ∷ h) (put_row m i (put_found xs c (with_missed t)))
   miss_kept c t b s =

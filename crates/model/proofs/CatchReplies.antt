@@ -1,22 +1,9 @@
 -- What a cancel has come to, and what it replies by that.
-use Rattle.std.proofs.Common.{◌≡◌, ℕ, ◌==◌, nat_lt, Bool, true, false, cond, ℤ, pos, negsuc, List, [], ◌∷◌, length, refl, sym, ap, ◌∙◌, subst, ⊎_elim, true≢false, eqb-true, arith}
-use Rattle.history.specs.declared.req.Req.{Req}
-use Rattle.history.specs.declared.event.Event.{Event}
-use Rattle.history.specs.History.{Hit, nothing}
-use Rattle.history.specs.Answers.{now, later, NoneLeft, AllTried, CancelAnswers, CancelBy}
-use Rattle.history.specs.State.{Catch, none_yet, catch_in}
-use Rattle.model.specs.Cancels.{is_none, answer_all, answer_one}
-use Rattle.history.proofs.Requests.{bool_cases, and_left, and_right}
-use Rattle.history.proofs.Catches.{tally_in, uncaught, one_answer, answers_one, one_answers}
-
-no_length : (ms : List ℕ) → length ms ≡ 0 → ms ≡ []
-no_length [] e = refl
-no_length (m ∷ ms) e = absurd (omega arith)
+use Rattle.std.proofs.Common.{◌≡◌, ℕ, nat_lt, Bool, true, false, cond, ℤ, pos, negsuc, List, [], refl, sym, ap, ◌∙◌, subst, ⊎_elim, true≢false, arith}
+use Rattle.model.proofs.Common.{common_steps, Req, Event, Hit, nothing, now, later, NoneLeft, AllTried, CancelAnswers, CancelBy, Catch, none_yet, catch_in, is_none, answer_all, answer_one, bool_cases, tally_in, uncaught, one_answer, answers_one, one_answers}
 
 none_is : (x : Catch) → is_none x ≡ true → x ≡ none_yet
-none_is x w =
-    let e : x.ended ≡ 0 = eqb-true x.ended 0 (and_left (x.ended == 0) _ w) in
-    let n : x.escaped ≡ [] = no_length x.escaped (eqb-true (length x.escaped) 0 (and_right (x.ended == 0) _ w)) in λ i. record { ended = e i; escaped = n i }
+none_is = grind (arith, common_steps)
 
 pub none_from : (x : Hit) → is_none (catch_in x) ≡ true → x ≡ nothing
 none_from x w = uncaught x (none_is (catch_in x) w)
@@ -36,8 +23,7 @@ done_reply x left w = (rw w refl) ∙ elim (nat_lt 0 x.ended) as (λ b. cond b (
 
 module _ (h : List Event) (c : Req) where
   nothing_by : (left : Bool) (res : ℤ) (bs : List ℕ) → (left ≡ false → NoneLeft h c) → answer_one none_yet left ≡ now res bs → CancelAnswers h c nothing res × (bs ≡ [])
-  nothing_by true res bs f e = absurd (no_reply res bs e)
-  nothing_by false res bs f e = let s = same_reply _ res _ bs e in ((s.0, f refl), s.1)
+  nothing_by = grind (arith, common_steps, no_reply, same_reply)
 
   nothing_from : (left : Bool) (res : ℤ) → (NoneLeft h c → left ≡ false) → CancelAnswers h c nothing res → answer_one none_yet left ≡ now res []
   nothing_from left res f a = ap (answer_one none_yet) (f a.1) ∙ ap (λ z. now z []) (sym a.0)
@@ -62,8 +48,7 @@ module _ (h : List Event) (c : Req) where
       (bool_cases (is_none (catch_in x)))
 
   pub all_by : (x : Hit) (left : Bool) (res : ℤ) (bs : List ℕ) → (left ≡ false → AllTried h c x) → answer_all (catch_in x) left ≡ now res bs → CancelBy true h c x res × (bs ≡ [])
-  all_by x true res bs f e = absurd (no_reply res bs e)
-  all_by x false res bs f e = let s = same_reply _ res _ bs e in ((s.0 ∙ ap pos (tally_in x), f refl), s.1)
+  all_by = grind (arith, common_steps, no_reply, same_reply, tally_in)
 
   pub all_from : (x : Hit) (left : Bool) (res : ℤ) → (AllTried h c x → left ≡ false) → CancelBy true h c x res → answer_all (catch_in x) left ≡ now res []
   all_from x left res f a = ap (answer_all (catch_in x)) (f a.1) ∙ ap (λ n. now (pos n) []) (tally_in x) ∙ ap (λ z. now z []) (sym a.0)

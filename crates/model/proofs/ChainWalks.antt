@@ -1,27 +1,17 @@
 -- What the walks along a chain find.
-use Rattle.std.proofs.Common.{◌≡◌, ℕ, zero, suc, ◌<◌, ◌≤◌, ◌==◌, ◌||◌, not, Bool, true, false, ℤ, List, Option, Some, None, refl, sym, ap, ◌∙◌, ⊎_elim, true≢false, eqb-true, eq-eqb, arith}
-use Rattle.std.specs.List.{slice_get}
-use Rattle.entry.specs.Entry.{Entry}
-use Rattle.model.specs.declared.request.Request.{Request}
-use Rattle.history.specs.Chains.{joins, severs}
-use Rattle.model.specs.Seen.{handed_in, placed_in}
-use Rattle.model.specs.Decides.{reply_in_of, severs_by, severs_at, severed_in, pending_of, chain_done}
-use Rattle.history.proofs.Requests.{bool_cases, not_true, and_left, and_right}
+use Rattle.std.proofs.Common.{◌≡◌, ℕ, zero, suc, ◌<◌, ◌≤◌, ◌==◌, ◌||◌, not, Bool, true, false, ℤ, List, Option, Some, refl, sym, ap, ◌∙◌, ⊎_elim, true≢false, eqb-true, eq-eqb, arith}
+use Rattle.model.proofs.Common.{common_steps, slice_get, Entry, Request, joins, severs, handed_in, placed_in, reply_in_of, severs_by, severs_at, severed_in, pending_of, chain_done, bool_cases, not_true, and_left, and_right}
 
 -- every entry from m on joins the next, up to k
 abbrev pub Joined : List Request → ℕ → ℕ → Type 0
 Joined xs m k = (j : ℕ) → m ≤ j → j < k → joins (handed_in xs j) ≡ true
 
 or_cases : (a b : Bool) → (a || b) ≡ true → ¬ (a ≡ true) → b ≡ true
-or_cases true b e n = absurd (n refl)
-or_cases false b e n = e
+or_cases = grind (arith, common_steps)
 
 -- one more entry joins
 joined_more : (xs : List Request) (m k : ℕ) → Joined xs m k → joins (handed_in xs k) ≡ true → Joined xs m (suc k)
-joined_more xs m k l e j a b = ⊎_elim
-    (λ (w : (j == k) ≡ true). ap (λ z. joins (handed_in xs z)) (eqb-true j k w) ∙ e)
-    (λ (w : (j == k) ≡ false). let n : ¬ (j ≡ k) = λ u. true≢false (sym (eq-eqb j k u) ∙ w) in l j a (omega arith))
-    (bool_cases (j == k))
+joined_more = grind (arith, common_steps)
 
 joined_fewer : (xs : List Request) (m k : ℕ) → Joined xs m (suc k) → Joined xs m k
 joined_fewer xs m k l j a b = l j a (omega arith)
@@ -68,8 +58,7 @@ module _ (xs : List Request) where
 
 severs_parts : (a : Option Entry) (b : Option ℤ) → severs_by a b ≡ true → (e : Entry) × (res : ℤ) × (a ≡ Some e) × (b ≡ Some res) × (severs e res ≡ true)
 severs_parts (Some e) (Some res) is = (e, res, refl, refl, is)
-severs_parts (Some e) None is = absurd (true≢false (sym is))
-severs_parts None b is = absurd (true≢false (sym is))
+severs_parts _ _ is = absurd (true≢false (sym is))
 
 pub severs_at_by : (xs : List Request) (k : ℕ) → severs_at xs k ≡ true → (e : Entry) × (res : ℤ) × (placed_in xs k ≡ Some e) × (reply_in_of (slice_get xs k) ≡ Some res) × (severs e res ≡ true)
 severs_at_by xs k is = severs_parts (placed_in xs k) (reply_in_of (slice_get xs k)) is

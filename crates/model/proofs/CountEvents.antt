@@ -1,21 +1,8 @@
 -- The event of a TIMEOUT that has counted enough completions: Count.
-use Rattle.std.proofs.Common.{◌≡◌, ℕ, zero, suc, ◌+◌, ◌-◌, ◌<◌, ◌≤◌, nat_lt, nat_le, Bool, true, false, cond, List, ◌∷◌, length, take, drop, get_or, Option, Some, None, refl, sym, ap, ◌∙◌, subst, true≢false, eq-eqb, ltb-true, lt-ltb, leb-true, le-leb, length-drop, get_or-drop, take_all, arith}
-use Rattle.std.specs.List.{slice_get, filter}
+use Rattle.std.proofs.Common.{◌≡◌, ℕ, zero, suc, ◌+◌, ◌-◌, ◌<◌, ◌≤◌, nat_lt, nat_le, Bool, true, false, cond, List, ◌∷◌, length, take, drop, get_or, Option, Some, refl, sym, ap, ◌∙◌, subst, eq-eqb, ltb-true, lt-ltb, leb-true, le-leb, length-drop, get_or-drop, take_all, arith}
+use Rattle.model.proofs.Common.{common_steps, slice_get, filter, slice_get_within, slice_get-get_or, Entry, Req, Event, Count, Request, placed, MayCome, count_of, Machine, setup_of, seen, seen_of, stage_of, stage_at, placed_in, Agrees, put_stage, is_armed, is_answered, is_done, later_answered, counts_up, may_count, counted, and_left, and_right}
 use Rattle.std.proofs.lemmas.List.Filters.{length-filter_more}
-use Rattle.std.proofs.lemmas.Option.{slice_get_within, slice_get-get_or}
-use Rattle.entry.specs.Entry.{Entry}
-use Rattle.history.specs.declared.req.Req.{Req}
-use Rattle.history.specs.declared.event.Event.{Event}
-use Rattle.history.specs.declared.event.Event.TheVariants.{Count}
-use Rattle.model.specs.declared.request.Request.{Request}
-use Rattle.history.specs.History.{Phase, unborn, waits, runs, armed, replied, reaped, phase, submits, is_replied, replies_from, later_replies}
-use Rattle.history.specs.Chains.{placed}
-use Rattle.history.specs.Legal.{MayCome, count_of}
-use Rattle.model.specs.Machine.{Machine, setup_of}
-use Rattle.model.specs.Seen.{seen, seen_of, stage_of, stage_at, placed_in}
-use Rattle.model.specs.Agrees.{Agrees}
-use Rattle.model.specs.Moves.{put_stage, is_armed, is_answered, is_done, later_answered, counts_up, may_count, counted}
-use Rattle.history.proofs.Requests.{and_left, and_right}
+use Rattle.history.specs.History.{Phase, phase, submits, is_replied, replies_from, later_replies}
 use Rattle.model.proofs.Phases.{armed_from}
 use Rattle.model.proofs.RequestReading.{stage_is, placed_is}
 use Rattle.model.proofs.RequestWrites.{some_at}
@@ -24,12 +11,7 @@ use Rattle.model.proofs.SingleEvents.{reads, nothing_taken}
 use Rattle.model.proofs.TimerEvents.{armed_unreplied}
 
 answered_staged : (p : Phase) → is_replied p ≡ is_answered (stage_of p)
-answered_staged unborn = refl
-answered_staged waits = refl
-answered_staged runs = refl
-answered_staged (armed d) = refl
-answered_staged (replied c res) = refl
-answered_staged (reaped c res) = refl
+answered_staged = grind (arith, common_steps)
 
 abbrev one_if : Bool → ℕ
 one_if b = cond b 1 0
@@ -61,8 +43,7 @@ module _ (h : List Event) (i : ℕ) (xs : List Request) (reads : (k : ℕ) → s
       some ∙ ap done_of (take_all (submits h i - suc k) (drop (suc k) xs) (omega (arith, length-drop (suc k) xs)))
 
 counts_by : (n : ℕ) (o : Option Entry) → counts_up n o ≡ true → (e : Entry) × (o ≡ Some e) × (0 < count_of e.op) × (count_of e.op ≤ n)
-counts_by n None w = absurd (true≢false (sym w))
-counts_by n (Some e) w = (e, refl, ltb-true 0 (count_of e.op) (and_left _ _ w), leb-true (count_of e.op) n (and_right (nat_lt 0 (count_of e.op)) _ w))
+counts_by = grind (arith, common_steps, ltb-true, and_left, leb-true, and_right)
 
 counts_from : (n : ℕ) (o : Option Entry) (e : Entry) → o ≡ Some e → 0 < count_of e.op → count_of e.op ≤ n → counts_up n o ≡ true
 counts_from n o e is lt le = ap (counts_up n) is ∙ (let a : nat_lt 0 (count_of e.op) ≡ true = lt-ltb 0 (count_of e.op) lt in let b : nat_le (count_of e.op) n ≡ true = le-leb (count_of e.op) n le in rw (a, b) refl)

@@ -1,3 +1,4 @@
+pub mod Common
 pub mod NumberSearches
 pub mod NextEvents
 pub mod EmptyStates

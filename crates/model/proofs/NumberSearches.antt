@@ -1,18 +1,7 @@
 -- A search over the numbers in a list is a search over all numbers, where the list has those that count.
-use Rattle.std.proofs.Common.{◌≡◌, ℕ, zero, suc, ◌<◌, ◌≤◌, ◌==◌, ◌&&◌, ◌||◌, not, nat_lt, Bool, true, false, List, [], ◌∷◌, length, Option, Some, None, refl, sym, ap, ◌∙◌, subst, ⊎_elim, true≢false, eqb-true, eq-eqb, arith}
-use Rattle.std.specs.List.{slice_get, list_any}
-use Rattle.std.proofs.lemmas.Option.{slice_get_past}
+use Rattle.std.proofs.Common.{◌≡◌, ℕ, zero, suc, ◌<◌, ◌≤◌, ◌==◌, ◌&&◌, ◌||◌, not, nat_lt, Bool, true, false, List, [], ◌∷◌, length, Option, Some, refl, sym, ap, ◌∙◌, subst, ⊎_elim, true≢false, eqb-true, eq-eqb, arith}
+use Rattle.model.proofs.Common.{common_steps, slice_get, list_any, slice_get_past, Op, Request, Stage, is_pending, Catch, untried, pending_of, any_below, lists, Listed, blocks, wanted, severed_in, chain_done, drains_of, held_back, clear_in, is_running, runs_of, bool_cases, and_left, and_right}
 use Rattle.std.proofs.lemmas.Bool.{ltb-true, lt-ltb}
-use Rattle.entry.specs.declared.op.Op.{Op}
-use Rattle.model.specs.declared.request.Request.{Request}
-use Rattle.model.specs.declared.request.Stage.{Stage}
-use Rattle.model.specs.declared.request.Stage.TheVariants.{Waits, Runs, Armed, Replied, Reaped}
-use Rattle.model.specs.Seen.{is_pending}
-use Rattle.history.specs.State.{Catch}
-use Rattle.model.specs.Cancels.{untried}
-use Rattle.model.specs.Decides.{pending_of, any_below, lists, Listed, blocks, wanted, severed_in, chain_done, drains_of, held_back, clear_in}
-use Rattle.model.specs.Moves.{is_running, runs_of}
-use Rattle.history.proofs.Requests.{bool_cases, and_left, and_right}
 
 -- one passes
 pub any_at : (p : ℕ → Bool) (n m : ℕ) → m < n → p m ≡ true → any_below p n ≡ true
@@ -46,9 +35,7 @@ listed_any q (m ∷ ms) is = ⊎_elim
     (bool_cases (q m))
 
 pub same_answer : (a b : Bool) → (a ≡ true → b ≡ true) → (b ≡ true → a ≡ true) → a ≡ b
-same_answer true b f g = sym (f refl)
-same_answer false true f g = g refl
-same_answer false false f g = refl
+same_answer = grind (arith, common_steps)
 
 -- the numbers in the list are those that can pass
 pub any_listed_below : (p : ℕ → Bool) (ms : List ℕ) (n : ℕ) → ((m : ℕ) → p m ≡ true → lists ms m ≡ true) → list_any (λ m. nat_lt m n && p m) ms ≡ any_below p n
@@ -63,19 +50,13 @@ any_listed_all p ms n l none = same_answer _ _
     (λ is. let f = any_found p n is in any_listed p ms f.0 (l f.0 f.2) f.2)
 
 blocks_pending : (d : Bool) (o : Option Request) → blocks d o ≡ true → pending_of o ≡ true
-blocks_pending d None is = is
-blocks_pending d (Some x) is = and_left _ _ is
+blocks_pending = grind (arith, common_steps, and_left)
 
 runs_pending_at : (s : Stage) → is_running (Some s) ≡ true → is_pending s ≡ true
-runs_pending_at Runs is = refl
-runs_pending_at Waits is = refl
-runs_pending_at (Armed d) is = refl
-runs_pending_at (Replied res) is = is
-runs_pending_at (Reaped res) is = is
+runs_pending_at = grind (arith, common_steps)
 
 runs_pending : (o : Option Request) → runs_of o ≡ true → pending_of o ≡ true
-runs_pending None is = is
-runs_pending (Some x) is = runs_pending_at x.stage is
+runs_pending = grind (arith, common_steps, runs_pending_at)
 
 -- the searches of a ring
 module _ (xs ys : List Request) (ms : List ℕ) (l : Listed xs ms) (v : xs ≡ ys) where

@@ -1,105 +1,44 @@
 -- What a stage tells of the phase.
-use Rattle.std.proofs.Common.{◌≡◌, ℕ, ◌≤◌, Bool, true, false, ℤ, Option, Some, None, refl, sym, true≢false}
+use Rattle.std.proofs.Common.{arith, ◌≡◌, ℕ, ◌≤◌, Bool, true, false, ℤ, Option, Some, None}
 use Rattle.std.proofs.lemmas.Bool.{leb-true}
-use Rattle.model.specs.declared.request.Request.{Request}
-use Rattle.model.specs.declared.request.Stage.{Stage}
-use Rattle.history.specs.History.{Cause, Phase, unborn, waits, runs, armed, replied, reaped, IsReplied, IsPending, IsIdle}
-use Rattle.model.specs.Seen.{is_pending, stage_of, stage_at}
-use Rattle.model.specs.Decides.{pending_of}
-use Rattle.model.specs.Moves.{is_waits, is_running, is_due, is_armed, is_idle, is_replied, is_answered}
+use Rattle.model.proofs.Common.{common_steps, Request, Stage, Cause, Phase, waits, runs, armed, replied, IsReplied, IsPending, IsIdle, is_pending, stage_of, stage_at, pending_of, is_waits, is_running, is_due, is_armed, is_idle, is_replied, is_answered}
 
 pub waits_from : (p : Phase) → is_waits (stage_of p) ≡ true → p ≡ waits
-waits_from unborn e = absurd (true≢false (sym e))
-waits_from waits e = refl
-waits_from runs e = absurd (true≢false (sym e))
-waits_from (armed d) e = absurd (true≢false (sym e))
-waits_from (replied c res) e = absurd (true≢false (sym e))
-waits_from (reaped c res) e = absurd (true≢false (sym e))
+waits_from = grind (arith, common_steps)
 
 pub runs_from : (p : Phase) → is_running (stage_of p) ≡ true → p ≡ runs
-runs_from unborn e = absurd (true≢false (sym e))
-runs_from waits e = absurd (true≢false (sym e))
-runs_from runs e = refl
-runs_from (armed d) e = absurd (true≢false (sym e))
-runs_from (replied c res) e = absurd (true≢false (sym e))
-runs_from (reaped c res) e = absurd (true≢false (sym e))
+runs_from = grind (arith, common_steps)
 
 pub due_from : (clock : ℕ) (p : Phase) → is_due clock (stage_of p) ≡ true → (d : ℕ) × (p ≡ armed d) × (d ≤ clock)
-due_from clock unborn e = absurd (true≢false (sym e))
-due_from clock waits e = absurd (true≢false (sym e))
-due_from clock runs e = absurd (true≢false (sym e))
-due_from clock (armed d) e = (d, refl, leb-true d clock e)
-due_from clock (replied c res) e = absurd (true≢false (sym e))
-due_from clock (reaped c res) e = absurd (true≢false (sym e))
+due_from = grind (arith, common_steps, leb-true)
 
 pub armed_from : (p : Phase) → is_armed (stage_of p) ≡ true → (d : ℕ) × (p ≡ armed d)
-armed_from unborn e = absurd (true≢false (sym e))
-armed_from waits e = absurd (true≢false (sym e))
-armed_from runs e = absurd (true≢false (sym e))
-armed_from (armed d) e = (d, refl)
-armed_from (replied c res) e = absurd (true≢false (sym e))
-armed_from (reaped c res) e = absurd (true≢false (sym e))
+armed_from = grind (arith, common_steps)
 
 pub idle_from : (p : Phase) → is_idle (stage_of p) ≡ true → IsIdle p
-idle_from unborn e = absurd (true≢false (sym e))
-idle_from waits e = tt
-idle_from runs e = absurd (true≢false (sym e))
-idle_from (armed d) e = tt
-idle_from (replied c res) e = absurd (true≢false (sym e))
-idle_from (reaped c res) e = absurd (true≢false (sym e))
+idle_from = grind (arith, common_steps)
 
 pub from_idle : (p : Phase) → IsIdle p → is_idle (stage_of p) ≡ true
-from_idle unborn i = absurd i
-from_idle waits i = refl
-from_idle runs i = absurd i
-from_idle (armed d) i = refl
-from_idle (replied c res) i = absurd i
-from_idle (reaped c res) i = absurd i
+from_idle = grind (arith, common_steps)
 
 pub replied_from : (p : Phase) → is_replied (stage_of p) ≡ true → (c : Cause) × (res : ℤ) × (p ≡ replied c res)
-replied_from unborn e = absurd (true≢false (sym e))
-replied_from waits e = absurd (true≢false (sym e))
-replied_from runs e = absurd (true≢false (sym e))
-replied_from (armed d) e = absurd (true≢false (sym e))
-replied_from (replied c res) e = (c, res, refl)
-replied_from (reaped c res) e = absurd (true≢false (sym e))
+replied_from = grind (arith, common_steps)
 
 pub answered_from : (p : Phase) → is_answered (stage_of p) ≡ true → IsReplied p
-answered_from unborn e = absurd (true≢false (sym e))
-answered_from waits e = absurd (true≢false (sym e))
-answered_from runs e = absurd (true≢false (sym e))
-answered_from (armed d) e = absurd (true≢false (sym e))
-answered_from (replied c res) e = tt
-answered_from (reaped c res) e = tt
+answered_from = grind (arith, common_steps)
 
 pub from_answered : (p : Phase) → IsReplied p → is_answered (stage_of p) ≡ true
-from_answered unborn i = absurd i
-from_answered waits i = absurd i
-from_answered runs i = absurd i
-from_answered (armed d) i = absurd i
-from_answered (replied c res) i = refl
-from_answered (reaped c res) i = refl
+from_answered = grind (arith, common_steps)
 
 abbrev pub pending_as : Option Stage → Bool
 pending_as None = false
 pending_as (Some s) = is_pending s
 
 pub pending_at : (o : Option Request) → pending_of o ≡ pending_as (stage_at o)
-pending_at None = refl
-pending_at (Some x) = refl
+pending_at = grind (arith, common_steps)
 
 pub pending_from : (p : Phase) → pending_as (stage_of p) ≡ true → IsPending p
-pending_from unborn e = absurd (true≢false (sym e))
-pending_from waits e = tt
-pending_from runs e = tt
-pending_from (armed d) e = tt
-pending_from (replied c res) e = absurd (true≢false (sym e))
-pending_from (reaped c res) e = absurd (true≢false (sym e))
+pending_from = grind (arith, common_steps)
 
 pub from_pending : (p : Phase) → IsPending p → pending_as (stage_of p) ≡ true
-from_pending unborn i = absurd i
-from_pending waits i = refl
-from_pending runs i = refl
-from_pending (armed d) i = refl
-from_pending (replied c res) i = absurd i
-from_pending (reaped c res) i = absurd i
+from_pending = grind (arith, common_steps)

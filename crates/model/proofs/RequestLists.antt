@@ -2,18 +2,7 @@
 use Rattle.std.proofs.Common.{◌≡◌, ℕ, zero, suc, ◌<◌, ◌==◌, ◌||◌, not, Bool, true, false, cond, List, [], ◌∷◌, ◌++◌, length, set, get_or, Some, None, refl, sym, ap, ◌∙◌, subst, ⊎_elim, true≢false, eqb-true, eq-eqb, arith}
 use Prim.Native.Nat.compare
 use lib.Dec.{compare_is_eq}
-use Rattle.std.specs.List.{slice_get, filter}
-use Rattle.std.specs.Prelude.{OnOk, OnErr}
-use Rattle.std.specs.declared.result.Result.{Result}
-use Rattle.std.specs.declared.result.Result.TheVariants.{Ok, Err}
-use Rattle.std.proofs.lemmas.List.{set-get_or}
-use Rattle.std.proofs.lemmas.Option.{slice_get_read}
-use Rattle.model.specs.declared.request.Request.{Request}
-use Rattle.history.specs.State.{Catch}
-use Rattle.model.specs.Seen.{is_pending}
-use Rattle.model.specs.Decides.{pending_of, lists, Listed}
-use Rattle.model.specs.Moves.{put, put_at, put_found}
-use Rattle.history.proofs.Requests.{bool_cases, not_true}
+use Rattle.model.proofs.Common.{common_steps, slice_get, filter, OnOk, OnErr, Result, Ok, Err, set-get_or, slice_get_read, Request, Catch, is_pending, pending_of, lists, Listed, put, put_at, put_found, bool_cases, not_true}
 
 pub apart : (i j : ℕ) → ¬ (i ≡ j) → (i == j) ≡ false
 apart i j n = not_true (i == j) (λ e. n (eqb-true i j e))
@@ -38,8 +27,7 @@ or_left : (a b : Bool) → a ≡ true → (a || b) ≡ true
 or_left a b e = rw e refl
 
 or_right : (a b : Bool) → b ≡ true → (a || b) ≡ true
-or_right true b e = refl
-or_right false b e = e
+or_right = grind (arith, common_steps)
 
 pub lists-push : (ms : List ℕ) (n k : ℕ) → lists (ms ++ n ∷ []) k ≡ lists ms k || (n == k)
 lists-push [] n k = elim (n == k) as (λ b. (b || false) ≡ b) [ true ↦ refl | false ↦ refl ]
@@ -100,8 +88,7 @@ found_written (Err u) f xs ys k d n e lt v w = tt
 
 pub found_unwritten : {T E : Type 0} (answer : Result T E) (xs ys : List Request) (k : ℕ) (d : Request) (n : Catch) → xs ≡ ys → d ≡ get_or xs k d
     → OnErr answer (n ≡ d.found) → OnErr answer (set xs k (record d { found = n }) ≡ ys)
-found_unwritten (Ok u) xs ys k d n e v w = tt
-found_unwritten (Err u) xs ys k d n e v w = ap (λ (z : Catch). set xs k (record d { found = z })) w ∙ ap (set xs k) v ∙ set-get_or xs k d ∙ e
+found_unwritten = grind (arith, common_steps, set-get_or)
 
 pub Listed-stage : (xs : List Request) (ms ns : List ℕ) (k : ℕ) (y : Request) → k < length xs → Listed xs ms → ns ≡ filter (λ m. not (m == k)) ms → is_pending y.stage ≡ false → Listed (set xs k y) ns
 Listed-stage xs ms ns k y lt l e f = Listed-set xs ms ns k y lt l (λ i w j. rw e (others_left ms k i w j)) (λ p. absurd (true≢false (sym p ∙ f)))

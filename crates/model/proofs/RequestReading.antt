@@ -1,24 +1,6 @@
 -- What the requests of a ring tell is what the history tells of them.
 use Rattle.std.proofs.Common.{◌≡◌, ℕ, ◌-◌, ◌<◌, ◌==◌, ◌&&◌, ◌||◌, not, Bool, true, false, cond, ℤ, List, length, get_or, Option, Some, None, inl, inr, refl, sym, ap, ◌∙◌, subst, ⊎_elim, true≢false, arith}
-use Rattle.std.specs.List.{slice_get}
-use Rattle.std.proofs.lemmas.Option.{slice_get_within, slice_get-get_or}
-use Rattle.entry.specs.Entry.{Entry, drains}
-use Rattle.entry.specs.declared.op.Op.{Op}
-use Rattle.entry.specs.declared.op.Op.TheVariants.{Invalid}
-use Rattle.history.specs.declared.req.Req.{Req}
-use Rattle.history.specs.declared.event.Event.{Event}
-use Rattle.model.specs.declared.request.Request.{Request}
-use Rattle.model.specs.declared.request.Stage.{Stage}
-use Rattle.history.specs.History.{Phase, unborn, waits, runs, armed, replied, reaped, Hit, has_missed, submission, phase, reply_in, reply, IsReplied}
-use Rattle.history.specs.Chains.{joins, placed_behind, placed_from, placed, IsBefore, Severed, IsClear}
-use Rattle.history.specs.Answers.{asks_for, Matches, IsFirst, NoneLeft, AllTried}
-use Rattle.history.specs.State.{catch_in}
-use Rattle.model.specs.Seen.{is_pending, reply_at, stage_of, Seen, seen, seen_of, handed_at, stage_at, handed_in, placed_in}
-use Rattle.model.specs.Decides.{reply_in_of, severed_in, pending_of, chain_done, any_below, drains_of, blocks, held_back, clear_in, asked_for, wanted}
-use Rattle.model.specs.Cancels.{is_escaped, untried}
-use Rattle.model.specs.Moves.{is_answered}
-use Rattle.history.proofs.Requests.{bool_cases, not_true, and_left, and_right}
-use Rattle.history.proofs.Catches.{missed_in}
+use Rattle.model.proofs.Common.{common_steps, slice_get, slice_get_within, slice_get-get_or, Entry, drains, Op, Invalid, Req, Event, Request, Stage, Phase, Hit, has_missed, submission, phase, reply_in, reply, IsReplied, joins, placed_behind, placed_from, placed, IsBefore, Severed, IsClear, asks_for, Matches, IsFirst, NoneLeft, AllTried, catch_in, is_pending, reply_at, stage_of, Seen, seen, seen_of, handed_at, stage_at, handed_in, placed_in, reply_in_of, severed_in, pending_of, chain_done, any_below, drains_of, blocks, held_back, clear_in, asked_for, wanted, is_escaped, untried, is_answered, bool_cases, not_true, and_left, and_right, missed_in}
 use Rattle.model.proofs.Phases.{answered_from, from_answered}
 use Rattle.model.proofs.NumberSearches.{any_at, any_found}
 use Rattle.model.proofs.ChainWalks.{severed_by, severed_from, done_by, done_from, severs_at_by, severs_at_from}
@@ -28,25 +10,17 @@ reply_as None = None
 reply_as (Some s) = reply_at s
 
 reply_of_stage : (p : Phase) → reply_in p ≡ reply_as (stage_of p)
-reply_of_stage unborn = refl
-reply_of_stage waits = refl
-reply_of_stage runs = refl
-reply_of_stage (armed d) = refl
-reply_of_stage (replied c res) = refl
-reply_of_stage (reaped c res) = refl
+reply_of_stage = grind (arith, common_steps)
 
 reply_as_at : (o : Option Request) → reply_as (stage_at o) ≡ reply_in_of o
-reply_as_at None = refl
-reply_as_at (Some x) = refl
+reply_as_at = grind (arith, common_steps)
 
 not_false : (b : Bool) → not b ≡ false → b ≡ true
-not_false true e = refl
-not_false false e = absurd (true≢false e)
+not_false = grind (arith, common_steps)
 
 -- the entry that is placed has the flags of the one that was handed in
 drains_placed : (b : Bool) (e d : Entry) → Some (cond b (record e { op = Invalid }) e) ≡ Some d → drains d ≡ drains e
-drains_placed true e d is = let same : record e { op = Invalid } ≡ d = cc in sym (ap drains same)
-drains_placed false e d is = let same : e ≡ d = cc in sym (ap drains same)
+drains_placed = grind (arith, common_steps)
 
 module _ (h : List Event) (i : ℕ) (xs : List Request) (reads : (k : ℕ) → seen h (record { ring = i; k = k }) ≡ seen_of (slice_get xs k)) where
   abbrev at : ℕ → Req
@@ -72,8 +46,7 @@ module _ (h : List Event) (i : ℕ) (xs : List Request) (reads : (k : ℕ) → s
   kept_answered k x e p = answered_from (phase h (at k)) (ap is_answered (stage_is k) ∙ answered_kept (slice_get xs k) x e p)
 
   not_pending : (o : Option Request) → is_answered (stage_at o) ≡ true → pending_of o ≡ false
-  not_pending None e = refl
-  not_pending (Some x) e = not_true (is_pending x.stage) (λ p. true≢false (sym e ∙ ap not p))
+  not_pending = grind (arith, common_steps, not_true)
 
   pub was_answered : (k : ℕ) → IsReplied (phase h (at k)) → pending_of (slice_get xs k) ≡ false
   was_answered k r = not_pending (slice_get xs k) (sym (ap is_answered (stage_is k)) ∙ from_answered (phase h (at k)) r)
@@ -151,8 +124,7 @@ module _ (h : List Event) (i : ℕ) (xs : List Request) (reads : (k : ℕ) → s
         rw (s, d, f) refl
 
   asked_some : (op : Op) (o : Option Entry) → asked_for op o ≡ true → (e : Entry) × (o ≡ Some e) × (asks_for op e ≡ true)
-  asked_some op None a = absurd (true≢false (sym a))
-  asked_some op (Some e) a = (e, refl, a)
+  asked_some = grind (arith, common_steps)
 
   -- what a cancel means
   module _ (k : ℕ) (x : Request) (is : slice_get xs k ≡ Some x) (d : Entry) (p : placed_in xs k ≡ Some d) where

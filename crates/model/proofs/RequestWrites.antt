@@ -1,23 +1,14 @@
 -- Writing one request of a ring.
-use Rattle.std.proofs.Common.{◌≡◌, ℕ, Bool, true, false, List, length, Option, Some, None, refl, sym, ◌∙◌, true≢false, ℤ}
-use Rattle.std.specs.List.{slice_get}
-use Rattle.model.specs.declared.request.Request.{Request}
-use Rattle.model.specs.declared.request.Stage.{Stage}
-use Rattle.model.specs.declared.request.Stage.TheVariants.{Replied, Reaped}
-use Rattle.std.proofs.Math.ListN.{length-set}
-use Rattle.history.specs.State.{Catch}
-use Rattle.model.specs.Seen.{stage_at}
-use Rattle.model.specs.Moves.{put, put_at, put_stage, put_found, put_fired, put_taken, put_reaped, taken_out}
+use Rattle.std.proofs.Common.{arith, ◌≡◌, ℕ, Bool, true, false, List, length, Option, Some, None, ℤ}
+use Rattle.model.proofs.Common.{common_steps, slice_get, Request, Stage, Replied, Reaped, length-set, Catch, stage_at, put, put_at, put_stage, put_found, put_fired, put_taken, put_reaped, taken_out}
 
 -- a request whose stage passes a test is there
 pub some_at : (p : Option Stage → Bool) → p None ≡ false → (o : Option Request) → p (stage_at o) ≡ true → (x : Request) × (o ≡ Some x)
-some_at p n None e = absurd (true≢false (sym e ∙ n))
-some_at p n (Some x) e = (x, refl)
+some_at = grind (arith, common_steps)
 
 -- a write leaves the number of requests
 put_at_length : (xs : List Request) (k : ℕ) (f : Request → Request) (o : Option Request) → length (put_at xs k f o) ≡ length xs
-put_at_length xs k f None = refl
-put_at_length xs k f (Some x) = length-set xs k (f x)
+put_at_length = grind (arith, common_steps, length-set)
 
 pub put_length : (xs : List Request) (k : ℕ) (f : Request → Request) → length (put xs k f) ≡ length xs
 put_length xs k f = put_at_length xs k f (slice_get xs k)
@@ -29,8 +20,7 @@ pub found_length : (xs : List Request) (k : ℕ) (f : Catch → Catch) → lengt
 found_length xs k f = put_length xs k _
 
 reaped_at : (xs : List Request) (k : ℕ) (res : ℤ) (o : Option Request) → stage_at o ≡ Some (Replied res) → put_at xs k (λ x. record x { stage = Reaped res }) o ≡ put_at xs k (λ x. record x { stage = taken_out x.stage }) o
-reaped_at xs k res None e = refl
-reaped_at xs k res (Some x) e = let s : x.stage ≡ Replied res = cc in rw s refl
+reaped_at = grind (arith, common_steps)
 
 pub put_reaped_is : (xs : List Request) (k : ℕ) (res : ℤ) → stage_at (slice_get xs k) ≡ Some (Replied res) → put_stage xs k (Reaped res) ≡ put_reaped xs k
 put_reaped_is xs k res e = reaped_at xs k res (slice_get xs k) e

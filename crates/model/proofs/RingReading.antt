@@ -1,17 +1,7 @@
 -- Reading the requests of a ring.
-use Rattle.std.proofs.Common.{◌≡◌, ℕ, zero, suc, ◌-◌, ◌<◌, ◌==◌, ◌&&◌, ◌⊎◌, inl, inr, not, cond, sub-one, Bool, true, false, List, length, Option, Some, None, get_or, refl, sym, ap, subst, ◌∙◌, arith}
-use Rattle.std.specs.List.{slice_get}
-use Rattle.std.proofs.lemmas.Bool.{and_parts}
-use Rattle.std.proofs.lemmas.Option.{slice_get_read}
-use Rattle.entry.specs.declared.op.Op.{Op}
-use Rattle.entry.specs.declared.op.Op.TheVariants.{Invalid}
-use Rattle.entry.specs.Entry.{Entry}
+use Rattle.std.proofs.Common.{◌≡◌, ℕ, ◌-◌, ◌<◌, ◌==◌, ◌&&◌, ◌⊎◌, not, cond, sub-one, Bool, true, false, List, length, Option, Some, None, get_or, refl, sym, ap, subst, ◌∙◌, arith}
+use Rattle.model.proofs.Common.{common_steps, slice_get, and_parts, slice_get_read, Op, Invalid, Entry, Request, Submission, joins, hosts, is_link_timeout, placed_behind, placed_from, reply_at, handed_of, handed_at, handed_in, placed_in, with_op, reply_in_of, severs_by, severs_at, severed_in, pending_of, chain_done}
 use Rattle.entry.specs.Table.{fits, fits_op}
-use Rattle.model.specs.declared.request.Request.{Request}
-use Rattle.history.specs.History.{Submission}
-use Rattle.history.specs.Chains.{joins, hosts, is_link_timeout, placed_behind, placed_from}
-use Rattle.model.specs.Seen.{reply_at, handed_of, handed_at, handed_in, placed_in, with_op}
-use Rattle.model.specs.Decides.{reply_in_of, severs_by, severs_at, severed_in, pending_of, chain_done}
 
 pub kept : (xs : List Request) (k : ℕ) (x : Request) → k < length xs → x ≡ get_or xs k x → slice_get xs k ≡ Some x
 kept xs k x lt is = slice_get_read xs (length xs) k x refl lt is
@@ -30,8 +20,7 @@ op_in op None = op
 op_in op (Some e) = e.op
 
 op_case : (t : Bool) (e : Entry) (op : Op) → (cond t (record e { op = Invalid }) e).op ≡ op → (op ≡ e.op) ⊎ (op ≡ Invalid)
-op_case true e op is = inr (sym is)
-op_case false e op is = inl (sym is)
+op_case = grind (arith, common_steps)
 
 pub placed_ops : (xs : List Request) (k : ℕ) (x : Request) (op : Op) → k < length xs → x ≡ get_or xs k x → placed_in xs k ≡ with_op (handed_in xs k) op
     → (op ≡ x.sqe.op) ⊎ (op ≡ Invalid)
@@ -47,8 +36,7 @@ op_fits : (e : Entry) → fits e ≡ true → fits_op e.op ≡ true
 op_fits e f = (and_parts (fits_op e.op) _ f).0
 
 behind_fits : (b : Bool) (e : Entry) → fits_op e.op ≡ true → fits_op (cond b (record e { op = Invalid }) e).op ≡ true
-behind_fits true e f = refl
-behind_fits false e f = f
+behind_fits = grind (arith, common_steps)
 
 same_op : (d e : Entry) (op : Op) → Some d ≡ Some (record e { op = op }) → d.op ≡ op
 same_op d e op is = cc
@@ -64,21 +52,16 @@ placed_fits xs k x op is p f =
 -- one step back along the chain of m
 module _ (xs : List Request) where
   pub severed_unjoined : (m : ℕ) → 0 < m → joins (handed_in xs (m - 1)) ≡ false → severed_in xs m ≡ false
-  severed_unjoined zero lt j = absurd (omega arith)
-  severed_unjoined (suc m) lt j = let e : joins (handed_in xs m) ≡ false = rw sub-one at j in rw e refl
+  severed_unjoined = grind (arith, common_steps, sub-one)
 
   pub severed_here : (m : ℕ) → 0 < m → joins (handed_in xs (m - 1)) ≡ true → severs_at xs (m - 1) ≡ true → severed_in xs m ≡ true
-  severed_here zero lt j v = absurd (omega arith)
-  severed_here (suc m) lt j v = let e : joins (handed_in xs m) ≡ true = rw sub-one at j in let f : severs_at xs m ≡ true = rw sub-one at v in rw (e, f) refl
+  severed_here = grind (arith, common_steps, sub-one)
 
   pub severed_before : (m : ℕ) → 0 < m → joins (handed_in xs (m - 1)) ≡ true → severs_at xs (m - 1) ≡ false → severed_in xs m ≡ severed_in xs (m - 1)
-  severed_before zero lt j v = absurd (omega arith)
-  severed_before (suc m) lt j v = let e : joins (handed_in xs m) ≡ true = rw sub-one at j in let f : severs_at xs m ≡ false = rw sub-one at v in rw (e, f, sub-one) refl
+  severed_before = grind (arith, common_steps, sub-one)
 
   pub undone_here : (m : ℕ) → 0 < m → joins (handed_in xs (m - 1)) ≡ true → pending_of (slice_get xs (m - 1)) ≡ true → chain_done xs m ≡ false
-  undone_here zero lt j v = absurd (omega arith)
-  undone_here (suc m) lt j v = let e : joins (handed_in xs m) ≡ true = rw sub-one at j in let f : pending_of (slice_get xs m) ≡ true = rw sub-one at v in rw (e, f) refl
+  undone_here = grind (arith, common_steps, sub-one)
 
   pub done_before : (m : ℕ) → 0 < m → joins (handed_in xs (m - 1)) ≡ true → pending_of (slice_get xs (m - 1)) ≡ false → chain_done xs m ≡ chain_done xs (m - 1)
-  done_before zero lt j v = absurd (omega arith)
-  done_before (suc m) lt j v = let e : joins (handed_in xs m) ≡ true = rw sub-one at j in let f : pending_of (slice_get xs m) ≡ false = rw sub-one at v in rw (e, f, sub-one) refl
+  done_before = grind (arith, common_steps, sub-one)

@@ -1,25 +1,6 @@
 -- What is kept goes on agreeing with the history when the requests of one ring are written.
-use Rattle.std.proofs.Common.{◌≡◌, ℕ, zero, suc, ◌<◌, ◌≤◌, ◌==◌, ◌≢◌, Bool, true, false, cond, List, [], ◌∷◌, length, get_or, set, Some, refl, sym, ap, ◌∙◌, subst, ⊎_elim, true≢false, eqb-true, eq-eqb, get_or-set_same, get_or-set_other, arith}
-use Rattle.std.specs.Prelude.{IfOk, OnErr}
-use Rattle.std.specs.declared.result.Result.{Result}
-use Rattle.std.specs.declared.result.Result.TheVariants.{Ok, Err}
-use Rattle.std.proofs.lemmas.List.{set-get_or}
-use Rattle.std.specs.List.{slice_get}
-use Rattle.std.proofs.Math.ListN.{length-set}
-use Rattle.std.proofs.lemmas.Option.{slice_get_within}
-use Rattle.history.specs.declared.req.Req.{Req}
-use Rattle.history.specs.declared.event.Event.{Event}
-use Rattle.history.specs.declared.event.Event.TheVariants.{Submit, Begin, Park, Reply, Take, Miss, Tick, Arm, Expire, Count, Fire, FireMiss, Settle, Sever, Reap, Shut, Cut}
-use Rattle.model.specs.declared.request.Request.{Request}
-use Rattle.history.specs.History.{submits, clock_of, was_shut}
-use Rattle.history.specs.Pipes.{flow}
-use Rattle.history.specs.Legal.{Setup, MayCome, Legal, shut_for}
-use Rattle.model.specs.Machine.{Machine, setup_of}
-use Rattle.model.specs.Seen.{Seen, seen, seen_of}
-use Rattle.model.specs.Agrees.{PipeIs, Agrees, Carries, MayFollow, Decided}
-use Rattle.model.specs.Moves.{put, put_at}
-use Rattle.model.specs.Steps.{is_step}
-use Rattle.history.proofs.Requests.{bool_cases}
+use Rattle.std.proofs.Common.{◌≡◌, ℕ, ◌<◌, ◌≤◌, ◌==◌, Bool, true, false, cond, List, [], ◌∷◌, length, get_or, set, Some, refl, sym, ap, ◌∙◌, subst, ⊎_elim, eqb-true, arith}
+use Rattle.model.proofs.Common.{common_steps, IfOk, OnErr, Result, set-get_or, slice_get, length-set, slice_get_within, Req, Event, Request, submits, clock_of, was_shut, flow, Setup, MayCome, shut_for, Machine, setup_of, Seen, seen, seen_of, Agrees, Carries, MayFollow, Decided, put, put_at, is_step, bool_cases}
 use Rattle.model.proofs.RequestLists.{slice_get-set}
 use Rattle.model.proofs.RequestWrites.{put_length}
 
@@ -31,16 +12,7 @@ abbrev pub put_row : Machine → ℕ → List Request → Machine
 put_row m i ys = record m { rings = set m.rings i ys }
 
 pub row_within : (rings : List (List Request)) (i k : ℕ) (x : Request) → slice_get (row rings i) k ≡ Some x → i < length rings
-row_within [] i k x is = cc
-row_within (r ∷ rs) zero k x is = omega arith
-row_within (r ∷ rs) (suc i) k x is = let lt : i < length rs = row_within rs i k x is in omega arith
-
--- the rows after a write
-pub row_put : (rings : List (List Request)) (i j : ℕ) (ys : List Request) → i < length rings → row (set rings i ys) j ≡ cond (i == j) ys (row rings j)
-row_put rings i j ys lt = ⊎_elim
-    (λ (w : (i == j) ≡ true). let e : i ≡ j = eqb-true i j w in ap (λ z. row (set rings i ys) z) (sym e) ∙ get_or-set_same rings i ys [] lt ∙ sym (ap (λ b. cond b ys (row rings j)) w))
-    (λ (w : (i == j) ≡ false). let n : j ≢ i = λ e. true≢false (sym (eq-eqb i j (sym e)) ∙ w) in get_or-set_other rings i j ys [] n ∙ sym (ap (λ b. cond b ys (row rings j)) w))
-    (bool_cases (i == j))
+row_within = grind (arith, common_steps)
 
 -- the event leaves the counts, the pipes, the clock and the end as they were
 pub record Calm (h : List Event) (e : Event) : Type 0 where
@@ -50,23 +22,7 @@ pub record Calm (h : List Event) (e : Event) : Type 0 where
   pub shut : was_shut (e ∷ h) ≡ was_shut h
 
 pub calm : (e : Event) → is_step e ≡ true → (h : List Event) → Calm h e
-calm (Begin r) w h = record { counts = λ j. omega arith; flows = λ p. refl; clock = refl; shut = refl }
-calm (Park r) w h = record { counts = λ j. omega arith; flows = λ p. refl; clock = refl; shut = refl }
-calm (Take c t) w h = record { counts = λ j. omega arith; flows = λ p. refl; clock = refl; shut = refl }
-calm (Miss c t) w h = record { counts = λ j. omega arith; flows = λ p. refl; clock = refl; shut = refl }
-calm (Arm r d) w h = record { counts = λ j. omega arith; flows = λ p. refl; clock = refl; shut = refl }
-calm (Expire r) w h = record { counts = λ j. omega arith; flows = λ p. refl; clock = refl; shut = refl }
-calm (Count r) w h = record { counts = λ j. omega arith; flows = λ p. refl; clock = refl; shut = refl }
-calm (Fire l t) w h = record { counts = λ j. omega arith; flows = λ p. refl; clock = refl; shut = refl }
-calm (FireMiss l t) w h = record { counts = λ j. omega arith; flows = λ p. refl; clock = refl; shut = refl }
-calm (Settle l) w h = record { counts = λ j. omega arith; flows = λ p. refl; clock = refl; shut = refl }
-calm (Sever r) w h = record { counts = λ j. omega arith; flows = λ p. refl; clock = refl; shut = refl }
-calm (Reap r) w h = record { counts = λ j. omega arith; flows = λ p. refl; clock = refl; shut = refl }
-calm (Cut r) w h = record { counts = λ j. omega arith; flows = λ p. refl; clock = refl; shut = refl }
-calm (Submit r e bytes last) w h = absurd (true≢false (sym w))
-calm (Reply r res data') w h = absurd (true≢false (sym w))
-calm (Tick n) w h = absurd (true≢false (sym w))
-calm Shut w h = absurd (true≢false (sym w))
+calm = grind (arith, common_steps)
 
 pub same_setup : (m : Machine) (i : ℕ) (ys : List Request) → setup_of (put_row m i ys) ≡ setup_of m
 same_setup m i ys = ap (λ (n : ℕ). let s : Setup = record { rings = n; caps = (setup_of m).caps } in s) (length-set m.rings i ys)
@@ -77,33 +33,16 @@ module _ (m : Machine) (h : List Event) (a : Agrees h m) (i : ℕ) where
 
   -- the requests of the ring i are ys after the event e
   module _ (e : Event) (ys : List Request) (lt : i < length m.rings) where
-    row_is : (j : ℕ) (b : Bool) → (i == j) ≡ b → row (set m.rings i ys) j ≡ cond b ys (row m.rings j)
-    row_is j b w = row_put m.rings i j ys lt ∙ ap (λ z. cond z ys (row m.rings j)) w
-
     pub rows_kept : ((k : ℕ) → seen (e ∷ h) (at k) ≡ seen_of (slice_get ys k)) → ((q : Req) → (i == q.ring) ≡ false → seen (e ∷ h) q ≡ seen h q) → (q : Req) → seen (e ∷ h) q ≡ seen_of (slice_get (row (set m.rings i ys) q.ring) q.k)
-    rows_kept own others q = ⊎_elim
-        (λ (w : (i == q.ring) ≡ true). let one : i ≡ q.ring = eqb-true i q.ring w in let name : at q.k ≡ q = λ j. record { ring = one j; k = q.k } in
-        sym (ap (seen (e ∷ h)) name) ∙ own q.k ∙ sym (ap (λ (r : List Request). seen_of (slice_get r q.k)) (row_is q.ring true w)))
-        (λ (w : (i == q.ring) ≡ false). others q w ∙ a.requests q ∙ sym (ap (λ (r : List Request). seen_of (slice_get r q.k)) (row_is q.ring false w)))
-        (bool_cases (i == q.ring))
+    rows_kept = grind (arith, common_steps)
 
     pub counts_kept : submits (e ∷ h) i ≡ length ys → ((j : ℕ) → (i == j) ≡ false → submits (e ∷ h) j ≡ submits h j) → (j : ℕ) → submits (e ∷ h) j ≡ length (row (set m.rings i ys) j)
-    counts_kept own others j = ⊎_elim
-        (λ (w : (i == j) ≡ true). ap (submits (e ∷ h)) (sym (eqb-true i j w)) ∙ own ∙ sym (ap length (row_is j true w)))
-        (λ (w : (i == j) ≡ false). others j w ∙ a.counts j ∙ sym (ap length (row_is j false w)))
-        (bool_cases (i == j))
+    counts_kept = grind (arith, common_steps)
 
   -- the event e touches the ring i alone, whose requests are ys after it
   pub ring_kept : (e : Event) (ys : List Request) → i < length m.rings → length ys ≡ length (row m.rings i) → MayCome (setup_of m) h e → m.shut ≡ shut_for e → Calm h e
       → ((k : ℕ) → seen (e ∷ h) (at k) ≡ seen_of (slice_get ys k)) → ((q : Req) → (i == q.ring) ≡ false → seen (e ∷ h) q ≡ seen h q) → Agrees (e ∷ h) (put_row m i ys)
-  ring_kept e ys lt len may shut calm own others = record {
-    legal = subst (λ (s : Setup). Legal s (e ∷ h)) (sym (same_setup m i ys)) ((a.shut ∙ shut, may), a.legal);
-    requests = rows_kept e ys lt own others;
-    counts = counts_kept e ys lt (calm.counts i ∙ a.counts i ∙ sym len) (λ j w. calm.counts j);
-    pipes = λ p x is. subst (λ w. PipeIs w x) (sym (calm.flows p)) (a.pipes p x is);
-    clock = calm.clock ∙ a.clock;
-    shut = calm.shut ∙ a.shut;
-  }
+  ring_kept = grind (arith, common_steps)
 
   -- one request was written
   pub put_own : (after : ℕ → Seen) (xs : List Request) (k : ℕ) (f : Request → Request) (x : Request) → slice_get xs k ≡ Some x
@@ -127,14 +66,11 @@ module _ (m : Machine) (h : List Event) (a : Agrees h m) (i k : ℕ) (x : Reques
       (put_own m h a i (λ j. seen (e ∷ h) (at m h a i j)) (row m.rings i) k f x is here (λ j w. there j w ∙ a.requests (at m h a i j))) others
 
 pub decides : (b : Bool) (m n' n : Machine) (e : Event) → n ≡ cond b n' m → (b ≡ true → Carries m e n') → (b ≡ false → (h : List Event) → Agrees h m → ¬ MayCome (setup_of m) h e) → Decided b m e n
-decides true m n' n e is yes' no' = subst (λ (z : Machine). Carries m e z) (sym is) (yes' refl)
-decides false m n' n e is yes' no' = (is, no' refl)
+decides = grind (arith, common_steps)
 
 -- a contract over a row, as the code meets it
 get_or_same : (rings : List (List Request)) (i : ℕ) (c d : List Request) → i < length rings → get_or rings i c ≡ get_or rings i d
-get_or_same [] i c d lt = absurd (omega arith)
-get_or_same (r ∷ rs) zero c d lt = refl
-get_or_same (r ∷ rs) (suc i) c d lt = get_or_same rs i c d (omega arith)
+get_or_same = grind (arith, common_steps)
 
 pub row_of : (rings : List (List Request)) (i : ℕ) (r : List Request) → i < length rings → r ≡ get_or rings i r → r ≡ row rings i
 row_of rings i r lt e = e ∙ get_or_same rings i r [] lt
@@ -142,18 +78,12 @@ row_of rings i r lt e = e ∙ get_or_same rings i r [] lt
 unwritten : (m : Machine) (i : ℕ) (s : List Request) → s ≡ row m.rings i → put_row m i s ≡ m
 unwritten m i s e = ap (put_row m i) e ∙ ap (λ (z : List (List Request)). let n : Machine = record m { rings = z } in n) (set-get_or m.rings i [])
 
-after_row : (m : Machine) (i : ℕ) (r s : List Request) (b : Bool) (ys : List Request → List Request) → i < length m.rings → r ≡ row m.rings i → s ≡ cond b (ys r) r → put_row m i s ≡ cond b (put_row m i (ys (row m.rings i))) m
-after_row m i r s true ys lt e f = ap (put_row m i) (f ∙ ap ys e)
-after_row m i r s false ys lt e f = unwritten m i s (f ∙ e)
-
 abbrev pub IsDecided : Event → ℕ → (Machine → List Request → Bool) → (List Request → List Request) → Type 0
 IsDecided e i may ys = (m n : Machine) (b : Bool) → m.shut ≡ shut_for e → b ≡ may m (row m.rings i) → n ≡ cond b (put_row m i (ys (row m.rings i))) m → Decided b m e n
 
 -- no such ring
 no_row : (rings : List (List Request)) (i : ℕ) → length rings ≤ i → row rings i ≡ []
-no_row [] i le = refl
-no_row (r ∷ rs) zero le = absurd (omega arith)
-no_row (r ∷ rs) (suc i) le = no_row rs i (omega arith)
+no_row = grind (arith, common_steps)
 
 pub misses : (e : Event) (i : ℕ) (may : Machine → List Request → Bool) (ys : List Request → List Request) → IsDecided e i may ys
     → (m now : Machine) → m ≡ now → now.shut ≡ shut_for e → length m.rings ≤ i → may m [] ≡ false → Decided false now e now
@@ -165,17 +95,11 @@ module _ {E : Type 0} where
   pub meets_if : (answer : Result Bool E) (e : Event) (i : ℕ) (may : Machine → List Request → Bool) (ys : List Request → List Request) → IsDecided e i may ys
       → (m now : Machine) → m ≡ now → (r s : List Request) → now.shut ≡ shut_for e → i < length m.rings → r ≡ get_or m.rings i r → IfOk answer (λ b. b ≡ may m r) → IfOk answer (λ b. s ≡ cond b (ys r) r)
       → IfOk answer (λ b. Decided b now e (put_row m i s))
-  meets_if (Ok b) e i may ys dec m now v r s sh lt is x y =
-      let one = row_of m.rings i r lt is in
-      subst (λ (z : Machine). Decided b z e (put_row m i s)) v
-      (dec m (put_row m i s) b (ap (λ (z : Machine). z.shut) v ∙ sh) (x ∙ ap (may m) one) (after_row m i r s b ys lt one y))
-  meets_if (Err z) e i may ys dec m now v r s sh lt is x y = tt
+  meets_if = grind (arith, common_steps)
 
   pub follows_if : (answer : Result Bool E) (e : Event) (i : ℕ) (may : Machine → List Request → Bool) → ((m : Machine) → may m (row m.rings i) ≡ true → MayFollow m e)
       → (m now : Machine) → m ≡ now → (r : List Request) → i < length m.rings → r ≡ get_or m.rings i r → OnErr answer (may m r ≡ true) → OnErr answer (MayFollow now e)
-  follows_if (Ok b) e i may f m now v r lt is x = tt
-  follows_if (Err z) e i may f m now v r lt is x = subst (λ (z : Machine). MayFollow z e) v (f m (sym (ap (may m) (row_of m.rings i r lt is)) ∙ x))
+  follows_if = grind (arith, common_steps, row_of)
 
   pub same_if : (answer : Result Bool E) (m now : Machine) → m ≡ now → (i : ℕ) (r s : List Request) → i < length m.rings → r ≡ get_or m.rings i r → OnErr answer (s ≡ r) → OnErr answer (put_row m i s ≡ now)
-  same_if (Ok b) m now v i r s lt is x = tt
-  same_if (Err z) m now v i r s lt is x = unwritten m i s (x ∙ row_of m.rings i r lt is) ∙ v
+  same_if = grind (arith, common_steps, unwritten, row_of)

@@ -1,14 +1,10 @@
 -- From the requests of a state to the whole run.
-use Rattle.std.proofs.Common.{◌≡◌, Bool, true, false, refl, sym, ◌∙◌}
-use Rattle.history.specs.declared.event.Event.{Event}
-use Rattle.history.specs.Legal.{shut_for}
-use Rattle.model.specs.Machine.{Machine}
-use Rattle.model.specs.Agrees.{Decided, Decision, MayFollow, IsNext}
+use Rattle.std.proofs.Common.{arith, ◌≡◌, Bool, false, refl, sym, ◌∙◌}
+use Rattle.model.proofs.Common.{common_steps, Event, shut_for, Machine, Decided, Decision, MayFollow, IsNext}
 
 -- the state is shut where the event wants it
 pub decision : (b : Bool) (m : Machine) (e : Event) (n : Machine) → m.shut ≡ shut_for e → Decided b m e n → Decision b m e n
-decision true m e n s d = (d.0, λ h a. let x = d.1 h a in ((a.shut ∙ s, x.0), x.1))
-decision false m e n s d = (d.0, λ h a c. d.1 h a c.1)
+decision = grind (arith, common_steps)
 
 pub ill_timed : (m : Machine) (e : Event) → ¬ (m.shut ≡ shut_for e) → Decision false m e m
 ill_timed m e n = (refl, λ h a c. n (sym a.shut ∙ c.0))

@@ -1,22 +1,7 @@
 -- The events that one request alone decides: Begin, Park, Sever, Reap, Cut.
-use Rattle.std.proofs.Common.{◌≡◌, ℕ, zero, suc, ◌-◌, ◌&&◌, not, true, false, cond, List, [], ◌∷◌, Option, Some, None, refl, sym, ap, ◌∙◌, subst, true≢false, eq-eqb, sub-one, arith}
-use Rattle.std.specs.List.{slice_get}
-use Rattle.history.specs.declared.req.Req.{Req}
-use Rattle.history.specs.declared.event.Event.{Event}
-use Rattle.history.specs.declared.event.Event.TheVariants.{Begin, Park, Sever, Reap, Cut}
-use Rattle.model.specs.declared.request.Request.{Request}
-use Rattle.model.specs.declared.request.Stage.{Stage}
-use Rattle.model.specs.declared.request.Stage.TheVariants.{Waits, Runs, Armed, Replied, Reaped}
-use Rattle.history.specs.History.{Phase, waits, runs, armed, replied, phase, reaped, unborn, after_reap, IsPending, IsReplied}
-use Rattle.history.specs.Chains.{previous, is_link_timeout_in, gate_of, Open, IsClear, is_timer}
-use Rattle.history.specs.Legal.{MayCome}
-use Rattle.model.specs.Machine.{Machine, setup_of}
-use Rattle.model.specs.Seen.{Seen, seen, seen_of, stage_of, stage_at, placed_in}
-use Rattle.model.specs.Decides.{severed_in, pending_of}
-use Rattle.model.specs.Agrees.{Agrees}
+use Rattle.std.proofs.Common.{◌≡◌, ℕ, zero, suc, ◌-◌, ◌&&◌, not, true, false, cond, List, [], ◌∷◌, Option, Some, refl, sym, ap, ◌∙◌, subst, true≢false, eq-eqb, sub-one, arith}
+use Rattle.model.proofs.Common.{common_steps, slice_get, Req, Event, Begin, Park, Sever, Reap, Cut, Request, Stage, Waits, Runs, Phase, waits, runs, phase, after_reap, IsPending, IsReplied, previous, is_link_timeout_in, gate_of, Open, IsClear, is_timer, MayCome, Machine, setup_of, Seen, seen, seen_of, stage_of, stage_at, placed_in, severed_in, pending_of, Agrees, put_stage, is_waits, is_running, placed_as, gate_in, open_in, may_begin, may_park, may_sever, may_reap, may_cut, put_reaped, taken_out, cancelled, is_replied, not_true, and_left, and_right}
 use Rattle.history.proofs.Untaken.{untaken}
-use Rattle.model.specs.Moves.{put_stage, is_waits, is_running, placed_as, gate_in, open_in, may_begin, may_park, may_sever, may_reap, may_cut, put_reaped, taken_out, cancelled, is_replied}
-use Rattle.history.proofs.Requests.{not_true, and_left, and_right}
 use Rattle.model.proofs.Phases.{waits_from, runs_from, replied_from, pending_as, pending_at, pending_from, from_pending}
 use Rattle.model.proofs.RequestReading.{stage_is, placed_is, placed_of, clear_is, was_clear, kept_before, severed_is, was_severed}
 use Rattle.model.proofs.RequestWrites.{some_at}
@@ -67,11 +52,7 @@ module _ (m : Machine) (h : List Event) (a : Agrees h m) (i : ℕ) where
       )
 
   pub may_begin_is : (k : ℕ) → MayCome (setup_of m) h (Begin (at k)) → may_begin xs k ≡ true
-  may_begin_is k c =
-      let w : is_waits (stage_at (slice_get xs k)) ≡ true = sym (ap is_waits (stage_is h i xs reads k)) ∙ ap (λ p. is_waits (stage_of p)) c.0 in
-      let x = some_at is_waits refl (slice_get xs k) w in let o = was_open k x.0 x.1 c.1 in
-      let t : placed_as is_timer (placed_in xs k) ≡ false = ap (placed_as is_timer) (sym (placed_is h i xs reads k) ∙ c.2.1) ∙ c.2.2 in
-      rw (w, o, t) refl
+  may_begin_is = grind (arith, common_steps, stage_is, reads, some_at, was_open, placed_is)
 
   pub begin_kept : (k : ℕ) → may_begin xs k ≡ true → m.shut ≡ false → Agrees (Begin (at k) ∷ h) (put_row m i (put_stage xs k Runs))
   begin_kept k b s =
@@ -82,8 +63,7 @@ module _ (m : Machine) (h : List Event) (a : Agrees h m) (i : ℕ) where
       (λ q w. rw w refl)
 
 some_pending : (o : Option Request) → pending_of o ≡ true → (x : Request) × (o ≡ Some x)
-some_pending None e = absurd (true≢false (sym e))
-some_pending (Some x) e = (x, refl)
+some_pending = grind (arith, common_steps)
 
 pub waits_unreplied : (p : Phase) → p ≡ waits → ¬ IsReplied p
 waits_unreplied p e r = subst IsReplied e r
@@ -92,19 +72,11 @@ pub runs_unreplied : (p : Phase) → p ≡ runs → ¬ IsReplied p
 runs_unreplied p e r = subst IsReplied e r
 
 pending_unreplied : (p : Phase) → IsPending p → ¬ IsReplied p
-pending_unreplied waits i r = r
-pending_unreplied runs i r = r
-pending_unreplied (armed d) i r = r
-pending_unreplied p i r = i
+pending_unreplied = grind (arith, common_steps)
 
 -- a reaped request keeps its reply
 reaped_stage : (p : Phase) (s : Stage) → stage_of p ≡ Some s → stage_of (after_reap p) ≡ Some (taken_out s)
-reaped_stage unborn s e = cc
-reaped_stage waits s e = let f : Waits ≡ s = cc in subst (λ z. Some Waits ≡ Some (taken_out z)) f refl
-reaped_stage runs s e = let f : Runs ≡ s = cc in subst (λ z. Some Runs ≡ Some (taken_out z)) f refl
-reaped_stage (armed d) s e = let f : Armed d ≡ s = cc in subst (λ z. Some (Armed d) ≡ Some (taken_out z)) f refl
-reaped_stage (replied c res) s e = let f : Replied res ≡ s = cc in subst (λ z. Some (Reaped res) ≡ Some (taken_out z)) f refl
-reaped_stage (reaped c res) s e = let f : Reaped res ≡ s = cc in subst (λ z. Some (Reaped res) ≡ Some (taken_out z)) f refl
+reaped_stage = grind (arith, common_steps)
 
 module _ (m : Machine) (h : List Event) (a : Agrees h m) (i k : ℕ) where
   abbrev ys : List Request

@@ -1,17 +1,6 @@
 -- Every event of the requests of one ring: whether it may come, and that what is kept goes on agreeing.
-use Rattle.std.proofs.Common.{◌≡◌, ℕ, ◌==◌, ◌&&◌, Bool, true, false, List, [], ◌∷◌, refl, sym, ap, ◌∙◌, subst, true≢false, eqb-true, eq-eqb}
-use Rattle.history.specs.declared.req.Req.{Req}
-use Rattle.history.specs.declared.event.Event.{Event}
-use Rattle.history.specs.declared.event.Event.TheVariants.{Submit, Begin, Park, Reply, Take, Miss, Tick, Arm, Expire, Count, Fire, FireMiss, Settle, Sever, Reap, Shut, Cut}
-use Rattle.history.specs.Answers.{is_all, AimsAt}
-use Rattle.history.specs.Legal.{MayCome, shut_for}
-use Rattle.model.specs.declared.request.Request.{Request}
-use Rattle.model.specs.Machine.{Machine, setup_of}
-use Rattle.model.specs.Agrees.{Agrees, MayFollow}
-use Rattle.model.specs.Cancels.{may_take, may_miss}
-use Rattle.model.specs.Moves.{may_fire, may_fire_miss}
-use Rattle.model.specs.Steps.{ring_of, is_step, may_step, put_step}
-use Rattle.history.proofs.Requests.{and_left, and_right}
+use Rattle.std.proofs.Common.{arith, ◌≡◌, ℕ, ◌==◌, ◌&&◌, Bool, true, false, List, [], ◌∷◌, refl, sym, ap, ◌∙◌, subst, true≢false, eqb-true, eq-eqb}
+use Rattle.model.proofs.Common.{common_steps, Req, Event, Begin, Park, Take, Miss, Arm, Expire, Count, Fire, FireMiss, Settle, Sever, Reap, Cut, is_all, AimsAt, MayCome, shut_for, Request, Machine, setup_of, Agrees, MayFollow, may_take, may_miss, may_fire, may_fire_miss, ring_of, is_step, may_step, put_step, and_left, and_right}
 use Rattle.model.proofs.RingWrites.{row, put_row, same_setup, IsDecided, decides}
 use Rattle.model.proofs.SingleEvents.{begin_may, may_begin_is, begin_kept, park_may, may_park_is, park_kept, sever_may, may_sever_is, sever_kept, reap_may, may_reap_is, reap_kept, cut_may, may_cut_is, cut_kept}
 use Rattle.model.proofs.TimerEvents.{arm_may, may_arm_is, arm_kept, expire_may, may_expire_is, expire_kept, fire_may, may_fire_is, fire_kept, fire_miss_may, may_fire_miss_is, fire_miss_kept, settle_may, may_settle_is, settle_kept}
@@ -23,8 +12,7 @@ named : (i : ℕ) (t : Req) → i ≡ t.ring → record { ring = i; k = t.k } �
 named i t e = λ j. record { ring = e j; k = t.k }
 
 aimed : (b : Bool) (h : List Event) (c t : Req) → AimsAt b h c t → c.ring ≡ t.ring
-aimed true h c t a = sym a.0.0.0
-aimed false h c t a = sym a.1.matches.0.0
+aimed = grind (arith, common_steps)
 
 one_ring : (b : Bool) (c t : Req) → (b && (c.ring == t.ring)) ≡ true → c.ring ≡ t.ring
 one_ring b c t w = eqb-true c.ring t.ring (and_right b (c.ring == t.ring) w)
@@ -33,23 +21,7 @@ and_so : (b : Bool) (c t : Req) → c.ring ≡ t.ring → b ≡ true → (b && (
 and_so b c t e w = rw (w, eq-eqb c.ring t.ring e) refl
 
 none_come : (clock : ℕ) (e : Event) → is_step e ≡ true → may_step clock [] e ≡ false
-none_come clock (Begin r) w = refl
-none_come clock (Park r) w = refl
-none_come clock (Arm r d) w = refl
-none_come clock (Expire r) w = refl
-none_come clock (Count r) w = refl
-none_come clock (Settle r) w = refl
-none_come clock (Sever r) w = refl
-none_come clock (Reap r) w = refl
-none_come clock (Cut r) w = refl
-none_come clock (Take c t) w = refl
-none_come clock (Miss c t) w = refl
-none_come clock (Fire c t) w = refl
-none_come clock (FireMiss c t) w = refl
-none_come clock (Submit r e bytes last) w = refl
-none_come clock (Reply r res data') w = refl
-none_come clock (Tick n) w = refl
-none_come clock Shut w = refl
+none_come = grind (arith, common_steps)
 
 module _ (m : Machine) (h : List Event) (a : Agrees h m) where
   abbrev at : Event → List Request
@@ -69,10 +41,7 @@ module _ (m : Machine) (h : List Event) (a : Agrees h m) where
   step_may (Miss c t) b = subst (λ z. MayCome (setup_of m) h (Miss c z)) (named c.ring t (one_ring _ c t b)) (miss_may m h a c.ring c.k t.k (and_left (may_miss (row m.rings c.ring) c.k t.k) _ b))
   step_may (Fire c t) b = subst (λ z. MayCome (setup_of m) h (Fire c z)) (named c.ring t (one_ring _ c t b)) (fire_may m h a c.ring c.k t.k (and_left (may_fire m.clock (row m.rings c.ring) c.k t.k) _ b))
   step_may (FireMiss c t) b = subst (λ z. MayCome (setup_of m) h (FireMiss c z)) (named c.ring t (one_ring _ c t b)) (fire_miss_may m h a c.ring c.k t.k (and_left (may_fire_miss m.clock (row m.rings c.ring) c.k t.k) _ b))
-  step_may (Submit r e bytes last) b = absurd (true≢false (sym b))
-  step_may (Reply r res data') b = absurd (true≢false (sym b))
-  step_may (Tick n) b = absurd (true≢false (sym b))
-  step_may Shut b = absurd (true≢false (sym b))
+  step_may _ b = absurd (true≢false (sym b))
 
   may_step_is : (e : Event) → is_step e ≡ true → MayCome (setup_of m) h e → may_step m.clock (at e) e ≡ true
   may_step_is (Begin r) w y = may_begin_is m h a r.ring r.k y
@@ -88,10 +57,7 @@ module _ (m : Machine) (h : List Event) (a : Agrees h m) where
   may_step_is (Miss c t) w y = let e = aimed (is_all y.1.0.op) h c t y.1.2 in and_so _ c t e (may_miss_is m h a c.ring c.k t.k (subst (λ z. MayCome (setup_of m) h (Miss c z)) (sym (named c.ring t e)) y))
   may_step_is (Fire c t) w y = let e = sym y.2.1 in and_so _ c t e (may_fire_is m h a c.ring c.k t.k (subst (λ z. MayCome (setup_of m) h (Fire c z)) (sym (named c.ring t e)) y))
   may_step_is (FireMiss c t) w y = let e = sym y.2.1 in and_so _ c t e (may_fire_miss_is m h a c.ring c.k t.k (subst (λ z. MayCome (setup_of m) h (FireMiss c z)) (sym (named c.ring t e)) y))
-  may_step_is (Submit r e bytes last) w y = absurd (true≢false (sym w))
-  may_step_is (Reply r res data') w y = absurd (true≢false (sym w))
-  may_step_is (Tick n) w y = absurd (true≢false (sym w))
-  may_step_is Shut w y = absurd (true≢false (sym w))
+  may_step_is _ w y = absurd (true≢false (sym w))
 
   step_kept : (e : Event) → may_step m.clock (at e) e ≡ true → m.shut ≡ shut_for e → Agrees (e ∷ h) (put_row m (ring_of e) (put_step (at e) e))
   step_kept (Begin r) b s = begin_kept m h a r.ring r.k b s
@@ -107,10 +73,7 @@ module _ (m : Machine) (h : List Event) (a : Agrees h m) where
   step_kept (Miss c t) b s = subst (λ z. Agrees (Miss c z ∷ h) (put_row m c.ring (put_step (row m.rings c.ring) (Miss c z)))) (named c.ring t (one_ring _ c t b)) (miss_kept m h a c.ring c.k t.k (and_left (may_miss (row m.rings c.ring) c.k t.k) _ b) s)
   step_kept (Fire c t) b s = subst (λ z. Agrees (Fire c z ∷ h) (put_row m c.ring (put_step (row m.rings c.ring) (Fire c z)))) (named c.ring t (one_ring _ c t b)) (fire_kept m h a c.ring c.k t.k (and_left (may_fire m.clock (row m.rings c.ring) c.k t.k) _ b) s)
   step_kept (FireMiss c t) b s = subst (λ z. Agrees (FireMiss c z ∷ h) (put_row m c.ring (put_step (row m.rings c.ring) (FireMiss c z)))) (named c.ring t (one_ring _ c t b)) (fire_miss_kept m h a c.ring c.k t.k (and_left (may_fire_miss m.clock (row m.rings c.ring) c.k t.k) _ b) s)
-  step_kept (Submit r e bytes last) b s = absurd (true≢false (sym b))
-  step_kept (Reply r res data') b s = absurd (true≢false (sym b))
-  step_kept (Tick n) b s = absurd (true≢false (sym b))
-  step_kept Shut b s = absurd (true≢false (sym b))
+  step_kept _ b s = absurd (true≢false (sym b))
 
 -- as the code meets it
 pub step_decides : (e : Event) (i : ℕ) → i ≡ ring_of e → is_step e ≡ true → IsDecided e i (λ m r. may_step m.clock r e) (λ r. put_step r e)

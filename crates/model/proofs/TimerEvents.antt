@@ -1,70 +1,41 @@
 -- The events of the timers: Arm, Expire, Fire, FireMiss, Settle.
-use Rattle.std.proofs.Common.{◌≡◌, ℕ, zero, suc, ◌+◌, ◌-◌, ◌<◌, ◌≤◌, ◌==◌, ◌&&◌, ◌||◌, not, Bool, true, false, cond, negsuc, List, ◌∷◌, Option, Some, None, inl, inr, refl, sym, ap, ◌∙◌, subst, ⊎_elim, true≢false, eqb-true, eq-eqb, arith}
-use Rattle.std.specs.List.{slice_get}
-use Rattle.std.proofs.lemmas.Option.{slice_get_within}
+use Rattle.std.proofs.Common.{◌≡◌, ℕ, suc, ◌+◌, ◌-◌, ◌<◌, ◌≤◌, ◌==◌, ◌&&◌, ◌||◌, not, Bool, true, false, cond, negsuc, List, ◌∷◌, Option, Some, None, inl, inr, refl, sym, ap, ◌∙◌, subst, ⊎_elim, true≢false, eqb-true, eq-eqb, arith}
+use Rattle.model.proofs.Common.{common_steps, slice_get, slice_get_within, Entry, Op, Invalid, Req, Event, Arm, Expire, Fire, FireMiss, Settle, Request, Armed, Replied, by_settle, Phase, armed, replied, submission, phase, hit, fired, data_of, clock_of, IsReplied, IsIdle, placed, placed_from, is_timeout, is_link_timeout, IsTarget, MayCome, ticks_of, IsDue, catch_in, Machine, setup_of, fired_of, Seen, seen, seen_of, stage_of, stage_at, placed_in, handed_at, Agrees, put, put_at, put_stage, put_fired, put_settled, is_waits, is_running, is_due, is_armed, is_idle, is_answered, placed_as, open_in, falls_due, arms, may_arm, may_expire, runs_out, may_fire, may_fire_miss, may_settle, cancelled, timed_out, bool_cases, not_true, and_left, and_right}
 use Rattle.std.proofs.lemmas.Bool.{le-leb}
-use Rattle.entry.specs.Entry.{Entry}
-use Rattle.entry.specs.declared.op.Op.{Op}
-use Rattle.entry.specs.declared.op.Op.TheVariants.{Invalid}
-use Rattle.history.specs.declared.req.Req.{Req}
-use Rattle.history.specs.declared.event.Event.{Event}
-use Rattle.history.specs.declared.event.Event.TheVariants.{Arm, Expire, Fire, FireMiss, Settle}
-use Rattle.model.specs.declared.request.Request.{Request}
-use Rattle.model.specs.declared.request.Stage.TheVariants.{Armed, Replied}
-use Rattle.history.specs.History.{by_settle, Phase, unborn, waits, runs, armed, replied, reaped, submission, phase, hit, fired, data_of, clock_of, IsReplied, IsIdle}
-use Rattle.history.specs.Chains.{placed, placed_from, is_timeout, is_link_timeout, IsTarget}
-use Rattle.history.specs.Legal.{MayCome, ticks_of, IsDue}
-use Rattle.history.specs.State.{catch_in}
-use Rattle.model.specs.Machine.{Machine, setup_of}
-use Rattle.model.specs.Seen.{fired_of, Seen, seen, seen_of, stage_of, stage_at, placed_in, handed_at}
-use Rattle.model.specs.Agrees.{Agrees}
-use Rattle.model.specs.Moves.{put, put_at, put_stage, put_fired, put_settled, is_waits, is_running, is_due, is_armed, is_idle, is_answered, placed_as, open_in, falls_due, arms, may_arm, may_expire, runs_out, may_fire, may_fire_miss, may_settle, cancelled, timed_out}
-use Rattle.history.proofs.Requests.{bool_cases, not_true, and_left, and_right}
 use Rattle.model.proofs.RequestLists.{slice_get-set, apart}
 use Rattle.model.proofs.RequestWrites.{some_at, put_length}
-use Rattle.model.proofs.Phases.{waits_from, runs_from, due_from, armed_from, idle_from, from_idle, answered_from, from_answered}
+use Rattle.model.proofs.Phases.{waits_from, runs_from, due_from, armed_from, idle_from, from_idle, answered_from}
 use Rattle.model.proofs.RequestReading.{stage_is, placed_is}
 use Rattle.model.proofs.RingWrites.{row, put_row, row_within, calm, here_is, one_kept, ring_kept, put_own}
 use Rattle.model.proofs.SingleEvents.{reads, open_is, was_open, nothing_taken}
 
 falls_by : (clock d : ℕ) (t : Option ℕ) → falls_due clock d t ≡ true → (n : ℕ) × (t ≡ Some n) × (d ≡ clock + n)
-falls_by clock d None e = absurd (true≢false (sym e))
-falls_by clock d (Some n) e = (n, refl, eqb-true d (clock + n) e)
+falls_by = grind (arith, common_steps, eqb-true)
 
 arms_by : (clock d : ℕ) (o : Option Entry) → arms clock d o ≡ true → (e : Entry) × (n : ℕ) × (o ≡ Some e) × (ticks_of e.op ≡ Some n) × (d ≡ clock + n)
-arms_by clock d None w = absurd (true≢false (sym w))
-arms_by clock d (Some e) w = let f = falls_by clock d (ticks_of e.op) w in (e, f.0, refl, f.1, f.2)
+arms_by = grind (arith, common_steps, falls_by)
 
 arms_from : (clock d : ℕ) (o : Option Entry) (e : Entry) (n : ℕ) → o ≡ Some e → ticks_of e.op ≡ Some n → d ≡ clock + n → arms clock d o ≡ true
 arms_from clock d o e n p t s = ap (arms clock d) p ∙ ap (falls_due clock d) t ∙ eq-eqb d (clock + n) s
 
 pub placed_by : (p : Op → Bool) (o : Option Entry) → placed_as p o ≡ true → (e : Entry) × (o ≡ Some e) × (p e.op ≡ true)
-placed_by p None w = absurd (true≢false (sym w))
-placed_by p (Some e) w = (e, refl, w)
+placed_by = grind (arith, common_steps)
 
 pub armed_unreplied : (p : Phase) (d : ℕ) → p ≡ armed d → ¬ IsReplied p
 armed_unreplied p d e r = subst IsReplied e r
 
 pub idle_unreplied : (p : Phase) → IsIdle p → ¬ IsReplied p
-idle_unreplied waits i r = r
-idle_unreplied (armed d) i r = r
-idle_unreplied unborn i r = i
-idle_unreplied runs i r = i
-idle_unreplied (replied c res) i r = i
-idle_unreplied (reaped c res) i r = i
+idle_unreplied = grind (arith, common_steps)
 
 head : (e : Entry) (b : Bool) → is_link_timeout e.op ≡ b → is_link_timeout (cond (b && true) (record e { op = Invalid }) e).op ≡ true → ⊥
-head e true is w = true≢false (sym w)
-head e false is w = true≢false (sym w ∙ is)
+head = grind (arith, common_steps)
 
 -- nothing is placed as LINK_TIMEOUT at the head of a ring
 first_is_none : (o : Option Request) → placed_as is_link_timeout (placed_from None (handed_at o)) ≡ true → ⊥
-first_is_none None w = true≢false (sym w)
-first_is_none (Some x) w = head x.sqe (is_link_timeout x.sqe.op) refl w
+first_is_none = grind (arith, common_steps, head)
 
 not_first : (xs : List Request) (l : ℕ) → placed_as is_link_timeout (placed_in xs l) ≡ true → 0 < l
-not_first xs zero w = absurd (first_is_none (slice_get xs zero) w)
-not_first xs (suc l) w = omega arith
+not_first = grind (arith, common_steps, first_is_none)
 
 -- the other requests are left
 pub put_other : (xs : List Request) (k j : ℕ) (f : Request → Request) (x : Request) → slice_get xs k ≡ Some x → (k == j) ≡ false → slice_get (put xs k f) j ≡ slice_get xs j
@@ -118,8 +89,7 @@ module _ (m : Machine) (h : List Event) (a : Agrees h m) (i : ℕ) where
       (due_is k (and_left (is_due m.clock (stage_at (slice_get xs k))) _ b), (e.0, entry_is k ∙ e.1, e.2))
 
   pub may_expire_is : (k : ℕ) → MayCome (setup_of m) h (Expire (at k)) → may_expire m.clock xs k ≡ true
-  may_expire_is k c =
-      let w = was_due k c.0 in let t : placed_as is_timeout (placed_in xs k) ≡ true = ap (placed_as is_timeout) (sym (entry_is k) ∙ c.1.1) ∙ c.1.2 in rw (w, t) refl
+  may_expire_is = grind (arith, common_steps, was_due, entry_is)
 
   pub expire_kept : (k : ℕ) → may_expire m.clock xs k ≡ true → m.shut ≡ false → Agrees (Expire (at k) ∷ h) (put_row m i (put_stage xs k timed_out))
   expire_kept k b s =
@@ -142,26 +112,21 @@ module _ (m : Machine) (h : List Event) (a : Agrees h m) (i : ℕ) where
       )
 
   may_out : (l t : ℕ) → IsDue h (at l) → fired h (at l) ≡ false → IsTarget h (at l) (at t) → runs_out m.clock xs l t ≡ true
-  may_out l t d f g =
-      let w = was_due l d in let n : fired_of (slice_get xs l) ≡ false = sym (fired_is l) ∙ f in
-      let p : placed_as is_link_timeout (placed_in xs l) ≡ true = ap (placed_as is_link_timeout) (sym (entry_is l) ∙ g.0.1) ∙ g.0.2 in let s : (suc t == l) ≡ true = eq-eqb (suc t) l g.2 in
-      rw (w, n, p, s) refl
+  may_out = grind (arith, common_steps)
 
   pub fire_may : (l t : ℕ) → may_fire m.clock xs l t ≡ true → MayCome (setup_of m) h (Fire (at l) (at t))
   fire_may l t b =
       let o = out_may l t (and_left (runs_out m.clock xs l t) _ b) in (o.0, o.1, o.2, idle_from (phase h (at t)) (ap is_idle (told t) ∙ and_right (runs_out m.clock xs l t) _ b))
 
   pub may_fire_is : (l t : ℕ) → MayCome (setup_of m) h (Fire (at l) (at t)) → may_fire m.clock xs l t ≡ true
-  may_fire_is l t c =
-      let o = may_out l t c.0 c.1 c.2 in let w : is_idle (stage_at (slice_get xs t)) ≡ true = sym (ap is_idle (told t)) ∙ from_idle (phase h (at t)) c.3 in rw (o, w) refl
+  may_fire_is = grind (arith, common_steps, may_out, told, from_idle)
 
   pub fire_miss_may : (l t : ℕ) → may_fire_miss m.clock xs l t ≡ true → MayCome (setup_of m) h (FireMiss (at l) (at t))
   fire_miss_may l t b =
       let o = out_may l t (and_left (runs_out m.clock xs l t) _ b) in (o.0, o.1, o.2, runs_from (phase h (at t)) (ap is_running (told t) ∙ and_right (runs_out m.clock xs l t) _ b))
 
   pub may_fire_miss_is : (l t : ℕ) → MayCome (setup_of m) h (FireMiss (at l) (at t)) → may_fire_miss m.clock xs l t ≡ true
-  may_fire_miss_is l t c =
-      let o = may_out l t c.0 c.1 c.2 in let w : is_running (stage_at (slice_get xs t)) ≡ true = sym (ap is_running (told t)) ∙ ap (λ p. is_running (stage_of p)) c.3 in rw (o, w) refl
+  may_fire_miss_is = grind (arith, common_steps, may_out, told)
 
   due_kept : (l t : ℕ) → runs_out m.clock xs l t ≡ true → (x : Request) × (slice_get xs l ≡ Some x)
   due_kept l t b = some_at (is_due m.clock) refl (slice_get xs l) (and_left (is_due m.clock (stage_at (slice_get xs l))) _ (and_left (is_due m.clock (stage_at (slice_get xs l)) && not (fired_of (slice_get xs l))) _ b))
@@ -210,15 +175,7 @@ module _ (m : Machine) (h : List Event) (a : Agrees h m) (i : ℕ) where
       )
 
   pub may_settle_is : (l : ℕ) → MayCome (setup_of m) h (Settle (at l)) → may_settle xs l ≡ true
-  may_settle_is l c =
-      let w : is_armed (stage_at (slice_get xs l)) ≡ true = sym (ap is_armed (told l)) ∙ ap (λ p. is_armed (stage_of p)) c.0.1 in
-      let p : placed_as is_link_timeout (placed_in xs l) ≡ true = ap (placed_as is_link_timeout) (sym (entry_is l) ∙ c.1.1) ∙ c.1.2 in
-      let o : (fired_of (slice_get xs l) || is_answered (stage_at (slice_get xs (l - 1)))) ≡ true = ⊎_elim
-      (λ (f : fired h (at l) ≡ true). let g : fired_of (slice_get xs l) ≡ true = sym (fired_is l) ∙ f in rw g refl)
-      (λ (f : (t : Req) × IsTarget h (at l) t × IsReplied (phase h t)). let k : f.0.k ≡ l - 1 = (let z : suc f.0.k ≡ l = f.1.2 in omega arith) in let one : f.0 ≡ at (l - 1) = λ j. record { ring = f.1.1 j; k = k j } in
-      let g : is_answered (stage_at (slice_get xs (l - 1))) ≡ true = sym (ap is_answered (told (l - 1))) ∙ ap (λ (z : Req). is_answered (stage_of (phase h z))) (sym one) ∙ from_answered (phase h f.0) f.2 in
-      rw g (elim (fired_of (slice_get xs l)) as (λ z. (z || true) ≡ true) [ true ↦ refl | false ↦ refl ])) c.2 in
-      rw (w, p, o) refl
+  may_settle_is = grind (arith, common_steps)
 
   settled_stage : (l : ℕ) (x : Request) → fired h (at l) ≡ x.fired → stage_of (replied by_settle (cond (fired h (at l)) (negsuc 61) (negsuc 124))) ≡ Some (cond x.fired timed_out cancelled)
   settled_stage l x f = ap (λ z. stage_of (replied by_settle (cond z (negsuc 61) (negsuc 124)))) f ∙ elim x.fired as (λ z. Some (Replied (cond z (negsuc 61) (negsuc 124))) ≡ Some (cond z timed_out cancelled)) [ true ↦ refl | false ↦ refl ]

@@ -1,21 +1,6 @@
 -- The events of no one request: Tick, Shut. And Submit, which makes one.
 use Rattle.std.proofs.Common.{◌≡◌, ℕ, zero, suc, ◌<◌, ◌==◌, ◌||◌, ◌++◌, Bool, true, false, cond, List, [], ◌∷◌, length, get_or, Some, None, refl, sym, ap, ◌∙◌, subst, ⊎_elim, true≢false, eqb-true, eq-eqb, length-append, arith}
-use Rattle.std.specs.List.{slice_get, list_any}
-use Rattle.std.proofs.lemmas.Option.{slice_get_within, slice_get_past}
-use Rattle.entry.specs.Entry.{Entry}
-use Rattle.history.specs.declared.req.Req.{Req}
-use Rattle.history.specs.declared.event.Event.{Event}
-use Rattle.history.specs.declared.event.Event.TheVariants.{Shut, Submit}
-use Rattle.model.specs.declared.request.Request.{Request}
-use Rattle.model.specs.declared.request.Stage.TheVariants.{Waits}
-use Rattle.history.specs.History.{phase, submits, adds_to}
-use Rattle.history.specs.Legal.{Setup, MayCome, Legal, Fits}
-use Rattle.history.specs.State.{Catch, none_yet}
-use Rattle.model.specs.Machine.{Machine, setup_of}
-use Rattle.model.specs.Seen.{seen, seen_of, stage_of, stage_at}
-use Rattle.model.specs.Agrees.{Agrees, Carries, Refuses}
-use Rattle.model.specs.Moves.{is_running, runs_of, runs_in, born}
-use Rattle.history.proofs.Requests.{bool_cases}
+use Rattle.model.proofs.Common.{slice_get, list_any, slice_get_within, slice_get_past, Entry, Req, Event, Shut, Submit, Request, Waits, phase, submits, adds_to, Setup, MayCome, Legal, Fits, Catch, none_yet, Machine, setup_of, seen, seen_of, stage_of, stage_at, Agrees, Carries, Refuses, is_running, runs_of, runs_in, born, bool_cases}
 use Rattle.model.proofs.NumberSearches.{any_at, any_found}
 use Rattle.model.proofs.RequestLists.{slice_get-push}
 use Rattle.model.proofs.RequestWrites.{some_at}

@@ -12,18 +12,14 @@ use Rattle.history.specs.Chains.{placed_from}
 use Rattle.history.specs.State.{Catch, none_yet, catch_in}
 
 abbrev pub is_pending : Stage → Bool
-is_pending Waits = true
-is_pending Runs = true
-is_pending (Armed d) = true
 is_pending (Replied res) = false
 is_pending (Reaped res) = false
+is_pending _ = true
 
 abbrev pub reply_at : Stage → Option ℤ
 reply_at (Replied res) = Some res
 reply_at (Reaped res) = Some res
-reply_at Waits = None
-reply_at Runs = None
-reply_at (Armed d) = None
+reply_at _ = None
 
 abbrev pub stage_of : Phase → Option Stage
 stage_of unborn = None

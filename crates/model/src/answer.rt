@@ -39,6 +39,7 @@ fn op_now(ring: &Ring, pipes: &[Pipe], k: u64, request: &Request, op: Op) -> Rea
 
 impl Ring {
     /// What the request comes to, where it runs.
+    #[tactic(auto, using(crate::proofs::RingReading::placed_fits))]
     pub fn now(&self, pipes: &[Pipe], k: u64) -> Ready
         ensures { answer_as pipes.now result ≡ answer_in pipes.now self.now k }
     {
@@ -53,6 +54,7 @@ impl Ring {
     }
 }
 
+#[tactic(auto, using(crate::proofs::PipeEnds::pipe_there, crate::proofs::PipeEnds::read_there))]
 fn read_at(pipes: &[Pipe], end: NamedEnd, len: u32) -> Ready
     requires { len < 2147483648 }
     ensures { answer_as pipes.now result ≡ read_from (caps_of pipes.now) (flow_in pipes.now) (end_as end) len }
@@ -66,6 +68,7 @@ fn read_at(pipes: &[Pipe], end: NamedEnd, len: u32) -> Ready
     }
 }
 
+#[tactic(auto, using(crate::proofs::PipeEnds::pipe_there, crate::proofs::PipeEnds::write_there))]
 fn write_at(pipes: &[Pipe], end: NamedEnd, len: u32) -> Ready
     requires { len < 2147483648 }
     ensures { answer_as pipes.now result ≡ write_to (caps_of pipes.now) (flow_in pipes.now) (end_as end) len }
@@ -95,6 +98,7 @@ fn close_at(pipes: &[Pipe], end: NamedEnd) -> Ready
     }
 }
 
+#[tactic(auto, using(crate::proofs::PipeEnds::pipe_there, crate::proofs::PipeEnds::poll_read_there, crate::proofs::PipeEnds::poll_write_there))]
 fn poll_at(pipes: &[Pipe], end: NamedEnd, mask: u32) -> Ready
     ensures { answer_as pipes.now result ≡ poll_of (caps_of pipes.now) (flow_in pipes.now) (end_as end) mask }
 {

@@ -33,6 +33,7 @@ pub fn placed_op(requests: &[Request], k: usize) -> Op
 }
 
 /// The request `k` was answered so that the rest of its chain is ended.
+#[tactic(auto, using(crate::proofs::RingReading::placed_ops))]
 pub fn severs(requests: &[Request], k: usize) -> bool
     requires { k < length requests.now }
     ensures { result ≡ severs_at requests.now k }
@@ -47,6 +48,7 @@ pub fn severs(requests: &[Request], k: usize) -> bool
 }
 
 /// An earlier member of the chain of the request `k` ended the rest.
+#[tactic(auto, using(crate::proofs::RingReading::joins_kept, crate::proofs::RingReading::severed_unjoined, crate::proofs::RingReading::severed_here, crate::proofs::RingReading::severed_before))]
 pub fn is_severed(requests: &[Request], k: usize) -> bool
     requires { k ≤ length requests.now }
     ensures { result ≡ severed_in requests.now k }

@@ -1,29 +1,21 @@
-//! What a request has replied.
-ghost use Rattle.std.specs.Prelude.{◌≡◌, ⊤, None, Some, ℤ, IfOk, MatchOption, replicate, map, []};
-ghost use Rattle.model.specs.Seen.{find, taken_in};
-ghost use Rattle.model.specs.Decides.{reply_in_of};
+//! What is kept of a request, and a state in which nothing has happened yet.
+ghost use Rattle.std.specs.Prelude.{◌≡◌, None, Some, IfOk, MatchOption, replicate, map, []};
+ghost use Rattle.model.specs.Seen.{find};
 ghost use Rattle.model.specs.Fresh.{fresh, empty_pipe};
 
 use crate::pipe::Pipe;
+use crate::request::Request;
 use crate::ring::Ring;
 use crate::state::State;
 use history::Req;
 use std::alloc::{AllocError, Global};
 
 impl State {
-    pub fn reply_of(&self, req: Req) -> Option<i32>
-        ensures { result ≡ reply_in_of (find self.now.rings req) }
+    /// What is kept of the request.
+    pub fn find(&self, req: Req) -> Option<&Request>
+        ensures { MatchOption result (find self.now.rings req ≡ None) (λ x. find self.now.rings req ≡ Some x.now) }
     {
-        self.rings.get(req.ring as usize)?.get(req.k)?.stage.reply()
-    }
-
-    pub fn data_of(&self, req: Req) -> Option<&[u8]>
-        ensures none { MatchOption result (reply_in_of (find self.now.rings req) ≡ None) (λ _. (res : ℤ) × (reply_in_of (find self.now.rings req) ≡ Some res)) }
-        ensures bytes { MatchOption result ⊤ (λ bytes. bytes.now ≡ taken_in (find self.now.rings req)) }
-    {
-        let request = self.rings.get(req.ring as usize)?.get(req.k)?;
-        request.stage.reply()?;
-        Some(request.taken.as_slice())
+        self.rings.get(req.ring as usize)?.get(req.k)
     }
 
     /// Nothing has happened yet.

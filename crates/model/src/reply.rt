@@ -72,6 +72,7 @@ impl State {
 }
 
 /// The operation of the running request `k`, where this reply may come.
+#[tactic(auto, using(crate::proofs::PipeEnds::signed, crate::proofs::ReplyEvents::answered_within))]
 pub fn may_reply(ring: &Ring, pipes: &[Pipe], k: u64, res: i32, taken: &[u8]) -> Option<Op>
     ensures no { result ≡ None → ¬ (answer_in pipes.now ring.now k ≡ now res taken.now) }
     ensures yes { (op : Op) → result ≡ Some op → (answer_in pipes.now ring.now k ≡ now res taken.now) × (placed_in ring.now k ≡ with_op (handed_in ring.now k) op) × (k < length ring.now) }

@@ -48,6 +48,7 @@ pub fn splice_at(pipes: &[Pipe], from: NamedEnd, to: NamedEnd, len: u32) -> Read
 }
 
 /// The same, out of the pipe `p`.
+#[tactic(auto, using(crate::proofs::PipeEnds::pipe_there, crate::proofs::PipeEnds::splice_there))]
 fn splice_from(pipes: &[Pipe], p: usize, source: &Pipe, to: NamedEnd, len: u32) -> Ready
     requires fits { len < 2147483648 }
     requires source { slice_get pipes.now p ≡ Some source.now }

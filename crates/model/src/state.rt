@@ -30,6 +30,7 @@ impl Model for State {
 impl State {
     /// An event of the requests of one ring is carried out where it may come, and then the answer is true. Else nothing changes.
     /// An error comes for an event that may come, and then nothing changes either.
+    #[tactic(auto, using(crate::proofs::RingWrites::misses, crate::proofs::RingWrites::follows_if, crate::proofs::RingWrites::same_if, crate::proofs::StepEvents::step_decides, crate::proofs::StepEvents::step_follows, crate::proofs::StepEvents::step_missing))]
     pub fn step(&mut self, event: &Event) -> Result<bool, AllocError>
         requires timely { self.old.shut ≡ shut_for event.now }
         requires one_ring { is_step event.now ≡ true }

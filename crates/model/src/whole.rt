@@ -30,6 +30,7 @@ impl State {
     }
 
     /// The end, where no request runs.
+    #[tactic(auto, using(crate::proofs::WideEvents::shut_carries, crate::proofs::WideEvents::shut_refuses))]
     pub fn shut_down(&mut self) -> bool
         requires { self.old.shut ≡ false }
         ensures { Decided result self.old Shut self.new }

@@ -1,7 +1,6 @@
 use Rattle.std.proofs.Common.{rules, ◌∙◌, ap, SFits, w32}
-use Rattle.std.proofs.lemmas.Int.{to_z-of_z}
-use Rattle.entry.specs.Entry.{fails_op}
-use Rattle.model.proofs.RingReading.{severs_kept, placed_ops}
+use Rattle.model.proofs.Common.{to_z-of_z, fails_op}
+use Rattle.model.proofs.RingReading.{severs_kept}
 use Rattle.model.proofs.chain.severs.Goals as goal
 
 pub returns-else-fails_as : goal.returns-else-fails_as
@@ -13,6 +12,3 @@ returns-else-fails_as c =
 pub returns-in-None : goal.returns-in-None
 returns-in-None c =
     let e = severs_kept _ _ _ _ c.requires c.index-requests-k.is c.placed_op-op.ensures in let j = c.in-None.ensures in rw (e, ← j)
-
-pub fails_as-requires : goal.fails_as-requires
-fails_as-requires c = placed_ops _ _ _ _ c.requires c.index-requests-k.is c.placed_op-op.ensures

@@ -1,6 +1,5 @@
 use Rattle.std.proofs.Common.{◌≡◌, ◌≤◌, length, take}
-use Rattle.std.specs.List.{filter}
-use Rattle.model.specs.Moves.{is_done}
+use Rattle.model.proofs.Common.{filter, is_done}
 use Rattle.model.proofs.timing.count_answered.Given as goal
 
 abbrev pub invariant-loop-request : goal.invariant-loop-request

@@ -1,9 +1,5 @@
 use Rattle.std.proofs.Common.{refl, ◌≡◌, ◌∙◌, ◌<◌, List, length, w32, to_z, of_z, sym, ap, subst, arith}
-use Rattle.std.specs.List.{slice_get}
-use Rattle.model.specs.declared.request.Request.{Request}
-use Rattle.history.specs.Answers.{now}
-use Rattle.model.specs.Answers.{answer_in}
-use Rattle.model.specs.Replies.{put_reply, bytes_in, moved}
+use Rattle.model.proofs.Common.{slice_get, Request, now, answer_in, put_reply, bytes_in, moved}
 use Rattle.model.proofs.PipeEnds.{signed}
 use Rattle.model.proofs.RingWrites.{row_of}
 use Rattle.model.proofs.ReplyEvents.{reply_follows, reply_meets, reply_misses}
