@@ -2,7 +2,7 @@
 use Rattle.std.proofs.Common.{◌≡◌, ◌≢◌, ◌⊎◌, ℕ, suc, ◌+◌, ◌-◌, ◌*◌, ◌<◌, ◌≤◌, suc-mul, Bool, true, false, cond, ℤ, pos, List, [], ◌∷◌, Option, Some, None, refl, sym, ap, ◌∙◌, subst, arith, true≢false}
 use mir.Val.{bool_byte}
 use Rattle.atomic_table.specs.declared.shared.Seat.{Seat}
-use Rattle.claim.specs.declared.tag.Tag.TheVariants.{Armed as ArmedTag}
+use Rattle.claim.specs.declared.tag.Tag.{Tag}
 use Rattle.entry.specs.declared.op.Op.{Op}
 use Rattle.entry.specs.declared.op.Op.TheVariants.{Timeout}
 use Rattle.entry.specs.Entry.{Entry}
@@ -32,7 +32,7 @@ use Rattle.board.specs.declared.alarm.Alarm.TheVariants.{Linked, Alone}
 use Rattle.board.specs.declared.phase.Phase.{Phase as Standing}
 use Rattle.board.specs.declared.phase.Phase.TheVariants.{Unborn, Held, Ready, Running, Armed, Done, Gone}
 use Rattle.board.specs.declared.poller.Counting.{Counting}
-use Rattle.board.specs.declared.poller.Counting.TheVariants.{Counted, Fewer, NotCounted, NotArmed as NoneToCount}
+use Rattle.board.specs.declared.poller.Counting.TheVariants.{Counted, Fewer, NotCounted}
 use Rattle.board.specs.Calls.{Stands}
 use Rattle.board.specs.PollerRows.{IsAt, IsOurs, Watched, Paid, Spends, StepsTo}
 use Rattle.board.specs.PollerTimers.{IsKept, KnowsAlarm}
@@ -191,7 +191,7 @@ module _ (b : Facts) (s t : TableSeat) (r : Req) (x g : ℕ) (o : IsOurs b s) (a
   }
 
   -- it could be armed with this deadline alone, and is so no more
-  pub counts_missed : (d : ℕ) → ((e : ℕ) → phase (events_of s.me.0.seen) r ≡ armed e → e ≡ d) → Watched b s t → (n : ℕ) × IsStep (claim_at x) n s.me.0 t.me.0 × Shown s.me.0.layout.cells t.me.0.seen x n × (n ≢ word_of ArmedTag 0 g d) → Counts b r (pass_of s) (pass_of t) NoneToCount
+  pub counts_missed : (d : ℕ) → ((e : ℕ) → phase (events_of s.me.0.seen) r ≡ armed e → e ≡ d) → Watched b s t → (n : ℕ) × IsStep (claim_at x) n s.me.0 t.me.0 × Shown s.me.0.layout.cells t.me.0.seen x n × (n ≢ word_of Tag.Armed 0 g d) → Counts b r (pass_of s) (pass_of t) Counting.NotArmed
   counts_missed d only w f = record {
     goes = w.goes;
     tells = (
@@ -206,7 +206,7 @@ module _ (b : Facts) (s t : TableSeat) (r : Req) (x g : ℕ) (o : IsOurs b s) (a
 
   module _ (w : Watched b s t) (n : ℕ) (step : IsStep (claim_at x) n s.me.0 t.me.0) (shown : Shown s.me.0.layout.cells t.me.0.seen x n) where
     -- it isn't armed
-    pub counts_unarmed : (y : Standing) → ((d : ℕ) → y ≡ Armed d → ⊥) → Stands t.me.0.seen (request_at s.me.0.layout.cells x g) y → Counts b r (pass_of s) (pass_of t) NoneToCount
+    pub counts_unarmed : (y : Standing) → ((d : ℕ) → y ≡ Armed d → ⊥) → Stands t.me.0.seen (request_at s.me.0.layout.cells x g) y → Counts b r (pass_of s) (pass_of t) Counting.NotArmed
     counts_unarmed y ne k = record { goes = w.goes; tells = (unarmed b s t r x g o a w n step shown r y ne (subst (λ (q : Req). Stands t.me.0.seen q y) at_is k), stepped_by b s t r x g o a n step shown); others = w.freed_is }
 
     -- it counts nothing
@@ -257,7 +257,7 @@ counts_fewer b r s t w k = record { goes = w.goes; tells = k; others = w.freed_i
 pub counts_after : (b : Facts) (r : Req) (s t u : TableSeat) (n m : ℕ) → Watched b s t → Paid s.me.0 t.me.0 n m → Counts b r (pass_of t) (pass_of u) Counted → Counts b r (pass_of s) (pass_of u) Counted
 counts_after b r s t u n m w p k = record { goes = goes_then b (pass_of s) (pass_of t) (pass_of u) (Count r ∷ []) w.goes k.goes; tells = k.tells; others = λ i. k.others i ∙ w.freed_is i }
 
-pub unarmed_after : (b : Facts) (r : Req) (s t u : TableSeat) (n m : ℕ) → Watched b s t → Paid s.me.0 t.me.0 n m → Counts b r (pass_of t) (pass_of u) NoneToCount → Counts b r (pass_of s) (pass_of u) NoneToCount
+pub unarmed_after : (b : Facts) (r : Req) (s t u : TableSeat) (n m : ℕ) → Watched b s t → Paid s.me.0 t.me.0 n m → Counts b r (pass_of t) (pass_of u) Counting.NotArmed → Counts b r (pass_of s) (pass_of u) Counting.NotArmed
 unarmed_after b r s t u n m w p k = record { goes = goes_then b (pass_of s) (pass_of t) (pass_of u) [] w.goes k.goes; tells = (k.tells.0, stepped_after b.layout.cells r s t u b n m p k.tells.1); others = λ i. k.others i ∙ w.freed_is i }
 
 -- it arms and fires no timer, and leaves the clock
@@ -265,4 +265,4 @@ pub counted_calm : (x : Counting) (r : Req) → AllPass (is_calm none) (counted_
 counted_calm Counted r = ((refl, tt), (refl, tt))
 counted_calm Fewer r = (tt, tt)
 counted_calm NotCounted r = (tt, tt)
-counted_calm NoneToCount r = (tt, tt)
+counted_calm Counting.NotArmed r = (tt, tt)

@@ -2,7 +2,6 @@
 use Rattle.std.proofs.Common.{◌≡◌, ◌≢◌, inl, inr, ℕ, ◌<◌, true, cond, negsuc, List, [], ◌∷◌, Option, Some, refl, sym, ap, ◌∙◌, subst, arith}
 use Rattle.atomic_table.specs.declared.shared.Seat.{Seat}
 use Rattle.claim.specs.declared.tag.Tag.{Tag}
-use Rattle.claim.specs.declared.tag.Tag.TheVariants.{Empty as EmptyTag, Held as HeldTag, Ready as ReadyTag, Running as RunningTag, Armed as ArmedTag, Done as DoneTag}
 use Rattle.history.specs.declared.req.Req.{Req}
 use Rattle.history.specs.declared.event.Event.TheVariants.{Expire}
 use Rattle.history.specs.Chains.{is_timeout}
@@ -41,15 +40,15 @@ TableSeat = Seat (Option Thing) View
 -- ---- the word of an armed timer
 
 module _ (K : List ℕ) (j : List Line) (x w : ℕ) (home : Home) where
-  says_armed : (r : Req) (c p d : ℕ) (t : Tag) → Says j r home c p t → phase (events_of j) r ≡ armed d → (t ≡ ArmedTag) × (c ≡ 0) × (p ≡ d)
-  says_armed r c p d EmptyTag s is = let y = s.2 in absurd (cc)
-  says_armed r c p d HeldTag s is = let y = s.2 in absurd (cc)
-  says_armed r c p d ReadyTag s is = let y = s.2 in absurd (cc)
-  says_armed r c p d RunningTag s is = let y = s.2 in absurd (cc)
-  says_armed r c p d ArmedTag s is = let y = s.1 in (refl, s.0, (let z : p ≡ d = cc in z))
-  says_armed r c p d DoneTag s is = let y = s.3 in absurd (cc)
+  says_armed : (r : Req) (c p d : ℕ) (t : Tag) → Says j r home c p t → phase (events_of j) r ≡ armed d → (t ≡ Tag.Armed) × (c ≡ 0) × (p ≡ d)
+  says_armed r c p d Tag.Empty s is = let y = s.2 in absurd (cc)
+  says_armed r c p d Tag.Held s is = let y = s.2 in absurd (cc)
+  says_armed r c p d Tag.Ready s is = let y = s.2 in absurd (cc)
+  says_armed r c p d Tag.Running s is = let y = s.2 in absurd (cc)
+  says_armed r c p d Tag.Armed s is = let y = s.1 in (refl, s.0, (let z : p ≡ d = cc in z))
+  says_armed r c p d Tag.Done s is = let y = s.3 in absurd (cc)
 
-  pub armed_word : CellOk K j x w home → (g d : ℕ) → phase (events_of j) (request_at K x g) ≡ armed d → w ≡ word_of ArmedTag 0 g d
+  pub armed_word : CellOk K j x w home → (g d : ℕ) → phase (events_of j) (request_at K x g) ≡ armed d → w ≡ word_of Tag.Armed 0 g d
   armed_word ok g d is =
       let u : ¬ (g < ok.gen) = λ l. (let z = (ok.ages.before g l).2 in let y = is in cc) in let v : ¬ (ok.gen < g) = λ l. (let z = ok.ages.after g l in let y = is in cc) in let e : ok.gen ≡ g = omega arith in
       let s = says_armed (request_at K x g) ok.cause ok.payload d ok.tag (subst (λ (z : ℕ). Says j (request_at K x z) home ok.cause ok.payload ok.tag) e ok.says) is in
@@ -77,11 +76,11 @@ module _ (b : Facts) (s t : TableSeat) (r : Req) (x g : ℕ) (o : IsOurs b s) (a
   stepped_by n step shown = stepped_once b.layout.cells r (pass_of s) (pass_of t) x g n a.inside.0 a.at step (subst (λ (L : Layout). Shown L.cells t.me.0.seen x n) o.ours.layout_is shown)
 
   -- it was armed with this deadline, and is so no more
-  pub no_more_armed : (d : ℕ) → phase (events_of s.me.0.seen) r ≡ armed d → Watched b s t → (n : ℕ) × IsStep (claim_at x) n s.me.0 t.me.0 × Shown s.me.0.layout.cells t.me.0.seen x n × (n ≢ word_of ArmedTag 0 g d) → (d' : ℕ) → phase (events_of t.me.0.seen) r ≢ armed d'
+  pub no_more_armed : (d : ℕ) → phase (events_of s.me.0.seen) r ≡ armed d → Watched b s t → (n : ℕ) × IsStep (claim_at x) n s.me.0 t.me.0 × Shown s.me.0.layout.cells t.me.0.seen x n × (n ≢ word_of Tag.Armed 0 g d) → (d' : ℕ) → phase (events_of t.me.0.seen) r ≢ armed d'
   no_more_armed d was w f d' is = let before = armed_before b (pass_of s) (pass_of t) [] w.goes mine none tt r d' refl is in let one : d' ≡ d = (let z = sym before ∙ was in cc) in
       f.3 (armed_word s.me.0.layout.cells t.me.0.seen x f.0 f.2.0 f.2.1 g d (subst (λ (q : Req). phase (events_of t.me.0.seen) q ≡ armed d) (sym at_is) (is ∙ ap armed one)))
 
-  pub expires_missed : (d : ℕ) → phase (events_of s.me.0.seen) r ≡ armed d → Watched b s t → (n : ℕ) × IsStep (claim_at x) n s.me.0 t.me.0 × Shown s.me.0.layout.cells t.me.0.seen x n × (n ≢ word_of ArmedTag 0 g d) → Expires b r (pass_of s) (pass_of t) NotArmed
+  pub expires_missed : (d : ℕ) → phase (events_of s.me.0.seen) r ≡ armed d → Watched b s t → (n : ℕ) × IsStep (claim_at x) n s.me.0 t.me.0 × Shown s.me.0.layout.cells t.me.0.seen x n × (n ≢ word_of Tag.Armed 0 g d) → Expires b r (pass_of s) (pass_of t) NotArmed
   expires_missed d was w f = record { goes = w.goes; tells = (inl (no_more_armed d was w f), stepped_by f.0 f.1 f.2); others = w.freed_is }
 
   -- ---- a look

@@ -2,7 +2,7 @@
 use Rattle.std.proofs.Common.{◌≡◌, ◌≢◌, ⊎_elim, ℕ, ◌<◌, ◌==◌, ◌&&◌, ◌||◌, not, Bool, true, false, cond, true≢false, negsuc, List, [], ◌∷◌, ◌++◌, Option, Some, None, length, sym, refl, ap, ◌∙◌, subst, arith, eq-eqb}
 use Rattle.std.specs.Option.{is_some}
 use Rattle.atomic_table.specs.declared.shared.Seat.{Seat}
-use Rattle.claim.specs.declared.tag.Tag.TheVariants.{Held as HeldTag}
+use Rattle.claim.specs.declared.tag.Tag.{Tag}
 use Rattle.entry.specs.declared.op.Op.{Op}
 use Rattle.entry.specs.declared.op.Op.TheVariants.{Nop, PollAdd, Timeout, TimeoutRemove, AsyncCancel, LinkTimeout, Close, Read, Write, Splice, Invalid}
 use Rattle.entry.specs.Entry.{Entry, fails, fails_op}
@@ -31,7 +31,8 @@ use Rattle.work.proofs.OwnEvents.{own_none}
 use Rattle.work.proofs.PassesKept.{extended_of}
 use Rattle.board.specs.Calls.{Goes}
 use Rattle.board.specs.PollerRows.{IsAt, IsOurs, Watched, MayArm, Decides}
-use Rattle.board.specs.declared.poller.Released.TheVariants.{Severed as IsSevered, Freed as IsFreed, Shut as IsShut, Timer as IsTimer, NotHeld}
+use Rattle.board.specs.declared.poller.Released.{Released}
+use Rattle.board.specs.declared.poller.Released.TheVariants.{NotHeld}
 use Rattle.board.proofs.GoesLaws.{goes_freed}
 use Rattle.board.proofs.PassFacts.{freed_may, freed_more, same_freed}
 use Rattle.board.proofs.Standings.{unheld}
@@ -150,7 +151,7 @@ module _ (b : Facts) (s t : TableSeat) (r : Req) (x g : ℕ) (o : IsOurs b s) (a
   at_is = ap (λ (L : Layout). request_at L.cells x g) o.ours.layout_is ∙ a.at
 
   -- it freed the request
-  pub decides_freed : Extends s.me.0 (Freed (request_at s.me.0.layout.cells x g)) s.me.0.role t.me.0 → IsStep (claim_at x) (word_of HeldTag 0 g 0) s.me.0 t.me.0 → Decides b r (pass_of s) (pass_of t) IsFreed
+  pub decides_freed : Extends s.me.0 (Freed (request_at s.me.0.layout.cells x g)) s.me.0.role t.me.0 → IsStep (claim_at x) (word_of Tag.Held 0 g 0) s.me.0 t.me.0 → Decides b r (pass_of s) (pass_of t) Released.Freed
   decides_freed e step = let n = length s.me.0.layout.cells in let y = subst (λ (q : Req). Extends s.me.0 (Freed q) s.me.0.role t.me.0) at_is e in let m = freed_may s.me.0 t.me.0 n o.seat.role r y in record {
     goes = goes_freed b (pass_of s) (pass_of t) r o.ours id y;
     decided = (m.0, m.1, (x, g, record { others = []; cell_is = (a.inside.0, a.at); last = step }));
@@ -162,7 +163,7 @@ module _ (b : Facts) (s t : TableSeat) (r : Req) (x g : ℕ) (o : IsOurs b s) (a
   owned : owns s.me.0.role (Did (Sever r)) ≡ true
   owned = ap (λ (z : Role). stands_for z pollers) o.seat.role
 
-  pub decides_severed : r.k < submits (events_of s.me.0.seen) r.ring → Severed (events_of s.me.0.seen) r → Extends s.me.0 (Did (Sever (request_at s.me.0.layout.cells x g))) s.me.0.role t.me.0 → IsStep (claim_at x) (word_of HeldTag 0 g 0) s.me.0 t.me.0 → Decides b r (pass_of s) (pass_of t) IsSevered
+  pub decides_severed : r.k < submits (events_of s.me.0.seen) r.ring → Severed (events_of s.me.0.seen) r → Extends s.me.0 (Did (Sever (request_at s.me.0.layout.cells x g))) s.me.0.role t.me.0 → IsStep (claim_at x) (word_of Tag.Held 0 g 0) s.me.0 t.me.0 → Decides b r (pass_of s) (pass_of t) Released.Severed
   decides_severed born severed e step =
       let y = subst (λ (q : Req). Extends s.me.0 (Did (Sever q)) s.me.0.role t.me.0) at_is e in let kept = extended_of b (pass_of s) (pass_of t) (Did (Sever r)) s.me.0.role o.ours refl id y in
       let seen : t.me.0.seen ≡ Did (Sever r) ∷ y.mid = ap (λ (z : View). z.seen) y.is in let all : t.me.0.seen ≡ (Did (Sever r) ∷ y.saw.later) ++ s.me.0.seen = seen ∙ ap (λ (j : List Line). Did (Sever r) ∷ j) y.saw.is in
@@ -187,7 +188,7 @@ module _ (b : Facts) (s t : TableSeat) (r : Req) (x g : ℕ) (o : IsOurs b s) (a
       }
 
   -- it missed
-  pub decides_missed : Watched b s t → (n : ℕ) × IsStep (claim_at x) n s.me.0 t.me.0 × Shown s.me.0.layout.cells t.me.0.seen x n × (n ≢ word_of HeldTag 0 g 0) → Decides b r (pass_of s) (pass_of t) NotHeld
+  pub decides_missed : Watched b s t → (n : ℕ) × IsStep (claim_at x) n s.me.0 t.me.0 × Shown s.me.0.layout.cells t.me.0.seen x n × (n ≢ word_of Tag.Held 0 g 0) → Decides b r (pass_of s) (pass_of t) NotHeld
   decides_missed w f = record {
     goes = w.goes;
     decided = (subst (λ (q : Req). Rattle.board.specs.Calls.IsUnheld t.me.0.seen q) at_is (unheld s.me.0.layout.cells t.me.0.seen x f.0 g f.2.0 f.2.1 f.3), (x, g, f.0, record { others = []; cell_is = (a.inside.0, a.at); last = f.1 }, subst (λ (L : Layout). Shown L.cells t.me.0.seen x f.0) o.ours.layout_is f.2));
@@ -196,10 +197,10 @@ module _ (b : Facts) (s t : TableSeat) (r : Req) (x g : ℕ) (o : IsOurs b s) (a
   }
 
 -- a request that waits for no exchange: its answer is told by what was seen
-pub decides_timer : (b : Facts) (s t : TableSeat) (r : Req) → Watched b s t → MayArm (events_of t.me.0.seen) r → Decides b r (pass_of s) (pass_of t) IsTimer
+pub decides_timer : (b : Facts) (s t : TableSeat) (r : Req) → Watched b s t → MayArm (events_of t.me.0.seen) r → Decides b r (pass_of s) (pass_of t) Released.Timer
 decides_timer b s t r w m = record { goes = w.goes; decided = m; was_free = λ is. absurd (cc); others = λ i _. w.freed_is i }
 
-pub decides_shut : (b : Facts) (s t : TableSeat) (r : Req) → Watched b s t → Rattle.board.specs.PollerRows.IsShutOut b.layout.cells r (pass_of s) (pass_of t) → Decides b r (pass_of s) (pass_of t) IsShut
+pub decides_shut : (b : Facts) (s t : TableSeat) (r : Req) → Watched b s t → Rattle.board.specs.PollerRows.IsShutOut b.layout.cells r (pass_of s) (pass_of t) → Decides b r (pass_of s) (pass_of t) Released.Shut
 decides_shut b s t r w m = record { goes = w.goes; decided = m; was_free = λ is. absurd (cc); others = λ i _. w.freed_is i }
 
 -- nobody has replied who was put back

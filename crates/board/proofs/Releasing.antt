@@ -4,7 +4,7 @@ use Rattle.atomic_table.specs.declared.shared.Seat.{Seat}
 use Rattle.history.specs.declared.req.Req.{Req}
 use Rattle.history.proofs.Requests.{bool_cases}
 use Rattle.history.specs.History.{phase, waits}
-use Rattle.claim.specs.declared.tag.Tag.TheVariants.{Held as HeldTag}
+use Rattle.claim.specs.declared.tag.Tag.{Tag}
 use Rattle.steps.specs.declared.line.Line.{Line}
 use Rattle.steps.specs.declared.parcel.Thing.{Thing}
 use Rattle.steps.specs.declared.view.Layout.{Layout}
@@ -35,7 +35,7 @@ held_is j r Gone n k is f = let z = sym k.2 ∙ is in cc
 -- what doesn't stand as Held is unborn, replied, armed or was moved before
 pub unheld_by_standing : (K : List ℕ) (j : List Line) (x w g : ℕ) (s : Standing) → Shown K j x w → (s ≡ Held → ⊥) → Stands j (request_at K x g) s → IsUnheld j (request_at K x g)
 unheld_by_standing K j x w g s shown n k = ⊎_elim
-    (λ (lt : nat_lt g 16777216 ≡ true). unheld K j x w g shown.0 shown.1 (λ is. (let y = (says_of K j x w shown.0 HeldTag 0 g 0 shown.1 is (omega arith) (ltb-true g 16777216 lt) (omega arith)).0 in held_is j (request_at K x g) s n k y.2 y.3)))
+    (λ (lt : nat_lt g 16777216 ≡ true). unheld K j x w g shown.0 shown.1 (λ is. (let y = (says_of K j x w shown.0 Tag.Held 0 g 0 shown.1 is (omega arith) (ltb-true g 16777216 lt) (omega arith)).0 in held_is j (request_at K x g) s n k y.2 y.3)))
     (λ (le : nat_lt g 16777216 ≡ false). let f = shown.1.fits.1 in let z = ltb-false g 16777216 le in inl (inl (shown.1.ages.after g (omega arith)))) (bool_cases (nat_lt g 16777216))
 
 -- a look that found the request not to wait for the poller

@@ -1,7 +1,7 @@
 -- What the poller's looks at a LINK_TIMEOUT and at its target, and its step that settles one, tell it.
 use Rattle.std.proofs.Common.{◌≡◌, ◌≢◌, ⊎_elim, inl, inr, ℕ, suc, ◌-◌, ◌<◌, ◌==◌, ◌&&◌, not, Bool, true, false, cond, negsuc, List, [], ◌∷◌, ◌++◌, Option, Some, None, refl, sym, ap, ◌∙◌, subst, arith, true≢false, eq-eqb}
 use Rattle.atomic_table.specs.declared.shared.Seat.{Seat}
-use Rattle.claim.specs.declared.tag.Tag.TheVariants.{Armed as ArmedTag}
+use Rattle.claim.specs.declared.tag.Tag.{Tag}
 use Rattle.entry.specs.declared.op.Op.TheVariants.{Invalid}
 use Rattle.entry.specs.Entry.{Entry}
 use Rattle.history.specs.declared.req.Req.{Req}
@@ -26,7 +26,7 @@ use Rattle.board.specs.declared.alarm.Alarm.{Alarm}
 use Rattle.board.specs.declared.phase.Phase.{Phase as Standing}
 use Rattle.board.specs.declared.phase.Phase.TheVariants.{Armed}
 use Rattle.board.specs.declared.poller.Settling.{Settling}
-use Rattle.board.specs.declared.poller.Settling.TheVariants.{Settled, TargetOpen, NotArmed as NothingArmed}
+use Rattle.board.specs.declared.poller.Settling.TheVariants.{Settled, TargetOpen}
 use Rattle.board.specs.Calls.{Goes, Stands}
 use Rattle.board.specs.PollerRows.{IsAt, IsOurs, Watched, Paid}
 use Rattle.board.specs.TimerCalls.{IsArmed, IsTargetOpen, Settles, SettlingTells, settled_by}
@@ -83,18 +83,18 @@ module _ (b : Facts) (s t : TableSeat) (r : Req) (x g : ℕ) (o : IsOurs b s) (a
       }
 
   -- it was armed with this deadline, and is so no more
-  pub settles_missed : (d : ℕ) → phase (events_of s.me.0.seen) r ≡ armed d → Watched b s t → (n : ℕ) × IsStep (claim_at x) n s.me.0 t.me.0 × Shown s.me.0.layout.cells t.me.0.seen x n × (n ≢ word_of ArmedTag 0 g d) → Settles b r (pass_of s) (pass_of t) NothingArmed
+  pub settles_missed : (d : ℕ) → phase (events_of s.me.0.seen) r ≡ armed d → Watched b s t → (n : ℕ) × IsStep (claim_at x) n s.me.0 t.me.0 × Shown s.me.0.layout.cells t.me.0.seen x n × (n ≢ word_of Tag.Armed 0 g d) → Settles b r (pass_of s) (pass_of t) Settling.NotArmed
   settles_missed d was w f = record { goes = w.goes; tells = (inl (no_more_armed b s t r x g o a d was w f), stepped_by b s t r x g o a f.0 f.1 f.2); others = w.freed_is }
 
   -- ---- a look
 
   module _ (w : Watched b s t) (n : ℕ) (step : IsStep (claim_at x) n s.me.0 t.me.0) (shown : Shown s.me.0.layout.cells t.me.0.seen x n) where
     -- it isn't armed
-    pub settles_unarmed : (y : Standing) → ((d : ℕ) → y ≡ Armed d → ⊥) → Stands t.me.0.seen (request_at s.me.0.layout.cells x g) y → Settles b r (pass_of s) (pass_of t) NothingArmed
+    pub settles_unarmed : (y : Standing) → ((d : ℕ) → y ≡ Armed d → ⊥) → Stands t.me.0.seen (request_at s.me.0.layout.cells x g) y → Settles b r (pass_of s) (pass_of t) Settling.NotArmed
     settles_unarmed y ne k = record { goes = w.goes; tells = (inl (unarmed b s t r x g o a w n step shown r y ne (subst (λ (q : Req). Stands t.me.0.seen q y) at_is k)), stepped_by b s t r x g o a n step shown); others = w.freed_is }
 
     -- it is a TIMEOUT
-    pub settles_alone : IsOfKind (events_of t.me.0.seen) r is_timeout true → Settles b r (pass_of s) (pass_of t) NothingArmed
+    pub settles_alone : IsOfKind (events_of t.me.0.seen) r is_timeout true → Settles b r (pass_of s) (pass_of t) Settling.NotArmed
     settles_alone k = record { goes = w.goes; tells = (inr k, stepped_by b s t r x g o a n step shown); others = w.freed_is }
 
 -- its target has no reply
@@ -107,13 +107,13 @@ settles_after b r s t u n m x w p k = record { goes = goes_then b (pass_of s) (p
   tells_after : (x : Settling) → SettlingTells b r (pass_of t) (pass_of u) x → SettlingTells b r (pass_of s) (pass_of u) x
   tells_after Settled k = k
   tells_after TargetOpen k = let o = k.0 in ((o.0, o.1, o.2, stepped_after b.layout.cells o.0 s t u b n m p o.3), k.1)
-  tells_after NothingArmed k = (k.0, stepped_after b.layout.cells r s t u b n m p k.1)
+  tells_after Settling.NotArmed k = (k.0, stepped_after b.layout.cells r s t u b n m p k.1)
 
 -- it arms and fires no timer, and leaves the clock
 pub settled_calm : (x : Settling) (r : Req) → AllPass (is_calm none) (settled_by x r) × AllPass is_still (settled_by x r)
 settled_calm Settled r = ((refl, tt), (refl, tt))
 settled_calm TargetOpen r = (tt, tt)
-settled_calm NothingArmed r = (tt, tt)
+settled_calm Settling.NotArmed r = (tt, tt)
 
 -- ---- a look at a timer that is armed
 

@@ -3,7 +3,6 @@ use Rattle.std.proofs.Common.{◌≡◌, ◌≢◌, ◌⊎◌, ⊎_elim, ℕ, su
 use Rattle.std.proofs.Math.Bool.{and-false}
 use Rattle.atomic_table.specs.declared.shared.Seat.{Seat}
 use Rattle.claim.specs.declared.tag.Tag.{Tag}
-use Rattle.claim.specs.declared.tag.Tag.TheVariants.{Held as HeldTag, Ready as ReadyTag, Running as RunningTag, Armed as ArmedTag}
 use Rattle.entry.specs.Entry.{Entry, fails, links}
 use Rattle.history.specs.declared.req.Req.{Req}
 use Rattle.history.specs.declared.event.Event.{Event}
@@ -35,8 +34,8 @@ use Rattle.board.specs.Calls.{Goes, Stepped}
 use Rattle.board.specs.PollerRows.{IsAt, IsOurs, Watched}
 use Rattle.board.specs.TimerCalls.{DidStrike, EndsFired, Fires, IsDueLinked, IsEarly, Settles, fired_by, struck_by}
 use Rattle.board.specs.declared.poller.Firing.{Firing}
-use Rattle.board.specs.declared.poller.Firing.TheVariants.{Took as TookTarget, Missed as MissedTarget, TargetDone, Early as TooEarly, NotArmed as NoneToFire}
-use Rattle.board.specs.declared.poller.Settling.TheVariants.{NotArmed as NothingArmed}
+use Rattle.board.specs.declared.poller.Firing.TheVariants.{TargetDone}
+use Rattle.board.specs.declared.poller.Settling.{Settling}
 use Rattle.board.specs.Seats.{IsPollerSeat}
 use Rattle.board.specs.PollerTimers.{KnowsAlarm, KnowsTimers}
 use Rattle.board.specs.declared.alarm.Alarm.{Alarm}
@@ -139,7 +138,7 @@ module _ (b : Facts) (s t : TableSeat) (r : Req) (y g : ℕ) (here : IsAt b.layo
 
     -- it is idle still, and yet stands otherwise: nobody but the poller moves a request to Ready or arms one
     pub never_idle : Watched b t u → (found expected word : ℕ) → g < 16777216 → Shown K t.me.0.seen y found → Shown K u.me.0.seen y word
-        → IsIdleWord g expected × ((expected ≡ found) ⊎ ((found ≡ word_of RunningTag 0 g 0) × (expected ≡ word_of ReadyTag 0 g 0))) → IsIdleWord g word → word ≢ expected → ⊥
+        → IsIdleWord g expected × ((expected ≡ found) ⊎ ((found ≡ word_of Tag.Running 0 g 0) × (expected ≡ word_of Tag.Ready 0 g 0))) → IsIdleWord g word → word ≢ expected → ⊥
     never_idle v found expected word f before after looked idle other = by_tag idle.0 idle.1 idle.2 idle.3 idle.4 where
       later : List Line
       later = v.goes.later
@@ -150,19 +149,19 @@ module _ (b : Facts) (s t : TableSeat) (r : Req) (y g : ℕ) (here : IsAt b.layo
       after' : Shown K (later ++ t.me.0.seen) y word
       after' = subst (λ (j : List Line). Shown K j y word) v.goes.seen_is after
 
-      was_held : found ≡ word_of HeldTag 0 g 0
+      was_held : found ≡ word_of Tag.Held 0 g 0
       was_held = held_before S K later t.me.0.seen y g found expected word f on before after' looked idle other
 
-      no_more : word ≢ word_of HeldTag 0 g 0
+      no_more : word ≢ word_of Tag.Held 0 g 0
       no_more = held_no_more S K later t.me.0.seen y g found expected word f on before after' looked idle other
 
-      said : Says t.me.0.seen (request_at K y g) before.0 0 0 HeldTag × Ages K t.me.0.seen y g
-      said = says_of K t.me.0.seen y found before.0 HeldTag 0 g 0 before.1 was_held (omega arith) f (omega arith)
+      said : Says t.me.0.seen (request_at K y g) before.0 0 0 Tag.Held × Ages K t.me.0.seen y g
+      said = says_of K t.me.0.seen y found before.0 Tag.Held 0 g 0 before.1 was_held (omega arith) f (omega arith)
 
       by_tag : (tag : Tag) (p : ℕ) → is_idle tag ≡ true → p < 4294967296 → word ≡ word_of tag 0 g p → ⊥
-      by_tag HeldTag p i d is = let now = says_of K u.me.0.seen y word after.0 HeldTag 0 g p after.1 is (omega arith) f d in no_more (is ∙ ap (λ (n : ℕ). word_of HeldTag 0 g n) now.0.1)
-      by_tag ReadyTag p i d is = let now = says_of K u.me.0.seen y word after.0 ReadyTag 0 g p after.1 is (omega arith) f d in true≢false (sym now.0.3 ∙ (v.freed_is (request_at K y g) ∙ said.0.3))
-      by_tag ArmedTag p i d is = let now = says_of K u.me.0.seen y word after.0 ArmedTag 0 g p after.1 is (omega arith) f d in let was = armed_before b (pass_of t) (pass_of u) [] v.goes mine none tt (request_at K y g) p refl now.0.1 in (let z = sym was ∙ said.0.2 in cc)
+      by_tag Tag.Held p i d is = let now = says_of K u.me.0.seen y word after.0 Tag.Held 0 g p after.1 is (omega arith) f d in no_more (is ∙ ap (λ (n : ℕ). word_of Tag.Held 0 g n) now.0.1)
+      by_tag Tag.Ready p i d is = let now = says_of K u.me.0.seen y word after.0 Tag.Ready 0 g p after.1 is (omega arith) f d in true≢false (sym now.0.3 ∙ (v.freed_is (request_at K y g) ∙ said.0.3))
+      by_tag Tag.Armed p i d is = let now = says_of K u.me.0.seen y word after.0 Tag.Armed 0 g p after.1 is (omega arith) f d in let was = armed_before b (pass_of t) (pass_of u) [] v.goes mine none tt (request_at K y g) p refl now.0.1 in (let z = sym was ∙ said.0.2 in cc)
       by_tag tag p i d is = true≢false (sym i)
 
     -- the timer itself over an event at its target
@@ -231,7 +230,7 @@ module _ (b : Facts) (s t : TableSeat) (r : Req) (x g : ℕ) (o : IsOurs b s) (a
       }
 
   -- nobody else ends it
-  pub ends_missed : (d : ℕ) → IsLinkTimeout (events_of s.me.0.seen) r → phase (events_of s.me.0.seen) r ≡ armed d → Watched b s t → (n : ℕ) × IsStep (claim_at x) n s.me.0 t.me.0 × Shown s.me.0.layout.cells t.me.0.seen x n × (n ≢ word_of ArmedTag 0 g d) → ⊥
+  pub ends_missed : (d : ℕ) → IsLinkTimeout (events_of s.me.0.seen) r → phase (events_of s.me.0.seen) r ≡ armed d → Watched b s t → (n : ℕ) × IsStep (claim_at x) n s.me.0 t.me.0 × Shown s.me.0.layout.cells t.me.0.seen x n × (n ≢ word_of Tag.Armed 0 g d) → ⊥
   ends_missed d link is w f = no_more_armed b s t r x g o a d is w f d (armed_on b s t r d w link is)
 
 -- ---- the whole call
@@ -249,12 +248,12 @@ due_on b s t r w due = record {
 
 module _ (b : Facts) (r : Req) where
   -- it isn't armed, or is a TIMEOUT
-  pub fires_none : (p q : Pass) → Settles b r p q NothingArmed → Fires b r p q NoneToFire
+  pub fires_none : (p q : Pass) → Settles b r p q Settling.NotArmed → Fires b r p q Firing.NotArmed
   fires_none p q k = record { goes = k.goes; tells = k.tells; others = k.others }
 
   module _ (s t : TableSeat) (w : Watched b s t) where
     -- its deadline is to come
-    pub fires_early : IsEarly (events_of t.me.0.seen) r → IsLinkTimeout (events_of t.me.0.seen) r → Stepped b.layout.cells r (pass_of s) (pass_of t) → Fires b r (pass_of s) (pass_of t) TooEarly
+    pub fires_early : IsEarly (events_of t.me.0.seen) r → IsLinkTimeout (events_of t.me.0.seen) r → Stepped b.layout.cells r (pass_of s) (pass_of t) → Fires b r (pass_of s) (pass_of t) Firing.Early
     fires_early is link step = record { goes = w.goes; tells = (is, link, step); others = w.freed_is }
 
     -- a look before it struck
@@ -269,14 +268,14 @@ module _ (b : Facts) (r : Req) where
       fired_target : (x : Struck) → DidStrike b r (pass_of t) (pass_of u) x → EndsFired b r (pass_of u) (pass_of v) → IsTarget (events_of v.me.0.seen) r (previous r)
       fired_target x k m = target_is (events_of v.me.0.seen) r (linked_goes b (pass_of u) (pass_of v) (Settle r ∷ []) m.goes r (born_goes b (pass_of t) (pass_of u) (struck_by x r) k.goes r born) k.linked)
 
-      pub fires_took : DidStrike b r (pass_of t) (pass_of u) Took → EndsFired b r (pass_of u) (pass_of v) → Fires b r (pass_of s) (pass_of v) TookTarget
+      pub fires_took : DidStrike b r (pass_of t) (pass_of u) Took → EndsFired b r (pass_of u) (pass_of v) → Fires b r (pass_of s) (pass_of v) Firing.Took
       fires_took k m = record {
         goes = goes_more b (pass_of s) (pass_of u) (pass_of v) (Settle r) (Fire r (previous r) ∷ []) [] (goes_then b (pass_of s) (pass_of t) (pass_of u) (Fire r (previous r) ∷ []) w.goes k.goes) m.goes;
         tells = (m.tells, fired_target Took k m);
         others = λ i. m.others i ∙ (k.others i ∙ w.freed_is i);
       }
 
-      pub fires_missed : DidStrike b r (pass_of t) (pass_of u) Missed → EndsFired b r (pass_of u) (pass_of v) → Fires b r (pass_of s) (pass_of v) MissedTarget
+      pub fires_missed : DidStrike b r (pass_of t) (pass_of u) Missed → EndsFired b r (pass_of u) (pass_of v) → Fires b r (pass_of s) (pass_of v) Firing.Missed
       fires_missed k m = record {
         goes = goes_more b (pass_of s) (pass_of u) (pass_of v) (Settle r) (FireMiss r (previous r) ∷ []) [] (goes_then b (pass_of s) (pass_of t) (pass_of u) (FireMiss r (previous r) ∷ []) w.goes k.goes) m.goes;
         tells = (m.tells, fired_target Missed k m);
@@ -287,11 +286,11 @@ module _ (b : Facts) (r : Req) where
 
 -- the clock stays
 fired_still : (x : Firing) (r : Req) → AllPass is_still (fired_by x r)
-fired_still TookTarget r = (refl, (refl, tt))
-fired_still MissedTarget r = (refl, (refl, tt))
+fired_still Firing.Took r = (refl, (refl, tt))
+fired_still Firing.Missed r = (refl, (refl, tt))
 fired_still TargetDone r = tt
-fired_still TooEarly r = tt
-fired_still NoneToFire r = tt
+fired_still Firing.Early r = tt
+fired_still Firing.NotArmed r = tt
 
 module _ (b : Facts) (s t : TableSeat) (r : Req) (seat : IsPollerSeat s) where
   own_seat : stands_for s.me.0.role pollers ≡ true
@@ -306,11 +305,11 @@ module _ (b : Facts) (s t : TableSeat) (r : Req) (seat : IsPollerSeat s) where
       (bool_cases (same r i))
 
   fired_alarm : (x : Firing) → Fires b r (pass_of s) (pass_of t) x → (i : Req) (o : Option Alarm) → KnowsAlarm (events_of s.me.0.seen) i o → KnowsAlarm (events_of t.me.0.seen) i o
-  fired_alarm TookTarget k = replied_alarm (fired_by TookTarget r) k.goes (refl, (same_itself r, tt)) k.tells.0
-  fired_alarm MissedTarget k = replied_alarm (fired_by MissedTarget r) k.goes (refl, (same_itself r, tt)) k.tells.0
+  fired_alarm Firing.Took k = replied_alarm (fired_by Firing.Took r) k.goes (refl, (same_itself r, tt)) k.tells.0
+  fired_alarm Firing.Missed k = replied_alarm (fired_by Firing.Missed r) k.goes (refl, (same_itself r, tt)) k.tells.0
   fired_alarm TargetDone k = λ i o a. alarm_goes b (pass_of s) (pass_of t) [] k.goes own_seat none tt i o refl a
-  fired_alarm TooEarly k = λ i o a. alarm_goes b (pass_of s) (pass_of t) [] k.goes own_seat none tt i o refl a
-  fired_alarm NoneToFire k = λ i o a. alarm_goes b (pass_of s) (pass_of t) [] k.goes own_seat none tt i o refl a
+  fired_alarm Firing.Early k = λ i o a. alarm_goes b (pass_of s) (pass_of t) [] k.goes own_seat none tt i o refl a
+  fired_alarm Firing.NotArmed k = λ i o a. alarm_goes b (pass_of s) (pass_of t) [] k.goes own_seat none tt i o refl a
 
   pub timers_fired : (x : Firing) → IsOf b (pass_of s) → Fires b r (pass_of s) (pass_of t) x → (clock : ℕ) (alarms : List Alarm) → KnowsTimers s.me.0.layout.cells (events_of s.me.0.seen) clock alarms → KnowsTimers t.me.0.layout.cells (events_of t.me.0.seen) clock alarms
   timers_fired x o k clock alarms a = let same' : s.me.0.layout ≡ t.me.0.layout = o.layout_is ∙ sym k.goes.kept.layout_is in

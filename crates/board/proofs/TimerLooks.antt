@@ -2,7 +2,7 @@
 use Rattle.std.proofs.Common.{◌≡◌, ◌≢◌, ℕ, ◌+◌, ◌*◌, ◌<◌, ◌≤◌, not, ◌||◌, true, false, cond, List, [], ◌∷◌, ◌++◌, Option, Some, None, IsTrue, refl, sym, ap, ◌∙◌, subst, arith, true≢false}
 use Rattle.atomic_table.specs.declared.shared.Seat.{Seat}
 use Rattle.claim.specs.Facts.{Facts as FactsParts, packed_facts, fits_facts}
-use Rattle.claim.specs.declared.tag.Tag.TheVariants.{Held as HeldTag}
+use Rattle.claim.specs.declared.tag.Tag.{Tag}
 use Rattle.entry.specs.declared.op.Op.{Op}
 use Rattle.entry.specs.declared.op.Op.TheVariants.{LinkTimeout}
 use Rattle.entry.specs.Entry.{Entry}
@@ -33,7 +33,7 @@ use Rattle.board.specs.declared.alarm.Alarm.{Alarm}
 use Rattle.board.specs.declared.alarm.Alarm.TheVariants.{Linked, Alone}
 use Rattle.board.specs.declared.poller.Arming.{Arming}
 use Rattle.board.specs.declared.poller.Arming.TheVariants.{Armed, NotHeld, NotTimer, Shut}
-use Rattle.board.specs.declared.poller.Released.TheVariants.{NotHeld as Unreleased}
+use Rattle.board.specs.declared.poller.Released.{Released}
 use Rattle.board.specs.PollerRows.{IsAt, IsOurs, Watched, Paid, Decides}
 use Rattle.board.specs.PollerTimers.{IsAlarm, IsKept, IsTimerAs, looks_at, looks_for_count}
 use Rattle.board.specs.Calls.{IsHeld, Stepped}
@@ -67,7 +67,7 @@ module _ (b : Facts) (s t : TableSeat) (r : Req) (x g : ℕ) (o : IsOurs b s) (a
 -- ---- an arming
 
 -- what doesn't wait isn't armed
-pub arms_lost : (b : Facts) (r : Req) (p q : Pass) → Decides b r p q Unreleased → Arms b r p q NotHeld
+pub arms_lost : (b : Facts) (r : Req) (p q : Pass) → Decides b r p q Released.NotHeld → Arms b r p q NotHeld
 arms_lost b r p q d = record { goes = d.goes; tells = d.decided; others = λ i. d.others i (λ is. absurd (cc)) }
 
 -- more looks before one that barred it
@@ -111,7 +111,7 @@ module _ (b : Facts) (s t : TableSeat) (r : Req) (x g d : ℕ) (o : IsOurs b s) 
   timed : (e : Entry) × (n : ℕ) × IsPlaced (events_of t.me.0.seen) r e × (ticks_of e.op ≡ Some n) × (d ≡ clock_of (events_of t.me.0.seen) + n)
   timed = let m = legal_now.0.1 in (m.2, m.3, subst (λ (j : List Line). IsPlaced (events_of j) r m.2) (sym now) m.4, m.5, m.6 ∙ ap (λ (j : List Line). clock_of (events_of j) + m.3) (sym now))
 
-  pub arms_armed : ¬ Severed (events_of s.me.0.seen) r → IsStep (claim_at x) (word_of HeldTag 0 g 0) s.me.0 t.me.0 → Arms b r (pass_of s) (pass_of t) (Armed d)
+  pub arms_armed : ¬ Severed (events_of s.me.0.seen) r → IsStep (claim_at x) (word_of Tag.Held 0 g 0) s.me.0 t.me.0 → Arms b r (pass_of s) (pass_of t) (Armed d)
   arms_armed clear step = let mine = ap (λ (z : Role). stands_for z pollers) o.seat.role in record {
     goes = goes_one b (pass_of s) (pass_of t) (Arm r d) o.ours mine id ext;
     tells = (

@@ -21,7 +21,6 @@ use Rattle.work.proofs.PassesKept.{extended_of}
 use Rattle.board.proofs.PassFacts.{same_freed}
 use Rattle.board.specs.declared.alarm.Alarm.{Alarm}
 use Rattle.board.specs.declared.poller.Released.{Released}
-use Rattle.board.specs.declared.poller.Released.TheVariants.{Severed as IsSevered}
 use Rattle.board.specs.PollerRows.{severed_by, Watched}
 use Rattle.board.specs.Seats.{IsPollerSeat}
 use Rattle.atomic_table.specs.declared.shared.Seat.{Seat}
@@ -105,7 +104,7 @@ timers_on b s t es seat x o a still clock alarms k =
     subst (λ (L : Layout). KnowsTimers L.cells (events_of t.me.0.seen) clock alarms) same (timers_goes b (pass_of s) (pass_of t) es x (ap (λ (z : Role). stands_for z pollers) seat.role) a still s.me.0.layout.cells clock alarms k)
 
 pub released_calm : (x : Released) (r : Req) → AllPass (is_calm none) (severed_by x r) × AllPass is_still (severed_by x r)
-released_calm IsSevered r = ((refl, tt), (refl, tt))
+released_calm Released.Severed r = ((refl, tt), (refl, tt))
 released_calm x r = (tt, tt)
 
 -- and over a tick of the clock

@@ -26,13 +26,12 @@ use Rattle.board.specs.Seats.{IsPollerSeat}
 use Rattle.board.specs.PollerRows.{IsOurs, Watched, Paid, TellsOutcome, FoundPending, WasHeld, Decided, Decides, IsBlocked, IsUnended, IsShutOut, Gated, Found}
 use Rattle.board.specs.declared.trail.Outcome.TheVariants.{Pending}
 use Rattle.board.specs.declared.trail.Gating.{Gating}
-use Rattle.board.specs.declared.trail.Gating.TheVariants.{Severed as NowSevered, Open as NowOpen, Linked as NowLinked, Shut as NowShut, Lost as NowLost}
 use Rattle.gates.specs.EntryRows.{Kept}
 use Rattle.gates.specs.Shows.{HaveGoneOn}
 use Rattle.gates.proofs.TrailLaws.{gone_on_stays}
 use Rattle.history.proofs.Opening.{chain_stays}
 use Rattle.board.specs.declared.poller.Released.{Released}
-use Rattle.board.specs.declared.poller.Released.TheVariants.{Severed as IsSevered, Freed as IsFreed, Shut as IsShut, Timer as IsTimer, NotHeld}
+use Rattle.board.specs.declared.poller.Released.TheVariants.{NotHeld}
 use Rattle.board.proofs.GoesLaws.{goes_looked, goes_still, goes_then}
 use Rattle.board.proofs.PassFacts.{freed_looked}
 
@@ -206,10 +205,10 @@ pub shut_after : (b : Facts) (r : Req) (s t u : TableSeat) (n m : ℕ) → Paid 
 shut_after b r s t u n m x d = (blocked_after b r s t u n m x d.0, unended_after b.layout.cells r s t u n m x d.1)
 
 decided_after : (b : Facts) (r : Req) (s t u : TableSeat) (n m : ℕ) (y : Released) → Paid s.me.0 t.me.0 n m → Decided b r (pass_of t) (pass_of u) y → Decided b r (pass_of s) (pass_of u) y
-decided_after b r s t u n m IsSevered x d = (d.0, found_after b.layout.cells r s t u b n m x d.1)
-decided_after b r s t u n m IsFreed x d = (d.0, d.1, found_after b.layout.cells r s t u b n m x d.2)
-decided_after b r s t u n m IsShut x d = shut_after b r s t u n m x d
-decided_after b r s t u n m IsTimer x d = d
+decided_after b r s t u n m Released.Severed x d = (d.0, found_after b.layout.cells r s t u b n m x d.1)
+decided_after b r s t u n m Released.Freed x d = (d.0, d.1, found_after b.layout.cells r s t u b n m x d.2)
+decided_after b r s t u n m Released.Shut x d = shut_after b r s t u n m x d
+decided_after b r s t u n m Released.Timer x d = d
 decided_after b r s t u n m NotHeld x d = (d.0, stepped_after b.layout.cells r s t u b n m x d.1)
 
 pub decides_after : (b : Facts) (r : Req) (s t u : TableSeat) (n m : ℕ) (y : Released) → Watched b s t → Paid s.me.0 t.me.0 n m → Decides b r (pass_of t) (pass_of u) y → Decides b r (pass_of s) (pass_of u) y
@@ -221,21 +220,21 @@ decides_after b r s t u n m y x p d = record {
 }
 
 pub gated_after : (b : Facts) (r : Req) (s t u : TableSeat) (n m : ℕ) (l : Kept) (y : Gating) → Watched b s t → Paid s.me.0 t.me.0 n m → Gated b r t u l y → Gated b r s u l y
-gated_after b r s t u n m l NowSevered x p g = (watched_then b s t u x g.0, g.1, g.2)
-gated_after b r s t u n m l NowOpen x p g = (watched_then b s t u x g.0, g.1, g.2, g.3)
-gated_after b r s t u n m l NowLinked x p g = (watched_then b s t u x g.0, g.1, g.2, g.3, g.4)
-gated_after b r s t u n m l NowShut x p g = (watched_then b s t u x g.0, g.1, shut_after b r s t u n m p g.2)
-gated_after b r s t u n m l NowLost x p g = (decides_after b r s t u n m NotHeld x p g.0, g.1, g.2)
+gated_after b r s t u n m l Gating.Severed x p g = (watched_then b s t u x g.0, g.1, g.2)
+gated_after b r s t u n m l Gating.Open x p g = (watched_then b s t u x g.0, g.1, g.2, g.3)
+gated_after b r s t u n m l Gating.Linked x p g = (watched_then b s t u x g.0, g.1, g.2, g.3, g.4)
+gated_after b r s t u n m l Gating.Shut x p g = (watched_then b s t u x g.0, g.1, shut_after b r s t u n m p g.2)
+gated_after b r s t u n m l Gating.Lost x p g = (decides_after b r s t u n m NotHeld x p g.0, g.1, g.2)
 
 -- what the last of several looks found, where the nearest of the chain of r was looked at before it, as `looked` says
 pub gated_found : (b : Facts) (r : Req) (s t u : TableSeat) (n m n' m' : ℕ) (l : Kept) (looked : Bool) (y : Gating) → r.k < submits (events_of t.me.0.seen) r.ring → Watched b s t → Paid s.me.0 t.me.0 n m → Paid t.me.0 u.me.0 n' m' → (looked ≡ true → IsUnended b.layout.cells r (pass_of s) (pass_of t)) → Found b r looked t u l y → Gated b r s u l y
-gated_found b r s t u n m n' m' l true NowShut born x p p' f g = (watched_then b s t u x g.0, g.1, (blocked_after b r s t u n m p g.2, unended_before b r s t u n' m' born (f refl) g.0 p'))
-gated_found b r s t u n m n' m' l false NowShut born x p p' f g = gated_after b r s t u n m l NowShut x p g
-gated_found b r s t u n m n' m' l true NowSevered born x p p' f g = gated_after b r s t u n m l NowSevered x p g
-gated_found b r s t u n m n' m' l false NowSevered born x p p' f g = gated_after b r s t u n m l NowSevered x p g
-gated_found b r s t u n m n' m' l true NowOpen born x p p' f g = gated_after b r s t u n m l NowOpen x p g
-gated_found b r s t u n m n' m' l false NowOpen born x p p' f g = gated_after b r s t u n m l NowOpen x p g
-gated_found b r s t u n m n' m' l true NowLinked born x p p' f g = gated_after b r s t u n m l NowLinked x p g
-gated_found b r s t u n m n' m' l false NowLinked born x p p' f g = gated_after b r s t u n m l NowLinked x p g
-gated_found b r s t u n m n' m' l true NowLost born x p p' f g = gated_after b r s t u n m l NowLost x p g
-gated_found b r s t u n m n' m' l false NowLost born x p p' f g = gated_after b r s t u n m l NowLost x p g
+gated_found b r s t u n m n' m' l true Gating.Shut born x p p' f g = (watched_then b s t u x g.0, g.1, (blocked_after b r s t u n m p g.2, unended_before b r s t u n' m' born (f refl) g.0 p'))
+gated_found b r s t u n m n' m' l false Gating.Shut born x p p' f g = gated_after b r s t u n m l Gating.Shut x p g
+gated_found b r s t u n m n' m' l true Gating.Severed born x p p' f g = gated_after b r s t u n m l Gating.Severed x p g
+gated_found b r s t u n m n' m' l false Gating.Severed born x p p' f g = gated_after b r s t u n m l Gating.Severed x p g
+gated_found b r s t u n m n' m' l true Gating.Open born x p p' f g = gated_after b r s t u n m l Gating.Open x p g
+gated_found b r s t u n m n' m' l false Gating.Open born x p p' f g = gated_after b r s t u n m l Gating.Open x p g
+gated_found b r s t u n m n' m' l true Gating.Linked born x p p' f g = gated_after b r s t u n m l Gating.Linked x p g
+gated_found b r s t u n m n' m' l false Gating.Linked born x p p' f g = gated_after b r s t u n m l Gating.Linked x p g
+gated_found b r s t u n m n' m' l true Gating.Lost born x p p' f g = gated_after b r s t u n m l Gating.Lost x p g
+gated_found b r s t u n m n' m' l false Gating.Lost born x p p' f g = gated_after b r s t u n m l Gating.Lost x p g

@@ -1,7 +1,7 @@
 -- What the claim word and the facts of a request tell of its outcome.
 use Rattle.std.proofs.Common.{◌≡◌, ℕ, ◌<◌, ◌==◌, Bool, true, false, ℤ, List, Some, sym, refl, ap, ◌∙◌, subst}
 use Rattle.claim.specs.Facts.{Facts, bit}
-use Rattle.claim.specs.declared.tag.Tag.TheVariants.{Done as DoneTag}
+use Rattle.claim.specs.declared.tag.Tag.{Tag}
 use Rattle.entry.specs.Entry.{fails}
 use Rattle.history.specs.declared.req.Req.{Req}
 use Rattle.history.specs.History.{Cause, Phase, replied, reaped, phase, reply, reply_in}
@@ -17,7 +17,7 @@ use Rattle.steps.specs.FactsTold.{TellsFacts}
 
 -- of a request that is Done
 pub done_outcome : (K : List ℕ) (j : List Line) (x w g : ℕ) (q : Req) (c : Cause) (res : ℤ) (f : Bool) → Shown K j x w → request_at K x g ≡ q → phase (events_of j) q ≡ replied c res
-    → ((c : Cause) (f' : Bool) (g p : ℕ) → g < 16777216 → p < 4294967296 → w ≡ word_of DoneTag (cause_bits c f') g p → f ≡ f') → HasOutcome (events_of j) q f
+    → ((c : Cause) (f' : Bool) (g p : ℕ) → g < 16777216 → p < 4294967296 → w ≡ word_of Tag.Done (cause_bits c f') g p → f ≡ f') → HasOutcome (events_of j) q f
 done_outcome K j x w g q c res f shown at is told =
     let d = done_word K j x w shown.0 shown.1 g c res (subst (λ (r : Req). phase (events_of j) r ≡ replied c res) (sym at) is) in
     subst (λ (r : Req). HasOutcome (events_of j) r f) at (d.entry, res, d.placed_is, ap reply_in (subst (λ (r : Req). phase (events_of j) r ≡ replied c res) (sym at) is), sym (told c (fails d.entry res) g d.payload d.fits.1 d.fits.2 d.word_is))

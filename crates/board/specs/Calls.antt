@@ -1,7 +1,7 @@
 -- What a call makes of its pass, and what its answers say.
 use Rattle.std.specs.Prelude.{◌≡◌, ℕ, ◌≤◌, ◌⊎◌, true, false, ℤ, List, [], ◌∷◌, ◌++◌, length, IsTrue}
 use Rattle.claim.specs.Claim.{Claim, fits, packed}
-use Rattle.claim.specs.declared.tag.Tag.TheVariants.{Held as HeldTag}
+use Rattle.claim.specs.declared.tag.Tag.{Tag}
 use Rattle.history.specs.declared.req.Req.{Req}
 use Rattle.history.specs.declared.event.Event.{Event}
 use Rattle.history.specs.History.{Cause, phase, unborn, waits, runs, armed, replied, reaped, submits, IsReplied}
@@ -51,7 +51,7 @@ Stepped K r p q = (cell : ℕ) × (gen : ℕ) × (found : ℕ) × LastAt K r p q
 
 -- and it found there that the request was Held
 abbrev pub FoundHeld : List ℕ → Req → Pass → Pass → Type 0
-FoundHeld K r p q = (cell : ℕ) × (gen : ℕ) × LastAt K r p q cell gen (word_of HeldTag 0 gen 0)
+FoundHeld K r p q = (cell : ℕ) × (gen : ℕ) × LastAt K r p q cell gen (word_of Tag.Held 0 gen 0)
 
 -- the request waits, and was not moved to Ready
 abbrev pub IsHeld : List Line → Req → Type 0

@@ -30,11 +30,9 @@ use Rattle.board.specs.declared.trail.Outcome.TheVariants.{Pending, Replied, Cha
 use Rattle.board.specs.declared.trail.Passing.{Passing}
 use Rattle.board.specs.declared.trail.Passing.TheVariants.{Waits, Passed, Lost}
 use Rattle.board.specs.declared.trail.Gating.{Gating}
-use Rattle.board.specs.declared.trail.Gating.TheVariants.{Severed as NowSevered, Open as NowOpen, Linked as NowLinked, Shut as NowShut, Lost as NowLost}
 use Rattle.board.specs.declared.trail.Round.{Round}
-use Rattle.board.specs.declared.trail.Round.TheVariants.{Decided as DecidedOn, Passed as PassedOne, Looked as LookedBack}
 use Rattle.board.specs.declared.poller.Released.{Released}
-use Rattle.board.specs.declared.poller.Released.TheVariants.{Severed as IsSevered, Freed as IsFreed, Shut as IsShut, Timer as IsTimer, NotHeld}
+use Rattle.board.specs.declared.poller.Released.TheVariants.{NotHeld}
 
 -- the row has the cells of the ring, and trails the history; as many requests as it notes are plain
 pub record KnowsRow (K : List ℕ) (j : List Line) (ring : ℕ) (r : Kept) : Type 0 where
@@ -132,7 +130,7 @@ looks_for _ = 2
 
 -- the events that the poller causes by a release
 abbrev pub severed_by : Released → Req → List Event
-severed_by IsSevered r = Sever r ∷ []
+severed_by Released.Severed r = Sever r ∷ []
 severed_by _ r = []
 
 -- the poller answered the request itself, since an earlier member of its chain failed
@@ -190,18 +188,18 @@ MayArm h r = (phase h r ≡ waits) × Open h r × (¬ Severed h r) × IsOfKind h
 
 -- what a release says of a request that was found Held, by its answer
 abbrev pub Decided : Facts → Req → Pass → Pass → Released → Type 0
-Decided b r p q IsSevered = IsCanceled (seen_of q) r × FoundHeld b.layout.cells r p q
-Decided b r p q IsFreed = (freed q.view.seen r ≡ true) × MayStart q.view.seen r × FoundHeld b.layout.cells r p q
-Decided b r p q IsShut = IsShutOut b.layout.cells r p q
-Decided b r p q IsTimer = MayArm (seen_of q) r
+Decided b r p q Released.Severed = IsCanceled (seen_of q) r × FoundHeld b.layout.cells r p q
+Decided b r p q Released.Freed = (freed q.view.seen r ≡ true) × MayStart q.view.seen r × FoundHeld b.layout.cells r p q
+Decided b r p q Released.Shut = IsShutOut b.layout.cells r p q
+Decided b r p q Released.Timer = MayArm (seen_of q) r
 Decided b r p q NotHeld = IsUnheld q.view.seen r × Stepped b.layout.cells r p q
 
 -- what became of the pass that released r
 pub record Decides (b : Facts) (r : Req) (p q : Pass) (x : Released) : Type 0 where
   pub goes : Goes b p (severed_by x r) q
   pub decided : Decided b r p q x
-  pub was_free : x ≡ IsFreed → freed p.view.seen r ≡ false
-  pub others : (i : Req) → (x ≡ IsFreed → same r i ≡ false) → freed q.view.seen i ≡ freed p.view.seen i
+  pub was_free : x ≡ Released.Freed → freed p.view.seen r ≡ false
+  pub others : (i : Req) → (x ≡ Released.Freed → same r i ≡ false) → freed q.view.seen i ≡ freed p.view.seen i
 
 -- a look at the request w, which is in the way of r, took the seat from s to t and the row from k to l
 abbrev pub Passes : Facts → Req → Req → Seat (Option Thing) View → Seat (Option Thing) View → Kept → Kept → Passing → Type 0
@@ -211,38 +209,38 @@ Passes b r w s t k l Lost = Decides b r (pass_of s) (pass_of t) NotHeld × IsPol
 
 -- what is known of a request that was found Held, by whether it may start. The poller's seat looked, from s to t, and has the row l
 abbrev pub Gated : Facts → Req → Seat (Option Thing) View → Seat (Option Thing) View → Kept → Gating → Type 0
-Gated b r s t l NowSevered = Watched b s t × Watches b.layout.cells t.me.0.seen r l × Severed (events_of t.me.0.seen) r
-Gated b r s t l NowOpen = Watched b s t × Watches b.layout.cells t.me.0.seen r l × (¬ Severed (events_of t.me.0.seen) r) × Open (events_of t.me.0.seen) r
-Gated b r s t l NowLinked = Watched b s t × Watches b.layout.cells t.me.0.seen r l × IsLinkTimeout (events_of t.me.0.seen) r × (¬ Severed (events_of t.me.0.seen) r) × Open (events_of t.me.0.seen) r
-Gated b r s t l NowShut = Watched b s t × Watches b.layout.cells t.me.0.seen r l × IsShutOut b.layout.cells r (pass_of s) (pass_of t)
-Gated b r s t l NowLost = Decides b r (pass_of s) (pass_of t) NotHeld × IsPollerSeat t × KnowsRow b.layout.cells t.me.0.seen r.ring l
+Gated b r s t l Gating.Severed = Watched b s t × Watches b.layout.cells t.me.0.seen r l × Severed (events_of t.me.0.seen) r
+Gated b r s t l Gating.Open = Watched b s t × Watches b.layout.cells t.me.0.seen r l × (¬ Severed (events_of t.me.0.seen) r) × Open (events_of t.me.0.seen) r
+Gated b r s t l Gating.Linked = Watched b s t × Watches b.layout.cells t.me.0.seen r l × IsLinkTimeout (events_of t.me.0.seen) r × (¬ Severed (events_of t.me.0.seen) r) × Open (events_of t.me.0.seen) r
+Gated b r s t l Gating.Shut = Watched b s t × Watches b.layout.cells t.me.0.seen r l × IsShutOut b.layout.cells r (pass_of s) (pass_of t)
+Gated b r s t l Gating.Lost = Decides b r (pass_of s) (pass_of t) NotHeld × IsPollerSeat t × KnowsRow b.layout.cells t.me.0.seen r.ring l
 
 -- the same, but where it is shut and the nearest of its chain was looked at already nothing is known of that one
 abbrev pub Found : Facts → Req → Bool → Seat (Option Thing) View → Seat (Option Thing) View → Kept → Gating → Type 0
-Found b r true s t l NowShut = Watched b s t × Watches b.layout.cells t.me.0.seen r l × IsBlocked b.layout.cells r (pass_of s) (pass_of t)
-Found b r false s t l NowShut = Gated b r s t l NowShut
-Found b r looked s t l NowSevered = Gated b r s t l NowSevered
-Found b r looked s t l NowOpen = Gated b r s t l NowOpen
-Found b r looked s t l NowLinked = Gated b r s t l NowLinked
-Found b r looked s t l NowLost = Gated b r s t l NowLost
+Found b r true s t l Gating.Shut = Watched b s t × Watches b.layout.cells t.me.0.seen r l × IsBlocked b.layout.cells r (pass_of s) (pass_of t)
+Found b r false s t l Gating.Shut = Gated b r s t l Gating.Shut
+Found b r looked s t l Gating.Severed = Gated b r s t l Gating.Severed
+Found b r looked s t l Gating.Open = Gated b r s t l Gating.Open
+Found b r looked s t l Gating.Linked = Gated b r s t l Gating.Linked
+Found b r looked s t l Gating.Lost = Gated b r s t l Gating.Lost
 
 -- what the last look at another request costs
 abbrev pub costs_of : Gating → ℕ
-costs_of NowLinked = 1
-costs_of NowShut = 1
-costs_of NowLost = 3
+costs_of Gating.Linked = 1
+costs_of Gating.Shut = 1
+costs_of Gating.Lost = 3
 costs_of _ = 0
 
 -- who is to be looked at next, where `first` is in the way and `link` is the nearest of its chain, and what it comes to without a reply
 abbrev pub IsNextLook : ℕ → Option ℕ → Bool → ℕ → Round → Type 0
-IsNextLook first link looked n x = ((x ≡ LookedBack) × (link ≡ Some n) × (looked ≡ false)) ⊎ ((x ≡ DecidedOn NowShut) × (n ≡ first) × ((p : ℕ) → link ≡ Some p → looked ≡ false → p ≡ first))
+IsNextLook first link looked n x = ((x ≡ Round.Looked) × (link ≡ Some n) × (looked ≡ false)) ⊎ ((x ≡ Round.Decided Gating.Shut) × (n ≡ first) × ((p : ℕ) → link ≡ Some p → looked ≡ false → p ≡ first))
 
 -- a step towards an answer for r took the seat from s to t and the row from k to l: it is there; or fewer requests are in the way;
 -- or the nearest of its chain was found to have no reply
 abbrev pub Advances : Facts → Req → Bool → Seat (Option Thing) View → Seat (Option Thing) View → Kept → Kept → Round → Type 0
-Advances b r looked s t k l (DecidedOn x) = Found b r looked s t l x × Paid s.me.0 t.me.0 0 (costs_of x) × (0 < waiting k)
-Advances b r looked s t k l PassedOne = Watched b s t × Watches b.layout.cells t.me.0.seen r l × (waiting l < waiting k) × Paid s.me.0 t.me.0 (3 * waiting l) (3 * waiting k)
-Advances b r looked s t k l LookedBack = Watched b s t × Watches b.layout.cells t.me.0.seen r l × (l ≡ k) × (looked ≡ false) × IsUnended b.layout.cells r (pass_of s) (pass_of t) × Paid s.me.0 t.me.0 0 1
+Advances b r looked s t k l (Round.Decided x) = Found b r looked s t l x × Paid s.me.0 t.me.0 0 (costs_of x) × (0 < waiting k)
+Advances b r looked s t k l Round.Passed = Watched b s t × Watches b.layout.cells t.me.0.seen r l × (waiting l < waiting k) × Paid s.me.0 t.me.0 (3 * waiting l) (3 * waiting k)
+Advances b r looked s t k l Round.Looked = Watched b s t × Watches b.layout.cells t.me.0.seen r l × (l ≡ k) × (looked ≡ false) × IsUnended b.layout.cells r (pass_of s) (pass_of t) × Paid s.me.0 t.me.0 0 1
 
 -- the steps that are owed for a look at the nearest of its chain
 abbrev pub owed_back : Bool → ℕ
@@ -250,14 +248,14 @@ owed_back true = 0
 owed_back false = 1
 
 abbrev pub looks_of : Gating → ℕ
-looks_of NowSevered = 0
-looks_of NowOpen = 0
+looks_of Gating.Severed = 0
+looks_of Gating.Open = 0
 looks_of _ = 1
 
 -- the looks that its own place in the row pays, and that weren't needed
 abbrev pub spared_by : Gating → ℕ
-spared_by NowSevered = 2
-spared_by NowOpen = 2
+spared_by Gating.Severed = 2
+spared_by Gating.Open = 2
 spared_by _ = 0
 
 -- the answer for r took the seat from s to t and the row from k to l

@@ -19,13 +19,13 @@ use Rattle.board.specs.declared.alarm.Alarm.{Alarm}
 use Rattle.board.specs.declared.poller.Expiry.{Expiry}
 use Rattle.board.specs.declared.poller.Expiry.TheVariants.{Expired, Early, NotArmed}
 use Rattle.board.specs.declared.poller.Counting.{Counting}
-use Rattle.board.specs.declared.poller.Counting.TheVariants.{Counted, Fewer, NotCounted, NotArmed as NoneToCount}
+use Rattle.board.specs.declared.poller.Counting.TheVariants.{Counted, Fewer, NotCounted}
 use Rattle.board.specs.declared.linked.Struck.{Struck}
-use Rattle.board.specs.declared.linked.Struck.TheVariants.{Took as StruckTook, Missed as StruckMissed, Over}
+use Rattle.board.specs.declared.linked.Struck.TheVariants.{Over}
 use Rattle.board.specs.declared.poller.Firing.{Firing}
-use Rattle.board.specs.declared.poller.Firing.TheVariants.{Took, Missed, TargetDone, Early as TooEarly, NotArmed as NoneToFire}
+use Rattle.board.specs.declared.poller.Firing.TheVariants.{Took, Missed, TargetDone}
 use Rattle.board.specs.declared.poller.Settling.{Settling}
-use Rattle.board.specs.declared.poller.Settling.TheVariants.{Settled, TargetOpen, NotArmed as NothingArmed}
+use Rattle.board.specs.declared.poller.Settling.TheVariants.{Settled, TargetOpen}
 use Rattle.board.specs.declared.poller.Arming.{Arming}
 use Rattle.board.specs.declared.poller.Arming.TheVariants.{Armed, NotHeld, NotTimer, Shut}
 
@@ -140,7 +140,7 @@ abbrev pub CountingTells : Facts → Req → Pass → Pass → Counting → Type
 CountingTells b r p q Counted = HasCounted (seen_of q) r
 CountingTells b r p q Fewer = HasFewer (seen_of p) r
 CountingTells b r p q NotCounted = IsUncounted (seen_of q) r × Stepped b.layout.cells r p q
-CountingTells b r p q NoneToCount = IsUnarmed (seen_of q) r × Stepped b.layout.cells r p q
+CountingTells b r p q Counting.NotArmed = IsUnarmed (seen_of q) r × Stepped b.layout.cells r p q
 
 -- what became of the pass that was to answer r if it has counted enough
 pub record Counts (b : Facts) (r : Req) (p q : Pass) (x : Counting) : Type 0 where
@@ -175,7 +175,7 @@ IsNoneToSettle h r = ((d : ℕ) → phase h r ≢ armed d) ⊎ IsOfKind h r is_t
 abbrev pub SettlingTells : Facts → Req → Pass → Pass → Settling → Type 0
 SettlingTells b r p q Settled = HasSettled (seen_of q) r
 SettlingTells b r p q TargetOpen = IsTargetOpen b.layout.cells r p q × IsArmed (seen_of q) r
-SettlingTells b r p q NothingArmed = IsNoneToSettle (seen_of q) r × Stepped b.layout.cells r p q
+SettlingTells b r p q Settling.NotArmed = IsNoneToSettle (seen_of q) r × Stepped b.layout.cells r p q
 
 -- what became of the pass that was to settle r
 pub record Settles (b : Facts) (r : Req) (p q : Pass) (x : Settling) : Type 0 where
@@ -213,8 +213,8 @@ abbrev pub FiringTells : Facts → Req → Pass → Pass → Firing → Type 0
 FiringTells b r p q Took = HasFired (seen_of q) r × IsTarget (seen_of q) r (previous r)
 FiringTells b r p q Missed = HasFired (seen_of q) r × IsTarget (seen_of q) r (previous r)
 FiringTells b r p q TargetDone = IsTargetDone (seen_of q) r
-FiringTells b r p q TooEarly = IsEarly (seen_of q) r × IsLinkTimeout (seen_of q) r × Stepped b.layout.cells r p q
-FiringTells b r p q NoneToFire = IsNoneToSettle (seen_of q) r × Stepped b.layout.cells r p q
+FiringTells b r p q Firing.Early = IsEarly (seen_of q) r × IsLinkTimeout (seen_of q) r × Stepped b.layout.cells r p q
+FiringTells b r p q Firing.NotArmed = IsNoneToSettle (seen_of q) r × Stepped b.layout.cells r p q
 
 -- what became of the pass that was to fire r
 pub record Fires (b : Facts) (r : Req) (p q : Pass) (x : Firing) : Type 0 where
@@ -224,8 +224,8 @@ pub record Fires (b : Facts) (r : Req) (p q : Pass) (x : Firing) : Type 0 where
 
 -- the events that the poller causes at the target
 abbrev pub struck_by : Struck → Req → List Event
-struck_by StruckTook r = Fire r (previous r) ∷ []
-struck_by StruckMissed r = FireMiss r (previous r) ∷ []
+struck_by Struck.Took r = Fire r (previous r) ∷ []
+struck_by Struck.Missed r = FireMiss r (previous r) ∷ []
 struck_by Over r = []
 
 abbrev pub StrikeTells : List Event → Req → Struck → Type 0

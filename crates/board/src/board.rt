@@ -5,7 +5,6 @@ ghost use Rattle.history.specs.declared.req.Req.{Req};
 ghost use Rattle.history.specs.declared.event.Event.TheVariants.{Submit, Begin, Reap};
 ghost use Rattle.history.specs.History.{same, phase, submits};
 ghost use Rattle.steps.specs.declared.line.Line.TheVariants.{Did};
-ghost use Rattle.steps.specs.declared.view.Role.TheVariants.{Poller as PollerRole, Submitter as SubmitterRole, Busy as BusyRole};
 ghost use Rattle.steps.specs.Cells.{cells_in, total};
 ghost use Rattle.steps.specs.Fairness.{IsFree, IsReaped};
 ghost use Rattle.steps.specs.Journal.{freed};
@@ -244,7 +243,7 @@ impl Board {
     pub fn begin<'a>(&'a self, worker: Worker, req: Req) -> Result<Busy<'a>, Worker>
         requires { IsOf self.now worker }
         ensures steps { IfOk result (λ b. Took worker.view b.pass.view 1) }
-        ensures begun { IfOk result (λ b. (b.req ≡ req) × IsOf self.now b.pass × Extends worker.view (Did (Begin req)) (BusyRole req) b.pass.view) }
+        ensures begun { IfOk result (λ b. (b.req ≡ req) × IsOf self.now b.pass × Extends worker.view (Did (Begin req)) (Role.Busy req) b.pass.view) }
         ensures refused { IfErr result (λ w. IsOf self.now w × ((w.view ≡ worker.view) ⊎ Looks worker.view w.view) × ((length self.now.layout.cells ≤ req.ring) ⊎ FoundNotReady self.now.layout.cells req worker.view w.view)) }
         ensures took { IfOk result (λ b. b.took ≡ worker.took) × IfErr result (λ w. w.took ≡ worker.took) }
         ensures woken { IfOk result (λ b. b.woken ≡ worker.woken) × IfErr result (λ w. w.woken ≡ worker.woken) }
@@ -260,7 +259,7 @@ impl Board {
         ensures once { IfOk result (λ x. HasOnce (seen_of submitter.new) req) }
         ensures steps { IfOk result (λ x. Took submitter.old.view submitter.new.view 3) }
         ensures refused { IfErr result (λ e. Goes self.now submitter.old [] submitter.new) }
-        ensures reason { (ring : ℕ) → submitter.old.view.role ≡ SubmitterRole ring → IfErr result (λ e. RefusesReap self.now.layout.cells req ring (submits (seen_of submitter.old) ring) submitter.old submitter.new e) }
+        ensures reason { (ring : ℕ) → submitter.old.view.role ≡ Role.Submitter ring → IfErr result (λ e. RefusesReap self.now.layout.cells req ring (submits (seen_of submitter.old) ring) submitter.old submitter.new e) }
     {
         if req.ring != submitter.ring() {
             return Err(ReapError::Foreign);

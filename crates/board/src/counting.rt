@@ -7,7 +7,7 @@ ghost use Rattle.history.specs.Legal.{count_of};
 ghost use Rattle.steps.specs.Cells.{cells_in};
 ghost use Rattle.steps.specs.Journal.{events_of};
 ghost use Rattle.work.specs.Passes.{pass_of};
-ghost use Rattle.board.specs.declared.poller.Counting.TheVariants.{Counted, NotArmed as NoneToCount};
+ghost use Rattle.board.specs.declared.poller.Counting.TheVariants.{Counted};
 ghost use Rattle.board.specs.PollerRows.{IsAt, IsNumbered, IsOurs, Paid, Spends, StepsTo, Watched};
 ghost use Rattle.board.specs.PollerTimers.{KnowsAlarm};
 ghost use Rattle.board.specs.Seats.{IsPollerSeat};
@@ -77,7 +77,7 @@ fn end_counted(board: &Board, seat: &mut TableSeat, spot: Spot, req: Req, deadli
     requires enough { (e : Entry) × IsPlaced (events_of seat.old.me.0.seen) req e × (0 < count_of e.op) × (count_of e.op ≤ later_replies (events_of seat.old.me.0.seen) req) }
     ensures seat { IsPollerSeat seat.new }
     ensures counted { result ≡ true → Counts board.now req (pass_of seat.old) (pass_of seat.new) Counted }
-    ensures missed { result ≡ false → Counts board.now req (pass_of seat.old) (pass_of seat.new) NoneToCount }
+    ensures missed { result ≡ false → Counts board.now req (pass_of seat.old) (pass_of seat.new) Counting.NotArmed }
     ensures steps { Paid seat.old.me.0 seat.new.me.0 0 1 }
     ensures looks { Spends board.now.layout.cells req seat.old.me.0 seat.new.me.0 1 0 }
 {

@@ -1,7 +1,7 @@
 //! The end of a board.
 ghost use Rattle.std.specs.Prelude.{◌≡◌, ◌≢◌, ◌+◌, ◌<◌, ◌≤◌, ◌⊎◌, ◌↔◌, [], ◌∷◌, ◌++◌, length, vec_capacity, IfOk, IfErr};
 ghost use Rattle.std.specs.Mem.Slots.{slots_items, slots_len, IsFull};
-ghost use Rattle.steps.specs.declared.view.Role.TheVariants.{Poller as PollerRole, Spent};
+ghost use Rattle.steps.specs.declared.view.Role.TheVariants.{Spent};
 ghost use Rattle.steps.specs.declared.view.View.{View};
 ghost use Rattle.steps.specs.Cells.{total};
 ghost use Rattle.work.specs.Board.{Facts, IsOf};
@@ -155,7 +155,7 @@ impl Board {
         requires workers { AreOf self workers.items × (length workers.items ≡ self.workers) }
         requires room { total self.layout.cells ≤ room }
         ensures report { IsReport self (poller ∷ (submitters.items ++ workers.items)) result }
-        ensures role { poller.view.role ≡ PollerRole (length self.layout.cells) }
+        ensures role { poller.view.role ≡ Role.Poller (length self.layout.cells) }
     {
         self.end(poller, submitters, workers, room.room)
     }

@@ -5,7 +5,6 @@ ghost use Rattle.history.specs.declared.req.Req.{Req as Request};
 ghost use Rattle.history.specs.History.{clock_of, submits};
 ghost use Rattle.steps.specs.Journal.{freed};
 ghost use Rattle.steps.specs.Cells.{cells_in, claim_at, total};
-ghost use Rattle.steps.specs.declared.view.Role.TheVariants.{Poller as PollerRole};
 ghost use Rattle.steps.specs.Rule.{Looks, Shown, IsStep};
 ghost use Rattle.work.specs.Board.{IsOf};
 ghost use Rattle.work.specs.Passes.{pass_of, seen_of, CanReach, Took};
@@ -149,7 +148,7 @@ impl Poller {
     /// The clock's time, in ticks: that of its last tick, or 0.
     pub fn clock(&self) -> u32
         ensures clock { result ≡ clock_of (seen_of self.now) }
-        ensures role { self.now.view.role ≡ PollerRole (length self.now.view.layout.cells) }
+        ensures role { self.now.view.role ≡ Role.Poller (length self.now.view.layout.cells) }
     {
         self.clock
     }
@@ -166,7 +165,7 @@ impl Poller {
     /// Loads the claim word of the cell.
     pub(crate) fn look_at(&mut self, words: &Words, cell: usize) -> u64
         requires { CanReach words.now.table_id self.old cell }
-        ensures role { self.old.view.role ≡ PollerRole (length self.old.view.layout.cells) }
+        ensures role { self.old.view.role ≡ Role.Poller (length self.old.view.layout.cells) }
         ensures table { self.new.table ≡ self.old.table }
         ensures looks { Looks self.old.view self.new.view }
         ensures shown { Shown self.old.view.layout.cells self.new.view.seen cell result }

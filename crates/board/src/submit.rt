@@ -4,7 +4,6 @@ ghost use Rattle.history.specs.declared.event.Event.TheVariants.{Submit};
 ghost use Rattle.history.specs.History.{submits};
 ghost use Rattle.history.specs.Chains.{before_in};
 ghost use Rattle.history.specs.Legal.{Fits};
-ghost use Rattle.steps.specs.declared.view.Role.TheVariants.{Submitter as SubmitterRole};
 ghost use Rattle.steps.specs.Cells.{cells_in};
 ghost use Rattle.steps.specs.Fairness.{IsFree};
 ghost use Rattle.work.specs.Board.{IsOf};
@@ -31,11 +30,11 @@ impl Board {
         buffer: Vec<u8>,
     ) -> Result<Req, (SubmitError, Vec<u8>)>
         requires { IsOf self.now submitter.old }
-        ensures submitted { (ring : ℕ) → submitter.old.view.role ≡ SubmitterRole ring → IfOk result (λ r. (r ≡ next_of submitter.old ring) × Goes self.now submitter.old (Submit r sqe buffer.items true ∷ []) submitter.new) }
+        ensures submitted { (ring : ℕ) → submitter.old.view.role ≡ Role.Submitter ring → IfOk result (λ r. (r ≡ next_of submitter.old ring) × Goes self.now submitter.old (Submit r sqe buffer.items true ∷ []) submitter.new) }
         ensures free { IfOk result (λ r. IsFree self.now.layout.cells (seen_of submitter.new) r) }
         ensures steps { IfOk result (λ r. (n : ℕ) × (n ≤ cells_in self.now.layout.cells r.ring + 1) × (LinkedAreReaped (seen_of submitter.old) r.ring → n ≡ 0) × Took submitter.old.view submitter.new.view (n + steps_for sqe)) }
         ensures refused { IfErr result (λ e. Goes self.now submitter.old [] submitter.new × (e.1 ≡ buffer)) }
-        ensures reason { (ring : ℕ) → submitter.old.view.role ≡ SubmitterRole ring → IfErr result (λ e. RefusesEntry self.now sqe buffer.items (next_of submitter.old ring) submitter.old submitter.new e.0) }
+        ensures reason { (ring : ℕ) → submitter.old.view.role ≡ Role.Submitter ring → IfErr result (λ e. RefusesEntry self.now sqe buffer.items (next_of submitter.old ring) submitter.old submitter.new e.0) }
     {
         if !fits_length(&sqe, buffer.len()) {
             return Err((SubmitError::BufferLength, buffer));
@@ -62,11 +61,11 @@ impl Board {
         batch: Vec<(Sqe, Vec<u8>)>,
     ) -> Result<Req, (SubmitError, Vec<(Sqe, Vec<u8>)>)>
         requires { IsOf self.now submitter.old }
-        ensures submitted { (ring : ℕ) → submitter.old.view.role ≡ SubmitterRole ring → IfOk result (λ r. (r ≡ next_of submitter.old ring) × Goes self.now submitter.old (submits_of ring r.k batch.items) submitter.new) }
+        ensures submitted { (ring : ℕ) → submitter.old.view.role ≡ Role.Submitter ring → IfOk result (λ r. (r ≡ next_of submitter.old ring) × Goes self.now submitter.old (submits_of ring r.k batch.items) submitter.new) }
         ensures free { IfOk result (λ r. (i : ℕ) → i < length batch.items → IsFree self.now.layout.cells (seen_of submitter.new) (nth r.ring (r.k + i))) }
         ensures steps { IfOk result (λ r. (n : ℕ) × (n ≤ cells_in self.now.layout.cells r.ring + 1) × (LinkedAreReaped (seen_of submitter.old) r.ring → n ≡ 0) × Took submitter.old.view submitter.new.view (n + steps_in batch.items)) }
         ensures refused { IfErr result (λ e. Goes self.now submitter.old [] submitter.new × (e.1 ≡ batch)) }
-        ensures reason { (ring : ℕ) → submitter.old.view.role ≡ SubmitterRole ring → IfErr result (λ e. RefusesBatch self.now batch.items ring (next_of submitter.old ring).k submitter.old submitter.new e.0) }
+        ensures reason { (ring : ℕ) → submitter.old.view.role ≡ Role.Submitter ring → IfErr result (λ e. RefusesBatch self.now batch.items ring (next_of submitter.old ring).k submitter.old submitter.new e.0) }
     {
         if !are_fit(batch.as_slice()) {
             return Err((SubmitError::BufferLength, batch));
@@ -83,7 +82,7 @@ impl Board {
     /// Submits these entries, in order, as the ring's next requests, whose cells are free.
     fn submit_all(&self, submitter: &mut Submitter, batch: Vec<(Sqe, Vec<u8>)>)
         requires ready { (ring : ℕ) × IsReady self.now submitter.old ring (submits (seen_of submitter.old) ring) batch.items }
-        ensures submitted { (ring : ℕ) → submitter.old.view.role ≡ SubmitterRole ring → Goes self.now submitter.old (submits_of ring (submits (seen_of submitter.old) ring) batch.items) submitter.new }
+        ensures submitted { (ring : ℕ) → submitter.old.view.role ≡ Role.Submitter ring → Goes self.now submitter.old (submits_of ring (submits (seen_of submitter.old) ring) batch.items) submitter.new }
         ensures steps { Took submitter.old.view submitter.new.view (steps_in batch.items) }
     {
         let mut left = batch.into_iter();
@@ -97,11 +96,11 @@ impl Board {
     /// Submits the ring's next request, whose cell is free.
     fn submit_next(&self, submitter: &mut Submitter, parcel: Parcel) -> Req
         requires of { IsOf self.now submitter.old }
-        requires free { (ring : ℕ) → submitter.old.view.role ≡ SubmitterRole ring → IsFree self.now.layout.cells (seen_of submitter.old) (next_of submitter.old ring) × ((next_of submitter.old ring).k / cells_in self.now.layout.cells ring < 16777215) }
+        requires free { (ring : ℕ) → submitter.old.view.role ≡ Role.Submitter ring → IsFree self.now.layout.cells (seen_of submitter.old) (next_of submitter.old ring) × ((next_of submitter.old ring).k / cells_in self.now.layout.cells ring < 16777215) }
         requires fits { Fits parcel.sqe parcel.buffer.items }
-        ensures role { submitter.old.view.role ≡ SubmitterRole result.ring }
-        ensures next { (ring : ℕ) → submitter.old.view.role ≡ SubmitterRole ring → (submits (seen_of submitter.new) ring ≡ submits (seen_of submitter.old) ring + 1) × (before_in (seen_of submitter.new) (nth ring (submits (seen_of submitter.old) ring + 1)) ≡ Some (record { entry = parcel.sqe; bytes = parcel.buffer.items; last = parcel.last })) }
-        ensures submitted { (ring : ℕ) → submitter.old.view.role ≡ SubmitterRole ring → (result ≡ next_of submitter.old ring) × Goes self.now submitter.old (Submit result parcel.sqe parcel.buffer.items parcel.last ∷ []) submitter.new }
+        ensures role { submitter.old.view.role ≡ Role.Submitter result.ring }
+        ensures next { (ring : ℕ) → submitter.old.view.role ≡ Role.Submitter ring → (submits (seen_of submitter.new) ring ≡ submits (seen_of submitter.old) ring + 1) × (before_in (seen_of submitter.new) (nth ring (submits (seen_of submitter.old) ring + 1)) ≡ Some (record { entry = parcel.sqe; bytes = parcel.buffer.items; last = parcel.last })) }
+        ensures submitted { (ring : ℕ) → submitter.old.view.role ≡ Role.Submitter ring → (result ≡ next_of submitter.old ring) × Goes self.now submitter.old (Submit result parcel.sqe parcel.buffer.items parcel.last ∷ []) submitter.new }
         ensures steps { Took submitter.old.view submitter.new.view (steps_for parcel.sqe) }
     {
         let req = submitter.next_request();

@@ -6,7 +6,7 @@ ghost use Rattle.history.specs.declared.event.Event.TheVariants.{Submit, Reap};
 ghost use Rattle.history.specs.History.{Cause, data_of, submits};
 ghost use Rattle.history.specs.Legal.{Fits as FitsEntry};
 ghost use Rattle.steps.specs.declared.line.Line.TheVariants.{Did, Lent};
-ghost use Rattle.steps.specs.declared.view.Role.TheVariants.{Submitter as SubmitterRole, Lending};
+ghost use Rattle.steps.specs.declared.view.Role.TheVariants.{Lending};
 ghost use Rattle.steps.specs.Fairness.{IsFree};
 ghost use Rattle.steps.specs.Cells.{claim_at, ring_of, place_of, request_at, cells_in, total, facts_at, word_of, cause_bits, IsParcel, words_of};
 ghost use Rattle.steps.specs.Notes.{notes_of, words_in};
@@ -63,7 +63,7 @@ impl Submitter {
 
     /// Its ring.
     pub fn ring(&self) -> u16
-        ensures role { self.now.view.role ≡ SubmitterRole result }
+        ensures role { self.now.view.role ≡ Role.Submitter result }
         ensures there { result < length self.now.view.layout.cells }
     {
         self.lane.ring
@@ -71,7 +71,7 @@ impl Submitter {
 
     /// The request that it submits next.
     pub fn next_request(&self) -> Req
-        ensures role { self.now.view.role ≡ SubmitterRole result.ring }
+        ensures role { self.now.view.role ≡ Role.Submitter result.ring }
         ensures next { result ≡ next_of self.now result.ring }
         ensures there { result.ring < length self.now.view.layout.cells }
         ensures few { result.k ≤ 16777215 * cells_in self.now.view.layout.cells result.ring }
@@ -107,11 +107,11 @@ impl Submitter {
     pub(crate) fn room(&mut self, words: &Words, grid: &Grid, count: u64) -> Result<(), SubmitError>
         requires over { (self.old.table ≡ words.now.table_id) × (grid.now ≡ self.old.view.layout.cells) × (words.now.table_id.words ≡ words_of (total grid.now)) }
         ensures table { self.new.table ≡ self.old.table }
-        ensures there { (ring : ℕ) → self.old.view.role ≡ SubmitterRole ring → ring < length self.old.view.layout.cells }
-        ensures looks { (n : ℕ) × ((ring : ℕ) → self.old.view.role ≡ SubmitterRole ring → n ≤ cells_in grid.now ring + 1) × Watched n self.old.view self.new.view × IfOk result (λ _. (ring : ℕ) → self.old.view.role ≡ SubmitterRole ring → LinkedAreReaped (seen_of self.old) ring → n ≡ 0) }
-        ensures free { IfOk result (λ _. (ring : ℕ) → self.old.view.role ≡ SubmitterRole ring → AreFree grid.now self.new.view ring (submits (seen_of self.old) ring) count) }
-        ensures fresh { IfOk result (λ _. (ring : ℕ) → self.old.view.role ≡ SubmitterRole ring → (i : ℕ) → i < count → (submits (seen_of self.old) ring + i) / cells_in grid.now ring < 16777215) }
-        ensures refused { IfErr result (λ e. (ring : ℕ) → self.old.view.role ≡ SubmitterRole ring → RefusesRoom grid.now ring (submits (seen_of self.old) ring) count self.old self.new e) }
+        ensures there { (ring : ℕ) → self.old.view.role ≡ Role.Submitter ring → ring < length self.old.view.layout.cells }
+        ensures looks { (n : ℕ) × ((ring : ℕ) → self.old.view.role ≡ Role.Submitter ring → n ≤ cells_in grid.now ring + 1) × Watched n self.old.view self.new.view × IfOk result (λ _. (ring : ℕ) → self.old.view.role ≡ Role.Submitter ring → LinkedAreReaped (seen_of self.old) ring → n ≡ 0) }
+        ensures free { IfOk result (λ _. (ring : ℕ) → self.old.view.role ≡ Role.Submitter ring → AreFree grid.now self.new.view ring (submits (seen_of self.old) ring) count) }
+        ensures fresh { IfOk result (λ _. (ring : ℕ) → self.old.view.role ≡ Role.Submitter ring → (i : ℕ) → i < count → (submits (seen_of self.old) ring + i) / cells_in grid.now ring < 16777215) }
+        ensures refused { IfErr result (λ e. (ring : ℕ) → self.old.view.role ≡ Role.Submitter ring → RefusesRoom grid.now ring (submits (seen_of self.old) ring) count self.old self.new e) }
     {
         lane::room(words, &mut self.seat, &mut self.lane, grid, count)
     }
@@ -125,7 +125,7 @@ impl Submitter {
         requires free { IsFree self.old.view.layout.cells (seen_of self.old) (request_at self.old.view.layout.cells spot.cell spot.generation) }
         requires buffer { FitsEntry parcel.sqe parcel.buffer.items }
         ensures table { self.new.table ≡ self.old.table }
-        ensures submits { let r : Req = request_at self.old.view.layout.cells spot.cell spot.generation in (facts : ℕ) × ExtendsNoted self.old.view r (facts_at spot.cell, facts) (notes_of spot.cell parcel.sqe) (Did (Submit r parcel.sqe parcel.buffer.items parcel.last)) (SubmitterRole r.ring) self.new.view }
+        ensures submits { let r : Req = request_at self.old.view.layout.cells spot.cell spot.generation in (facts : ℕ) × ExtendsNoted self.old.view r (facts_at spot.cell, facts) (notes_of spot.cell parcel.sqe) (Did (Submit r parcel.sqe parcel.buffer.items parcel.last)) (Role.Submitter r.ring) self.new.view }
         ensures steps { AreSteps (facts_at spot.cell ∷ words_in (notes_of spot.cell parcel.sqe)) (claim_at spot.cell) self.old.view self.new.view }
     {
         let hosted = lane::hosts(&parcel.sqe, parcel.last);
@@ -146,12 +146,12 @@ impl Submitter {
         requires parts { 0 < self.old.view.parts }
         requires small { spot.generation + 1 < 16777216 }
         requires number { spot.number ≡ place_of self.old.view.layout.cells spot.cell }
-        requires mine { self.old.view.role ≡ SubmitterRole (ring_of self.old.view.layout.cells spot.cell) }
+        requires mine { self.old.view.role ≡ Role.Submitter (ring_of self.old.view.layout.cells spot.cell) }
         requires done { IsDone self.old.view.seen (request_at self.old.view.layout.cells spot.cell spot.generation) spot.generation done }
         requires failed { (c : Cause) (f : Bool) (g p : ℕ) → g < 16777216 → p < 4294967296 → done ≡ word_of Done (cause_bits c f) g p → failed ≡ f }
         requires shown { Shown self.old.view.layout.cells self.old.view.seen spot.cell done }
         ensures table { self.new.table ≡ self.old.table }
-        ensures reaps { let r : Req = request_at self.old.view.layout.cells spot.cell spot.generation in (outcome : ℕ) × ExtendsTwice self.old.view (Lent r (facts_at spot.cell) outcome) (Lending r) (Did (Reap r)) (SubmitterRole r.ring) self.new.view }
+        ensures reaps { let r : Req = request_at self.old.view.layout.cells spot.cell spot.generation in (outcome : ℕ) × ExtendsTwice self.old.view (Lent r (facts_at spot.cell) outcome) (Lending r) (Did (Reap r)) (Role.Submitter r.ring) self.new.view }
         ensures steps { IsTwoSteps (facts_at spot.cell) (claim_at spot.cell) self.old.view self.new.view }
         ensures parcel { IsParcel self.new.view.seen (request_at self.old.view.layout.cells spot.cell spot.generation) (data_of (seen_of self.old) (request_at self.old.view.layout.cells spot.cell spot.generation)) result }
     {

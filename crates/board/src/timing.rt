@@ -10,10 +10,10 @@ ghost use Rattle.steps.specs.Journal.{freed};
 ghost use Rattle.work.specs.Board.{IsOf};
 ghost use Rattle.work.specs.Passes.{seen_of, Took};
 ghost use Rattle.board.specs.declared.poller.Arming.TheVariants.{Armed, NotHeld, NotTimer, Shut};
-ghost use Rattle.board.specs.declared.poller.Counting.TheVariants.{Counted, Fewer, NotArmed as NoneToCount, NotCounted};
+ghost use Rattle.board.specs.declared.poller.Counting.TheVariants.{Counted, Fewer, NotCounted};
 ghost use Rattle.board.specs.declared.poller.Expiry.TheVariants.{Early, Expired, NotArmed};
-ghost use Rattle.board.specs.declared.poller.Firing.TheVariants.{Early as TooEarly, Missed, NotArmed as NoneToFire, TargetDone, Took as TookTarget};
-ghost use Rattle.board.specs.declared.poller.Settling.TheVariants.{NotArmed as NothingArmed, Settled, TargetOpen};
+ghost use Rattle.board.specs.declared.poller.Firing.TheVariants.{Missed, TargetDone};
+ghost use Rattle.board.specs.declared.poller.Settling.TheVariants.{Settled, TargetOpen};
 ghost use Rattle.board.specs.Calls.{FoundHeld, Goes, IsUnheld, Stepped};
 ghost use Rattle.board.specs.PollerRows.{Paid, Spends};
 ghost use Rattle.board.specs.PollerTimers.{IsPast};
@@ -81,7 +81,7 @@ impl Board {
         ensures counted { result ≡ Counted → HasCounted (seen_of poller.new) req }
         ensures fewer { result ≡ Fewer → HasFewer (seen_of poller.old) req }
         ensures not_counted { result ≡ NotCounted → IsUncounted (seen_of poller.new) req × Stepped self.now.layout.cells req poller.old poller.new }
-        ensures not_armed { result ≡ NoneToCount → IsUnarmed (seen_of poller.new) req × ((length self.now.layout.cells ≤ req.ring) ⊎ Stepped self.now.layout.cells req poller.old poller.new) }
+        ensures not_armed { result ≡ Counting.NotArmed → IsUnarmed (seen_of poller.new) req × ((length self.now.layout.cells ≤ req.ring) ⊎ Stepped self.now.layout.cells req poller.old poller.new) }
         ensures steps { Paid poller.old.view poller.new.view 0 (cells_in self.now.layout.cells req.ring + 1) × Spends self.now.layout.cells req poller.old.view poller.new.view 2 (cells_in self.now.layout.cells req.ring - 1) }
         ensures alone { (q : Request) → freed poller.new.view.seen q ≡ freed poller.old.view.seen q }
     {
@@ -96,11 +96,11 @@ impl Board {
     pub fn fire(&self, poller: &mut Poller, req: Req) -> Firing
         requires { IsOf self.now poller.old }
         ensures goes { Goes self.now poller.old (fired_by result req) poller.new }
-        ensures took { result ≡ TookTarget → HasFired (seen_of poller.new) req × IsTarget (seen_of poller.new) req (previous req) }
+        ensures took { result ≡ Firing.Took → HasFired (seen_of poller.new) req × IsTarget (seen_of poller.new) req (previous req) }
         ensures missed { result ≡ Missed → HasFired (seen_of poller.new) req × IsTarget (seen_of poller.new) req (previous req) }
         ensures target_done { result ≡ TargetDone → IsTargetDone (seen_of poller.new) req }
-        ensures early { result ≡ TooEarly → IsEarly (seen_of poller.new) req × IsLinkTimeout (seen_of poller.new) req × Stepped self.now.layout.cells req poller.old poller.new }
-        ensures not_armed { result ≡ NoneToFire → IsNoneToSettle (seen_of poller.new) req × ((length self.now.layout.cells ≤ req.ring) ⊎ Stepped self.now.layout.cells req poller.old poller.new) }
+        ensures early { result ≡ Firing.Early → IsEarly (seen_of poller.new) req × IsLinkTimeout (seen_of poller.new) req × Stepped self.now.layout.cells req poller.old poller.new }
+        ensures not_armed { result ≡ Firing.NotArmed → IsNoneToSettle (seen_of poller.new) req × ((length self.now.layout.cells ≤ req.ring) ⊎ Stepped self.now.layout.cells req poller.old poller.new) }
         ensures steps { Paid poller.old.view poller.new.view 0 4 }
         ensures alone { (q : Request) → freed poller.new.view.seen q ≡ freed poller.old.view.seen q }
     {
@@ -117,7 +117,7 @@ impl Board {
         ensures goes { Goes self.now poller.old (settled_by result req) poller.new }
         ensures settled { result ≡ Settled → HasSettled (seen_of poller.new) req }
         ensures target_open { result ≡ TargetOpen → IsTargetOpen self.now.layout.cells req poller.old poller.new × IsArmed (seen_of poller.new) req }
-        ensures not_armed { result ≡ NothingArmed → IsNoneToSettle (seen_of poller.new) req × ((length self.now.layout.cells ≤ req.ring) ⊎ Stepped self.now.layout.cells req poller.old poller.new) }
+        ensures not_armed { result ≡ Settling.NotArmed → IsNoneToSettle (seen_of poller.new) req × ((length self.now.layout.cells ≤ req.ring) ⊎ Stepped self.now.layout.cells req poller.old poller.new) }
         ensures steps { Paid poller.old.view poller.new.view 0 3 }
         ensures alone { (q : Request) → freed poller.new.view.seen q ≡ freed poller.old.view.seen q }
     {

@@ -12,7 +12,6 @@ use Rattle.history.proofs.Requests.{bool_cases, and_left, and_right}
 use Rattle.gates.specs.declared.cell.Behind.{Behind}
 use Rattle.gates.specs.declared.cell.Cell.{Cell}
 use Rattle.gates.specs.declared.gate.Asked.{Asked}
-use Rattle.gates.specs.declared.gate.Asked.TheVariants.{Severed as severed_now, Open as open_now, OpenWith as open_with, Blocked as blocked_by}
 use Rattle.gates.specs.Slots.{Slot, slot_of, is_pending, is_draining, is_target_timer, behind, test_at, passes}
 use Rattle.gates.specs.EntryRows.{Kept, HasCell, IsSound, Stands, Waits, place_by, target_by, IsTurn, IsMember, bar_by, IsBar, link_in, asked_by, asked_of, IsAnswer, nearest_in, numbered}
 use Rattle.gates.specs.Shows.{nth, IsGate, IsAsked, IsTargetOf, named_in, linked_in, gate_by}
@@ -141,20 +140,20 @@ module _ (xs : List Slot) (r : Kept) (sound : IsSound r) (stands : Stands xs r) 
     IsChosen q = c.behind.severed ≡ false → (g : ℕ) → place_by j c ≡ Some g → IsBar r g q
 
     abbrev answer : Option ℕ → Asked
-    answer q = cond c.behind.severed severed_now (asked_of r j (place_by j c) q)
+    answer q = cond c.behind.severed Asked.Severed (asked_of r j (place_by j c) q)
 
     -- nobody is in the way of the place
     abbrev IsUnbarred : ℕ → Type 0
     IsUnbarred g = (m : ℕ) → ¬ Bars xs (r.lost + g) m
 
     -- the answers, each with why it is given
-    answer_cases : (Q : Asked → Type 0) → (c.behind.severed ≡ true → Q severed_now) → (c.behind.severed ≡ false → place_by j c ≡ None → Q open_now)
-        → (c.behind.severed ≡ false → (g b : ℕ) → place_by j c ≡ Some g → (b < g) × Bars xs (r.lost + g) (r.lost + b) → Q (blocked_by (r.lost + b) (link_in r j)))
-        → (c.behind.severed ≡ false → (g : ℕ) → place_by j c ≡ Some g → IsUnbarred g → g < j → P xs (r.lost + g) ≡ true → Q (open_with (r.lost + g)))
-        → (c.behind.severed ≡ false → (g : ℕ) → place_by j c ≡ Some g → IsUnbarred g → (g < j → P xs (r.lost + g) ≡ false) → Q open_now)
+    answer_cases : (Q : Asked → Type 0) → (c.behind.severed ≡ true → Q Asked.Severed) → (c.behind.severed ≡ false → place_by j c ≡ None → Q Asked.Open)
+        → (c.behind.severed ≡ false → (g b : ℕ) → place_by j c ≡ Some g → (b < g) × Bars xs (r.lost + g) (r.lost + b) → Q (Asked.Blocked (r.lost + b) (link_in r j)))
+        → (c.behind.severed ≡ false → (g : ℕ) → place_by j c ≡ Some g → IsUnbarred g → g < j → P xs (r.lost + g) ≡ true → Q (Asked.OpenWith (r.lost + g)))
+        → (c.behind.severed ≡ false → (g : ℕ) → place_by j c ≡ Some g → IsUnbarred g → (g < j → P xs (r.lost + g) ≡ false) → Q Asked.Open)
         → (q : Option ℕ) → IsChosen q → Q (answer q)
     answer_cases Q severed lost blocked with_target open' q chosen = by_mark c.behind.severed refl where
-      by_test : c.behind.severed ≡ false → (g : ℕ) → place_by j c ≡ Some g → g < length r.cells → IsUnbarred g → (t : Bool) → (nat_lt g j && passes is_pending ys g) ≡ t → Q (cond t (open_with (r.lost + g)) open_now)
+      by_test : c.behind.severed ≡ false → (g : ℕ) → place_by j c ≡ Some g → g < length r.cells → IsUnbarred g → (t : Bool) → (nat_lt g j && passes is_pending ys g) ≡ t → Q (cond t (Asked.OpenWith (r.lost + g)) Asked.Open)
       by_test free g e l none true u = with_target free g e none (ltb-true g j (and_left (nat_lt g j) (passes is_pending ys g) u)) (sym (test_exact xs r sound stands is_pending g l) ∙ and_right (nat_lt g j) (passes is_pending ys g) u)
       by_test free g e l none false u = open' free g e none (λ x. ⊎_elim
           (λ (w : P xs (r.lost + g) ≡ true). absurd (true≢false (sym (rw (lt-ltb g j x, test_exact xs r sound stands is_pending g l ∙ w) refl) ∙ u)))
@@ -168,7 +167,7 @@ module _ (xs : List Slot) (r : Kept) (sound : IsSound r) (stands : Stands xs r) 
       by_place free None e = lost free e
       by_place free (Some g) e = let le = decides_before g e in let d = get_there r.cells g (omega (arith, le, there)) in let m = chosen free g e d.0 d.1 in by_bar free g e d.0 d.1 m.0 m.1 q m.2
 
-      by_mark : (b : Bool) → c.behind.severed ≡ b → Q (cond b severed_now (asked_of r j (place_by j c) q))
+      by_mark : (b : Bool) → c.behind.severed ≡ b → Q (cond b Asked.Severed (asked_of r j (place_by j c) q))
       by_mark true e = severed e
       by_mark false e = by_place e (place_by j c) refl
 

@@ -5,7 +5,6 @@ use Rattle.gates.specs.declared.cell.Behind.{Behind}
 use Rattle.gates.specs.declared.cell.Cell.{Cell}
 use Rattle.gates.specs.declared.traits.Traits.{Traits}
 use Rattle.gates.specs.declared.gate.Asked.{Asked}
-use Rattle.gates.specs.declared.gate.Asked.TheVariants.{Severed as severed_now, Open as open_now, OpenWith as open_with, Blocked as blocked_by}
 use Rattle.gates.specs.Slots.{Slot, slot_of, traits_of, starting, is_pending, is_draining, is_target_timer, next_of, behind, passes}
 
 -- how many cells there are, how many entries have lost theirs to later ones, the cells of the others in order, the places
@@ -169,13 +168,13 @@ IsBar r g q = (d : Cell) → slice_get r.cells g ≡ Some d → (m : ℕ) × IsM
 
 -- the answer for the place j by the place g, which decides for it, where q is the place of who is in the way of that
 abbrev pub asked_by : Kept → ℕ → ℕ → Option ℕ → Asked
-asked_by r g j (Some b) = blocked_by (r.lost + b) (link_in r j)
-asked_by r g j None = cond (nat_lt g j && passes is_pending (map slot_of r.cells) g) (open_with (r.lost + g)) open_now
+asked_by r g j (Some b) = Asked.Blocked (r.lost + b) (link_in r j)
+asked_by r g j None = cond (nat_lt g j && passes is_pending (map slot_of r.cells) g) (Asked.OpenWith (r.lost + g)) Asked.Open
 
 abbrev pub asked_of : Kept → ℕ → Option ℕ → Option ℕ → Asked
-asked_of r j None q = open_now
+asked_of r j None q = Asked.Open
 asked_of r j (Some g) q = asked_by r g j q
 
 -- what a row answers of the request k, from what is kept
 abbrev pub IsAnswer : Kept → ℕ → Asked → Type 0
-IsAnswer r k a = (c : Cell) → slice_get r.cells (k - r.lost) ≡ Some c → (q : Option ℕ) × (c.behind.severed ≡ false → (g : ℕ) → place_by (k - r.lost) c ≡ Some g → IsBar r g q) × (a ≡ cond c.behind.severed severed_now (asked_of r (k - r.lost) (place_by (k - r.lost) c) q))
+IsAnswer r k a = (c : Cell) → slice_get r.cells (k - r.lost) ≡ Some c → (q : Option ℕ) × (c.behind.severed ≡ false → (g : ℕ) → place_by (k - r.lost) c ≡ Some g → IsBar r g q) × (a ≡ cond c.behind.severed Asked.Severed (asked_of r (k - r.lost) (place_by (k - r.lost) c) q))

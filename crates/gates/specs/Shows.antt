@@ -6,9 +6,7 @@ use Rattle.history.specs.declared.event.Event.{Event}
 use Rattle.history.specs.History.{Submission, submission, phase, reply, IsReplied}
 use Rattle.history.specs.Chains.{joins, is_link_timeout, IsPlaced, IsChainBefore, IsChained, IsChainDone, IsTarget, Severed, Open, severs}
 use Rattle.gates.specs.declared.gate.Gate.{Gate}
-use Rattle.gates.specs.declared.gate.Gate.TheVariants.{Open as open_gate, Shut as shut_gate, Severed as severed_gate}
 use Rattle.gates.specs.declared.gate.Asked.{Asked}
-use Rattle.gates.specs.declared.gate.Asked.TheVariants.{Severed as severed_now, Open as open_now, OpenWith as open_with, Blocked as blocked_by}
 use Rattle.gates.specs.Slots.{Slot, traits_of, IsPlain, is_pending, passes}
 
 abbrev pub nth : ℕ → ℕ → Req
@@ -26,9 +24,9 @@ Shows h i xs = (k : ℕ) (s : Slot) → slice_get xs k ≡ Some s → ShownAt h 
 
 -- severed first, then open, else shut
 abbrev pub IsGate : List Event → Req → Gate → Type 0
-IsGate h r severed_gate = Severed h r
-IsGate h r open_gate = (¬ Severed h r) × Open h r
-IsGate h r shut_gate = (¬ Severed h r) × ¬ Open h r
+IsGate h r Gate.Severed = Severed h r
+IsGate h r Gate.Open = (¬ Severed h r) × Open h r
+IsGate h r Gate.Shut = (¬ Severed h r) × ¬ Open h r
 
 -- the request before a LINK_TIMEOUT in its chain
 abbrev pub IsTargetOf : List Event → Req → Option ℕ → Type 0
@@ -99,24 +97,24 @@ IsLink h r (Some p) = IsChainBefore h (nth r.ring p) r × HaveGoneOn h r (suc p)
 
 -- what a row that trails may answer of r. The history may know of replies that the row doesn't
 abbrev pub IsAsked : List Event → Req → Asked → Type 0
-IsAsked h r severed_now = Severed h r
-IsAsked h r open_now = (¬ Severed h r) × Open h r
-IsAsked h r (open_with t) = IsTarget h r (nth r.ring t) × Open h r × (¬ IsReplied (phase h (nth r.ring t)) → ¬ Severed h r)
-IsAsked h r (blocked_by b p) = (¬ IsReplied (phase h (nth r.ring b)) → ¬ Open h r) × IsLink h r p
+IsAsked h r Asked.Severed = Severed h r
+IsAsked h r Asked.Open = (¬ Severed h r) × Open h r
+IsAsked h r (Asked.OpenWith t) = IsTarget h r (nth r.ring t) × Open h r × (¬ IsReplied (phase h (nth r.ring t)) → ¬ Severed h r)
+IsAsked h r (Asked.Blocked b p) = (¬ IsReplied (phase h (nth r.ring b)) → ¬ Open h r) × IsLink h r p
 
 -- the request that an answer names
 abbrev pub named_in : Asked → Option ℕ
-named_in (open_with t) = Some t
-named_in (blocked_by b p) = Some b
+named_in (Asked.OpenWith t) = Some t
+named_in (Asked.Blocked b p) = Some b
 named_in _ = None
 
 -- the nearest earlier member of its chain that is pending in the row, as an answer names it
 abbrev pub linked_in : Asked → Option ℕ
-linked_in (blocked_by b p) = p
+linked_in (Asked.Blocked b p) = p
 linked_in _ = None
 
 -- the gate, by an answer from which no reply is missing
 abbrev pub gate_by : Asked → Gate
-gate_by severed_now = severed_gate
-gate_by (blocked_by b p) = shut_gate
-gate_by _ = open_gate
+gate_by Asked.Severed = Gate.Severed
+gate_by (Asked.Blocked b p) = Gate.Shut
+gate_by _ = Gate.Open

@@ -5,7 +5,6 @@ use crate::load::{Fault, Load, Told};
 use anyhow::{Result, bail};
 use board::{Completion, SubmitError};
 use runtime::Client;
-use std::hint::spin_loop;
 use std::sync::Wait;
 use std::thread;
 use std::time::{Clock, Duration};
@@ -38,7 +37,7 @@ impl<L: Load> Driver<L> {
                 return Ok(());
             } else {
                 let went = self.submit(rt);
-                looks = waited(looks);
+                looks = looked(looks);
                 went
             };
             if let Err(fault) = went {
@@ -90,10 +89,10 @@ fn refuse(fault: Fault) -> Result<()> {
     bail!("{fault}")
 }
 
-/// Waits a moment, after so many looks in vain, and counts one more.
-pub(crate) fn waited(looks: u32) -> u32 {
+/// Counts one more look in vain. After `LOOKS` of them other threads may run in between. A look is long enough: after a pause of the
+/// processor a completion would only have waited.
+fn looked(looks: u32) -> u32 {
     if looks < LOOKS {
-        spin_loop();
         return looks + 1;
     }
     thread::yield_now();

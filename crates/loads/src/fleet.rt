@@ -1,5 +1,5 @@
 //! A runtime of two rings, with one or two clients at work.
-ghost use Rattle.std.specs.Prelude.{◌≡◌, None};
+ghost use Rattle.std.specs.Prelude.{◌≡◌, None, IfOk};
 
 use crate::client::Driver;
 use crate::load::{Load, Told};
@@ -79,7 +79,13 @@ fn join<R: Machine>(rt: &R, runtime: Runtime<Ticking>, zero: Client, one: Client
     requires zero { zero.board ≡ runtime.board }
     requires one { one.board ≡ runtime.board }
 {
-    let clients = vec![in rt.alloc(); zero, one]?;
+    let Ok(mut clients) = Vec::with_capacity(rt.alloc(), 2) else {
+        drop((runtime, zero, one));
+        bail!("no memory was found");
+    };
+    let (Ok(()), Ok(())) = (clients.push(zero), clients.push(one)) else {
+        unreachable!()
+    };
     match join_all(rt, rt.alloc(), runtime, clients) {
         Ok(report) => Ok(report),
         Err(unjoined) => Err(unjoined.error.into()),
@@ -116,15 +122,51 @@ fn tell<L: Load>(first: &mut L, second: &mut L, report: &Report) -> Result<()> {
     Ok(())
 }
 
+/// The loads of both clients.
+fn loads_of<L: Load>(alloc: Global, setup: &Setup) -> Result<(L, L), AllocError> {
+    let first = L::new(alloc, 0, setup)?;
+    let Ok(second) = L::new(alloc, 1, setup) else {
+        drop(first);
+        return Err(AllocError);
+    };
+    Ok((first, second))
+}
+
+/// A started runtime, and its clients.
+fn started<R: Machine>(rt: &R, setup: &Setup) -> Result<(Runtime<Ticking>, Client, Client)>
+    ensures { IfOk result (λ t. (t.1.board ≡ t.0.board) × (t.2.board ≡ t.0.board)) }
+{
+    let alloc = rt.alloc();
+    let shape = shape_of(alloc, setup)?;
+    let clock = Ticking {
+        every: setup.every,
+        turns: 0,
+    };
+    let (runtime, mut clients) = match start(*rt, alloc, &shape, setup.idle, Open, clock) {
+        Ok(started) => started,
+        Err(error) => {
+            drop(shape);
+            return Err(error.into());
+        }
+    };
+    drop(shape);
+    let (Some(one), Some(zero)) = (clients.pop(), clients.pop()) else {
+        drop((runtime, clients));
+        bail!("a client is missing");
+    };
+    Ok((runtime, zero, one))
+}
+
 impl<L: Load> Fleet<L> {
     /// Starts the runtime of a setup.
     pub fn start<R: Machine>(rt: &R, setup: &Setup) -> Result<Fleet<L>> {
-        let (alloc, every, turns) = (rt.alloc(), setup.every, 0);
-        let (first, second) = (L::new(alloc, 0, setup)?, L::new(alloc, 1, setup)?);
-        let (shape, clock) = (shape_of(alloc, setup)?, Ticking { every, turns });
-        let (runtime, mut clients) = start(*rt, alloc, &shape, setup.idle, Open, clock)?;
-        let (Some(one), Some(zero)) = (clients.pop(), clients.pop()) else {
-            bail!("a client is missing");
+        let (first, second) = loads_of(rt.alloc(), setup)?;
+        let (runtime, zero, one) = match started(rt, setup) {
+            Ok(started) => started,
+            Err(error) => {
+                drop((first, second));
+                return Err(error);
+            }
         };
         Ok(Fleet {
             runtime,

@@ -142,6 +142,14 @@ pub(crate) fn measure<R: Machine>(rt: &R, is_timed: bool) -> Result<()> {
     bench.measure_all(rt)
 }
 
+/// How many nanoseconds the fleet's round took, and how many microseconds of processor time all threads had meanwhile.
+fn idle_round<R: Machine + CpuClock>(rt: &R, fleet: &mut Fleet<Units>) -> Result<(u64, u128)> {
+    let before = rt.process_cpu_time()?;
+    let waited = round_of(rt, fleet, 1)?;
+    let after = rt.process_cpu_time()?;
+    Ok((waited, after.saturating_sub(before).as_micros()))
+}
+
 /// A byte there and back between the clients of a runtime with three workers. One of them waits for it, since the other one sleeps first
 /// for so many seconds, and so do so many READs. Prints the processor time of all threads meanwhile.
 pub(crate) fn run_idle<R: Machine + CpuClock>(rt: &R, seconds: u64, reads: u64) -> Result<()> {
@@ -149,12 +157,10 @@ pub(crate) fn run_idle<R: Machine + CpuClock>(rt: &R, seconds: u64, reads: u64) 
     (setup.cells, setup.reads) = (1_024, reads.min(1_000) as u32);
     setup.pause = Duration::from_secs(seconds);
     let mut fleet = Fleet::<Units>::start(rt, &setup)?;
-    let before = rt.process_cpu_time();
-    let waited = round_of(rt, &mut fleet, 1);
-    let after = rt.process_cpu_time();
+    let round = idle_round(rt, &mut fleet);
     fleet.end(rt)?;
-    let (waited, reads) = (waited? / 1_000_000, setup.reads);
-    let used = after?.saturating_sub(before?).as_micros();
+    let (waited, used) = round?;
+    let (waited, reads) = (waited / 1_000_000, setup.reads);
     println!(rt;
         "a client has waited {waited} ms, beside {reads} READs; {used} us of processor time"
     )?;

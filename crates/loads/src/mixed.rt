@@ -59,17 +59,22 @@ fn setup_of(draws: &mut Draws) -> Setup {
     setup
 }
 
+/// Puts one runtime under the load, ends it at a random moment, and gives what was counted.
+fn soak_one<R: Machine>(rt: &R, draws: &mut Draws) -> Result<Told> {
+    let (setup, turns) = (setup_of(draws), u64::from(draws.below(10_000)));
+    let mut fleet = Fleet::<Mix>::start(rt, &setup)?;
+    let gone = round_of(rt, &mut fleet, turns);
+    let told = fleet.end(rt)?;
+    gone?;
+    Ok(told)
+}
+
 /// Puts runtimes, drawn from this seed, under the load for so many seconds, and ends each at a random moment.
 pub(crate) fn run_soak<R: Machine>(rt: &R, seconds: u64, seed: u64) -> Result<()> {
     let (mut draws, mut told, mut runtimes) = (Draws::new(seed), Told::default(), 0u64);
     let (start, mut part) = (Instant::now(rt)?, 1);
     for _ in rt.forever() {
-        let (setup, turns) = (setup_of(&mut draws), u64::from(draws.below(10_000)));
-        let mut fleet = Fleet::<Mix>::start(rt, &setup)?;
-        let gone = round_of(rt, &mut fleet, turns);
-        let end = fleet.end(rt);
-        gone?;
-        told = told.plus(end?);
+        told = told.plus(soak_one(rt, &mut draws)?);
         runtimes = runtimes.saturating_add(1);
         part = look(rt, start, seconds, part, told)?;
         if 10 < part {

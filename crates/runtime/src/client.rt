@@ -3,7 +3,6 @@ ghost use Rattle.std.specs.Prelude.{◌≡◌, ◌≢◌, ◌+◌, ◌<◌, ◌�
 ghost use Rattle.std.specs.Arc.{arc_value};
 ghost use Rattle.history.specs.declared.event.Event.TheVariants.{Reap};
 ghost use Rattle.history.specs.History.{phase, submits};
-ghost use Rattle.steps.specs.declared.view.Role.TheVariants.{Submitter as SubmitterRole};
 ghost use Rattle.steps.specs.Cells.{cells_in};
 ghost use Rattle.steps.specs.Fairness.{IsFree, IsReaped};
 ghost use Rattle.work.specs.Board.{IsOf};
@@ -47,7 +46,6 @@ impl Model for Client {
     ghost use Rattle.std.specs.Prelude.{◌≡◌, ◌≢◌, None, length};
     ghost use Rattle.std.specs.Arc.{arc_value};
     ghost use Rattle.board.specs.ShapeLimits.{widest};
-    ghost use Rattle.steps.specs.declared.view.Role.TheVariants.{Submitter as SubmitterRole};
     ghost use Rattle.bell.specs.BellPasses.{IsRingerOf};
     ghost use Rattle.work.specs.Board.{IsOf};
     ghost use Rattle.runtime.specs.Clients.{ClientFacts};
@@ -56,7 +54,7 @@ impl Model for Client {
 
     ghost view = { λ c. record { board = (arc_value c.shared).board; submitter = c.submitter; ring = c.held.ring; tail = c.tail; publishes = length c.ringer.found; posts = c.held.posts } };
 
-    ghost invariant = { λ c. IsOf (arc_value c.shared).board c.submitter × IsRingerOf (arc_value c.shared).bell c.ringer × (c.ringer.tail ≡ c.tail) × (c.submitter.view.role ≡ SubmitterRole c.held.ring) × (c.ringer.ring ≡ c.held.ring) × (c.held.places ≡ widest (arc_value c.shared).board.layout.cells) × (c.listener ≢ None) };
+    ghost invariant = { λ c. IsOf (arc_value c.shared).board c.submitter × IsRingerOf (arc_value c.shared).bell c.ringer × (c.ringer.tail ≡ c.tail) × (c.submitter.view.role ≡ Role.Submitter c.held.ring) × (c.ringer.ring ≡ c.held.ring) × (c.held.places ≡ widest (arc_value c.shared).board.layout.cells) × (c.listener ≢ None) };
 }
 
 impl Client {
@@ -70,7 +68,7 @@ impl Client {
     ) -> Client
         requires submitter { IsOf (arc_value shared).board submitter }
         requires ringer { IsRingerOf (arc_value shared).bell ringer × ((ringer.tail ≡ 0) × (ringer.found ≡ [])) }
-        requires ring { (submitter.view.role ≡ SubmitterRole held.ring) × (ringer.ring ≡ held.ring) }
+        requires ring { (submitter.view.role ≡ Role.Submitter held.ring) × (ringer.ring ≡ held.ring) }
         requires places { held.places ≡ widest (arc_value shared).board.layout.cells }
         ensures board { result.board ≡ (arc_value shared).board }
         ensures submitter { result.submitter ≡ submitter }

@@ -1,7 +1,6 @@
 //! The end of a runtime.
 ghost use Rattle.std.specs.Prelude.{◌≡◌, ◌≢◌, ◌↔◌, ◌≤◌, ◌++◌, ◌∷◌, [], List, length, map, vec_capacity, IfOk, IfErr, IsTrue};
 ghost use Rattle.std.specs.Arc.{arc_value};
-ghost use Rattle.steps.specs.declared.view.Role.TheVariants.{Poller as PollerRole};
 ghost use Rattle.work.specs.Passes.{Pass, seen_of};
 ghost use Rattle.board.specs.Reports.{AreOf, IsReport};
 ghost use Rattle.runtime.specs.Clients.{AreClients, submitter_of, without_tail};
@@ -96,7 +95,7 @@ fn sole<R: Wait>(rt: &R, mut shared: Arc<Shared>) -> Shared
 fn end<R: Wait, C: Clock>(rt: &R, halted: Halted<C>) -> (Report, C, bool)
     requires { IsHalted halted }
     ensures report { IsReport halted.stopped.shared.board (halted.stopped.desk.poller ∷ (map submitter_of halted.clients.items ++ map worker_of halted.stopped.workers)) result.0 }
-    ensures follows { C.follows result.1 (seen_of halted.stopped.desk.poller) × (halted.stopped.desk.poller.view.role ≡ PollerRole (length halted.stopped.shared.board.layout.cells)) }
+    ensures follows { C.follows result.1 (seen_of halted.stopped.desk.poller) × (halted.stopped.desk.poller.view.role ≡ Role.Poller (length halted.stopped.shared.board.layout.cells)) }
     ensures drained { IsTrue result.2 → IsDrained halted.stopped.desk halted.stopped.workers }
 {
     let Halted {
@@ -219,7 +218,7 @@ pub fn join_at_rest<R: Threads + Wait, C: Clock>(
     clients: Vec<Client>,
 ) -> Result<Rested<C>, Unjoined<C>>
     requires own { AreClients runtime.board clients.items }
-    ensures ended { IfOk result (λ e. (poller : Pass) × (workers : List Pass) × IsReport runtime.board (poller ∷ (map submitter_of clients.items ++ workers)) e.report × C.follows e.clock (seen_of poller) × (poller.view.role ≡ PollerRole (length runtime.board.layout.cells)) × (IsTrue e.is_at_rest → CameToRest runtime.board poller workers)) }
+    ensures ended { IfOk result (λ e. (poller : Pass) × (workers : List Pass) × IsReport runtime.board (poller ∷ (map submitter_of clients.items ++ workers)) e.report × C.follows e.clock (seen_of poller) × (poller.view.role ≡ Role.Poller (length runtime.board.layout.cells)) × (IsTrue e.is_at_rest → CameToRest runtime.board poller workers)) }
     ensures complete { IfOk result (λ _. length clients.items ≡ length runtime.board.layout.cells) }
     ensures missing { IfErr result (λ u. (u.error ≡ Missing) ↔ (length clients.items ≢ length runtime.board.layout.cells)) }
     ensures back { IfErr result (λ u. (u.runtime.board ≡ runtime.board) × (map without_tail u.clients.items ≡ map without_tail clients.items)) }

@@ -4,7 +4,6 @@ ghost use Rattle.board.specs.ShapeLimits.{widest};
 ghost use Rattle.history.specs.declared.req.Req.{Req};
 ghost use Rattle.ready.specs.Ready.{IsOf as IsOfQueue};
 ghost use Rattle.steps.specs.Cells.{total};
-ghost use Rattle.work.specs.declared.run.Ran.TheVariants.{Parked as HasParked};
 ghost use Rattle.work.specs.Board.{IsOf};
 ghost use Rattle.runtime.specs.WorkTurns.{Desk, FoundNone, IsWorkTurn, PutsBack, Shifts, Tried, ended_in, most_kept, past_in};
 
@@ -228,7 +227,7 @@ fn is_past(phase: Phase) -> bool
 
 /// Whether a request that parked has to be tried again: it doesn't lie with its pipes.
 fn goes_round(why: Parked) -> bool
-    ensures { (r : Req) → ended_in r (HasParked why) ≡ cond result [] (r ∷ []) }
+    ensures { (r : Req) → ended_in r (Ran.Parked why) ≡ cond result [] (r ∷ []) }
 {
     match why {
         Parked::NotReady => false,

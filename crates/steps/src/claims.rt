@@ -1,6 +1,6 @@
 //! The claim words that steps write and look for.
 ghost use Rattle.std.specs.Prelude.{◌≡◌, ◌≢◌, ◌⊎◌, ◌<◌, ℕ, List, pos, negsuc, false, cond, IfSome, IfNone};
-ghost use Rattle.claim.specs.declared.tag.Tag.TheVariants.{Empty, Held, Ready, Running as RunningTag, Armed, Done};
+ghost use Rattle.claim.specs.declared.tag.Tag.TheVariants.{Empty, Held, Ready, Armed, Done};
 ghost use Rattle.history.specs.History.{by_reply, by_take, by_expire, by_count, by_fire, by_settle, by_sever, phase, unborn, IsReplied};
 ghost use Rattle.steps.specs.declared.claims.Standing.TheVariants.{Idle, Running, Over};
 ghost use Rattle.steps.specs.declared.line.Line.{Line};
@@ -44,7 +44,7 @@ pub fn ready(generation: u32) -> u64
 /// A worker runs the request.
 pub(crate) fn running(generation: u32) -> u64
     requires { generation < 16777216 }
-    ensures { result ≡ word_of RunningTag 0 generation 0 }
+    ensures { result ≡ word_of Tag.Running 0 generation 0 }
 {
     pack(ClaimWord::running(generation))
 }
@@ -129,8 +129,8 @@ pub enum Standing {
 pub fn stands_at(word: u64, generation: u32) -> Standing
     requires { generation < 16777216 }
     ensures idle { result ≡ Idle → IsIdleWord generation word }
-    ensures running { result ≡ Running → word ≡ word_of RunningTag 0 generation 0 }
-    ensures still { result ≡ Over → word ≢ word_of RunningTag 0 generation 0 }
+    ensures running { result ≡ Running → word ≡ word_of Tag.Running 0 generation 0 }
+    ensures still { result ≡ Over → word ≢ word_of Tag.Running 0 generation 0 }
     ensures over { result ≡ Over → (K : List ℕ) (j : List Line) (x : ℕ) → Shown K j x word → phase (events_of j) (request_at K x generation) ≢ unborn → IsReplied (phase (events_of j) (request_at K x generation)) }
 {
     let Some(claim) = unpack(word) else {
@@ -150,7 +150,7 @@ pub fn stands_at(word: u64, generation: u32) -> Standing
 /// it was running. None where the request is over.
 pub fn looked_for(found: u64, generation: u32) -> Option<u64>
     requires { generation < 16777216 }
-    ensures some { IfSome result (λ e. IsIdleWord generation e × ((e ≡ found) ⊎ ((found ≡ word_of RunningTag 0 generation 0) × (e ≡ word_of Ready 0 generation 0)))) }
+    ensures some { IfSome result (λ e. IsIdleWord generation e × ((e ≡ found) ⊎ ((found ≡ word_of Tag.Running 0 generation 0) × (e ≡ word_of Ready 0 generation 0)))) }
     ensures none { IfNone result ((K : List ℕ) (j : List Line) (x : ℕ) → Shown K j x found → phase (events_of j) (request_at K x generation) ≢ unborn → IsReplied (phase (events_of j) (request_at K x generation))) }
 {
     match stands_at(found, generation) {

@@ -8,7 +8,7 @@ ghost use Rattle.history.specs.Users.{uses_at};
 ghost use Rattle.answers.specs.declared.named.NamedPipes.TheVariants.{One};
 ghost use Rattle.answers.specs.NamedEnds.{UsesNone, UsesOne};
 ghost use Rattle.steps.specs.declared.line.Line.TheVariants.{Did, Hold};
-ghost use Rattle.steps.specs.declared.view.Role.TheVariants.{Idle, Busy as RoleBusy};
+ghost use Rattle.steps.specs.declared.view.Role.TheVariants.{Idle};
 ghost use Rattle.steps.specs.Cells.{cells_in, pipe_at};
 ghost use Rattle.steps.specs.Rule.{Looks, Extends, IsStep};
 ghost use Rattle.steps.specs.Sleepers.{NoneSleeps};
@@ -113,7 +113,7 @@ impl<'a> Answering<'a> {
     /// Takes a pipe that the entry is answered from, or comes back where another worker has it.
     pub(crate) fn hold(self, pipe: usize) -> Result<Holding<'a>, Answering<'a>>
         requires named { (e : Entry) → IsPlaced (seen_of self.pass) self.req e → (uses_at e.op pipe ≡ true) × (pipe < length self.pass.view.layout.caps) }
-        ensures held { IfOk result (λ h. (h.req ≡ self.entry.req) × (h.pipe ≡ pipe) × (h.pass.table ≡ self.entry.pass.table) × IsStep (pipe_at pipe) 0 self.entry.pass.view h.pass.view × Extends self.entry.pass.view (Hold self.entry.req pipe) (RoleBusy self.entry.req) h.pass.view) }
+        ensures held { IfOk result (λ h. (h.req ≡ self.entry.req) × (h.pipe ≡ pipe) × (h.pass.table ≡ self.entry.pass.table) × IsStep (pipe_at pipe) 0 self.entry.pass.view h.pass.view × Extends self.entry.pass.view (Hold self.entry.req pipe) (Role.Busy self.entry.req) h.pass.view) }
         ensures busy { IfErr result (λ b. (b.req ≡ self.entry.req) × (b.pass.table ≡ self.entry.pass.table) × Looks self.entry.pass.view b.pass.view × MissedPipe self.entry.pass.view b.pass.view pipe self.entry.req) }
         ensures woken { IfErr result (λ b. b.woken ≡ []) }
     {

@@ -4,7 +4,7 @@ ghost use Rattle.entry.specs.Entry.{Entry};
 ghost use Rattle.history.specs.declared.event.Event.TheVariants.{Park};
 ghost use Rattle.history.specs.Chains.{IsPlaced};
 ghost use Rattle.steps.specs.declared.line.Line.TheVariants.{Did};
-ghost use Rattle.steps.specs.declared.view.Role.TheVariants.{Idle, Busy as RoleBusy};
+ghost use Rattle.steps.specs.declared.view.Role.TheVariants.{Idle};
 ghost use Rattle.steps.specs.Cells.{cells_in};
 ghost use Rattle.steps.specs.Rule.{Looks, Extends};
 ghost use Rattle.steps.specs.Sleepers.{NoneSleeps};
@@ -68,7 +68,7 @@ impl<'a> Busy<'a> {
     fn ask(self) -> Answering<'a>
         ensures same { (result.req ≡ self.entry.req) × (result.pass.table ≡ self.entry.pass.table) }
         ensures looks { Looks self.entry.pass.view result.pass.view }
-        ensures busy { self.entry.pass.view.role ≡ RoleBusy self.entry.req }
+        ensures busy { self.entry.pass.view.role ≡ Role.Busy self.entry.req }
         ensures placed { (e : Entry) → IsPlaced (seen_of self.entry.pass) self.entry.req e → IsPlaced (seen_of result.pass) result.req e }
         ensures steps { (e : Entry) → IsPlaced (seen_of self.entry.pass) self.entry.req e → ReadNotes self.entry.pass.view result.pass.view (notes_read e.op) }
     {

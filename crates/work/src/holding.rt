@@ -6,7 +6,7 @@ ghost use Rattle.history.specs.Chains.{IsPlaced};
 ghost use Rattle.answers.specs.NamedEnds.{UsesOne};
 ghost use Rattle.steps.specs.declared.line.Laid.{Laid};
 ghost use Rattle.steps.specs.declared.line.Line.TheVariants.{Did, Free};
-ghost use Rattle.steps.specs.declared.view.Role.TheVariants.{Busy as RoleBusy, Leaving};
+ghost use Rattle.steps.specs.declared.view.Role.TheVariants.{Leaving};
 ghost use Rattle.steps.specs.declared.view.View.{View};
 ghost use Rattle.steps.specs.Cells.{claim_at, pipe_at};
 ghost use Rattle.steps.specs.Rule.{Extends, IsStep, IsTwoSteps, leaves};
@@ -53,7 +53,7 @@ impl<'a> Holding<'a> {
         ensures woken { IfOk result (λ t. TookAlong self.entry.req self.entry.pipe t.1.res t.0.view t.0.woken) }
         ensures steps { IfOk result (λ t. (word : ℕ) × IsTwoSteps word (pipe_at self.entry.pipe) self.entry.pass.view t.0.view) }
         ensures user_data { IfOk result (λ t. (e : Entry) → IsPlaced (seen_of self.entry.pass) self.entry.req e → t.1.user_data ≡ e.user_data) }
-        ensures waits { IfErr result (λ b. (b.req ≡ self.entry.req) × (b.pass.table ≡ self.entry.pass.table) × (laid : Laid) × Extends self.entry.pass.view (Free self.entry.req self.entry.pipe laid) (RoleBusy self.entry.req) b.pass.view × LaidDown self.entry.pass.view b.pass.view self.entry.req self.entry.pipe b.woken × ((found : ℕ) × IsStep (pipe_at self.entry.pipe) found self.entry.pass.view b.pass.view)) }
+        ensures waits { IfErr result (λ b. (b.req ≡ self.entry.req) × (b.pass.table ≡ self.entry.pass.table) × (laid : Laid) × Extends self.entry.pass.view (Free self.entry.req self.entry.pipe laid) (Role.Busy self.entry.req) b.pass.view × LaidDown self.entry.pass.view b.pass.view self.entry.req self.entry.pipe b.woken × ((found : ℕ) × IsStep (pipe_at self.entry.pipe) found self.entry.pass.view b.pass.view)) }
         ensures unanswered { IfErr result (λ b. (e : Entry) → IsPlaced (seen_of self.entry.pass) self.entry.req e → Unanswered self.entry.pass.view self.entry.req e) }
     {
         let Holding {

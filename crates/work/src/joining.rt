@@ -9,7 +9,7 @@ ghost use Rattle.answers.specs.NamedEnds.{UsesBoth};
 ghost use Rattle.steps.specs.declared.line.Laid.{Laid as LaidAs};
 ghost use Rattle.steps.specs.declared.line.Laid.TheVariants.{NoRequest};
 ghost use Rattle.steps.specs.declared.line.Line.TheVariants.{Did, Hold, Free};
-ghost use Rattle.steps.specs.declared.view.Role.TheVariants.{Busy as RoleBusy, Leaving};
+ghost use Rattle.steps.specs.declared.view.Role.TheVariants.{Leaving};
 ghost use Rattle.steps.specs.declared.view.View.{View};
 ghost use Rattle.steps.specs.Cells.{pipe_at};
 ghost use Rattle.steps.specs.Journal.{lying};
@@ -58,8 +58,8 @@ impl<'a> Holding<'a> {
     /// Takes the target of a SPLICE, whose source it has; or gives the source back, where another worker has the target.
     fn hold(self, target: usize) -> Result<Joining<'a>, Answering<'a>>
         requires named { (e : Entry) → IsPlaced (seen_of self.pass) self.req e → UsesBoth e.op (length self.pass.view.layout.caps) self.pipe target }
-        ensures held { IfOk result (λ k. (k.req ≡ self.entry.req) × (k.source ≡ self.entry.pipe) × (k.target ≡ target) × (k.pass.table ≡ self.entry.pass.table) × IsStep (pipe_at target) 0 self.entry.pass.view k.pass.view × Extends self.entry.pass.view (Hold self.entry.req target) (RoleBusy self.entry.req) k.pass.view × HasBoth k.pass.view.seen self.entry.pipe target self.entry.req) }
-        ensures busy { IfErr result (λ b. (b.req ≡ self.entry.req) × (b.pass.table ≡ self.entry.pass.table) × (mid : View) × Looks self.entry.pass.view mid × MissedPipe self.entry.pass.view mid target self.entry.req × Extends mid (Free self.entry.req self.entry.pipe NoRequest) (RoleBusy self.entry.req) b.pass.view × ((found : ℕ) × IsStep (pipe_at self.entry.pipe) found mid b.pass.view)) }
+        ensures held { IfOk result (λ k. (k.req ≡ self.entry.req) × (k.source ≡ self.entry.pipe) × (k.target ≡ target) × (k.pass.table ≡ self.entry.pass.table) × IsStep (pipe_at target) 0 self.entry.pass.view k.pass.view × Extends self.entry.pass.view (Hold self.entry.req target) (Role.Busy self.entry.req) k.pass.view × HasBoth k.pass.view.seen self.entry.pipe target self.entry.req) }
+        ensures busy { IfErr result (λ b. (b.req ≡ self.entry.req) × (b.pass.table ≡ self.entry.pass.table) × (mid : View) × Looks self.entry.pass.view mid × MissedPipe self.entry.pass.view mid target self.entry.req × Extends mid (Free self.entry.req self.entry.pipe NoRequest) (Role.Busy self.entry.req) b.pass.view × ((found : ℕ) × IsStep (pipe_at self.entry.pipe) found mid b.pass.view)) }
         ensures woken { IfErr result (λ b. b.woken ≡ []) }
     {
         let Holding {
@@ -109,7 +109,7 @@ impl<'a> Joining<'a> {
         ensures woken { IfOk result (λ t. (a : List Request) × (b : List Request) × TookAlong self.entry.req self.entry.source t.1.res t.0.view a × TookAlong self.entry.req self.entry.target t.1.res t.0.view b × (t.0.woken ≡ a ++ b)) }
         ensures steps { IfOk result (λ t. (word : ℕ) × IsThreeSteps word (pipe_at self.entry.target) (pipe_at self.entry.source) self.entry.pass.view t.0.view) }
         ensures user_data { IfOk result (λ t. (e : Entry) → IsPlaced (seen_of self.entry.pass) self.entry.req e → t.1.user_data ≡ e.user_data) }
-        ensures waits { IfErr result (λ b. (b.req ≡ self.entry.req) × (b.pass.table ≡ self.entry.pass.table) × (mid : View) × (laid : LaidAs) × (under : LaidAs) × Extends self.entry.pass.view (Free self.entry.req self.entry.target laid) (RoleBusy self.entry.req) mid × Extends mid (Free self.entry.req self.entry.source under) (RoleBusy self.entry.req) b.pass.view × ((found : ℕ) × IsStep (pipe_at self.entry.target) found self.entry.pass.view mid) × ((found : ℕ) × IsStep (pipe_at self.entry.source) found mid b.pass.view) × IsLaidOnce laid self.entry.req (lying self.entry.pass.view.seen self.entry.target) × IsLaidOnce under self.entry.req (lying self.entry.pass.view.seen self.entry.source)) }
+        ensures waits { IfErr result (λ b. (b.req ≡ self.entry.req) × (b.pass.table ≡ self.entry.pass.table) × (mid : View) × (laid : LaidAs) × (under : LaidAs) × Extends self.entry.pass.view (Free self.entry.req self.entry.target laid) (Role.Busy self.entry.req) mid × Extends mid (Free self.entry.req self.entry.source under) (Role.Busy self.entry.req) b.pass.view × ((found : ℕ) × IsStep (pipe_at self.entry.target) found self.entry.pass.view mid) × ((found : ℕ) × IsStep (pipe_at self.entry.source) found mid b.pass.view) × IsLaidOnce laid self.entry.req (lying self.entry.pass.view.seen self.entry.target) × IsLaidOnce under self.entry.req (lying self.entry.pass.view.seen self.entry.source)) }
         ensures lain { IfErr result (λ b. LaidAtBoth self.entry.pass.view b.pass.view self.entry.req self.entry.source self.entry.target b.woken) }
         ensures unanswered { IfErr result (λ b. (e : Entry) → IsPlaced (seen_of self.entry.pass) self.entry.req e → Unanswered self.entry.pass.view self.entry.req e) }
     {

@@ -2,7 +2,6 @@
 ghost use Rattle.std.specs.Prelude.{◌≡◌, ◌≤◌, ◌⊎◌, ◌++◌, ◌*◌, length, IfOk, IfErr};
 ghost use Rattle.history.specs.declared.event.Event.TheVariants.{Begin};
 ghost use Rattle.steps.specs.declared.line.Line.TheVariants.{Did};
-ghost use Rattle.steps.specs.declared.view.Role.TheVariants.{Busy as RoleBusy};
 ghost use Rattle.steps.specs.Cells.{total};
 ghost use Rattle.steps.specs.Rule.{Looks, Extends};
 ghost use Rattle.work.specs.Board.{Facts, IsOf};
@@ -116,7 +115,7 @@ impl Worker {
         req: Req,
     ) -> Result<Busy<'a>, Worker>
         requires on { IsOn words.now.table_id grid.now pipes self }
-        ensures begun { IfOk result (λ b. (b.req ≡ req) × (b.pass.table ≡ self.table) × Extends self.view (Did (Begin req)) (RoleBusy req) b.pass.view) }
+        ensures begun { IfOk result (λ b. (b.req ≡ req) × (b.pass.table ≡ self.table) × Extends self.view (Did (Begin req)) (Role.Busy req) b.pass.view) }
         ensures kept { (b : Facts) → IsOf b self → IfOk result (λ busy. IsOf b busy.pass) × IfErr result (λ w. IsOf b w) }
         ensures steps { IfOk result (λ b. Took self.view b.pass.view 1) }
         ensures took { IfOk result (λ b. b.took ≡ self.took) × IfErr result (λ w. w.took ≡ self.took) }

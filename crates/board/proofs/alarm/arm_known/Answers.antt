@@ -4,7 +4,7 @@ use Rattle.history.specs.History.{phase, submits, IsReplied}
 use Rattle.steps.specs.Journal.{events_of}
 use Rattle.work.specs.Passes.{pass_of}
 use Rattle.board.specs.declared.poller.Arming.TheVariants.{NotHeld}
-use Rattle.board.specs.declared.poller.Released.TheVariants.{NotHeld as Unreleased}
+use Rattle.board.specs.declared.poller.Released.{Released}
 use Rattle.board.specs.PollerRows.{Paid}
 use Rattle.board.specs.PollerTimers.{looks_at}
 use Rattle.board.specs.TimerCalls.{armed_by}
@@ -18,7 +18,7 @@ pub timer_in-found-requires-clause-born : goal.timer_in-found-requires-clause-bo
 timer_in-found-requires-clause-born c = let few = few_added c.args.board.now c.args.seat.now c.args.board.now.layout.cells c.args.req.ring c.args.row.now c.requires.ours c.requires.knows in let lt = c.requires.has in omega arith
 
 pub returns-then-not-is_held-clause-arms : goal.returns-then-not-is_held-clause-arms
-returns-then-not-is_held-clause-arms c = let b = c.args.board.now in let q = c.args.req in let s = c.args.seat.now in let t = c.timer_in-found.new.seat in let u = c.is_held.new.seat in let r = c.requires in let e = c.timer_in-found.ensures in let f = c.is_held.ensures in let w = watched_then b s t u e.watched f.watched in let p = paid_add s.me.0 t.me.0 u.me.0 2 1 (timer_paid s.me.0 t.me.0 c.timer_in-found.result e.steps) f.steps in arms_lost b q (pass_of s) (pass_of u) (decides_after b q s t u 0 2 Unreleased e.watched (timer_paid s.me.0 t.me.0 c.timer_in-found.result e.steps) (f.lost c.if-not-is_held.true))
+returns-then-not-is_held-clause-arms c = let b = c.args.board.now in let q = c.args.req in let s = c.args.seat.now in let t = c.timer_in-found.new.seat in let u = c.is_held.new.seat in let r = c.requires in let e = c.timer_in-found.ensures in let f = c.is_held.ensures in let w = watched_then b s t u e.watched f.watched in let p = paid_add s.me.0 t.me.0 u.me.0 2 1 (timer_paid s.me.0 t.me.0 c.timer_in-found.result e.steps) f.steps in arms_lost b q (pass_of s) (pass_of u) (decides_after b q s t u 0 2 Released.NotHeld e.watched (timer_paid s.me.0 t.me.0 c.timer_in-found.result e.steps) (f.lost c.if-not-is_held.true))
 
 pub returns-then-not-is_held-clause-knows : goal.returns-then-not-is_held-clause-knows
 returns-then-not-is_held-clause-knows c = let b = c.args.board.now in let q = c.args.req in let s = c.args.seat.now in let t = c.timer_in-found.new.seat in let u = c.is_held.new.seat in let r = c.requires in let e = c.timer_in-found.ensures in let f = c.is_held.ensures in let w = watched_then b s t u e.watched f.watched in let p = paid_add s.me.0 t.me.0 u.me.0 2 1 (timer_paid s.me.0 t.me.0 c.timer_in-found.result e.steps) f.steps in knows_on b s u w b.layout.cells q.ring c.args.row.now r.knows

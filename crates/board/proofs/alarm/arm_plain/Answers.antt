@@ -2,7 +2,7 @@ use Rattle.std.proofs.Common.{Some, None, sym, ◌∙◌, subst, arith}
 use Rattle.history.specs.History.{phase, IsReplied}
 use Rattle.steps.specs.Journal.{events_of}
 use Rattle.work.specs.Passes.{pass_of}
-use Rattle.board.specs.declared.poller.Released.TheVariants.{NotHeld as Unreleased}
+use Rattle.board.specs.declared.poller.Released.{Released}
 use Rattle.board.proofs.RowLaws.{knows_on}
 use Rattle.board.proofs.PlainRows.{plain_born, plain_may}
 use Rattle.board.proofs.TimersHeld.{clock_watched}
@@ -18,7 +18,7 @@ timer_in-found-requires-clause-born c =
 pub returns-then-not-is_held-clause-arms : goal.returns-then-not-is_held-clause-arms
 returns-then-not-is_held-clause-arms c =
     let b = c.args.board.now in let q = c.args.req in let s = c.args.seat.now in let t = c.timer_in-found.new.seat in let r = c.requires in let row = c.args.row.now in let e = c.timer_in-found.ensures in let born = plain_born b s q row r.knows r.plain r.ours in let u = c.is_held.new.seat in let f = c.is_held.ensures in let w = watched_then b s t u e.watched f.watched in let p = paid_add s.me.0 t.me.0 u.me.0 2 1 (timer_paid s.me.0 t.me.0 c.timer_in-found.result e.steps) f.steps in
-    arms_lost b q (pass_of s) (pass_of u) (decides_after b q s t u 0 2 Unreleased e.watched (timer_paid s.me.0 t.me.0 c.timer_in-found.result e.steps) (f.lost c.if-not-is_held.true))
+    arms_lost b q (pass_of s) (pass_of u) (decides_after b q s t u 0 2 Released.NotHeld e.watched (timer_paid s.me.0 t.me.0 c.timer_in-found.result e.steps) (f.lost c.if-not-is_held.true))
 
 pub returns-then-not-is_held-clause-steps : goal.returns-then-not-is_held-clause-steps
 returns-then-not-is_held-clause-steps c =

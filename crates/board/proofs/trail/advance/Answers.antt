@@ -9,7 +9,7 @@ use Rattle.history.specs.Chains.{IsChainBefore}
 use Rattle.steps.specs.Journal.{events_of}
 use Rattle.work.specs.Passes.{pass_of}
 use Rattle.board.specs.declared.trail.Round.{Round}
-use Rattle.board.specs.declared.trail.Gating.TheVariants.{Severed as NowSevered, Open as NowOpen, Linked as NowLinked, Shut as NowShut, Lost as NowLost}
+use Rattle.board.specs.declared.trail.Gating.{Gating}
 use Rattle.board.specs.declared.trail.Outcome.TheVariants.{Pending}
 use Rattle.board.specs.PollerRows.{Gated, Found, Watched, Watches, TellsOutcome, IsBlocked, FoundPending, IsUnended, IsNextLook, Advances}
 use Rattle.board.proofs.LastSteps.{alive_back}
@@ -26,7 +26,7 @@ Next = ℕ × Round
 pub returns-in-Severed : goal.returns-in-Severed
 returns-in-Severed c = let b = c.args.board.now in let q = c.args.req in let s = c.args.seat.now in let h = events_of s.me.0.seen in let k = c.requires.watches in
     (severed_found c.args.looked (watched_none b s c.requires.ours, k, is_severed q h (c.in-Severed.ensures.trailed (Park q ∷ h) q.ring k.knows.slots k.knows.stands k.parked (alive_back h q.ring q.k))), paid_none s.me.0 0, watches_waits b.layout.cells s.me.0.seen q c.args.row.now k) where
-      severed_found : (looked : Bool) → Gated c.args.board.now c.args.req c.args.seat.now c.args.seat.now c.args.row.now NowSevered → Found c.args.board.now c.args.req looked c.args.seat.now c.args.seat.now c.args.row.now NowSevered
+      severed_found : (looked : Bool) → Gated c.args.board.now c.args.req c.args.seat.now c.args.seat.now c.args.row.now Gating.Severed → Found c.args.board.now c.args.req looked c.args.seat.now c.args.seat.now c.args.row.now Gating.Severed
       severed_found true g = g
       severed_found false g = g
 
@@ -34,7 +34,7 @@ pub returns-in-Open : goal.returns-in-Open
 returns-in-Open c = let b = c.args.board.now in let q = c.args.req in let s = c.args.seat.now in let h = events_of s.me.0.seen in let k = c.requires.watches in
     let a = c.in-Open.ensures.trailed (Park q ∷ h) q.ring k.knows.slots k.knows.stands k.parked (alive_back h q.ring q.k) in
     (open_found c.args.looked (watched_none b s c.requires.ours, k, (λ v. a.0 (is_severed_back q h v)), open_was q h a.1), paid_none s.me.0 0, watches_waits b.layout.cells s.me.0.seen q c.args.row.now k) where
-      open_found : (looked : Bool) → Gated c.args.board.now c.args.req c.args.seat.now c.args.seat.now c.args.row.now NowOpen → Found c.args.board.now c.args.req looked c.args.seat.now c.args.seat.now c.args.row.now NowOpen
+      open_found : (looked : Bool) → Gated c.args.board.now c.args.req c.args.seat.now c.args.seat.now c.args.row.now Gating.Open → Found c.args.board.now c.args.req looked c.args.seat.now c.args.seat.now c.args.row.now Gating.Open
       open_found true g = g
       open_found false g = g
 
@@ -98,16 +98,16 @@ returns-in-Waits c =
           w'.next_look.ensures)
     ] where
       shut_found : (looked : Bool) → Watched c.args.board.now c.args.seat.now c.pass.new.seat → Watches c.args.board.now.layout.cells c.pass.new.seat.me.0.seen c.args.req c.pass.new.row → IsBlocked c.args.board.now.layout.cells c.args.req (pass_of c.args.seat.now) (pass_of c.pass.new.seat)
-          → (c.args.looked ≡ false → IsUnended c.args.board.now.layout.cells c.args.req (pass_of c.args.seat.now) (pass_of c.pass.new.seat)) → c.args.looked ≡ looked → Found c.args.board.now c.args.req looked c.args.seat.now c.pass.new.seat c.pass.new.row NowShut
+          → (c.args.looked ≡ false → IsUnended c.args.board.now.layout.cells c.args.req (pass_of c.args.seat.now) (pass_of c.pass.new.seat)) → c.args.looked ≡ looked → Found c.args.board.now c.args.req looked c.args.seat.now c.pass.new.seat c.pass.new.row Gating.Shut
       shut_found true w k x u is = (w, k, x)
       shut_found false w k x u is = (w, k, (x, u is))
 
-      linked_found : (looked : Bool) → Gated c.args.board.now c.args.req c.args.seat.now c.pass.new.seat c.pass.new.row NowLinked → Found c.args.board.now c.args.req looked c.args.seat.now c.pass.new.seat c.pass.new.row NowLinked
+      linked_found : (looked : Bool) → Gated c.args.board.now c.args.req c.args.seat.now c.pass.new.seat c.pass.new.row Gating.Linked → Found c.args.board.now c.args.req looked c.args.seat.now c.pass.new.seat c.pass.new.row Gating.Linked
       linked_found true g = g
       linked_found false g = g
 
 pub returns-in-Lost : goal.returns-in-Lost
 returns-in-Lost c = let e = c.in-Lost.ensures in let b = c.args.board.now in let s = c.args.seat.now in (lost_found c.args.looked (e.0, e.1, e.2), e.3, watches_waits b.layout.cells s.me.0.seen c.args.req c.args.row.now c.requires.watches) where
-  lost_found : (looked : Bool) → Gated c.args.board.now c.args.req c.args.seat.now c.pass.new.seat c.pass.new.row NowLost → Found c.args.board.now c.args.req looked c.args.seat.now c.pass.new.seat c.pass.new.row NowLost
+  lost_found : (looked : Bool) → Gated c.args.board.now c.args.req c.args.seat.now c.pass.new.seat c.pass.new.row Gating.Lost → Found c.args.board.now c.args.req looked c.args.seat.now c.pass.new.seat c.pass.new.row Gating.Lost
   lost_found true g = g
   lost_found false g = g

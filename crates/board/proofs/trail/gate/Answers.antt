@@ -1,7 +1,6 @@
 use Rattle.std.proofs.Common.{◌≡◌, ◌≤◌, ◌*◌, ◌+◌, ℕ, ap, arith}
 use Rattle.gates.specs.EntryRows.{waiting}
 use Rattle.board.specs.declared.trail.Gating.{Gating}
-use Rattle.board.specs.declared.trail.Gating.TheVariants.{Severed as NowSevered, Open as NowOpen, Linked as NowLinked, Shut as NowShut, Lost as NowLost}
 use Rattle.board.specs.PollerRows.{Paid, owed_back, looks_of, spared_by, costs_of}
 use Rattle.board.proofs.Watching.{born_on, watched_then, gated_found, unended_before, unended_after, paid_on, paid_with}
 use Rattle.board.proofs.trail.gate.Goals as goal
@@ -10,11 +9,11 @@ pub advance-requires-clause-born : goal.advance-requires-clause-born
 advance-requires-clause-born c = born_on c.args.board.now c.args.seat.now c.loop-gating.seat c.args.req.ring c.args.req.k c.loop-gating.invariant.watched c.requires.born
 
 costs_bound : (x : Gating) → costs_of x + spared_by x ≤ looks_of x + 2
-costs_bound NowShut = omega arith
-costs_bound NowSevered = omega arith
-costs_bound NowOpen = omega arith
-costs_bound NowLinked = omega arith
-costs_bound NowLost = omega arith
+costs_bound Gating.Shut = omega arith
+costs_bound Gating.Severed = omega arith
+costs_bound Gating.Open = omega arith
+costs_bound Gating.Linked = omega arith
+costs_bound Gating.Lost = omega arith
 
 pub returns-in-Decided : goal.returns-in-Decided
 returns-in-Decided c =

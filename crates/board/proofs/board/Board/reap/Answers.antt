@@ -5,7 +5,8 @@ use Rattle.history.specs.declared.event.Event.TheVariants.{Reap}
 use Rattle.history.specs.History.{phase, submits, replied, data_of}
 use Rattle.steps.specs.declared.line.Line.TheVariants.{Did, Lent}
 use Rattle.steps.specs.declared.view.Layout.{Layout}
-use Rattle.steps.specs.declared.view.Role.TheVariants.{Submitter as SubmitterRole, Lending}
+use Rattle.steps.specs.declared.view.Role.{Role}
+use Rattle.steps.specs.declared.view.Role.TheVariants.{Lending}
 use Rattle.steps.specs.declared.view.View.{View}
 use Rattle.steps.specs.Cells.{IsCell, request_at, facts_at, place_of, setup_of, over, IsParcel}
 use Rattle.steps.specs.Rule.{ExtendsTwice, IsDone, Shown}
@@ -53,11 +54,11 @@ returns-in-Done c = let e = c.look_at-word.ensures in let b = c.args.self.now in
     let at : request_at b.layout.cells s.cell s.generation ≡ c.args.req = subst (λ (K : List ℕ). request_at K s.cell s.generation ≡ c.args.req) grid c.in-Some.ensures.some.1 in
     let there : request_at p.view.layout.cells s.cell s.generation ≡ c.args.req = ap (λ (L : Layout). request_at L.cells s.cell s.generation) c.requires.layout_is ∙ at in
     let stands : Stands m.view.seen c.args.req c.told.result = subst (λ (r : Req). Stands m.view.seen r c.told.result) there (c.told.ensures.stands p.view.layout.cells m.view.seen s.cell e.shown) in
-    let role : p.view.role ≡ SubmitterRole c.args.req.ring = c.ring.ensures.role ∙ ap SubmitterRole (sym c.if-req-ring.false) in
+    let role : p.view.role ≡ Role.Submitter c.args.req.ring = c.ring.ensures.role ∙ ap Role.Submitter (sym c.if-req-ring.false) in
     let done : Stands m.view.seen c.args.req (Done c.in-Done.res) = subst (λ (z : Standing). Stands m.view.seen c.args.req z) c.in-Done.is stands in
     let q = c.reap-parcel.new.self in let z = c.reap-parcel.ensures.reaps in let km : IsOf b m = looked_of b p m c.requires e.table e.looks in let here : request_at m.view.layout.cells s.cell s.generation ≡ c.args.req = ap (λ (L : Layout). request_at L.cells s.cell s.generation) km.layout_is ∙ at in
-    let role' : m.view.role ≡ SubmitterRole c.args.req.ring = ap (λ (z : View). z.role) e.looks.is ∙ role in
-    let x : ExtendsTwice m.view (Lent c.args.req (facts_at s.cell) z.0) (Lending c.args.req) (Did (Reap c.args.req)) (SubmitterRole c.args.req.ring) q.view = subst (λ (r : Req). ExtendsTwice m.view (Lent r (facts_at s.cell) z.0) (Lending r) (Did (Reap r)) (SubmitterRole r.ring) q.view) here z.1 in
+    let role' : m.view.role ≡ Role.Submitter c.args.req.ring = ap (λ (z : View). z.role) e.looks.is ∙ role in
+    let x : ExtendsTwice m.view (Lent c.args.req (facts_at s.cell) z.0) (Lending c.args.req) (Did (Reap c.args.req)) (Role.Submitter c.args.req.ring) q.view = subst (λ (r : Req). ExtendsTwice m.view (Lent r (facts_at s.cell) z.0) (Lending r) (Did (Reap r)) (Role.Submitter r.ring) q.view) here z.1 in
     let goes : Goes b m (Reap c.args.req ∷ []) q = goes_twice b m q c.args.req (Lent c.args.req (facts_at s.cell) z.0) (Reap c.args.req) (λ h. refl) km c.reap-parcel.ensures.table role' refl x in
     let now = reaped_now m.view q.view c.args.req (facts_at s.cell) z.0 done.0 c.in-Done.res role' x done.1 in
     let f = c.reap-parcel.ensures.parcel in

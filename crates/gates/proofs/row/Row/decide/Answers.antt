@@ -1,7 +1,7 @@
 use Rattle.std.proofs.Common.{◌≡◌, ◌-◌, ℕ, Option, Some, false, cond, sym, ◌∙◌, subst}
 use Rattle.std.specs.List.{slice_get}
 use Rattle.gates.specs.declared.cell.Cell.{Cell}
-use Rattle.gates.specs.declared.gate.Asked.TheVariants.{Severed as severed_now}
+use Rattle.gates.specs.declared.gate.Asked.{Asked}
 use Rattle.gates.specs.EntryRows.{IsBar, place_by, asked_by, asked_of}
 use Rattle.gates.proofs.Lists.{one_some}
 use Rattle.gates.proofs.row.Row.decide.Goals as goal
@@ -12,5 +12,5 @@ returns-in-Some c = λ d at.
     let at' = subst (λ z. slice_get z.cells (c.args.k - z.lost) ≡ Some cell) c.self.view_is c.cell_at-cell.ensures in
     let placed = subst (λ z. place_by (c.args.k - z.lost) cell ≡ Some g) c.self.view_is (sym c.in-Some.ensures) in
     let is = subst (λ z. c.decide_by.result ≡ asked_by r g (c.args.k - z.lost) e.0) c.self.view_is e.2 in
-    subst (λ (x : Cell). (q : Option ℕ) × (x.behind.severed ≡ false → (g : ℕ) → place_by (c.args.k - r.lost) x ≡ Some g → IsBar r g q) × (c.decide_by.result ≡ cond x.behind.severed severed_now (asked_of r (c.args.k - r.lost) (place_by (c.args.k - r.lost) x) q)))
+    subst (λ (x : Cell). (q : Option ℕ) × (x.behind.severed ≡ false → (g : ℕ) → place_by (c.args.k - r.lost) x ≡ Some g → IsBar r g q) × (c.decide_by.result ≡ cond x.behind.severed Asked.Severed (asked_of r (c.args.k - r.lost) (place_by (c.args.k - r.lost) x) q)))
     (one_some cell d (sym at' ∙ at)) (e.0, (λ _ g' p. subst (λ z. IsBar r z e.0) (one_some g g' (sym placed ∙ p)) e.1), rw (c.if-cell.false, placed) is)

@@ -17,7 +17,7 @@ use Rattle.steps.specs.declared.parcel.Thing.TheVariants.{Full}
 use Rattle.steps.specs.declared.view.Role.TheVariants.{Idle}
 use Rattle.steps.specs.declared.view.View.{View}
 use Rattle.steps.specs.Journal.{events_of}
-use Rattle.claim.specs.declared.tag.Tag.TheVariants.{Running as RunningTag}
+use Rattle.claim.specs.declared.tag.Tag.{Tag}
 use Rattle.steps.specs.Cells.{request_at, claim_at, slot_at, word_of}
 use Rattle.steps.specs.Plays.{MayReply}
 use Rattle.steps.specs.Rule.{Extends, IsStep}
@@ -70,7 +70,7 @@ after-requires-clause-marked c = let own = c.self.inside in let b = own.task in 
 
 pub returns-clause-step : goal.returns-clause-step
 returns-clause-step c = let own = c.self.inside in let b = own.task in
-    (word_of RunningTag 0 b.generation 0, claim_at b.cell, subst (λ (z : View × View). IsStep (claim_at b.cell) (word_of RunningTag 0 b.generation 0) z.0 z.1) (λ k. (ap (λ (r : Running). r.pass.view) c.self.view_is k, ap (λ (p : Pass). p.view) (sym c.after.ensures) k)) c.reply.ensures.step)
+    (word_of Tag.Running 0 b.generation 0, claim_at b.cell, subst (λ (z : View × View). IsStep (claim_at b.cell) (word_of Tag.Running 0 b.generation 0) z.0 z.1) (λ k. (ap (λ (r : Running). r.pass.view) c.self.view_is k, ap (λ (p : Pass). p.view) (sym c.after.ensures) k)) c.reply.ensures.step)
 
 pub returns-clause-replied : goal.returns-clause-replied
 returns-clause-replied c = let own = c.self.inside in let b = own.task in let p : Parcel = with_asked c.self.invariant.0 own.asked in let i = c.self.invariant.1 in let res = to_z w32 (of_z w32 c.answer_without-res.result) in

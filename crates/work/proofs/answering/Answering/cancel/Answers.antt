@@ -1,7 +1,7 @@
 use Rattle.std.proofs.Common.{rules, ◌≡◌, ◌≢◌, ℕ, ◌*◌, ◌-◌, ◌<◌, ℤ, List, [], ◌∷◌, ◌++◌, length, vec_capacity, Some, sym, refl, ap, ◌∙◌, subst, arith, to_z, of_z, w32}
 use Rattle.std.proofs.lemmas.Int.{to_z-of_z}
 use Rattle.atomic_table.specs.Table.{rest}
-use Rattle.claim.specs.declared.tag.Tag.TheVariants.{Running as RunningTag}
+use Rattle.claim.specs.declared.tag.Tag.{Tag}
 use Rattle.entry.specs.Entry.{Entry}
 use Rattle.history.specs.declared.event.Event.{Event}
 use Rattle.history.specs.declared.event.Event.TheVariants.{Reply}
@@ -10,7 +10,8 @@ use Rattle.history.specs.Chains.{IsPlaced}
 use Rattle.steps.specs.declared.line.Line.TheVariants.{Did}
 use Rattle.steps.specs.declared.parcel.Parcel.{Parcel}
 use Rattle.steps.specs.declared.parcel.Thing.TheVariants.{Full}
-use Rattle.steps.specs.declared.view.Role.TheVariants.{Idle, Busy as RoleBusy}
+use Rattle.steps.specs.declared.view.Role.{Role}
+use Rattle.steps.specs.declared.view.Role.TheVariants.{Idle}
 use Rattle.steps.specs.declared.view.View.{View}
 use Rattle.steps.specs.Cells.{IsCell, cells_in, request_at, slot_at, word_of}
 use Rattle.steps.specs.Journal.{holder}
@@ -59,7 +60,7 @@ reply-requires-clause-fits c = let own = c.self.inside in let b = own.task in le
 pub reply-requires-clause-busy : goal.reply-requires-clause-busy
 reply-requires-clause-busy c = let own = c.self.inside in let b = own.task in let p : Parcel = with_asked c.self.invariant.0 own.asked in let i = c.self.invariant.1 in let h = c.hunt-res.ensures.hunted in
     let runs = by_runs b.req b.words.now.table_id own.seat.me.0 c.hunt-res.new.seat.me.0 h.own b.cell b.generation p b.pipes i.task.runs h.went in
-    runs.role ∙ ap RoleBusy (sym runs.req_is)
+    runs.role ∙ ap Role.Busy (sym runs.req_is)
 
 pub reply-requires-clause-bare : goal.reply-requires-clause-bare
 reply-requires-clause-bare c = let own = c.self.inside in let b = own.task in let p : Parcel = with_asked c.self.invariant.0 own.asked in let i = c.self.invariant.1 in let v : View = own.seat.me.0 in let w : View = c.hunt-res.new.seat.me.0 in let h = c.hunt-res.ensures.hunted in
@@ -135,4 +136,4 @@ returns-clause-steps c = let own = c.self.inside in let b = own.task in let p : 
     let few = subst (λ (L : List ℕ). FewerSteps v w b.req 4 (5 * cells_in L b.req.ring - 1)) (sym i.task.grid.cells_are) c.hunt-res.ensures.steps in
     let step = c.reply.ensures.step in
     subst (λ (k : Running × View). FewSteps k.0.pass.view k.1 4 (5 * cells_in k.0.pass.view.layout.cells k.0.req.ring)) (λ j. (c.self.view_is j, ap (λ (p : Pass). p.view) (sym c.after.ensures) j))
-    (few_replied v w n b.req b.cell b.generation (word_of RunningTag 0 b.generation 0) 4 (5 * cells - 1) (5 * cells) i.task.runs.req_is (omega arith) few step)
+    (few_replied v w n b.req b.cell b.generation (word_of Tag.Running 0 b.generation 0) 4 (5 * cells - 1) (5 * cells) i.task.runs.req_is (omega arith) few step)

@@ -12,7 +12,7 @@ use Rattle.steps.specs.Cells.{total}
 use Rattle.steps.specs.declared.line.Line.TheVariants.{Hold}
 use Rattle.steps.specs.declared.parcel.Thing.{Thing}
 use Rattle.steps.specs.declared.parcel.Thing.TheVariants.{Piped}
-use Rattle.steps.specs.declared.view.Role.TheVariants.{Busy as RoleBusy}
+use Rattle.steps.specs.declared.view.Role.{Role}
 use Rattle.steps.specs.declared.view.View.{View}
 use Rattle.steps.specs.Journal.{events_of}
 use Rattle.steps.specs.Plays.{Seated, HasAlone}
@@ -48,7 +48,7 @@ invariant_of-result c = let own = c.self.inside in let b = own.task in let p : P
 pub returns-then-not-hold-clause-busy : goal.returns-then-not-hold-clause-busy
 returns-then-not-hold-clause-busy c = let own = c.self.inside in let b = own.task in let p : Parcel = with_asked c.self.invariant.0 own.asked in let i = c.self.invariant.1 in let k = c.if-not-hold.ensures in let x = k.looks (λ e. true≢false (sym e)) in let m = k.missed (λ e. true≢false (sym e)) in let w : View = c.hold.new.seat.me.0 in
     subst (λ (r : Running). (b.req ≡ r.req) × (c.hold.new.seat.table_id ≡ r.pass.table) × Looks r.pass.view w × MissedPipe r.pass.view w c.args.pipe r.req) c.self.view_is
-    (refl, k.seat.0, x.0, (m.0, m.1, m.2, m.3, m.4, λ e. m.5 (ap (λ (z : View). z.role) x.0.is ∙ (i.task.runs.role ∙ ap RoleBusy (sym e)))))
+    (refl, k.seat.0, x.0, (m.0, m.1, m.2, m.3, m.4, λ e. m.5 (ap (λ (z : View). z.role) x.0.is ∙ (i.task.runs.role ∙ ap Role.Busy (sym e)))))
 
 pub exchange-thing-requires : goal.exchange-thing-requires
 exchange-thing-requires c = let own = c.self.inside in let b = own.task in let p : Parcel = with_asked c.self.invariant.0 own.asked in let i = c.self.invariant.1 in let k = c.if-not-hold.ensures in let h = (k.holds refl b.req i.task.runs.role).2 in

@@ -16,7 +16,8 @@ use Rattle.steps.specs.declared.line.Line.TheVariants.{Did, Free}
 use Rattle.steps.specs.declared.parcel.Parcel.{Parcel}
 use Rattle.steps.specs.declared.parcel.Thing.TheVariants.{Full, Piped}
 use Rattle.steps.specs.declared.parcel.WaitedPipe.{WaitedPipe}
-use Rattle.steps.specs.declared.view.Role.TheVariants.{Busy as RoleBusy, Leaving}
+use Rattle.steps.specs.declared.view.Role.{Role}
+use Rattle.steps.specs.declared.view.Role.TheVariants.{Leaving}
 use Rattle.steps.specs.declared.view.View.{View}
 use Rattle.steps.specs.Cells.{cells_in, request_at, claim_at, pipe_at, slot_at}
 use Rattle.steps.specs.Fairness.{MayLay}
@@ -46,7 +47,7 @@ answer_in-answer-requires-clause-full c = let own = c.self.inside in let b = own
 -- the pipe that the entry names is one of the board's
 pub free-requires-clause-busy : goal.free-requires-clause-busy
 free-requires-clause-busy c = let own = c.self.inside in let b = own.task in let p : Parcel = with_asked c.self.invariant.0 own.asked in let table = b.words.now.table_id in let v : View = own.seat.me.0 in let i = subst (IsHoldingSeat table b.grid.now own.seat b.cell b.generation b.req p b.pipes own.pipe own.waited) (sym c.deref_mut-found.ensures.value) c.self.invariant.1 in let w = c.answer_in-answer.ensures.answered p (parcel_first own.seat.me c.turn.new.self.me own.pipe (slot_at b.cell) (Some (Full p)) None i.out c.turn.ensures.2) in let new : WaitedPipe = record { pipe = c.answer_in-answer.new.pipe; lying = c.settle-laid.new.lying } in let m = pipe_in own.seat.me c.turn.new.self.me c.answer_in-answer.new.seat.me c.turn-2.new.self.me c.exchange.new.seat.me own.pipe (slot_at b.cell) (Some (Full p)) (Some (Full w.0)) (Some (Piped new)) i.out c.turn.ensures.2 w.1 c.turn-2.ensures.2 c.exchange.ensures.3 in
-    subst (λ (z : Seated). (r : _) × (z.0.role ≡ RoleBusy r) × (0 < z.0.parts) × HasAlone z.0.seen own.pipe r) (sym m) (b.req, i.task.runs.role, i.task.runs.parts, i.alone)
+    subst (λ (z : Seated). (r : _) × (z.0.role ≡ Role.Busy r) × (0 < z.0.parts) × HasAlone z.0.seen own.pipe r) (sym m) (b.req, i.task.runs.role, i.task.runs.parts, i.alone)
 
 -- there is no answer, so the request waits for the pipe
 pub free-requires-clause-pipe : goal.free-requires-clause-pipe
@@ -55,7 +56,7 @@ free-requires-clause-pipe c = let own = c.self.inside in let b = own.task in let
     λ q role. subst (λ (z : Seated × Req). HasPipeLaid z.0 own.pipe z.1 laid × MayLay z.0.0.layout.caps (events_of z.0.0.seen) z.1 own.pipe laid) (λ j. (sym m j, one_worker b.req q (sym i.task.runs.role ∙ (sym (ap (λ (z : Seated). z.0.role) m) ∙ role)) j)) there
 
 pub invariant_of-result : goal.invariant_of-result
-invariant_of-result c = let own = c.self.inside in let b = own.task in let p : Parcel = with_asked c.self.invariant.0 own.asked in let table = b.words.now.table_id in let v : View = own.seat.me.0 in let i = subst (IsHoldingSeat table b.grid.now own.seat b.cell b.generation b.req p b.pipes own.pipe own.waited) (sym c.deref_mut-found.ensures.value) c.self.invariant.1 in let w = c.answer_in-answer.ensures.answered p (parcel_first own.seat.me c.turn.new.self.me own.pipe (slot_at b.cell) (Some (Full p)) None i.out c.turn.ensures.2) in let new : WaitedPipe = record { pipe = c.answer_in-answer.new.pipe; lying = c.settle-laid.new.lying } in let m = pipe_in own.seat.me c.turn.new.self.me c.answer_in-answer.new.seat.me c.turn-2.new.self.me c.exchange.new.seat.me own.pipe (slot_at b.cell) (Some (Full p)) (Some (Full w.0)) (Some (Piped new)) i.out c.turn.ensures.2 w.1 c.turn-2.ensures.2 c.exchange.ensures.3 in let named = subst Named (sym c.self.view_is) c.requires.named in let a = subst (λ (z : Op × Option ℤ). Answered z.0 z.1 own.waited.pipe c.answer_in-answer.new.pipe p.buffer.items w.0.buffer.items) (λ j. (c.op.ensures j, c.in_default-answer.is j)) w.4 in let settled = subst (λ (z : Bool). Settled c.settle-laid.result b.req z own.waited.lying.items c.settle-laid.new.lying.items c.settle-laid.new.out.items) (c.is_some.ensures ∙ ap is_some c.in_default-answer.is) c.settle-laid.ensures.settled in let laid = c.settle-laid.result in let u : View = c.free.new.seat.me.0 in let frees = c.free.ensures.frees b.req (ap (λ (z : Seated). z.0.role) m ∙ i.task.runs.role) in let x = subst (λ (z : Seated). Extends z.0 (Free b.req own.pipe laid) (RoleBusy b.req) u) m frees.0 in
+invariant_of-result c = let own = c.self.inside in let b = own.task in let p : Parcel = with_asked c.self.invariant.0 own.asked in let table = b.words.now.table_id in let v : View = own.seat.me.0 in let i = subst (IsHoldingSeat table b.grid.now own.seat b.cell b.generation b.req p b.pipes own.pipe own.waited) (sym c.deref_mut-found.ensures.value) c.self.invariant.1 in let w = c.answer_in-answer.ensures.answered p (parcel_first own.seat.me c.turn.new.self.me own.pipe (slot_at b.cell) (Some (Full p)) None i.out c.turn.ensures.2) in let new : WaitedPipe = record { pipe = c.answer_in-answer.new.pipe; lying = c.settle-laid.new.lying } in let m = pipe_in own.seat.me c.turn.new.self.me c.answer_in-answer.new.seat.me c.turn-2.new.self.me c.exchange.new.seat.me own.pipe (slot_at b.cell) (Some (Full p)) (Some (Full w.0)) (Some (Piped new)) i.out c.turn.ensures.2 w.1 c.turn-2.ensures.2 c.exchange.ensures.3 in let named = subst Named (sym c.self.view_is) c.requires.named in let a = subst (λ (z : Op × Option ℤ). Answered z.0 z.1 own.waited.pipe c.answer_in-answer.new.pipe p.buffer.items w.0.buffer.items) (λ j. (c.op.ensures j, c.in_default-answer.is j)) w.4 in let settled = subst (λ (z : Bool). Settled c.settle-laid.result b.req z own.waited.lying.items c.settle-laid.new.lying.items c.settle-laid.new.out.items) (c.is_some.ensures ∙ ap is_some c.in_default-answer.is) c.settle-laid.ensures.settled in let laid = c.settle-laid.result in let u : View = c.free.new.seat.me.0 in let frees = c.free.ensures.frees b.req (ap (λ (z : Seated). z.0.role) m ∙ i.task.runs.role) in let x = subst (λ (z : Seated). Extends z.0 (Free b.req own.pipe laid) (Role.Busy b.req) u) m frees.0 in
     let old : Lists = c.deref_mut-found.result.now in let lists : Lists = record old { woken = c.settle-laid.new.out } in let k = known table b.grid.now own.seat b.cell b.generation b.req p b.pipes own.pipe own.waited c.deref_mut-found.result.now i named None new.pipe w.0.buffer.items a in
     let listed = task_lists table b.grid.now own.seat b.cell b.generation b.req p b.pipes old lists i.task (i.task.spare.0, i.task.spare.1, c.settle-laid.ensures.room.1 ∙ i.task.spare.2) refl in
     let same = task_parcel table b.grid.now own.seat b.cell b.generation b.req p b.pipes lists listed (with_asked w.0 own.asked) (λ j. (let z : Entry = record p.sqe { flags = (w.2 j).flags } in z)) w.3 k.buffer in (
@@ -68,11 +69,11 @@ invariant_of-result c = let own = c.self.inside in let b = own.task in let p : P
     )
 
 pub returns-in_default-answer-clause-waits : goal.returns-in_default-answer-clause-waits
-returns-in_default-answer-clause-waits c = let own = c.self.inside in let b = own.task in let p : Parcel = with_asked c.self.invariant.0 own.asked in let table = b.words.now.table_id in let v : View = own.seat.me.0 in let i = subst (IsHoldingSeat table b.grid.now own.seat b.cell b.generation b.req p b.pipes own.pipe own.waited) (sym c.deref_mut-found.ensures.value) c.self.invariant.1 in let w = c.answer_in-answer.ensures.answered p (parcel_first own.seat.me c.turn.new.self.me own.pipe (slot_at b.cell) (Some (Full p)) None i.out c.turn.ensures.2) in let new : WaitedPipe = record { pipe = c.answer_in-answer.new.pipe; lying = c.settle-laid.new.lying } in let m = pipe_in own.seat.me c.turn.new.self.me c.answer_in-answer.new.seat.me c.turn-2.new.self.me c.exchange.new.seat.me own.pipe (slot_at b.cell) (Some (Full p)) (Some (Full w.0)) (Some (Piped new)) i.out c.turn.ensures.2 w.1 c.turn-2.ensures.2 c.exchange.ensures.3 in let named = subst Named (sym c.self.view_is) c.requires.named in let a = subst (λ (z : Op × Option ℤ). Answered z.0 z.1 own.waited.pipe c.answer_in-answer.new.pipe p.buffer.items w.0.buffer.items) (λ j. (c.op.ensures j, c.in_default-answer.is j)) w.4 in let settled = subst (λ (z : Bool). Settled c.settle-laid.result b.req z own.waited.lying.items c.settle-laid.new.lying.items c.settle-laid.new.out.items) (c.is_some.ensures ∙ ap is_some c.in_default-answer.is) c.settle-laid.ensures.settled in let laid = c.settle-laid.result in let u : View = c.free.new.seat.me.0 in let frees = c.free.ensures.frees b.req (ap (λ (z : Seated). z.0.role) m ∙ i.task.runs.role) in let x = subst (λ (z : Seated). Extends z.0 (Free b.req own.pipe laid) (RoleBusy b.req) u) m frees.0 in
+returns-in_default-answer-clause-waits c = let own = c.self.inside in let b = own.task in let p : Parcel = with_asked c.self.invariant.0 own.asked in let table = b.words.now.table_id in let v : View = own.seat.me.0 in let i = subst (IsHoldingSeat table b.grid.now own.seat b.cell b.generation b.req p b.pipes own.pipe own.waited) (sym c.deref_mut-found.ensures.value) c.self.invariant.1 in let w = c.answer_in-answer.ensures.answered p (parcel_first own.seat.me c.turn.new.self.me own.pipe (slot_at b.cell) (Some (Full p)) None i.out c.turn.ensures.2) in let new : WaitedPipe = record { pipe = c.answer_in-answer.new.pipe; lying = c.settle-laid.new.lying } in let m = pipe_in own.seat.me c.turn.new.self.me c.answer_in-answer.new.seat.me c.turn-2.new.self.me c.exchange.new.seat.me own.pipe (slot_at b.cell) (Some (Full p)) (Some (Full w.0)) (Some (Piped new)) i.out c.turn.ensures.2 w.1 c.turn-2.ensures.2 c.exchange.ensures.3 in let named = subst Named (sym c.self.view_is) c.requires.named in let a = subst (λ (z : Op × Option ℤ). Answered z.0 z.1 own.waited.pipe c.answer_in-answer.new.pipe p.buffer.items w.0.buffer.items) (λ j. (c.op.ensures j, c.in_default-answer.is j)) w.4 in let settled = subst (λ (z : Bool). Settled c.settle-laid.result b.req z own.waited.lying.items c.settle-laid.new.lying.items c.settle-laid.new.out.items) (c.is_some.ensures ∙ ap is_some c.in_default-answer.is) c.settle-laid.ensures.settled in let laid = c.settle-laid.result in let u : View = c.free.new.seat.me.0 in let frees = c.free.ensures.frees b.req (ap (λ (z : Seated). z.0.role) m ∙ i.task.runs.role) in let x = subst (λ (z : Seated). Extends z.0 (Free b.req own.pipe laid) (Role.Busy b.req) u) m frees.0 in
     let out : List Req = c.deref_mut-found.result.now.source.items ++ c.settle-laid.new.out.items in
-    let down = laid_down v u b.req own.pipe i.task.runs.role (pipe_there table b.grid.now own.seat b.cell b.generation b.req p b.pipes own.pipe own.waited c.deref_mut-found.result.now i named) i.alone.0 (Free b.req own.pipe laid) (RoleBusy b.req) x laid out refl (subst (λ (rs : List Req). LiesIn (lays laid b.req rs) b.req) i.lying_is.0 settled.2) (ap (λ (l : List Req). l ++ c.settle-laid.new.out.items) i.idle.0 ∙ (settled.1 ∙ ap (goes_out laid) i.lying_is.0)) in
+    let down = laid_down v u b.req own.pipe i.task.runs.role (pipe_there table b.grid.now own.seat b.cell b.generation b.req p b.pipes own.pipe own.waited c.deref_mut-found.result.now i named) i.alone.0 (Free b.req own.pipe laid) (Role.Busy b.req) x laid out refl (subst (λ (rs : List Req). LiesIn (lays laid b.req rs) b.req) i.lying_is.0 settled.2) (ap (λ (l : List Req). l ++ c.settle-laid.new.out.items) i.idle.0 ∙ (settled.1 ∙ ap (goes_out laid) i.lying_is.0)) in
     let step = subst (λ (z : Seated). (found : ℕ) × IsStep (pipe_at own.pipe) found z.0 u) m c.free.ensures.step in
-    subst (λ (h : Holding). (b.req ≡ h.req) × (c.free.new.seat.table_id ≡ h.pass.table) × (how : Laid) × Extends h.pass.view (Free h.req h.pipe how) (RoleBusy h.req) u × LaidDown h.pass.view u h.req h.pipe out × ((found : ℕ) × IsStep (pipe_at h.pipe) found h.pass.view u)) c.self.view_is
+    subst (λ (h : Holding). (b.req ≡ h.req) × (c.free.new.seat.table_id ≡ h.pass.table) × (how : Laid) × Extends h.pass.view (Free h.req h.pipe how) (Role.Busy h.req) u × LaidDown h.pass.view u h.req h.pipe out × ((found : ℕ) × IsStep (pipe_at h.pipe) found h.pass.view u)) c.self.view_is
     (refl, c.free.ensures.seat.0.0 ∙ (c.exchange.ensures.0 ∙ (c.turn-2.ensures.0 ∙ (c.answer_in-answer.ensures.seat.0 ∙ c.turn.ensures.0))), laid, x, down, step)
 
 pub returns-in_default-answer-clause-unanswered : goal.returns-in_default-answer-clause-unanswered

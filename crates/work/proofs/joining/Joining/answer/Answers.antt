@@ -21,7 +21,8 @@ use Rattle.steps.specs.declared.parcel.Parcel.{Parcel}
 use Rattle.steps.specs.declared.parcel.WaitedPipe.{WaitedPipe}
 use Rattle.steps.specs.declared.parcel.Thing.TheVariants.{Full, Piped}
 use Rattle.steps.specs.declared.view.Layout.{Layout}
-use Rattle.steps.specs.declared.view.Role.TheVariants.{Busy as RoleBusy, Leaving}
+use Rattle.steps.specs.declared.view.Role.{Role}
+use Rattle.steps.specs.declared.view.Role.TheVariants.{Leaving}
 use Rattle.steps.specs.declared.view.View.{View}
 use Rattle.steps.specs.Journal.{events_of, goes_out, lays, lying}
 use Rattle.steps.specs.Cells.{setup_of, cells_in, total, request_at, claim_at, pipe_at, slot_at}
@@ -43,7 +44,7 @@ use Rattle.work.proofs.joining.Joining.answer.Goals as goal
 -- where there is no answer, the request waits for both pipes: the target is given back, and then the source
 pub free_one-requires-clause-busy : goal.free_one-requires-clause-busy
 free_one-requires-clause-busy c = let own = c.self.inside in let b = own.task in let p : Parcel = with_asked c.self.invariant.0 own.asked in let i = subst (IsJoiningSeat b.words.now.table_id b.grid.now own.seat b.cell b.generation b.req p b.pipes own.source own.target own.from own.into) (sym c.deref_mut-found.ensures.value) c.self.invariant.1 in let v : View = own.seat.me.0 in let table = b.words.now.table_id in
-    subst (λ (z : Seated). (r : _) × (kept : ℕ) × (z.0.role ≡ RoleBusy r) × (kept < length z.0.layout.caps) × HasBoth z.0.seen own.target kept r) (sym c.exchange.ensures.3)
+    subst (λ (z : Seated). (r : _) × (kept : ℕ) × (z.0.role ≡ Role.Busy r) × (kept < length z.0.layout.caps) × HasBoth z.0.seen own.target kept r) (sym c.exchange.ensures.3)
     (b.req, own.source, i.task.runs.role, subst (λ (n : ℕ). own.source < n) (sym i.task.runs.pipes_are.0) i.named.source_there, both_turned v.seen own.source own.target b.req i.both)
 
 pub free_one-requires-clause-pipe : goal.free_one-requires-clause-pipe
@@ -53,16 +54,16 @@ free_one-requires-clause-pipe c = let own = c.self.inside in let b = own.task in
     ((into, refl, piped_in v.layout own.target into _ _ is (t.0 ∙ ap (lays laid b.req) i.target_lies.0, room.1)), may_lay v.layout.caps (events_of v.seen) b.req own.target laid waits.1)
 
 pub free-requires-clause-fits : goal.free-requires-clause-fits
-free-requires-clause-fits c = let own = c.self.inside in let b = own.task in let p : Parcel = with_asked c.self.invariant.0 own.asked in let i = subst (IsJoiningSeat b.words.now.table_id b.grid.now own.seat b.cell b.generation b.req p b.pipes own.source own.target own.from own.into) (sym c.deref_mut-found.ensures.value) c.self.invariant.1 in let v : View = own.seat.me.0 in let table = b.words.now.table_id in let laid = c.settle_once-laid.result in let m = c.exchange.ensures.3 in let n : View = c.free_one.new.seat.me.0 in let f = c.free_one.ensures.frees b.req own.source (ap (λ (z : Seated). z.0.role) m ∙ i.task.runs.role) (subst (λ (z : Seated). HasBoth z.0.seen own.target own.source b.req) (sym m) (both_turned v.seen own.source own.target b.req i.both)) in let y = subst (λ (z : Seated). Extends z.0 (Free b.req own.target laid) (RoleBusy b.req) n) m f.0 in let role = role_after v n (Free b.req own.target laid) (RoleBusy b.req) y in let layout = layout_after v n (Free b.req own.target laid) (RoleBusy b.req) y in let l = c.exchange-in_default-answer.ensures.3 in let same = subst (λ (z : Seated). IsSamePipe z.0 n own.source) m f.2 in let s = i.named.source_there in let a = i.task.runs.pipes_are in let h = i.task.runs.fits in
+free-requires-clause-fits c = let own = c.self.inside in let b = own.task in let p : Parcel = with_asked c.self.invariant.0 own.asked in let i = subst (IsJoiningSeat b.words.now.table_id b.grid.now own.seat b.cell b.generation b.req p b.pipes own.source own.target own.from own.into) (sym c.deref_mut-found.ensures.value) c.self.invariant.1 in let v : View = own.seat.me.0 in let table = b.words.now.table_id in let laid = c.settle_once-laid.result in let m = c.exchange.ensures.3 in let n : View = c.free_one.new.seat.me.0 in let f = c.free_one.ensures.frees b.req own.source (ap (λ (z : Seated). z.0.role) m ∙ i.task.runs.role) (subst (λ (z : Seated). HasBoth z.0.seen own.target own.source b.req) (sym m) (both_turned v.seen own.source own.target b.req i.both)) in let y = subst (λ (z : Seated). Extends z.0 (Free b.req own.target laid) (Role.Busy b.req) n) m f.0 in let role = role_after v n (Free b.req own.target laid) (Role.Busy b.req) y in let layout = layout_after v n (Free b.req own.target laid) (Role.Busy b.req) y in let l = c.exchange-in_default-answer.ensures.3 in let same = subst (λ (z : Seated). IsSamePipe z.0 n own.source) m f.2 in let s = i.named.source_there in let a = i.task.runs.pipes_are in let h = i.task.runs.fits in
     let table_is = c.exchange-in_default-answer.ensures.0 ∙ (c.free_one.ensures.seat.0.0 ∙ (c.exchange.ensures.0 ∙ i.task.table_is)) in
     (table_is, omega arith, subst (λ (L : Layout). own.source < length L.caps) (sym (ap (λ (z : Seated). z.0.layout) l ∙ layout)) (subst (λ (k : ℕ). own.source < k) (sym a.0) s), omega arith)
 
 pub free-requires-clause-busy : goal.free-requires-clause-busy
-free-requires-clause-busy c = let own = c.self.inside in let b = own.task in let p : Parcel = with_asked c.self.invariant.0 own.asked in let i = subst (IsJoiningSeat b.words.now.table_id b.grid.now own.seat b.cell b.generation b.req p b.pipes own.source own.target own.from own.into) (sym c.deref_mut-found.ensures.value) c.self.invariant.1 in let v : View = own.seat.me.0 in let table = b.words.now.table_id in let laid = c.settle_once-laid.result in let m = c.exchange.ensures.3 in let n : View = c.free_one.new.seat.me.0 in let f = c.free_one.ensures.frees b.req own.source (ap (λ (z : Seated). z.0.role) m ∙ i.task.runs.role) (subst (λ (z : Seated). HasBoth z.0.seen own.target own.source b.req) (sym m) (both_turned v.seen own.source own.target b.req i.both)) in let y = subst (λ (z : Seated). Extends z.0 (Free b.req own.target laid) (RoleBusy b.req) n) m f.0 in let role = role_after v n (Free b.req own.target laid) (RoleBusy b.req) y in let layout = layout_after v n (Free b.req own.target laid) (RoleBusy b.req) y in let l = c.exchange-in_default-answer.ensures.3 in let same = subst (λ (z : Seated). IsSamePipe z.0 n own.source) m f.2 in
-    subst (λ (z : Seated). (r : _) × (z.0.role ≡ RoleBusy r) × (0 < z.0.parts) × HasAlone z.0.seen own.source r) (sym l) (b.req, role, subst (λ (k : ℕ). 0 < k) (sym (parts_after v n (Free b.req own.target laid) (RoleBusy b.req) y)) i.task.runs.parts, f.1)
+free-requires-clause-busy c = let own = c.self.inside in let b = own.task in let p : Parcel = with_asked c.self.invariant.0 own.asked in let i = subst (IsJoiningSeat b.words.now.table_id b.grid.now own.seat b.cell b.generation b.req p b.pipes own.source own.target own.from own.into) (sym c.deref_mut-found.ensures.value) c.self.invariant.1 in let v : View = own.seat.me.0 in let table = b.words.now.table_id in let laid = c.settle_once-laid.result in let m = c.exchange.ensures.3 in let n : View = c.free_one.new.seat.me.0 in let f = c.free_one.ensures.frees b.req own.source (ap (λ (z : Seated). z.0.role) m ∙ i.task.runs.role) (subst (λ (z : Seated). HasBoth z.0.seen own.target own.source b.req) (sym m) (both_turned v.seen own.source own.target b.req i.both)) in let y = subst (λ (z : Seated). Extends z.0 (Free b.req own.target laid) (Role.Busy b.req) n) m f.0 in let role = role_after v n (Free b.req own.target laid) (Role.Busy b.req) y in let layout = layout_after v n (Free b.req own.target laid) (Role.Busy b.req) y in let l = c.exchange-in_default-answer.ensures.3 in let same = subst (λ (z : Seated). IsSamePipe z.0 n own.source) m f.2 in
+    subst (λ (z : Seated). (r : _) × (z.0.role ≡ Role.Busy r) × (0 < z.0.parts) × HasAlone z.0.seen own.source r) (sym l) (b.req, role, subst (λ (k : ℕ). 0 < k) (sym (parts_after v n (Free b.req own.target laid) (Role.Busy b.req) y)) i.task.runs.parts, f.1)
 
 pub free-requires-clause-pipe : goal.free-requires-clause-pipe
-free-requires-clause-pipe c = let own = c.self.inside in let b = own.task in let p : Parcel = with_asked c.self.invariant.0 own.asked in let i = subst (IsJoiningSeat b.words.now.table_id b.grid.now own.seat b.cell b.generation b.req p b.pipes own.source own.target own.from own.into) (sym c.deref_mut-found.ensures.value) c.self.invariant.1 in let v : View = own.seat.me.0 in let table = b.words.now.table_id in let ends = subst (λ (z : Op × ℕ). UsesBoth z.0 z.1 own.source own.target) (λ j. (sym c.op.ensures j, sym i.task.runs.pipes_are.0 j)) i.named in let k = subst (λ (o : Option ℤ). AnsweredBoth c.op.result o own.from.pipe c.answer_both-answer.new.source own.into.pipe c.answer_both-answer.new.target) c.in_default-answer.is c.answer_both-answer.ensures v.layout.caps (events_of v.seen) b.req own.source own.target ends i.source_is (sound (setup_of v.layout) (events_of v.seen) own.source i.task.runs.legal) i.target_is (sound (setup_of v.layout) (events_of v.seen) own.target i.task.runs.legal) in let used = uses_joined p.sqe.op own.source own.target i.named.joins in let s = subst (λ (z : Bool). Settled c.settle_once-under.result b.req z own.from.lying.items c.settle_once-under.new.lying.items c.settle_once-under.new.out.items) (c.is_some-answered.ensures ∙ ap is_some c.in_default-answer.is) c.settle_once-under.ensures.settled in let t = subst (λ (z : Bool). Settled c.settle_once-laid.result b.req z own.into.lying.items c.settle_once-laid.new.lying.items c.settle_once-laid.new.out.items) (c.is_some-answered.ensures ∙ ap is_some c.in_default-answer.is) c.settle_once-laid.ensures.settled in let from : WaitedPipe = record { pipe = c.answer_both-answer.new.source; lying = c.settle_once-under.new.lying } in let into : WaitedPipe = record { pipe = c.answer_both-answer.new.target; lying = c.settle_once-laid.new.lying } in let room = (let f : vec_capacity c.settle_once-under.new.lying ≡ total v.layout.cells = c.settle_once-under.ensures.room.0 ∙ (i.source_lies.1 ∙ ap total (sym i.task.grid.cells_are)) in let g : vec_capacity c.settle_once-laid.new.lying ≡ total v.layout.cells = c.settle_once-laid.ensures.room.0 ∙ (i.target_lies.1 ∙ ap total (sym i.task.grid.cells_are)) in let both : (vec_capacity c.settle_once-under.new.lying ≡ total v.layout.cells) × (vec_capacity c.settle_once-laid.new.lying ≡ total v.layout.cells) = (f, g) in both) in let placed = subst (λ (e : Entry). IsPlaced (events_of v.seen) b.req e) (run_piped p.sqe own.source used.0) (runs_placed table v v b.cell b.generation b.req p b.pipes i.task.runs) in let none = λ (res : ℤ) (d : List ℕ) (a : OpAnswers v.layout.caps (events_of v.seen) b.req p.sqe.op res d). k.none res d (subst (λ (o : Op). OpAnswers v.layout.caps (events_of v.seen) b.req o res d) (sym c.op.ensures) a) in let waits : HasWaited v.layout.caps b.req own.source (events_of v.seen) × HasWaited v.layout.caps b.req own.target (events_of v.seen) = (waited_now v.layout.caps b.req own.source (events_of v.seen) (p.sqe, placed, used.0, none), waited_now v.layout.caps b.req own.target (events_of v.seen) (p.sqe, placed, used.1, none)) in let laid = c.settle_once-laid.result in let m = c.exchange.ensures.3 in let n : View = c.free_one.new.seat.me.0 in let f = c.free_one.ensures.frees b.req own.source (ap (λ (z : Seated). z.0.role) m ∙ i.task.runs.role) (subst (λ (z : Seated). HasBoth z.0.seen own.target own.source b.req) (sym m) (both_turned v.seen own.source own.target b.req i.both)) in let y = subst (λ (z : Seated). Extends z.0 (Free b.req own.target laid) (RoleBusy b.req) n) m f.0 in let role = role_after v n (Free b.req own.target laid) (RoleBusy b.req) y in let layout = layout_after v n (Free b.req own.target laid) (RoleBusy b.req) y in let l = c.exchange-in_default-answer.ensures.3 in let same = subst (λ (z : Seated). IsSamePipe z.0 n own.source) m f.2 in let under = c.settle_once-under.result in
+free-requires-clause-pipe c = let own = c.self.inside in let b = own.task in let p : Parcel = with_asked c.self.invariant.0 own.asked in let i = subst (IsJoiningSeat b.words.now.table_id b.grid.now own.seat b.cell b.generation b.req p b.pipes own.source own.target own.from own.into) (sym c.deref_mut-found.ensures.value) c.self.invariant.1 in let v : View = own.seat.me.0 in let table = b.words.now.table_id in let ends = subst (λ (z : Op × ℕ). UsesBoth z.0 z.1 own.source own.target) (λ j. (sym c.op.ensures j, sym i.task.runs.pipes_are.0 j)) i.named in let k = subst (λ (o : Option ℤ). AnsweredBoth c.op.result o own.from.pipe c.answer_both-answer.new.source own.into.pipe c.answer_both-answer.new.target) c.in_default-answer.is c.answer_both-answer.ensures v.layout.caps (events_of v.seen) b.req own.source own.target ends i.source_is (sound (setup_of v.layout) (events_of v.seen) own.source i.task.runs.legal) i.target_is (sound (setup_of v.layout) (events_of v.seen) own.target i.task.runs.legal) in let used = uses_joined p.sqe.op own.source own.target i.named.joins in let s = subst (λ (z : Bool). Settled c.settle_once-under.result b.req z own.from.lying.items c.settle_once-under.new.lying.items c.settle_once-under.new.out.items) (c.is_some-answered.ensures ∙ ap is_some c.in_default-answer.is) c.settle_once-under.ensures.settled in let t = subst (λ (z : Bool). Settled c.settle_once-laid.result b.req z own.into.lying.items c.settle_once-laid.new.lying.items c.settle_once-laid.new.out.items) (c.is_some-answered.ensures ∙ ap is_some c.in_default-answer.is) c.settle_once-laid.ensures.settled in let from : WaitedPipe = record { pipe = c.answer_both-answer.new.source; lying = c.settle_once-under.new.lying } in let into : WaitedPipe = record { pipe = c.answer_both-answer.new.target; lying = c.settle_once-laid.new.lying } in let room = (let f : vec_capacity c.settle_once-under.new.lying ≡ total v.layout.cells = c.settle_once-under.ensures.room.0 ∙ (i.source_lies.1 ∙ ap total (sym i.task.grid.cells_are)) in let g : vec_capacity c.settle_once-laid.new.lying ≡ total v.layout.cells = c.settle_once-laid.ensures.room.0 ∙ (i.target_lies.1 ∙ ap total (sym i.task.grid.cells_are)) in let both : (vec_capacity c.settle_once-under.new.lying ≡ total v.layout.cells) × (vec_capacity c.settle_once-laid.new.lying ≡ total v.layout.cells) = (f, g) in both) in let placed = subst (λ (e : Entry). IsPlaced (events_of v.seen) b.req e) (run_piped p.sqe own.source used.0) (runs_placed table v v b.cell b.generation b.req p b.pipes i.task.runs) in let none = λ (res : ℤ) (d : List ℕ) (a : OpAnswers v.layout.caps (events_of v.seen) b.req p.sqe.op res d). k.none res d (subst (λ (o : Op). OpAnswers v.layout.caps (events_of v.seen) b.req o res d) (sym c.op.ensures) a) in let waits : HasWaited v.layout.caps b.req own.source (events_of v.seen) × HasWaited v.layout.caps b.req own.target (events_of v.seen) = (waited_now v.layout.caps b.req own.source (events_of v.seen) (p.sqe, placed, used.0, none), waited_now v.layout.caps b.req own.target (events_of v.seen) (p.sqe, placed, used.1, none)) in let laid = c.settle_once-laid.result in let m = c.exchange.ensures.3 in let n : View = c.free_one.new.seat.me.0 in let f = c.free_one.ensures.frees b.req own.source (ap (λ (z : Seated). z.0.role) m ∙ i.task.runs.role) (subst (λ (z : Seated). HasBoth z.0.seen own.target own.source b.req) (sym m) (both_turned v.seen own.source own.target b.req i.both)) in let y = subst (λ (z : Seated). Extends z.0 (Free b.req own.target laid) (Role.Busy b.req) n) m f.0 in let role = role_after v n (Free b.req own.target laid) (Role.Busy b.req) y in let layout = layout_after v n (Free b.req own.target laid) (Role.Busy b.req) y in let l = c.exchange-in_default-answer.ensures.3 in let same = subst (λ (z : Seated). IsSamePipe z.0 n own.source) m f.2 in let under = c.settle_once-under.result in
     let was = subst (λ (x : Conduit). IsPipe (slice_index v.layout.caps own.source) x (flow (events_of v.seen) own.source)) (sym k.source_is) i.source_is in
     let is = pipe_still v n own.source c.answer_both-answer.new.source layout same was in let waits' = f.3 (subst (λ (z : Seated). HasWaited z.0.layout.caps b.req own.source (events_of z.0.seen)) (sym m) waits.0) in
     let waited = subst (λ (L : Layout). HasWaited L.caps b.req own.source (events_of n.seen)) (ap (λ (z : Seated). z.0.layout) m ∙ sym layout) waits' in
@@ -71,7 +72,7 @@ free-requires-clause-pipe c = let own = c.self.inside in let b = own.task in let
     ((from, refl, piped_in n.layout own.source from _ _ is lies), may_lay n.layout.caps (events_of n.seen) b.req own.source under waited)
 
 pub invariant_of-result : goal.invariant_of-result
-invariant_of-result c = let own = c.self.inside in let b = own.task in let p : Parcel = with_asked c.self.invariant.0 own.asked in let i = subst (IsJoiningSeat b.words.now.table_id b.grid.now own.seat b.cell b.generation b.req p b.pipes own.source own.target own.from own.into) (sym c.deref_mut-found.ensures.value) c.self.invariant.1 in let v : View = own.seat.me.0 in let table = b.words.now.table_id in let laid = c.settle_once-laid.result in let m = c.exchange.ensures.3 in let n : View = c.free_one.new.seat.me.0 in let f = c.free_one.ensures.frees b.req own.source (ap (λ (z : Seated). z.0.role) m ∙ i.task.runs.role) (subst (λ (z : Seated). HasBoth z.0.seen own.target own.source b.req) (sym m) (both_turned v.seen own.source own.target b.req i.both)) in let y = subst (λ (z : Seated). Extends z.0 (Free b.req own.target laid) (RoleBusy b.req) n) m f.0 in let role = role_after v n (Free b.req own.target laid) (RoleBusy b.req) y in let layout = layout_after v n (Free b.req own.target laid) (RoleBusy b.req) y in let l = c.exchange-in_default-answer.ensures.3 in let same = subst (λ (z : Seated). IsSamePipe z.0 n own.source) m f.2 in let under = c.settle_once-under.result in let w : View = c.free.new.seat.me.0 in let g = c.free.ensures.frees b.req (ap (λ (z : Seated). z.0.role) l ∙ role) in let x = subst (λ (z : Seated). Extends z.0 (Free b.req own.source under) (RoleBusy b.req) w) l g.0 in
+invariant_of-result c = let own = c.self.inside in let b = own.task in let p : Parcel = with_asked c.self.invariant.0 own.asked in let i = subst (IsJoiningSeat b.words.now.table_id b.grid.now own.seat b.cell b.generation b.req p b.pipes own.source own.target own.from own.into) (sym c.deref_mut-found.ensures.value) c.self.invariant.1 in let v : View = own.seat.me.0 in let table = b.words.now.table_id in let laid = c.settle_once-laid.result in let m = c.exchange.ensures.3 in let n : View = c.free_one.new.seat.me.0 in let f = c.free_one.ensures.frees b.req own.source (ap (λ (z : Seated). z.0.role) m ∙ i.task.runs.role) (subst (λ (z : Seated). HasBoth z.0.seen own.target own.source b.req) (sym m) (both_turned v.seen own.source own.target b.req i.both)) in let y = subst (λ (z : Seated). Extends z.0 (Free b.req own.target laid) (Role.Busy b.req) n) m f.0 in let role = role_after v n (Free b.req own.target laid) (Role.Busy b.req) y in let layout = layout_after v n (Free b.req own.target laid) (Role.Busy b.req) y in let l = c.exchange-in_default-answer.ensures.3 in let same = subst (λ (z : Seated). IsSamePipe z.0 n own.source) m f.2 in let under = c.settle_once-under.result in let w : View = c.free.new.seat.me.0 in let g = c.free.ensures.frees b.req (ap (λ (z : Seated). z.0.role) l ∙ role) in let x = subst (λ (z : Seated). Extends z.0 (Free b.req own.source under) (Role.Busy b.req) w) l g.0 in
     let old : Lists = c.deref_mut-found.result.now in let lists : Lists = record old { source = c.settle_once-under.new.out; woken = c.settle_once-laid.new.out } in
     let listed = task_lists table b.grid.now own.seat b.cell b.generation b.req p b.pipes old lists i.task (i.task.spare.0, c.settle_once-under.ensures.room.1 ∙ i.task.spare.1, c.settle_once-laid.ensures.room.1 ∙ i.task.spare.2) refl in
     let one = task_on table b.grid.now own.seat c.free_one.new.seat b.cell b.generation b.req p b.pipes lists listed (c.free_one.ensures.seat.0.0 ∙ c.exchange.ensures.0) (Free b.req own.target laid) (λ j. refl) y in (
@@ -84,20 +85,20 @@ invariant_of-result c = let own = c.self.inside in let b = own.task in let p : P
     )
 
 pub returns-in_default-answer-clause-waits : goal.returns-in_default-answer-clause-waits
-returns-in_default-answer-clause-waits c = let own = c.self.inside in let b = own.task in let p : Parcel = with_asked c.self.invariant.0 own.asked in let i = subst (IsJoiningSeat b.words.now.table_id b.grid.now own.seat b.cell b.generation b.req p b.pipes own.source own.target own.from own.into) (sym c.deref_mut-found.ensures.value) c.self.invariant.1 in let v : View = own.seat.me.0 in let table = b.words.now.table_id in let laid = c.settle_once-laid.result in let m = c.exchange.ensures.3 in let n : View = c.free_one.new.seat.me.0 in let f = c.free_one.ensures.frees b.req own.source (ap (λ (z : Seated). z.0.role) m ∙ i.task.runs.role) (subst (λ (z : Seated). HasBoth z.0.seen own.target own.source b.req) (sym m) (both_turned v.seen own.source own.target b.req i.both)) in let y = subst (λ (z : Seated). Extends z.0 (Free b.req own.target laid) (RoleBusy b.req) n) m f.0 in let role = role_after v n (Free b.req own.target laid) (RoleBusy b.req) y in let layout = layout_after v n (Free b.req own.target laid) (RoleBusy b.req) y in let l = c.exchange-in_default-answer.ensures.3 in let same = subst (λ (z : Seated). IsSamePipe z.0 n own.source) m f.2 in let under = c.settle_once-under.result in let w : View = c.free.new.seat.me.0 in let g = c.free.ensures.frees b.req (ap (λ (z : Seated). z.0.role) l ∙ role) in let x = subst (λ (z : Seated). Extends z.0 (Free b.req own.source under) (RoleBusy b.req) w) l g.0 in
+returns-in_default-answer-clause-waits c = let own = c.self.inside in let b = own.task in let p : Parcel = with_asked c.self.invariant.0 own.asked in let i = subst (IsJoiningSeat b.words.now.table_id b.grid.now own.seat b.cell b.generation b.req p b.pipes own.source own.target own.from own.into) (sym c.deref_mut-found.ensures.value) c.self.invariant.1 in let v : View = own.seat.me.0 in let table = b.words.now.table_id in let laid = c.settle_once-laid.result in let m = c.exchange.ensures.3 in let n : View = c.free_one.new.seat.me.0 in let f = c.free_one.ensures.frees b.req own.source (ap (λ (z : Seated). z.0.role) m ∙ i.task.runs.role) (subst (λ (z : Seated). HasBoth z.0.seen own.target own.source b.req) (sym m) (both_turned v.seen own.source own.target b.req i.both)) in let y = subst (λ (z : Seated). Extends z.0 (Free b.req own.target laid) (Role.Busy b.req) n) m f.0 in let role = role_after v n (Free b.req own.target laid) (Role.Busy b.req) y in let layout = layout_after v n (Free b.req own.target laid) (Role.Busy b.req) y in let l = c.exchange-in_default-answer.ensures.3 in let same = subst (λ (z : Seated). IsSamePipe z.0 n own.source) m f.2 in let under = c.settle_once-under.result in let w : View = c.free.new.seat.me.0 in let g = c.free.ensures.frees b.req (ap (λ (z : Seated). z.0.role) l ∙ role) in let x = subst (λ (z : Seated). Extends z.0 (Free b.req own.source under) (Role.Busy b.req) w) l g.0 in
     let first = subst (λ (z : Seated). (found : ℕ) × IsStep (pipe_at own.target) found z.0 n) m c.free_one.ensures.step in let second = subst (λ (z : Seated). (found : ℕ) × IsStep (pipe_at own.source) found z.0 w) l c.free.ensures.step in
     let none = c.is_some-answered.ensures ∙ ap is_some c.in_default-answer.is in
     let once-laid = subst (IsLaidOnce laid b.req) i.target_lies.0 (c.settle_once-laid.ensures.once none) in
     let once-under = subst (IsLaidOnce under b.req) i.source_lies.0 (c.settle_once-under.ensures.once none) in
-    subst (λ (h : Joining). (b.req ≡ h.req) × (c.free.new.seat.table_id ≡ h.pass.table) × (mid : View) × (how : Laid) × (under : Laid) × Extends h.pass.view (Free h.req h.target how) (RoleBusy h.req) mid × Extends mid (Free h.req h.source under) (RoleBusy h.req) w × ((found : ℕ) × IsStep (pipe_at h.target) found h.pass.view mid) × ((found : ℕ) × IsStep (pipe_at h.source) found mid w) × IsLaidOnce how h.req (lying h.pass.view.seen h.target) × IsLaidOnce under h.req (lying h.pass.view.seen h.source)) c.self.view_is
+    subst (λ (h : Joining). (b.req ≡ h.req) × (c.free.new.seat.table_id ≡ h.pass.table) × (mid : View) × (how : Laid) × (under : Laid) × Extends h.pass.view (Free h.req h.target how) (Role.Busy h.req) mid × Extends mid (Free h.req h.source under) (Role.Busy h.req) w × ((found : ℕ) × IsStep (pipe_at h.target) found h.pass.view mid) × ((found : ℕ) × IsStep (pipe_at h.source) found mid w) × IsLaidOnce how h.req (lying h.pass.view.seen h.target) × IsLaidOnce under h.req (lying h.pass.view.seen h.source)) c.self.view_is
     (refl, c.free.ensures.seat.0.0 ∙ (c.exchange-in_default-answer.ensures.0 ∙ (c.free_one.ensures.seat.0.0 ∙ c.exchange.ensures.0)), n, laid, under, y, x, first, second, once-laid, once-under)
 
 -- it lies with both
 pub returns-in_default-answer-clause-lain : goal.returns-in_default-answer-clause-lain
-returns-in_default-answer-clause-lain c = let own = c.self.inside in let b = own.task in let p : Parcel = with_asked c.self.invariant.0 own.asked in let i = subst (IsJoiningSeat b.words.now.table_id b.grid.now own.seat b.cell b.generation b.req p b.pipes own.source own.target own.from own.into) (sym c.deref_mut-found.ensures.value) c.self.invariant.1 in let v : View = own.seat.me.0 in let table = b.words.now.table_id in let s = subst (λ (z : Bool). Settled c.settle_once-under.result b.req z own.from.lying.items c.settle_once-under.new.lying.items c.settle_once-under.new.out.items) (c.is_some-answered.ensures ∙ ap is_some c.in_default-answer.is) c.settle_once-under.ensures.settled in let t = subst (λ (z : Bool). Settled c.settle_once-laid.result b.req z own.into.lying.items c.settle_once-laid.new.lying.items c.settle_once-laid.new.out.items) (c.is_some-answered.ensures ∙ ap is_some c.in_default-answer.is) c.settle_once-laid.ensures.settled in let there = (let f : is_pipe v.layout.caps own.source ≡ true = lt-ltb own.source (length v.layout.caps) (subst (λ (n : ℕ). own.source < n) (sym i.task.runs.pipes_are.0) i.named.source_there) in let g : is_pipe v.layout.caps own.target ≡ true = lt-ltb own.target (length v.layout.caps) (subst (λ (n : ℕ). own.target < n) (sym i.task.runs.pipes_are.0) i.named.target_there) in let both : (is_pipe v.layout.caps own.source ≡ true) × (is_pipe v.layout.caps own.target ≡ true) = (f, g) in both) in let laid = c.settle_once-laid.result in let m = c.exchange.ensures.3 in let n : View = c.free_one.new.seat.me.0 in let f = c.free_one.ensures.frees b.req own.source (ap (λ (z : Seated). z.0.role) m ∙ i.task.runs.role) (subst (λ (z : Seated). HasBoth z.0.seen own.target own.source b.req) (sym m) (both_turned v.seen own.source own.target b.req i.both)) in let y = subst (λ (z : Seated). Extends z.0 (Free b.req own.target laid) (RoleBusy b.req) n) m f.0 in let role = role_after v n (Free b.req own.target laid) (RoleBusy b.req) y in let layout = layout_after v n (Free b.req own.target laid) (RoleBusy b.req) y in let l = c.exchange-in_default-answer.ensures.3 in let same = subst (λ (z : Seated). IsSamePipe z.0 n own.source) m f.2 in let under = c.settle_once-under.result in let w : View = c.free.new.seat.me.0 in let g = c.free.ensures.frees b.req (ap (λ (z : Seated). z.0.role) l ∙ role) in let x = subst (λ (z : Seated). Extends z.0 (Free b.req own.source under) (RoleBusy b.req) w) l g.0 in let first : List Req = c.settle_once-under.new.out.items in let second : List Req = c.settle_once-laid.new.out.items in
-    let at-target = down_later v n w b.req own.target second (begins_on n w (Free b.req own.source under) (RoleBusy b.req) x) (laid_down v n b.req own.target i.task.runs.role there.1 i.both.2 (Free b.req own.target laid) (RoleBusy b.req) y laid second refl (subst (λ (rs : List Req). LiesIn (lays laid b.req rs) b.req) i.target_lies.0 t.2) (t.1 ∙ ap (goes_out laid) i.target_lies.0)) in
+returns-in_default-answer-clause-lain c = let own = c.self.inside in let b = own.task in let p : Parcel = with_asked c.self.invariant.0 own.asked in let i = subst (IsJoiningSeat b.words.now.table_id b.grid.now own.seat b.cell b.generation b.req p b.pipes own.source own.target own.from own.into) (sym c.deref_mut-found.ensures.value) c.self.invariant.1 in let v : View = own.seat.me.0 in let table = b.words.now.table_id in let s = subst (λ (z : Bool). Settled c.settle_once-under.result b.req z own.from.lying.items c.settle_once-under.new.lying.items c.settle_once-under.new.out.items) (c.is_some-answered.ensures ∙ ap is_some c.in_default-answer.is) c.settle_once-under.ensures.settled in let t = subst (λ (z : Bool). Settled c.settle_once-laid.result b.req z own.into.lying.items c.settle_once-laid.new.lying.items c.settle_once-laid.new.out.items) (c.is_some-answered.ensures ∙ ap is_some c.in_default-answer.is) c.settle_once-laid.ensures.settled in let there = (let f : is_pipe v.layout.caps own.source ≡ true = lt-ltb own.source (length v.layout.caps) (subst (λ (n : ℕ). own.source < n) (sym i.task.runs.pipes_are.0) i.named.source_there) in let g : is_pipe v.layout.caps own.target ≡ true = lt-ltb own.target (length v.layout.caps) (subst (λ (n : ℕ). own.target < n) (sym i.task.runs.pipes_are.0) i.named.target_there) in let both : (is_pipe v.layout.caps own.source ≡ true) × (is_pipe v.layout.caps own.target ≡ true) = (f, g) in both) in let laid = c.settle_once-laid.result in let m = c.exchange.ensures.3 in let n : View = c.free_one.new.seat.me.0 in let f = c.free_one.ensures.frees b.req own.source (ap (λ (z : Seated). z.0.role) m ∙ i.task.runs.role) (subst (λ (z : Seated). HasBoth z.0.seen own.target own.source b.req) (sym m) (both_turned v.seen own.source own.target b.req i.both)) in let y = subst (λ (z : Seated). Extends z.0 (Free b.req own.target laid) (Role.Busy b.req) n) m f.0 in let role = role_after v n (Free b.req own.target laid) (Role.Busy b.req) y in let layout = layout_after v n (Free b.req own.target laid) (Role.Busy b.req) y in let l = c.exchange-in_default-answer.ensures.3 in let same = subst (λ (z : Seated). IsSamePipe z.0 n own.source) m f.2 in let under = c.settle_once-under.result in let w : View = c.free.new.seat.me.0 in let g = c.free.ensures.frees b.req (ap (λ (z : Seated). z.0.role) l ∙ role) in let x = subst (λ (z : Seated). Extends z.0 (Free b.req own.source under) (Role.Busy b.req) w) l g.0 in let first : List Req = c.settle_once-under.new.out.items in let second : List Req = c.settle_once-laid.new.out.items in
+    let at-target = down_later v n w b.req own.target second (begins_on n w (Free b.req own.source under) (Role.Busy b.req) x) (laid_down v n b.req own.target i.task.runs.role there.1 i.both.2 (Free b.req own.target laid) (Role.Busy b.req) y laid second refl (subst (λ (rs : List Req). LiesIn (lays laid b.req rs) b.req) i.target_lies.0 t.2) (t.1 ∙ ap (goes_out laid) i.target_lies.0)) in
     let there' = subst (λ (L : Layout). is_pipe L.caps own.source ≡ true) (sym layout) there.0 in
-    let at-source = down_sooner v n w b.req own.source first (begins_on v n (Free b.req own.target laid) (RoleBusy b.req) y) (laid_down n w b.req own.source role there' f.1.0 (Free b.req own.source under) (RoleBusy b.req) x under first refl (subst (λ (rs : List Req). LiesIn (lays under b.req rs) b.req) (i.source_lies.0 ∙ ap (λ (z : Flow × List Req). z.1) (sym same)) s.2) (s.1 ∙ ap (goes_out under) (i.source_lies.0 ∙ ap (λ (z : Flow × List Req). z.1) (sym same)))) in
+    let at-source = down_sooner v n w b.req own.source first (begins_on v n (Free b.req own.target laid) (Role.Busy b.req) y) (laid_down n w b.req own.source role there' f.1.0 (Free b.req own.source under) (Role.Busy b.req) x under first refl (subst (λ (rs : List Req). LiesIn (lays under b.req rs) b.req) (i.source_lies.0 ∙ ap (λ (z : Flow × List Req). z.1) (sym same)) s.2) (s.1 ∙ ap (goes_out under) (i.source_lies.0 ∙ ap (λ (z : Flow × List Req). z.1) (sym same)))) in
     subst (λ (h : Joining). LaidAtBoth h.pass.view w h.req h.source h.target (first ++ second)) c.self.view_is (first, second, at-source, at-target, refl)
 
 pub returns-in_default-answer-clause-unanswered : goal.returns-in_default-answer-clause-unanswered

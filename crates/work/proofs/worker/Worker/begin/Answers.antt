@@ -3,7 +3,7 @@ use Rattle.history.specs.declared.req.Req.{Req}
 use Rattle.history.specs.declared.event.Event.TheVariants.{Begin}
 use Rattle.steps.specs.declared.line.Line.TheVariants.{Did}
 use Rattle.steps.specs.declared.parcel.Thing.TheVariants.{Full}
-use Rattle.steps.specs.declared.view.Role.TheVariants.{Busy as RoleBusy}
+use Rattle.steps.specs.declared.view.Role.{Role}
 use Rattle.steps.specs.Cells.{IsCell, IsParcel, request_at, slot_at, total, words_of}
 use Rattle.steps.specs.Journal.{holder}
 use Rattle.steps.specs.Rule.{Extends}
@@ -32,7 +32,7 @@ invariant_of-result-2 c =
     let at : request_at s.me.0.layout.cells spot.cell spot.generation ≡ c.args.req = ap (λ (K : List ℕ). request_at K spot.cell spot.generation) cells ∙ c.in-Some.ensures.some.1 in
     let inside : IsCell s.me.0.layout.cells spot.cell = subst (λ (K : List ℕ). IsCell K spot.cell) (sym cells) c.in-Some.ensures.some.0 in
     let wide : table.words ≡ words_of (total s.me.0.layout.cells) = c.requires.on.wide ∙ ap (λ (K : List ℕ). words_of (total K)) (sym cells) in
-    let begun = subst (λ (q : Req). Extends s.me.0 (Did (Begin q)) (RoleBusy q) w.me.0) at x.0 in
+    let begun = subst (λ (q : Req). Extends s.me.0 (Did (Begin q)) (Role.Busy q) w.me.0) at x.0 in
     let parcel : IsParcel w.me.0.seen c.args.req [] h.0 = subst (λ (q : Req). IsParcel w.me.0.seen q [] h.0) at h.2 in
     let task : IsTask table c.args.grid.now w spot.cell spot.generation c.args.req h.0 c.args.pipes lists = record {
       table_is = k.seat.0 ∙ (ap (λ (p : Pass). p.table) c.self.view_is ∙ c.requires.on.table_is);
