@@ -9,6 +9,7 @@ ghost use Rattle.steps.specs.Cells.{cells_in, total};
 ghost use Rattle.steps.specs.Fairness.{IsFree, IsReaped};
 ghost use Rattle.steps.specs.Journal.{freed};
 ghost use Rattle.steps.specs.Rule.{Looks, Extends, Begins};
+ghost use Rattle.steps.specs.declared.view.Role.{Role};
 ghost use Rattle.work.specs.Board.{Facts, IsOf};
 ghost use Rattle.work.specs.Grid.{AreCellCounts};
 ghost use Rattle.work.specs.Passes.{seen_of, FoundNotReady, Took};

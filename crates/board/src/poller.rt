@@ -6,6 +6,7 @@ ghost use Rattle.history.specs.History.{clock_of, submits};
 ghost use Rattle.steps.specs.Journal.{freed};
 ghost use Rattle.steps.specs.Cells.{cells_in, claim_at, total};
 ghost use Rattle.steps.specs.Rule.{Looks, Shown, IsStep};
+ghost use Rattle.steps.specs.declared.view.Role.{Role};
 ghost use Rattle.work.specs.Board.{IsOf};
 ghost use Rattle.work.specs.Passes.{pass_of, seen_of, CanReach, Took};
 ghost use Rattle.board.specs.Calls.{Goes};

@@ -6,6 +6,7 @@ ghost use Rattle.history.specs.Chains.{before_in};
 ghost use Rattle.history.specs.Legal.{Fits};
 ghost use Rattle.steps.specs.Cells.{cells_in};
 ghost use Rattle.steps.specs.Fairness.{IsFree};
+ghost use Rattle.steps.specs.declared.view.Role.{Role};
 ghost use Rattle.work.specs.Board.{IsOf};
 ghost use Rattle.work.specs.Passes.{seen_of, Took};
 ghost use Rattle.board.specs.Calls.{Goes, next_of};

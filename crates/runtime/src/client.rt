@@ -5,6 +5,7 @@ ghost use Rattle.history.specs.declared.event.Event.TheVariants.{Reap};
 ghost use Rattle.history.specs.History.{phase, submits};
 ghost use Rattle.steps.specs.Cells.{cells_in};
 ghost use Rattle.steps.specs.Fairness.{IsFree, IsReaped};
+ghost use Rattle.steps.specs.declared.view.Role.{Role};
 ghost use Rattle.work.specs.Board.{IsOf};
 ghost use Rattle.work.specs.Passes.{seen_of, Took};
 ghost use Rattle.bell.specs.BellPasses.{IsRingerOf};
@@ -47,6 +48,7 @@ impl Model for Client {
     ghost use Rattle.std.specs.Arc.{arc_value};
     ghost use Rattle.board.specs.ShapeLimits.{widest};
     ghost use Rattle.bell.specs.BellPasses.{IsRingerOf};
+    ghost use Rattle.steps.specs.declared.view.Role.{Role};
     ghost use Rattle.work.specs.Board.{IsOf};
     ghost use Rattle.runtime.specs.Clients.{ClientFacts};
 

@@ -1,6 +1,7 @@
 //! The end of a runtime.
 ghost use Rattle.std.specs.Prelude.{◌≡◌, ◌≢◌, ◌↔◌, ◌≤◌, ◌++◌, ◌∷◌, [], List, length, map, vec_capacity, IfOk, IfErr, IsTrue};
 ghost use Rattle.std.specs.Arc.{arc_value};
+ghost use Rattle.steps.specs.declared.view.Role.{Role};
 ghost use Rattle.work.specs.Passes.{Pass, seen_of};
 ghost use Rattle.board.specs.Reports.{AreOf, IsReport};
 ghost use Rattle.runtime.specs.Clients.{AreClients, submitter_of, without_tail};

@@ -8,6 +8,7 @@ ghost use Rattle.history.specs.Users.{uses_at};
 ghost use Rattle.answers.specs.declared.named.NamedPipes.TheVariants.{One};
 ghost use Rattle.answers.specs.NamedEnds.{UsesNone, UsesOne};
 ghost use Rattle.steps.specs.declared.line.Line.TheVariants.{Did, Hold};
+ghost use Rattle.steps.specs.declared.view.Role.{Role};
 ghost use Rattle.steps.specs.declared.view.Role.TheVariants.{Idle};
 ghost use Rattle.steps.specs.Cells.{cells_in, pipe_at};
 ghost use Rattle.steps.specs.Rule.{Looks, Extends, IsStep};

@@ -4,6 +4,7 @@ ghost use Rattle.entry.specs.Entry.{Entry};
 ghost use Rattle.history.specs.declared.event.Event.TheVariants.{Park};
 ghost use Rattle.history.specs.Chains.{IsPlaced};
 ghost use Rattle.steps.specs.declared.line.Line.TheVariants.{Did};
+ghost use Rattle.steps.specs.declared.view.Role.{Role};
 ghost use Rattle.steps.specs.declared.view.Role.TheVariants.{Idle};
 ghost use Rattle.steps.specs.Cells.{cells_in};
 ghost use Rattle.steps.specs.Rule.{Looks, Extends};

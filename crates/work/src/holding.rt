@@ -6,6 +6,7 @@ ghost use Rattle.history.specs.Chains.{IsPlaced};
 ghost use Rattle.answers.specs.NamedEnds.{UsesOne};
 ghost use Rattle.steps.specs.declared.line.Laid.{Laid};
 ghost use Rattle.steps.specs.declared.line.Line.TheVariants.{Did, Free};
+ghost use Rattle.steps.specs.declared.view.Role.{Role};
 ghost use Rattle.steps.specs.declared.view.Role.TheVariants.{Leaving};
 ghost use Rattle.steps.specs.declared.view.View.{View};
 ghost use Rattle.steps.specs.Cells.{claim_at, pipe_at};

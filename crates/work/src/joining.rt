@@ -9,6 +9,7 @@ ghost use Rattle.answers.specs.NamedEnds.{UsesBoth};
 ghost use Rattle.steps.specs.declared.line.Laid.{Laid as LaidAs};
 ghost use Rattle.steps.specs.declared.line.Laid.TheVariants.{NoRequest};
 ghost use Rattle.steps.specs.declared.line.Line.TheVariants.{Did, Hold, Free};
+ghost use Rattle.steps.specs.declared.view.Role.{Role};
 ghost use Rattle.steps.specs.declared.view.Role.TheVariants.{Leaving};
 ghost use Rattle.steps.specs.declared.view.View.{View};
 ghost use Rattle.steps.specs.Cells.{pipe_at};
