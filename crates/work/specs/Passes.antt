@@ -132,7 +132,7 @@ pub record RunsIt (table : TableId) (v : View) (x g : ℕ) (r : Req) (p : Parcel
   pub orderly : Orderly v.layout v.seen
   pub legal : Legal (setup_of v.layout) (events_of v.seen)
 
--- by what the worker has seen it runs the request, and has done nothing else yet
+-- by what was seen the request runs
 abbrev pub IsUnderway : View → Req → Type 0
 IsUnderway v r = phase (events_of v.seen) r ≡ runs
 

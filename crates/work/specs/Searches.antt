@@ -134,7 +134,7 @@ pub record FewSteps (v w : View) (n all : ℕ) : Type 0 where
   pub few : (x : ℕ) → steps_at (claim_at x) steps ≤ n
   pub most : length steps ≤ all
 
--- all steps were looks at notes, exactly so many
+-- exactly so many steps, and none of them at a claim word
 pub record ReadNotes (v w : View) (count : ℕ) : Type 0 where
   pub steps : List Step
   pub is : w.steps ≡ steps ++ v.steps
