@@ -1,15 +1,6 @@
 -- What an operation answers that is answered from no pipe of the board.
-use Rattle.std.proofs.Common.{◌≡◌, ⊎_elim, ℕ, ◌<◌, ◌==◌, ◌&&◌, ◌||◌, not, Bool, true, false, cond, pos, List, [], length, slice_index, sym, refl, ap, ◌∙◌, eq-eqb, ltb-true, true≢false}
-use Rattle.std.proofs.lemmas.Bool.{cases_Bool}
-use Rattle.entry.specs.declared.op.Op.{Op}
-use Rattle.entry.specs.declared.op.Op.TheVariants.{Nop, PollAdd, Timeout, TimeoutRemove, AsyncCancel, LinkTimeout, Close, Read, Write, Splice, Invalid}
-use Rattle.history.specs.declared.event.Event.{Event}
-use Rattle.history.specs.declared.req.Req.{Req}
-use Rattle.history.specs.Pipes.{Flow, flow, End, no_end, read_end, write_end, end_of}
-use Rattle.history.specs.Users.{is_at}
-use Rattle.history.specs.Answers.{now, bad_end, answer_read, answer_write, answer_poll, read_events, write_events, is_pipe, read_from, write_to, splice_into, splice_of, close_of, poll_of, OpAnswers}
-use Rattle.answers.specs.Answered.{is_plain, reply_without}
-use Rattle.answers.specs.NamedEnds.{UsesNone}
+use Rattle.history.specs.Answers.{answer_read, answer_write, answer_poll}
+use Rattle.answers.proofs.Common.{AsyncCancel, Bool, Close, End, Event, Flow, Invalid, LinkTimeout, List, Nop, Op, OpAnswers, PollAdd, Read, Req, Splice, Timeout, TimeoutRemove, UsesNone, Write, [], ap, bad_end, cases_Bool, close_of, cond, end_of, eq-eqb, false, flow, is_at, is_pipe, is_plain, length, ltb-true, no_end, not, now, poll_of, pos, read_end, read_events, read_from, refl, reply_without, slice_index, splice_into, splice_of, sym, true, true≢false, write_end, write_events, write_to, ℕ, ⊎_elim, ◌&&◌, ◌<◌, ◌==◌, ◌||◌, ◌∙◌, ◌≡◌}
 
 -- a pipe that is none of the board's
 pub not_there : (caps : List ℕ) (q : ℕ) → (q < length caps → ⊥) → is_pipe caps q ≡ false

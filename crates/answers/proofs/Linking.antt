@@ -1,15 +1,8 @@
 -- The answers of pipes in hand are those of the definitions: READ, WRITE, POLL_ADD and SPLICE, case by case.
-use Rattle.std.proofs.Common.{◌≡◌, ℕ, ◌==◌, take, Bool, true, false, cond, pos, negsuc, List, [], refl, sym, ap, arith}
 use Rattle.std.proofs.lemmas.List.{take_min, take_all}
-use Rattle.pipe.specs.declared.ready.Ready.{Ready}
-use Rattle.pipe.specs.declared.ready.Ready.TheVariants.{Now, Wait, Fail}
-use Rattle.pipe.specs.Pipe.{Conduit}
 use Rattle.pipe.specs.PipeAnswers as piped
-use Rattle.history.specs.Pipes.{Flow}
 use Rattle.history.specs.Answers as told
-use Rattle.history.specs.Answers.{Answer, now, later}
-use Rattle.answers.specs.Answered.{IsPipe}
-use Rattle.answers.specs.PipeReplies.{below}
+use Rattle.answers.proofs.Common.{Answer, Bool, Conduit, Fail, Flow, IsPipe, List, Now, Ready, Wait, [], ap, arith, below, cond, false, later, negsuc, now, pos, refl, sym, take, true, ℕ, ◌==◌, ◌≡◌}
 
 -- the answer with the first bytes of these as its data
 abbrev pub said : Ready ℕ → List ℕ → Answer

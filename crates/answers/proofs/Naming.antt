@@ -1,11 +1,5 @@
 -- Which pipes of a board an operation is answered from, by the ends that it names.
-use Rattle.std.proofs.Common.{◌≡◌, ◌≢◌, ◌⊎◌, ⊎_elim, inl, inr, ℕ, ◌||◌, Bool, true, false, sym, ap, ◌∙◌, eqb-true, true≢false}
-use Rattle.std.proofs.lemmas.Bool.{cases_Bool, or_cases}
-use Rattle.entry.specs.declared.op.Op.{Op}
-use Rattle.entry.specs.declared.op.Op.TheVariants.{Splice}
-use Rattle.history.specs.Pipes.{End, no_end, read_end, write_end, end_of}
-use Rattle.history.specs.Users.{is_at, uses_at}
-use Rattle.answers.specs.NamedEnds.{JoinsPipes}
+use Rattle.answers.proofs.Common.{Bool, End, JoinsPipes, Op, Splice, ap, cases_Bool, end_of, eqb-true, false, inl, inr, is_at, no_end, or_cases, read_end, sym, true, true≢false, uses_at, write_end, ℕ, ⊎_elim, ◌||◌, ◌∙◌, ◌≡◌, ◌≢◌, ◌⊎◌}
 
 -- an end is of one pipe
 pub one_pipe : (x : End) (p q : ℕ) → is_at x p ≡ true → is_at x q ≡ true → p ≡ q

@@ -1,26 +1,13 @@
 -- What READ, WRITE, CLOSE and POLL_ADD do to the pipe in hand is what their replies do to the pipe of the history.
-use Rattle.answers.specs.NamedEnds.{IsSide}
 use Rattle.pipe.specs.declared.ends.End.TheVariants.{Read as ReadSide, Write as WriteSide}
-use Rattle.std.proofs.Common.{◌≡◌, to_z, of_z, w32, ◌-ℤ◌, ℕ, ◌<◌, ◌≤◌, ◌==◌, ◌&&◌, nat_lt, min, take, drop, length, slice_index, Bool, true, false, cond, ℤ, pos, negsuc, List, [], ◌++◌, refl, sym, ap, ◌∙◌, subst, arith, ◌⊎◌, inl, inr, eq-eqb, eqb-true, append-nil, nat_le, bit_and, bit_or}
-use Rattle.std.proofs.lemmas.Bool.{lt-ltb}
 use Rattle.std.proofs.lemmas.List.{length-take-le}
-use Rattle.entry.specs.declared.op.Op.{Op}
 use Rattle.entry.specs.declared.op.Offset.{Offset}
 use Rattle.entry.specs.declared.op.Op.TheVariants.{Close as OpClose, Read as OpRead, Write as OpWrite, PollAdd as OpPoll, Splice as OpSplice}
-use Rattle.history.specs.declared.event.Event.{Event}
-use Rattle.history.specs.declared.req.Req.{Req}
-use Rattle.history.specs.Answers.{Answer, now, is_pipe, read_from, write_to, poll_of, OpAnswers}
-use Rattle.history.specs.Pipes.{Flow, contents, flow, offered, flows, End, no_end, read_end, write_end, end_of}
-use Rattle.history.specs.Users.{is_at}
 use Rattle.history.specs.State.{Held, held_in}
 use Rattle.history.proofs.Contents.{reads_held, writes_held, closes_held, flows_held, flows_hold}
 use Rattle.pipe.specs.declared.ends.End.{End as Side}
-use Rattle.pipe.specs.declared.ready.Ready.{Ready}
-use Rattle.pipe.specs.declared.ready.Ready.TheVariants.{Now, Wait, Fail}
-use Rattle.pipe.specs.Pipe.{Conduit}
 use Rattle.pipe.specs.PipeAnswers.{moved, OnIdle, after_read, answer_read, answer_write, answer_poll, free_in, is_shut, events_at, after_write}
-use Rattle.answers.specs.Answered.{IsPipe, IsSound, Does}
-use Rattle.answers.specs.PipeReplies.{below, reply_of}
+use Rattle.answers.proofs.Common.{Answer, Bool, Conduit, Does, End, Event, Fail, Flow, IsPipe, IsSide, IsSound, List, Now, Op, OpAnswers, Ready, Req, Wait, [], ap, append-nil, arith, below, bit_and, bit_or, cond, contents, drop, end_of, eq-eqb, eqb-true, false, flow, flows, inl, inr, is_at, is_pipe, length, lt-ltb, min, nat_le, nat_lt, negsuc, no_end, now, of_z, offered, poll_of, pos, read_end, read_from, refl, reply_of, slice_index, subst, sym, take, to_z, true, w32, write_end, write_to, ℕ, ℤ, ◌&&◌, ◌++◌, ◌-ℤ◌, ◌<◌, ◌==◌, ◌∙◌, ◌≡◌, ◌≤◌, ◌⊎◌}
 use Rattle.answers.proofs.Linking.{said, none, read_said, write_said}
 
 abbrev pub held_of : Conduit → Held

@@ -1,24 +1,10 @@
 -- What a SPLICE replies is what the definitions tell, and what it does to the pipes in hand is what its reply does to those of the history.
-use Rattle.std.proofs.Common.{◌≡◌, ◌≢◌, ⊎_elim, inl, inr, ◌⊎◌, ℕ, ◌+◌, ◌<◌, ◌==◌, ◌&&◌, ◌||◌, ◌++◌, not, take, drop, length, slice_index, Bool, true, false, cond, ℤ, pos, negsuc, List, [], Some, sym, refl, ap, ◌∙◌, subst, eqb-true, eq-eqb, ne_eqb, nat_lt, true≢false}
-use Rattle.std.proofs.lemmas.Bool.{lt-ltb, or_cases}
-use Rattle.entry.specs.declared.op.Op.{Op}
-use Rattle.entry.specs.declared.op.Op.TheVariants.{Splice}
-use Rattle.history.specs.declared.event.Event.{Event}
-use Rattle.history.specs.declared.req.Req.{Req}
 use Rattle.history.specs.Answers as told
-use Rattle.history.specs.Answers.{Answer, now, bad_end, is_pipe, splice_into, splice_of}
-use Rattle.history.specs.Pipes.{Flow, contents, flow, given_at, offered, End, no_end, read_end, write_end, end_of, size, reads, writes}
 use Rattle.history.specs.State.{Held}
-use Rattle.history.specs.Users.{is_at}
 use Rattle.history.proofs.Contents.{reads_held, writes_held, flows_held}
-use Rattle.pipe.specs.declared.ready.Ready.{Ready}
-use Rattle.pipe.specs.declared.ready.Ready.TheVariants.{Now, Wait, Fail}
-use Rattle.pipe.specs.Pipe.{Conduit}
 use Rattle.pipe.specs.PipeAnswers as piped
 use Rattle.pipe.specs.PipeAnswers.{moved, OnIdle, after_read, after_write, most_spliced}
-use Rattle.answers.specs.Answered.{IsPipe, IsSound, Does, RepliesBoth, DoesBoth}
-use Rattle.answers.specs.NamedEnds.{UsesOne, UsesBoth, are_of_one, gives, takes}
-use Rattle.answers.specs.PipeReplies.{below, reply_of}
+use Rattle.answers.proofs.Common.{Answer, Bool, Conduit, Does, DoesBoth, End, Event, Fail, Flow, IsPipe, IsSound, List, Now, Op, Ready, RepliesBoth, Req, Some, Splice, UsesBoth, UsesOne, Wait, [], ap, are_of_one, bad_end, below, cond, contents, drop, end_of, eq-eqb, eqb-true, false, flow, given_at, gives, inl, inr, is_at, is_pipe, length, lt-ltb, nat_lt, ne_eqb, negsuc, no_end, not, now, offered, or_cases, pos, read_end, reads, refl, reply_of, size, slice_index, splice_into, splice_of, subst, sym, take, takes, true, true≢false, write_end, writes, ℕ, ℤ, ⊎_elim, ◌&&◌, ◌++◌, ◌+◌, ◌<◌, ◌==◌, ◌||◌, ◌∙◌, ◌≡◌, ◌≢◌, ◌⊎◌}
 use Rattle.answers.proofs.Absent.{not_there}
 use Rattle.answers.proofs.Linking.{said, none, splice_said}
 use Rattle.answers.proofs.Naming.{not_at, or_right}

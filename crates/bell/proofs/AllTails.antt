@@ -1,10 +1,6 @@
 -- All tails read one after the other.
-use Rattle.std.proofs.Common.{◌≡◌, ◌≢◌, ℕ, ◌++◌, ◌∷◌, suc, zero, ◌+◌, ◌<◌, ◌≤◌, ◌==◌, Bool, true, false, cond, List, length, slice_index, slice_set, sym, refl, ap, ◌∙◌, subst, arith, eq-eqb, eqb-true, length-set, get_or-set_same, get_or-set_other, true≢false}
-use mathlib.Core.Logic.{dite}
-use native.Mathlib.Decide.{ℕ_discrete}
 use Rattle.bell.specs.declared.view.Load.{Load}
-use Rattle.bell.specs.declared.view.View.{View}
-use Rattle.bell.specs.BellPasses.{HasReadOne, HasRead, HaveRisen, loads_of}
+use Rattle.bell.proofs.Common.{Bool, HasRead, HasReadOne, HaveRisen, List, View, ap, arith, cond, dite, eq-eqb, eqb-true, false, get_or-set_other, get_or-set_same, length, length-set, loads_of, refl, slice_index, slice_set, subst, suc, sym, true, true≢false, zero, ℕ, ℕ_discrete, ◌++◌, ◌+◌, ◌<◌, ◌==◌, ◌∙◌, ◌∷◌, ◌≡◌, ◌≢◌, ◌≤◌}
 
 -- the first k tails were read
 pub record IsReading (v0 : View) (old : List ℕ) (k : ℕ) (v : View) (tails : List ℕ) (changed : Bool) : Type 0 where

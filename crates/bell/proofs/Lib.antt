@@ -1,3 +1,4 @@
+pub mod Common
 pub mod RingerSteps
 pub mod SleeperSteps
 pub mod AllTails

@@ -1,18 +1,10 @@
 -- The steps of a ringer keep the rule: its store of a tail, and its look at the wake word.
-use Rattle.std.proofs.Common.{◌≡◌, ◌≢◌, ℕ, zero, suc, ◌+◌, ◌<◌, ◌≤◌, ◌⊎◌, ⊎_elim, inl, inr, ◌==◌, Bool, true, false, cond, List, [], ◌∷◌, length, slice_index, slice_set, set, sym, refl, ap, ◌∙◌, subst, arith, eqb-true, length-set, get_or-set_same, get_or-set_other, true≢false}
-use mathlib.Core.Option.{some, none, some-injective, some-ne-none}
-use mathlib.Core.Logic.{dite}
-use native.Mathlib.Decide.{ℕ_discrete}
-use lib.ListN.{get_elem?}
 use Rattle.atomic_table.specs.Table.{State, step, Me, keeps, Allows}
-use Rattle.atomic_table.proofs.Lists.{at_set, set_else}
 use Rattle.bell.specs.declared.view.Change.{Change}
 use Rattle.bell.specs.declared.view.Change.TheVariants.{Found}
-use Rattle.bell.specs.declared.view.Role.TheVariants.{Sleeper, Ringer}
-use Rattle.bell.specs.declared.view.View.{View}
 use Rattle.bell.specs.Wakes.{bit, cleared, stands, AreChanges, IsSince, SawFinds}
-use Rattle.bell.specs.Rule.{Ruled, IsBetween, IsRung, IsHeeded, IsTold}
 use Rattle.bell.specs.Plays.{storing, stored, looking, looked}
+use Rattle.bell.proofs.Common.{Bool, IsBetween, IsHeeded, IsRung, IsTold, List, Ringer, Ruled, Sleeper, View, [], ap, arith, at_set, cond, dite, eqb-true, false, get_elem?, get_or-set_other, get_or-set_same, inl, inr, length, length-set, none, refl, set, set_else, slice_index, slice_set, some, some-injective, some-ne-none, subst, suc, sym, true, true≢false, zero, ℕ, ℕ_discrete, ⊎_elim, ◌+◌, ◌<◌, ◌==◌, ◌∙◌, ◌∷◌, ◌≡◌, ◌≢◌, ◌≤◌, ◌⊎◌}
 
 pub same_ring : (r q : ℕ) → Ringer r ≡ Ringer q → r ≡ q
 same_ring r q e = cc

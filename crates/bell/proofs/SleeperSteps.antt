@@ -1,19 +1,11 @@
 -- The steps of the sleeper keep the rule: it sets the bit, reads a tail, takes the bit back, and looks whether it was woken. So do a new table and the cut of a ringer.
-use Rattle.std.proofs.Common.{◌≡◌, ◌≢◌, ℕ, zero, suc, ◌+◌, ◌<◌, ◌≤◌, ◌⊎◌, ⊎_elim, inl, inr, ◌==◌, Bool, true, false, cond, List, [], ◌∷◌, ◌++◌, length, replicate, slice_index, slice_set, set, sym, refl, ap, ◌∙◌, subst, arith, eqb-true, length-set, get_or-set_same, get_or-set_other, true≢false}
-use mathlib.Core.Option.{some, none, some-injective, some-ne-none}
-use mathlib.Core.Logic.{dite}
-use native.Mathlib.Decide.{ℕ_discrete}
-use lib.ListN.{get_elem?, length-replicate, get_or-replicate}
 use lib.Seq.{set-get_or}
 use Rattle.atomic_table.specs.Table.{State, step, Me, keeps, Allows, Splits, opening}
-use Rattle.atomic_table.proofs.Lists.{at_set, set_again, at_longer}
 use Rattle.bell.specs.declared.view.Change.{Change}
 use Rattle.bell.specs.declared.view.Change.TheVariants.{Asked, Found, TookBack}
-use Rattle.bell.specs.declared.view.Role.TheVariants.{Sleeper, Ringer}
-use Rattle.bell.specs.declared.view.View.{View}
 use Rattle.bell.specs.Wakes.{bit, stands, taken_back, AreChanges, IsSince, SawFinds}
-use Rattle.bell.specs.Rule.{Ruled, IsBetween, IsRung, IsHeeded, IsSound, IsTold, opening_view, with_ringer, new_ringer}
 use Rattle.bell.specs.Plays.{arming, armed, reading, read, waking, took_back, asked}
+use Rattle.bell.proofs.Common.{Bool, IsBetween, IsHeeded, IsRung, IsSound, IsTold, List, Ringer, Ruled, Sleeper, View, [], ap, arith, at_longer, at_set, cond, dite, eqb-true, false, get_elem?, get_or-replicate, get_or-set_other, get_or-set_same, inl, inr, length, length-replicate, length-set, new_ringer, none, opening_view, refl, replicate, set, set_again, slice_index, slice_set, some, some-injective, some-ne-none, subst, suc, sym, true, true≢false, with_ringer, zero, ℕ, ℕ_discrete, ⊎_elim, ◌++◌, ◌+◌, ◌<◌, ◌==◌, ◌∙◌, ◌∷◌, ◌≡◌, ◌≢◌, ◌≤◌, ◌⊎◌}
 use Rattle.bell.proofs.RingerSteps.{at_now, between_stays, rung_stays, apart_stays, bit_false, one_bit, saw_itself}
 
 -- the seat is the sleeper's

@@ -1,30 +1,8 @@
 -- What the poller keeps of armed timers, after one was armed.
-use Rattle.std.proofs.Common.{◌≡◌, true, ℕ, zero, suc, ◌<◌, false, List, [], ◌∷◌, Option, Some, length, set, get_or, refl, sym, ap, ◌∙◌, subst, arith, length-set}
-use Rattle.std.specs.List.{slice_get}
-use mathlib.Core.Logic.{dite}
-use native.Mathlib.Decide.{ℕ_discrete}
-use Rattle.atomic_table.specs.declared.shared.Seat.{Seat}
-use Rattle.gates.proofs.Lists.{get_set_same, get_set_other}
-use Rattle.history.specs.declared.req.Req.{Req}
-use Rattle.history.specs.declared.event.Event.TheVariants.{Arm}
-use Rattle.history.specs.History.{Phase, armed, phase, fired, same}
-use Rattle.history.proofs.Requests.{same_itself}
-use Rattle.steps.specs.declared.parcel.Thing.{Thing}
-use Rattle.steps.specs.declared.view.View.{View}
-use Rattle.steps.specs.Cells.{setup_of, IsCell, request_at}
-use Rattle.steps.specs.Fairness.{IsReaped}
-use Rattle.steps.specs.Rule.{pollers, stands_for}
-use Rattle.steps.proofs.CellNumbers.{other_cell}
-use Rattle.steps.proofs.NotesKept.{earlier_gone}
-use Rattle.work.specs.Board.{Facts, IsOf}
-use Rattle.work.specs.Passes.{Pass, seen_of}
-use Rattle.board.specs.declared.alarm.Alarm.{Alarm}
 use Rattle.board.specs.declared.poller.Arming.{Arming}
-use Rattle.board.specs.declared.poller.Arming.TheVariants.{Armed, NotHeld, NotTimer, Shut}
-use Rattle.board.specs.Calls.{Goes}
-use Rattle.board.specs.PollerRows.{IsAt}
-use Rattle.board.specs.PollerTimers.{IsKept, KnowsAlarm, KnowsTimers}
-use Rattle.board.specs.TimerCalls.{Arms, Keeps}
+use Rattle.board.specs.declared.poller.Arming.TheVariants.{Armed, NotHeld}
+use Rattle.board.specs.TimerCalls.{Keeps}
+use Rattle.board.proofs.Common.{Alarm, Arm, Arms, Facts, Goes, IsAt, IsCell, IsKept, IsOf, IsReaped, KnowsAlarm, KnowsTimers, List, NotTimer, Option, Pass, Phase, Req, Seat, Shut, Some, Thing, View, [], ap, arith, armed, dite, earlier_gone, false, fired, get_or, get_set_other, get_set_same, length, length-set, other_cell, phase, pollers, refl, request_at, same, same_itself, seen_of, set, setup_of, slice_get, stands_for, subst, suc, sym, true, zero, ℕ, ℕ_discrete, ◌<◌, ◌∙◌, ◌∷◌, ◌≡◌}
 use Rattle.board.proofs.TimersHeld.{alarm_goes, clock_goes, timers_goes}
 
 abbrev TableSeat : Type 0

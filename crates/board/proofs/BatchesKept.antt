@@ -1,35 +1,12 @@
 -- What is tested of a batch, and what its submission comes to, entry by entry.
-use Rattle.std.proofs.Common.{◌≡◌, ℕ, zero, suc, ◌+◌, ◌/◌, ◌==◌, ◌<◌, ◌≤◌, Bool, cond, true, false, List, [], ◌∷◌, ◌++◌, Some, None, length, drop, get_or, sym, refl, ap, ◌∙◌, subst, arith, eq-eqb, ne_eqb, append-nil}
+use Rattle.std.proofs.Common.{append-nil}
 use Rattle.std.proofs.Math.Seq.{drop-cons}
-use Rattle.std.proofs.lemmas.List.{append_assoc}
 use Rattle.std.specs.Global.{Vec}
-use Rattle.entry.specs.Entry.{Entry}
-use Rattle.history.specs.declared.req.Req.{Req}
-use Rattle.history.specs.declared.event.Event.{Event}
-use Rattle.history.specs.declared.event.Event.TheVariants.{Submit}
-use Rattle.history.specs.History.{submits}
-use Rattle.history.specs.Chains.{before_in, is_timeout}
-use Rattle.history.specs.Legal.{count_of}
-use Rattle.steps.specs.declared.line.Line.{Line}
-use Rattle.steps.specs.declared.line.Line.TheVariants.{Did}
-use Rattle.steps.specs.declared.view.Role.TheVariants.{Submitter, Lending}
-use Rattle.steps.specs.declared.view.View.{View}
-use Rattle.steps.specs.Fairness.{IsFree}
-use Rattle.steps.specs.Journal.{events_of}
-use Rattle.steps.specs.Cells.{cells_in, claim_at, facts_at}
-use Rattle.steps.specs.Rule.{AreSteps, ExtendsAfter, ExtendsNoted}
-use Rattle.steps.specs.Notes.{count_notes, notes_of, words_in}
-use Rattle.steps.proofs.JournalGrowth.{same_submits}
-use Rattle.steps.proofs.ViewsKept.{submits_after, submitter_can}
-use Rattle.work.specs.Board.{Facts}
-use Rattle.work.specs.Passes.{Pass, seen_of, own_of, Took}
-use Rattle.work.proofs.RunsKept.{took_both}
-use Rattle.board.specs.Batches.{Entries, AreFit, IsReady, is_empty, steps_for, steps_in, submits_of}
-use Rattle.board.specs.Calls.{EndsWith, Goes}
-use Rattle.board.specs.Lanes.{nth, RefusesRoom}
+use Rattle.steps.specs.Notes.{words_in}
 use Rattle.board.specs.Refusals.{RefusesBatch}
 use Rattle.board.specs.declared.error.SubmitError.{SubmitError}
 use Rattle.board.specs.declared.error.SubmitError.TheVariants.{Full, Spent}
+use Rattle.board.proofs.Common.{AreFit, AreSteps, Bool, Did, EndsWith, Entries, Entry, Event, ExtendsAfter, ExtendsNoted, Facts, Goes, IsFree, IsReady, Lending, Line, List, None, Pass, RefusesRoom, Req, Some, Submit, Submitter, Took, View, [], ap, append_assoc, arith, before_in, cells_in, claim_at, cond, count_notes, count_of, drop, eq-eqb, events_of, facts_at, false, get_or, is_empty, is_timeout, length, ne_eqb, notes_of, nth, own_of, refl, same_submits, seen_of, steps_for, steps_in, submits, submits_after, submits_of, submitter_can, subst, suc, sym, took_both, true, zero, ℕ, ◌++◌, ◌+◌, ◌/◌, ◌<◌, ◌==◌, ◌∙◌, ◌∷◌, ◌≡◌, ◌≤◌}
 use Rattle.board.proofs.GoesLaws.{goes_still, events_before, own_both}
 use Rattle.board.proofs.LanesKept.{just_before}
 use Rattle.board.proofs.SubmitterSeats.{lends_it}

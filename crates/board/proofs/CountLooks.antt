@@ -1,15 +1,5 @@
 -- Where the steps of a count are made: at the timer's own claim word, or at those of later requests.
-use Rattle.std.proofs.Common.{◌≡◌, ⊎_elim, ℕ, suc, ◌+◌, ◌*◌, ◌<◌, ◌≤◌, ◌==◌, nat_lt, ltb-true, ltb-false, mul-le-mul_right, suc-mul, Bool, true, false, cond, List, [], ◌∷◌, ◌++◌, sym, ap, ◌∙◌, subst, arith, eq-eqb, eqb-true}
-use Rattle.std.proofs.lemmas.List.{append_assoc}
-use Rattle.history.specs.declared.req.Req.{Req}
-use Rattle.history.proofs.Requests.{bool_cases}
-use Rattle.steps.specs.declared.view.Step.{Step}
-use Rattle.steps.specs.declared.view.View.{View}
-use Rattle.steps.specs.Cells.{IsCell, cells_in, place_of, request_at, ring_of, claim_at}
-use Rattle.steps.specs.Rule.{IsStep}
-use Rattle.steps.proofs.CellNumbers.{one_cell}
-use Rattle.work.proofs.CancelSearch.{steps_both}
-use Rattle.board.specs.PollerRows.{Spends, StepsTo, steps_elsewhere}
+use Rattle.board.proofs.Common.{Bool, IsCell, IsStep, List, Req, Spends, Step, StepsTo, View, [], ap, append_assoc, arith, bool_cases, cells_in, claim_at, cond, eq-eqb, eqb-true, false, ltb-false, ltb-true, mul-le-mul_right, nat_lt, one_cell, place_of, request_at, ring_of, steps_both, steps_elsewhere, subst, suc, suc-mul, sym, true, ℕ, ⊎_elim, ◌*◌, ◌++◌, ◌+◌, ◌<◌, ◌==◌, ◌∙◌, ◌∷◌, ◌≡◌, ◌≤◌}
 
 else_both : (word : ℕ) (k l : List Step) → steps_elsewhere word (k ++ l) ≡ steps_elsewhere word k + steps_elsewhere word l
 else_both word [] l = omega arith

@@ -1,42 +1,9 @@
 -- How many later requests of a ring have replied, as the poller goes over them, and its step that answers a TIMEOUT which has counted enough.
-use Rattle.std.proofs.Common.{◌≡◌, ◌≢◌, ◌⊎◌, ℕ, suc, ◌+◌, ◌-◌, ◌*◌, ◌<◌, ◌≤◌, suc-mul, Bool, true, false, cond, ℤ, pos, List, [], ◌∷◌, Option, Some, None, refl, sym, ap, ◌∙◌, subst, arith, true≢false}
-use mir.Val.{bool_byte}
-use Rattle.atomic_table.specs.declared.shared.Seat.{Seat}
-use Rattle.claim.specs.declared.tag.Tag.{Tag}
-use Rattle.entry.specs.declared.op.Op.{Op}
-use Rattle.entry.specs.declared.op.Op.TheVariants.{Timeout}
-use Rattle.entry.specs.Entry.{Entry}
-use Rattle.history.specs.declared.req.Req.{Req}
-use Rattle.history.specs.declared.event.Event.{Event}
-use Rattle.history.specs.declared.event.Event.TheVariants.{Count}
-use Rattle.history.specs.History.{Phase, unborn, waits, runs, armed, replied, by_count, phase, submits, replies_from, later_replies, is_replied, IsReplied}
-use Rattle.history.specs.Chains.{IsPlaced, is_link_timeout}
-use Rattle.history.specs.Legal.{count_of}
-use Rattle.history.proofs.Growth.{born_once}
 use Rattle.history.proofs.LaterReplies.{replied_true, true_replied, replies_grow, replies_longer, later_longer}
-use Rattle.history.proofs.Requests.{same_itself}
-use Rattle.steps.specs.declared.line.Line.{Line}
-use Rattle.steps.specs.declared.line.Line.TheVariants.{Did}
-use Rattle.steps.specs.declared.parcel.Thing.{Thing}
-use Rattle.steps.specs.declared.view.Layout.{Layout}
-use Rattle.steps.specs.declared.view.Role.{Role}
-use Rattle.steps.specs.declared.view.View.{View}
-use Rattle.steps.specs.Cells.{setup_of, cells_in, ring_of, place_of, request_at, claim_at, word_of}
-use Rattle.steps.proofs.JournalGrowth.{counted_in, placed_lasts}
-use Rattle.steps.proofs.NotesKept.{earlier_gone}
-use Rattle.steps.specs.Journal.{events_of}
-use Rattle.steps.specs.Rule.{pollers, stands_for, Extends, IsStep, Shown}
-use Rattle.work.specs.Board.{Facts, IsOf}
-use Rattle.work.specs.Passes.{pass_of}
-use Rattle.board.specs.declared.alarm.Alarm.TheVariants.{Linked, Alone}
 use Rattle.board.specs.declared.phase.Phase.{Phase as Standing}
-use Rattle.board.specs.declared.phase.Phase.TheVariants.{Unborn, Held, Ready, Running, Armed, Done, Gone}
 use Rattle.board.specs.declared.poller.Counting.{Counting}
 use Rattle.board.specs.declared.poller.Counting.TheVariants.{Counted, Fewer, NotCounted}
-use Rattle.board.specs.Calls.{Stands}
-use Rattle.board.specs.PollerRows.{IsAt, IsOurs, Watched, Paid, Spends, StepsTo}
-use Rattle.board.specs.PollerTimers.{IsKept, KnowsAlarm}
-use Rattle.board.specs.TimerCalls.{Counts, HasFewer, IsUncounted, TellsReply, counted_by}
+use Rattle.board.proofs.Common.{Alone, Armed, Bool, Count, Counts, Did, Done, Entry, Event, Extends, Facts, Gone, HasFewer, Held, IsAt, IsKept, IsOf, IsOurs, IsPlaced, IsReplied, IsStep, IsUncounted, KnowsAlarm, Layout, Line, Linked, List, None, Op, Option, Paid, Phase, Ready, Req, Role, Running, Seat, Shown, Some, Spends, Stands, StepsTo, Tag, TellsReply, Thing, Timeout, Unborn, View, Watched, [], ap, arith, armed, bool_byte, born_once, by_count, cells_in, claim_at, cond, count_of, counted_by, counted_in, earlier_gone, events_of, false, is_link_timeout, is_replied, later_replies, pass_of, phase, place_of, placed_lasts, pollers, pos, refl, replied, replies_from, request_at, ring_of, runs, same_itself, setup_of, stands_for, submits, subst, suc, suc-mul, sym, true, true≢false, unborn, waits, word_of, ℕ, ℤ, ◌*◌, ◌+◌, ◌-◌, ◌<◌, ◌∙◌, ◌∷◌, ◌≡◌, ◌≢◌, ◌≤◌, ◌⊎◌}
 use Rattle.board.proofs.AlarmsSet.{reaped_armed}
 use Rattle.board.proofs.Expiries.{armed_word, stepped_by, unarmed}
 use Rattle.board.proofs.GoesLaws.{goes_then}

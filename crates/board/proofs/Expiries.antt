@@ -1,33 +1,9 @@
 -- What the poller's look at a timer, and its step that lets one run out, tell it.
-use Rattle.std.proofs.Common.{◌≡◌, ◌≢◌, inl, inr, ℕ, ◌<◌, true, cond, negsuc, List, [], ◌∷◌, Option, Some, refl, sym, ap, ◌∙◌, subst, arith}
-use Rattle.atomic_table.specs.declared.shared.Seat.{Seat}
-use Rattle.claim.specs.declared.tag.Tag.{Tag}
-use Rattle.history.specs.declared.req.Req.{Req}
-use Rattle.history.specs.declared.event.Event.TheVariants.{Expire}
-use Rattle.history.specs.Chains.{is_timeout}
-use Rattle.history.specs.History.{phase, armed, replied, by_expire, clock_of}
 use Rattle.history.specs.Legal.{IsOf as IsOfKind}
-use Rattle.history.proofs.Requests.{same_itself}
-use Rattle.steps.specs.declared.line.Line.{Line}
-use Rattle.steps.specs.declared.line.Line.TheVariants.{Did}
-use Rattle.steps.specs.declared.parcel.Thing.{Thing}
-use Rattle.steps.specs.declared.view.Layout.{Layout}
-use Rattle.steps.specs.declared.view.Role.{Role}
-use Rattle.steps.specs.declared.view.View.{View}
-use Rattle.steps.specs.Cells.{CellOk, Home, Says, request_at, claim_at, word_of}
-use Rattle.steps.specs.Journal.{events_of}
-use Rattle.steps.specs.Rule.{pollers, stands_for, Extends, IsStep, Shown}
-use Rattle.work.specs.Board.{Facts}
-use Rattle.work.specs.Passes.{pass_of}
-use Rattle.board.specs.declared.alarm.Alarm.TheVariants.{Linked}
 use Rattle.board.specs.declared.phase.Phase.{Phase as Standing}
-use Rattle.board.specs.declared.phase.Phase.TheVariants.{Unborn, Held, Ready, Running, Armed, Done, Gone}
 use Rattle.board.specs.declared.poller.Expiry.{Expiry}
 use Rattle.board.specs.declared.poller.Expiry.TheVariants.{Expired, Early, NotArmed}
-use Rattle.board.specs.Calls.{Stands, Stepped}
-use Rattle.board.specs.PollerRows.{IsAt, IsOurs, Watched, Paid}
-use Rattle.board.specs.PollerTimers.{IsKept}
-use Rattle.board.specs.TimerCalls.{Expires, ExpiryTells, expired_by}
+use Rattle.board.proofs.Common.{Armed, CellOk, Did, Done, Expire, Expires, ExpiryTells, Extends, Facts, Gone, Held, Home, IsAt, IsKept, IsOurs, IsStep, Layout, Line, Linked, List, Option, Paid, Ready, Req, Role, Running, Says, Seat, Shown, Some, Stands, Stepped, Tag, Thing, Unborn, View, Watched, [], ap, arith, armed, by_expire, claim_at, clock_of, cond, events_of, expired_by, inl, inr, is_timeout, negsuc, pass_of, phase, pollers, refl, replied, request_at, same_itself, stands_for, subst, sym, true, word_of, ℕ, ◌<◌, ◌∙◌, ◌∷◌, ◌≡◌, ◌≢◌}
 use Rattle.board.proofs.GoesLaws.{goes_then}
 use Rattle.board.proofs.PassFacts.{stepped_once}
 use Rattle.board.proofs.TimersHeld.{armed_before, freed_one, goes_one, none}

@@ -1,27 +1,7 @@
 -- What the parts of a facts word are, by the word, and what they say of the chain of its request.
-use Rattle.std.proofs.Common.{◌≡◌, ◌⊎◌, ⊎_elim, inl, inr, ℕ, ◌+◌, ◌*◌, ◌%◌, ◌<◌, ◌≤◌, ◌==◌, ◌&&◌, ◌||◌, not, cond, Bool, true, false, nat_lt, IsTrue, List, Option, Some, refl, sym, ap, ◌∙◌, subst, arith, true≢false, ltb-true, ne_eqb}
-use Rattle.claim.specs.Facts.{Facts, bit, packed_facts, fits_facts}
-use Rattle.entry.specs.declared.op.Op.TheVariants.{Invalid}
-use Rattle.entry.specs.Entry.{Entry, links, links_soft, links_hard, fails}
-use Rattle.history.specs.declared.req.Req.{Req}
-use Rattle.history.specs.declared.event.Event.{Event}
-use Rattle.history.specs.History.{Phase, Submission, phase, reply_in, replied, reaped, submission, submits, IsReplied}
-use Rattle.history.specs.Chains.{joins, before_in, hosts, placed_from, placed_behind, is_link_timeout, IsPlaced, IsChainDone}
-use Rattle.history.specs.Legal.{Legal}
-use Rattle.history.proofs.Requests.{bool_cases}
-use Rattle.history.proofs.Growth.{submission_some}
-use Rattle.steps.specs.declared.line.Line.{Line}
-use Rattle.steps.specs.declared.view.Layout.{Layout}
-use Rattle.steps.specs.Cells.{setup_of, IsCell, request_at, facts_at}
-use Rattle.steps.specs.Fairness.{Orderly, IsReaped}
-use Rattle.steps.specs.Journal.{events_of, lent, noted}
-use Rattle.steps.specs.Notes.{facts_of, outcome_of}
-use Rattle.steps.proofs.NotesKept.{notes_are}
+use Rattle.claim.specs.Facts.{Facts}
 use Rattle.steps.proofs.FactsKept.{facts_tell, packed_generation}
-use Rattle.steps.proofs.FactsRead.{row_small, same_facts, low_facts, parts_small, parts_of}
-use Rattle.board.specs.Lanes.{continues}
-use mathlib.Core.Logic.{dite}
-use native.Mathlib.Decide.{ℕ_discrete}
+use Rattle.board.proofs.Common.{Bool, Entry, Event, Invalid, IsCell, IsChainDone, IsPlaced, IsReaped, IsReplied, IsTrue, Layout, Legal, Line, List, Option, Orderly, Phase, Req, Some, Submission, ap, arith, before_in, bit, bool_cases, cond, continues, dite, events_of, facts_at, facts_of, fails, false, fits_facts, hosts, inl, inr, is_link_timeout, joins, lent, links, links_hard, links_soft, low_facts, ltb-true, nat_lt, ne_eqb, not, noted, notes_are, outcome_of, packed_facts, parts_of, parts_small, phase, placed_behind, placed_from, reaped, refl, replied, reply_in, request_at, row_small, same_facts, setup_of, submission, submission_some, submits, subst, sym, true, true≢false, ℕ, ℕ_discrete, ⊎_elim, ◌%◌, ◌&&◌, ◌*◌, ◌+◌, ◌<◌, ◌==◌, ◌||◌, ◌∙◌, ◌≡◌, ◌≤◌, ◌⊎◌}
 
 -- the parts of a word that are the facts of a request, with an outcome or without
 pub parts_are : (f : Facts) (g : ℕ) (d : Entry) (last : Bool) → IsTrue (fits_facts f) → g < 16777216 → packed_facts f % 8589934592 ≡ facts_of g d last % 8589934592 → (f.generation ≡ g) × (f.links_soft ≡ links_soft d) × (f.links_hard ≡ links_hard d) × (f.last ≡ last)

@@ -1,25 +1,5 @@
 -- A pass that looked, or went on by one event of its own, from what the single steps of its seat tell.
-use Rattle.std.proofs.Common.{◌≡◌, ◌==◌, ℕ, true, cond, List, [], ◌∷◌, ◌++◌, Bool, false, sym, refl, ap, ◌∙◌, subst, ⊎_elim, eq-eqb}
-use Rattle.std.proofs.lemmas.List.{append_assoc}
-use Rattle.history.specs.declared.req.Req.{Req}
-use Rattle.history.specs.declared.event.Event.{Event}
-use Rattle.history.specs.History.{was_shut}
-use Rattle.history.specs.Legal.{Legal}
-use Rattle.history.proofs.Requests.{bool_cases}
-use Rattle.steps.specs.declared.line.Line.{Line}
-use Rattle.steps.specs.declared.line.Line.TheVariants.{Did, Freed, Lent, Noted}
-use Rattle.steps.specs.declared.view.Role.{Role}
-use Rattle.steps.specs.declared.view.Role.TheVariants.{Submitter, Lending}
-use Rattle.steps.specs.declared.view.View.{View}
-use Rattle.steps.specs.Cells.{setup_of}
-use Rattle.steps.specs.Fairness.{Orderly}
-use Rattle.steps.specs.Journal.{event_of, events_of}
-use Rattle.steps.specs.Rule.{AreMade, Owner, nobody, pollers, rings, workers, holders, owner, stands_for, owns, NoneOf, Looks, Extends, ExtendsAfter, ExtendsNoted, ExtendsTwice}
-use Rattle.work.specs.Board.{Facts, IsOf, share_of}
-use Rattle.work.specs.Passes.{Pass, own_of}
-use Rattle.work.proofs.OwnEvents.{own_none, own_append, own_before, silent_own}
-use Rattle.work.proofs.PassesKept.{looked_of, extended_of}
-use Rattle.board.specs.Calls.{EndsWith, Goes}
+use Rattle.board.proofs.Common.{AreMade, Bool, Did, EndsWith, Event, Extends, ExtendsAfter, ExtendsNoted, ExtendsTwice, Facts, Freed, Goes, IsOf, Legal, Lending, Lent, Line, List, Looks, NoneOf, Noted, Orderly, Owner, Pass, Req, Role, Submitter, View, [], ap, append_assoc, bool_cases, cond, eq-eqb, event_of, events_of, extended_of, false, holders, looked_of, nobody, own_append, own_before, own_none, own_of, owner, owns, pollers, refl, rings, setup_of, share_of, silent_own, stands_for, subst, sym, true, was_shut, workers, ℕ, ⊎_elim, ◌++◌, ◌==◌, ◌∙◌, ◌∷◌, ◌≡◌}
 
 -- a pass that looked
 pub goes_looked : (b : Facts) (p q : Pass) → IsOf b p → q.table ≡ p.table → Looks p.view q.view → Goes b p [] q

@@ -1,15 +1,6 @@
 -- A seat that heard the passes knows what they had seen.
-use Rattle.std.proofs.Common.{◌≡◌, ℕ, ◌+◌, ◌⊎◌, inl, inr, List, [], ◌∷◌, ◌++◌, length, refl, ap, ◌∙◌, subst, ⊎_elim, arith, length-append}
-use Rattle.history.specs.declared.event.Event.{Event}
-use Rattle.steps.specs.declared.line.Line.{Line}
 use Rattle.steps.specs.declared.view.Heard.{Heard}
-use Rattle.steps.specs.declared.view.Role.TheVariants.{Submitter, Idle}
-use Rattle.steps.specs.declared.view.View.{View}
-use Rattle.steps.specs.Rule.{IsHeard, AllSaw, IsOneOf, Knows, Saw, hearing}
-use Rattle.work.specs.Board.{Facts, IsOf, share_of}
-use Rattle.work.specs.Passes.{Pass}
-use Rattle.board.specs.Remains.{told_by, hearing_all}
-use Rattle.board.specs.Reports.{AreOf, IsSeen, BeginsWith, SawOwnLines}
+use Rattle.board.proofs.Common.{AllSaw, AreOf, BeginsWith, Event, Facts, Idle, IsHeard, IsOf, IsOneOf, IsSeen, Knows, Line, List, Pass, Saw, SawOwnLines, Submitter, View, [], ap, arith, hearing, hearing_all, inl, inr, length, length-append, refl, share_of, subst, told_by, ℕ, ⊎_elim, ◌++◌, ◌+◌, ◌∙◌, ◌∷◌, ◌≡◌, ◌⊎◌}
 
 told_last : (ps : List Pass) (p : Pass) (xs : List Heard) → told_by ps (record { role = p.view.role; seen = p.view.seen } ∷ (p.view.heard ++ xs)) ≡ told_by (ps ++ p ∷ []) xs
 told_last [] p xs = refl

@@ -1,30 +1,8 @@
 -- A submitter's seat and lane from one call to the next.
-use Rattle.std.proofs.Common.{◌≡◌, ◌⊎◌, ℕ, ◌+◌, ◌<◌, ◌≤◌, Bool, List, [], ◌∷◌, ◌++◌, Some, sym, refl, ap, ◌∙◌, subst}
-use Rattle.entry.specs.Entry.{Entry}
-use Rattle.history.specs.declared.req.Req.{Req}
-use Rattle.history.specs.declared.event.Event.TheVariants.{Submit, Reap}
-use Rattle.history.specs.History.{submits}
-use Rattle.history.specs.Chains.{hosts}
-use Rattle.history.specs.Legal.{Legal}
-use Rattle.steps.specs.declared.line.Line.{Line}
-use Rattle.steps.specs.declared.line.Line.TheVariants.{Did, Lent}
 use Rattle.steps.specs.declared.view.Heard.{Heard}
-use Rattle.steps.specs.declared.view.Layout.{Layout}
-use Rattle.steps.specs.declared.view.Role.{Role}
-use Rattle.steps.specs.declared.view.Role.TheVariants.{Submitter, Lending}
-use Rattle.steps.specs.declared.view.View.{View}
-use Rattle.steps.specs.Fairness.{IsFree}
-use Rattle.steps.specs.Journal.{events_of}
-use Rattle.steps.specs.Cells.{setup_of, cells_in, facts_at}
-use Rattle.steps.specs.Rule.{Extends, ExtendsAfter, ExtendsNoted, ExtendsTwice}
-use Rattle.steps.proofs.FreeCells.{free_later}
-use Rattle.std.specs.Prelude.{IfOk, IfErr}
 use Rattle.std.specs.declared.result.Result.{Result}
 use Rattle.std.specs.declared.result.Result.TheVariants.{Ok, Err}
-use Rattle.work.specs.Passes.{Pass, pass_of, seen_of}
-use Rattle.steps.proofs.ViewsKept.{submitter_can}
-use Rattle.board.specs.declared.lane.Lane.{Lane}
-use Rattle.board.specs.Lanes.{nth, KnowsChains, IsLane}
+use Rattle.board.proofs.Common.{Bool, Did, Entry, Extends, ExtendsAfter, ExtendsNoted, ExtendsTwice, IfErr, IfOk, IsFree, IsLane, KnowsChains, Lane, Layout, Legal, Lending, Lent, Line, List, Pass, Reap, Req, Role, Some, Submit, Submitter, View, [], ap, cells_in, events_of, facts_at, free_later, hosts, nth, pass_of, refl, seen_of, setup_of, submits, submitter_can, subst, sym, ℕ, ◌++◌, ◌+◌, ◌<◌, ◌∙◌, ◌∷◌, ◌≡◌, ◌≤◌, ◌⊎◌}
 use Rattle.board.proofs.LanesKept.{chains_extended, chains_submitted}
 use Rattle.board.proofs.LaneWalks.{TableSeat, reseat}
 use Rattle.board.proofs.SubmitterSeats.{lends_it}

@@ -1,38 +1,10 @@
 -- A submitter that goes along the chain of one of its requests, and looks who has replied.
-use Rattle.std.proofs.Common.{◌≡◌, ◌⊎◌, ⊎_elim, inl, inr, ne_eqb, cond, ℕ, zero, suc, ◌+◌, ◌*◌, ◌==◌, ◌<◌, ◌≤◌, Bool, true, false, List, [], ◌∷◌, ◌++◌, Option, Some, None, length, get_or, sym, refl, ap, ◌∙◌, subst, arith, true≢false, eqb-true, eq-eqb, IsTrue, mul-le-mul_left, suc-mul, ◌-◌, ◌/◌}
-use Rattle.std.proofs.lemmas.List.{append_assoc}
-use Rattle.std.proofs.lemmas.Bool.{cases_lt}
-use mathlib.Core.Logic.{dite}
-use native.Mathlib.Decide.{ℕ_discrete}
+use Rattle.std.proofs.Common.{mul-le-mul_left}
 use Rattle.std.proofs.Math.Nat.{div-lt_iff_lt-mul}
 use Rattle.atomic_table.specs.Seated.{TableId}
-use Rattle.atomic_table.specs.declared.shared.Seat.{Seat}
-use Rattle.claim.specs.Facts.{Facts, packed_facts, fits_facts}
-use Rattle.history.specs.declared.req.Req.{Req}
-use Rattle.history.specs.declared.event.Event.{Event}
-use Rattle.history.specs.History.{Submission, phase, reaped, submission, submits, IsReplied}
-use Rattle.history.specs.Chains.{joins, before_in, previous, placed_from, placed_behind, IsPlaced, IsChainDone}
-use Rattle.history.specs.Legal.{Setup, Legal}
-use Rattle.history.proofs.Growth.{counted, unborn_yet, submission_some}
-use Rattle.history.proofs.Requests.{bool_cases}
-use Rattle.steps.specs.declared.line.Line.{Line}
-use Rattle.steps.specs.declared.parcel.Thing.{Thing}
-use Rattle.steps.specs.declared.view.Layout.{Layout}
-use Rattle.steps.specs.declared.view.Step.{Step}
-use Rattle.steps.specs.declared.view.View.{View}
-use Rattle.steps.specs.Journal.{events_of, noted}
-use Rattle.steps.proofs.FreeCells.{reaped_as}
-use Rattle.steps.specs.Cells.{setup_of, IsCell, ring_of, place_of, cells_in, total, request_at, facts_at, claim_at, words_of}
-use Rattle.steps.specs.Fairness.{IsReaped}
-use Rattle.steps.specs.declared.view.Role.TheVariants.{Submitter}
-use Rattle.steps.specs.Rule.{IsSameSeat}
-use Rattle.steps.proofs.JournalGrowth.{legal_before, lasts, replied_lasts, reaped_lasts, submission_lasts, same_submits, same_before}
-use Rattle.work.specs.declared.grid.Spot.{Spot}
-use Rattle.work.specs.Passes.{Pass, Took}
-use Rattle.steps.proofs.ViewsKept.{submitter_can}
-use Rattle.board.specs.declared.lane.Lane.{Lane}
-use Rattle.board.specs.Calls.{Stepped}
-use Rattle.board.specs.Lanes.{nth, IsLane, IsSpot, IsOver, Watched, SameLane, WereReaped, continues}
+use Rattle.claim.specs.Facts.{Facts}
+use Rattle.board.specs.Lanes.{Watched}
+use Rattle.board.proofs.Common.{Bool, Event, IsCell, IsChainDone, IsLane, IsOver, IsPlaced, IsReaped, IsReplied, IsSameSeat, IsSpot, IsTrue, Lane, Layout, Legal, Line, List, None, Option, Pass, Req, SameLane, Seat, Setup, Some, Spot, Step, Stepped, Submission, Submitter, Thing, Took, View, WereReaped, [], ap, append_assoc, arith, before_in, bool_cases, cases_lt, cells_in, claim_at, cond, continues, counted, dite, eq-eqb, eqb-true, events_of, facts_at, false, fits_facts, get_or, inl, inr, joins, lasts, legal_before, length, ne_eqb, noted, nth, packed_facts, phase, place_of, placed_behind, placed_from, previous, reaped, reaped_as, reaped_lasts, refl, replied_lasts, request_at, ring_of, same_before, same_submits, setup_of, submission, submission_lasts, submission_some, submits, submitter_can, subst, suc, suc-mul, sym, total, true, true≢false, unborn_yet, words_of, zero, ℕ, ℕ_discrete, ⊎_elim, ◌*◌, ◌++◌, ◌+◌, ◌-◌, ◌/◌, ◌<◌, ◌==◌, ◌∙◌, ◌∷◌, ◌≡◌, ◌≤◌, ◌⊎◌}
 use Rattle.board.proofs.FactsWords.{Tells, chain_told}
 use Rattle.board.proofs.LanesKept.{lane_looked, lane_cell}
 use Rattle.board.proofs.OwnCells.{same_default}

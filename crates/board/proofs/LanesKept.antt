@@ -1,42 +1,9 @@
 -- What a submitter knows of the chains of its ring, from one step to the next, and who has replied.
-use Rattle.std.proofs.Common.{◌≡◌, ◌≢◌, ◌⊎◌, ⊎_elim, inl, inr, ℕ, zero, suc, ◌+◌, ◌-◌, ◌*◌, ◌==◌, ◌<◌, ◌≤◌, Bool, true, false, cond, ℤ, Option, Some, None, List, [], ◌∷◌, ◌++◌, length, get_or, sym, refl, ap, ◌∙◌, subst, arith, true≢false, eqb-true, ne_eqb, suc-mul}
-use Rattle.std.proofs.lemmas.Bool.{cases_lt}
-use Rattle.atomic_table.specs.declared.shared.Seat.{Seat}
-use Rattle.entry.specs.Entry.{Entry}
-use Rattle.history.specs.declared.req.Req.{Req}
-use Rattle.history.specs.declared.event.Event.{Event}
-use Rattle.history.specs.declared.event.Event.TheVariants.{Submit}
-use Rattle.history.specs.History.{Cause, Phase, Submission, unborn, phase, submission, submits, was_shut, same, IsReplied}
-use Rattle.history.specs.Chains.{joins, hosts, before_in, previous, IsChainBefore, IsChainDone}
-use Rattle.history.specs.Legal.{Setup, Legal}
-use Rattle.history.proofs.Growth.{counted, unborn_yet}
-use Rattle.history.proofs.Requests.{bool_cases, same_itself}
-use Rattle.steps.specs.declared.line.Line.{Line}
-use Rattle.steps.specs.declared.line.Line.TheVariants.{Did}
-use Rattle.steps.specs.declared.parcel.Thing.{Thing}
-use Rattle.steps.specs.declared.view.Layout.{Layout}
-use Rattle.steps.specs.declared.view.Role.{Role}
-use Rattle.steps.specs.declared.view.Role.TheVariants.{Submitter}
-use Rattle.steps.specs.declared.view.View.{View}
-use Rattle.steps.specs.Fairness.{IsFree, IsReaped, Orderly}
-use Rattle.steps.specs.Journal.{events_of}
-use Rattle.steps.specs.Cells.{setup_of, IsCell, ring_of, place_of, cells_in, request_at}
-use Rattle.steps.specs.Rule.{rings, stands_for, Looks, Extends, IsStep, Vacant}
-use Rattle.steps.proofs.JournalGrowth.{legal_before, lasts, done_lasts, same_before}
-use Rattle.work.specs.declared.grid.Spot.{Spot}
-use Rattle.steps.proofs.ViewsKept.{submitter_can}
-use Rattle.board.specs.declared.lane.Lane.{Lane}
 use Rattle.board.specs.declared.phase.Phase.{Phase as Standing}
-use Rattle.board.specs.declared.phase.Phase.TheVariants.{Unborn, Held, Ready, Running, Armed, Done, Gone}
-use Rattle.board.specs.Calls.{Stands}
-use Rattle.board.specs.Seats.{KnowsCell}
-use Rattle.board.specs.Lanes.{nth, KnowsChains, IsLane, IsSpot, Watched}
+use Rattle.board.specs.Lanes.{Watched}
+use Rattle.board.proofs.Common.{Armed, Bool, Cause, Did, Done, Entry, Event, Extends, Gone, Held, IsCell, IsChainBefore, IsChainDone, IsFree, IsLane, IsReaped, IsReplied, IsSpot, IsStep, KnowsCell, KnowsChains, Lane, Layout, Legal, Line, List, Looks, None, Option, Orderly, Phase, Ready, Req, Role, Running, Seat, Setup, Some, Spot, Stands, Submission, Submit, Submitter, Thing, Unborn, Vacant, View, [], ap, arith, before_in, before_it, bool_cases, cases_lt, cells_in, cond, counted, dite, done_lasts, earlier_reaped, eqb-true, events_of, false, get_or, hosts, inl, inr, joins, lasts, legal_before, length, ne_eqb, nth, phase, place_of, previous, reaped_as, reaped_born, refl, request_at, ring_of, rings, same, same_before, same_itself, setup_of, stands_for, submission, submits, submitter_can, subst, suc, suc-mul, sym, true, true≢false, unborn, unborn_yet, was_shut, zero, ℕ, ℕ_discrete, ℤ, ⊎_elim, ◌*◌, ◌++◌, ◌+◌, ◌-◌, ◌<◌, ◌==◌, ◌∙◌, ◌∷◌, ◌≡◌, ◌≢◌, ◌≤◌, ◌⊎◌}
 use Rattle.board.proofs.SubmitterSeats.{seat_looked, cell_here}
 use Rattle.board.proofs.OwnCells.{same_default}
-use Rattle.steps.proofs.NotesKept.{earlier_reaped, reaped_born}
-use Rattle.steps.proofs.FreeCells.{before_it, reaped_as}
-use mathlib.Core.Logic.{dite}
-use native.Mathlib.Decide.{ℕ_discrete}
 
 -- ---- chains that have replied
 

@@ -1,38 +1,8 @@
 -- What the poller's last step for a request makes of its pass.
-use Rattle.std.proofs.Common.{◌≡◌, ◌≢◌, ⊎_elim, ℕ, ◌<◌, ◌==◌, ◌&&◌, ◌||◌, not, Bool, true, false, cond, true≢false, negsuc, List, [], ◌∷◌, ◌++◌, Option, Some, None, length, sym, refl, ap, ◌∙◌, subst, arith, eq-eqb}
 use Rattle.std.specs.Option.{is_some}
-use Rattle.atomic_table.specs.declared.shared.Seat.{Seat}
-use Rattle.claim.specs.declared.tag.Tag.{Tag}
-use Rattle.entry.specs.declared.op.Op.{Op}
-use Rattle.entry.specs.declared.op.Op.TheVariants.{Nop, PollAdd, Timeout, TimeoutRemove, AsyncCancel, LinkTimeout, Close, Read, Write, Splice, Invalid}
-use Rattle.entry.specs.Entry.{Entry, fails, fails_op}
-use Rattle.gates.specs.Shows.{nth, IsTargetOf}
-use Rattle.history.specs.declared.req.Req.{Req}
-use Rattle.history.specs.declared.event.Event.{Event}
-use Rattle.history.specs.declared.event.Event.TheVariants.{Park, Sever}
-use Rattle.history.specs.History.{Submission, submission, submits, phase, replied, by_sever, IsReplied}
-use Rattle.history.specs.Chains.{IsPlaced, Severed, Open, IsClear, gate_of, is_link_timeout_in, IsTarget, IsLinkTimeout, is_timer, is_timeout, is_link_timeout, placed_behind, placed_from, before_in, previous}
-use Rattle.history.specs.Legal.{Setup, Legal, IsOf as IsOfKind}
-use Rattle.history.proofs.Requests.{bool_cases, same_itself}
-use Rattle.history.proofs.Growth.{submission_some}
-use Rattle.steps.specs.declared.line.Line.{Line}
-use Rattle.steps.specs.declared.line.Line.TheVariants.{Did, Freed}
-use Rattle.steps.specs.declared.parcel.Thing.{Thing}
-use Rattle.steps.specs.declared.view.Layout.{Layout}
-use Rattle.steps.specs.declared.view.Role.{Role}
-use Rattle.steps.specs.declared.view.View.{View}
-use Rattle.steps.specs.Cells.{setup_of, request_at, claim_at, word_of}
-use Rattle.steps.specs.Journal.{events_of, freed}
-use Rattle.steps.specs.Rule.{IsStep, Extends, Shown, owns, stands_for, pollers}
-use Rattle.steps.proofs.JournalGrowth.{lasts, severed_lasts}
-use Rattle.work.specs.Board.{Facts}
-use Rattle.work.specs.Passes.{pass_of, own_of}
-use Rattle.work.proofs.OwnEvents.{own_none}
-use Rattle.work.proofs.PassesKept.{extended_of}
-use Rattle.board.specs.Calls.{Goes}
-use Rattle.board.specs.PollerRows.{IsAt, IsOurs, Watched, MayArm, Decides}
-use Rattle.board.specs.declared.poller.Released.{Released}
-use Rattle.board.specs.declared.poller.Released.TheVariants.{NotHeld}
+use Rattle.gates.specs.Shows.{nth}
+use Rattle.history.specs.Legal.{IsOf as IsOfKind}
+use Rattle.board.proofs.Common.{AsyncCancel, Bool, Close, Decides, Did, Entry, Event, Extends, Facts, Freed, Goes, Invalid, IsAt, IsClear, IsLinkTimeout, IsOurs, IsPlaced, IsReplied, IsStep, IsTarget, IsTargetOf, Layout, Legal, Line, LinkTimeout, List, MayArm, None, Nop, NotHeld, Op, Open, Option, Park, PollAdd, Read, Released, Req, Role, Seat, Setup, Sever, Severed, Shown, Some, Splice, Submission, Tag, Thing, Timeout, TimeoutRemove, View, Watched, Write, [], ap, arith, before_in, bool_cases, by_sever, claim_at, cond, eq-eqb, events_of, extended_of, fails, fails_op, false, freed, gate_of, is_link_timeout, is_link_timeout_in, is_timeout, is_timer, lasts, length, negsuc, not, own_none, own_of, owns, pass_of, phase, placed_behind, placed_from, pollers, previous, refl, replied, request_at, same_itself, setup_of, severed_lasts, stands_for, submission, submission_some, submits, subst, sym, true, true≢false, word_of, ℕ, ⊎_elim, ◌&&◌, ◌++◌, ◌<◌, ◌==◌, ◌||◌, ◌∙◌, ◌∷◌, ◌≡◌, ◌≢◌}
 use Rattle.board.proofs.GoesLaws.{goes_freed}
 use Rattle.board.proofs.PassFacts.{freed_may, freed_more, same_freed}
 use Rattle.board.proofs.Standings.{unheld}

@@ -1,3 +1,4 @@
+pub mod Common
 pub mod ShapeBounds
 pub mod NewPasses
 pub mod PassLists

@@ -1,28 +1,7 @@
 -- How the passes of a new board are cut off the poller's seat.
-use Rattle.std.proofs.Common.{◌≡◌, ℕ, suc, ◌+◌, ◌<◌, ◌≤◌, Option, List, [], ◌∷◌, ◌++◌, length, replicate, sym, refl, ap, ◌∙◌, subst, arith}
-use lib.ListN.{length-replicate}
 use Rattle.atomic_table.specs.Seated.{TableId}
-use Rattle.atomic_table.specs.Table.{Me}
-use Rattle.atomic_table.specs.declared.shared.Seat.{Seat}
-use Rattle.history.specs.History.{was_shut}
-use Rattle.history.specs.Legal.{Legal}
-use Rattle.steps.specs.declared.line.Line.{Line}
-use Rattle.steps.specs.declared.parcel.Thing.{Thing}
-use Rattle.steps.specs.declared.view.Layout.{Layout}
-use Rattle.steps.specs.declared.view.Role.{Role}
-use Rattle.steps.specs.declared.view.Role.TheVariants.{Poller, Submitter, Idle}
-use Rattle.steps.specs.declared.view.View.{View}
-use Rattle.steps.specs.Fairness.{Orderly}
-use Rattle.steps.specs.Journal.{events_of, lent}
-use Rattle.steps.specs.Cells.{setup_of, cells_in}
-use Rattle.steps.specs.Rule.{AreMade, IsSameSeat, without_next, without_one, next_submitter, idle_one, submitter_of, next_poller}
-use Rattle.work.specs.Board.{Facts, share_of}
-use Rattle.work.specs.Grid.{AreCellCounts}
-use Rattle.work.specs.Passes.{Pass, pass_of}
-use Rattle.work.proofs.GridRows.{counts_at}
-use Rattle.board.specs.Seats.{IsSubmitterSeat, KnowsCells}
+use Rattle.board.proofs.Common.{AreCellCounts, AreMade, AreSubmitters, AreWorkers, Facts, Idle, IsCutting, IsFresh, IsSameSeat, IsSubmitterSeat, KnowsCells, Layout, Legal, Line, List, Me, Option, Orderly, Pass, Poller, Role, Seat, Submitter, Thing, View, [], ap, arith, cells_in, counts_at, events_of, idle_one, length, length-replicate, lent, next_poller, next_submitter, pass_of, refl, replicate, setup_of, share_of, submitter_of, subst, suc, sym, was_shut, without_next, without_one, ℕ, ◌++◌, ◌+◌, ◌<◌, ◌∙◌, ◌∷◌, ◌≡◌, ◌≤◌}
 use Rattle.board.proofs.OwnCells.{knows_fresh}
-use Rattle.board.specs.New.{IsFresh, AreSubmitters, AreWorkers, IsCutting}
 
 abbrev TableSeat : Type 0
 TableSeat = Seat (Option Thing) View

@@ -1,14 +1,6 @@
 -- A legal history submits, answers and reaps a request at most once, as its place tells.
-use Rattle.std.proofs.Common.{◌≡◌, ℕ, Bool, true, false, cond, ℤ, List, [], ◌∷◌, sym, refl, ap, subst, ⊎_elim, arith}
-use Rattle.history.specs.declared.req.Req.{Req}
-use Rattle.history.specs.declared.event.Event.{Event}
-use Rattle.history.specs.declared.event.Event.TheVariants.{Submit, Begin, Park, Reply, Take, Arm, Expire, Count, Fire, Settle, Sever, Reap, Cut}
-use Rattle.history.specs.History.{Cause, Phase, unborn, waits, runs, armed, replied, reaped, concerns, becomes, phase, answers}
-use Rattle.history.specs.Legal.{Setup, Legal}
-use Rattle.history.proofs.Requests.{bool_cases}
-use Rattle.history.proofs.Growth.{MayChange, may_change, changed, unchanged}
-use Rattle.steps.proofs.JournalGrowth.{answers_concerns}
 use Rattle.board.specs.Headline.{submits_it, reaps_it, times, HasOnce}
+use Rattle.board.proofs.Common.{Arm, Begin, Bool, Cause, Count, Cut, Event, Expire, Fire, Legal, List, MayChange, Park, Phase, Reap, Reply, Req, Settle, Setup, Sever, Submit, Take, [], answers, answers_concerns, ap, arith, armed, becomes, bool_cases, changed, concerns, cond, false, may_change, phase, reaped, refl, replied, runs, subst, sym, true, unborn, unchanged, waits, ℕ, ℤ, ⊎_elim, ◌∷◌, ◌≡◌}
 
 -- how often a request that stands so was submitted, answered and reaped
 submitted_at : Phase → ℕ

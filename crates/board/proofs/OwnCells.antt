@@ -1,28 +1,5 @@
 -- What a submitter knows of the cells of its ring, from one step to the next.
-use Rattle.std.proofs.Common.{◌≡◌, ℕ, zero, suc, ◌+◌, ◌<◌, Bool, true, false, List, [], ◌∷◌, ◌++◌, replicate, length, get_or, set, sym, refl, ap, ◌∙◌, subst, arith, get_or-set_same, get_or-set_other}
-use lib.ListN.{get_or-replicate}
-use mathlib.Core.Logic.{dite}
-use native.Mathlib.Decide.{ℕ_discrete}
-use Rattle.history.specs.declared.req.Req.{Req}
-use Rattle.history.specs.declared.event.Event.{Event}
-use Rattle.history.specs.declared.event.Event.TheVariants.{Reap}
-use Rattle.history.specs.History.{reaped, after_reap, phase, submits}
-use Rattle.history.specs.Legal.{Setup, Legal}
-use Rattle.history.proofs.Growth.{counted}
-use Rattle.history.proofs.Requests.{same_itself}
-use Rattle.steps.specs.declared.line.Line.{Line}
-use Rattle.steps.specs.declared.line.Line.TheVariants.{Did}
-use Rattle.steps.specs.declared.view.Layout.{Layout}
-use Rattle.steps.specs.declared.view.Role.{Role}
-use Rattle.steps.specs.declared.view.View.{View}
-use Rattle.steps.specs.Fairness.{IsReaped, Orderly}
-use Rattle.steps.specs.Journal.{events_of, noted, stores, lends, lent, event_of}
-use Rattle.steps.specs.Cells.{setup_of, IsCell, ring_of, place_of, cells_in, request_at, facts_at}
-use Rattle.steps.specs.Rule.{rings, stands_for, NoneOf, Looks, Extends}
-use Rattle.steps.proofs.CellNumbers.{located, first_cell, other_age}
-use Rattle.steps.proofs.FreeCells.{reaped_as, same_noted}
-use Rattle.steps.proofs.JournalGrowth.{legal_tail, legal_before, lasts, reaped_lasts, reaps, was_reaped, reaped_before, same_submits, same_lent}
-use Rattle.board.specs.Seats.{KnowsCell, KnowsCells}
+use Rattle.board.proofs.Common.{Bool, Did, Event, Extends, IsCell, IsReaped, KnowsCell, KnowsCells, Layout, Legal, Line, List, Looks, NoneOf, Orderly, Reap, Req, Role, Setup, View, [], after_reap, ap, arith, cells_in, counted, dite, event_of, events_of, facts_at, false, first_cell, get_or, get_or-replicate, get_or-set_other, get_or-set_same, lasts, legal_before, legal_tail, lends, length, lent, located, noted, other_age, phase, place_of, reaped, reaped_as, reaped_before, reaped_lasts, reaps, refl, replicate, request_at, ring_of, rings, same_itself, same_lent, same_noted, same_submits, set, setup_of, stands_for, stores, submits, subst, suc, sym, true, was_reaped, zero, ℕ, ℕ_discrete, ◌++◌, ◌+◌, ◌<◌, ◌∙◌, ◌∷◌, ◌≡◌}
 
 pub same_default : (l : List ℕ) (i a b : ℕ) → i < length l → get_or l i a ≡ get_or l i b
 same_default [] i a b lt = absurd (omega arith)

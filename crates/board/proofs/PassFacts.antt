@@ -1,27 +1,8 @@
 -- What a pass of a board knows, and what a step of its seat tells it.
-use Rattle.std.proofs.Common.{◌≡◌, ℕ, ◌+◌, ◌<◌, ◌≤◌, inl, inr, true, false, true≢false, cond, List, [], ◌∷◌, ◌++◌, length, sym, refl, ap, ◌∙◌, subst, arith}
-use Rattle.history.specs.declared.req.Req.{Req}
-use Rattle.history.specs.History.{unborn, same, phase}
-use Rattle.history.proofs.Growth.{unborn_yet}
-use Rattle.history.proofs.Requests.{same_itself}
 use Rattle.history.proofs.StateWords.{no_ring}
-use Rattle.steps.specs.declared.line.Line.{Line}
-use Rattle.steps.specs.declared.view.Layout.{Layout}
-use Rattle.steps.specs.declared.line.Line.TheVariants.{Did, Freed, Lent, Noted, Hold, Free}
-use Rattle.steps.specs.declared.view.Role.{Role}
-use Rattle.steps.specs.declared.view.Role.TheVariants.{Poller}
-use Rattle.steps.specs.Journal.{freed}
-use Rattle.steps.specs.declared.view.Step.{Step}
-use Rattle.steps.specs.declared.view.View.{View}
-use Rattle.steps.specs.Cells.{setup_of, IsCell, request_at, claim_at, total}
-use Rattle.steps.specs.Rule.{pollers, stands_for, owns, NoneOf, Begins, Looks, Extends, Shown, IsStep, hearing, seeing}
-use Rattle.work.specs.Board.{Facts, IsBoard, IsOf}
-use Rattle.work.specs.Grid.{AreCellCounts}
-use Rattle.work.specs.Passes.{Pass, CanReach, seen_of, Took}
-use Rattle.work.proofs.PassesKept.{looked_of}
+use Rattle.board.proofs.Common.{AreCellCounts, Begins, CanReach, Did, Extends, Facts, Free, Freed, Goes, HasLooked, Hold, IsBoard, IsCell, IsOf, IsStep, IsWord, KeepsFreed, Layout, Lent, Line, List, Looks, MayStart, NoneOf, Noted, Pass, Poller, Req, Role, Shown, Step, Stepped, Took, View, [], ap, arith, claim_at, cond, false, freed, hearing, inl, inr, length, looked_of, owns, phase, pollers, refl, request_at, same, same_itself, seeing, seen_of, setup_of, stands_for, subst, sym, total, true, true≢false, unborn, unborn_yet, ℕ, ◌++◌, ◌+◌, ◌<◌, ◌∙◌, ◌∷◌, ◌≡◌, ◌≤◌}
 use Rattle.board.proofs.Standings.{word_is}
 use Rattle.board.proofs.HeardPasses.{heard_second}
-use Rattle.board.specs.Calls.{KeepsFreed, IsWord, Stepped, HasLooked, Goes, MayStart}
 use Rattle.board.proofs.GoesLaws.{goes_looked}
 
 -- no request of a ring that isn't there was submitted

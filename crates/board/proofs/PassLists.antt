@@ -1,11 +1,6 @@
 -- Lists of a board's passes: those of a new board, and those that are handed in at its end.
-use Rattle.std.proofs.Common.{ℕ, zero, suc, ◌+◌, Bool, true, false, List, [], ◌∷◌, ◌++◌, All, length, if◌then◌else◌, subst, arith}
 use Rattle.std.proofs.lemmas.List.Elements.{All-push}
-use Rattle.steps.specs.declared.view.Role.TheVariants.{Submitter}
-use Rattle.work.specs.Board.{Facts, IsOf}
-use Rattle.work.specs.Passes.{Pass}
-use Rattle.board.specs.New.{AreSubmitters, AreWorkers, IsFresh}
-use Rattle.board.specs.Reports.{AreOf}
+use Rattle.board.proofs.Common.{All, AreOf, AreSubmitters, AreWorkers, Bool, Facts, IsFresh, IsOf, List, Pass, Submitter, [], arith, false, if◌then◌else◌, length, subst, suc, true, zero, ℕ, ◌++◌, ◌+◌, ◌∷◌}
 
 -- new passes are the board's own
 pub submitters_of : (b : Facts) (n : ℕ) (ps : List Pass) → AreSubmitters b n ps → All (λ p. IsOf b p) ps

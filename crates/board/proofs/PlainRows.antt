@@ -1,20 +1,6 @@
 -- What a row's note of plain requests says of them.
-use Rattle.std.proofs.Common.{◌<◌, List, Option, arith}
-use Rattle.atomic_table.specs.declared.shared.Seat.{Seat}
-use Rattle.gates.specs.EntryRows.{Kept}
-use Rattle.gates.specs.Shows.{ArePlain}
 use Rattle.gates.proofs.PlainLaws.{plain_unsevered, plain_open}
-use Rattle.history.specs.declared.req.Req.{Req}
-use Rattle.history.specs.declared.event.Event.{Event}
-use Rattle.history.specs.History.{submits}
-use Rattle.history.specs.Chains.{Severed, Open}
-use Rattle.steps.specs.declared.parcel.Thing.{Thing}
-use Rattle.steps.specs.declared.view.View.{View}
-use Rattle.steps.specs.Cells.{setup_of}
-use Rattle.steps.specs.Journal.{events_of}
-use Rattle.steps.proofs.JournalGrowth.{submitted_in}
-use Rattle.work.specs.Board.{Facts}
-use Rattle.board.specs.PollerRows.{IsOurs, KnowsRow}
+use Rattle.board.proofs.Common.{ArePlain, Event, Facts, IsOurs, Kept, KnowsRow, List, Open, Option, Req, Seat, Severed, Thing, View, arith, events_of, setup_of, submits, submitted_in, ◌<◌}
 
 abbrev TableSeat : Type 0
 TableSeat = Seat (Option Thing) View

@@ -1,18 +1,8 @@
 -- A request that has replied, put back by a Park as if it hadn't: what is open, or severed, is so with it as without it, and a
 -- list that trails a history in which the request waits goes on to trail what follows, with the request put back.
-use Rattle.std.proofs.Common.{◌≡◌, ℕ, ◌<◌, ◌≤◌, Bool, true, false, cond, ℤ, List, [], ◌∷◌, ◌++◌, Some, sym, refl, ap, ◌∙◌, subst, ⊎_elim, inl, inr, arith}
-use Rattle.entry.specs.Entry.{Entry}
-use Rattle.history.specs.declared.req.Req.{Req}
-use Rattle.history.specs.declared.event.Event.{Event}
-use Rattle.history.specs.declared.event.Event.TheVariants.{Park}
-use Rattle.history.specs.History.{waits, same, phase, reply, reply_in, submission, submits, IsReplied}
-use Rattle.history.specs.Chains.{IsPlaced, IsBefore, IsChained, IsChainDone, Severed, IsClear, Open, gate_of, previous, placed, is_link_timeout_in}
-use Rattle.history.specs.Legal.{Setup, MayCome, Legal}
-use Rattle.history.proofs.Requests.{bool_cases, same_itself, same_true, same_false}
-use Rattle.history.proofs.Growth.{counted, submission_stays, reply_stays, replied_of_reply}
 use Rattle.history.proofs.Opening.{placed_stays, chain_was, done_stays}
-use Rattle.gates.specs.Slots.{Slot}
-use Rattle.gates.specs.Shows.{nth, HasNotSevered, HaveGoneOn, StandsIn, IsOutcome, TrailedAt, Trails}
+use Rattle.gates.specs.Shows.{nth}
+use Rattle.board.proofs.Common.{Bool, Entry, Event, HasNotSevered, HaveGoneOn, IsBefore, IsChainDone, IsChained, IsClear, IsOutcome, IsPlaced, IsReplied, Legal, List, MayCome, Open, Park, Req, Setup, Severed, Slot, Some, StandsIn, TrailedAt, Trails, [], ap, arith, bool_cases, cond, counted, false, gate_of, inl, inr, is_link_timeout_in, phase, placed, previous, refl, replied_of_reply, reply, reply_in, reply_stays, same, same_false, same_itself, same_true, submission, submission_stays, submits, subst, sym, true, waits, ℕ, ℤ, ⊎_elim, ◌++◌, ◌<◌, ◌∙◌, ◌∷◌, ◌≡◌, ◌≤◌}
 
 module _ (r : Req) (h : List Event) where
   abbrev back : List Event

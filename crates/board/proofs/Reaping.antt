@@ -1,28 +1,6 @@
 -- What a submitter knows of a request that it reaps, or that it can't reap.
-use Rattle.std.proofs.Common.{◌≡◌, ℕ, ◌≤◌, true, false, cond, ℤ, List, ◌∷◌, ◌++◌, Some, refl, ap, ◌∙◌, subst, of_z, w32}
-use mir.Val.{to_z}
-use Rattle.history.specs.declared.req.Req.{Req}
-use Rattle.history.specs.declared.event.Event.TheVariants.{Reap}
-use Rattle.history.specs.History.{Cause, replied, reaped, phase, submits, after_reap, data_of, reply, reply_in, was_shut, IsReplied}
-use Rattle.history.specs.Legal.{Setup, Legal}
-use Rattle.history.proofs.Growth.{unborn_yet}
-use Rattle.history.proofs.Requests.{same_itself}
-use Rattle.steps.specs.declared.line.Line.{Line}
-use Rattle.steps.specs.declared.line.Line.TheVariants.{Did, Lent}
-use Rattle.steps.specs.declared.view.Role.{Role}
-use Rattle.steps.specs.declared.view.Role.TheVariants.{Submitter, Lending}
-use Rattle.steps.specs.declared.view.View.{View}
-use Rattle.steps.specs.Journal.{events_of}
-use Rattle.steps.specs.Cells.{setup_of, request_at}
-use Rattle.steps.specs.Rule.{rings, stands_for, Extends, ExtendsTwice, Shown, IsDone}
-use Rattle.steps.proofs.JournalGrowth.{legal_tail, live_tail, still_replied, still_data}
-use Rattle.steps.proofs.ClaimWords.{done_word}
-use Rattle.work.specs.Board.{Facts, IsOf}
-use Rattle.work.specs.Passes.{Pass, seen_of}
-use Rattle.steps.proofs.ViewsKept.{submitter_can}
 use Rattle.board.specs.declared.phase.Phase.{Phase as Standing}
-use Rattle.board.specs.declared.phase.Phase.TheVariants.{Unborn, Held, Ready, Running, Armed, Done, Gone}
-use Rattle.board.specs.Calls.{Stands}
+use Rattle.board.proofs.Common.{Armed, Cause, Did, Done, Extends, ExtendsTwice, Facts, Gone, Held, IsDone, IsOf, IsReplied, Legal, Lending, Lent, Line, List, Pass, Ready, Reap, Req, Role, Running, Setup, Shown, Some, Stands, Submitter, Unborn, View, after_reap, ap, cond, data_of, done_word, events_of, false, legal_tail, live_tail, of_z, phase, reaped, refl, replied, reply, reply_in, request_at, rings, same_itself, seen_of, setup_of, stands_for, still_data, still_replied, submits, submitter_can, subst, to_z, true, unborn_yet, w32, was_shut, ℕ, ℤ, ◌++◌, ◌∙◌, ◌∷◌, ◌≡◌, ◌≤◌}
 use Rattle.board.proofs.Standings.{signed_is}
 use Rattle.board.proofs.SubmitterSeats.{lends_it}
 

@@ -1,25 +1,6 @@
 -- What a release finds of its request.
-use Rattle.std.proofs.Common.{◌≡◌, inl, ⊎_elim, ℕ, true, false, nat_lt, ltb-true, ltb-false, true≢false, arith, List, Option, sym, refl, ap, ◌∙◌, subst}
-use Rattle.atomic_table.specs.declared.shared.Seat.{Seat}
-use Rattle.history.specs.declared.req.Req.{Req}
-use Rattle.history.proofs.Requests.{bool_cases}
-use Rattle.history.specs.History.{phase, waits}
-use Rattle.claim.specs.declared.tag.Tag.{Tag}
-use Rattle.steps.specs.declared.line.Line.{Line}
-use Rattle.steps.specs.declared.parcel.Thing.{Thing}
-use Rattle.steps.specs.declared.view.Layout.{Layout}
-use Rattle.steps.specs.declared.view.View.{View}
-use Rattle.steps.specs.Journal.{events_of, freed}
-use Rattle.steps.specs.Cells.{request_at, claim_at}
-use Rattle.steps.specs.Rule.{IsStep, Shown}
-use Rattle.steps.proofs.ClaimWords.{says_of}
-use Rattle.work.specs.Board.{Facts}
-use Rattle.work.specs.Passes.{pass_of}
 use Rattle.board.specs.declared.phase.Phase.{Phase as Standing}
-use Rattle.board.specs.declared.phase.Phase.TheVariants.{Unborn, Held, Ready, Running, Armed, Done, Gone}
-use Rattle.board.specs.declared.poller.Released.TheVariants.{NotHeld}
-use Rattle.board.specs.Calls.{Stands, IsUnheld}
-use Rattle.board.specs.PollerRows.{IsAt, IsOurs, Watched, Decides}
+use Rattle.board.proofs.Common.{Armed, Decides, Done, Facts, Gone, Held, IsAt, IsOurs, IsStep, IsUnheld, Layout, Line, List, NotHeld, Option, Ready, Req, Running, Seat, Shown, Stands, Tag, Thing, Unborn, View, Watched, ap, arith, bool_cases, claim_at, events_of, false, freed, inl, ltb-false, ltb-true, nat_lt, pass_of, phase, refl, request_at, says_of, subst, sym, true, true≢false, waits, ℕ, ⊎_elim, ◌∙◌, ◌≡◌}
 use Rattle.board.proofs.PassFacts.{stepped_once}
 use Rattle.board.proofs.Standings.{unheld}
 

@@ -1,32 +1,14 @@
 -- The lines of a report, one after the other.
-use Rattle.std.proofs.Common.{◌≡◌, ◌⊎◌, inl, inr, ⊎_elim, ℕ, zero, suc, ◌+◌, ◌-◌, ◌*◌, ◌/◌, ◌%◌, ◌<◌, ◌≤◌, Bool, ℤ, Option, Some, None, List, [], ◌∷◌, ◌++◌, length, set, sym, refl, ap, ◌∙◌, subst, arith, length-append}
 use Rattle.std.proofs.Math.Nat.{mul-le-mul_left}
-use mathlib.Core.Logic.{dite}
-use mathlib.Core.Option.{some, some-injective}
-use native.Mathlib.Decide.{ℕ_discrete}
-use lib.ListN.{get_elem?, length-set}
+use lib.ListN.{length-set}
 use Rattle.atomic_table.proofs.Lists.{set_else}
-use Rattle.history.specs.declared.req.Req.{Req}
-use Rattle.history.specs.declared.event.Event.{Event}
-use Rattle.history.specs.History.{Cause, Phase, unborn, waits, runs, armed, replied, reaped, phase, submits}
-use Rattle.history.specs.Legal.{Setup}
-use Rattle.history.proofs.Growth.{counted, born_once}
-use Rattle.steps.specs.declared.line.Line.{Line}
 use Rattle.steps.specs.declared.parcel.Parcel.{Parcel}
-use Rattle.steps.specs.declared.parcel.Thing.{Thing}
-use Rattle.steps.specs.declared.parcel.Thing.TheVariants.{Full}
-use Rattle.steps.specs.Journal.{events_of}
-use Rattle.steps.specs.Cells.{IsCell, request_at, ring_of, place_of, cells_in, Ages, IsParcel}
-use Rattle.steps.proofs.CellNumbers.{first_cell}
 use Rattle.steps.proofs.StepKinds.{same_parcel}
+use Rattle.board.proofs.Common.{Ages, AreEarlier, AreLater, AreLines, Armed, Bool, Cause, Completion, Done, Event, Full, Gone, Held, IsCell, IsCutOrNot, IsLeft, IsLine, IsLineOf, IsListed, IsParcel, IsPresent, IsReplyOf, Line, List, None, Option, Ordered, Phase, Ready, Reports, Req, Rests, Running, Setup, Some, Stands, Thing, Unborn, [], ap, arith, armed, born_once, cell_says, cells_in, counted, counts_at, data_left, dite, events_of, first_cell, full_slots, get_elem?, inl, inr, length, length-append, located_is, phase, place_of, reaped, refl, replied, request_at, ring_of, runs, set, some, some-injective, submits, subst, suc, sym, unborn, waits, zero, ℕ, ℕ_discrete, ℤ, ⊎_elim, ◌%◌, ◌*◌, ◌++◌, ◌+◌, ◌-◌, ◌/◌, ◌<◌, ◌∙◌, ◌∷◌, ◌≡◌, ◌≤◌, ◌⊎◌}
 use Rattle.board.proofs.Standings.{nat_order}
-use Rattle.work.proofs.GridRows.{cell_says, located_is, counts_at}
-use Rattle.board.specs.declared.completion.Completion.{Completion}
 use Rattle.board.specs.declared.phase.Phase.{Phase as Standing}
-use Rattle.board.specs.declared.phase.Phase.TheVariants.{Unborn, Held, Ready, Running, Armed, Done, Gone}
-use Rattle.board.specs.Calls.{Stands, IsPresent}
-use Rattle.board.specs.Remains.{IsLeft, full_slots, Rests, IsKept, IsCutOrNot, IsReplyOf, IsLineOf, IsLine, data_left, AreLines, AreEarlier, Reports}
-use Rattle.board.specs.Reports.{IsBefore, AreLater, Ordered, IsListed}
+use Rattle.board.specs.Remains.{IsKept}
+use Rattle.board.specs.Reports.{IsBefore}
 
 abbrev Lines : Type 0
 Lines = List (Completion × Bool)

@@ -1,46 +1,16 @@
 -- What the poller knows of a ring's row, from one look and one call of the row to the next.
-use Rattle.std.proofs.Common.{◌≡◌, ℕ, zero, suc, ◌+◌, ◌-◌, ◌*◌, ◌/◌, ◌%◌, ◌<◌, ◌≤◌, ◌||◌, ◌&&◌, not, suc-mul, mul-le-mul_right, Bool, true, false, cond, List, [], ◌∷◌, ◌++◌, drop, length, Option, Some, ⊎_elim, inl, inr, sym, refl, ap, ◌∙◌, subst, arith, true≢false}
-use Rattle.std.proofs.lemmas.Bool.{cases_lt}
 use Rattle.std.proofs.lemmas.Option.{none-some}
-use Rattle.std.specs.List.{slice_get}
 use Rattle.std.specs.Result.{IsOk, OnOk}
 use Rattle.std.specs.declared.result.Result.{Result}
 use Rattle.std.specs.declared.result.Result.TheVariants.{Ok, Err}
-use Rattle.atomic_table.specs.declared.shared.Seat.{Seat}
 use Rattle.claim.specs.Facts.{Facts as FactsParts}
-use Rattle.entry.specs.Entry.{Entry, drains, links, links_soft, links_hard}
 use Rattle.gates.specs.declared.traits.Traits.{Traits}
-use Rattle.gates.specs.EntryRows.{Kept, Stands, added, waiting, waiting_in, slot_with, stand_in, stand_ins, with_reply, Waits}
-use Rattle.gates.specs.Shows.{nth, IsPlainAt, ArePlain, TrailsAt, Trails, IsOutcome, IsOfChain}
-use Rattle.gates.specs.Slots.{Slot, traits_of, is_pending, test_at, passes}
-use Rattle.gates.proofs.TrailLaws.{trails_later, plain_later, trails_stand_ins, trails_more, trails_replied, lost_replied, met_trails, stand_in_trails, of_chain_done}
-use Rattle.history.specs.declared.req.Req.{Req}
-use Rattle.history.specs.declared.event.Event.{Event}
-use Rattle.history.specs.declared.event.Event.TheVariants.{Park}
-use Rattle.history.specs.History.{phase, unborn, waits, submits, was_shut, IsReplied}
-use Rattle.history.specs.Chains.{IsChainDone, IsLinkTimeout, before_in, placed_from, placed_behind, is_link_timeout}
-use Rattle.history.specs.Legal.{Setup, Legal}
-use Rattle.steps.specs.declared.line.Line.{Line}
-use Rattle.steps.specs.declared.parcel.Thing.{Thing}
-use Rattle.steps.specs.declared.view.Role.{Role}
-use Rattle.steps.specs.declared.view.View.{View}
-use Rattle.steps.specs.Rule.{pollers, stands_for}
-use Rattle.steps.specs.Cells.{setup_of, IsCell, ring_of, place_of, cells_in, request_at}
-use Rattle.steps.proofs.CellNumbers.{first_cell, located, ring_in}
-use Rattle.steps.proofs.NotesKept.{earlier_gone}
-use Rattle.history.proofs.Growth.{born_once, counted}
-use Rattle.gates.proofs.Lists.{get_there, one_some}
+use Rattle.gates.specs.EntryRows.{Stands}
+use Rattle.gates.specs.Shows.{nth}
+use Rattle.steps.proofs.CellNumbers.{ring_in}
 use Rattle.gates.proofs.Trailing.{trailed}
-use Rattle.steps.proofs.JournalGrowth.{submits_grow, submitted_in}
-use Rattle.history.proofs.Requests.{bool_cases, same_false}
-use Rattle.steps.specs.Journal.{events_of}
-use Rattle.work.specs.Board.{Facts, IsBoard}
-use Rattle.work.proofs.GridRows.{counts_at, cell_says, located_is}
-use Rattle.board.specs.PollerRows.{KnowsRow, IsNumbered, IsAt, IsOurs, Watches, Watched, HasOutcome, Notes, is_plain, owed}
-use Rattle.steps.specs.FactsTold.{TellsFacts, AreFacts}
+use Rattle.board.proofs.Common.{AreFacts, ArePlain, Bool, Entry, Event, Facts, Goes, HasOutcome, IsAt, IsBoard, IsCell, IsChainDone, IsLinkTimeout, IsNumbered, IsOfChain, IsOurs, IsOutcome, IsPlainAt, IsReplied, Kept, KnowsRow, Legal, Line, List, Notes, Option, Park, Pass, Req, Role, Seat, Setup, Slot, Some, TellsFacts, Thing, Trails, TrailsAt, View, Waits, Watched, Watches, [], added, ap, arith, before_in, bool_cases, born_once, cases_lt, cell_says, cells_in, cond, counted, counts_at, drains, drop, earlier_gone, events_of, false, first_cell, get_there, inl, inr, is_link_timeout, is_pending, is_plain, length, links, links_hard, links_soft, located, located_is, lost_replied, met_trails, mul-le-mul_right, not, of_chain_done, one_some, owed, pass_of, passes, phase, place_of, placed_behind, placed_from, plain_later, pollers, refl, request_at, ring_of, same_false, setup_of, slice_get, slot_with, stand_in, stand_in_trails, stand_ins, stands_for, submits, submits_grow, submitted_in, subst, suc, suc-mul, sym, test_at, trails_later, trails_more, trails_replied, trails_stand_ins, traits_of, true, true≢false, unborn, waiting, waiting_in, waits, was_shut, with_reply, zero, ℕ, ⊎_elim, ◌%◌, ◌&&◌, ◌*◌, ◌++◌, ◌+◌, ◌-◌, ◌/◌, ◌<◌, ◌||◌, ◌∙◌, ◌∷◌, ◌≡◌, ◌≤◌}
 use Rattle.board.proofs.GoesLaws.{events_before}
-use Rattle.work.specs.Passes.{Pass, pass_of}
-use Rattle.board.specs.Calls.{Goes}
 use Rattle.board.proofs.PutBack.{waits_back, trails_back, parked_later, outcome_put}
 use Rattle.board.proofs.TimersKept.{link_was, link_still}
 use Rattle.board.proofs.FactsWords.{placed_links}

@@ -1,27 +1,7 @@
 -- The rows of all rings, from one look to the next.
-use Rattle.std.proofs.Common.{◌≡◌, ℕ, zero, suc, get_or, ◌+◌, ◌≤◌, ⊎_elim, ◌<◌, List, [], ◌∷◌, ◌++◌, Some, Option, length, set, sym, ap, ◌∙◌, subst, arith, length-set, length-append}
-use Rattle.std.specs.List.{slice_get}
-use Rattle.std.proofs.lemmas.Bool.{cases_lt}
 use Rattle.std.proofs.lemmas.Option.{slice_get_within}
-use mathlib.Core.Logic.{dite}
-use native.Mathlib.Decide.{ℕ_discrete}
-use Rattle.gates.specs.EntryRows.{Kept, Stands}
-use Rattle.gates.specs.Shows.{Trails, ArePlain}
-use Rattle.gates.proofs.Lists.{get_before, get_last, get_set_same, get_set_other, one_some}
-use Rattle.gates.proofs.TrailLaws.{trails_none, trails_later, plain_later}
-use Rattle.history.specs.declared.event.Event.{Event}
-use Rattle.history.specs.Legal.{Legal}
-use Rattle.steps.specs.declared.view.View.{View}
-use Rattle.steps.specs.Cells.{setup_of, cells_in}
-use Rattle.steps.specs.Journal.{events_of}
-use Rattle.steps.specs.Rule.{Looks}
-use Rattle.work.specs.Board.{Facts, IsOf}
-use Rattle.work.specs.Passes.{Pass, pass_of}
-use Rattle.atomic_table.specs.declared.shared.Seat.{Seat}
-use Rattle.steps.specs.declared.parcel.Thing.{Thing}
-use Rattle.steps.specs.declared.view.Layout.{Layout}
-use Rattle.board.specs.Calls.{Goes}
-use Rattle.board.specs.PollerRows.{KnowsRow, KnowsRows}
+use Rattle.gates.specs.EntryRows.{Stands}
+use Rattle.board.proofs.Common.{ArePlain, Event, Facts, Goes, IsOf, Kept, KnowsRow, KnowsRows, Layout, Legal, List, Looks, Option, Pass, Seat, Some, Thing, Trails, View, [], ap, arith, cases_lt, cells_in, dite, events_of, get_before, get_last, get_or, get_set_other, get_set_same, length, length-append, length-set, one_some, pass_of, plain_later, set, setup_of, slice_get, subst, suc, sym, trails_later, trails_none, zero, ℕ, ℕ_discrete, ⊎_elim, ◌++◌, ◌+◌, ◌<◌, ◌∙◌, ◌∷◌, ◌≡◌, ◌≤◌}
 use Rattle.board.proofs.GoesLaws.{events_before}
 use Rattle.board.proofs.RowLaws.{knows_goes}
 

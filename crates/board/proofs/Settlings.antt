@@ -1,49 +1,15 @@
 -- What the poller's looks at a LINK_TIMEOUT and at its target, and its step that settles one, tell it.
-use Rattle.std.proofs.Common.{◌≡◌, ◌≢◌, ⊎_elim, inl, inr, ℕ, suc, ◌-◌, ◌<◌, ◌==◌, ◌&&◌, not, Bool, true, false, cond, negsuc, List, [], ◌∷◌, ◌++◌, Option, Some, None, refl, sym, ap, ◌∙◌, subst, arith, true≢false, eq-eqb}
-use Rattle.atomic_table.specs.declared.shared.Seat.{Seat}
-use Rattle.claim.specs.declared.tag.Tag.{Tag}
-use Rattle.entry.specs.declared.op.Op.TheVariants.{Invalid}
-use Rattle.entry.specs.Entry.{Entry}
-use Rattle.history.specs.declared.req.Req.{Req}
-use Rattle.history.specs.declared.event.Event.{Event}
-use Rattle.history.specs.declared.event.Event.TheVariants.{Settle}
-use Rattle.history.specs.History.{Submission, phase, armed, replied, by_settle, fired, submission, submits, was_shut, IsReplied}
-use Rattle.history.specs.Chains.{IsLinkTimeout, hosts, is_link_timeout, placed_from}
-use Rattle.history.proofs.Requests.{bool_cases, same_itself}
-use Rattle.steps.specs.declared.line.Line.{Line}
-use Rattle.steps.specs.declared.line.Line.TheVariants.{Did}
-use Rattle.steps.specs.declared.parcel.Thing.{Thing}
-use Rattle.steps.specs.declared.view.Layout.{Layout}
-use Rattle.steps.specs.declared.view.Role.{Role}
-use Rattle.steps.specs.declared.view.View.{View}
-use Rattle.steps.specs.Cells.{request_at, claim_at, word_of}
-use Rattle.steps.specs.Journal.{events_of}
-use Rattle.steps.specs.Rule.{pollers, stands_for, Extends, IsStep, Shown}
-use Rattle.steps.proofs.OwnFacts.{same_fired}
-use Rattle.work.specs.Board.{Facts}
-use Rattle.work.specs.Passes.{Pass, pass_of, seen_of}
-use Rattle.board.specs.declared.alarm.Alarm.{Alarm}
 use Rattle.board.specs.declared.phase.Phase.{Phase as Standing}
-use Rattle.board.specs.declared.phase.Phase.TheVariants.{Armed}
 use Rattle.board.specs.declared.poller.Settling.{Settling}
 use Rattle.board.specs.declared.poller.Settling.TheVariants.{Settled, TargetOpen}
-use Rattle.board.specs.Calls.{Goes, Stands}
-use Rattle.board.specs.PollerRows.{IsAt, IsOurs, Watched, Paid}
-use Rattle.board.specs.TimerCalls.{IsArmed, IsTargetOpen, Settles, SettlingTells, settled_by}
+use Rattle.board.proofs.Common.{Alarm, Alone, Armed, Bool, Did, Done, Entry, Event, Extends, Facts, Goes, Gone, Invalid, IsArmed, IsAt, IsKept, IsLinkTimeout, IsOurs, IsPlaced, IsReplied, IsStep, IsTarget, IsTargetOpen, KnowsAlarm, Layout, Legal, Line, Linked, List, None, Option, Paid, Pass, Req, Role, Seat, Settle, Settles, SettlingTells, Shown, Some, Stands, Submission, Tag, Thing, View, Watched, [], ap, arith, armed, bool_cases, by_settle, claim_at, cond, counted_in, eq-eqb, events_of, false, fired, hosts, inl, inr, is_link_timeout, is_timeout, lasts, negsuc, not, pass_of, phase, placed_from, placed_lasts, pollers, previous, refl, replied, request_at, same_fired, same_itself, seen_of, settled_by, setup_of, stands_for, submission, submits, submits_grow, subst, suc, sym, true, true≢false, was_shut, word_of, ℕ, ℤ, ⊎_elim, ◌&&◌, ◌++◌, ◌-◌, ◌<◌, ◌==◌, ◌∙◌, ◌∷◌, ◌≡◌, ◌≢◌, ◌⊎◌}
 use Rattle.board.proofs.Expiries.{no_more_armed, stepped_by, unarmed}
 use Rattle.board.proofs.GoesLaws.{goes_then}
 use Rattle.board.proofs.TimersHeld.{freed_one, goes_one, none}
 use Rattle.board.proofs.TimersKept.{AllPass, is_calm, is_still, link_still}
 use Rattle.board.proofs.Watching.{stepped_after}
-use Rattle.board.specs.declared.alarm.Alarm.TheVariants.{Linked, Alone}
-use Rattle.board.specs.declared.phase.Phase.TheVariants.{Done, Gone}
-use Rattle.board.specs.PollerTimers.{IsKept, KnowsAlarm}
 use Rattle.board.proofs.TimersHeld.{alarm_goes, fired_after}
-use Rattle.history.specs.Chains.{IsPlaced, IsTarget, is_timeout, previous}
-use Rattle.history.specs.Legal.{IsOf as IsOfKind, Legal}
-use Rattle.steps.specs.Cells.{setup_of}
-use Rattle.steps.proofs.JournalGrowth.{counted_in, lasts, placed_lasts, submits_grow}
-use Rattle.std.proofs.Common.{◌⊎◌, ℤ}
+use Rattle.history.specs.Legal.{IsOf as IsOfKind}
 
 abbrev TableSeat : Type 0
 TableSeat = Seat (Option Thing) View

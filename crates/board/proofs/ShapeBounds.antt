@@ -1,14 +1,8 @@
 -- The limits of a shape, ring by ring and pipe by pipe.
-use Rattle.std.proofs.Common.{◌≡◌, ℕ, ◌<◌, ◌≤◌, max, true, false, ◌&&◌, List, [], ◌∷◌, length, get_or, drop, ◌+◌, ◌*◌, zero, suc, sym, refl, ap, ◌∙◌, ⊎_elim, arith, true≢false, ltb-true, ltb-false, leb-true, nat_lt}
 use Rattle.std.specs.Int.{is_power_of_two}
-use Rattle.history.proofs.Requests.{bool_cases, and_left, and_right}
-use Rattle.steps.specs.Cells.{cells_in, total}
-use Rattle.work.specs.Grid.{AreCells, AreCellCounts}
-use Rattle.std.proofs.lemmas.List.{at_drop_more}
-use Rattle.board.specs.declared.shape.RingShape.{RingShape}
 use Rattle.board.specs.declared.shape.Shape.{Shape}
 use Rattle.limits.specs.Limits.{is_capacity}
-use Rattle.board.specs.ShapeLimits.{is_ring, are_rings, are_capacities, is_shape, counts, widest}
+use Rattle.board.proofs.Common.{AreCellCounts, AreCells, List, RingShape, [], and_left, and_right, ap, are_capacities, are_rings, arith, at_drop_more, bool_cases, cells_in, counts, drop, false, get_or, is_ring, is_shape, leb-true, length, ltb-false, ltb-true, max, nat_lt, refl, suc, sym, total, true, true≢false, widest, zero, ℕ, ⊎_elim, ◌&&◌, ◌*◌, ◌+◌, ◌<◌, ◌∙◌, ◌∷◌, ◌≡◌, ◌≤◌}
 
 -- what is left to look at, one ring on
 pub good_ring : (l : List RingShape) (i : ℕ) (d : RingShape) → i < length l → is_ring (get_or l i d) ≡ true → are_rings (drop i l) ≡ are_rings (drop (i + 1) l)

@@ -1,16 +1,5 @@
 -- The history after Shut and the Cuts of a report.
-use Rattle.std.proofs.Common.{◌≡◌, ◌⊎◌, inl, inr, ⊎_elim, ℕ, ◌<◌, Bool, true, false, cond, ℤ, negsuc, Some, List, [], ◌∷◌, sym, refl, ap, ◌∙◌, subst, arith, true≢false}
-use Rattle.history.specs.declared.req.Req.{Req}
-use Rattle.history.specs.declared.event.Event.{Event}
-use Rattle.history.specs.declared.event.Event.TheVariants.{Cut}
-use Rattle.history.specs.History.{by_cut, Phase, unborn, waits, runs, armed, replied, reaped, same, phase, reply_in, data_of, submission, submits, was_shut, IsPending, IsIdle}
-use Rattle.history.specs.Legal.{Setup, Legal}
-use Rattle.history.proofs.Requests.{bool_cases, same_false, same_itself}
-use Rattle.history.proofs.Growth.{counted, born_once}
-use Rattle.board.specs.declared.completion.Completion.{Completion}
-use Rattle.steps.specs.Fairness.{IsReaped}
-use Rattle.board.specs.Remains.{IsLeft, data_left, IsCutOrNot, IsLine, AreLines}
-use Rattle.board.specs.Reports.{Ordered, IsListed, ended, Tells, AllTell}
+use Rattle.board.proofs.Common.{AllTell, AreLines, Bool, Completion, Cut, Event, IsCutOrNot, IsIdle, IsLeft, IsLine, IsListed, IsPending, IsReaped, Legal, List, Ordered, Phase, Req, Setup, Some, Tells, [], ap, arith, armed, bool_cases, born_once, by_cut, cond, counted, data_left, data_of, ended, false, inl, inr, negsuc, phase, reaped, refl, replied, reply_in, runs, same, same_false, same_itself, submission, submits, subst, sym, true, true≢false, unborn, waits, was_shut, ℕ, ℤ, ⊎_elim, ◌<◌, ◌∙◌, ◌∷◌, ◌≡◌, ◌⊎◌}
 use Rattle.board.proofs.ReportLines.{unlisted_later}
 use Rattle.board.proofs.Standings.{cut_shuts}
 

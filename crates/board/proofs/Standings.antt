@@ -1,24 +1,7 @@
 -- What a claim word of the table tells of a request, and what it rules out.
-use Rattle.std.proofs.Common.{◌≡◌, ◌≢◌, ◌⊎◌, inl, inr, ⊎_elim, ℕ, ◌<◌, Bool, true, false, IsTrue, ℤ, List, [], ◌∷◌, sym, refl, ap, ◌∙◌, subst, arith, true≢false, nat_lt, ltb-true, ltb-false, lt-ltb, eqb-true, of_z, w32, SFits}
-use Rattle.std.proofs.Math.Facts.{sfits_to_z, Fits-of_lt}
 use Rattle.std.proofs.lemmas.Int.{to_z-of_z, of_z-to_z}
-use mir.Val.{to_z}
-use Rattle.claim.specs.declared.tag.Tag.{Tag}
-use Rattle.claim.specs.declared.tag.Tag.TheVariants.{Empty, Held, Ready, Running, Armed, Done}
-use Rattle.claim.specs.Claim.{Claim, allows, fits, packed, is_cause}
-use Rattle.entry.specs.Entry.{fails}
-use Rattle.history.specs.declared.req.Req.{Req}
-use Rattle.history.specs.declared.event.Event.{Event}
-use Rattle.history.specs.declared.event.Event.TheVariants.{Submit, Begin, Park, Reply, Take, Arm, Expire, Count, Fire, Settle, Sever, Reap, Cut}
-use Rattle.history.specs.History.{Cause, by_reply, by_take, by_expire, by_count, by_fire, by_settle, by_sever, by_cut, Phase, unborn, replied, concerns, becomes, phase, was_shut, IsReplied}
-use Rattle.history.specs.Legal.{Setup, Legal}
-use Rattle.history.proofs.Requests.{bool_cases, and_left, and_right}
-use Rattle.history.proofs.Growth.{MayChange, may_change, changed, unchanged}
-use Rattle.steps.specs.declared.line.Line.{Line}
-use Rattle.steps.specs.Journal.{events_of}
-use Rattle.steps.specs.Cells.{request_at, Home, Says, CellOk, word_of, reply_bits, cause_bits}
-use Rattle.steps.proofs.CellNumbers.{one_word, bits_are, bits_fit, one_result}
-use Rattle.board.specs.Calls.{IsWord, IsUnheld}
+use Rattle.claim.specs.declared.tag.Tag.TheVariants.{Held, Ready, Running, Armed, Done}
+use Rattle.board.proofs.Common.{Arm, Begin, Bool, Cause, CellOk, Claim, Count, Cut, Empty, Event, Expire, Fire, Fits-of_lt, Home, IsReplied, IsTrue, IsUnheld, IsWord, Legal, Line, List, MayChange, Park, Phase, Reap, Reply, Req, SFits, Says, Settle, Setup, Sever, Submit, Tag, Take, [], allows, and_left, and_right, ap, arith, becomes, bits_are, bits_fit, bool_cases, by_count, by_cut, by_expire, by_fire, by_reply, by_settle, by_sever, by_take, cause_bits, changed, concerns, eqb-true, events_of, fails, false, fits, inl, inr, is_cause, lt-ltb, ltb-false, ltb-true, may_change, nat_lt, of_z, one_result, one_word, packed, phase, refl, replied, reply_bits, request_at, sfits_to_z, subst, sym, to_z, true, true≢false, unborn, unchanged, w32, was_shut, word_of, ℕ, ℤ, ⊎_elim, ◌<◌, ◌∙◌, ◌∷◌, ◌≡◌, ◌≢◌, ◌⊎◌}
 
 pub nat_order : (a b : ℕ) → (a < b) ⊎ ((a ≡ b) ⊎ (b < a))
 nat_order a b = ⊎_elim (λ (w : nat_lt a b ≡ true). inl (ltb-true a b w))

@@ -1,53 +1,18 @@
 -- What the poller's exchange at the target of a LINK_TIMEOUT whose deadline has come tells it.
-use Rattle.std.proofs.Common.{◌≡◌, ◌≢◌, ◌⊎◌, ⊎_elim, ℕ, suc, ◌-◌, ◌<◌, ◌≤◌, ◌&&◌, not, Bool, true, false, cond, negsuc, List, [], ◌∷◌, ◌++◌, Option, Some, None, refl, sym, ap, ◌∙◌, subst, arith, true≢false}
 use Rattle.std.proofs.Math.Bool.{and-false}
-use Rattle.atomic_table.specs.declared.shared.Seat.{Seat}
-use Rattle.claim.specs.declared.tag.Tag.{Tag}
-use Rattle.entry.specs.Entry.{Entry, fails, links}
-use Rattle.history.specs.declared.req.Req.{Req}
-use Rattle.history.specs.declared.event.Event.{Event}
-use Rattle.history.specs.declared.event.Event.TheVariants.{Fire, FireMiss, Settle}
-use Rattle.history.specs.History.{Submission, phase, armed, unborn, replied, becomes, by_settle, clock_of, fired, same, submission, submits, was_shut, IsReplied}
-use Rattle.entry.specs.declared.op.Op.TheVariants.{Invalid}
-use Rattle.history.specs.Chains.{IsLinkTimeout, IsPlaced, IsTarget, before_in, hosts, is_link_timeout, placed_from, previous}
-use Rattle.history.specs.Legal.{Legal, Setup}
-use Rattle.history.proofs.Growth.{born_once}
-use Rattle.history.proofs.Requests.{bool_cases, same_itself, same_true}
-use Rattle.steps.specs.declared.line.Line.{Line}
-use Rattle.steps.specs.declared.line.Line.TheVariants.{Did}
-use Rattle.steps.specs.declared.parcel.Thing.{Thing}
-use Rattle.steps.specs.declared.view.Layout.{Layout}
-use Rattle.steps.specs.declared.view.Role.{Role}
-use Rattle.steps.specs.declared.view.View.{View}
-use Rattle.steps.specs.Cells.{Ages, Says, claim_at, request_at, ring_of, setup_of, word_of}
-use Rattle.steps.specs.Journal.{events_of, freed}
 use Rattle.steps.specs.Plays.{IsIdleWord, is_idle, next_of}
-use Rattle.steps.specs.Rule.{owns, pollers, stands_for, Extends, IsStep, Shown}
-use Rattle.steps.proofs.ClaimWords.{says_of}
-use Rattle.steps.proofs.JournalGrowth.{lasts, legal_tail, live_tail, placed_lasts}
-use Rattle.work.specs.Board.{Facts, IsOf}
-use Rattle.work.specs.Passes.{Pass, pass_of}
-use Rattle.work.proofs.CancelSearch.{canceled_fails, held_before, held_no_more}
 use Rattle.board.specs.declared.linked.Struck.{Struck}
 use Rattle.board.specs.declared.linked.Struck.TheVariants.{Took, Missed, Over}
-use Rattle.board.specs.Calls.{Goes, Stepped}
-use Rattle.board.specs.PollerRows.{IsAt, IsOurs, Watched}
-use Rattle.board.specs.TimerCalls.{DidStrike, EndsFired, Fires, IsDueLinked, IsEarly, Settles, fired_by, struck_by}
 use Rattle.board.specs.declared.poller.Firing.{Firing}
 use Rattle.board.specs.declared.poller.Firing.TheVariants.{TargetDone}
 use Rattle.board.specs.declared.poller.Settling.{Settling}
-use Rattle.board.specs.Seats.{IsPollerSeat}
-use Rattle.board.specs.PollerTimers.{KnowsAlarm, KnowsTimers}
-use Rattle.board.specs.declared.alarm.Alarm.{Alarm}
-use Rattle.std.specs.List.{slice_get}
+use Rattle.board.proofs.Common.{Ages, Alarm, Bool, Did, DidStrike, EndsFired, Entry, Event, Extends, Facts, Fire, FireMiss, Fires, Goes, Invalid, IsAt, IsDueLinked, IsEarly, IsLinkTimeout, IsOf, IsOurs, IsPlaced, IsPollerSeat, IsReplied, IsStep, IsTarget, KnowsAlarm, KnowsTimers, Layout, Legal, Line, List, None, Option, Pass, Req, Role, Says, Seat, Settle, Settles, Setup, Shown, Some, Stepped, Submission, Tag, Thing, View, Watched, [], ap, arith, armed, becomes, before_in, bool_cases, born_once, by_settle, canceled_fails, claim_at, clock_of, cond, events_of, fails, false, fired, fired_by, freed, held_before, held_no_more, hosts, is_link_timeout, lasts, legal_tail, links, live_tail, negsuc, not, own_none, owns, pass_of, phase, placed_from, placed_lasts, pollers, previous, refl, replied, request_at, ring_of, same, same_fired, same_itself, same_true, says_of, setup_of, slice_get, stands_for, struck_by, submission, submits, subst, suc, sym, true, true≢false, unborn, was_shut, word_of, ℕ, ⊎_elim, ◌&&◌, ◌++◌, ◌-◌, ◌<◌, ◌∙◌, ◌∷◌, ◌≡◌, ◌≢◌, ◌≤◌, ◌⊎◌}
 use Rattle.board.proofs.Expiries.{no_more_armed}
-use Rattle.steps.proofs.OwnFacts.{same_fired}
 use Rattle.board.proofs.GoesLaws.{goes_more, goes_then}
 use Rattle.board.proofs.Settlings.{at_is as timer_at, mine as timer_mine, armed_on, born_goes, hosted, link_first, link_later, linked_goes, linked_on, target_is, unfired_on}
 use Rattle.board.proofs.TimersHeld.{alarm_goes, armed_before, clock_goes, freed_one, goes_one, none}
 use Rattle.board.proofs.TimersKept.{AllPass, is_calm, is_still, link_still}
 use Rattle.board.proofs.Watching.{born_on}
-use Rattle.work.proofs.OwnEvents.{own_none}
 
 abbrev TableSeat : Type 0
 TableSeat = Seat (Option Thing) View

@@ -1,26 +1,11 @@
 -- What a submitter that looked at the cell of its next request knows.
-use Rattle.std.proofs.Common.{◌≡◌, ⊎_elim, ℕ, zero, suc, ◌+◌, ◌*◌, ◌/◌, ◌<◌, ◌≤◌, List, [], sym, refl, subst, arith, nat_lt, ltb-true, ltb-false, mul-le-mul_right, suc-mul}
 use Rattle.std.proofs.lemmas.Nat.{div-mul-add}
-use Rattle.history.specs.declared.req.Req.{Req}
-use Rattle.history.specs.Legal.{Legal}
-use Rattle.history.proofs.Requests.{bool_cases}
-use Rattle.steps.specs.declared.line.Line.{Line}
-use Rattle.steps.specs.Fairness.{IsFree}
-use Rattle.steps.specs.Journal.{events_of}
-use Rattle.steps.specs.Cells.{setup_of, IsCell, ring_of, place_of, cells_in, request_at}
-use Rattle.steps.proofs.CellNumbers.{located}
-use Rattle.work.specs.Board.{Facts, IsOf}
-use Rattle.work.specs.Passes.{Pass, seen_of}
-use Rattle.steps.proofs.FreeCells.{free_later}
-use Rattle.entry.specs.Entry.{Entry}
-use Rattle.history.specs.declared.event.Event.{Event}
-use Rattle.history.specs.Legal.{Fits}
 use Rattle.board.specs.declared.error.SubmitError.{SubmitError}
 use Rattle.board.specs.declared.error.SubmitError.TheVariants.{Full, Spent}
-use Rattle.board.specs.Lanes.{nth, RefusesRoom, Watched}
+use Rattle.board.specs.Lanes.{Watched}
 use Rattle.board.specs.Refusals.{RefusesEntry}
+use Rattle.board.proofs.Common.{Entry, Event, Facts, Fits, Goes, IsCell, IsFree, IsOf, Legal, Line, List, Pass, RefusesRoom, Req, [], arith, bool_cases, cells_in, events_of, free_later, located, ltb-false, ltb-true, mul-le-mul_right, nat_lt, nth, place_of, refl, request_at, ring_of, seen_of, setup_of, subst, suc, suc-mul, sym, zero, ℕ, ⊎_elim, ◌*◌, ◌+◌, ◌/◌, ◌<◌, ◌≡◌, ◌≤◌}
 use Rattle.board.proofs.GoesLaws.{goes_same, goes_looked, goes_then}
-use Rattle.board.specs.Calls.{Goes}
 
 -- a request's generation is no more than those that its ring's cells have
 pub gen_small : (K : List ℕ) (x g : ℕ) → IsCell K x → (request_at K x g).k ≤ 16777215 * cells_in K (ring_of K x) → g < 16777216

@@ -1,31 +1,7 @@
 -- A submitter's seat from one call to the next.
 use Rattle.std.specs.Prelude.{◌==◌}
-use Rattle.std.proofs.Common.{◌≡◌, ℕ, suc, ◌+◌, ◌*◌, ◌<◌, ◌≤◌, Bool, true, false, cond, ℤ, Option, Some, None, List, [], ◌∷◌, length, get_or, set, sym, refl, ap, ◌∙◌, subst, ⊎_elim, arith, eq-eqb, ne_eqb, mul-le-mul_right, suc-mul, length-set}
 use lib.Seq.{set-get_or}
-use Rattle.atomic_table.specs.declared.shared.Seat.{Seat}
-use Rattle.entry.specs.Entry.{Entry}
-use Rattle.history.specs.declared.req.Req.{Req}
-use Rattle.history.specs.declared.event.Event.TheVariants.{Submit, Reap}
-use Rattle.history.specs.History.{Cause, replied, phase, same, submits}
-use Rattle.steps.specs.Fairness.{IsReaped}
-use Rattle.history.proofs.Requests.{bool_cases}
-use Rattle.steps.specs.declared.line.Line.{Line}
-use Rattle.steps.specs.declared.line.Line.TheVariants.{Did, Lent, Noted}
-use Rattle.steps.specs.declared.parcel.Thing.{Thing}
-use Rattle.steps.specs.declared.view.Layout.{Layout}
-use Rattle.steps.specs.declared.view.Role.{Role}
-use Rattle.steps.specs.declared.view.Role.TheVariants.{Submitter, Lending}
-use Rattle.steps.specs.declared.view.View.{View}
-use Rattle.steps.specs.Journal.{events_of}
-use Rattle.steps.specs.Cells.{setup_of, IsCell, request_at, ring_of, place_of, cells_in, facts_at}
-use Rattle.steps.specs.Notes.{count_in, count_notes, notes_of}
-use Rattle.steps.specs.Rule.{rings, stands_for, Vacant, IsDone, Shown, Looks, ExtendsAfter, ExtendsNoted, ExtendsTwice}
-use Rattle.steps.proofs.CellNumbers.{located}
-use Rattle.steps.proofs.ClaimWords.{done_word}
-use Rattle.steps.proofs.FreeCells.{reaped_as}
-use Rattle.steps.proofs.ViewsKept.{submitter_can}
-use Rattle.board.specs.Seats.{KnowsCell, KnowsCells, IsSubmitterSeat, IsNextCell}
-use Rattle.work.specs.Passes.{Pass, pass_of}
+use Rattle.board.proofs.Common.{Bool, Cause, Did, Entry, ExtendsAfter, ExtendsNoted, ExtendsTwice, IsCell, IsDone, IsNextCell, IsReaped, IsSubmitterSeat, KnowsCell, KnowsCells, Layout, Lending, Lent, Line, List, Looks, None, Noted, Option, Pass, Reap, Req, Role, Seat, Shown, Some, Submit, Submitter, Thing, Vacant, View, [], ap, arith, bool_cases, cells_in, cond, count_in, count_notes, done_word, eq-eqb, events_of, facts_at, false, get_or, length, length-set, located, mul-le-mul_right, ne_eqb, notes_of, pass_of, phase, place_of, reaped_as, refl, replied, request_at, ring_of, rings, same, set, setup_of, stands_for, submits, submitter_can, subst, suc, suc-mul, sym, true, ℕ, ℤ, ⊎_elim, ◌*◌, ◌+◌, ◌<◌, ◌∙◌, ◌∷◌, ◌≡◌, ◌≤◌}
 use Rattle.board.proofs.OwnCells.{KnowsRing, knows_put, knows_line, knows_reaped, ring_looked, ring_extended}
 
 abbrev TableSeat : Type 0

@@ -1,30 +1,6 @@
 -- From the end of a table to its report.
-use Rattle.std.proofs.Common.{◌≡◌, inl, ⊎_elim, ℕ, ◌-◌, ◌<◌, ◌≤◌, ◌==◌, Bool, true, false, cond, Option, Some, None, List, [], ◌∷◌, ◌++◌, length, get_or, sym, refl, ap, ◌∙◌, subst, arith, eqb-true}
-use mathlib.Core.Option.{some}
-use Rattle.history.specs.declared.req.Req.{Req}
-use Rattle.history.specs.declared.event.Event.{Event}
-use Rattle.history.specs.declared.event.Event.TheVariants.{Submit}
-use Rattle.history.specs.History.{unborn, runs, phase, submits, adds_to}
-use Rattle.history.specs.Legal.{Setup, Legal}
-use Rattle.history.proofs.Requests.{bool_cases, not_true}
-use Rattle.history.proofs.Growth.{counted}
-use Rattle.claim.specs.declared.tag.Tag.{Tag}
-use Rattle.claim.specs.declared.tag.Tag.TheVariants.{Empty, Held, Ready, Running, Armed, Done}
-use Rattle.steps.specs.declared.line.Line.{Line}
-use Rattle.steps.specs.declared.parcel.Thing.{Thing}
-use Rattle.steps.specs.declared.parcel.Thing.TheVariants.{Full}
-use Rattle.steps.specs.declared.view.Layout.{Layout}
-use Rattle.steps.specs.declared.view.Role.TheVariants.{Poller}
-use Rattle.steps.specs.declared.view.View.{View}
-use Rattle.steps.specs.Journal.{events_of, lent}
-use Rattle.steps.specs.Cells.{IsCell, request_at, total, setup_of, slot_at, Home, Says, Keeps, CellOk, slots_of}
-use Rattle.steps.specs.Rule.{AllSaw, Saw, Ended}
-use Rattle.work.specs.Board.{Facts, IsOf, share_of}
-use Rattle.work.specs.Grid.{AreCells}
-use Rattle.work.specs.Passes.{Pass}
-use Rattle.board.specs.declared.completion.Completion.{Completion}
-use Rattle.board.specs.Remains.{IsLeft, data_left, full_slots, hearing_all, AreTaken, Reports, Closing}
-use Rattle.board.specs.Reports.{AreOf, IsListed, IsReport}
+use Rattle.claim.specs.declared.tag.Tag.TheVariants.{Held, Ready, Running, Armed, Done}
+use Rattle.board.proofs.Common.{AllSaw, AreCells, AreOf, AreTaken, Bool, CellOk, Closing, Completion, Empty, Ended, Event, Facts, Full, Home, IsCell, IsLeft, IsListed, IsOf, IsReport, Keeps, Layout, Legal, Line, List, None, Option, Pass, Poller, Reports, Req, Saw, Says, Setup, Some, Submit, Tag, Thing, View, [], adds_to, ap, arith, bool_cases, cond, counted, data_left, eqb-true, events_of, false, full_slots, get_or, hearing_all, inl, length, lent, not_true, phase, refl, request_at, runs, setup_of, share_of, slot_at, slots_of, some, submits, subst, sym, total, true, unborn, ℕ, ⊎_elim, ◌++◌, ◌-◌, ◌<◌, ◌==◌, ◌∙◌, ◌∷◌, ◌≡◌, ◌≤◌}
 use Rattle.board.proofs.TakenCells.{some_inside}
 use Rattle.board.proofs.HeardPasses.{known_by, saw_by, begins_by}
 use Rattle.board.proofs.ReportLines.{left_age}

@@ -1,15 +1,7 @@
 -- Taking the words and slots of a table that was closed, one by one.
-use Rattle.std.proofs.Common.{◌≡◌, ◌≢◌, ℕ, zero, suc, ◌+◌, ◌-◌, ◌<◌, ◌≤◌, Bool, false, Option, Some, List, [], ◌∷◌, ◌++◌, length, get_or, set, sym, ap, ◌∙◌, subst, arith, length-append, get_or-set_same, get_or-set_other}
 use Rattle.std.proofs.Math.ListN.{get_or-append}
-use Rattle.std.proofs.lemmas.List.{get_or-append_right}
-use mathlib.Core.Logic.{dite}
-use mathlib.Core.Option.{some, some-injective}
-use native.Mathlib.Decide.{ℕ_discrete}
-use lib.ListN.{get_elem?}
 use Rattle.atomic_table.proofs.Lists.{at_last, at_longer}
-use Rattle.steps.specs.declared.parcel.Thing.{Thing}
-use Rattle.steps.specs.Cells.{claim_at, slot_at}
-use Rattle.board.specs.Remains.{IsEmptied, AreTaken}
+use Rattle.board.proofs.Common.{AreTaken, Bool, IsEmptied, List, Option, Some, Thing, [], ap, arith, claim_at, dite, false, get_elem?, get_or, get_or-append_right, get_or-set_other, get_or-set_same, length, length-append, set, slot_at, some, some-injective, subst, suc, sym, zero, ℕ, ℕ_discrete, ◌++◌, ◌+◌, ◌-◌, ◌<◌, ◌∙◌, ◌∷◌, ◌≡◌, ◌≢◌, ◌≤◌}
 
 pub emptied_more : (old new after : List Bool) (a p : ℕ) → after ≡ set new p false → p < length new → a ≤ p → IsEmptied old new a p → IsEmptied old after a (p + 1)
 emptied_more old new after a p is there le e = rw is record {

@@ -1,23 +1,6 @@
 -- What the facts of a request that has no reply tell of it, if it is a timer.
-use Rattle.std.proofs.Common.{◌≡◌, ◌≢◌, ℕ, ◌+◌, ◌*◌, ◌%◌, ◌<◌, ◌≤◌, ◌&&◌, not, nat_lt, ltb-true, Bool, true, false, negsuc, List, Option, Some, IsTrue, sym, refl, ap, ◌∙◌, subst, ⊎_elim, arith, true≢false}
-use Rattle.claim.specs.Facts.{Facts, packed_facts, fits_facts}
-use Rattle.entry.specs.declared.op.Op.{Op}
-use Rattle.entry.specs.declared.op.Op.TheVariants.{Nop, PollAdd, Timeout, TimeoutRemove, AsyncCancel, LinkTimeout, Close, Read, Write, Splice, Invalid}
-use Rattle.entry.specs.Entry.{Entry, fails_op}
-use Rattle.history.specs.declared.req.Req.{Req}
-use Rattle.history.specs.History.{Cause, replied, unborn, submits, phase, IsReplied}
-use Rattle.history.specs.Chains.{IsPlaced, is_timer, is_timeout, is_link_timeout, placed_behind, placed_from, before_in}
-use Rattle.history.specs.Legal.{Legal, ticks_of}
-use Rattle.history.proofs.Requests.{bool_cases}
-use Rattle.history.proofs.Growth.{submission_some, born_once}
-use Rattle.steps.specs.declared.line.Line.{Line}
-use Rattle.steps.specs.declared.view.Layout.{Layout}
-use Rattle.steps.specs.Fairness.{Orderly, NotesTell}
-use Rattle.steps.specs.Journal.{events_of, lent, noted}
-use Rattle.steps.specs.Cells.{request_at, facts_at, setup_of}
-use Rattle.steps.specs.Notes.{row_number, ticks_in, etime_in, facts_of}
-use Rattle.steps.proofs.FactsRead.{row_small, same_facts, parts_small, parts_of, reaped_replied}
-use Rattle.steps.proofs.NotesKept.{lent_out}
+use Rattle.claim.specs.Facts.{Facts}
+use Rattle.board.proofs.Common.{AsyncCancel, Bool, Cause, Close, Entry, Invalid, IsPlaced, IsReplied, IsTrue, Layout, Legal, Line, LinkTimeout, List, Nop, NotesTell, Op, Option, Orderly, PollAdd, Read, Req, Some, Splice, Timeout, TimeoutRemove, Write, ap, arith, before_in, bool_cases, born_once, etime_in, events_of, facts_at, facts_of, fails_op, false, fits_facts, is_link_timeout, is_timeout, is_timer, lent, lent_out, ltb-true, nat_lt, negsuc, not, noted, packed_facts, parts_of, parts_small, phase, placed_behind, placed_from, reaped_replied, refl, replied, request_at, row_number, row_small, same_facts, setup_of, submission_some, submits, subst, sym, ticks_in, ticks_of, true, true≢false, unborn, ℕ, ⊎_elim, ◌%◌, ◌&&◌, ◌*◌, ◌+◌, ◌<◌, ◌∙◌, ◌≡◌, ◌≢◌, ◌≤◌}
 
 -- ---- rows of the table
 

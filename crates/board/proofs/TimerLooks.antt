@@ -1,43 +1,11 @@
 -- What the poller's looks at a timer, and its step that arms one, tell it.
-use Rattle.std.proofs.Common.{◌≡◌, ◌≢◌, ℕ, ◌+◌, ◌*◌, ◌<◌, ◌≤◌, not, ◌||◌, true, false, cond, List, [], ◌∷◌, ◌++◌, Option, Some, None, IsTrue, refl, sym, ap, ◌∙◌, subst, arith, true≢false}
-use Rattle.atomic_table.specs.declared.shared.Seat.{Seat}
-use Rattle.claim.specs.Facts.{Facts as FactsParts, packed_facts, fits_facts}
-use Rattle.claim.specs.declared.tag.Tag.{Tag}
-use Rattle.entry.specs.declared.op.Op.{Op}
-use Rattle.entry.specs.declared.op.Op.TheVariants.{LinkTimeout}
-use Rattle.entry.specs.Entry.{Entry}
-use Rattle.history.specs.declared.req.Req.{Req}
-use Rattle.history.specs.declared.event.Event.{Event}
-use Rattle.history.specs.declared.event.Event.TheVariants.{Arm}
-use Rattle.history.specs.History.{phase, armed, fired, clock_of, submits, IsReplied}
-use Rattle.history.specs.Chains.{IsLinkTimeout, IsPlaced, Severed, is_timer, is_timeout, is_link_timeout}
-use Rattle.history.specs.Legal.{Setup, Legal, ticks_of, count_of, IsOf as IsOfKind}
-use Rattle.history.proofs.Requests.{same_itself}
-use Rattle.steps.specs.declared.line.Line.{Line}
-use Rattle.steps.specs.declared.line.Line.TheVariants.{Did}
-use Rattle.steps.specs.declared.parcel.Thing.{Thing}
-use Rattle.steps.specs.declared.view.Layout.{Layout}
-use Rattle.steps.specs.declared.view.Role.{Role}
-use Rattle.steps.specs.declared.view.View.{View}
-use Rattle.steps.specs.Cells.{setup_of, request_at, facts_at, count_at, claim_at, word_of}
-use Rattle.steps.specs.Fairness.{Orderly, NotesTell}
-use Rattle.steps.specs.Journal.{events_of, noted}
-use Rattle.steps.specs.Rule.{pollers, stands_for, Looks, Extends, IsSameSeat, IsStep}
+use Rattle.claim.specs.Facts.{Facts as FactsParts}
+use Rattle.history.specs.Legal.{IsOf as IsOfKind}
 use Rattle.steps.proofs.CountsRead.{count_told}
-use Rattle.steps.proofs.FactsRead.{reaped_replied}
-use Rattle.steps.proofs.JournalGrowth.{lasts, placed_lasts, kind_lasts}
-use Rattle.work.specs.Board.{Facts}
-use Rattle.work.specs.Passes.{Pass, pass_of}
 use Rattle.board.specs.declared.alarm.Timer.{Timer}
-use Rattle.board.specs.declared.alarm.Alarm.{Alarm}
-use Rattle.board.specs.declared.alarm.Alarm.TheVariants.{Linked, Alone}
 use Rattle.board.specs.declared.poller.Arming.{Arming}
-use Rattle.board.specs.declared.poller.Arming.TheVariants.{Armed, NotHeld, NotTimer, Shut}
-use Rattle.board.specs.declared.poller.Released.{Released}
-use Rattle.board.specs.PollerRows.{IsAt, IsOurs, Watched, Paid, Decides}
-use Rattle.board.specs.PollerTimers.{IsAlarm, IsKept, IsTimerAs, looks_at, looks_for_count}
-use Rattle.board.specs.Calls.{IsHeld, Stepped}
-use Rattle.board.specs.TimerCalls.{Arms, ArmTells, IsBarred, IsNoTimer, IsShutTimer}
+use Rattle.board.specs.declared.poller.Arming.TheVariants.{Armed, NotHeld}
+use Rattle.board.proofs.Common.{Alarm, Alone, Arm, ArmTells, Arms, Decides, Did, Entry, Event, Extends, Facts, IsAlarm, IsAt, IsBarred, IsHeld, IsKept, IsLinkTimeout, IsNoTimer, IsOurs, IsPlaced, IsReplied, IsSameSeat, IsShutTimer, IsStep, IsTimerAs, IsTrue, Layout, Legal, Line, LinkTimeout, Linked, List, Looks, None, NotTimer, NotesTell, Op, Option, Orderly, Paid, Pass, Released, Req, Role, Seat, Setup, Severed, Shut, Some, Stepped, Tag, Thing, View, Watched, [], ap, arith, armed, claim_at, clock_of, cond, count_at, count_of, events_of, facts_at, false, fired, fits_facts, is_link_timeout, is_timeout, is_timer, kind_lasts, lasts, looks_at, looks_for_count, not, noted, packed_facts, pass_of, phase, placed_lasts, pollers, reaped_replied, refl, request_at, same_itself, setup_of, stands_for, submits, subst, sym, ticks_of, true, true≢false, word_of, ℕ, ◌*◌, ◌++◌, ◌+◌, ◌<◌, ◌||◌, ◌∙◌, ◌∷◌, ◌≡◌, ◌≢◌, ◌≤◌}
 use Rattle.board.proofs.GoesLaws.{goes_then}
 use Rattle.board.proofs.TimersHeld.{goes_one, freed_one}
 use Rattle.board.proofs.TimersKept.{unfired_yet, timer_is as link_is}

@@ -1,33 +1,6 @@
 -- What the poller keeps of the clock and of timers stays right over a call that arms and fires none.
-use Rattle.std.proofs.Common.{◌≡◌, ℕ, ◌≤◌, Bool, true, false, cond, List, [], ◌∷◌, ◌++◌, Option, refl, sym, ap, ◌∙◌, subst}
-use Rattle.std.specs.List.{slice_get}
-use Rattle.history.specs.declared.req.Req.{Req}
-use Rattle.history.specs.declared.event.Event.{Event}
-use Rattle.history.specs.declared.event.Event.TheVariants.{Tick}
-use Rattle.history.specs.History.{armed, phase, fired, clock_of}
-use Rattle.history.specs.Legal.{Setup, Legal}
-use Rattle.steps.specs.declared.line.Line.{Line}
-use Rattle.steps.specs.declared.line.Line.TheVariants.{Did}
-use Rattle.steps.specs.declared.view.Role.{Role}
-use Rattle.steps.specs.declared.view.Role.TheVariants.{Poller}
-use Rattle.steps.specs.declared.view.View.{View}
-use Rattle.steps.specs.Cells.{setup_of, request_at}
-use Rattle.steps.specs.Journal.{events_of, freed}
-use Rattle.steps.specs.Rule.{pollers, stands_for, owns, Looks, Extends}
-use Rattle.work.specs.Board.{Facts, IsOf}
-use Rattle.work.specs.Passes.{Pass, pass_of, seen_of, own_of}
-use Rattle.work.proofs.OwnEvents.{own_none}
-use Rattle.work.proofs.PassesKept.{extended_of}
+use Rattle.board.proofs.Common.{Alarm, Bool, Did, Event, Extends, Facts, Goes, IsOf, IsPollerSeat, KnowsAlarm, KnowsTimers, Layout, Legal, Line, List, Looks, Option, Pass, Poller, Released, Req, Role, Seat, Setup, Thing, Tick, View, Watched, [], ap, armed, clock_of, cond, events_of, extended_of, false, fired, freed, own_none, own_of, owns, pass_of, phase, pollers, refl, request_at, seen_of, setup_of, severed_by, slice_get, stands_for, subst, sym, true, ℕ, ◌++◌, ◌∙◌, ◌∷◌, ◌≡◌, ◌≤◌}
 use Rattle.board.proofs.PassFacts.{same_freed}
-use Rattle.board.specs.declared.alarm.Alarm.{Alarm}
-use Rattle.board.specs.declared.poller.Released.{Released}
-use Rattle.board.specs.PollerRows.{severed_by, Watched}
-use Rattle.board.specs.Seats.{IsPollerSeat}
-use Rattle.atomic_table.specs.declared.shared.Seat.{Seat}
-use Rattle.steps.specs.declared.parcel.Thing.{Thing}
-use Rattle.steps.specs.declared.view.Layout.{Layout}
-use Rattle.board.specs.Calls.{Goes}
-use Rattle.board.specs.PollerTimers.{KnowsAlarm, KnowsTimers}
 use Rattle.board.proofs.TimersKept.{AllPass, LinesPass, is_calm, is_still, lines_pass, calm_others, still_others, clock_on, armed_was, fired_on, alarm_on}
 
 abbrev TableSeat : Type 0

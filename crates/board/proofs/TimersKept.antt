@@ -1,27 +1,7 @@
 -- Which timers are armed, and which have fired, from what a pass of the poller had seen to what it sees later.
-use Rattle.std.proofs.Common.{◌≡◌, ℕ, ◌<◌, Bool, true, false, cond, List, [], ◌∷◌, ◌++◌, Option, Some, None, sym, refl, ap, ◌∙◌, subst, ⊎_elim, true≢false}
-use Rattle.entry.specs.declared.op.Op.{Op}
-use Rattle.entry.specs.declared.op.Op.TheVariants.{LinkTimeout}
-use Rattle.entry.specs.Entry.{Entry}
-use Rattle.history.specs.declared.req.Req.{Req}
-use Rattle.history.specs.declared.event.Event.{Event}
-use Rattle.history.specs.declared.event.Event.TheVariants.{Begin, Take, Miss, Tick, Arm, Expire, Count, Fire, FireMiss, Settle, Sever, Reap, Shut, Cut}
-use Rattle.history.specs.History.{Phase, unborn, waits, armed, replied, reaped, same, concerns, becomes, phase, fired, submits, clock_of, was_shut, IsIdle}
-use Rattle.history.specs.Chains.{IsPlaced, IsLinkTimeout, is_timer, is_link_timeout, before_in, placed_behind, placed_from}
-use Rattle.history.specs.Legal.{Setup, MayCome, shut_for, Legal, IsDue}
-use Rattle.history.proofs.Requests.{bool_cases, same_true}
-use Rattle.history.proofs.Growth.{MayChange, may_change, changed, unchanged, submission_some}
+use Rattle.history.specs.declared.event.Event.TheVariants.{Shut}
 use Rattle.history.proofs.Catches.{hit_matches}
-use Rattle.steps.specs.declared.line.Line.{Line}
-use Rattle.steps.specs.declared.line.Line.TheVariants.{Did}
-use Rattle.steps.specs.declared.view.Role.{Role}
-use Rattle.steps.specs.Journal.{events_of}
-use Rattle.steps.specs.Rule.{pollers, stands_for, owns}
-use Rattle.steps.proofs.JournalGrowth.{legal_tail, live_tail, counted_in, lasts, placed_lasts, legal_before}
-use Rattle.steps.proofs.OwnFacts.{never_asked}
-use Rattle.work.specs.Passes.{own_of}
-use Rattle.board.specs.declared.alarm.Alarm.{Alarm}
-use Rattle.board.specs.PollerTimers.{IsKept, KnowsAlarm}
+use Rattle.board.proofs.Common.{Alarm, Arm, Begin, Bool, Count, Cut, Did, Entry, Event, Expire, Fire, FireMiss, IsDue, IsIdle, IsKept, IsLinkTimeout, IsPlaced, KnowsAlarm, Legal, Line, LinkTimeout, List, MayChange, MayCome, Miss, None, Op, Option, Phase, Reap, Req, Role, Settle, Setup, Sever, Some, Take, Tick, [], ap, armed, becomes, before_in, bool_cases, changed, clock_of, concerns, cond, counted_in, events_of, false, fired, is_link_timeout, is_timer, lasts, legal_before, legal_tail, live_tail, may_change, never_asked, own_of, owns, phase, placed_behind, placed_from, placed_lasts, pollers, reaped, refl, replied, same, same_true, shut_for, stands_for, submission_some, submits, subst, sym, true, true≢false, unborn, unchanged, waits, was_shut, ℕ, ⊎_elim, ◌++◌, ◌<◌, ◌∙◌, ◌∷◌, ◌≡◌}
 
 -- ---- lines that are no own events
 

@@ -1,37 +1,7 @@
 -- The poller's seat looks, and the steps of its looks are paid for.
-use Rattle.std.proofs.Common.{◌≡◌, ℕ, suc, ◌+◌, ◌<◌, ◌≤◌, Bool, true, false, List, [], ◌∷◌, ◌++◌, Option, length, sym, refl, ap, ◌∙◌, subst, ⊎_elim, inl, inr, arith, length-append}
-use Rattle.std.proofs.lemmas.List.{append_assoc}
-use Rattle.atomic_table.specs.declared.shared.Seat.{Seat}
-use Rattle.history.specs.declared.req.Req.{Req}
-use Rattle.history.specs.History.{phase, submits, IsReplied}
-use Rattle.history.specs.Chains.{IsChainBefore}
-use Rattle.history.specs.Legal.{Legal}
-use Rattle.steps.specs.declared.line.Line.{Line}
-use Rattle.steps.specs.declared.line.Line.TheVariants.{Did}
-use Rattle.steps.specs.declared.parcel.Thing.{Thing}
-use Rattle.steps.specs.declared.view.Role.TheVariants.{Poller}
-use Rattle.steps.specs.declared.view.Step.{Step}
-use Rattle.steps.specs.declared.view.View.{View}
-use Rattle.steps.specs.Cells.{setup_of}
-use Rattle.steps.specs.Journal.{events_of}
-use Rattle.steps.specs.Rule.{Begins, IsSameSeat, IsStep, Looks, Extends}
-use Rattle.steps.specs.Fairness.{IsReaped}
-use Rattle.steps.proofs.FreeCells.{reaped_later}
-use Rattle.steps.proofs.JournalGrowth.{Lasting, lasts, submits_grow, replied_later}
-use Rattle.history.specs.declared.event.Event.{Event}
-use Rattle.work.specs.Board.{Facts}
-use Rattle.work.specs.Passes.{pass_of}
-use Rattle.board.specs.Calls.{LastAt, Stepped, FoundHeld, IsHeld}
-use Rattle.board.specs.Seats.{IsPollerSeat}
-use Rattle.board.specs.PollerRows.{IsOurs, Watched, Paid, TellsOutcome, FoundPending, WasHeld, Decided, Decides, IsBlocked, IsUnended, IsShutOut, Gated, Found}
 use Rattle.board.specs.declared.trail.Outcome.TheVariants.{Pending}
-use Rattle.board.specs.declared.trail.Gating.{Gating}
-use Rattle.gates.specs.EntryRows.{Kept}
-use Rattle.gates.specs.Shows.{HaveGoneOn}
-use Rattle.gates.proofs.TrailLaws.{gone_on_stays}
 use Rattle.history.proofs.Opening.{chain_stays}
-use Rattle.board.specs.declared.poller.Released.{Released}
-use Rattle.board.specs.declared.poller.Released.TheVariants.{NotHeld}
+use Rattle.board.proofs.Common.{Begins, Bool, Decided, Decides, Did, Event, Extends, Facts, Found, FoundHeld, FoundPending, Gated, Gating, HaveGoneOn, IsBlocked, IsChainBefore, IsHeld, IsOurs, IsPollerSeat, IsReaped, IsReplied, IsSameSeat, IsShutOut, IsStep, IsUnended, Kept, LastAt, Lasting, Legal, Line, List, Looks, NotHeld, Option, Paid, Poller, Released, Req, Seat, Step, Stepped, TellsOutcome, Thing, View, WasHeld, Watched, [], ap, append_assoc, arith, events_of, false, gone_on_stays, inl, inr, lasts, length, length-append, pass_of, phase, reaped_later, refl, replied_later, setup_of, submits, submits_grow, subst, suc, sym, true, ℕ, ⊎_elim, ◌++◌, ◌+◌, ◌<◌, ◌∙◌, ◌∷◌, ◌≡◌, ◌≤◌}
 use Rattle.board.proofs.GoesLaws.{goes_looked, goes_still, goes_then}
 use Rattle.board.proofs.PassFacts.{freed_looked}
 

@@ -1,19 +1,6 @@
 -- What the claim word and the facts of a request tell of its outcome.
-use Rattle.std.proofs.Common.{◌≡◌, ℕ, ◌<◌, ◌==◌, Bool, true, false, ℤ, List, Some, sym, refl, ap, ◌∙◌, subst}
-use Rattle.claim.specs.Facts.{Facts, bit}
-use Rattle.claim.specs.declared.tag.Tag.{Tag}
-use Rattle.entry.specs.Entry.{fails}
-use Rattle.history.specs.declared.req.Req.{Req}
-use Rattle.history.specs.History.{Cause, Phase, replied, reaped, phase, reply, reply_in}
-use Rattle.history.specs.declared.event.Event.{Event}
-use Rattle.steps.specs.declared.line.Line.{Line}
-use Rattle.steps.specs.Cells.{request_at, word_of, cause_bits}
-use Rattle.steps.specs.Fairness.{IsReaped}
-use Rattle.steps.specs.Journal.{events_of}
-use Rattle.steps.specs.Rule.{Shown}
-use Rattle.steps.proofs.ClaimWords.{done_word}
-use Rattle.board.specs.PollerRows.{HasOutcome}
-use Rattle.steps.specs.FactsTold.{TellsFacts}
+use Rattle.claim.specs.Facts.{Facts}
+use Rattle.board.proofs.Common.{Bool, Cause, Event, HasOutcome, IsReaped, Line, List, Phase, Req, Shown, Some, Tag, TellsFacts, ap, bit, cause_bits, done_word, events_of, fails, false, phase, reaped, refl, replied, reply, reply_in, request_at, subst, sym, true, word_of, ℕ, ℤ, ◌<◌, ◌==◌, ◌∙◌, ◌≡◌}
 
 -- of a request that is Done
 pub done_outcome : (K : List ℕ) (j : List Line) (x w g : ℕ) (q : Req) (c : Cause) (res : ℤ) (f : Bool) → Shown K j x w → request_at K x g ≡ q → phase (events_of j) q ≡ replied c res

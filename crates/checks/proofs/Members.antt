@@ -1,17 +1,13 @@
 -- Tables among others, place by place.
-use Rattle.std.proofs.Common.{◌≡◌, ℕ, zero, suc, ◌+◌, ◌<◌, ◌≤◌, ℤ, false, List, [], ◌∷◌, drop, get_or, length, map, refl, sym, subst, inl, inr, ⊎_elim}
 use Rattle.std.specs.declared.cmp.Ordering.{Ordering}
 use Rattle.std.specs.declared.cmp.Ordering.TheVariants.{Less, Equal, Greater}
 use Rattle.std.specs.Cmp.Derive.Mapped.{lex_map}
 use Rattle.std.specs.Global.{Vec}
-use Rattle.std.proofs.lemmas.List.{drop_all}
 use Rattle.script.specs.declared.table.Table.{Table}
 use Rattle.script.specs.contracts.table.TableOrd
-use Rattle.script.specs.Rows.{row_cmp, rows_cmp, rows_of}
 use Rattle.script.proofs.Items.{rest_at}
-use Rattle.explore.specs.Courses.{Among}
-use Rattle.checks.specs.Tallies.{is_equal}
 use Rattle.checks.specs.Verdicts.{AreAmong}
+use Rattle.checks.proofs.Common.{Among, List, [], drop, drop_all, false, get_or, inl, inr, is_equal, length, map, refl, row_cmp, rows_cmp, rows_of, subst, suc, sym, zero, ℕ, ℤ, ⊎_elim, ◌+◌, ◌<◌, ◌∷◌, ◌≡◌, ◌≤◌}
 
 abbrev pub table_cmp : Table → Table → Ordering
 table_cmp = TableOrd.TheImpl.cmp-value.it

@@ -1,14 +1,11 @@
 -- The text of several tables, one table further; and what is told of a part.
-use Rattle.std.proofs.Common.{◌≡◌, ◌⊎◌, ℕ, zero, suc, ◌<◌, ℤ, List, [], ◌∷◌, ◌++◌, codes, length, map, vec_len, refl, subst, sym, ap, ◌∙◌, append_assoc, inl, inr, arith}
-use Rattle.std.proofs.lemmas.List.{append-nil, length-map, map_push, nil_from_length}
 use Rattle.std.specs.Global.{Vec}
-use Rattle.script.specs.Rows.{rows_of}
 use Rattle.script.specs.declared.table.Table.{Table}
 use Rattle.script.specs.declared.script.Script.{Script}
 use Rattle.script_text.specs.TableText.{table_text, AreLines, IsTableText}
 use Rattle.script_text.specs.declared.fault.ScriptFault.{ScriptFault}
 use Rattle.script_text.specs.declared.fault.ScriptFault.TheVariants.{Line, Memory}
-use Rattle.checks.specs.TableFiles.{count_text, tables_text, AreTables, IsPartFault, IsTablesFault, IsTablesText}
+use Rattle.checks.proofs.Common.{AreTables, IsPartFault, IsTablesFault, IsTablesText, List, [], ap, append-nil, append_assoc, arith, codes, count_text, inl, inr, length, length-map, map, map_push, nil_from_length, refl, rows_of, subst, suc, sym, tables_text, vec_len, zero, ℕ, ℤ, ◌++◌, ◌<◌, ◌∙◌, ◌∷◌, ◌≡◌, ◌⊎◌}
 
 text_more : (c : Script) (xs : List (List (ℤ × List ℕ))) (x : List (ℤ × List ℕ)) → tables_text c (xs ++ x ∷ []) ≡ tables_text c xs ++ (table_text c.entries.items x ++ codes "\n")
 text_more c [] x = append-nil (table_text c.entries.items x ++ codes "\n")

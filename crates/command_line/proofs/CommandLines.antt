@@ -1,15 +1,12 @@
 -- The program's commands, as clap reads them.
-use Rattle.std.proofs.Common.{◌≡◌, ◌∙◌, ap, ap₂, refl, true}
 use Rattle.std.specs.Prelude.{Some}
-use Rattle.std.specs.Borrow.{Bor}
-use Rattle.clap.specs.Words.{AddsArg, AddsSubcommand, App, Rule, Text, is_simple, is_simple_and_free, with_rule, with_subcommand}
 use Rattle.clap.specs.declared.builder.arg.Arg.{Arg}
 use Rattle.clap.specs.Simple.{app_of_fields}
 use Rattle.clap.specs.declared.builder.command.Command.{Command}
 use Rattle.clap.specs.declared.builder.command.Command.TheOpen.{Command-F}
 use Rattle.clap.specs.declared.builder.command.Command.TheViews.{out-Command}
 use Rattle.clap.proofs.OnLiterals.{clap_on_literals}
-use Rattle.command_line.specs.CommandLine.{IsApp, IsRead, ringrun}
+use Rattle.command_line.proofs.Common.{AddsArg, AddsSubcommand, App, Bor, IsApp, IsRead, Rule, Text, ap, ap₂, is_simple, is_simple_and_free, refl, ringrun, true, with_rule, with_subcommand, ◌∙◌, ◌≡◌}
 
 -- one command more
 pub adds_command : (old sub new : Command) (a b : App) → IsApp old a → IsApp sub b → AddsSubcommand old sub new → IsApp new (with_subcommand a b.top)

@@ -1,19 +1,12 @@
 -- What clap read of the words.
-use Rattle.std.proofs.Common.{◌≡◌, ◌<◌, ◌^◌, ℕ, Bool, true, false, codes, List, Some, None, Ok, Err, ap, ◌∙◌, refl, subst, sym, arith, true≢false}
-use Rattle.std.specs.Prelude.{Box, Option, Result, decimal, is_ok, option_map, unwrap_or}
-use Rattle.std.specs.Borrow.{Bor}
-use Rattle.std.specs.Str.Parse.{ParsesUnsigned}
 use Rattle.std.proofs.lemmas.Fmt.{parse-decimal}
-use Rattle.std.proofs.lemmas.Option.{none-some}
-use Rattle.clap.specs.Words.{ReadsOne, Row, Text, found_of, one_text, rows_of, subcommand_name_of, subcommand_rows, subcommand_rows_of}
 use Rattle.clap.specs.declared.parser.matches.ArgMatches.{ArgMatches}
 use Rattle.clap.specs.declared.parser.matches.ArgMatches.TheViews.{out-ArgMatches, out-SubCommand}
 use Rattle.clap.specs.declared.parser.matches.SubCommand.{SubCommand}
 use Rattle.std.specs.Box.{box_value}
 use Rattle.clap.specs.declared.parser.matches.Found.{Found}
-use Rattle.clap.proofs.WalkLemmas.{one_text-rows}
-use Rattle.command_line.specs.CommandLine.{Asks, AsksFor, IsFlag}
 use Rattle.command_line.specs.declared.job.Invocation.{Invocation}
+use Rattle.command_line.proofs.Common.{Asks, AsksFor, Bool, Bor, Box, Err, IsFlag, List, None, Ok, Option, ParsesUnsigned, ReadsOne, Result, Row, Some, Text, ap, arith, codes, decimal, false, found_of, is_ok, none-some, one_text, one_text-rows, option_map, refl, rows_of, subcommand_name_of, subcommand_rows, subcommand_rows_of, subst, sym, true, true≢false, unwrap_or, ℕ, ◌<◌, ◌^◌, ◌∙◌, ◌≡◌}
 
 value_of : {E : Type 0} → Result ℕ E → ℕ
 value_of (Ok v) = v

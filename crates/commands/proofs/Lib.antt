@@ -1,3 +1,4 @@
+mod Common
 mod Listings
 pub mod Printing
 mod Problems

@@ -1,11 +1,8 @@
 -- The text of a list of tables, one table further.
-use Rattle.std.proofs.Common.{◌≡◌, ℕ, ◌+◌, ◌<◌, List, [], ◌∷◌, ◌++◌, length, drop, get_or, map, ap, ◌∙◌, append_assoc}
-use Rattle.script.specs.declared.script.Script.{Script}
 use Rattle.script.specs.declared.table.Table.{Table}
 use Rattle.script.proofs.Items.{rest_at}
 use Rattle.script_text.specs.TableText.{shown_lines, table_text}
-use Rattle.script.specs.Rows.{rows_of}
-use Rattle.commands.specs.Printed.{tables_text}
+use Rattle.commands.proofs.Common.{List, Script, [], ap, append_assoc, drop, get_or, length, map, rows_of, tables_text, ℕ, ◌++◌, ◌+◌, ◌<◌, ◌∙◌, ◌∷◌, ◌≡◌}
 
 -- one table was written, and an empty line
 pub tables_more : (c : Script) (tables : List Table) (i : ℕ) (table : Table) (old lines new total : List ℕ) → i < length tables → table ≡ get_or tables i table

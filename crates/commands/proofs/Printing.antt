@@ -1,20 +1,14 @@
 -- What has gone out, step by step; and the same of readers of whose bytes nothing is known.
-use Rattle.std.proofs.Common.{◌≡◌, ◌↔◌, ℕ, ℤ, List, length, map, sym, subst, inl, inr, arith}
 use Rattle.std.proofs.Math.Seq.{take-length}
-use Rattle.std.specs.Prelude.{◌⊎◌, Option, None, Result, Ok, Err, IfOk}
+use Rattle.std.specs.Prelude.{None}
 use Rattle.std.specs.Global.{Vec}
-use Rattle.std.specs.Io.KnownBytes.{Appends, Keeps}
 use Rattle.std.proofs.KnownBytes.{Appends-kept}
-use Rattle.script.specs.declared.script.Script.{Script}
 use Rattle.script.specs.declared.table.Table.{Table}
 use Rattle.explore.specs.Courses.{Among}
-use Rattle.script.specs.Rows.{AreInOrder, rows_of}
 use Rattle.script.specs.Tables.{IsTableOf}
 use Rattle.script_text.specs.Scripts.{SaysScript}
 use Rattle.streams.specs.Streams.{AppendsBeginning}
-use Rattle.commands.specs.declared.job.Job.{Job}
-use Rattle.commands.specs.declared.job.Job.TheVariants.{Run, Outcomes, History}
-use Rattle.commands.specs.Printed.{counted_text, AppendsSome, AreAll, HasBegun, HasPrinted, IsHistoryFor, IsHistoryOfText, IsOutcomesText, IsRunText, Prints, PrintsOf, Reads}
+use Rattle.commands.proofs.Common.{Appends, AppendsSome, AreAll, AreInOrder, Err, HasBegun, HasPrinted, History, IfOk, IsHistoryFor, IsHistoryOfText, IsOutcomesText, IsRunText, Job, Keeps, List, Ok, Option, Outcomes, Prints, PrintsOf, Reads, Result, Run, Script, arith, counted_text, inl, inr, length, map, rows_of, subst, sym, ℕ, ℤ, ◌↔◌, ◌≡◌, ◌⊎◌}
 
 -- a write failed
 pub some_begun : (a b : Option (List ℕ)) (text : List ℕ) → AppendsBeginning a b text → AppendsSome a b text

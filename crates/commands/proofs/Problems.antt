@@ -1,17 +1,8 @@
 -- What a problem says of what was read, kind by kind.
-use Rattle.std.proofs.Common.{◌≡◌, ℕ, List, Bool, true, None, sym, subst, inl, inr}
-use Rattle.std.specs.Prelude.{Option, Result, IfErr}
-use Rattle.std.proofs.lemmas.Result.{IfErr-weaker}
-use Rattle.script.specs.declared.script.Script.{Script}
 use Rattle.script_text.specs.Scripts.{IsToldOfText}
 use Rattle.script_text.specs.declared.fault.ScriptFault.{ScriptFault}
-use Rattle.commands.specs.declared.job.Job.{Job}
-use Rattle.commands.specs.declared.job.Job.TheVariants.{Run, Outcomes, History}
 use Rattle.commands.specs.declared.problem.Problem.{Problem}
-use Rattle.commands.specs.declared.problem.Problem.TheVariants.{Input, Output, Stuck, Line, TooManyStates}
-use Rattle.commands.specs.Printed.{AreAll, Reads}
-use Rattle.commands.specs.Status.{of_run, of_script, Ends, Explains, IsFaultOf, IsOfHistory, IsOfRun, IsOfSearch, IsStuckOf}
-use Rattle.commands.specs.Told.{HasCounted, HasTold}
+use Rattle.commands.proofs.Common.{AreAll, Bool, Ends, Explains, HasCounted, HasTold, History, IfErr, IfErr-weaker, Input, IsFaultOf, IsOfHistory, IsOfRun, IsOfSearch, IsStuckOf, Job, Line, List, None, Option, Outcomes, Output, Reads, Result, Run, Script, Stuck, TooManyStates, inl, inr, of_run, of_script, subst, sym, true, ℕ, ◌≡◌}
 use Rattle.commands.proofs.Printing.{forget_begun, forget_reads}
 use Rattle.script_run.specs.declared.fault.RunFault.{RunFault}
 use Rattle.script_run.specs.Faults.{IfStuckOn}

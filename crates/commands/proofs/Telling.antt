@@ -1,21 +1,15 @@
 -- What goes to standard error, part by part, and what is told of it.
-use Rattle.std.proofs.Common.{◌≡◌, ◌+◌, ◌++◌, ℕ, Bool, true, false, List, Some, None, Ok, Err, length, take, sym, subst, ap, ◌∙◌, length-append, arith}
+use Rattle.std.proofs.Common.{Ok, Err}
 use Rattle.std.proofs.lemmas.List.{take-append-le}
-use Rattle.std.specs.Prelude.{Option, Result, OnErr, OnOk, IfErr, IfOk}
 use Rattle.std.specs.Global.{Vec}
-use Rattle.std.specs.Io.KnownBytes.{Appends, Keeps}
 use Rattle.std.proofs.KnownBytes.{Appends-kept, Appends-trans}
 use Rattle.std.proofs.Math.Seq.{take-length, take-append-add}
-use Rattle.script.specs.declared.script.Script.{Script}
 use Rattle.explore.specs.Search.{HasStates}
 use Rattle.streams.specs.Streams.{AppendsBeginning}
 use Rattle.commands.specs.declared.answer.FullAnswer.{FullAnswer}
 use Rattle.commands.specs.declared.told.Stats.{Stats}
-use Rattle.commands.specs.declared.job.Job.{Job}
-use Rattle.commands.specs.declared.job.Job.TheVariants.{Outcomes}
 use Rattle.commands.specs.declared.problem.Problem.{Problem}
-use Rattle.commands.specs.Printed.{AppendsSome, IsOutcomesText, IsQuiet, Prints, Reads}
-use Rattle.commands.specs.Told.{CountsFor, CountsIf, CountsOf, HasCounted, HasCounts, IsPlain, PutsCounts}
+use Rattle.commands.proofs.Common.{Appends, AppendsSome, Bool, CountsFor, CountsIf, CountsOf, HasCounted, HasCounts, IfErr, IfOk, IsOutcomesText, IsPlain, IsQuiet, Job, Keeps, List, None, OnErr, OnOk, Option, Outcomes, Prints, PutsCounts, Reads, Result, Script, Some, ap, arith, false, length, length-append, subst, sym, take, true, ℕ, ◌++◌, ◌+◌, ◌∙◌, ◌≡◌}
 
 -- ---- known bytes
 

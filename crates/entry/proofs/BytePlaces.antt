@@ -1,8 +1,6 @@
 -- Numbers written into the bytes from a place on.
-use Rattle.std.proofs.Common.{◌≡◌, ℕ, ◌+◌, ◌-◌, ◌≤◌, List, [], ◌++◌, length, take, drop, ap, ◌∙◌, arith, length-drop}
-use Rattle.std.proofs.lemmas.List.{append-nil, drop-drop, drop_all, take_all}
 use borrow.Rule.Slice.PartMut.{mid_of, put_mid}
-use Rattle.entry.specs.Text.{put}
+use Rattle.entry.proofs.Common.{List, [], ap, append-nil, arith, drop, drop-drop, drop_all, length, length-drop, put, take, take_all, ℕ, ◌++◌, ◌+◌, ◌-◌, ◌∙◌, ◌≡◌, ◌≤◌}
 
 -- a write into the first n bytes of `&mut s[a..]`
 pub put-from_tail : (a n : ℕ) (bytes part new : List ℕ) → a + n ≤ length bytes → new ≡ part ++ drop n (mid_of a (length bytes - a) bytes)

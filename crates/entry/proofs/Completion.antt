@@ -1,11 +1,7 @@
 -- The bytes of a completion, read and written back, and written and read again.
-use Rattle.std.proofs.Common.{◌≡◌, ℕ, ℤ, ◌^◌, ◌<◌, List, [], length, drop, refl, ap, sym, ◌∙◌, arith, lit<}
-use Rattle.std.specs.Int.{w32, cast_signed, cast_unsigned}
-use Rattle.std.specs.Int.RustNames.{FitsSigned}
-use Rattle.std.proofs.lemmas.Int.{of_z-to_z, to_z-of_z}
-use Rattle.std.proofs.lemmas.List.{drop_all}
 use Rattle.entry.specs.declared.cqe.Cqe.{Cqe}
-use Rattle.entry.specs.Text.{cqe_text, number_at}
+use Rattle.entry.specs.Text.{number_at}
+use Rattle.entry.proofs.Common.{FitsSigned, List, [], ap, arith, cast_signed, cast_unsigned, cqe_text, drop, drop_all, length, lit<, of_z-to_z, refl, sym, to_z-of_z, w32, ℕ, ℤ, ◌<◌, ◌^◌, ◌∙◌, ◌≡◌}
 use Rattle.entry.proofs.NumberBytes.{IsBytes}
 use Rattle.entry.proofs.EntryBytes.{cast_unsigned-lt, front, number_at-layout, number_at-lt}
 

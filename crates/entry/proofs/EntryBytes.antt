@@ -1,13 +1,7 @@
 -- The bytes of an entry: written piece by piece, read back, and written back.
-use Rattle.std.proofs.Common.{length-drop, ◌≡◌, ℕ, ℤ, pos, negsuc, ◌+◌, ◌^◌, ◌<◌, ◌≤◌, List, [], ◌∷◌, ◌++◌, length, drop, replicate, slice_index, refl, ap, sym, ◌∙◌, arith, true, lit<}
-use Rattle.std.specs.Int.{w32, cast_signed, cast_unsigned}
-use Rattle.std.specs.Int.RustNames.{FitsSigned}
-use Rattle.std.proofs.lemmas.Int.{to_z-of_z, of_z-to_z}
-use Rattle.std.proofs.lemmas.List.{drop-drop, drop_all, get_or-drop}
-use Rattle.byteorder.specs.Endian.{little_bytes, little_number}
 use Rattle.byteorder.specs.Numbers.{little_from-lt, little_number-reads_back}
-use Rattle.entry.specs.declared.row.Row.{Row}
-use Rattle.entry.specs.Text.{is_plain, layout, number_at, put, row_at}
+use Rattle.entry.specs.Text.{layout, number_at}
+use Rattle.entry.proofs.Common.{FitsSigned, List, Row, [], ap, arith, cast_signed, cast_unsigned, drop, drop-drop, drop_all, get_or-drop, is_plain, length, length-drop, lit<, little_bytes, little_number, negsuc, of_z-to_z, pos, put, refl, replicate, row_at, slice_index, sym, to_z-of_z, true, w32, ℕ, ℤ, ◌++◌, ◌+◌, ◌<◌, ◌^◌, ◌∙◌, ◌∷◌, ◌≡◌, ◌≤◌}
 use Rattle.entry.proofs.NumberBytes.{IsBytes, bytes_of-number}
 
 -- the fields are those of their Rust types

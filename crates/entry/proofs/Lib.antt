@@ -1,3 +1,4 @@
+pub mod Common
 pub mod NumberBytes
 pub mod RowTests
 pub mod EntryBytes

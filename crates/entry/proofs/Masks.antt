@@ -1,7 +1,7 @@
 -- Bits that a mask leaves.
-use Rattle.std.proofs.Common.{◌≡◌, ℕ, ap, ◌∙◌, bit_and}
 use Rattle.std.specs.Int.Bits.{and_self}
 use Rattle.std.proofs.lemmas.Nat.{and_assoc}
+use Rattle.entry.proofs.Common.{ap, bit_and, ℕ, ◌∙◌, ◌≡◌}
 
 -- a mask leaves what it left
 pub masked_twice : (n m : ℕ) → bit_and (bit_and n m) m ≡ bit_and n m

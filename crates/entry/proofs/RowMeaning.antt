@@ -1,8 +1,4 @@
 -- What a row, and so what bytes, say.
-use Rattle.std.proofs.Common.{◌≡◌, ℕ, ◌^◌, ◌<◌, ◌≤◌, ◌&&◌, ◌==◌, nat_lt, ◌↔◌, Bool, true, false, IsTrue, List, length, slice_index, refl, ap, sym, subst, ◌∙◌, arith, inl, inr, bit_and}
-use Rattle.std.proofs.Common.{ℤ, pos, negsuc, eqb-true, eq-eqb, lit<, lit≤, lt-ltb}
-use Rattle.std.specs.Int.{w32}
-use Rattle.std.specs.Int.RustNames.{FitsSigned}
 use borrow.Author.Tests.{ltb-true}
 use Rattle.std.proofs.lemmas.Bool.{false≢true}
 use Rattle.std.proofs.lemmas.Nat.{and_le_r}
@@ -10,10 +6,9 @@ use Rattle.entry.specs.declared.op.Op.{Op}
 use Rattle.entry.specs.declared.op.Op.TheVariants.{Nop, PollAdd, Timeout, TimeoutRemove, AsyncCancel, LinkTimeout, Close, Read, Write, Splice, Invalid}
 use Rattle.entry.specs.declared.op.Offset.{Offset}
 use Rattle.entry.specs.declared.op.Offset.TheVariants.{Zero, Current}
-use Rattle.entry.specs.declared.row.Row.{Row}
-use Rattle.entry.specs.Entry.{Entry}
 use Rattle.entry.specs.Table.{all_word, allowed_flags, etime_word, fits, fits_op, is_i32, is_u64, is_valid, no_fd, place, row}
-use Rattle.entry.specs.Text.{Says, invalid_of, is_plain, layout, number_at, row_at, text}
+use Rattle.entry.specs.Text.{layout, number_at}
+use Rattle.entry.proofs.Common.{Bool, Entry, FitsSigned, IsTrue, List, Row, Says, ap, arith, bit_and, eq-eqb, eqb-true, false, inl, inr, invalid_of, is_plain, length, lit<, lit≤, lt-ltb, nat_lt, negsuc, pos, refl, row_at, slice_index, subst, sym, text, true, w32, ℕ, ℤ, ◌&&◌, ◌<◌, ◌==◌, ◌^◌, ◌↔◌, ◌∙◌, ◌≡◌, ◌≤◌}
 use Rattle.entry.proofs.NumberBytes.{IsBytes}
 use Rattle.entry.proofs.EntryBytes.{InTypes, Reads, Reads-layout, layout-injective, layout-row_at}
 

@@ -1,8 +1,7 @@
 -- The test whether two rows are one.
-use Rattle.std.proofs.Common.{◌≡◌, ℕ, ℤ, ◌&&◌, nat_eq, refl, ap, Decides}
 use Rattle.std.specs.Ordering.{int_eq}
 use Rattle.std.proofs.lemmas.Bool.Decides.{Decides-and, Decides-int_eq, Decides-eqb}
-use Rattle.entry.specs.declared.row.Row.{Row}
+use Rattle.entry.proofs.Common.{Decides, Row, ap, nat_eq, refl, ℕ, ℤ, ◌&&◌, ◌≡◌}
 
 abbrev row_with : ℕ → ℤ → ℕ → ℕ → ℕ → ℕ → ℤ → Row
 row_with opcode fd off addr len word splice_fd_in = record { opcode = opcode; fd = fd; off = off; addr = addr; len = len; word = word; splice_fd_in = splice_fd_in }

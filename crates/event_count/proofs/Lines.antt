@@ -1,17 +1,6 @@
 -- Facts about the journal: how many have entered, what a pass's own lines tell of it, and that nobody is quiet while a waiter has entered.
-use Rattle.std.proofs.Common.{◌≡◌, ◌≢◌, ℕ, zero, suc, ◌+◌, ◌%◌, ◌^◌, ◌<◌, ◌≤◌, ◌==◌, Bool, true, false, cond, List, [], ◌∷◌, ◌++◌, sym, refl, ap, ◌∙◌, subst, arith, eq-eqb, ne_eqb}
-use mathlib.Core.Option.{some}
-use mathlib.Core.Logic.{dite}
-use lib.ListN.{get_elem?}
-use native.Mathlib.Decide.{ℕ_discrete}
-use Rattle.atomic_table.proofs.Lists.{one_turn}
-use Rattle.event_count.specs.declared.view.Line.{Line}
 use Rattle.event_count.specs.declared.view.Line.TheVariants.{Entered, Left, Quiet, Found, Counted}
-use Rattle.event_count.specs.declared.view.Role.{Role}
-use Rattle.event_count.specs.declared.view.Role.TheVariants.{Waiter, Notifier}
-use Rattle.event_count.specs.declared.view.View.{View}
-use Rattle.event_count.specs.Journal.{is_inside, inside, owes, counted, count_of, IsSound, NoneOf, Saw, NoQuiet, AllOwed, Stayed, Hears}
-use Rattle.event_count.specs.Rule.{IsMade, AllMade}
+use Rattle.event_count.proofs.Common.{AllMade, AllOwed, Bool, Hears, IsMade, IsSound, Line, List, NoQuiet, NoneOf, Notifier, Role, Saw, Stayed, View, Waiter, [], ap, arith, cond, count_of, counted, dite, eq-eqb, false, get_elem?, inside, is_inside, ne_eqb, one_turn, owes, refl, some, subst, suc, sym, true, zero, ℕ, ℕ_discrete, ◌%◌, ◌++◌, ◌+◌, ◌<◌, ◌==◌, ◌^◌, ◌∙◌, ◌∷◌, ◌≡◌, ◌≢◌, ◌≤◌}
 
 -- a line of another number
 other_waiter : (x w : ℕ) → Waiter x ≢ Waiter w → (x == w) ≡ false

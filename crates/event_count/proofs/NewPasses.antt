@@ -1,9 +1,6 @@
 -- The passes of a new event count, for who takes them out of their lists.
-use Rattle.std.proofs.Common.{◌≡◌, ◌<◌, ℕ, zero, suc, false, List, [], ◌∷◌, All, get_or, sym, refl, subst}
-use mathlib.Core.Option.{some, some-injective}
-use lib.ListN.{get_elem?}
 use Rattle.atomic_table.specs.Seated.{TableId}
-use Rattle.event_count.specs.Passes.{AreNewNotifiers, AreNewWaiters, IsNotifierOf, IsWaiterOf, Notifying, Waiting, new_notifying, new_waiting}
+use Rattle.event_count.proofs.Common.{All, AreNewNotifiers, AreNewWaiters, IsNotifierOf, IsWaiterOf, List, Notifying, Waiting, [], false, get_elem?, get_or, new_notifying, new_waiting, refl, some, some-injective, subst, suc, sym, zero, ℕ, ◌<◌, ◌∷◌, ◌≡◌}
 
 found : {A : Type 0} (l : List A) (i : ℕ) (a d : A) → get_elem? l i ≡ some a → get_or l i d ≡ a
 found [] i a d e = absurd (cc)

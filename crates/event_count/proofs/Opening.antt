@@ -1,19 +1,7 @@
 -- A new event count, and the cut of its passes, keep the rule.
-use Rattle.std.proofs.Common.{◌≡◌, ◌≢◌, ℕ, zero, suc, ◌+◌, ◌<◌, ◌≤◌, ◌⊎◌, ⊎_elim, inl, inr, List, [], ◌∷◌, ◌++◌, length, set, sym, refl, ap, ◌∙◌, subst, arith, length-append, false, true≢false}
-use mathlib.Core.Option.{some, some-injective, some-ne-none}
-use mathlib.Core.Logic.{dite}
-use native.Mathlib.Decide.{ℕ_discrete}
-use lib.ListN.{get_elem?}
 use Rattle.atomic_table.specs.Table.{Splits, opening}
-use Rattle.atomic_table.proofs.Lists.{at_set, at_longer, at_last}
 use Rattle.atomic_table.specs.declared.shared.Seat.{Seat}
-use Rattle.event_count.specs.declared.view.Line.{Line}
-use Rattle.event_count.specs.declared.view.Role.{Role}
-use Rattle.event_count.specs.declared.view.Role.TheVariants.{Maker, Waiter, Notifier}
-use Rattle.event_count.specs.declared.view.View.{View}
-use Rattle.event_count.specs.Journal.{number_of, owner, NoneOf, Saw}
-use Rattle.event_count.specs.Rule.{IsMade, AllMade, Ruled, opening_view, with_waiter, new_waiter, with_notifier, new_notifier}
-use Rattle.event_count.specs.Passes.{is_in, is_owing, IsWaiterSeat, IsNotifierSeat}
+use Rattle.event_count.proofs.Common.{AllMade, IsMade, IsNotifierSeat, IsWaiterSeat, Line, List, Maker, NoneOf, Notifier, Role, Ruled, Saw, View, Waiter, [], ap, arith, at_last, at_longer, at_set, dite, false, get_elem?, inl, inr, is_in, is_owing, length, length-append, new_notifier, new_waiter, number_of, opening_view, owner, refl, set, some, some-injective, some-ne-none, subst, suc, sym, true≢false, with_notifier, with_waiter, zero, ℕ, ℕ_discrete, ⊎_elim, ◌++◌, ◌+◌, ◌<◌, ◌∙◌, ◌∷◌, ◌≡◌, ◌≢◌, ◌≤◌, ◌⊎◌}
 use Rattle.event_count.proofs.Lines.{all_heard, saw_itself}
 use Rattle.event_count.proofs.Steps.{at_now, apart_stays}
 

@@ -1,22 +1,10 @@
 -- The steps of waiters and notifiers keep the rule.
-use Rattle.std.proofs.Common.{◌≡◌, ◌≢◌, ℕ, zero, suc, ◌+◌, ◌-◌, ◌%◌, ◌^◌, ◌<◌, ⊎_elim, inl, inr, true, false, List, [], ◌∷◌, length, slice_index, slice_set, set, sym, refl, ap, ◌∙◌, subst, arith, length-set, get_or-set_same, get_or-set_other}
 use Rattle.std.proofs.Math.Nat.{mod-eq_of_lt, add-mod_right, mod-add-mod}
-use mathlib.Core.Option.{some, none, some-injective, some-ne-none}
-use mathlib.Core.Logic.{dite}
-use native.Mathlib.Decide.{ℕ_discrete}
-use lib.ListN.{get_elem?}
 use lib.Seq.{set-get_or}
 use Rattle.atomic_table.specs.Table.{State, step, Me, keeps, Allows}
-use Rattle.atomic_table.proofs.Lists.{at_set, set_again, set_else}
-use Rattle.event_count.specs.declared.view.Line.{Line}
 use Rattle.event_count.specs.declared.view.Line.TheVariants.{Entered, Left, Quiet, Found, Counted}
-use Rattle.event_count.specs.declared.view.Role.{Role}
-use Rattle.event_count.specs.declared.view.Role.TheVariants.{Maker, Waiter, Notifier}
-use Rattle.event_count.specs.declared.view.View.{View}
-use Rattle.event_count.specs.Journal.{number_of, owner, is_inside, inside, owes, counted, count_of, MayFollow, IsSound, Saw, Stayed}
-use Rattle.event_count.specs.Rule.{IsMade, AllMade, Ruled}
-use Rattle.event_count.specs.Passes.{is_in, is_owing}
 use Rattle.event_count.specs.Plays.{entered, read, asked, left, looked, counted_one}
+use Rattle.event_count.proofs.Common.{AllMade, IsMade, IsSound, Line, List, Maker, MayFollow, Notifier, Role, Ruled, Saw, Stayed, View, Waiter, [], ap, arith, at_set, count_of, counted, dite, false, get_elem?, get_or-set_other, get_or-set_same, inl, inr, inside, is_in, is_inside, is_owing, length, length-set, none, number_of, owes, owner, refl, set, set_again, set_else, slice_index, slice_set, some, some-injective, some-ne-none, subst, suc, sym, true, zero, ℕ, ℕ_discrete, ⊎_elim, ◌%◌, ◌+◌, ◌-◌, ◌<◌, ◌^◌, ◌∙◌, ◌∷◌, ◌≡◌, ◌≢◌}
 use Rattle.event_count.proofs.Lines.{inside_same, owes_same, inside_most, inside_some, hears, all_heard, saw_itself}
 
 not_waiter : (w : ℕ) (r : Role) → r ≡ Waiter w → r ≢ Maker

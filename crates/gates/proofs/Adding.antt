@@ -1,15 +1,6 @@
 -- What an entry more, and a cell less, make of a row.
-use Rattle.std.proofs.Common.{◌≡◌, ◌⊎◌, ℕ, suc, ◌+◌, ◌-◌, ◌<◌, ◌≤◌, ◌&&◌, ◌++◌, true, false, Bool, List, [], ◌∷◌, length, map, drop, Some, None, Option, refl, sym, ap, ◌∙◌, subst, ⊎_elim, inl, inr, true≢false, arith, length-drop, length-append}
-use Rattle.std.specs.List.{slice_get}
 use Rattle.std.specs.Option.{option_map}
-use Rattle.std.proofs.lemmas.Bool.{cases_lt}
-use Rattle.std.proofs.lemmas.Option.{slice_get_within, slice_get-map}
-use Rattle.std.proofs.lemmas.List.{length-map, map-append, drop-drop, drop-append-le}
-use Rattle.history.proofs.Requests.{bool_cases}
-use Rattle.gates.specs.declared.cell.Behind.{Behind}
-use Rattle.gates.specs.declared.cell.Cell.{Cell}
-use Rattle.gates.specs.Slots.{Slot, slot_of, is_pending, is_draining, next_of, next_in, starting, behind, test_at, passes}
-use Rattle.gates.specs.EntryRows.{Kept, IsFirst, Linked, IsSound, IsChainStart, Stands, IsToldBy, without_first, added}
+use Rattle.gates.proofs.Common.{Behind, Bool, Cell, IsChainStart, IsFirst, IsSound, IsToldBy, Kept, Linked, List, None, Option, Slot, Some, Stands, [], added, ap, arith, behind, bool_cases, cases_lt, drop, drop-append-le, drop-drop, false, inl, inr, is_draining, is_pending, length, length-append, length-drop, length-map, map, map-append, next_in, next_of, passes, refl, slice_get, slice_get-map, slice_get_within, slot_of, starting, subst, suc, sym, test_at, true, true≢false, without_first, ℕ, ⊎_elim, ◌&&◌, ◌++◌, ◌+◌, ◌-◌, ◌<◌, ◌∙◌, ◌∷◌, ◌≡◌, ◌≤◌, ◌⊎◌}
 use Rattle.gates.proofs.Lists.{get_there, get_drop, get_before, get_last, one_some, slot_there}
 use Rattle.gates.proofs.CellReplies.{behind_same_before}
 use Rattle.gates.proofs.Standing.{slot_exact, behind_exact}

@@ -1,13 +1,6 @@
 -- What deciding needs of a history and a list of entries: they agree on who joins, severs, drains and has replied. Live: the
 -- requests of which it is known.
-use Rattle.std.proofs.Common.{◌≡◌, ◌⊎◌, ℕ, ◌-◌, ◌<◌, ◌≤◌, true, false, List, length, Some, None, Option, ℤ, refl, sym, ap, ◌∙◌, true≢false, arith}
-use Rattle.std.specs.List.{slice_get}
-use Rattle.entry.specs.Entry.{Entry, drains}
-use Rattle.history.specs.declared.event.Event.{Event}
-use Rattle.history.specs.History.{submission, phase, reply, IsReplied}
-use Rattle.history.specs.Chains.{joins, IsPlaced, IsChainBefore, severs, is_link_timeout_in, placed}
-use Rattle.gates.specs.Slots.{Slot, joins_of, is_pending, is_severing, is_target_timer, behind, test_at}
-use Rattle.gates.specs.Shows.{nth, Shows}
+use Rattle.gates.proofs.Common.{Entry, Event, IsChainBefore, IsPlaced, IsReplied, List, None, Option, Shows, Slot, Some, ap, arith, behind, drains, false, is_link_timeout_in, is_pending, is_severing, is_target_timer, joins, joins_of, length, nth, phase, placed, refl, reply, severs, slice_get, submission, sym, test_at, true, true≢false, ℕ, ℤ, ◌-◌, ◌<◌, ◌∙◌, ◌≡◌, ◌≤◌, ◌⊎◌}
 use Rattle.gates.proofs.Lists.{get_there, one_some}
 use Rattle.gates.proofs.Bridge.{joins_shown, placed_slot, placed_shown, drains_same, timer_shown, severs_shown, severs_found, replied_shown}
 use Rattle.gates.proofs.Marks.{J, H, P, Join, Drains}

@@ -1,20 +1,7 @@
 -- What a row answers of whether a request may start is what the definitions say of each history with which its list agrees.
-use Rattle.std.proofs.Common.{◌≡◌, ℕ, suc, ◌+◌, ◌-◌, ◌<◌, ◌≤◌, ◌&&◌, ◌||◌, true, false, cond, Bool, List, length, map, Some, None, Option, refl, sym, ap, ◌∙◌, subst, ⊎_elim, inl, inr, true≢false, arith}
-use Rattle.std.specs.List.{slice_get}
 use Rattle.std.specs.Prelude.{nat_lt, min}
-use Rattle.std.proofs.lemmas.Bool.{cases_lt, ltb-true, lt-ltb}
-use Rattle.std.proofs.lemmas.Option.{slice_get_within, none-some}
-use Rattle.entry.specs.Entry.{Entry}
-use Rattle.history.specs.declared.event.Event.{Event}
-use Rattle.history.specs.History.{phase, IsReplied}
-use Rattle.history.specs.Chains.{IsTarget, Severed, Open, IsClear, gate_of, previous, placed, is_link_timeout, is_link_timeout_in}
-use Rattle.history.proofs.Requests.{bool_cases, and_left, and_right}
-use Rattle.gates.specs.declared.cell.Behind.{Behind}
-use Rattle.gates.specs.declared.cell.Cell.{Cell}
 use Rattle.gates.specs.declared.gate.Asked.{Asked}
-use Rattle.gates.specs.Slots.{Slot, slot_of, is_pending, is_draining, is_target_timer, behind, test_at, passes}
-use Rattle.gates.specs.EntryRows.{Kept, HasCell, IsSound, Stands, Waits, place_by, target_by, IsTurn, IsMember, bar_by, IsBar, link_in, asked_by, asked_of, IsAnswer, nearest_in, numbered}
-use Rattle.gates.specs.Shows.{nth, IsGate, IsAsked, IsTargetOf, named_in, linked_in, gate_by}
+use Rattle.gates.proofs.Common.{Behind, Bool, Cell, Entry, Event, HasCell, IsAnswer, IsAsked, IsBar, IsClear, IsGate, IsMember, IsReplied, IsSound, IsTarget, IsTargetOf, IsTurn, Kept, List, None, Open, Option, Severed, Slot, Some, Stands, Waits, and_left, and_right, ap, arith, asked_by, asked_of, bar_by, behind, bool_cases, cases_lt, cond, false, gate_by, gate_of, inl, inr, is_draining, is_link_timeout, is_link_timeout_in, is_pending, is_target_timer, length, link_in, linked_in, lt-ltb, ltb-true, map, named_in, nearest_in, none-some, nth, numbered, passes, phase, place_by, placed, previous, refl, slice_get, slice_get_within, slot_of, subst, suc, sym, target_by, test_at, true, true≢false, ℕ, ⊎_elim, ◌&&◌, ◌+◌, ◌-◌, ◌<◌, ◌||◌, ◌∙◌, ◌≡◌, ◌≤◌}
 use Rattle.gates.proofs.Lists.{get_there, one_some}
 use Rattle.gates.proofs.Marks.{J, P, S, W, Bars, step_held, held_by, held_from, hosted_joined, severed_next}
 use Rattle.gates.proofs.Agreement.{Agrees, Fresh}

@@ -1,19 +1,6 @@
 -- The walk over a list of entries finds what the definitions say of the history that the list shows.
-use Rattle.std.proofs.Common.{◌≡◌, ℕ, zero, suc, ◌-◌, ◌≤◌, ◌&&◌, ◌||◌, not, true, false, cond, Bool, List, [], length, Some, None, Option, ℤ, refl, sym, ap, ◌∙◌, true≢false, arith}
-use Rattle.std.specs.List.{slice_get}
-use Rattle.std.proofs.lemmas.Bool.{ne_eqb}
 use Rattle.history.specs.Legal.{Setup}
-use Rattle.history.proofs.Growth.{replied_of_reply}
-use Rattle.entry.specs.Entry.{Entry, links_hard, drains, fails}
-use Rattle.history.specs.declared.event.Event.{Event}
-use Rattle.history.specs.History.{submission, phase, reply, IsReplied}
-use Rattle.history.specs.Chains.{is_link_timeout, is_invalid, joins, hosts, before_in, placed_from, placed, previous, IsPlaced, severs, is_link_timeout_in}
-use Rattle.history.proofs.Requests.{and_left, and_right}
-use Rattle.gates.specs.declared.cell.Behind.{Behind}
-use Rattle.gates.specs.declared.traits.Traits.{Traits}
-use Rattle.gates.specs.Slots.{Slot, joins_of, hosts_of, is_unanswered, is_failed, is_pending, is_placed_invalid, is_target_timer, is_severing, next_in, behind, test_at}
-use Rattle.gates.specs.Shows.{nth, Shows}
-use Rattle.std.proofs.lemmas.Option.{none-some}
+use Rattle.gates.proofs.Common.{Behind, Bool, Entry, Event, IsPlaced, IsReplied, List, None, Option, Shows, Slot, Some, Traits, [], and_left, and_right, ap, arith, before_in, behind, cond, drains, fails, false, hosts, hosts_of, is_failed, is_invalid, is_link_timeout, is_link_timeout_in, is_pending, is_placed_invalid, is_severing, is_target_timer, is_unanswered, joins, joins_of, length, links_hard, ne_eqb, next_in, none-some, not, nth, phase, placed, placed_from, previous, refl, replied_of_reply, reply, severs, slice_get, submission, suc, sym, test_at, true, true≢false, zero, ℕ, ℤ, ◌&&◌, ◌-◌, ◌||◌, ◌∙◌, ◌≡◌, ◌≤◌}
 use Rattle.gates.proofs.Lists.{get_there, one_some}
 
 -- the entry as it is placed, where the entry before it hosts a LINK_TIMEOUT or not

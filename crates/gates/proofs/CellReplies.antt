@@ -1,13 +1,5 @@
 -- What a reply makes of the cells, and of the list that they stand for.
-use Rattle.std.proofs.Common.{◌≡◌, ◌≢◌, ℕ, zero, suc, ◌+◌, ◌<◌, ◌≤◌, ◌==◌, ◌++◌, ◌&&◌, ◌||◌, not, true, false, cond, Bool, List, [], ◌∷◌, length, map, drop, set, Some, refl, sym, ap, ◌∙◌, subst, ⊎_elim, inl, inr, eqb-true, arith}
-use Rattle.std.specs.List.{slice_get}
-use Rattle.std.proofs.lemmas.Option.{none-some}
-use Rattle.std.proofs.lemmas.List.{map-set, length-map, length-set, drop-set-add}
-use Rattle.history.proofs.Requests.{bool_cases}
-use Rattle.gates.specs.declared.cell.Behind.{Behind}
-use Rattle.gates.specs.declared.cell.Cell.{Cell}
-use Rattle.gates.specs.Slots.{Slot, slot_of, joins_of, is_severing, next_of, next_in, behind, test_at, passes, is_pending}
-use Rattle.gates.specs.EntryRows.{LinkedAt, Linked, Stands, with_reply, answered, waiting_in}
+use Rattle.gates.proofs.Common.{Behind, Bool, Cell, Linked, LinkedAt, List, Slot, Some, Stands, [], answered, ap, arith, behind, bool_cases, cond, drop, drop-set-add, eqb-true, false, inl, inr, is_pending, is_severing, joins_of, length, length-map, length-set, map, map-set, next_in, next_of, none-some, not, passes, refl, set, slice_get, slot_of, subst, suc, sym, test_at, true, waiting_in, with_reply, zero, ℕ, ⊎_elim, ◌&&◌, ◌++◌, ◌+◌, ◌<◌, ◌==◌, ◌||◌, ◌∙◌, ◌∷◌, ◌≡◌, ◌≢◌, ◌≤◌}
 use Rattle.gates.proofs.Lists.{get_last, get_set_same, get_set_other, get_drop, get_there, one_some, slot_there}
 use Rattle.gates.proofs.Links.{ne_of}
 

@@ -1,18 +1,6 @@
 -- When the first cell of a full row is free.
-use Rattle.std.proofs.Common.{◌≡◌, ◌≢◌, ◌⊎◌, ℕ, ◌+◌, ◌-◌, ◌<◌, ◌≤◌, ◌==◌, ◌&&◌, ◌||◌, true, false, Bool, List, length, refl, sym, ap, ◌∙◌, subst, ⊎_elim, inl, inr, true≢false, eqb-true, eq-eqb, arith}
-use Rattle.std.specs.List.{slice_get}
 use Rattle.std.specs.Prelude.{nat_lt}
-use Rattle.std.proofs.lemmas.Bool.{cases_lt, ltb-true, lt-ltb}
-use Rattle.std.proofs.lemmas.List.{length-map}
-use Rattle.history.specs.declared.req.Req.{Req}
-use Rattle.history.specs.declared.event.Event.{Event}
-use Rattle.history.specs.History.{phase, IsReplied}
-use Rattle.history.specs.Chains.{IsChainBefore, IsChained}
-use Rattle.history.proofs.Requests.{bool_cases, and_left, and_right}
-use Rattle.gates.specs.declared.cell.Behind.{Behind}
-use Rattle.gates.specs.Slots.{Slot, slot_of, behind}
-use Rattle.gates.specs.EntryRows.{Kept, IsSound, IsChainStart, Stands, added, free_by, begins_after}
-use Rattle.gates.specs.Shows.{nth, Shows, IsFree, IsOfChain}
+use Rattle.gates.proofs.Common.{Behind, Bool, Event, IsChainBefore, IsChainStart, IsChained, IsFree, IsOfChain, IsReplied, IsSound, Kept, List, Req, Shows, Slot, Stands, added, and_left, and_right, ap, arith, begins_after, behind, bool_cases, cases_lt, eq-eqb, eqb-true, false, free_by, inl, inr, length, length-map, lt-ltb, ltb-true, nth, phase, refl, slice_get, slot_of, subst, sym, true, true≢false, ℕ, ⊎_elim, ◌&&◌, ◌+◌, ◌-◌, ◌<◌, ◌==◌, ◌||◌, ◌∙◌, ◌≡◌, ◌≢◌, ◌≤◌, ◌⊎◌}
 use Rattle.gates.proofs.Lists.{get_there}
 use Rattle.gates.proofs.Marks.{P, Join}
 use Rattle.gates.proofs.Agreement.{Agrees, Each, shown, shown_fresh}

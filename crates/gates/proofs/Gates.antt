@@ -1,13 +1,5 @@
 -- What a history says of chains and drains, by the marks of the list that agrees with it.
-use Rattle.std.proofs.Common.{◌≡◌, ℕ, ◌<◌, ◌≤◌, true, false, List, length, Some, refl, sym, ◌∙◌, subst, ⊎_elim, inl, inr, true≢false, arith}
-use Rattle.history.specs.declared.req.Req.{Req}
-use Rattle.history.specs.declared.event.Event.{Event}
-use Rattle.history.specs.History.{phase, reply, IsReplied}
-use Rattle.history.specs.Chains.{IsPlaced, IsBefore, IsChainBefore, Severed, IsClear}
-use Rattle.history.proofs.Requests.{bool_cases}
-use Rattle.gates.specs.Slots.{Slot}
-use Rattle.gates.specs.Shows.{nth}
-use Rattle.history.proofs.Growth.{replied_of_reply}
+use Rattle.gates.proofs.Common.{Event, IsBefore, IsChainBefore, IsClear, IsPlaced, IsReplied, List, Req, Severed, Slot, Some, arith, bool_cases, false, inl, inr, length, nth, phase, refl, replied_of_reply, reply, subst, sym, true, true≢false, ℕ, ⊎_elim, ◌<◌, ◌∙◌, ◌≡◌, ◌≤◌}
 use Rattle.gates.proofs.Bridge.{nobody}
 use Rattle.gates.proofs.Marks.{P, S, Join, Bars, severed_by, severed_from}
 use Rattle.gates.proofs.Agreement.{Agrees}

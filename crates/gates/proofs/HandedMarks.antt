@@ -1,6 +1,5 @@
 -- A mark that each entry hands on to the next one of its chain, as the walk over the entries before it.
-use Rattle.std.proofs.Common.{◌≡◌, ℕ, zero, suc, ◌<◌, ◌≤◌, ◌==◌, ◌&&◌, ◌||◌, Bool, true, false, refl, sym, ap, ◌∙◌, ⊎_elim, true≢false, eqb-true, eq-eqb, arith}
-use Rattle.history.proofs.Requests.{bool_cases, and_left, and_right}
+use Rattle.gates.proofs.Common.{Bool, and_left, and_right, ap, arith, bool_cases, eq-eqb, eqb-true, false, refl, suc, sym, true, true≢false, zero, ℕ, ⊎_elim, ◌&&◌, ◌<◌, ◌==◌, ◌||◌, ◌∙◌, ◌≡◌, ◌≤◌}
 
 or_cases : (a b : Bool) → (a || b) ≡ true → ¬ (a ≡ true) → b ≡ true
 or_cases true b e n = absurd (n refl)

@@ -2,6 +2,7 @@ pub mod Adding
 pub mod Agreement
 pub mod Asking
 pub mod Bridge
+pub mod Common
 pub mod HandedMarks
 pub mod Freeing
 pub mod Gates

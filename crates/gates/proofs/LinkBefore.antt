@@ -1,14 +1,5 @@
 -- The nearest earlier member of a request's chain that is pending, as a row finds it.
-use Rattle.std.proofs.Common.{◌≡◌, ℕ, zero, suc, ◌+◌, ◌<◌, ◌≤◌, ◌||◌, true, false, cond, Bool, List, length, map, Some, None, Option, refl, sym, ap, ◌∙◌, subst, ⊎_elim, true≢false, arith}
-use Rattle.std.proofs.lemmas.Bool.{cases_lt}
-use Rattle.std.proofs.lemmas.Option.{none-some}
-use Rattle.history.specs.declared.req.Req.{Req}
-use Rattle.history.specs.declared.event.Event.{Event}
-use Rattle.history.specs.Chains.{IsChainBefore, severs}
-use Rattle.history.proofs.Requests.{bool_cases, and_left}
-use Rattle.gates.specs.Slots.{Slot, slot_of, is_pending, passes}
-use Rattle.gates.specs.EntryRows.{Kept, IsSound, Stands, held_at, nearest_in, link_in, numbered}
-use Rattle.gates.specs.Shows.{nth, HasNotSevered, HaveGoneOn, IsLink}
+use Rattle.gates.proofs.Common.{Bool, Event, HasNotSevered, HaveGoneOn, IsChainBefore, IsLink, IsSound, Kept, List, None, Option, Req, Slot, Some, Stands, and_left, ap, arith, bool_cases, cases_lt, cond, false, held_at, is_pending, length, link_in, map, nearest_in, none-some, nth, numbered, passes, refl, severs, slot_of, subst, suc, sym, true, true≢false, zero, ℕ, ⊎_elim, ◌+◌, ◌<◌, ◌||◌, ◌∙◌, ◌≡◌, ◌≤◌}
 use Rattle.gates.proofs.Lists.{one_some}
 use Rattle.gates.proofs.Marks.{J, P, S, W, Join, severed_from, step_held, held_from}
 use Rattle.gates.proofs.Agreement.{Agrees}

@@ -1,13 +1,6 @@
 -- The step of the loop that hands on to the later members of a chain what became of an earlier one.
-use Rattle.std.proofs.Common.{◌≡◌, ◌≢◌, ℕ, zero, suc, ◌+◌, ◌<◌, ◌≤◌, ◌==◌, ◌&&◌, true, false, Bool, List, [], ◌∷◌, length, map, set, Some, refl, sym, ap, ◌∙◌, subst, ⊎_elim, true≢false, eqb-true, eq-eqb, arith}
-use Rattle.std.specs.List.{slice_get}
-use Rattle.std.proofs.lemmas.Option.{slice_get_within}
 use mathlib.Core.Bool.{beq}
-use Rattle.history.proofs.Requests.{bool_cases, and_left, and_right}
-use Rattle.gates.specs.declared.cell.Behind.{Behind}
-use Rattle.gates.specs.declared.cell.Cell.{Cell}
-use Rattle.gates.specs.Slots.{slot_of, next_of}
-use Rattle.gates.specs.EntryRows.{LinkedAt, Linked}
+use Rattle.gates.proofs.Common.{Behind, Bool, Cell, Linked, LinkedAt, List, Some, [], and_left, and_right, ap, arith, bool_cases, eq-eqb, eqb-true, false, length, map, next_of, refl, set, slice_get, slice_get_within, slot_of, subst, suc, sym, true, true≢false, zero, ℕ, ⊎_elim, ◌&&◌, ◌+◌, ◌<◌, ◌==◌, ◌∙◌, ◌∷◌, ◌≡◌, ◌≢◌, ◌≤◌}
 use Rattle.gates.proofs.Lists.{get_set_same, get_set_other, one_some}
 
 abbrev pub with_behind : Cell → Behind → Cell

@@ -1,9 +1,5 @@
 -- The marks that a walk over a list of entries finds: who joins the next, who severs, who is pending, who is severed or held up.
-use Rattle.std.proofs.Common.{◌≡◌, ◌⊎◌, ℕ, zero, suc, ◌-◌, ◌<◌, ◌≤◌, ◌&&◌, ◌||◌, not, true, false, Bool, List, length, Some, refl, sym, ap, ◌∙◌, subst, true≢false, arith}
-use Rattle.std.specs.List.{slice_get}
-use Rattle.history.proofs.Requests.{and_left}
-use Rattle.gates.specs.declared.cell.Behind.{Behind}
-use Rattle.gates.specs.Slots.{Slot, joins_of, hosts_of, is_pending, is_severing, next_in, behind, test_at, passes}
+use Rattle.gates.proofs.Common.{Behind, Bool, List, Slot, Some, and_left, ap, arith, behind, false, hosts_of, is_pending, is_severing, joins_of, length, next_in, not, passes, refl, slice_get, subst, suc, sym, test_at, true, true≢false, zero, ℕ, ◌&&◌, ◌-◌, ◌<◌, ◌||◌, ◌∙◌, ◌≡◌, ◌≤◌, ◌⊎◌}
 use Rattle.gates.proofs.Lists.{get_there}
 use Rattle.gates.proofs.HandedMarks.{carried_by, carried_from}
 use Rattle.gates.proofs.Bridge.{next_severed, next_held}

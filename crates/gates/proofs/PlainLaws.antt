@@ -1,11 +1,5 @@
 -- A plain request behind plain ones is open, whoever has replied.
-use Rattle.std.proofs.Common.{◌≡◌, ℕ, ◌-◌, ◌<◌, Bool, true, false, cond, List, Option, Some, sym, ap, ◌∙◌, subst, true≢false, arith}
-use Rattle.entry.specs.Entry.{Entry, drains}
-use Rattle.history.specs.declared.req.Req.{Req}
-use Rattle.history.specs.declared.event.Event.{Event}
-use Rattle.history.specs.History.{submission}
-use Rattle.history.specs.Chains.{joins, previous, is_link_timeout_in, gate_of, IsChainBefore, IsPlaced, IsBefore, IsClear, Severed, Open}
-use Rattle.gates.specs.Shows.{nth, IsPlainAt, ArePlain}
+use Rattle.gates.proofs.Common.{ArePlain, Bool, Entry, Event, IsBefore, IsChainBefore, IsClear, IsPlaced, IsPlainAt, List, Open, Option, Req, Severed, Some, ap, arith, cond, drains, false, gate_of, is_link_timeout_in, joins, nth, previous, submission, subst, sym, true, true≢false, ℕ, ◌-◌, ◌<◌, ◌∙◌, ◌≡◌}
 use Rattle.gates.proofs.Lists.{one_some}
 
 module _ (h : List Event) (q : Req) (before : ArePlain h q.ring q.k) where

@@ -1,10 +1,5 @@
 -- A row that begins anew behind requests that stand-ins serve for.
-use Rattle.std.proofs.Common.{◌≡◌, ℕ, zero, suc, ◌+◌, ◌-◌, ◌<◌, ◌≤◌, [], replicate, Some, refl, ap, ◌∙◌, inl, arith}
-use Rattle.std.specs.List.{slice_get}
-use Rattle.std.proofs.lemmas.List.{length-replicate, drop-replicate}
-use Rattle.std.proofs.lemmas.Option.{none-some}
-use Rattle.gates.specs.Slots.{starting, is_pending, next_in, behind, test_at}
-use Rattle.gates.specs.EntryRows.{IsChainStart, Stands, stand_in, stand_ins}
+use Rattle.gates.proofs.Common.{IsChainStart, Some, Stands, [], ap, arith, behind, drop-replicate, inl, is_pending, length-replicate, next_in, none-some, refl, replicate, slice_get, stand_in, stand_ins, starting, suc, test_at, zero, ℕ, ◌+◌, ◌-◌, ◌<◌, ◌∙◌, ◌≡◌, ◌≤◌}
 
 pub stand_in_at : (n m : ℕ) → m < n → slice_get (stand_ins n) m ≡ Some stand_in
 stand_in_at zero m lt = absurd (omega arith)

@@ -1,14 +1,5 @@
 -- What the cells of a row say of the list that the row stands for.
-use Rattle.std.proofs.Common.{◌≡◌, ◌≢◌, ◌⊎◌, ℕ, zero, suc, ◌+◌, ◌-◌, ◌<◌, ◌≤◌, ◌==◌, ◌&&◌, ◌||◌, true, false, cond, Bool, List, length, map, Some, None, Option, refl, sym, ap, ◌∙◌, subst, ⊎_elim, inl, inr, true≢false, eqb-true, eq-eqb, arith}
-use Rattle.std.specs.List.{slice_get}
-use Rattle.std.proofs.lemmas.Bool.{cases_lt}
-use Rattle.std.proofs.lemmas.Option.{slice_get_within, none-some}
-use Rattle.std.proofs.lemmas.List.{length-map}
-use Rattle.history.proofs.Requests.{bool_cases, and_left, and_right}
-use Rattle.gates.specs.declared.cell.Behind.{Behind}
-use Rattle.gates.specs.declared.cell.Cell.{Cell}
-use Rattle.gates.specs.Slots.{Slot, slot_of, joins_of, is_pending, is_draining, is_target_timer, next_of, next_in, behind, test_at, passes}
-use Rattle.gates.specs.EntryRows.{Kept, IsSound, Stands, held_of, held_at, place_by}
+use Rattle.gates.proofs.Common.{Behind, Bool, Cell, IsSound, Kept, List, None, Option, Slot, Some, Stands, and_left, and_right, ap, arith, behind, bool_cases, cases_lt, cond, eq-eqb, eqb-true, false, held_at, held_of, inl, inr, is_draining, is_pending, is_target_timer, joins_of, length, length-map, map, next_in, next_of, none-some, passes, place_by, refl, slice_get, slice_get_within, slot_of, subst, suc, sym, test_at, true, true≢false, zero, ℕ, ⊎_elim, ◌&&◌, ◌+◌, ◌-◌, ◌<◌, ◌==◌, ◌||◌, ◌∙◌, ◌≡◌, ◌≢◌, ◌≤◌, ◌⊎◌}
 use Rattle.gates.proofs.Lists.{get_there, get_drop, slot_there, one_some}
 use Rattle.gates.proofs.Marks.{J, P, W, Join, step_held}
 

@@ -1,26 +1,11 @@
 -- What keeps a list trailing its history: growth of the history, a slot more, and an outcome that was looked for.
-use Rattle.std.proofs.Common.{◌≡◌, ◌⊎◌, ℕ, ◌+◌, ◌<◌, ◌≤◌, ◌==◌, ◌++◌, true, false, Bool, List, [], ◌∷◌, length, set, Some, None, Option, refl, sym, ap, ◌∙◌, subst, ⊎_elim, inl, inr, true≢false, eqb-true, arith, length-append}
-use Rattle.std.specs.List.{slice_get}
-use Rattle.std.proofs.lemmas.Bool.{cases_lt}
-use Rattle.std.proofs.lemmas.Option.{slice_get_within, none-some}
-use Rattle.entry.specs.Entry.{Entry}
-use Rattle.history.specs.declared.req.Req.{Req}
-use Rattle.history.specs.declared.event.Event.{Event}
-use Rattle.history.specs.History.{Submission, submission, submits, phase, IsReplied}
-use Rattle.history.specs.Chains.{joins, IsPlaced, IsChained, IsChainDone}
 use Rattle.history.specs.Legal.{Setup, MayCome, Legal}
-use Rattle.history.proofs.Requests.{bool_cases}
-use Rattle.history.proofs.Growth.{submission_none, submission_stays, reply_stays, reply_of_replied, replied_stays}
 use Rattle.history.proofs.Opening.{placed_stays, chain_was, done_stays}
-use Rattle.gates.specs.declared.traits.Traits.{Traits}
-use Rattle.gates.specs.Slots.{Slot, traits_of, is_unanswered, is_pending, passes, test_at}
-use Rattle.gates.specs.EntryRows.{Kept, Stands, slot_with, stand_in, stand_ins, with_reply, answered}
-use Rattle.gates.specs.Shows.{nth, IsOfChain, StandsIn, IsOutcome, TrailedAt, TrailsAt, Trails, IsPlainAt, ArePlain, HasNotSevered, HaveGoneOn}
+use Rattle.gates.proofs.Common.{ArePlain, Bool, Entry, Event, HasNotSevered, HaveGoneOn, IsChainDone, IsChained, IsOfChain, IsOutcome, IsPlaced, IsPlainAt, IsReplied, Kept, List, None, Option, Req, Slot, Some, Stands, StandsIn, Submission, TrailedAt, Trails, TrailsAt, Traits, [], answered, ap, arith, bool_cases, cases_lt, eqb-true, false, inl, inr, is_pending, is_unanswered, joins, length, length-append, length-replicate, none-some, nth, passes, phase, refl, replied_stays, reply_of_replied, reply_stays, set, slice_get, slice_get_within, slot_with, stand_in, stand_ins, submission, submission_none, submission_stays, submits, subst, sym, test_at, traits_of, true, true≢false, with_reply, ℕ, ⊎_elim, ◌++◌, ◌+◌, ◌<◌, ◌==◌, ◌∙◌, ◌∷◌, ◌≡◌, ◌≤◌, ◌⊎◌}
 use Rattle.gates.proofs.Lists.{get_before, get_last, get_set_same, get_set_other, one_some}
 use Rattle.gates.proofs.Links.{ne_of}
 use Rattle.gates.proofs.Trailing.{trailed}
 use Rattle.gates.proofs.Restarts.{stand_in_at}
-use Rattle.std.proofs.lemmas.List.{length-replicate}
 
 pub trails_none : (h : List Event) (i : ℕ) → Trails h i []
 trails_none h i k s e = absurd (none-some s e)

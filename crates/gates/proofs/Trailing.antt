@@ -1,21 +1,8 @@
 -- A list that trails a history, with the traits of the entries as they were placed and with stand-ins for chains that have
 -- replied, agrees on each request whose chain has not.
-use Rattle.std.proofs.Common.{◌≡◌, ◌⊎◌, ℕ, zero, suc, ◌-◌, ◌<◌, ◌≤◌, ◌&&◌, ◌||◌, not, true, false, cond, Bool, List, length, Some, None, Option, ℤ, refl, sym, ap, ◌∙◌, subst, ⊎_elim, inl, inr, true≢false, arith}
-use Rattle.std.specs.List.{slice_get}
-use Rattle.std.proofs.lemmas.Bool.{cases_lt, ne_eqb}
 use Rattle.entry.specs.declared.op.Op.{Op}
 use Rattle.entry.specs.declared.op.Op.TheVariants.{LinkTimeout, Invalid}
-use Rattle.entry.specs.Entry.{Entry, links, links_hard, drains, fails, fails_op}
-use Rattle.history.specs.declared.req.Req.{Req}
-use Rattle.history.specs.declared.event.Event.{Event}
-use Rattle.history.specs.History.{Submission, submission, phase, reply, IsReplied}
-use Rattle.history.specs.Chains.{is_link_timeout, is_invalid, joins, hosts, before_in, placed_from, placed, previous, IsPlaced, IsChainBefore, IsChainDone, severs, is_link_timeout_in}
-use Rattle.history.proofs.Requests.{bool_cases, and_left, and_right}
-use Rattle.history.proofs.Growth.{replied_of_reply}
-use Rattle.gates.specs.declared.cell.Behind.{Behind}
-use Rattle.gates.specs.declared.traits.Traits.{Traits}
-use Rattle.gates.specs.Slots.{Slot, traits_of, joins_of, is_unanswered, is_pending, is_target_timer, is_severing, next_in, behind, test_at}
-use Rattle.gates.specs.Shows.{nth, StandsIn, IsOutcome, TrailedAt, Trails}
+use Rattle.gates.proofs.Common.{Behind, Bool, Entry, Event, IsChainBefore, IsChainDone, IsOutcome, IsPlaced, IsReplied, List, None, Option, Req, Slot, Some, StandsIn, Submission, TrailedAt, Trails, Traits, and_left, and_right, ap, arith, before_in, behind, bool_cases, cases_lt, cond, drains, fails, fails_op, false, hosts, inl, inr, is_invalid, is_link_timeout, is_link_timeout_in, is_pending, is_severing, is_target_timer, is_unanswered, joins, joins_of, length, links, links_hard, ne_eqb, next_in, not, nth, phase, placed, placed_from, previous, refl, replied_of_reply, reply, severs, slice_get, submission, subst, suc, sym, test_at, traits_of, true, true≢false, zero, ℕ, ℤ, ⊎_elim, ◌&&◌, ◌-◌, ◌<◌, ◌||◌, ◌∙◌, ◌≡◌, ◌≤◌, ◌⊎◌}
 use Rattle.gates.proofs.Lists.{get_there, one_some}
 use Rattle.gates.proofs.Bridge.{severing_parts, nobody}
 use Rattle.gates.proofs.Marks.{J, hosted_joined}

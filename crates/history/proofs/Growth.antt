@@ -1,11 +1,5 @@
 -- What stays true as a legal history grows: what was submitted, and what was answered.
-use Rattle.std.proofs.Common.{◌≡◌, ℕ, ◌<◌, ◌≤◌, Bool, true, false, cond, ℤ, List, [], ◌∷◌, Some, None, sym, refl, ap, ◌∙◌, subst, ⊎_elim, arith, true≢false, eq-eqb, eqb, eqb-true}
-use Rattle.entry.specs.Entry.{Entry}
-use Rattle.history.specs.declared.req.Req.{Req}
-use Rattle.history.specs.declared.event.Event.{Event}
-use Rattle.history.specs.declared.event.Event.TheVariants.{Submit, Begin, Park, Reply, Take, Miss, Tick, Arm, Expire, Count, Fire, FireMiss, Settle, Sever, Reap, Shut, Cut}
-use Rattle.history.specs.History.{Cause, Phase, unborn, waits, runs, armed, replied, reaped, Submission, same, concerns, becomes, phase, reply_in, reply, IsReplied, IsPending, IsIdle, submission, adds_to, submits}
-use Rattle.history.specs.Legal.{Setup, MayCome, Legal}
+use Rattle.history.proofs.Common.{Arm, Begin, Bool, Cause, Count, Cut, Entry, Event, Expire, Fire, FireMiss, IsIdle, IsPending, IsReplied, Legal, List, MayCome, Miss, None, Park, Phase, Reap, Reply, Req, Settle, Setup, Sever, Shut, Some, Submission, Submit, Take, Tick, [], adds_to, ap, arith, armed, becomes, concerns, cond, eq-eqb, eqb, eqb-true, false, phase, reaped, refl, replied, reply, reply_in, runs, same, submission, submits, subst, sym, true, true≢false, unborn, waits, ℕ, ℤ, ⊎_elim, ◌<◌, ◌∙◌, ◌∷◌, ◌≡◌, ◌≤◌}
 use Rattle.history.proofs.Requests.{bool_cases, same_true}
 
 abbrev pub is_submit : Event → Bool

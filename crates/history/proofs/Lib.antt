@@ -1,6 +1,7 @@
 pub mod Apart
 pub mod Alike
 pub mod Catches
+pub mod Common
 pub mod Contents
 pub mod Growth
 pub mod LaterReplies

@@ -1,12 +1,5 @@
 -- What is severed stays severed, what is open stays open, a chain that has replied was handed in whole, and what runs is open.
-use Rattle.std.proofs.Common.{◌≡◌, ℕ, ◌-◌, ◌<◌, ◌≤◌, ◌==◌, Bool, true, false, cond, ℤ, List, [], ◌∷◌, Some, None, refl, sym, ap, ◌∙◌, subst, ⊎_elim, inl, inr, arith, true≢false}
-use Rattle.std.proofs.lemmas.Bool.{cases_lt}
-use Rattle.history.specs.declared.req.Req.{Req}
-use Rattle.history.specs.declared.event.Event.{Event}
-use Rattle.history.specs.declared.event.Event.TheVariants.{Submit, Begin, Park, Reply, Take, Miss, Tick, Arm, Expire, Count, Fire, FireMiss, Settle, Sever, Reap, Shut, Cut}
-use Rattle.history.specs.History.{Phase, Cause, unborn, waits, runs, replied, reaped, after_reap, becomes, concerns, submission, submits, phase, IsReplied}
-use Rattle.history.specs.Chains.{joins, previous, before_in, placed_from, placed, IsBefore, IsChainBefore, IsChained, IsChainDone, Severed, IsClear, is_link_timeout_in, gate_of, Open}
-use Rattle.history.specs.Legal.{Setup, MayCome, Legal}
+use Rattle.history.proofs.Common.{Arm, Begin, Bool, Cause, Count, Cut, Event, Expire, Fire, FireMiss, IsBefore, IsChainBefore, IsChainDone, IsChained, IsClear, IsReplied, Legal, List, MayCome, Miss, None, Open, Park, Phase, Reap, Reply, Req, Settle, Setup, Sever, Severed, Shut, Some, Submit, Take, Tick, [], after_reap, ap, arith, becomes, before_in, cases_lt, concerns, cond, false, gate_of, inl, inr, is_link_timeout_in, joins, phase, placed, placed_from, previous, reaped, refl, replied, runs, submission, submits, subst, sym, true, true≢false, unborn, waits, ℕ, ℤ, ⊎_elim, ◌-◌, ◌<◌, ◌==◌, ◌∙◌, ◌∷◌, ◌≡◌, ◌≤◌}
 use Rattle.history.proofs.Requests.{bool_cases, same_true}
 use Rattle.history.proofs.Growth.{at_request, counted, unchanged, changed, submission_stays, reply_of_replied, reply_stays, replied_stays}
 

@@ -1,7 +1,5 @@
 -- Requests tell each other apart.
-use Rattle.std.proofs.Common.{◌≡◌, ◌⊎◌, Bool, true, false, ◌&&◌, sym, refl, inl, inr, eqb-true, eq-eqb, true≢false}
-use Rattle.history.specs.declared.req.Req.{Req}
-use Rattle.history.specs.History.{same}
+use Rattle.history.proofs.Common.{Bool, Req, eq-eqb, eqb-true, false, inl, inr, refl, same, sym, true, true≢false, ◌&&◌, ◌≡◌, ◌⊎◌}
 
 pub bool_cases : (b : Bool) → (b ≡ true) ⊎ (b ≡ false)
 bool_cases true = inl refl

@@ -1,10 +1,5 @@
 -- No data came with a request that was not answered.
-use Rattle.std.proofs.Common.{◌≡◌, true, false, cond, List, [], ◌∷◌, refl, sym, ap, ◌∙◌, ⊎_elim, true≢false}
-use Rattle.history.specs.declared.req.Req.{Req}
-use Rattle.history.specs.declared.event.Event.{Event}
-use Rattle.history.specs.declared.event.Event.TheVariants.{Submit, Begin, Park, Reply, Take, Miss, Tick, Arm, Expire, Count, Fire, FireMiss, Settle, Sever, Reap, Shut, Cut}
-use Rattle.history.specs.History.{phase, IsReplied, data_in, answers, data_of}
-use Rattle.history.specs.Legal.{Setup, Legal}
+use Rattle.history.proofs.Common.{Arm, Begin, Count, Cut, Event, Expire, Fire, FireMiss, IsReplied, Legal, List, Miss, Park, Reap, Reply, Req, Settle, Setup, Sever, Shut, Submit, Take, Tick, [], answers, ap, cond, data_in, data_of, false, phase, refl, sym, true, true≢false, ⊎_elim, ◌∙◌, ◌∷◌, ◌≡◌}
 use Rattle.history.proofs.Requests.{bool_cases}
 use Rattle.history.proofs.Growth.{replied_stays}
 

@@ -1,7 +1,5 @@
 -- The events of a cancel: Take, Miss.
-use Rattle.std.proofs.Common.{◌≡◌, ℕ, ◌<◌, ◌==◌, ◌&&◌, not, nat_lt, Bool, true, false, cond, List, ◌∷◌, Option, Some, refl, sym, ap, ◌∙◌, true≢false, eq-eqb, arith}
-use Rattle.model.proofs.Common.{common_steps, slice_get, Entry, Req, Event, Take, Miss, Request, runs, took, submission, phase, hit, fired, data_of, IsReplied, is_all, AimsAt, MayHit, Catch, catch_in, with_took, with_missed, MayCome, Machine, setup_of, found_in, Seen, seen, seen_of, stage_of, stage_at, placed_in, wanted, any_below, Agrees, put_stage, put_found, is_running, is_idle, cancelled, is_none, aims_at, aims_as, comes_upon, may_take, may_miss, not_true, and_left, and_right, missed_in}
-use Rattle.std.proofs.lemmas.Bool.{ltb-true, lt-ltb}
+use Rattle.model.proofs.Common.{Agrees, AimsAt, Bool, Catch, Entry, Event, IsReplied, List, Machine, MayCome, MayHit, Miss, Option, Req, Request, Seen, Some, Take, aims_as, aims_at, and_left, and_right, any_below, ap, arith, cancelled, catch_in, comes_upon, common_steps, cond, data_of, eq-eqb, false, fired, found_in, hit, is_all, is_idle, is_none, is_running, lt-ltb, ltb-true, may_miss, may_take, missed_in, nat_lt, not, not_true, phase, placed_in, put_found, put_stage, refl, runs, seen, seen_of, setup_of, slice_get, stage_at, stage_of, submission, sym, took, true, true≢false, wanted, with_missed, with_took, ℕ, ◌&&◌, ◌<◌, ◌==◌, ◌∙◌, ◌∷◌, ◌≡◌}
 use Rattle.model.proofs.RequestLists.{apart}
 use Rattle.model.proofs.RequestWrites.{some_at, put_length}
 use Rattle.model.proofs.Phases.{runs_from, idle_from, from_idle}

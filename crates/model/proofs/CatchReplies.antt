@@ -1,6 +1,5 @@
 -- What a cancel has come to, and what it replies by that.
-use Rattle.std.proofs.Common.{◌≡◌, ℕ, nat_lt, Bool, true, false, cond, ℤ, pos, negsuc, List, [], refl, sym, ap, ◌∙◌, subst, ⊎_elim, true≢false, arith}
-use Rattle.model.proofs.Common.{common_steps, Req, Event, Hit, nothing, now, later, NoneLeft, AllTried, CancelAnswers, CancelBy, Catch, none_yet, catch_in, is_none, answer_all, answer_one, bool_cases, tally_in, uncaught, one_answer, answers_one, one_answers}
+use Rattle.model.proofs.Common.{AllTried, Bool, CancelAnswers, CancelBy, Catch, Event, Hit, List, NoneLeft, Req, [], answer_all, answer_one, answers_one, ap, arith, bool_cases, catch_in, common_steps, cond, false, is_none, later, nat_lt, negsuc, none_yet, nothing, now, one_answer, one_answers, pos, refl, subst, sym, tally_in, true, true≢false, uncaught, ℕ, ℤ, ⊎_elim, ◌∙◌, ◌≡◌}
 
 none_is : (x : Catch) → is_none x ≡ true → x ≡ none_yet
 none_is = grind (arith, common_steps)

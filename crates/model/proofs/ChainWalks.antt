@@ -1,6 +1,5 @@
 -- What the walks along a chain find.
-use Rattle.std.proofs.Common.{◌≡◌, ℕ, zero, suc, ◌<◌, ◌≤◌, ◌==◌, ◌||◌, not, Bool, true, false, ℤ, List, Option, Some, refl, sym, ap, ◌∙◌, ⊎_elim, true≢false, eqb-true, eq-eqb, arith}
-use Rattle.model.proofs.Common.{common_steps, slice_get, Entry, Request, joins, severs, handed_in, placed_in, reply_in_of, severs_by, severs_at, severed_in, pending_of, chain_done, bool_cases, not_true, and_left, and_right}
+use Rattle.model.proofs.Common.{Bool, Entry, List, Option, Request, Some, and_left, and_right, ap, arith, bool_cases, chain_done, common_steps, eq-eqb, eqb-true, false, handed_in, joins, not, not_true, pending_of, placed_in, refl, reply_in_of, severed_in, severs, severs_at, severs_by, slice_get, suc, sym, true, true≢false, zero, ℕ, ℤ, ⊎_elim, ◌<◌, ◌==◌, ◌||◌, ◌∙◌, ◌≡◌, ◌≤◌}
 
 -- every entry from m on joins the next, up to k
 abbrev pub Joined : List Request → ℕ → ℕ → Type 0

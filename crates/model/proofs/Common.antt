@@ -31,9 +31,10 @@ pub use Rattle.model.specs.Worded.{contents_words, held_at, held_of, row_words, 
 pub use Rattle.model.specs.declared.request.Request.{Request}
 pub use Rattle.model.specs.declared.request.Stage.{Stage}
 pub use Rattle.model.specs.declared.request.Stage.TheVariants.{Armed, Reaped, Replied, Runs, Waits}
+pub use Rattle.std.proofs.Common.{Bool, List, None, Option, SFits, Some, [], ap, append-nil, append_assoc, arith, cond, drop, eq-eqb, eqb-true, false, get_or, get_or-drop, inl, inr, length, length-append, length-drop, lit≤, map, nat_le, nat_lt, negsuc, not, of_z, pos, refl, rules, set, sub-one, subst, suc, sym, take, take_all, to_z, true, true≢false, w32, zero, ℕ, ℤ, ⊎_elim, ◌%◌, ◌&&◌, ◌*◌, ◌++◌, ◌+◌, ◌-◌, ◌/◌, ◌<◌, ◌==◌, ◌||◌, ◌∙◌, ◌∷◌, ◌≡◌, ◌≤◌, ◌⊎◌}
 pub use Rattle.std.proofs.Math.ListN.{length-set}
 pub use Rattle.std.proofs.Math.Nat.{mod-add-div}
-pub use Rattle.std.proofs.lemmas.Bool.{and_parts, cases_lt}
+pub use Rattle.std.proofs.lemmas.Bool.{and_parts, cases_lt, le-leb, le-ltb, leb-true, lt-ltb, ltb-true}
 pub use Rattle.std.proofs.lemmas.Grind.{common_steps}
 pub use Rattle.std.proofs.lemmas.Int.{to_z-of_z}
 pub use Rattle.std.proofs.lemmas.List.{length-map, set-get_or}

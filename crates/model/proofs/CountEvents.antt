@@ -1,6 +1,6 @@
 -- The event of a TIMEOUT that has counted enough completions: Count.
-use Rattle.std.proofs.Common.{◌≡◌, ℕ, zero, suc, ◌+◌, ◌-◌, ◌<◌, ◌≤◌, nat_lt, nat_le, Bool, true, false, cond, List, ◌∷◌, length, take, drop, get_or, Option, Some, refl, sym, ap, ◌∙◌, subst, eq-eqb, ltb-true, lt-ltb, leb-true, le-leb, length-drop, get_or-drop, take_all, arith}
-use Rattle.model.proofs.Common.{common_steps, slice_get, filter, slice_get_within, slice_get-get_or, Entry, Req, Event, Count, Request, placed, MayCome, count_of, Machine, setup_of, seen, seen_of, stage_of, stage_at, placed_in, Agrees, put_stage, is_armed, is_answered, is_done, later_answered, counts_up, may_count, counted, and_left, and_right}
+use Rattle.std.proofs.Common.{ltb-true, lt-ltb, leb-true, le-leb}
+use Rattle.model.proofs.Common.{Agrees, Bool, Count, Entry, Event, List, Machine, MayCome, Option, Req, Request, Some, and_left, and_right, ap, arith, common_steps, cond, count_of, counted, counts_up, drop, eq-eqb, false, filter, get_or, get_or-drop, is_answered, is_armed, is_done, later_answered, length, length-drop, may_count, nat_le, nat_lt, placed, placed_in, put_stage, refl, seen, seen_of, setup_of, slice_get, slice_get-get_or, slice_get_within, stage_at, stage_of, subst, suc, sym, take, take_all, true, zero, ℕ, ◌+◌, ◌-◌, ◌<◌, ◌∙◌, ◌∷◌, ◌≡◌, ◌≤◌}
 use Rattle.std.proofs.lemmas.List.Filters.{length-filter_more}
 use Rattle.history.specs.History.{Phase, phase, submits, is_replied, replies_from, later_replies}
 use Rattle.model.proofs.Phases.{armed_from}

@@ -1,7 +1,5 @@
 -- A search over the numbers in a list is a search over all numbers, where the list has those that count.
-use Rattle.std.proofs.Common.{◌≡◌, ℕ, zero, suc, ◌<◌, ◌≤◌, ◌==◌, ◌&&◌, ◌||◌, not, nat_lt, Bool, true, false, List, [], ◌∷◌, length, Option, Some, refl, sym, ap, ◌∙◌, subst, ⊎_elim, true≢false, eqb-true, eq-eqb, arith}
-use Rattle.model.proofs.Common.{common_steps, slice_get, list_any, slice_get_past, Op, Request, Stage, is_pending, Catch, untried, pending_of, any_below, lists, Listed, blocks, wanted, severed_in, chain_done, drains_of, held_back, clear_in, is_running, runs_of, bool_cases, and_left, and_right}
-use Rattle.std.proofs.lemmas.Bool.{ltb-true, lt-ltb}
+use Rattle.model.proofs.Common.{Bool, Catch, List, Listed, Op, Option, Request, Some, Stage, [], and_left, and_right, any_below, ap, arith, blocks, bool_cases, chain_done, clear_in, common_steps, drains_of, eq-eqb, eqb-true, false, held_back, is_pending, is_running, length, list_any, lists, lt-ltb, ltb-true, nat_lt, not, pending_of, refl, runs_of, severed_in, slice_get, slice_get_past, subst, suc, sym, true, true≢false, untried, wanted, zero, ℕ, ⊎_elim, ◌&&◌, ◌<◌, ◌==◌, ◌||◌, ◌∙◌, ◌∷◌, ◌≡◌, ◌≤◌}
 
 -- one passes
 pub any_at : (p : ℕ → Bool) (n m : ℕ) → m < n → p m ≡ true → any_below p n ≡ true

@@ -1,7 +1,5 @@
 -- What a stage tells of the phase.
-use Rattle.std.proofs.Common.{arith, ◌≡◌, ℕ, ◌≤◌, Bool, true, false, ℤ, Option, Some, None}
-use Rattle.std.proofs.lemmas.Bool.{leb-true}
-use Rattle.model.proofs.Common.{common_steps, Request, Stage, Cause, Phase, waits, runs, armed, replied, IsReplied, IsPending, IsIdle, is_pending, stage_of, stage_at, pending_of, is_waits, is_running, is_due, is_armed, is_idle, is_replied, is_answered}
+use Rattle.model.proofs.Common.{Bool, Cause, IsIdle, IsPending, IsReplied, None, Option, Phase, Request, Some, Stage, arith, armed, common_steps, false, is_answered, is_armed, is_due, is_idle, is_pending, is_replied, is_running, is_waits, leb-true, pending_of, replied, runs, stage_at, stage_of, true, waits, ℕ, ℤ, ◌≡◌, ◌≤◌}
 
 pub waits_from : (p : Phase) → is_waits (stage_of p) ≡ true → p ≡ waits
 waits_from = grind (arith, common_steps)

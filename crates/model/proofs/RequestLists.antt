@@ -1,8 +1,7 @@
 -- The requests of a ring after a write, and those of them that were not answered.
-use Rattle.std.proofs.Common.{◌≡◌, ℕ, zero, suc, ◌<◌, ◌==◌, ◌||◌, not, Bool, true, false, cond, List, [], ◌∷◌, ◌++◌, length, set, get_or, Some, None, refl, sym, ap, ◌∙◌, subst, ⊎_elim, true≢false, eqb-true, eq-eqb, arith}
 use Prim.Native.Nat.compare
 use lib.Dec.{compare_is_eq}
-use Rattle.model.proofs.Common.{common_steps, slice_get, filter, OnOk, OnErr, Result, Ok, Err, set-get_or, slice_get_read, Request, Catch, is_pending, pending_of, lists, Listed, put, put_at, put_found, bool_cases, not_true}
+use Rattle.model.proofs.Common.{Bool, Catch, Err, List, Listed, None, Ok, OnErr, OnOk, Request, Result, Some, [], ap, arith, bool_cases, common_steps, cond, eq-eqb, eqb-true, false, filter, get_or, is_pending, length, lists, not, not_true, pending_of, put, put_at, put_found, refl, set, set-get_or, slice_get, slice_get_read, subst, suc, sym, true, true≢false, zero, ℕ, ⊎_elim, ◌++◌, ◌<◌, ◌==◌, ◌||◌, ◌∙◌, ◌∷◌, ◌≡◌}
 
 pub apart : (i j : ℕ) → ¬ (i ≡ j) → (i == j) ≡ false
 apart i j n = not_true (i == j) (λ e. n (eqb-true i j e))

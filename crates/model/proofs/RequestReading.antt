@@ -1,6 +1,5 @@
 -- What the requests of a ring tell is what the history tells of them.
-use Rattle.std.proofs.Common.{◌≡◌, ℕ, ◌-◌, ◌<◌, ◌==◌, ◌&&◌, ◌||◌, not, Bool, true, false, cond, ℤ, List, length, get_or, Option, Some, None, inl, inr, refl, sym, ap, ◌∙◌, subst, ⊎_elim, true≢false, arith}
-use Rattle.model.proofs.Common.{common_steps, slice_get, slice_get_within, slice_get-get_or, Entry, drains, Op, Invalid, Req, Event, Request, Stage, Phase, Hit, has_missed, submission, phase, reply_in, reply, IsReplied, joins, placed_behind, placed_from, placed, IsBefore, Severed, IsClear, asks_for, Matches, IsFirst, NoneLeft, AllTried, catch_in, is_pending, reply_at, stage_of, Seen, seen, seen_of, handed_at, stage_at, handed_in, placed_in, reply_in_of, severed_in, pending_of, chain_done, any_below, drains_of, blocks, held_back, clear_in, asked_for, wanted, is_escaped, untried, is_answered, bool_cases, not_true, and_left, and_right, missed_in}
+use Rattle.model.proofs.Common.{AllTried, Bool, Entry, Event, Hit, Invalid, IsBefore, IsClear, IsFirst, IsReplied, List, Matches, None, NoneLeft, Op, Option, Phase, Req, Request, Seen, Severed, Some, Stage, and_left, and_right, any_below, ap, arith, asked_for, asks_for, blocks, bool_cases, catch_in, chain_done, clear_in, common_steps, cond, drains, drains_of, false, get_or, handed_at, handed_in, has_missed, held_back, inl, inr, is_answered, is_escaped, is_pending, joins, length, missed_in, not, not_true, pending_of, phase, placed, placed_behind, placed_from, placed_in, refl, reply, reply_at, reply_in, reply_in_of, seen, seen_of, severed_in, slice_get, slice_get-get_or, slice_get_within, stage_at, stage_of, submission, subst, sym, true, true≢false, untried, wanted, ℕ, ℤ, ⊎_elim, ◌&&◌, ◌-◌, ◌<◌, ◌==◌, ◌||◌, ◌∙◌, ◌≡◌}
 use Rattle.model.proofs.Phases.{answered_from, from_answered}
 use Rattle.model.proofs.NumberSearches.{any_at, any_found}
 use Rattle.model.proofs.ChainWalks.{severed_by, severed_from, done_by, done_from, severs_at_by, severs_at_from}

@@ -1,6 +1,5 @@
 -- Writing one request of a ring.
-use Rattle.std.proofs.Common.{arith, ◌≡◌, ℕ, Bool, true, false, List, length, Option, Some, None, ℤ}
-use Rattle.model.proofs.Common.{common_steps, slice_get, Request, Stage, Replied, Reaped, length-set, Catch, stage_at, put, put_at, put_stage, put_found, put_fired, put_taken, put_reaped, taken_out}
+use Rattle.model.proofs.Common.{Bool, Catch, List, None, Option, Reaped, Replied, Request, Some, Stage, arith, common_steps, false, length, length-set, put, put_at, put_fired, put_found, put_reaped, put_stage, put_taken, slice_get, stage_at, taken_out, true, ℕ, ℤ, ◌≡◌}
 
 -- a request whose stage passes a test is there
 pub some_at : (p : Option Stage → Bool) → p None ≡ false → (o : Option Request) → p (stage_at o) ≡ true → (x : Request) × (o ≡ Some x)

@@ -1,6 +1,5 @@
 -- Reading the requests of a ring.
-use Rattle.std.proofs.Common.{◌≡◌, ℕ, ◌-◌, ◌<◌, ◌==◌, ◌&&◌, ◌⊎◌, not, cond, sub-one, Bool, true, false, List, length, Option, Some, None, get_or, refl, sym, ap, subst, ◌∙◌, arith}
-use Rattle.model.proofs.Common.{common_steps, slice_get, and_parts, slice_get_read, Op, Invalid, Entry, Request, Submission, joins, hosts, is_link_timeout, placed_behind, placed_from, reply_at, handed_of, handed_at, handed_in, placed_in, with_op, reply_in_of, severs_by, severs_at, severed_in, pending_of, chain_done}
+use Rattle.model.proofs.Common.{Bool, Entry, Invalid, List, None, Op, Option, Request, Some, Submission, and_parts, ap, arith, chain_done, common_steps, cond, false, get_or, handed_at, handed_in, handed_of, hosts, is_link_timeout, joins, length, not, pending_of, placed_behind, placed_from, placed_in, refl, reply_at, reply_in_of, severed_in, severs_at, severs_by, slice_get, slice_get_read, sub-one, subst, sym, true, with_op, ℕ, ◌&&◌, ◌-◌, ◌<◌, ◌==◌, ◌∙◌, ◌≡◌, ◌⊎◌}
 use Rattle.entry.specs.Table.{fits, fits_op}
 
 pub kept : (xs : List Request) (k : ℕ) (x : Request) → k < length xs → x ≡ get_or xs k x → slice_get xs k ≡ Some x

@@ -1,6 +1,5 @@
 -- What is kept goes on agreeing with the history when the requests of one ring are written.
-use Rattle.std.proofs.Common.{◌≡◌, ℕ, ◌<◌, ◌≤◌, ◌==◌, Bool, true, false, cond, List, [], ◌∷◌, length, get_or, set, Some, refl, sym, ap, ◌∙◌, subst, ⊎_elim, eqb-true, arith}
-use Rattle.model.proofs.Common.{common_steps, IfOk, OnErr, Result, set-get_or, slice_get, length-set, slice_get_within, Req, Event, Request, submits, clock_of, was_shut, flow, Setup, MayCome, shut_for, Machine, setup_of, Seen, seen, seen_of, Agrees, Carries, MayFollow, Decided, put, put_at, is_step, bool_cases}
+use Rattle.model.proofs.Common.{Agrees, Bool, Carries, Decided, Event, IfOk, List, Machine, MayCome, MayFollow, OnErr, Req, Request, Result, Seen, Setup, Some, [], ap, arith, bool_cases, clock_of, common_steps, cond, eqb-true, false, flow, get_or, is_step, length, length-set, put, put_at, refl, seen, seen_of, set, set-get_or, setup_of, shut_for, slice_get, slice_get_within, submits, subst, sym, true, was_shut, ℕ, ⊎_elim, ◌<◌, ◌==◌, ◌∙◌, ◌∷◌, ◌≡◌, ◌≤◌}
 use Rattle.model.proofs.RequestLists.{slice_get-set}
 use Rattle.model.proofs.RequestWrites.{put_length}
 

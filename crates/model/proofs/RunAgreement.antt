@@ -1,6 +1,5 @@
 -- From the requests of a state to the whole run.
-use Rattle.std.proofs.Common.{arith, ◌≡◌, Bool, false, refl, sym, ◌∙◌}
-use Rattle.model.proofs.Common.{common_steps, Event, shut_for, Machine, Decided, Decision, MayFollow, IsNext}
+use Rattle.model.proofs.Common.{Bool, Decided, Decision, Event, IsNext, Machine, MayFollow, arith, common_steps, false, refl, shut_for, sym, ◌∙◌, ◌≡◌}
 
 -- the state is shut where the event wants it
 pub decision : (b : Bool) (m : Machine) (e : Event) (n : Machine) → m.shut ≡ shut_for e → Decided b m e n → Decision b m e n

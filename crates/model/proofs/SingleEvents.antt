@@ -1,6 +1,5 @@
 -- The events that one request alone decides: Begin, Park, Sever, Reap, Cut.
-use Rattle.std.proofs.Common.{◌≡◌, ℕ, zero, suc, ◌-◌, ◌&&◌, not, true, false, cond, List, [], ◌∷◌, Option, Some, refl, sym, ap, ◌∙◌, subst, true≢false, eq-eqb, sub-one, arith}
-use Rattle.model.proofs.Common.{common_steps, slice_get, Req, Event, Begin, Park, Sever, Reap, Cut, Request, Stage, Waits, Runs, Phase, waits, runs, phase, after_reap, IsPending, IsReplied, previous, is_link_timeout_in, gate_of, Open, IsClear, is_timer, MayCome, Machine, setup_of, Seen, seen, seen_of, stage_of, stage_at, placed_in, severed_in, pending_of, Agrees, put_stage, is_waits, is_running, placed_as, gate_in, open_in, may_begin, may_park, may_sever, may_reap, may_cut, put_reaped, taken_out, cancelled, is_replied, not_true, and_left, and_right}
+use Rattle.model.proofs.Common.{Agrees, Begin, Cut, Event, IsClear, IsPending, IsReplied, List, Machine, MayCome, Open, Option, Park, Phase, Reap, Req, Request, Runs, Seen, Sever, Some, Stage, Waits, [], after_reap, and_left, and_right, ap, arith, cancelled, common_steps, cond, eq-eqb, false, gate_in, gate_of, is_link_timeout_in, is_replied, is_running, is_timer, is_waits, may_begin, may_cut, may_park, may_reap, may_sever, not, not_true, open_in, pending_of, phase, placed_as, placed_in, previous, put_reaped, put_stage, refl, runs, seen, seen_of, setup_of, severed_in, slice_get, stage_at, stage_of, sub-one, subst, suc, sym, taken_out, true, true≢false, waits, zero, ℕ, ◌&&◌, ◌-◌, ◌∙◌, ◌∷◌, ◌≡◌}
 use Rattle.history.proofs.Untaken.{untaken}
 use Rattle.model.proofs.Phases.{waits_from, runs_from, replied_from, pending_as, pending_at, pending_from, from_pending}
 use Rattle.model.proofs.RequestReading.{stage_is, placed_is, placed_of, clear_is, was_clear, kept_before, severed_is, was_severed}

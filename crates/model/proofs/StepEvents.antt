@@ -1,6 +1,5 @@
 -- Every event of the requests of one ring: whether it may come, and that what is kept goes on agreeing.
-use Rattle.std.proofs.Common.{arith, ◌≡◌, ℕ, ◌==◌, ◌&&◌, Bool, true, false, List, [], ◌∷◌, refl, sym, ap, ◌∙◌, subst, true≢false, eqb-true, eq-eqb}
-use Rattle.model.proofs.Common.{common_steps, Req, Event, Begin, Park, Take, Miss, Arm, Expire, Count, Fire, FireMiss, Settle, Sever, Reap, Cut, is_all, AimsAt, MayCome, shut_for, Request, Machine, setup_of, Agrees, MayFollow, may_take, may_miss, may_fire, may_fire_miss, ring_of, is_step, may_step, put_step, and_left, and_right}
+use Rattle.model.proofs.Common.{Agrees, AimsAt, Arm, Begin, Bool, Count, Cut, Event, Expire, Fire, FireMiss, List, Machine, MayCome, MayFollow, Miss, Park, Reap, Req, Request, Settle, Sever, Take, [], and_left, and_right, ap, arith, common_steps, eq-eqb, eqb-true, false, is_all, is_step, may_fire, may_fire_miss, may_miss, may_step, may_take, put_step, refl, ring_of, setup_of, shut_for, subst, sym, true, true≢false, ℕ, ◌&&◌, ◌==◌, ◌∙◌, ◌∷◌, ◌≡◌}
 use Rattle.model.proofs.RingWrites.{row, put_row, same_setup, IsDecided, decides}
 use Rattle.model.proofs.SingleEvents.{begin_may, may_begin_is, begin_kept, park_may, may_park_is, park_kept, sever_may, may_sever_is, sever_kept, reap_may, may_reap_is, reap_kept, cut_may, may_cut_is, cut_kept}
 use Rattle.model.proofs.TimerEvents.{arm_may, may_arm_is, arm_kept, expire_may, may_expire_is, expire_kept, fire_may, may_fire_is, fire_kept, fire_miss_may, may_fire_miss_is, fire_miss_kept, settle_may, may_settle_is, settle_kept}

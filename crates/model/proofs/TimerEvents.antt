@@ -1,7 +1,5 @@
 -- The events of the timers: Arm, Expire, Fire, FireMiss, Settle.
-use Rattle.std.proofs.Common.{◌≡◌, ℕ, suc, ◌+◌, ◌-◌, ◌<◌, ◌≤◌, ◌==◌, ◌&&◌, ◌||◌, not, Bool, true, false, cond, negsuc, List, ◌∷◌, Option, Some, None, inl, inr, refl, sym, ap, ◌∙◌, subst, ⊎_elim, true≢false, eqb-true, eq-eqb, arith}
-use Rattle.model.proofs.Common.{common_steps, slice_get, slice_get_within, Entry, Op, Invalid, Req, Event, Arm, Expire, Fire, FireMiss, Settle, Request, Armed, Replied, by_settle, Phase, armed, replied, submission, phase, hit, fired, data_of, clock_of, IsReplied, IsIdle, placed, placed_from, is_timeout, is_link_timeout, IsTarget, MayCome, ticks_of, IsDue, catch_in, Machine, setup_of, fired_of, Seen, seen, seen_of, stage_of, stage_at, placed_in, handed_at, Agrees, put, put_at, put_stage, put_fired, put_settled, is_waits, is_running, is_due, is_armed, is_idle, is_answered, placed_as, open_in, falls_due, arms, may_arm, may_expire, runs_out, may_fire, may_fire_miss, may_settle, cancelled, timed_out, bool_cases, not_true, and_left, and_right}
-use Rattle.std.proofs.lemmas.Bool.{le-leb}
+use Rattle.model.proofs.Common.{Agrees, Arm, Armed, Bool, Entry, Event, Expire, Fire, FireMiss, Invalid, IsDue, IsIdle, IsReplied, IsTarget, List, Machine, MayCome, None, Op, Option, Phase, Replied, Req, Request, Seen, Settle, Some, and_left, and_right, ap, arith, armed, arms, bool_cases, by_settle, cancelled, catch_in, clock_of, common_steps, cond, data_of, eq-eqb, eqb-true, falls_due, false, fired, fired_of, handed_at, hit, inl, inr, is_answered, is_armed, is_due, is_idle, is_link_timeout, is_running, is_timeout, is_waits, le-leb, may_arm, may_expire, may_fire, may_fire_miss, may_settle, negsuc, not, not_true, open_in, phase, placed, placed_as, placed_from, placed_in, put, put_at, put_fired, put_settled, put_stage, refl, replied, runs_out, seen, seen_of, setup_of, slice_get, slice_get_within, stage_at, stage_of, submission, subst, suc, sym, ticks_of, timed_out, true, true≢false, ℕ, ⊎_elim, ◌&&◌, ◌+◌, ◌-◌, ◌<◌, ◌==◌, ◌||◌, ◌∙◌, ◌∷◌, ◌≡◌, ◌≤◌}
 use Rattle.model.proofs.RequestLists.{slice_get-set, apart}
 use Rattle.model.proofs.RequestWrites.{some_at, put_length}
 use Rattle.model.proofs.Phases.{waits_from, runs_from, due_from, armed_from, idle_from, from_idle, answered_from}

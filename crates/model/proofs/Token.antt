@@ -1,5 +1,4 @@
 -- The one machine value of a `Past`, which any list fits, and the words of the proofs of its functions.
-use Rattle.std.proofs.Common.{[], ◌∷◌, refl}
 use seplogic.Ra.Ura.{Ura}
 use mir.Val.{Val, vstruct, vcons, vnil}
 use base.Logic.{ent, emp}
@@ -23,6 +22,7 @@ pub use types.ByLocal.{alloc_all, free_all, get, look_at, pass_all, sets}
 pub use types.Kit.{ !, done, feq_i, frame, fsplit3, group, join, keep, move, qed, raw, split, suffices, use0, ‵, ◌$◌, ◌∵◌, ◌⊛◌}
 pub use types.Part.{agg}
 pub use types.Run.{and_then, enter, no_more, of_opd, returns, unit_lit}
+use Rattle.model.proofs.Common.{[], refl, ◌∷◌}
 
 abbrev pub token : Val
 token = vstruct (vcons (vstruct vnil) vnil)

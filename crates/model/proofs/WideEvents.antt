@@ -1,6 +1,5 @@
 -- The events of no one request: Tick, Shut. And Submit, which makes one.
-use Rattle.std.proofs.Common.{◌≡◌, ℕ, zero, suc, ◌<◌, ◌==◌, ◌||◌, ◌++◌, Bool, true, false, cond, List, [], ◌∷◌, length, get_or, Some, None, refl, sym, ap, ◌∙◌, subst, ⊎_elim, true≢false, eqb-true, eq-eqb, length-append, arith}
-use Rattle.model.proofs.Common.{slice_get, list_any, slice_get_within, slice_get_past, Entry, Req, Event, Shut, Submit, Request, Waits, phase, submits, adds_to, Setup, MayCome, Legal, Fits, Catch, none_yet, Machine, setup_of, seen, seen_of, stage_of, stage_at, Agrees, Carries, Refuses, is_running, runs_of, runs_in, born, bool_cases}
+use Rattle.model.proofs.Common.{Agrees, Bool, Carries, Catch, Entry, Event, Fits, Legal, List, Machine, MayCome, None, Refuses, Req, Request, Setup, Shut, Some, Submit, Waits, [], adds_to, ap, arith, bool_cases, born, cond, eq-eqb, eqb-true, false, get_or, is_running, length, length-append, list_any, none_yet, phase, refl, runs_in, runs_of, seen, seen_of, setup_of, slice_get, slice_get_past, slice_get_within, stage_at, stage_of, submits, subst, suc, sym, true, true≢false, zero, ℕ, ⊎_elim, ◌++◌, ◌<◌, ◌==◌, ◌||◌, ◌∙◌, ◌∷◌, ◌≡◌}
 use Rattle.model.proofs.NumberSearches.{any_at, any_found}
 use Rattle.model.proofs.RequestLists.{slice_get-push}
 use Rattle.model.proofs.RequestWrites.{some_at}

@@ -1,22 +1,15 @@
 -- Lists of JSON values, and that none of them has a float.
-use Rattle.std.proofs.Common.{◌≡◌, ℕ, ℤ, pos, negsuc, codes, Bool, false, List, [], ◌∷◌, ◌++◌, ◌≤◌, length, drop, map, refl, sym, ap, ap₂, ◌∙◌, inl, inr, rules}
-use Rattle.std.specs.Prelude.{◌⊎◌, ◌||◌}
 use Rattle.std.specs.Global.{Vec}
 use Rattle.std.proofs.lemmas.List.{append-nil}
+use Rattle.pictures.proofs.Common.{Bool, Data, List, [], ap, ap₂, codes, drop, event_data, events_after, explained_data, false, has_float, history_data, inl, inr, items_have_float, items_of, length, listed, map, negsuc, pos, refl, reply_data, row_data, rows_data, rules, shown_lines, string_bytes, sym, table_data, tables_data, tallied_data, verdict_data, view, ℕ, ℤ, ◌++◌, ◌||◌, ◌∙◌, ◌∷◌, ◌≡◌, ◌≤◌, ◌⊎◌}
 use Rattle.pictures.proofs.Turns.{ends_here}
 use Rattle.history.specs.declared.event.Event.{Event}
 use Rattle.history.specs.declared.event.Event.TheVariants.{Reply, Settle}
 use Rattle.script.specs.declared.named.Named.{Named}
 use Rattle.script.specs.declared.script.Script.{Script}
 use Rattle.script_text.specs.HistoryText.{label_of, settled}
-use Rattle.script_text.specs.TableText.{shown_lines}
-use Rattle.std.specs.String.{string_bytes}
-use Rattle.serde_json.specs.Data.{Data}
-use Rattle.serde_json.specs.View.{items_of, view}
-use Rattle.serde_json.specs.Written.{has_float, items_have_float}
 use Rattle.serde_json.specs.declared.value.Value.{Value, the_lemmas}
 use Rattle.serde_json.specs.declared.value.Value.TheVariants.{Array}
-use Rattle.pictures.specs.Json.{event_data, events_after, explained_data, history_data, listed, reply_data, row_data, rows_data, table_data, tables_data, tallied_data, verdict_data}
 
 -- ---- lists
 

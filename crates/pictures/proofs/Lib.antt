@@ -1,3 +1,4 @@
+mod Common
 mod JsonValues
 mod Tallies
 mod Turns

@@ -1,12 +1,8 @@
 -- The text of many runs, one table further.
-use Rattle.std.proofs.Common.{◌≡◌, ℕ, ◌+◌, ◌<◌, ◌++◌, List, codes, drop, get_or, length, map, refl}
-use Rattle.std.specs.Prelude.{decimal}
 use Rattle.std.specs.Borrow.{Bor}
 use Rattle.script.specs.declared.script.Script.{Script}
 use Rattle.script.specs.declared.table.Table.{Table}
-use Rattle.script_text.specs.TableText.{shown_lines, table_text}
-use Rattle.pictures.specs.Shown.{tallied_of}
-use Rattle.pictures.specs.Texts.{tally_lines}
+use Rattle.pictures.proofs.Common.{List, codes, decimal, drop, get_or, length, map, refl, shown_lines, table_text, tallied_of, tally_lines, ℕ, ◌++◌, ◌+◌, ◌<◌, ◌≡◌}
 use Rattle.pictures.proofs.Turns.{both, more}
 
 pub tally_more : (c : Script) (xs : List (Bor Table × ℕ)) (i : ℕ) (x : Bor Table × ℕ) (old mid new total : List ℕ) → i < length xs → x ≡ get_or xs i x

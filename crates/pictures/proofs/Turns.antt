@@ -1,14 +1,10 @@
 -- What a loop writes, one turn further, and at its end.
-use Rattle.std.proofs.Common.{◌≡◌, ℕ, suc, ◌+◌, ◌-◌, ◌<◌, ◌≤◌, List, [], ◌∷◌, ◌++◌, length, drop, get_or, sym, ap, ◌∙◌, append_assoc, arith}
 use Rattle.std.proofs.lemmas.List.{append-nil, drop_all}
 use Rattle.script.proofs.Items.{rest_at}
-use Rattle.std.specs.Prelude.{Option, Some, None, codes, decimal}
-use Rattle.std.specs.String.{string_bytes}
-use Rattle.pictures.specs.Marks.{shown}
-use Rattle.pictures.specs.Pictures.{column_of}
-use Rattle.pictures.specs.Diagrams.{step_text}
+use Rattle.std.specs.Prelude.{codes}
 use Rattle.pictures.specs.declared.marks.Mark.{Mark}
 use Rattle.pictures.specs.declared.marks.Lane.TheVariants.{Ring}
+use Rattle.pictures.proofs.Common.{List, None, Option, Some, [], ap, append_assoc, arith, column_of, decimal, drop, get_or, length, shown, step_text, string_bytes, suc, sym, ℕ, ◌++◌, ◌+◌, ◌-◌, ◌<◌, ◌∙◌, ◌∷◌, ◌≡◌, ◌≤◌}
 
 -- over the items of a list
 pub more : {X Y : Type 0} (G : ℕ → List X → List Y) (xs : List X) (i : ℕ) (x : X) (old new text total : List Y) → i < length xs → x ≡ get_or xs i x

@@ -1,17 +1,13 @@
 -- Which rows the builders' values make.
-use Rattle.std.proofs.Common.{◌≡◌, ◌⊎◌, ◌==◌, ◌&&◌, ◌||◌, nat_lt, if◌then◌else◌, ℕ, ℤ, Bool, true, false, IsTrue, refl, ap, sym, ◌∙◌, inl, inr, arith, bit_and, pos, negsuc, eqb-true}
-use Rattle.std.specs.Int.{w32}
 use Rattle.std.specs.Int.RustNames.{FitsSigned}
-use Rattle.std.proofs.lemmas.Bool.{false≢true, lt-ltb}
 use Rattle.std.proofs.lemmas.Bool.Decides.{eqb_tells}
 use Rattle.entry.specs.declared.op.Op.{Op}
-use Rattle.entry.specs.declared.op.Op.TheVariants.{PollAdd, Timeout, LinkTimeout, Read, Write, Splice, Invalid}
 use Rattle.entry.specs.declared.op.Offset.{Offset}
 use Rattle.entry.specs.declared.op.Offset.TheVariants.{Zero, Current}
 use Rattle.entry.specs.declared.row.Row.{Row}
 use Rattle.entry.specs.Entry.{Entry}
 use Rattle.entry.specs.Table.{allowed_flags, etime_word, fits, fits_op, is_i32, is_valid, no_fd, place, row}
-use Rattle.prep.specs.Built.{IsOfRow, flagged, is_place, link_timeout_op, offset_of, plain, poll_op, read_op, splice_op, timeout_count_op, write_op}
+use Rattle.prep.proofs.Common.{Bool, Invalid, IsOfRow, IsTrue, LinkTimeout, PollAdd, Read, Splice, Timeout, Write, ap, arith, bit_and, eqb-true, false, false≢true, flagged, if◌then◌else◌, inl, inr, is_place, link_timeout_op, lt-ltb, nat_lt, negsuc, offset_of, plain, poll_op, pos, read_op, refl, splice_op, sym, timeout_count_op, true, w32, write_op, ℕ, ℤ, ◌&&◌, ◌==◌, ◌||◌, ◌∙◌, ◌≡◌, ◌⊎◌}
 
 -- op is the operation of the row, or Invalid where the row is none's
 pub record Reads (r : Row) (op : Op) : Type 0 where

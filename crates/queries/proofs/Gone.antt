@@ -1,23 +1,18 @@
 -- Loops over files and runs: what is made so far goes on with whatever is made of the rest.
-use Rattle.std.proofs.Common.{◌≡◌, ℕ, zero, suc, ◌+◌, ◌<◌, ◌≤◌, Bool, true, false, List, [], ◌∷◌, ◌++◌, drop, get_or, length, map, reverse, refl, sym, ap, ◌∙◌, subst, append_assoc, add-one, inl, inr}
 use Rattle.std.proofs.Math.Seq.{drop-cons}
-use Rattle.std.specs.Prelude.{Option, ◌&&◌, if◌then◌else◌}
 use Rattle.std.specs.Borrow.{Bor}
 use Rattle.std.specs.Global.{Vec}
 use Rattle.std.specs.List.{list_all}
 use Rattle.std.proofs.lemmas.List.{append-nil, drop_all, map_push, reverse-append}
-use Rattle.script.specs.declared.script.Script.{Script}
 use Rattle.script.specs.declared.table.Table.{Table}
-use Rattle.script.specs.Rows.{rows_of}
 use Rattle.script.specs.Tables.{IsTableOf}
 use Rattle.script.proofs.Items.{rest_at}
 use Rattle.script_run.specs.RunRows.{HasRun}
 use Rattle.explore.specs.Courses.{Among}
 use Rattle.checks.specs.Verdicts.{IsVerdict}
 use Rattle.pictures.specs.Shown.{verdict_of}
-use Rattle.queries.specs.Answers.{verdicts_status, AreRuns, AreVerdicts}
-use Rattle.queries.specs.Given.{given_of, AreRead, Known}
 use Rattle.queries.specs.Served.{AreTablesAt}
+use Rattle.queries.proofs.Common.{AreRead, AreRuns, AreVerdicts, Bool, Known, List, Option, Script, [], add-one, ap, append_assoc, drop, false, get_or, given_of, if◌then◌else◌, inl, inr, length, map, refl, reverse, rows_of, subst, suc, sym, true, verdicts_status, zero, ℕ, ◌&&◌, ◌++◌, ◌+◌, ◌<◌, ◌∙◌, ◌∷◌, ◌≡◌, ◌≤◌}
 
 in_rest : {X Y : Type 0} (F : X → Y) (r : Y) (xs : List X) (i : ℕ) → Among r (map F (drop i xs)) → Among r (map F xs)
 in_rest F r xs zero m = m

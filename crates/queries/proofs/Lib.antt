@@ -1,3 +1,4 @@
+mod Common
 mod Gone
 mod Lines
 mod Problems

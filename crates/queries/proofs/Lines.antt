@@ -1,14 +1,9 @@
 -- From the notes of a search to the lines that are told of it.
-use Rattle.std.proofs.Common.{◌≡◌, ℕ, zero, suc, Bool, true, false, List, ap, subst, sym, ◌∙◌, inl, inr, true≢false}
-use Rattle.std.specs.Prelude.{Option}
-use Rattle.std.specs.Io.KnownBytes.{Keeps}
-use Rattle.std.proofs.KnownBytes.{Keeps-refl}
-use Rattle.script.specs.declared.script.Script.{Script}
 use Rattle.explore.specs.Noted.{Noted, NotedBy}
 use Rattle.explore.specs.Search.{HasStates}
-use Rattle.commands.specs.Printed.{AppendsSome, Reads}
 use Rattle.commands.specs.Told.{states_line}
 use Rattle.queries.specs.Progress.{Says, SaysBy, SaysFor, SaysOf}
+use Rattle.queries.proofs.Common.{AppendsSome, Bool, Keeps, Keeps-refl, List, Option, Reads, Script, ap, false, inl, inr, subst, suc, sym, true, true≢false, zero, ℕ, ◌∙◌, ◌≡◌}
 
 -- each note keeps what it writes to, and writes a line or a beginning of it
 abbrev Tells : {O N : Type 0} → (O → ℕ → O → Type 0) → (O → N) → (O → Option (List ℕ)) → Type 0

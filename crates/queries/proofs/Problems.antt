@@ -1,11 +1,6 @@
 -- Which problems there are, kind by kind, and what a history is told as.
-use Rattle.std.proofs.Common.{◌≡◌, ◌↔◌, ◌⊎◌, ℕ, ℤ, Bool, List, [], ◌∷◌, drop, get_or, length, map, refl, sym, ap, ◌∙◌, subst, inl, inr, arith, ◌≤◌}
-use Rattle.std.specs.Prelude.{Option, Some, Result, Ok, Err, IfErr, IfOk, IsTrue, unwrap_or}
-use Rattle.std.specs.Io.KnownBytes.{Keeps}
 use Rattle.std.specs.Borrow.{Bor}
 use Rattle.std.specs.Global.{Vec}
-use Rattle.std.proofs.lemmas.Result.{IfErr-weaker, IfOk-weaker}
-use Rattle.script.specs.declared.script.Script.{Script}
 use Rattle.script.specs.Tables.{IsTableOf}
 use Rattle.script_text.specs.TableText.{IsTableText}
 use Rattle.explore.specs.Courses.{Among}
@@ -16,18 +11,15 @@ use Rattle.commands.specs.declared.problem.Problem.{Problem}
 use Rattle.commands.specs.declared.problem.Problem.TheVariants.{Input, Output, Line, Memory}
 use Rattle.command_line.specs.declared.job.Job.{Job}
 use Rattle.command_line.specs.declared.job.Job.TheVariants.{Run, Outcomes, History, Check}
-use Rattle.commands.specs.Printed.{AreAll}
 use Rattle.commands.specs.Status.{of_script}
 use Rattle.commands.proofs.Printing.{reads_of}
-use Rattle.script.specs.Rows.{rows_of}
 use Rattle.script.specs.declared.table.Table.{Table}
 use Rattle.script_text.specs.Scripts.{IsToldOfText, SaysScript}
 use Rattle.script_text.specs.declared.fault.ScriptFault.{ScriptFault}
 use Rattle.queries.specs.declared.answer.Reply.{Reply}
-use Rattle.queries.specs.Answers.{none_text, runs_text, AreRuns, IsLookText, IsRunsText, PrintsOf}
 use Rattle.queries.specs.Ends.{CountsFor, EndsBy, IsAnswer}
-use Rattle.queries.specs.Given.{given_of, AreRead, Known}
 use Rattle.queries.specs.Reasons.{Explains, IsOfBytes, IsOfFile, IsOfFiles, IsOfLimit, IsOfQuery, IsOfTable}
+use Rattle.queries.proofs.Common.{AreAll, AreRead, AreRuns, Bool, Err, IfErr, IfErr-weaker, IfOk, IfOk-weaker, IsLookText, IsRunsText, IsTrue, Keeps, Known, List, Ok, Option, PrintsOf, Result, Script, Some, [], ap, arith, drop, get_or, given_of, inl, inr, length, map, none_text, refl, rows_of, runs_text, subst, sym, unwrap_or, ℕ, ℤ, ◌↔◌, ◌∙◌, ◌∷◌, ◌≡◌, ◌≤◌, ◌⊎◌}
 
 pub of_files : (c : Script) (given : List (List ℕ × List ℕ)) (x : List ℕ × List ℕ) (p : Problem) → Among x given → IsOfFile c x.1 p → IsOfFiles c given p
 of_files c given x (Line fault) there is = (x, there, is)

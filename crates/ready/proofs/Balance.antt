@@ -1,13 +1,10 @@
 -- Each step keeps the rule of the queue, and the pass with all shares knows of all puts and takes.
-use Rattle.std.proofs.Common.{◌≡◌, ◌≢◌, ℕ, zero, suc, ◌+◌, ◌<◌, ◌≤◌, List, [], ◌∷◌, ◌++◌, length, length-append, sum_by, set, sym, refl, ap, ◌∙◌, subst, ⊎_elim, arith}
-use Rattle.std.proofs.lemmas.List.Sums.{sum_by-cons, sum_by-append, sum_by_push}
 use mathlib.Core.Option.{some, some-injective, some-ne-none}
 use lib.ListN.{get_elem?}
 use Rattle.crossbeam_queue.specs.Fifo.{Pushes, Pops, Forks, Merges, Learns, Held}
 use Rattle.crossbeam_queue.proofs.Lists.{at_set, at_snoc}
-use Rattle.ready.specs.declared.span.Span.{Span}
 use Rattle.ready.specs.declared.tally.Tally.{Tally}
-use Rattle.ready.specs.Rule.{Balanced, Accounts, all_shares, tally, share_of, weight_put, weight_taken, with_put, with_taken, without_share, new_tally, both_tallies, no_tally}
+use Rattle.ready.proofs.Common.{Accounts, Balanced, List, Span, [], all_shares, ap, arith, both_tallies, length, length-append, new_tally, no_tally, refl, set, share_of, subst, suc, sum_by, sum_by-append, sum_by-cons, sum_by_push, sym, tally, weight_put, weight_taken, with_put, with_taken, without_share, zero, ℕ, ⊎_elim, ◌++◌, ◌+◌, ◌<◌, ◌∙◌, ◌∷◌, ◌≡◌, ◌≢◌, ◌≤◌}
 
 -- a sum over all passes, where one of them changes
 sum_set : (f : Tally → ℕ) (views : List Tally) (i : ℕ) (v w : Tally) → get_elem? views i ≡ some v → sum_by f (set views i w) + f v ≡ sum_by f views + f w

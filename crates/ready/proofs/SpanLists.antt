@@ -1,13 +1,7 @@
 -- The requests of spans, as lists: one more at the end, and what is before the rest of a list.
-use Rattle.std.proofs.Common.{◌≡◌, ℕ, zero, suc, ◌+◌, ◌-◌, List, [], ◌∷◌, ◌++◌, length, length-append, append_assoc, append-nil, take, sum_by, sym, refl, ap, ◌∙◌, subst, arith, Option, Some, None}
-use Rattle.std.proofs.lemmas.List.Sums.{sum_by-cons, sum_by-append}
 use Rattle.std.proofs.lemmas.Grind.{flat_map-append}
 use Rattle.std.proofs.Math.Seq.{take-append_seam}
-use Rattle.history.specs.declared.req.Req.{Req}
-use Rattle.ready.specs.declared.span.Span.{Span}
-use Rattle.ready.specs.Spans.{run_from, numbers_in}
-use Rattle.ready.specs.Ready.{Moves, all_put, all_taken, numbers_of, before}
-use Rattle.ready.specs.QueueParts.{HasDrawn, listed}
+use Rattle.ready.proofs.Common.{HasDrawn, List, Moves, None, Option, Req, Some, Span, [], all_put, all_taken, ap, append-nil, append_assoc, arith, before, length, length-append, listed, numbers_in, numbers_of, refl, run_from, subst, suc, sum_by, sum_by-append, sum_by-cons, sym, take, zero, ℕ, ◌++◌, ◌+◌, ◌-◌, ◌∙◌, ◌∷◌, ◌≡◌}
 
 -- a run that is one longer has the next number at its end
 pub run_snoc : (ring k n : ℕ) → run_from ring k (suc n) ≡ run_from ring k n ++ record { ring = ring; k = k + n } ∷ []

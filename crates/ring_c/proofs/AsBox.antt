@@ -1,12 +1,10 @@
 -- A slot that leads to a box, and the parts of a box, own what the box owns.
-use mir.Syntax.{impl, tnil, dnil}
 use mathlib.Core.List.{[]}
-use denote.Signature.{Slot, plain}
-use Rattle.std.proofs.BoxSteps.Form.{Bx}
 use Rattle.std.specs.contracts.alloc.Global
 use Rattle.std.specs.contracts.impls.GlobalAllocator.TheImpl.{ghosts, dict}
 use Rattle.std.proofs.alloc
 use Rattle.ring_c.specs.contracts.inside.Inside
+use Rattle.ring_c.proofs.Common.{Bx, Slot, dnil, impl, plain, tnil}
 use Rattle.ring_c.proofs.inside
 use Rattle.ring_c.specs.contracts.parts.Parts
 use Rattle.ring_c.specs.contracts.slot

@@ -1,25 +1,16 @@
 -- A batch that is read, entry by entry.
-use Rattle.std.proofs.Common.{◌≡◌, ◌⊎◌, ℕ, zero, suc, ◌+◌, ◌*◌, ◌/◌, ◌<◌, true, List, [], ◌∷◌, ◌++◌, length, take, drop, sym, refl, ap, ◌∙◌, subst, inl, inr, ⊎_elim, Some, None, add-zero, lit<, arith}
-use Rattle.std.specs.Prelude.{slice_get}
-use Rattle.std.specs.Global.{Vec}
-use Rattle.std.proofs.lemmas.List.{append-nil}
+use Rattle.std.proofs.Common.{drop, lit<}
 use Rattle.std.proofs.lemmas.List.Concat.{flat_map-append}
 use Rattle.entry.specs.Entry.{Entry}
 use Rattle.entry.specs.Text.{Says}
-use Rattle.history.specs.Legal.{Fits}
-use Rattle.history.specs.declared.req.Req.{Req}
-use Rattle.history.specs.declared.event.Event.TheVariants.{Submit}
 use Rattle.steps.specs.Cells.{cells_in}
 use Rattle.steps.specs.Fairness.{IsFree}
-use Rattle.work.specs.Board.{Facts}
-use Rattle.work.specs.Passes.{Pass, seen_of}
 use Rattle.board.specs.declared.error.SubmitError.{SubmitError}
 use Rattle.board.specs.declared.error.SubmitError.TheVariants.{Full, BufferLength, Spent}
 use Rattle.board.specs.Batches.{Entries, AreFit, submits_of}
-use Rattle.board.specs.Calls.{Goes, next_of}
 use Rattle.board.specs.Lanes.{nth}
 use Rattle.board.specs.Refusals.{RefusesBatch, RefusesEntry}
-use Rattle.ring_c.specs.ClientCalls.{AreRead, AreSaid, buffers_of}
+use Rattle.ring_c.proofs.Common.{AreRead, AreSaid, Facts, Fits, Goes, List, None, Pass, Req, Some, Submit, Vec, [], add-zero, ap, append-nil, arith, buffers_of, inl, inr, length, next_of, refl, seen_of, slice_get, subst, suc, sym, take, true, zero, ℕ, ⊎_elim, ◌*◌, ◌++◌, ◌+◌, ◌/◌, ◌<◌, ◌∙◌, ◌∷◌, ◌≡◌, ◌⊎◌}
 
 -- where an element of a list lies to which one was added
 pushed_at : {X : Type 0} (xs : List X) (y x : X) (i : ℕ) → slice_get (xs ++ y ∷ []) i ≡ Some x → (slice_get xs i ≡ Some x) ⊎ ((i ≡ length xs) × (y ≡ x))

@@ -1,5 +1,6 @@
 pub mod AsBox
 pub mod Batches
+pub mod Common
 pub mod Lives
 pub mod PassLists
 pub mod ReportLines

@@ -1,13 +1,8 @@
 -- A board that is opened.
-use Rattle.std.proofs.Common.{◌≡◌, ℕ, List, [], subst, sym, refl, Result, Ok, Err}
-use Rattle.std.specs.Prelude.{IfOk}
-use Rattle.work.specs.Board.{Facts}
-use Rattle.work.specs.Passes.{Pass}
 use Rattle.board.specs.declared.shape.Shape.{Shape}
 use Rattle.board.specs.New.{IsNew}
-use Rattle.ring_c.specs.declared.code.Code.{Code}
 use Rattle.ring_c.specs.Lives.{IsMade, IsShapeOf}
-use Rattle.ring_c.specs.Sides.{DeskFacts}
+use Rattle.ring_c.proofs.Common.{Code, DeskFacts, Err, Facts, IfOk, List, Ok, Pass, Result, [], refl, subst, sym, ℕ, ◌≡◌}
 
 pub made_of : (rings pipes : List ℕ) (n : ℕ) (s : Shape) (b : Facts) (p : Pass) (cs ws : List Pass) (a : Result DeskFacts Code) → IsShapeOf rings pipes n s → IsNew s b p cs ws
     → IfOk a (λ d. d ≡ record { board = b; pass = p; clients = cs; workers = ws; ready = []; answered = [] }) → IfOk a (λ d. IsMade rings pipes n d)

@@ -1,14 +1,9 @@
 -- The passes at a desk.
-use Rattle.std.proofs.Common.{◌≡◌, ℕ, suc, List, [], ◌∷◌, ◌++◌, length, refl, ap, sym, subst, Option, Some, None}
-use Rattle.std.specs.Prelude.{option_to_list}
-use Rattle.std.proofs.lemmas.List.{append-nil}
-use Rattle.work.specs.Board.{Facts, IsOf}
-use Rattle.work.specs.Passes.{Pass}
 use Rattle.board.specs.declared.shape.RingShape.{RingShape}
 use Rattle.board.specs.New.{AreSubmitters, AreWorkers}
-use Rattle.board.specs.ShapeLimits.{counts}
 use Rattle.board.specs.Reports.{AreOf}
 use Rattle.board.proofs.HeardPasses.{are_of_last}
+use Rattle.ring_c.proofs.Common.{Facts, IsOf, List, None, Option, Pass, Some, [], ap, append-nil, counts, length, option_to_list, refl, subst, suc, sym, ℕ, ◌++◌, ◌∷◌, ◌≡◌}
 
 -- those that are left
 pub are_of_rest : (b : Facts) (xs ys : List Pass) (o : Option Pass) → AreOf b xs → xs ≡ ys ++ option_to_list o → AreOf b ys

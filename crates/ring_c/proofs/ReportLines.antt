@@ -1,11 +1,7 @@
 -- A report, line by line.
-use Rattle.std.proofs.Common.{◌≡◌, ℕ, List, refl, sym, subst, Bool, Result}
-use Rattle.board.specs.declared.completion.Completion.{Completion}
-use Rattle.ring_c.specs.declared.code.Code.{Code}
-use Rattle.ring_c.specs.declared.inside.Inside.{Inside}
-use Rattle.ring_c.specs.declared.inside.Inside.TheVariants.{Report}
 use Rattle.ring_c.specs.declared.results.Line.{Line}
 use Rattle.ring_c.specs.Reports.{GivesLineBytes, IsLine, IsLineBytes, TellsLine}
+use Rattle.ring_c.proofs.Common.{Bool, Code, Completion, Inside, List, Report, Result, refl, subst, sym, ℕ, ◌≡◌}
 
 pub told_line : (i : ℕ) (x : Inside) (lines : List (Completion × Bool)) (a : Result Line Code) → x ≡ Report lines → IsLine i lines a → TellsLine i x x a
 told_line i x lines a e l = subst (λ (y : Inside). TellsLine i y y a) (sym e) (refl, l)

@@ -1,9 +1,6 @@
 -- Calls through a handle.
-use Rattle.std.proofs.Common.{◌≡◌, sym, subst, refl, Option, Some, None, Result, Err}
-use Rattle.ring_c.specs.declared.code.Code.{Code}
-use Rattle.ring_c.specs.declared.code.Code.TheVariants.{Closed}
-use Rattle.ring_c.specs.declared.inside.Inside.{Inside}
 use Rattle.ring_c.specs.Handles.{Through}
+use Rattle.ring_c.proofs.Common.{Closed, Code, Err, Inside, None, Option, Result, Some, refl, subst, sym, ◌≡◌}
 
 module _ {X : Type 0} (P : Inside → Inside → Result X Code → Type 0) where
   pub through_closed : (old new : Option Inside) → old ≡ None → new ≡ None → Through P old new (Err Closed)

@@ -1,19 +1,13 @@
 -- Parts of a turn, one after another.
-use Rattle.std.proofs.Common.{◌≡◌, ◌≢◌, ◌⊎◌, Bool, true, false, cond, List, [], ◌∷◌, ◌++◌, sym, refl, ap, ◌∙◌, subst, ⊎_elim, inl, true≢false}
-use Rattle.std.proofs.lemmas.List.{append_assoc, append-nil}
-use Rattle.history.specs.declared.req.Req.{Req}
 use Rattle.history.specs.declared.event.Event.{Event}
 use Rattle.history.specs.History.{same}
 use Rattle.history.proofs.Requests.{bool_cases, same_itself, same_true}
 use Rattle.steps.specs.declared.line.Line.{Line}
 use Rattle.steps.specs.Journal.{freed}
-use Rattle.work.specs.Board.{Facts, IsOf}
-use Rattle.work.specs.Passes.{Pass, own_of}
-use Rattle.board.specs.Calls.{Goes}
 use Rattle.board.specs.declared.poller.Released.{Released}
 use Rattle.board.specs.declared.poller.Released.TheVariants.{Freed}
 use Rattle.board.proofs.GoesLaws.{own_both}
-use Rattle.ring_c.specs.Turns.{AreNew, GoesOn, IsTurn, Told, Turned, answered_by, answered_one, is_among}
+use Rattle.ring_c.proofs.Common.{AreNew, Bool, Facts, Goes, GoesOn, IsOf, IsTurn, List, Pass, Req, Told, Turned, [], answered_by, answered_one, ap, append-nil, append_assoc, cond, false, inl, is_among, own_of, refl, subst, sym, true, true≢false, ⊎_elim, ◌++◌, ◌∙◌, ◌∷◌, ◌≡◌, ◌≢◌, ◌⊎◌}
 
 goes_on : (b : Facts) (p q : Pass) (es : List Event) → Goes b p es q → GoesOn b p es q
 goes_on b p q es x = record { kept = x.kept; role_is = x.role_is; later = x.later; seen_is = x.seen_is; own = x.own }

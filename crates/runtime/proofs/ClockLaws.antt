@@ -1,27 +1,11 @@
 -- A clock and what its poller has seen.
-use Rattle.std.proofs.Common.{◌≡◌, ℕ, ◌+◌, Bool, true, false, cond, List, [], ◌∷◌, ◌++◌, Option, Some, sym, refl, ap, ◌∙◌, subst, ⊎_elim, arith, ◌⊎◌, inl, inr, true≢false}
-use Rattle.history.specs.declared.event.Event.{Event}
-use Rattle.history.specs.declared.event.Event.TheVariants.{Tick}
-use Rattle.history.specs.declared.req.Req.{Req}
-use Rattle.history.specs.History.{clock_of}
 use Rattle.history.specs.Legal.{Legal, Setup}
-use Rattle.history.specs.Ticked.{counts_tick, ticked}
-use Rattle.steps.specs.Cells.{setup_of}
-use Rattle.steps.specs.declared.line.Line.{Line}
 use Rattle.steps.specs.declared.line.Line.TheVariants.{Did}
 use Rattle.steps.specs.declared.view.Role.{Role}
-use Rattle.steps.specs.declared.view.Role.TheVariants.{Poller}
-use Rattle.steps.specs.Journal.{events_of}
-use Rattle.steps.specs.Rule.{owns}
-use Rattle.work.specs.Board.{Facts, IsOf}
-use Rattle.work.specs.Passes.{Pass, own_of, seen_of}
 use Rattle.board.specs.declared.phase.Phase.{Phase as Standing}
-use Rattle.board.specs.Calls.{Goes}
 use Rattle.board.specs.PollerTimers.{IsPast}
-use Rattle.board.proofs.GoesLaws.{events_before}
 use Rattle.controls.specs.Clocks.{Answers, Asked}
-use Rattle.runtime.specs.PollTurns.{IsPollers}
-use Rattle.runtime.specs.Turns.{GoesOn}
+use Rattle.runtime.proofs.Common.{Bool, Event, Facts, Goes, GoesOn, IsOf, IsPollers, Line, List, Option, Pass, Poller, Req, Some, Tick, [], ap, arith, clock_of, cond, counts_tick, events_before, events_of, false, inl, inr, own_of, owns, refl, seen_of, setup_of, subst, sym, ticked, true, true≢false, ℕ, ⊎_elim, ◌++◌, ◌+◌, ◌∙◌, ◌∷◌, ◌≡◌, ◌⊎◌}
 
 pub none_then : (es fs : List Event) → ticked es ≡ 0 → ticked fs ≡ 0 → ticked (es ++ fs) ≡ 0
 none_then [] fs a b = b

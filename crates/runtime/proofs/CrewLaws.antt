@@ -1,16 +1,7 @@
 -- The passes of the workers that came back, as lists.
-use Rattle.std.proofs.Common.{◌≡◌, ◌+◌, ◌∷◌, [], ℕ, suc, zero, All, List, length, length-append, map, sum_by, refl, ap, sym, ◌∙◌, arith}
-use Rattle.std.proofs.lemmas.List.{length-map}
-use Rattle.std.proofs.lemmas.List.Elements.{All-push}
-use Rattle.std.proofs.lemmas.List.Sums.{sum_by-cons, sum_by_push}
-use Rattle.board.specs.Reports.{AreOf}
-use Rattle.ready.specs.Ready.{AreAll, Moves, IsOf as IsOfQueue}
+use Rattle.ready.specs.Ready.{IsOf as IsOfQueue}
 use Rattle.ready.specs.Rule.{all_shares}
-use Rattle.runtime.specs.declared.shared.Shared.{Shared}
-use Rattle.runtime.specs.declared.threads.WorkSide.{WorkSide}
-use Rattle.runtime.specs.Crews.{all_passes, ready_of, shares_in, worker_of}
-use Rattle.runtime.specs.Loops.{IsWorkSide}
-use Rattle.runtime.specs.PollTurns.{Desk}
+use Rattle.runtime.proofs.Common.{All, All-push, AreAll, AreOf, Desk, IsWorkSide, List, Moves, Shared, WorkSide, [], all_passes, ap, arith, length, length-append, length-map, map, ready_of, refl, shares_in, suc, sum_by, sum_by-cons, sum_by_push, sym, worker_of, zero, ℕ, ◌+◌, ◌∙◌, ◌∷◌, ◌≡◌}
 
 pub workers_own : (s : Shared) (ws : List WorkSide) → All (λ w. IsWorkSide s w) ws → AreOf s.board (map worker_of ws)
 workers_own s [] all = tt

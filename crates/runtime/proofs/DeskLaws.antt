@@ -1,41 +1,21 @@
 -- What the poller's desk looks after, from one step of a turn to the next.
-use Rattle.std.proofs.Common.{◌≡◌, ◌≢◌, ◌⊎◌, inl, inr, ⊎_elim, ℕ, ◌+◌, ◌-◌, ◌<◌, ◌≤◌, Bool, true, false, cond, not, List, [], ◌∷◌, ◌++◌, length, length-append, slice_index, Option, Some, None, Result, Ok, Err, IfOk, is_ok, sym, refl, ap, ◌∙◌, subst, arith, true≢false}
+use Rattle.std.proofs.Common.{not, IfOk}
 use Rattle.std.proofs.lemmas.Bool.{cases_order}
-use Rattle.std.proofs.lemmas.List.{append_assoc}
 use Rattle.entry.specs.declared.op.Op.{Op}
 use Rattle.entry.specs.declared.op.Op.TheVariants.{LinkTimeout}
 use Rattle.entry.specs.Entry.{Entry}
-use Rattle.history.specs.declared.req.Req.{Req}
-use Rattle.history.specs.declared.event.Event.{Event}
-use Rattle.history.specs.declared.event.Event.TheVariants.{Take, Expire, Count, Fire, Settle, Cut}
-use Rattle.history.specs.History.{Phase, unborn, waits, armed, same, becomes, concerns, phase, submits, IsReplied}
 use Rattle.history.specs.Chains.{IsLinkTimeout, IsPlaced, IsTarget, is_link_timeout, is_timeout, is_timer, previous}
 use Rattle.history.specs.Legal.{Legal, Setup, count_of, IsOf as IsOfKind}
-use Rattle.history.specs.Ticked.{ticked}
 use Rattle.history.proofs.Growth.{MayChange, may_change, changed, unchanged, replied_stays}
 use Rattle.history.proofs.Requests.{bool_cases, same_true}
-use Rattle.steps.specs.Cells.{setup_of}
-use Rattle.steps.specs.declared.line.Line.{Line}
-use Rattle.steps.specs.Journal.{events_of, freed, frees}
-use Rattle.steps.specs.Rule.{Begins}
 use Rattle.steps.proofs.JournalGrowth.{Lasting, counted_in, kind_lasts, lasts, legal_before, placed_lasts, replied_later}
-use Rattle.work.specs.Board.{Facts}
-use Rattle.work.specs.Passes.{Pass, seen_of}
 use Rattle.board.specs.declared.phase.Phase.{Phase as Standing}
 use Rattle.board.specs.declared.phase.Phase.TheVariants.{Unborn, Held, Ready, Running, Armed, Done, Gone}
-use Rattle.board.specs.Calls.{IsUnheld, Stands}
 use Rattle.board.specs.PollerRows.{MayArm}
-use Rattle.board.specs.TimerCalls.{HasFewer, IsEarly, IsNoneToExpire, IsNoneToSettle, IsTargetDone, IsUnarmed, IsUncounted}
 use Rattle.wheel.specs.Deadlines.{armed as armed_at, dropped}
 use Rattle.runtime.specs.declared.error.Memory.{Memory}
-use Rattle.runtime.specs.Turns.{GoesOn, answered_by}
-use Rattle.runtime.specs.Desks.{Cares, AreHeldBack, ArePending, IsCared, IsDone, IsHeldBack, IsLinkedDue, IsNoted, IsPendingTimer, IsPlain, IsSet, LooksAfter, NoneIsDue, Once, is_among, with_waiting}
 use Rattle.runtime.specs.declared.hands.Hands.{Hands}
-use Rattle.runtime.specs.Parts.{HaveWaited, IsDueTimer, HasRung, HasStopped, IsStuck, WaitsOn, WasTried, WatchesOn, WentOn, stands_armed, with_watched}
-use Rattle.outbox.specs.Outbox.{Waiting}
-use Rattle.runtime.specs.Backlogs.{Owed}
-use Rattle.runtime.specs.PollTurns.{AllRung, Desk, IsPollers, IsStopped, IsTaken, Rang, cares_in, ReachesTo}
-use Rattle.runtime.specs.Shelves.{Places, with_request}
+use Rattle.runtime.proofs.Common.{AllRung, AreHeldBack, ArePending, Begins, Bool, Cares, Count, Cut, Desk, Err, Event, Expire, Facts, Fire, GoesOn, HasFewer, HasRung, HasStopped, HaveWaited, IsCared, IsDone, IsDueTimer, IsEarly, IsHeldBack, IsLinkedDue, IsNoneToExpire, IsNoneToSettle, IsNoted, IsPendingTimer, IsPlain, IsPollers, IsReplied, IsSet, IsStopped, IsStuck, IsTaken, IsTargetDone, IsUnarmed, IsUncounted, IsUnheld, Line, List, LooksAfter, None, NoneIsDue, Ok, Once, Option, Owed, Pass, Phase, Places, Rang, ReachesTo, Req, Result, Settle, Some, Stands, Take, Waiting, WaitsOn, WasTried, WatchesOn, WentOn, [], answered_by, ap, append_assoc, arith, armed, becomes, cares_in, concerns, cond, events_of, false, freed, frees, inl, inr, is_among, is_ok, length, length-append, phase, refl, same, seen_of, setup_of, slice_index, stands_armed, submits, subst, sym, ticked, true, true≢false, unborn, waits, with_request, with_waiting, with_watched, ℕ, ⊎_elim, ◌++◌, ◌+◌, ◌-◌, ◌<◌, ◌∙◌, ◌∷◌, ◌≡◌, ◌≢◌, ◌≤◌, ◌⊎◌}
 use Rattle.runtime.proofs.ClockLaws.{clock_kept}
 use Rattle.runtime.proofs.TurnLaws.{among_append}
 

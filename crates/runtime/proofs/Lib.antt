@@ -1,4 +1,5 @@
 pub mod ClockLaws
+pub mod Common
 pub mod TurnLaws
 pub mod DeskLaws
 pub mod ShiftLaws

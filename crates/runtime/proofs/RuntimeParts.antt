@@ -1,26 +1,13 @@
 -- Passes and clients of a runtime, as they are taken out of their lists and put into them.
-use Rattle.std.proofs.Common.{◌≡◌, ℕ, zero, suc, ◌+◌, ◌<◌, List, [], ◌∷◌, ◌++◌, ◌⊎◌, All, length, map, reverse, slice_get, slice_index, get_or, drop, None, Some, sym, refl, ap, ◌∙◌, subst, arith}
 use mathlib.Core.Option.{some}
 use lib.ListN.{get_elem?}
-use Rattle.std.proofs.lemmas.List.{append_assoc, map-append, reverse-append}
-use Rattle.std.proofs.lemmas.List.{length-map}
 use Rattle.std.proofs.lemmas.Option.{none-some}
-use Rattle.history.specs.declared.req.Req.{Req}
-use Rattle.history.specs.History.{submits}
-use Rattle.work.specs.Board.{Facts}
-use Rattle.work.specs.Passes.{seen_of}
-use Rattle.board.specs.declared.completion.Completion.{Completion}
 use Rattle.board.specs.declared.error.ReapError.{ReapError}
-use Rattle.board.specs.Refusals.{RefusesReap}
 use Rattle.steps.specs.declared.view.Role.{Role}
-use Rattle.steps.specs.declared.view.Role.TheVariants.{Submitter}
 use Rattle.board.specs.declared.shape.RingShape.{RingShape}
-use Rattle.board.specs.ShapeLimits.{counts}
 use Rattle.board.proofs.TakenCells.{some_get}
-use Rattle.bell.specs.BellPasses.{Facts as Bell, IsNew, IsRingerOf, Ringing, Sleeping, new_ringing}
-use Rattle.runtime.specs.PostLocks.{AreNumbered}
-use Rattle.runtime.specs.StartParts.{AreRingers, IsNewRinger}
-use Rattle.runtime.specs.Clients.{ClientFacts, AreClients, AreNewClients, HasTaken, IsNewClient, submitter_of, without_tail}
+use Rattle.bell.specs.BellPasses.{Facts as Bell}
+use Rattle.runtime.proofs.Common.{All, AreClients, AreNewClients, AreNumbered, AreRingers, ClientFacts, Completion, Facts, HasTaken, IsNew, IsNewClient, IsNewRinger, IsRingerOf, List, None, RefusesReap, Req, Ringing, Sleeping, Some, Submitter, [], ap, append_assoc, arith, counts, drop, get_or, length, length-map, map, map-append, new_ringing, refl, reverse, reverse-append, seen_of, slice_get, slice_index, submits, submitter_of, subst, suc, sym, without_tail, zero, ℕ, ◌++◌, ◌+◌, ◌<◌, ◌∙◌, ◌∷◌, ◌≡◌, ◌⊎◌}
 
 -- a list without a first element
 pub none_first : {X : Type 0} (xs : List X) → slice_get xs 0 ≡ None → xs ≡ []

@@ -1,10 +1,6 @@
 -- Numbers that a worker's desk moves, however they are counted.
-use Rattle.std.proofs.Common.{◌≡◌, List, [], ◌∷◌, ◌++◌, sum_by, sym, ap, ◌∙◌, subst, arith}
-use Rattle.std.proofs.lemmas.List.{append_assoc, append-nil}
-use Rattle.std.proofs.lemmas.List.Sums.{sum_by-cons, sum_by-append, sum_by_push}
-use Rattle.history.specs.declared.req.Req.{Req}
-use Rattle.ready.specs.Ready.{Moves}
-use Rattle.runtime.specs.WorkTurns.{Desk, PutsBack, Shifts}
+use Rattle.runtime.specs.WorkTurns.{Desk}
+use Rattle.runtime.proofs.Common.{List, Moves, PutsBack, Req, Shifts, [], ap, append-nil, append_assoc, arith, subst, sum_by, sum_by-append, sum_by-cons, sum_by_push, sym, ◌++◌, ◌∙◌, ◌∷◌, ◌≡◌}
 
 puts_then : (x y z : Moves) (ps ts qs us : List Req) → y ≡ record x { put = x.put ++ ps; taken = x.taken ++ ts } → z ≡ record y { put = y.put ++ qs; taken = y.taken ++ us } → z ≡ record x { put = x.put ++ (ps ++ qs); taken = x.taken ++ (ts ++ us) }
 puts_then x y z ps ts qs us a b = b ∙ (ap (λ (w : Moves). record w { put = w.put ++ qs; taken = w.taken ++ us }) a ∙ (λ i. record x { put = append_assoc x.put ps qs i; taken = append_assoc x.taken ts us i }))

@@ -1,29 +1,11 @@
 -- Parts of a turn, one after another.
-use Rattle.std.proofs.Common.{◌≡◌, ℕ, ◌+◌, Bool, true, false, cond, List, [], ◌∷◌, ◌++◌, length, length-append, sym, refl, ap, ◌∙◌, subst, ⊎_elim, arith, ◌≢◌, ◌⊎◌, inl, true≢false}
-use Rattle.std.proofs.lemmas.List.{append_assoc, append-nil}
-use Rattle.history.specs.declared.req.Req.{Req}
-use Rattle.history.specs.declared.event.Event.{Event}
-use Rattle.history.specs.History.{same}
-use Rattle.history.specs.Ticked.{ticked}
 use Rattle.history.proofs.Requests.{bool_cases, same_itself, same_true}
-use Rattle.steps.specs.declared.line.Line.{Line}
-use Rattle.steps.specs.Journal.{freed}
-use Rattle.work.specs.Board.{Facts, IsOf}
-use Rattle.work.specs.Passes.{Pass, own_of}
-use Rattle.board.specs.Calls.{Goes}
 use Rattle.board.specs.declared.poller.Released.{Released}
 use Rattle.board.specs.declared.poller.Released.TheVariants.{Severed, Freed, Shut, Timer, NotHeld}
-use Rattle.board.proofs.GoesLaws.{own_both}
-use Rattle.ready.specs.Ready.{Facts as QueueFacts, Moves, IsOf as IsOfQueue}
-use Rattle.outbox.specs.Outbox.{Waiting, with_answered}
+use Rattle.ready.specs.Ready.{Facts as QueueFacts, IsOf as IsOfQueue}
 use Rattle.runtime.specs.declared.hands.Hands.{Hands}
-use Rattle.runtime.specs.Turns.{GoesOn, HandedOver, answered_by, answered_one}
-use Rattle.runtime.specs.Backlogs.{Owed}
+use Rattle.runtime.proofs.Common.{AreAt, AreNew, Bool, Did, Event, Facts, Goes, GoesOn, HandedOver, HasRoom, HasTicked, Intake, IsAt, IsOf, IsPollTurn, Line, List, Moves, Owed, Pass, Rang, Req, Sleeping, Waiting, [], answered_by, answered_one, ap, append-nil, append_assoc, arith, cond, false, freed, inl, is_among, length, length-append, own_both, own_of, refl, same, subst, sym, ticked, true, true≢false, with_answered, ℕ, ⊎_elim, ◌++◌, ◌+◌, ◌∙◌, ◌∷◌, ◌≡◌, ◌≢◌, ◌⊎◌}
 use Rattle.runtime.proofs.ClockLaws.{none_then, still_pollers, ticks_then}
-use Rattle.runtime.specs.declared.lists.Intake.{Intake}
-use Rattle.runtime.specs.Desks.{is_among}
-use Rattle.runtime.specs.PollTurns.{AreAt, AreNew, HasRoom, HasTicked, IsAt, IsPollTurn, Did, Rang}
-use Rattle.bell.specs.BellPasses.{Sleeping}
 
 pub goes_on : (b : Facts) (p q : Pass) (es : List Event) → Goes b p es q → GoesOn b p es q
 goes_on b p q es x = record { kept = x.kept; role_is = x.role_is; later = x.later; seen_is = x.seen_is; own = x.own }

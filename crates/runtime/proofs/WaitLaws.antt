@@ -1,20 +1,6 @@
 -- A client that waits: it takes posts until one of them gives a completion.
-use Rattle.std.proofs.Common.{◌≡◌, ◌++◌, ◌∷◌, [], ◌⊎◌, ℕ, List, All, Option, Some, None, inl, inr, sym, refl, ap, ◌∙◌, subst, arith}
-use Rattle.std.proofs.lemmas.List.{append_assoc, append-nil}
-use Rattle.std.proofs.lemmas.List.Elements.{All-push}
-use Rattle.history.specs.declared.req.Req.{Req}
-use Rattle.history.specs.declared.event.Event.{Event}
-use Rattle.history.specs.History.{submits}
-use Rattle.steps.specs.Rule.{Begins}
-use Rattle.work.specs.Board.{Facts}
-use Rattle.work.specs.Passes.{Pass, seen_of}
-use Rattle.board.specs.Calls.{Goes}
-use Rattle.board.specs.declared.completion.Completion.{Completion}
 use Rattle.board.specs.declared.error.ReapError.{ReapError}
-use Rattle.board.specs.Refusals.{RefusesReap}
-use Rattle.board.proofs.GoesLaws.{goes_then}
-use Rattle.runtime.specs.Clients.{ClientFacts, HasAwaited, HasTaken, WasRefused}
-use Rattle.runtime.specs.Turns.{kept_in}
+use Rattle.runtime.proofs.Common.{All, All-push, Begins, ClientFacts, Completion, Event, Facts, Goes, HasAwaited, HasTaken, List, None, Option, Pass, RefusesReap, Req, Some, WasRefused, [], ap, append-nil, append_assoc, arith, goes_then, inl, inr, kept_in, refl, seen_of, submits, subst, sym, ℕ, ◌++◌, ◌∙◌, ◌∷◌, ◌≡◌, ◌⊎◌}
 
 -- the client has found posts, and passed by those whose requests could not be reaped
 pub record Awaits (old m : ClientFacts) : Type 0 where

@@ -1,24 +1,9 @@
 -- An actor that has carried lines out goes on: others' events leave it where it is, and its own take it one step further.
-use Rattle.std.proofs.Common.{◌≡◌, ℕ, ◌+◌, ◌-◌, ◌<◌, ◌≤◌, ◌==◌, nat_lt, nat_le, Bool, true, false, cond, List, [], ◌∷◌, ◌++◌, Some, length, sym, refl, ap, ◌∙◌, arith, true≢false, eq-eqb, zero-add, append-nil}
-use Rattle.std.specs.Prelude.{slice_get, slice_index}
-use Rattle.std.specs.Global.{Vec}
-use Rattle.std.proofs.lemmas.Bool.{and_parts, and_from}
 use Rattle.std.proofs.lemmas.Bool.Decides.{nat_tests}
-use Rattle.history.specs.declared.req.Req.{Req}
-use Rattle.history.specs.declared.event.Event.{Event}
 use Rattle.history.specs.declared.event.Event.TheVariants as event
-use Rattle.history.specs.History.{submits, adds_to, clock_of, was_shut}
-use Rattle.history.specs.Legal.{Setup, Legal}
 use Rattle.history.specs.Ticked.{counts_tick, ticked}
-use Rattle.script.specs.declared.act.Act.{Act}
-use Rattle.script.specs.declared.act.Act.TheVariants.{Submit, Wait, Armed, Tick}
-use Rattle.script.specs.declared.named.Named.{Named}
-use Rattle.script.specs.declared.script.Script.{Script}
-use Rattle.script.specs.declared.step.Step.TheVariants.{Hands, Sets}
 use Rattle.script.specs.Carried.{steps_in, AreDone, FollowsRing, KeepsRing, FollowsClock, KeepsClock, HasCarried, HasTimed}
-use Rattle.script.specs.Rules.{rises}
-use Rattle.script.specs.Steps.{step_at, passes}
-use Rattle.script.specs.Tables.{is_done, IsAtEnd, Keeps}
+use Rattle.script.proofs.Common.{Act, Armed, Bool, Event, Hands, IsAtEnd, Keeps, Legal, List, Named, Req, Script, Sets, Setup, Some, Submit, Tick, Vec, Wait, [], adds_to, and_from, and_parts, ap, append-nil, arith, clock_of, cond, eq-eqb, false, is_done, length, nat_le, nat_lt, passes, refl, rises, slice_get, slice_index, step_at, submits, sym, true, true≢false, was_shut, zero-add, ℕ, ◌++◌, ◌+◌, ◌-◌, ◌<◌, ◌==◌, ◌∙◌, ◌∷◌, ◌≡◌, ◌≤◌}
 use Rattle.script.proofs.LinesStay.{done_stays}
 
 -- ---- steps after lines that were carried out

@@ -1,29 +1,10 @@
 -- What a ring hands in as the request of an entry is that entry.
-use Rattle.std.proofs.Common.{◌≡◌, ℕ, suc, ◌+◌, ◌-◌, ◌==◌, nat_lt, Bool, true, false, cond, List, [], ◌∷◌, Option, Some, None, length, get_or, sym, refl, ap, ◌∙◌, ⊎_elim, arith, true≢false, eqb-true}
-use Rattle.std.specs.Prelude.{slice_get, slice_index}
-use Rattle.std.specs.List.{list_all, position}
-use Rattle.std.specs.Global.{Vec}
 use Rattle.std.proofs.Math.ListN.{get_or-append}
-use Rattle.std.proofs.Math.Seq.{get_or-append_right}
-use Rattle.std.proofs.lemmas.Bool.{and_parts}
 use Rattle.std.proofs.lemmas.List.Quantifiers.{position-Some}
 use Rattle.std.proofs.lemmas.Bool.Decides.{nat_tests}
 use Rattle.entry.specs.Entry.{Entry}
-use Rattle.history.specs.declared.req.Req.{Req}
-use Rattle.history.specs.declared.event.Event.{Event}
 use Rattle.history.specs.declared.event.Event.TheVariants as event
-use Rattle.history.specs.History.{Submission, same, submission, submits}
-use Rattle.history.specs.Legal.{Setup, Legal}
-use Rattle.history.proofs.Requests.{bool_cases, same_true}
-use Rattle.script.specs.declared.act.Act.{Act}
-use Rattle.script.specs.declared.act.Act.TheVariants.{Submit, Wait, Armed, Tick}
-use Rattle.script.specs.declared.named.Named.{Named}
-use Rattle.script.specs.declared.script.Script.{Script}
-use Rattle.script.specs.declared.step.Step.TheVariants.{Hands}
-use Rattle.script.specs.Homes.{home, home_at, home_from}
-use Rattle.script.specs.Rules.{is_ring_line, places_in}
-use Rattle.script.specs.Steps.{step_at}
-use Rattle.script.specs.Tables.{Keeps}
+use Rattle.script.proofs.Common.{Act, Armed, Bool, Event, Hands, Keeps, Legal, List, Named, None, Option, Req, Script, Setup, Some, Submission, Submit, Tick, Vec, Wait, [], and_parts, ap, arith, bool_cases, cond, eqb-true, false, get_or, get_or-append_right, home, home_at, home_from, is_ring_line, length, list_all, nat_lt, places_in, position, refl, same, same_true, slice_get, slice_index, step_at, submission, submits, suc, sym, true, true≢false, ℕ, ⊎_elim, ◌+◌, ◌-◌, ◌==◌, ◌∙◌, ◌∷◌, ◌≡◌}
 use Rattle.script.proofs.CountedLines.{ring_rules}
 
 none_some : {X : Type 0} → (x : X) → None ≡ Some x → ⊥

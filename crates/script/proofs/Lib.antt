@@ -1,3 +1,4 @@
+mod Common
 mod LongerLists
 pub mod Items
 pub mod CountedLines

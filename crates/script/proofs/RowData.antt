@@ -1,21 +1,17 @@
 -- The data of an answered request are as many as its reply says of a READ, and none of another entry.
-use Rattle.std.proofs.Common.{◌≡◌, ℕ, ◌==◌, ◌&&◌, not, nat_lt, nat_le, min, Bool, true, false, cond, ℤ, pos, negsuc, List, [], ◌∷◌, Option, Some, None, length, take, slice_index, bit_and, bit_or, sym, refl, ap, ◌∙◌, subst, ⊎_elim, true≢false}
+use Rattle.std.proofs.Common.{slice_index}
 use Rattle.std.proofs.lemmas.List.{length-take}
 use Rattle.entry.specs.declared.op.Offset.{Offset}
 use Rattle.entry.specs.declared.op.Op.{Op}
 use Rattle.entry.specs.declared.op.Op.TheVariants.{Nop, PollAdd, Timeout, TimeoutRemove, AsyncCancel, LinkTimeout, Close, Read, Write, Splice, Invalid}
 use Rattle.entry.specs.Entry.{Entry}
-use Rattle.history.specs.declared.req.Req.{Req}
-use Rattle.history.specs.declared.event.Event.{Event}
 use Rattle.history.specs.declared.event.Event.TheVariants as event
-use Rattle.history.specs.History.{Phase, unborn, waits, runs, armed, replied, reaped, Submission, concerns, becomes, data_of, phase, reply, reply_in, fired, submission}
 use Rattle.history.specs.Chains.{is_link_timeout, hosts, placed_behind, placed_from, before_in}
 use Rattle.history.specs.Pipes.{Flow, flow, content, End, no_end, read_end, write_end, end_of}
 use Rattle.history.specs.Answers.{Answer, now, later, bad_end, answer_read, answer_write, answer_splice, answer_poll, free_in, most_spliced, read_events, write_events, is_pipe, read_from, write_to, splice_into, splice_of, close_of, poll_of, OpAnswers, Answers}
-use Rattle.history.specs.Legal.{Setup, Legal}
-use Rattle.history.proofs.Requests.{bool_cases, same_true}
 use Rattle.history.proofs.Growth.{MayChange, may_change, changed, unchanged}
 use Rattle.script.specs.Rows.{data_count}
+use Rattle.script.proofs.Common.{Bool, Event, Legal, List, None, Option, Phase, Req, Setup, Some, Submission, [], ap, armed, becomes, bit_and, bit_or, bool_cases, concerns, cond, data_of, false, fired, length, min, nat_le, nat_lt, negsuc, not, phase, pos, reaped, refl, replied, reply, reply_in, runs, same_true, submission, subst, sym, take, true, true≢false, unborn, waits, ℕ, ℤ, ⊎_elim, ◌&&◌, ◌==◌, ◌∙◌, ◌∷◌, ◌≡◌}
 
 -- ---- what answers come with
 

@@ -1,35 +1,15 @@
 -- What a client's calls make of what it has carried out and taken.
-use Rattle.std.proofs.Common.{◌≡◌, ℕ, zero, suc, ◌+◌, ◌<◌, ◌≤◌, ◌==◌, Bool, true, false, cond, List, [], ◌∷◌, ◌++◌, Some, length, drop, get_or, sym, refl, ap, ◌∙◌, subst, ⊎_elim, arith, true≢false, length-append}
-use Rattle.std.proofs.lemmas.Option.{none-some}
-use Rattle.std.specs.Prelude.{slice_get, slice_index}
-use Rattle.std.specs.Global.{Vec}
-use Rattle.std.proofs.Math.Seq.{drop-cons, get_or-append_seam}
 use Rattle.std.proofs.Math.ListN.{get_or-append}
 use Rattle.std.proofs.lemmas.Bool.Decides.{nat_tests}
 use Rattle.entry.specs.Entry.{Entry}
-use Rattle.history.specs.declared.req.Req.{Req}
-use Rattle.history.specs.declared.event.Event.{Event}
-use Rattle.history.specs.History.{Phase, unborn, replied, reaped, concerns, answers, data_in, data_of, phase, submits, adds_to, IsReplied}
-use Rattle.history.specs.Legal.{Setup, Legal}
+use Rattle.history.specs.History.{Phase}
 use Rattle.history.proofs.Requests.{bool_cases}
 use Rattle.history.proofs.Growth.{MayChange, may_change, counted, replied_of_reply, reply_stays, submission_stays}
-use Rattle.steps.specs.declared.line.Line.{Line}
 use Rattle.steps.specs.declared.line.Line.TheVariants.{Did, Freed, Lent, Noted, Hold, Free}
-use Rattle.steps.specs.declared.view.Role.{Role}
-use Rattle.steps.specs.declared.view.Role.TheVariants.{Submitter}
-use Rattle.steps.specs.Journal.{event_of, events_of}
 use Rattle.steps.specs.Rule.{owns, NoneOf}
-use Rattle.work.specs.Passes.{own_of}
-use Rattle.board.specs.declared.completion.Completion.{Completion}
 use Rattle.board.specs.Batches.{Entries, is_empty, submits_of}
-use Rattle.board.specs.Headline.{IsCompletion}
 use Rattle.board.specs.Lanes.{nth}
-use Rattle.script.specs.declared.act.Act.{Act}
-use Rattle.script.specs.declared.act.Act.TheVariants.{Submit}
-use Rattle.script.specs.declared.script.Script.{Script}
-use Rattle.script.specs.Carried.{HasCarried}
-use Rattle.script.proofs.CarriedLines.{carried_on, hands_next}
-use Rattle.script_run.specs.Hands.{IsEntryAt, AreEntries, AreTaken}
+use Rattle.script_run.proofs.Common.{Act, AreEntries, AreTaken, Bool, Completion, Event, HasCarried, IsCompletion, IsEntryAt, IsReplied, Legal, Line, List, Req, Role, Script, Setup, Some, Submit, Submitter, Vec, [], adds_to, answers, ap, arith, carried_on, concerns, cond, data_in, data_of, drop, drop-cons, event_of, events_of, false, get_or, get_or-append_seam, hands_next, length, length-append, none-some, own_of, phase, reaped, refl, replied, slice_get, slice_index, submits, subst, suc, sym, true, true≢false, unborn, zero, ℕ, ⊎_elim, ◌++◌, ◌+◌, ◌<◌, ◌==◌, ◌∙◌, ◌∷◌, ◌≡◌, ◌≤◌}
 
 -- ---- a completion stays one
 

@@ -1,35 +1,16 @@
 -- The clock of a script, line by line.
-use Rattle.std.proofs.Common.{◌≡◌, ◌⊎◌, ℕ, zero, suc, ◌+◌, ◌<◌, ◌≤◌, ◌&&◌, ◌||◌, ◌^◌, nat_le, min, max, Bool, true, false, List, [], ◌∷◌, ◌++◌, Option, Some, None, length, take, drop, get_or, sym, refl, ap, ◌∙◌, subst, ⊎_elim, arith, true≢false}
 use Rattle.std.proofs.Math.Bool.{or-false}
-use Rattle.std.specs.Prelude.{slice_get}
 use Rattle.std.specs.List.{list_all}
-use Rattle.std.proofs.lemmas.List.{take-append-drop, take_all}
-use Rattle.std.proofs.lemmas.Option.{slice_get_within, get_or_from_slice_get, none-some}
 use Rattle.std.proofs.lemmas.Bool.{and_parts, leb-true, leb-false}
-use Rattle.history.specs.declared.req.Req.{Req}
-use Rattle.history.specs.declared.event.Event.{Event}
-use Rattle.history.specs.History.{phase, clock_of}
-use Rattle.history.specs.Legal.{Setup, Allowed, Legal}
 use Rattle.history.specs.Ticked.{ticked}
-use Rattle.steps.specs.declared.line.Line.{Line}
-use Rattle.steps.specs.Journal.{events_of}
 use Rattle.board.specs.declared.phase.Phase.{Phase}
 use Rattle.board.specs.declared.phase.Phase.TheVariants.{Unborn, Held, Ready, Running, Done, Gone}
 use Rattle.board.specs.Calls.{Stands}
 use Rattle.controls.specs.Clocks.{Asked}
 use Rattle.history.proofs.Requests.{bool_cases}
-use Rattle.script.specs.declared.act.Act.{Act}
-use Rattle.script.specs.declared.script.Script.{Script}
-use Rattle.script.specs.Carried.{HasTimed, steps_in}
 use Rattle.script.specs.Rules.{is_clock_line, rises, keeps_limits, keeps_parts, keeps_acts, keeps_clock}
-use Rattle.script.specs.Tables.{is_done, is_replied, is_armed, holds_for}
-use Rattle.script.proofs.CarriedLines.{sets_next, clock_waited}
-use Rattle.script.proofs.Items.{rest_at, front_at}
-use Rattle.script_run.specs.declared.clock.ClockLine.{ClockLine}
-use Rattle.script_run.specs.declared.clock.ClockLine.TheVariants.{Wait, Armed, Tick}
 use Rattle.script_run.specs.ClockStays.{timed_stays}
-use Rattle.script_run.specs.ClockTries.{IsUndone, WasTried, IsAtLine}
-use Rattle.script_run.specs.ClockLines.{IsClockLine, AreClockLines, IsTimed, IsAlong, has_reply, is_ready, line_at, asked_at, asked_of}
+use Rattle.script_run.proofs.Common.{Act, Allowed, AreClockLines, Armed, Bool, ClockLine, Event, HasTimed, IsAlong, IsAtLine, IsClockLine, IsTimed, IsUndone, Legal, Line, List, None, Option, Req, Script, Setup, Some, Tick, Wait, WasTried, [], ap, arith, asked_at, asked_of, clock_of, clock_waited, drop, events_of, false, front_at, get_or, get_or_from_slice_get, has_reply, holds_for, is_armed, is_done, is_ready, is_replied, length, line_at, max, min, nat_le, none-some, phase, refl, rest_at, sets_next, slice_get, slice_get_within, steps_in, subst, suc, sym, take, take-append-drop, take_all, true, true≢false, zero, ℕ, ⊎_elim, ◌&&◌, ◌++◌, ◌+◌, ◌<◌, ◌^◌, ◌||◌, ◌∙◌, ◌∷◌, ◌≡◌, ◌≤◌, ◌⊎◌}
 
 pub timed_more : (c : Script) (lines : List ClockLine) (next : ℕ) (s : Setup) (more h : List Event) → Legal s (more ++ h) → ticked more ≡ 0 → IsTimed c lines next h → IsTimed c lines next (more ++ h)
 timed_more c lines next s [] h l none k = k

@@ -1,13 +1,6 @@
 -- Lists of hands, of clients and of rows, one element more or less.
-use Rattle.std.proofs.Common.{◌≡◌, ◌⊎◌, ℕ, zero, suc, ◌<◌, List, [], ◌∷◌, ◌++◌, length, map, reverse, slice_get, slice_index_or, length-append, Option, Some, None, inl, inr, ⊎_elim, refl, sym, ap, ◌∙◌, arith}
-use Rattle.std.proofs.lemmas.Option.{none-some}
-use Rattle.std.proofs.lemmas.List.{append_assoc, map-append, reverse-append}
-use Rattle.board.specs.declared.completion.Completion.{Completion}
-use Rattle.runtime.specs.Clients.{ClientFacts}
-use Rattle.script_run.specs.declared.hand.Hand.{Hand}
-use Rattle.script.specs.declared.script.Script.{Script}
-use Rattle.script_run.specs.Hands.{client_of, taken_by}
-use Rattle.script_run.specs.Tries.{AllCarriedOut, CarriedOut}
+use Rattle.std.proofs.Common.{slice_get}
+use Rattle.script_run.proofs.Common.{AllCarriedOut, CarriedOut, ClientFacts, Completion, Hand, List, None, Option, Script, Some, [], ap, append_assoc, arith, client_of, inl, inr, length, length-append, map, map-append, none-some, refl, reverse, reverse-append, slice_index_or, suc, sym, taken_by, zero, ℕ, ⊎_elim, ◌++◌, ◌<◌, ◌∙◌, ◌∷◌, ◌≡◌, ◌⊎◌}
 
 from : {X : Type 0} → Option X → X → X
 from None d = d

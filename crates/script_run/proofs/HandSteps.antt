@@ -1,43 +1,15 @@
 -- What a hand's calls make of it.
-use Rattle.std.proofs.Common.{◌≡◌, ◌⊎◌, ℕ, zero, suc, ◌+◌, ◌<◌, ◌≤◌, true, List, [], ◌∷◌, ◌++◌, Some, length, take, drop, get_or, nat_lt, sym, refl, ap, ◌∙◌, subst, arith}
-use Rattle.std.specs.Prelude.{slice_get}
-use Rattle.std.specs.Global.{Vec}
-use Rattle.std.proofs.Math.Seq.{take-length}
-use Rattle.std.proofs.lemmas.List.{take-append-drop}
-use Rattle.std.proofs.lemmas.Option.{slice_get_read}
 use Rattle.std.proofs.lemmas.Bool.Decides.{nat_tests}
 use mathlib.Core.Logic.{dite}
 use native.Mathlib.Decide.{ℕ_discrete}
-use Rattle.std.proofs.Common.{true≢false, add-one, Option, None, ⊎_elim}
-use Rattle.history.specs.declared.req.Req.{Req}
-use Rattle.history.specs.declared.event.Event.{Event}
-use Rattle.history.specs.History.{submits, phase, replied, reaped, IsReplied}
-use Rattle.history.specs.Legal.{Legal}
-use Rattle.steps.specs.declared.line.Line.{Line}
-use Rattle.steps.specs.declared.view.Role.{Role}
-use Rattle.steps.specs.declared.view.Role.TheVariants.{Submitter}
-use Rattle.steps.specs.Journal.{events_of}
 use Rattle.steps.specs.Cells.{setup_of}
-use Rattle.work.specs.Board.{Facts}
-use Rattle.work.specs.Passes.{Pass, seen_of, own_of}
-use Rattle.board.specs.declared.completion.Completion.{Completion}
 use Rattle.board.specs.declared.phase.Phase.{Phase}
 use Rattle.board.specs.declared.phase.Phase.TheVariants.{Done, Gone}
 use Rattle.board.specs.Batches.{Entries, submits_of}
 use Rattle.board.specs.Calls.{Goes, Stands, next_of}
-use Rattle.board.specs.Headline.{IsCompletion}
-use Rattle.script.specs.declared.act.Act.{Act}
-use Rattle.script.specs.declared.script.Script.{Script}
-use Rattle.script.specs.Carried.{HasCarried}
 use Rattle.script.specs.Homes.{home}
-use Rattle.script.specs.Tables.{is_done, is_replied, holds_for}
-use Rattle.script.proofs.CarriedLines.{line_handed, line_done}
-use Rattle.script.proofs.Items.{rest_at, front_at}
-use Rattle.script_run.specs.declared.hand.Hand.{Hand}
-use Rattle.script_run.specs.ClockLines.{has_reply}
-use Rattle.script_run.specs.Tries.{IsInVain, TriedInVain, RanOut, IfStuck, IsFor, IsLowest, IsStuckLine}
 use Rattle.script_run.specs.declared.lines.Halt.{Halt}
-use Rattle.script_run.specs.Hands.{seen_by, AreTaken, AreEntries, Stayed, HandAt, Went, HandedIn, Carries, IsCarried, IsThrough}
+use Rattle.script_run.proofs.Common.{Act, AreEntries, AreTaken, Carries, Completion, Event, Facts, Hand, HandAt, HandedIn, HasCarried, IfStuck, IsCarried, IsCompletion, IsFor, IsInVain, IsLowest, IsReplied, IsStuckLine, IsThrough, Legal, Line, List, None, Option, Pass, RanOut, Req, Role, Script, Some, Stayed, Submitter, TriedInVain, Vec, Went, [], add-one, ap, arith, drop, events_of, front_at, get_or, has_reply, holds_for, is_done, is_replied, length, line_done, line_handed, nat_lt, own_of, phase, reaped, refl, replied, rest_at, seen_by, seen_of, slice_get, slice_get_read, submits, subst, suc, sym, take, take-append-drop, take-length, true, true≢false, zero, ℕ, ⊎_elim, ◌++◌, ◌+◌, ◌<◌, ◌∙◌, ◌∷◌, ◌≡◌, ◌≤◌, ◌⊎◌}
 use Rattle.script_run.proofs.ClientCalls.{taken_by_line, taken_more, carried_by, batch_handed}
 
 -- a pass that went on has seen a legal history

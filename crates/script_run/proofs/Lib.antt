@@ -1,3 +1,4 @@
+mod Common
 mod StuckRuns
 pub mod ClientCalls
 pub mod ClockSteps

@@ -1,30 +1,10 @@
 -- The hands of a run, from its start to the end of all lines.
-use Rattle.std.proofs.Common.{◌≡◌, ℕ, zero, suc, ◌+◌, ◌<◌, ◌≤◌, Bool, List, [], ◌∷◌, ◌++◌, All, None, length, map, drop, get_or, sym, refl, ap, ◌∙◌, subst, arith}
-use Rattle.std.specs.Prelude.{IfOk, Result, Ok, Err}
-use Rattle.std.proofs.lemmas.List.{length-map, get_or-map}
-use Rattle.steps.specs.declared.line.Line.{Line}
-use Rattle.steps.specs.declared.view.Role.TheVariants.{Poller, Submitter}
 use Rattle.steps.specs.Cells
-use Rattle.steps.specs.Journal.{events_of}
-use Rattle.work.specs.Board.{Facts}
-use Rattle.work.specs.Passes.{Pass, seen_of}
-use Rattle.board.specs.Reports.{IsReport}
-use Rattle.board.specs.declared.completion.Completion.{Completion}
 use Rattle.board.specs.declared.shape.RingShape.{RingShape}
 use Rattle.board.specs.declared.shape.Shape.{Shape}
 use Rattle.board.specs.ShapeLimits.{counts}
-use Rattle.runtime.specs.Clients.{ClientFacts, submitter_of, AreClients, AreNewClients, IsNewClient, IsStarted}
 use Rattle.runtime.specs.Rests.{CameToRest}
-use Rattle.script.specs.declared.script.Script.{Script}
-use Rattle.script.specs.Carried.{HasCarried}
-use Rattle.script.specs.Tables.{setup_of}
-use Rattle.script_run.specs.declared.hand.Hand.{Hand}
-use Rattle.script_run.specs.Hands.{client_of, taken_by, AreTaken, AreNew, IsNewHand, IsCarried}
-use Rattle.script_run.specs.Tries.{AllCarriedOut}
-use Rattle.script_run.specs.Played.{AreInOrder, AreStarting, IsPlayed}
-use Rattle.script_run.specs.declared.clock.ClockLine.{ClockLine}
-use Rattle.script_run.specs.ClockLines.{AreClockLines, IsAlong}
-use Rattle.script_run.specs.ClockTries.{IsAtLine}
+use Rattle.script_run.proofs.Common.{All, AllCarriedOut, AreClients, AreClockLines, AreInOrder, AreNew, AreNewClients, AreStarting, AreTaken, Bool, ClientFacts, ClockLine, Completion, Err, Facts, Hand, HasCarried, IfOk, IsAlong, IsAtLine, IsCarried, IsNewClient, IsNewHand, IsPlayed, IsReport, IsStarted, Line, List, None, Ok, Pass, Poller, Result, Script, Submitter, [], ap, arith, client_of, drop, events_of, get_or, get_or-map, length, length-map, map, refl, seen_of, setup_of, submitter_of, subst, suc, sym, taken_by, zero, ℕ, ◌++◌, ◌+◌, ◌<◌, ◌∙◌, ◌∷◌, ◌≡◌, ◌≤◌}
 use Rattle.script_run.proofs.ClockSteps.{ends}
 
 -- ---- the end of all lines

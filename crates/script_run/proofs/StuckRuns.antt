@@ -1,30 +1,9 @@
 -- A run that is stuck: at a ring's line, or at the clock's.
-use Rattle.std.proofs.Common.{◌≡◌, ℕ, zero, suc, ◌+◌, ◌<◌, ◌||◌, ◌++◌, max, length, take, drop, Bool, false, List, ◌∷◌, Some, All, map, sym, ap, ◌∙◌, subst, arith}
-use Rattle.std.specs.Prelude.{slice_get}
-use Rattle.history.specs.declared.event.Event.{Event}
-use Rattle.steps.specs.declared.view.Role.TheVariants.{Poller}
-use Rattle.work.specs.Board.{Facts}
-use Rattle.work.specs.Passes.{Pass, seen_of}
-use Rattle.board.specs.declared.completion.Completion.{Completion}
-use Rattle.board.specs.Reports.{IsReport}
-use Rattle.runtime.specs.Clients.{ClientFacts, submitter_of}
 use Rattle.runtime.specs.Rests.{CameToRest}
-use Rattle.script.specs.declared.act.Act.{Act}
-use Rattle.script.specs.declared.script.Script.{Script}
-use Rattle.script.specs.Carried.{HasTimed}
-use Rattle.script.specs.Tables.{is_done, is_replied, is_armed, holds_for}
-use Rattle.script_run.specs.declared.clock.ClockLine.{ClockLine}
-use Rattle.script_run.specs.declared.clock.ClockLine.TheVariants.{Wait, Armed, Tick}
 use Rattle.script_run.specs.declared.clock.Ended.{Ended}
-use Rattle.script_run.specs.declared.hand.Hand.{Hand}
 use Rattle.script_run.specs.declared.fault.RunFault.{RunFault}
-use Rattle.script_run.specs.ClockLines.{AreClockLines, IsClockLine, IsTimed}
-use Rattle.script_run.specs.ClockTries.{EndsAs, IsAtLine, IsOfPlace, IsUndone, WasTried}
 use Rattle.script_run.specs.Faults.{IfStuckOn, IsUnstuck}
-use Rattle.script_run.specs.Hands.{IsCarried}
-use Rattle.script_run.specs.Played.{AreInOrder, AreStarting, IsStartedFor}
-use Rattle.script_run.specs.Tries.{AllCarriedOut, IsFor, IsLowest}
-use Rattle.script_run.specs.Stuck.{HasLabel, IsStuck, IsStuckClock, IsStuckOn, IsStuckRing, WasUndone}
+use Rattle.script_run.proofs.Common.{Act, All, AllCarriedOut, AreClockLines, AreInOrder, AreStarting, Armed, Bool, ClientFacts, ClockLine, Completion, EndsAs, Event, Facts, Hand, HasLabel, HasTimed, IsAtLine, IsCarried, IsClockLine, IsFor, IsLowest, IsOfPlace, IsReport, IsStartedFor, IsStuck, IsStuckClock, IsStuckOn, IsStuckRing, IsTimed, IsUndone, List, Pass, Poller, Script, Some, Tick, Wait, WasTried, WasUndone, ap, arith, drop, false, holds_for, is_armed, is_done, is_replied, length, map, max, seen_of, slice_get, submitter_of, subst, suc, sym, take, zero, ℕ, ◌++◌, ◌+◌, ◌<◌, ◌||◌, ◌∙◌, ◌∷◌, ◌≡◌}
 use Rattle.script_run.proofs.ClockSteps.{act_at, around}
 use Rattle.script_run.proofs.RunSteps.{in_order}
 

@@ -1,45 +1,17 @@
 -- The table of a run is one of the script's tables.
-use Rattle.std.proofs.Common.{◌≡◌, ℕ, zero, suc, ◌<◌, ◌≤◌, Bool, true, false, ℤ, List, [], ◌∷◌, ◌++◌, Option, Some, None, length, map, take, drop, get_or, sym, refl, ap, ◌∙◌, subst, ⊎_elim, arith, true≢false}
-use Rattle.std.specs.Prelude.{slice_get}
 use Rattle.std.specs.Option.{option_map}
-use Rattle.std.specs.Global.{Vec}
-use Rattle.std.proofs.lemmas.Option.{slice_get_cases, slice_get_within, slice_get-map, none-some}
-use Rattle.std.proofs.lemmas.List.{length-map, take-append-le, get_or-map}
-use Rattle.std.proofs.Math.Seq.{take-length}
-use Rattle.history.specs.declared.req.Req.{Req}
-use Rattle.history.specs.declared.event.Event.{Event}
-use Rattle.history.specs.History.{data_of, was_shut}
-use Rattle.history.specs.Legal.{Setup, Legal}
 use Rattle.history.specs.Ticked.{counts_tick}
-use Rattle.steps.specs.declared.line.Line.{Line}
 use Rattle.steps.specs.declared.line.Line.TheVariants.{Did}
-use Rattle.steps.specs.declared.view.Role.{Role}
-use Rattle.steps.specs.declared.view.Role.TheVariants.{Poller, Submitter}
-use Rattle.steps.specs.Journal.{events_of}
 use Rattle.steps.specs.Cells
 use Rattle.steps.specs.Rule.{owns, NoneOf, Saw}
-use Rattle.work.specs.Board.{Facts}
-use Rattle.work.specs.Passes.{Pass}
-use Rattle.board.specs.declared.completion.Completion.{Completion}
-use Rattle.board.specs.Headline.{IsCompletion}
-use Rattle.board.specs.Reports.{SawOwnLines, ended, AllTell}
-use Rattle.runtime.specs.Clients.{submitter_of}
-use Rattle.script.specs.declared.act.Act.{Act}
 use Rattle.entry.specs.Entry.{Entry}
-use Rattle.script.specs.declared.script.Script.{Script}
-use Rattle.script.specs.Carried.{HasCarried, HasTimed, KeepsRing}
 use Rattle.script.specs.Homes.{home, AreHomes}
 use Rattle.script.specs.Rows.{data_count}
-use Rattle.script.specs.Tables.{setup_of, Keeps, row_of, IsTableOf}
-use Rattle.script.proofs.CarriedLines.{timed_on, ring_at_end, clock_at_end, all_keep, none_keeps}
 use Rattle.script.proofs.CountedLines.{acts_long}
 use Rattle.script.proofs.HomeEntries.{handed_home}
 use Rattle.script.proofs.HomesRead.{home_is}
 use Rattle.script.proofs.RowData.{data_long}
-use Rattle.script_run.specs.declared.hand.Hand.{Hand}
-use Rattle.script_run.specs.Hands.{client_of, taken_by, AreTaken, HandAt, IsCarried}
-use Rattle.script_run.specs.Played.{IsPlayed}
-use Rattle.script_run.specs.RunRows.{IsFound, IsRow, AreRows}
+use Rattle.script_run.proofs.Common.{Act, AllTell, AreRows, AreTaken, Bool, Completion, Event, Facts, Hand, HandAt, HasCarried, HasTimed, IsCarried, IsCompletion, IsFound, IsPlayed, IsRow, IsTableOf, Keeps, KeepsRing, Legal, Line, List, None, Option, Pass, Poller, Req, Role, SawOwnLines, Script, Setup, Some, Submitter, Vec, [], all_keep, ap, arith, client_of, clock_at_end, data_of, drop, ended, events_of, false, get_or, get_or-map, length, length-map, map, none-some, none_keeps, refl, ring_at_end, row_of, setup_of, slice_get, slice_get-map, slice_get_cases, slice_get_within, submitter_of, subst, suc, sym, take, take-append-le, take-length, taken_by, timed_on, true, true≢false, was_shut, zero, ℕ, ℤ, ⊎_elim, ◌++◌, ◌<◌, ◌∙◌, ◌∷◌, ◌≡◌, ◌≤◌}
 use Rattle.script_run.proofs.ClientCalls.{all_taken, carried_without, taken_by_line}
 
 -- ---- the history that was ended

@@ -1,26 +1,8 @@
 -- The parts of a text without a fault keep the rules of scripts.
-use Rattle.std.proofs.Common.{◌≡◌, ◌<◌, ◌≤◌, ℕ, zero, suc, Bool, true, List, [], ◌∷◌, ◌++◌, ◌&&◌, Option, None, Some, length, refl, sym, ap, subst, ◌∙◌, arith, IsTrue}
-use Rattle.std.specs.Prelude.{◌==◌, map, nat_le, nat_lt, not, reverse, slice_get}
-use Rattle.std.specs.Global.{Vec}
-use Rattle.std.specs.List.{list_all}
-use Rattle.std.specs.Option.{option_map}
-use Rattle.std.proofs.lemmas.Bool.{and_from, eq-eqb, le-leb, lt-ltb, not-false}
-use Rattle.std.proofs.lemmas.List.{length-map}
-use Rattle.std.proofs.lemmas.List.Folds.{list_all-map}
-use Rattle.std.proofs.lemmas.Option.{slice_get-map}
 use Rattle.limits.specs.Limits.{is_capacity}
-use Rattle.limits.specs.declared.TheConstants.{ENTRIES, PIPES, RINGS}
-use Rattle.script.specs.Rules.{are_lines, each_once, has_own_label, is_clock_line, is_entry, is_ring, is_ring_line, is_timed_at, keeps_acts, keeps_clock, keeps_limits, keeps_parts, keeps_rules, labels_differ, places_in, places_of, rises}
-use Rattle.script.specs.declared.act.Act.{Act}
-use Rattle.script.specs.declared.named.Named.{Named}
-use Rattle.script_text.specs.declared.actor.Actor.{Actor}
+use Rattle.script.specs.Rules.{is_ring}
 use Rattle.script_text.specs.declared.parts.Parts.{Parts}
-use Rattle.script_text.specs.Above.{Deed, Entered, deeds_in, has_ring_in, stated_in}
-use Rattle.script_text.specs.Acts.{deed, deeds, deeds_at}
-use Rattle.script_text.specs.Parts.{Stands, all_entered, entered}
-use Rattle.script_text.specs.Scripts.{IsFaultless}
-use Rattle.script_text.specs.Sentences.{Sentence, above_of, line_at}
-use Rattle.script_text.specs.TextWords.{is_same}
+use Rattle.script_text.proofs.Common.{Act, Actor, Bool, Deed, ENTRIES, Entered, IsFaultless, IsTrue, List, Named, None, Option, PIPES, RINGS, Sentence, Some, Stands, Vec, [], above_of, all_entered, and_from, ap, are_lines, arith, deed, deeds, deeds_at, deeds_in, each_once, entered, eq-eqb, has_own_label, has_ring_in, is_clock_line, is_entry, is_ring_line, is_same, is_timed_at, keeps_acts, keeps_clock, keeps_limits, keeps_parts, keeps_rules, labels_differ, le-leb, length, length-map, line_at, list_all, list_all-map, lt-ltb, map, nat_le, nat_lt, not, not-false, option_map, places_in, places_of, refl, reverse, rises, slice_get, slice_get-map, stated_in, subst, suc, sym, true, zero, ℕ, ◌&&◌, ◌++◌, ◌<◌, ◌==◌, ◌∙◌, ◌∷◌, ◌≡◌, ◌≤◌}
 use Rattle.script_text.proofs.CleanActs.{AtRing, deed_fits, ring_ok}
 use Rattle.script_text.proofs.CleanClock.{clock_fits, clock_ok, deeds_rise, rises_ok, timed_at}
 use Rattle.script_text.proofs.CleanEntries.{distinct, entries_ok, entry_ok, labels_ok}

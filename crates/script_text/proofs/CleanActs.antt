@@ -1,23 +1,6 @@
 -- The lines of actors, where no line has a fault: each fits its ring or the clock, and the clock never goes back.
-use Rattle.std.proofs.Common.{◌≡◌, ◌<◌, ◌≤◌, ◌+◌, ℕ, zero, suc, Bool, true, false, List, [], ◌∷◌, ◌++◌, ◌&&◌, Option, None, Some, cond, length, get_or, refl, sym, ap, subst, ◌∙◌, arith}
-use Rattle.std.specs.Prelude.{◌==◌, MatchOption, nat_le, nat_lt, not, slice_get}
-use Rattle.std.specs.List.{list_all, position_or_len}
-use Rattle.std.proofs.lemmas.Bool.{and_from, and_parts, cond_both, eqb-true, le-leb, lt-ltb, ltb-false, ltb-true}
-use Rattle.std.proofs.lemmas.List.{length_push}
-use Rattle.std.proofs.lemmas.List.Folds.{find_at, list_all-append}
-use Rattle.std.proofs.lemmas.Option.{slice_get-get_or, slice_get_within}
-use Rattle.entry.specs.Entry.{Entry}
 use Rattle.text.specs.Number.{number_in}
-use Rattle.script_text.specs.declared.actor.Actor.{Actor}
-use Rattle.script_text.specs.declared.keyword.Keyword.{Keyword}
-use Rattle.script_text.specs.declared.keyword.Keyword.TheVariants.{Ring, On, Submit, Wait, Tick, Armed}
-use Rattle.script_text.specs.Above.{Deed, actor_in, actor_with, batch_in, batch_with, deeds_in, deeds_with, is_same_actor, place_in, rings_in, rings_with, sets, stated_in, stated_with, submits, waits, waits_armed}
-use Rattle.script_text.specs.Actors.{IsKnown, is_clock, named_actor, ring_named}
-use Rattle.script_text.specs.EntryLines.{Stated, declares, label_faults, line_of, place_of, unknown_faults}
-use Rattle.script_text.specs.LineFaults.{Standing, is_longer, is_long_batch}
-use Rattle.script_text.specs.Scripts.{is_left, standing_in}
-use Rattle.script_text.specs.Sentences.{Sentence, first_of}
-use Rattle.script_text.specs.TextWords.{word_at}
+use Rattle.script_text.proofs.Common.{Actor, Armed, Bool, Deed, Entry, IsKnown, Keyword, List, MatchOption, None, On, Option, Ring, Sentence, Some, Standing, Stated, Submit, Tick, Wait, [], actor_in, actor_with, and_from, and_parts, ap, arith, batch_in, batch_with, cond, cond_both, declares, deeds_in, deeds_with, eqb-true, false, find_at, first_of, get_or, is_clock, is_left, is_long_batch, is_longer, is_same_actor, label_faults, le-leb, length, length_push, line_of, list_all, list_all-append, lt-ltb, ltb-false, ltb-true, named_actor, nat_le, nat_lt, not, place_in, place_of, position_or_len, refl, ring_named, rings_in, rings_with, sets, slice_get, slice_get-get_or, slice_get_within, standing_in, stated_in, stated_with, submits, subst, suc, sym, true, unknown_faults, waits, waits_armed, word_at, zero, ℕ, ◌&&◌, ◌++◌, ◌+◌, ◌<◌, ◌==◌, ◌∙◌, ◌∷◌, ◌≡◌, ◌≤◌}
 use Rattle.script_text.proofs.CleanLines.{AreClean, is_clean}
 use Rattle.script_text.proofs.NoFault.{IsClean, IsCleanIf, both_nil, no_fault_if}
 use Rattle.script_text.proofs.ReadingLines.{stated_bounds}

@@ -1,33 +1,8 @@
 -- The lines of the clock, where no line has a fault: each fits it, and the clock never goes back.
-use Rattle.std.proofs.Common.{◌≡◌, ◌≤◌, ◌+◌, ℕ, zero, suc, Bool, true, false, List, [], ◌∷◌, ◌++◌, ◌&&◌, Option, None, Some, cond, length, refl, sym, subst, arith}
-use Rattle.std.specs.Prelude.{◌==◌, ◌||◌, bit_and, nat_le, nat_lt, slice_get}
-use Rattle.std.specs.List.{list_all}
-use Rattle.std.proofs.lemmas.Bool.{and_from, and_parts, cond_both, le-leb, leb-true, lt-ltb}
-use Rattle.std.proofs.lemmas.List.Folds.{list_all-append}
-use Rattle.entry.specs.Entry.{Entry}
-use Rattle.entry.specs.Table.{allowed_flags}
 use Rattle.entry.specs.declared.op.Op.{Op}
-use Rattle.limits.specs.declared.TheConstants.{ENTRIES, TICK}
-use Rattle.prep.specs.Built.{flagged, link_timeout_op, plain, timeout_count_op}
-use Rattle.script.specs.Rules.{is_timed_op}
 use Rattle.text.specs.Number.{number_in}
-use Rattle.script_text.specs.declared.actor.Actor.{Actor}
-use Rattle.script_text.specs.declared.fault.Fault.TheVariants.{OutOfRange}
-use Rattle.script_text.specs.declared.keyword.Kind.{Kind}
-use Rattle.script_text.specs.declared.keyword.Kind.TheVariants.{Timeout, LinkTimeout}
-use Rattle.script_text.specs.declared.keyword.Keyword.{Keyword}
-use Rattle.script_text.specs.declared.keyword.Keyword.TheVariants.{Submit, Wait, Tick, Armed}
-use Rattle.script_text.specs.Above.{Deed, Entered, actor_in, batch_in, deeds_in, deeds_with, entered_in, entered_line, entered_with, is_same_actor, place_in, sets, stated_in, stated_line, stated_with, submits, time_in, time_with, waits, waits_armed}
-use Rattle.script_text.specs.Actors.{is_clock, is_ring}
-use Rattle.script_text.specs.EntryLines.{Stated, count_of, etime_bit, line_of, options_of, ticks_in}
-use Rattle.script_text.specs.Options.{flags_in, has_etime}
 use Rattle.script_text.specs.Keywords.{is_timer}
-use Rattle.script_text.specs.LineEntries.{line_entry}
-use Rattle.script_text.specs.LineFaults.{Standing, may_be_timer}
-use Rattle.script_text.specs.Noted.{number_or, range_faults}
-use Rattle.script_text.specs.Scripts.{is_left, standing_in}
-use Rattle.script_text.specs.Sentences.{Sentence, first_of}
-use Rattle.script_text.specs.TextWords.{word_at}
+use Rattle.script_text.proofs.Common.{Actor, Armed, Bool, Deed, ENTRIES, Entered, Entry, Keyword, Kind, LinkTimeout, List, None, Option, OutOfRange, Sentence, Some, Standing, Stated, Submit, TICK, Tick, Timeout, Wait, [], actor_in, allowed_flags, and_from, and_parts, arith, batch_in, bit_and, cond, cond_both, count_of, deeds_in, deeds_with, entered_in, entered_line, entered_with, etime_bit, false, first_of, flagged, flags_in, has_etime, is_clock, is_left, is_ring, is_same_actor, is_timed_op, le-leb, leb-true, length, line_entry, line_of, link_timeout_op, list_all, list_all-append, lt-ltb, may_be_timer, nat_le, nat_lt, number_or, options_of, place_in, plain, range_faults, refl, sets, slice_get, standing_in, stated_in, stated_line, stated_with, submits, subst, suc, sym, ticks_in, time_in, time_with, timeout_count_op, true, waits, waits_armed, word_at, zero, ℕ, ◌&&◌, ◌++◌, ◌+◌, ◌==◌, ◌||◌, ◌∷◌, ◌≡◌, ◌≤◌}
 use Rattle.script_text.proofs.CleanLines.{AreClean, is_clean, number_within}
 use Rattle.script_text.proofs.CleanActs.{clock_is, has_place, place_below, same_clock}
 use Rattle.script_text.proofs.NoFault.{IsClean, IsCleanIf, is_ring_from_pending}

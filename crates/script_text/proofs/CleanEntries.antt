@@ -1,30 +1,7 @@
 -- Entry lines, where no line has a fault: their labels differ, and each buffer fits its entry.
-use Rattle.std.proofs.Common.{◌≡◌, ◌≤◌, ◌+◌, ℕ, pos, Bool, true, false, List, [], ◌∷◌, ◌++◌, ◌&&◌, Option, None, Some, cond, length, replicate, refl, sym, ap, ◌∙◌, arith}
-use Rattle.std.specs.Prelude.{◌==◌, ◌||◌, bit_and, codes, map, nat_le, nat_lt, not}
-use Rattle.std.specs.List.{list_all, list_any}
-use Rattle.std.proofs.lemmas.Bool.{and_from, and_parts, cond_both, eq-eqb, le-leb, lt-ltb, ltb-false, not_from_false, or_parts}
-use Rattle.std.proofs.lemmas.List.{length-replicate, length_push, map_push}
-use Rattle.std.proofs.lemmas.List.Folds.{list_all-append}
-use Rattle.entry.specs.Entry.{Entry}
-use Rattle.entry.specs.Table.{allowed_flags}
 use Rattle.entry.specs.declared.op.Op.{Op}
-use Rattle.limits.specs.declared.TheConstants.{BUFFER, ENTRIES, FD, LENGTH}
-use Rattle.prep.specs.Built.{flagged, link_timeout_op, offset_of, plain, poll_op, splice_op, timeout_count_op}
-use Rattle.script.specs.Rules.{fits_buffer, is_label}
 use Rattle.text.specs.Number.{number_in}
-use Rattle.script_text.specs.declared.fault.Fault.TheVariants.{BadBytes, OutOfRange}
-use Rattle.script_text.specs.declared.keyword.Kind.{Kind}
-use Rattle.script_text.specs.declared.keyword.Kind.TheVariants.{Nop, Read, Write, Close, Poll, Timeout, LinkTimeout, Cancel, Remove, Splice, Raw}
-use Rattle.script_text.specs.declared.keyword.Keyword.{Keyword}
-use Rattle.script_text.specs.Above.{Entered, actor_in, entered_in, entered_line, entered_with, stated_in, stated_line, stated_with}
-use Rattle.script_text.specs.EntryLines.{Stated, argument_faults, count_of, declares, etime_bit, fd_in, len_in, len_of, mask_in, options_of, splice_len_in, target_in, text_bytes, text_faults, text_len, ticks_in}
-use Rattle.script_text.specs.LineEntries.{line_buffer, line_entry}
-use Rattle.script_text.specs.LineFaults.{Standing, declare_faults, kind_faults}
-use Rattle.script_text.specs.Noted.{number_faults}
-use Rattle.script_text.specs.Options.{bit_if, flags_in, has_all, has_etime, has_option, option_faults}
-use Rattle.script_text.specs.Scripts.{is_left, standing_in}
-use Rattle.script_text.specs.Sentences.{Sentence, first_of}
-use Rattle.script_text.specs.TextWords.{is_same, word_at}
+use Rattle.script_text.proofs.Common.{BUFFER, BadBytes, Bool, Cancel, Close, ENTRIES, Entered, Entry, FD, Keyword, Kind, LENGTH, LinkTimeout, List, None, Nop, Option, OutOfRange, Poll, Raw, Read, Remove, Sentence, Some, Splice, Standing, Stated, Timeout, Write, [], actor_in, allowed_flags, and_from, and_parts, ap, argument_faults, arith, bit_and, bit_if, codes, cond, cond_both, count_of, declare_faults, declares, entered_in, entered_line, entered_with, eq-eqb, etime_bit, false, fd_in, first_of, fits_buffer, flagged, flags_in, has_all, has_etime, has_option, is_label, is_left, is_same, kind_faults, le-leb, len_in, len_of, length, length-replicate, length_push, line_buffer, line_entry, link_timeout_op, list_all, list_all-append, list_any, lt-ltb, ltb-false, map, map_push, mask_in, nat_le, nat_lt, not, not_from_false, number_faults, offset_of, option_faults, options_of, or_parts, plain, poll_op, pos, refl, replicate, splice_len_in, splice_op, standing_in, stated_in, stated_line, stated_with, sym, target_in, text_bytes, text_faults, text_len, ticks_in, timeout_count_op, true, word_at, ℕ, ◌&&◌, ◌++◌, ◌+◌, ◌==◌, ◌||◌, ◌∙◌, ◌∷◌, ◌≡◌, ◌≤◌}
 use Rattle.script_text.proofs.CleanLines.{AreClean, is_clean, number_within}
 use Rattle.script_text.proofs.NoFault.{IsClean, IsCleanIf, both_nil, clean_entry, long_entry, no_fault_if}
 use Rattle.script_text.proofs.ReadingLines.{any_map, label_stated}

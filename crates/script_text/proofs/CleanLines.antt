@@ -1,26 +1,9 @@
 -- Lines of which none has a fault, and what they declare: pipes and rings.
-use Rattle.std.proofs.Common.{◌≡◌, ◌<◌, ◌≤◌, ◌+◌, ℕ, zero, suc, Bool, true, List, [], ◌∷◌, ◌&&◌, Option, None, Some, length, refl, ap, arith}
-use Rattle.std.specs.Prelude.{nat_le, nat_lt, reverse}
 use Rattle.std.specs.Int.{is_power_of_two}
-use Rattle.std.specs.List.{list_all}
-use Rattle.std.proofs.lemmas.Bool.{and_from, and_parts, cond_both, le-leb, leb-false, leb-true, lt-ltb, not-false}
-use Rattle.std.proofs.lemmas.List.{length_push}
-use Rattle.std.proofs.lemmas.List.Folds.{list_all-append}
-use Rattle.entry.specs.Entry.{Entry}
 use Rattle.limits.specs.Limits.{is_capacity, is_cells, is_posts}
-use Rattle.limits.specs.declared.TheConstants.{CAPACITY, CELLS, PIPES, POSTS, RINGS}
 use Rattle.script.specs.Rules.{is_ring}
 use Rattle.text.specs.Number.{number_in}
-use Rattle.script_text.specs.declared.keyword.Keyword.{Keyword}
-use Rattle.script_text.specs.declared.keyword.Keyword.TheVariants.{Pipe, Ring}
-use Rattle.script_text.specs.Above.{actor_in, has_ring_in, has_ring_with, pipes_in, pipes_with, rings_in, rings_with, stated_in}
-use Rattle.script_text.specs.EntryLines.{Stated}
-use Rattle.script_text.specs.LineEntries.{posts_in}
-use Rattle.script_text.specs.LineFaults.{Standing}
-use Rattle.script_text.specs.Noted.{number_or}
-use Rattle.script_text.specs.Scripts.{IsFaultless, faults_of, is_headless, is_left, standing_in}
-use Rattle.script_text.specs.Sentences.{Sentence, above_of, first_of}
-use Rattle.script_text.specs.TextWords.{word_at}
+use Rattle.script_text.proofs.Common.{Bool, CAPACITY, CELLS, Entry, IsFaultless, Keyword, List, None, Option, PIPES, POSTS, Pipe, RINGS, Ring, Sentence, Some, Standing, Stated, [], above_of, actor_in, and_from, and_parts, ap, arith, cond_both, faults_of, first_of, has_ring_in, has_ring_with, is_headless, is_left, le-leb, leb-false, leb-true, length, length_push, list_all, list_all-append, lt-ltb, nat_le, nat_lt, not-false, number_or, pipes_in, pipes_with, posts_in, refl, reverse, rings_in, rings_with, standing_in, stated_in, suc, true, word_at, zero, ℕ, ◌&&◌, ◌+◌, ◌<◌, ◌∷◌, ◌≡◌, ◌≤◌}
 use Rattle.script_text.proofs.LinesAbove.{above_more, length_above}
 use Rattle.script_text.proofs.NoFault.{IsClean, IsCleanIf, IsCleanLine, both_nil, clean_line, few_rings, no_fault_if}
 

@@ -1,24 +1,7 @@
 -- Where no line has a fault each entry is submitted once.
-use Rattle.std.proofs.Common.{◌≡◌, ◌<◌, ◌≤◌, ◌+◌, ℕ, zero, suc, Bool, true, false, List, [], ◌∷◌, ◌++◌, ◌&&◌, Option, Some, append_assoc, cond, length, refl, sym, ap, subst, ◌∙◌, arith, ⊎_elim}
-use Rattle.std.specs.Prelude.{◌==◌, ◌⊎◌, count_by, nat_lt}
-use Rattle.std.proofs.lemmas.Bool.{cases_order, cond_both, eq-eqb, le-ltb, lt-ltb, ltb-false, ne_eqb}
-use Rattle.std.proofs.lemmas.List.{length_push}
 use Rattle.std.proofs.lemmas.List.Sums.{sum_by-append}
-use Rattle.entry.specs.Entry.{Entry}
-use Rattle.limits.specs.declared.TheConstants.{TICK}
 use Rattle.text.specs.Number.{number_in}
-use Rattle.script_text.specs.declared.actor.Actor.{Actor}
-use Rattle.script_text.specs.declared.keyword.Kind.{Kind}
-use Rattle.script_text.specs.declared.keyword.Keyword.{Keyword}
-use Rattle.script_text.specs.declared.keyword.Keyword.TheVariants.{Ring, Submit, Wait, Tick, Armed}
-use Rattle.script_text.specs.Above.{Deed, actor_in, batch_in, batch_with, deeds_in, deeds_with, is_same_actor, last_submit_in, last_submit_with, place_in, rings_in, rings_with, sets, stated_in, stated_with, submits, waits, waits_armed}
-use Rattle.script_text.specs.Actors.{IsKnown, is_ring}
-use Rattle.script_text.specs.EntryLines.{Stated}
-use Rattle.script_text.specs.LineFaults.{Standing}
-use Rattle.script_text.specs.Noted.{number_or}
-use Rattle.script_text.specs.TextWords.{word_at}
-use Rattle.script_text.specs.Scripts.{is_left, standing_in}
-use Rattle.script_text.specs.Sentences.{Sentence, first_of}
+use Rattle.script_text.proofs.Common.{Actor, Armed, Bool, Deed, Entry, IsKnown, Keyword, Kind, List, Option, Ring, Sentence, Some, Standing, Stated, Submit, TICK, Tick, Wait, [], actor_in, ap, append_assoc, arith, batch_in, batch_with, cases_order, cond, cond_both, count_by, deeds_in, deeds_with, eq-eqb, false, first_of, is_left, is_ring, is_same_actor, last_submit_in, last_submit_with, le-ltb, length, length_push, lt-ltb, ltb-false, nat_lt, ne_eqb, number_or, place_in, refl, rings_in, rings_with, sets, standing_in, stated_in, stated_with, submits, subst, suc, sym, true, waits, waits_armed, word_at, zero, ℕ, ⊎_elim, ◌&&◌, ◌++◌, ◌+◌, ◌<◌, ◌==◌, ◌∙◌, ◌∷◌, ◌≡◌, ◌≤◌, ◌⊎◌}
 use Rattle.script_text.proofs.CleanLines.{AreClean, is_clean}
 use Rattle.script_text.proofs.CleanActs.{known_in, known_more, same_ring}
 use Rattle.script_text.proofs.NoFault.{IsClean, IsCleanIf, clean_entry, long_entry}

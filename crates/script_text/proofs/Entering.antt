@@ -1,19 +1,7 @@
 -- An entry line taken in.
-use Rattle.std.proofs.Common.{◌≡◌, ◌<◌, ◌+◌, ℕ, zero, suc, Bool, true, false, List, [], ◌∷◌, ◌++◌, ◌&&◌, Option, Some, cond, length, refl, arith, ⊎_elim}
-use Rattle.std.specs.Prelude.{◌==◌, ◌||◌, nat_le, nat_lt, slice_index}
-use Rattle.std.specs.List.{list_all}
 use Rattle.std.specs.Str.{IsUtf8}
-use Rattle.std.proofs.lemmas.Bool.{and_parts, eqb-true, leb-true, lt-ltb, or_cases}
-use Rattle.std.proofs.lemmas.List.{length-map, map_push}
 use Rattle.std.proofs.lemmas.Str.{IsUtf8-from_ascii}
-use Rattle.script.specs.Rules.{is_label, is_label_byte, is_letter}
-use Rattle.script.specs.declared.named.Named.{Named}
-use Rattle.entry.specs.Entry.{Entry}
-use Rattle.script_text.specs.declared.keyword.Kind.{Kind}
-use Rattle.script_text.specs.declared.keyword.Keyword.{Keyword}
-use Rattle.script_text.specs.Above.{batch_with, entered_line, entered_with}
-use Rattle.script_text.specs.EntryLines.{Stated}
-use Rattle.script_text.specs.Parts.{all_entered, entered}
+use Rattle.script_text.proofs.Common.{Bool, Entry, Keyword, Kind, List, Named, Option, Some, Stated, [], all_entered, and_parts, arith, batch_with, cond, entered, entered_line, entered_with, eqb-true, false, is_label, is_label_byte, is_letter, leb-true, length, length-map, list_all, lt-ltb, map_push, nat_le, nat_lt, or_cases, refl, slice_index, suc, true, zero, ℕ, ⊎_elim, ◌&&◌, ◌++◌, ◌+◌, ◌<◌, ◌==◌, ◌||◌, ◌∷◌, ◌≡◌}
 
 -- ---- a label is ASCII
 

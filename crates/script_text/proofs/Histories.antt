@@ -1,14 +1,11 @@
 -- The text of a history, one event further; and where a label stands.
-use Rattle.std.proofs.Common.{◌≡◌, ℕ, ◌+◌, ◌<◌, ◌≤◌, List, [], ◌∷◌, ◌++◌, length, take, drop, get_or, refl, sym, ap, ◌∙◌, append_assoc}
-use Rattle.std.specs.Global.{Vec}
-use Rattle.std.proofs.lemmas.Option.{slice_get_past, slice_get_read}
 use Rattle.history.specs.declared.req.Req.{Req}
 use Rattle.history.specs.declared.event.Event.{Event}
-use Rattle.script.specs.declared.act.Act.{Act}
 use Rattle.script.specs.declared.script.Script.{Script}
 use Rattle.script.specs.Steps.{step_at}
 use Rattle.script_text.specs.HistoryText.{label_among, label_by, label_of, event_text, history_text, text_after}
 use Rattle.script.proofs.Items.{rest_at, front_at}
+use Rattle.script_text.proofs.Common.{Act, List, Vec, [], ap, append_assoc, drop, get_or, length, refl, slice_get_past, slice_get_read, sym, take, ℕ, ◌++◌, ◌+◌, ◌<◌, ◌∙◌, ◌∷◌, ◌≡◌, ◌≤◌}
 
 pub event_more : (c : Script) (events : List Event) (i : ℕ) (e : Event) (old new : List ℕ) → i < length events → e ≡ get_or events i e
     → old ++ text_after c (take i events) (drop i events) ≡ history_text c events

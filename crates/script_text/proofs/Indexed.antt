@@ -1,24 +1,16 @@
 -- The index of labels, one entry line more at a time, and what is found by it.
-use Rattle.std.proofs.Common.{◌≡◌, ◌≤◌, ℕ, Bool, true, false, List, [], ◌∷◌, ◌++◌, Bor, Option, None, Some, cond, length, refl, sym, ap, ◌∙◌, arith}
-use Rattle.std.specs.Prelude.{not, slice_get, nat_eq, nat_lt, ◌+◌}
+use Rattle.std.specs.Prelude.{◌+◌}
 use Rattle.std.specs.BTreeMap.{BTreeMap, UpdatesBy}
 use Rattle.std.specs.Cmp.Lexicographic.{slice_cmp}
-use Rattle.std.specs.List.{position, position_or_len}
-use Rattle.std.specs.Option.{is_some, option_map, unwrap_or}
 use Rattle.std.specs.Ordering.{nat_cmp}
 use Rattle.std.specs.Slice.{IsItemAt}
 use Rattle.std.proofs.lemmas.Bool.Decides.{nat_tests}
-use Rattle.std.proofs.lemmas.Option.{slice_get-get_or, slice_get-map, slice_get_past}
-use Rattle.std.proofs.lemmas.Bool.{false≢true, ltb-false, ltb-true}
-use Rattle.std.proofs.lemmas.List.{length-append, length-map, map-append}
-use Rattle.std.proofs.lemmas.List.Folds.{find_at, position_or_len_push}
 use Rattle.std.proofs.lemmas.List.Sums.{prefix_len-le-length}
 use Rattle.std.proofs.lemmas.Map.Text.{btree_map_updates_str}
 use Rattle.std.proofs.lemmas.Slice.Eq.{bytes_eq-Decides}
 use Rattle.script_text.specs.declared.declared_line.Declared.{Declared}
-use Rattle.script_text.specs.EntryLines.{Stated, all_stated, declares, found_stated, line_of, place_of, stated}
 use Rattle.script_text.specs.Labels.{Adds, known_or, place_at}
-use Rattle.script_text.specs.TextWords.{is_same}
+use Rattle.script_text.proofs.Common.{Bool, Bor, List, None, Option, Some, Stated, [], all_stated, ap, arith, cond, declares, false, false≢true, find_at, found_stated, is_same, is_some, length, length-append, length-map, line_of, ltb-false, ltb-true, map-append, nat_eq, nat_lt, not, option_map, place_of, position, position_or_len, position_or_len_push, refl, slice_get, slice_get-get_or, slice_get-map, slice_get_past, stated, sym, true, unwrap_or, ℕ, ◌++◌, ◌∙◌, ◌∷◌, ◌≡◌, ◌≤◌}
 use Rattle.script_text.proofs.Mapped.{stated_of_found}
 
 -- ---- one entry line more

@@ -1,9 +1,6 @@
 -- The lines above a line, one more at a time.
-use Rattle.std.proofs.Common.{◌≡◌, ◌<◌, ◌≤◌, ◌+◌, ℕ, suc, List, [], ◌∷◌, ◌++◌, length, get_or, take, refl, sym, ap, ◌∙◌}
-use Rattle.std.specs.Prelude.{reverse}
-use Rattle.std.proofs.lemmas.List.{get_or-map, length-map, length-reverse, length-take-le, reverse-append, take_all, take_more}
 use Rattle.script_text.specs.declared.line.Line.{Line}
-use Rattle.script_text.specs.Sentences.{AreSentences, IsSentence, Sentence, above_of, line_at, no_line, sentence, sentences}
+use Rattle.script_text.proofs.Common.{AreSentences, IsSentence, List, Sentence, [], above_of, ap, get_or, get_or-map, length, length-map, length-reverse, length-take-le, line_at, no_line, refl, reverse, reverse-append, sentence, sentences, suc, sym, take, take_all, take_more, ℕ, ◌++◌, ◌+◌, ◌<◌, ◌∙◌, ◌∷◌, ◌≡◌, ◌≤◌}
 
 pub above_more : (ss : List Sentence) (i : ℕ) → i < length ss → above_of ss (i + 1) ≡ line_at ss i ∷ above_of ss i
 above_more ss i lt = ap reverse (take_more ss i no_line lt) ∙ reverse-append (take i ss) (line_at ss i ∷ [])

@@ -1,11 +1,7 @@
 -- Words as the code has them, seen as their bytes.
-use Rattle.std.proofs.Common.{◌≡◌, ℕ, ◌||◌, Bool, true, false, List, [], ◌∷◌, Bor, Option, None, Some, cond, refl, ap}
-use Rattle.std.specs.List.{find, list_any}
-use Rattle.std.specs.Option.{option_map}
+use Rattle.std.proofs.Common.{◌||◌}
 use Rattle.script_text.specs.declared.declared_line.Declared.{Declared}
-use Rattle.script_text.specs.EntryLines.{found_stated, stated}
-use Rattle.script_text.specs.Options.{number_of_word}
-use Rattle.script_text.specs.TextWords.{now_of, texts}
+use Rattle.script_text.proofs.Common.{Bool, Bor, List, None, Option, Some, [], ap, cond, false, find, found_stated, list_any, now_of, number_of_word, option_map, refl, stated, texts, true, ℕ, ◌∷◌, ◌≡◌}
 
 pub list_any-texts : (p : List ℕ → Bool) (ws : List (Bor (List ℕ))) → list_any p (texts ws) ≡ list_any (λ w. p w.now) ws
 list_any-texts p [] = refl

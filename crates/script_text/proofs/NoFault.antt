@@ -1,22 +1,8 @@
 -- What is known of a line without a fault.
-use Rattle.std.proofs.Common.{◌≡◌, ◌<◌, ◌≤◌, ◌+◌, ℕ, Bool, true, false, List, [], ◌∷◌, ◌++◌, Option, None, Some, length, refl, arith, IsTrue}
-use Rattle.std.specs.Prelude.{◌==◌, not, cond}
-use Rattle.std.proofs.lemmas.Bool.{leb-false, ltb-false, ne_eqb, not-false}
-use Rattle.entry.specs.Entry.{Entry}
-use Rattle.limits.specs.declared.TheConstants.{ENTRIES, RINGS}
-use Rattle.script.specs.Rules.{is_label}
-use Rattle.script_text.specs.declared.actor.Actor.{Actor}
+use Rattle.std.specs.Prelude.{cond}
 use Rattle.script_text.specs.declared.fault.Fault.{Fault}
-use Rattle.script_text.specs.declared.keyword.Kind.{Kind}
-use Rattle.script_text.specs.declared.keyword.Kind.TheVariants.{Nop}
-use Rattle.script_text.specs.declared.keyword.Keyword.{Keyword}
-use Rattle.script_text.specs.declared.keyword.Keyword.TheVariants.{Ring}
-use Rattle.script_text.specs.Actors.{is_ring}
-use Rattle.script_text.specs.EntryLines.{Stated}
 use Rattle.script_text.specs.Keywords.{arguments_of, keyword_of, kind_of}
-use Rattle.script_text.specs.LineFaults.{Standing, first_faults, in_place, is_short, keyword_faults, line_faults, own_faults, pending_of, word_faults}
-use Rattle.script_text.specs.Noted.{fault_if}
-use Rattle.script_text.specs.TextWords.{is_plain, word_at}
+use Rattle.script_text.proofs.Common.{Actor, Bool, ENTRIES, Entry, IsTrue, Keyword, Kind, List, None, Nop, Option, RINGS, Ring, Some, Standing, Stated, [], arith, false, fault_if, first_faults, in_place, is_label, is_plain, is_ring, is_short, keyword_faults, leb-false, length, line_faults, ltb-false, ne_eqb, not, not-false, own_faults, pending_of, refl, true, word_at, word_faults, ℕ, ◌++◌, ◌+◌, ◌<◌, ◌==◌, ◌∷◌, ◌≡◌, ◌≤◌}
 
 pub both_nil : {A : Type 0} (xs ys : List A) → xs ++ ys ≡ [] → (xs ≡ []) × (ys ≡ [])
 both_nil [] ys e = (refl, e)

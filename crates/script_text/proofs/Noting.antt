@@ -1,9 +1,6 @@
 -- Faults noted one after the other.
-use Rattle.std.proofs.Common.{◌≡◌, ◌≤◌, Bool, true, false, List, [], ◌∷◌, ◌++◌, Option, None, Some, cond, refl, sym, ap, ◌∙◌, inl, inr, arith, ⊎_elim}
-use Rattle.std.specs.Prelude.{◌⊎◌, MatchOption, nat_le}
-use Rattle.std.proofs.lemmas.Bool.{leb-true, leb-false}
 use Rattle.script_text.specs.declared.fault.Fault.{Fault}
-use Rattle.script_text.specs.Noted.{Has, IsFirst, noted, rank, with_faults}
+use Rattle.script_text.proofs.Common.{Bool, Has, IsFirst, List, MatchOption, None, Option, Some, [], ap, arith, cond, false, inl, inr, leb-false, leb-true, nat_le, noted, rank, refl, sym, true, with_faults, ⊎_elim, ◌++◌, ◌∙◌, ◌∷◌, ◌≡◌, ◌≤◌, ◌⊎◌}
 
 pub with_faults_append : (least : Option Fault) (fs gs : List Fault) → with_faults least (fs ++ gs) ≡ with_faults (with_faults least fs) gs
 with_faults_append least [] gs = refl

@@ -1,10 +1,7 @@
 -- A HEX says one entry.
-use Rattle.std.proofs.Common.{◌≡◌, ℕ, List, Option, None, Some, length, sym, ap, subst, ◌∙◌, inl, inr, IsTrue}
-use Rattle.entry.specs.Entry.{Entry}
-use Rattle.entry.specs.Table.{fits}
 use Rattle.entry.specs.Text.{Says, text}
 use Rattle.hex.specs.Hex.{IsBytes, encode_lower}
-use Rattle.script_text.specs.EntryLines.{IsRawEntry}
+use Rattle.script_text.proofs.Common.{Entry, IsRawEntry, IsTrue, List, None, Option, Some, ap, fits, inl, inr, length, subst, sym, ℕ, ◌∙◌, ◌≡◌}
 
 says_one : (bytes : List ℕ) (e x : Entry) → ((y : Entry) → IsTrue (fits y) → bytes ≡ text y → e ≡ y) → Says bytes e → Says bytes x → e ≡ x
 says_one bytes e x again says (inl row) = again x row.fits row.text

@@ -1,17 +1,9 @@
 -- What is read of a text, by what is read of its lines.
-use Rattle.std.proofs.Common.{◌≡◌, ◌<◌, ◌≤◌, ◌+◌, ℕ, zero, suc, All, List, [], ◌∷◌, length, get_or, ap, subst, arith}
-use Rattle.std.specs.Prelude.{◌==◌, reverse}
-use Rattle.std.proofs.lemmas.List.{length-map, length-reverse}
 use Rattle.std.proofs.lemmas.List.Splits.{length-slice_split}
 use Rattle.script.specs.declared.script.Script.{Script}
-use Rattle.script_text.specs.declared.fault.ScriptFault.{ScriptFault}
-use Rattle.script_text.specs.declared.fault.ScriptFault.TheVariants.{Line, Memory}
-use Rattle.script_text.specs.Above.{Entered, actor_in, stated_in}
 use Rattle.script_text.specs.Kept.{IsFaultAmong}
-use Rattle.script_text.specs.Parts.{entered}
-use Rattle.script_text.specs.Scripts.{IsFaultless, IsScriptOf, IsToldOf, is_headless, is_left, standing_in}
-use Rattle.script_text.specs.Sentences.{AreSentences, Sentence, above_of, first_of, line_at}
-use Rattle.script_text.specs.TextWords.{IsPlain, text_lines, without_end}
+use Rattle.script_text.specs.TextWords.{text_lines}
+use Rattle.script_text.proofs.Common.{All, AreSentences, Entered, IsFaultless, IsPlain, IsScriptOf, IsToldOf, Line, List, Memory, ScriptFault, Sentence, [], above_of, actor_in, ap, arith, entered, first_of, get_or, is_headless, is_left, length, length-map, length-reverse, line_at, reverse, standing_in, stated_in, subst, suc, without_end, zero, ℕ, ◌+◌, ◌<◌, ◌==◌, ◌∷◌, ◌≡◌, ◌≤◌}
 use Rattle.script_text.proofs.LinesAbove.{sentences_all}
 use Rattle.script_text.proofs.NoFault.{clean_line}
 use Rattle.script_text.proofs.ReadingLines.{as_many_entries, stated_bounds}

@@ -1,29 +1,11 @@
 -- What the parts and the outline say, one line after the other.
-use Rattle.std.proofs.Common.{◌≡◌, ◌<◌, ◌≤◌, ◌+◌, ℕ, Bool, true, false, List, [], ◌∷◌, ◌++◌, ◌||◌, Option, Some, cond, length, refl, sym, ap, ◌∙◌, arith}
-use Rattle.std.specs.Prelude.{◌==◌, ◌&&◌, map, nat_lt, not, reverse, slice_get}
-use Rattle.std.specs.List.{list_any}
-use Rattle.std.proofs.lemmas.Bool.{cond_both}
-use Rattle.std.proofs.lemmas.List.{length-map, length-append, map_push}
-use Rattle.entry.specs.Entry.{Entry}
-use Rattle.limits.specs.declared.TheConstants.{RINGS}
-use Rattle.script_text.specs.declared.actor.Actor.{Actor}
-use Rattle.script_text.specs.declared.fault.ScriptFault.{ScriptFault}
-use Rattle.script_text.specs.declared.fault.ScriptFault.TheVariants.{Line, Memory}
-use Rattle.script_text.specs.declared.keyword.Keyword.{Keyword}
-use Rattle.script_text.specs.declared.keyword.Keyword.TheVariants.{Ring, Submit}
+use Rattle.std.proofs.Common.{◌||◌}
+use Rattle.std.specs.Prelude.{◌&&◌}
 use Rattle.script_text.specs.declared.outline.Outline.{Outline}
 use Rattle.script_text.specs.declared.parts.Parts.{Parts}
-use Rattle.script_text.specs.Above.{Entered, actor_in, batch_in, entered_in, entered_with, is_of, is_same_actor, last_submit_with, rings_in, rings_with, stated_in, stated_with}
-use Rattle.script_text.specs.Acts.{pending_at}
-use Rattle.script_text.specs.Actors.{IsKnown}
-use Rattle.script_text.specs.EntryLines.{Stated, all_stated, declares}
-use Rattle.script_text.specs.LineFaults.{line_faults}
 use Rattle.script_text.specs.Outlined.{Notes, Outlines, faults_here, is_past, is_unsubmitted, last_of, more_with}
+use Rattle.script_text.proofs.Common.{Actor, Bool, Entered, Entry, Fits, IsKnown, IsToldHere, IsToldOf, Keyword, Line, List, Memory, Option, RINGS, Ring, ScriptFault, Sentence, Some, Stands, Stated, Submit, Takes, [], above_of, actor_in, all_entered, all_stated, ap, arith, batch_in, cond, cond_both, declares, entered, entered_in, entered_with, false, faults_at, faults_of, first_of, has_label, is_left, is_of, is_same, is_same_actor, last_submit_with, length, length-append, length-map, line_at, line_faults, list_any, map, map_push, nat_lt, not, pending_at, refl, reverse, rings_in, rings_with, slice_get, standing, standing_in, stated_in, stated_with, sym, true, ℕ, ◌++◌, ◌+◌, ◌<◌, ◌==◌, ◌∙◌, ◌∷◌, ◌≡◌, ◌≤◌}
 use Rattle.script_text.proofs.NoFault.{IsCleanIf, clean_entry, clean_line, few_rings, is_ring_from_pending, long_entry}
-use Rattle.script_text.specs.Parts.{Fits, Stands, Takes, all_entered, entered, has_label, standing}
-use Rattle.script_text.specs.Scripts.{IsToldHere, IsToldOf, faults_at, faults_of, is_left, standing_in}
-use Rattle.script_text.specs.Sentences.{Sentence, above_of, first_of, line_at}
-use Rattle.script_text.specs.TextWords.{is_same}
 
 -- ---- labels
 

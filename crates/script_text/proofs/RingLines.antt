@@ -1,12 +1,5 @@
 -- The lines of one ring among those of all.
-use Rattle.std.proofs.Common.{◌≡◌, ◌<◌, ℕ, zero, suc, List, [], ◌∷◌, ◌++◌, Option, Some, length, set, refl, ap, ◌∙◌, arith, ⊎_elim}
-use Rattle.std.specs.Prelude.{◌==◌, slice_get}
-use Rattle.std.specs.Global.{Vec}
-use Rattle.std.proofs.lemmas.Bool.{cases_eq, eq-eqb, ne_eqb}
-use Rattle.std.proofs.lemmas.List.{map_push}
-use Rattle.script.specs.declared.act.Act.{Act}
-use Rattle.script_text.specs.Above.{deeds_and}
-use Rattle.script_text.specs.Acts.{deed, deeds, deeds_at, items_or_none}
+use Rattle.script_text.proofs.Common.{Act, List, Option, Some, Vec, [], ap, arith, cases_eq, deed, deeds, deeds_and, deeds_at, eq-eqb, items_or_none, length, map_push, ne_eqb, refl, set, slice_get, suc, zero, ℕ, ⊎_elim, ◌++◌, ◌<◌, ◌==◌, ◌∙◌, ◌∷◌, ◌≡◌}
 
 pub get_set_same : {A : Type 0} (xs : List A) (i : ℕ) (a : A) → i < length xs → slice_get (set xs i a) i ≡ Some a
 get_set_same [] i a lt = absurd (omega arith)

@@ -1,16 +1,6 @@
 -- Reading and writing a table's text line by line.
-use Rattle.std.proofs.Common.{◌≡◌, ℕ, ◌+◌, List, [], ◌∷◌, ◌++◌, length, ℤ, refl, sym, ap, ◌∙◌, append_assoc, inl, inr, true, false}
-use Rattle.std.specs.Prelude.{◌⊎◌, ◌==◌}
-use Rattle.std.specs.Global.{Vec}
-use Rattle.std.specs.String.{string_bytes}
-use Rattle.std.proofs.lemmas.List.{append-nil, map_push}
-use Rattle.script.specs.declared.named.Named.{Named}
 use Rattle.text.specs.Line.{IsLine, line_text}
-use Rattle.std.proofs.lemmas.List.{length-map}
-use Rattle.script_text.specs.declared.fault.Fault.TheVariants.{BadTable}
-use Rattle.script_text.specs.declared.fault.ScriptFault.{ScriptFault}
-use Rattle.script_text.specs.declared.fault.ScriptFault.TheVariants.{Line}
-use Rattle.script_text.specs.TableText.{is_read, shown_lines, table_text, AreLines, Differs, IsBadLine, IsTableFault, IsTableText, NoLine}
+use Rattle.script_text.proofs.Common.{AreLines, BadTable, Differs, IsBadLine, IsTableFault, IsTableText, Line, List, Named, NoLine, ScriptFault, Vec, [], ap, append-nil, append_assoc, false, inl, inr, is_read, length, length-map, map_push, refl, shown_lines, string_bytes, sym, table_text, true, ℕ, ℤ, ◌++◌, ◌+◌, ◌==◌, ◌∙◌, ◌∷◌, ◌≡◌, ◌⊎◌}
 
 -- whatever the rest is the text of, with the lines so far the whole is its text
 abbrev pub Completes : List Named → List Named → List (ℤ × List ℕ) → List ℕ → List ℕ → Type 0

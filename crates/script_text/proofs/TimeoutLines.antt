@@ -1,12 +1,5 @@
 -- The entry of a `timeout` line.
-use Rattle.std.proofs.Common.{◌≡◌, ℕ, Bool, List}
-use Rattle.entry.specs.Entry.{Entry}
-use Rattle.prep.specs.Built.{plain, timeout_count_op}
-use Rattle.script_text.specs.declared.keyword.Kind.{Kind}
-use Rattle.script_text.specs.declared.keyword.Kind.TheVariants.{Timeout}
-use Rattle.script_text.specs.EntryLines.{Stated, count_of, etime_bit, op_of, options_of, ticks_in}
-use Rattle.script_text.specs.Options.{has_etime}
-use Rattle.script_text.specs.TextWords.{word_at}
+use Rattle.script_text.proofs.Common.{Bool, Entry, Kind, List, Stated, Timeout, count_of, etime_bit, has_etime, op_of, options_of, plain, ticks_in, timeout_count_op, word_at, ℕ, ◌≡◌}
 
 pub timeout_line : (lines : List Stated) (kind : Kind) (words : List (List ℕ)) (e : Entry) (ticks count bits : ℕ) (etime_ok : Bool) → kind ≡ Timeout
     → ticks ≡ ticks_in (word_at words 2) → count ≡ count_of (options_of kind words) → bits ≡ etime_bit etime_ok → etime_ok ≡ has_etime kind (options_of kind words)

@@ -1,9 +1,6 @@
 -- The words of a line by their places, and the line as the code has it.
-use Rattle.std.proofs.Common.{◌≡◌, ℕ, true, false, List, [], Bor, None, Some, length, get_or, refl, sym, ap, ◌∙◌}
-use Rattle.std.specs.Prelude.{nat_lt, slice_get}
-use Rattle.std.proofs.lemmas.Option.{slice_get-get_or, slice_get-map, slice_get_past}
 use borrow.Author.Tests.{ltb-true, ltb-false}
-use Rattle.script_text.specs.TextWords.{texts, word_at}
+use Rattle.script_text.proofs.Common.{Bor, List, None, Some, [], ap, false, get_or, length, nat_lt, refl, slice_get, slice_get-get_or, slice_get-map, slice_get_past, sym, texts, true, word_at, ℕ, ◌∙◌, ◌≡◌}
 
 pub word_at-some : (ws : List (Bor (List ℕ))) (n : ℕ) (w : Bor (List ℕ)) → true ≡ nat_lt n (length ws) → w ≡ get_or ws n w → w.now ≡ word_at (texts ws) n
 word_at-some ws n w lt is =

@@ -1,18 +1,5 @@
 -- A cancel that waits has not taken a request, nor found one running: who parks a request has done nothing with it.
-use Rattle.std.proofs.Common.{◌≡◌, Bool, true, false, cond, List, [], ◌∷◌, sym, refl, ap, ◌∙◌, subst, ⊎_elim, arith}
-use Rattle.history.specs.declared.req.Req.{Req}
-use Rattle.history.specs.declared.event.Event.{Event}
-use Rattle.history.specs.declared.event.Event.TheVariants.{Submit, Begin, Park, Reply, Take, Miss, Arm, Expire, Count, Fire, Settle, Sever, Reap, Cut}
-use Rattle.history.specs.History.{Hit, Phase, unborn, waits, runs, armed, replied, reaped, nothing, took, missed, same, concerns, becomes, phase, hit, submits}
-use Rattle.history.specs.Legal.{Setup, Legal}
-use Rattle.history.proofs.Requests.{bool_cases, same_true}
-use Rattle.history.proofs.Growth.{unchanged, changed, unborn_yet}
-use Rattle.steps.specs.declared.line.Line.{Line}
-use Rattle.steps.specs.declared.line.Line.TheVariants.{Did}
-use Rattle.steps.specs.declared.view.Layout.{Layout}
-use Rattle.steps.specs.Fairness.{Orderly}
-use Rattle.steps.specs.Journal.{events_of}
-use Rattle.steps.specs.Cells.{setup_of}
+use Rattle.steps.proofs.Common.{Arm, Begin, Bool, Count, Cut, Did, Event, Expire, Fire, Hit, Layout, Legal, Line, List, Miss, Orderly, Park, Phase, Reap, Reply, Req, Settle, Setup, Sever, Submit, Take, [], ap, arith, armed, becomes, bool_cases, changed, concerns, cond, events_of, false, hit, missed, nothing, phase, reaped, refl, replied, runs, same, same_true, setup_of, submits, subst, sym, took, true, unborn, unborn_yet, unchanged, waits, ⊎_elim, ◌∙◌, ◌∷◌, ◌≡◌}
 
 -- it was not begun yet, or put back
 abbrev pub IsEarly : Phase → Type 0

@@ -1,28 +1,6 @@
 -- A cancel takes the request that it is meant for, or finds it running.
-use Rattle.std.proofs.Common.{◌≡◌, ℕ, ◌<◌, Bool, true, false, negsuc, Option, List, get_or, sym, refl, ap, ◌∙◌, subst, arith, eqb}
-use mathlib.Core.Option.{none}
-use lib.Seq.{set-get_or}
-use prog.Atomic.{either}
-use Rattle.atomic_table.specs.Table.{State, step, carried_after, Allows}
-use Rattle.claim.specs.declared.tag.Tag.TheVariants.{Running, Done}
-use Rattle.entry.specs.Entry.{Entry, fails}
-use Rattle.history.specs.declared.req.Req.{Req}
-use Rattle.history.specs.declared.event.Event.TheVariants.{Take, Miss}
-use Rattle.history.specs.History.{Hit, Phase, by_take, waits, armed, has_missed, phase, submits, IsIdle, IsReplied}
-use Rattle.history.specs.Chains.{IsPlaced}
-use Rattle.history.specs.Answers.{IsFirst, AimsAt, MayHit, is_all}
-use Rattle.history.specs.Legal.{Setup}
-use Rattle.history.proofs.Requests.{same_itself}
-use Rattle.steps.specs.declared.parcel.Thing.{Thing}
-use Rattle.steps.specs.declared.view.Layout.{Layout}
-use Rattle.steps.specs.declared.view.Role.{Role}
-use Rattle.steps.specs.declared.view.Role.TheVariants.{Busy}
-use Rattle.steps.specs.declared.view.View.{View}
-use Rattle.steps.specs.declared.line.Line.TheVariants.{Did}
-use Rattle.steps.specs.Journal.{events_of}
-use Rattle.steps.specs.Cells.{setup_of, IsCell, ring_of, request_at, claim_at, word_of, reply_bits, cause_bits}
-use Rattle.steps.specs.Rule.{Ruled, Extends, owns}
-use Rattle.steps.specs.Plays.{Seated, IsIdleWord, tried_idle, taken, missed}
+use Rattle.steps.specs.Plays.{missed}
+use Rattle.steps.proofs.Common.{AimsAt, Allows, Bool, Busy, Did, Done, Entry, Extends, Hit, IsCell, IsFirst, IsIdle, IsIdleWord, IsPlaced, IsReplied, Layout, List, MayHit, Miss, Option, Phase, Req, Role, Ruled, Running, Seated, Setup, State, Take, Thing, View, ap, arith, armed, by_take, carried_after, cause_bits, claim_at, either, eqb, events_of, fails, false, get_or, has_missed, is_all, negsuc, none, owns, phase, refl, reply_bits, request_at, ring_of, same_itself, set-get_or, setup_of, step, submits, subst, sym, taken, tried_idle, true, waits, word_of, ℕ, ◌<◌, ◌∙◌, ◌≡◌}
 use Rattle.steps.proofs.ClaimWords.{says_of}
 use Rattle.steps.proofs.CancelsKept.{c_born, placed_same, hit_now, match_now, match_was, answered_now}
 use Rattle.steps.proofs.EndingIdle.{Ends, Silent, idle_says, answers_does, silent_does}

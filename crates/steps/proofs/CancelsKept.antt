@@ -1,21 +1,5 @@
 -- What a worker knows of the cancel that it runs stays: what it did, which requests it is meant for, and so its answer.
-use Rattle.std.proofs.Common.{◌≡◌, ⊎_elim, inl, inr, ℕ, ◌<◌, Bool, true, false, ℤ, Option, List, sym, ap, ◌∙◌, subst}
-use Rattle.atomic_table.specs.Table.{State}
-use Rattle.history.specs.declared.req.Req.{Req}
-use Rattle.history.specs.declared.event.Event.{Event}
-use Rattle.history.specs.History.{Hit, nothing, took, missed, has_missed, runs, hit, phase, submits, IsReplied}
-use Rattle.history.specs.Chains.{placed}
-use Rattle.history.specs.Answers.{Matches, NoneLeft, CancelAnswers, CancelBy}
-use Rattle.history.specs.Legal.{Setup}
-use Rattle.steps.specs.declared.parcel.Thing.{Thing}
-use Rattle.steps.specs.declared.view.Layout.{Layout}
-use Rattle.steps.specs.declared.view.Role.{Role}
-use Rattle.steps.specs.declared.view.Role.TheVariants.{Busy}
-use Rattle.steps.specs.declared.view.View.{View}
-use Rattle.steps.specs.Journal.{events_of}
-use Rattle.steps.specs.Cells.{setup_of}
-use Rattle.steps.specs.Rule.{NoneOf, Ruled}
-use Rattle.steps.specs.Plays.{Seated}
+use Rattle.steps.proofs.Common.{Bool, Busy, CancelAnswers, CancelBy, Event, Hit, IsReplied, Layout, List, Matches, NoneLeft, NoneOf, Option, Req, Role, Ruled, Seated, Setup, State, Thing, View, ap, events_of, false, has_missed, hit, inl, inr, missed, nothing, phase, placed, runs, setup_of, submits, subst, sym, took, true, ℕ, ℤ, ⊎_elim, ◌<◌, ◌∙◌, ◌≡◌}
 use Rattle.steps.proofs.JournalGrowth.{replied_later, counted_in, legal_before}
 use Rattle.steps.proofs.MatchesKept.{placed_on, match_on, match_off}
 use Rattle.steps.proofs.OwnFacts.{same_hit}

@@ -1,14 +1,5 @@
 -- Cells, requests and claim words tell each other apart.
-use Rattle.std.proofs.Common.{◌≡◌, ℕ, suc, ◌+◌, ◌*◌, ◌<◌, ◌≤◌, zero, ◌-◌, nat_lt, ltb-true, ltb-false, Bool, true, false, cond, List, [], ◌∷◌, length, sym, refl, ap, ◌∙◌, subst, arith, eqb, mul-le-mul_right, suc-mul}
-use Rattle.std.proofs.Common.{ℤ, pos, negsuc, SFits, of_z, w32}
-use Rattle.std.proofs.lemmas.Int.{ints}
-use Rattle.claim.specs.declared.tag.Tag.{Tag}
-use Rattle.claim.specs.declared.tag.Tag.TheVariants.{Empty, Held, Ready, Running, Armed, Done}
-use Rattle.claim.specs.Claim.{tag_number}
-use Rattle.history.specs.declared.req.Req.{Req}
-use Rattle.history.specs.History.{same}
-use Rattle.history.proofs.Requests.{same_false}
-use Rattle.steps.specs.Cells.{IsCell, request_at, cells_in, ring_of, place_of, word_of, reply_bits}
+use Rattle.steps.proofs.Common.{Armed, Bool, Done, Empty, Held, IsCell, List, Ready, Req, Running, SFits, Tag, [], ap, arith, cells_in, cond, eqb, false, ints, length, ltb-false, ltb-true, mul-le-mul_right, nat_lt, negsuc, of_z, place_of, pos, refl, reply_bits, request_at, ring_of, same, same_false, subst, suc, suc-mul, sym, tag_number, true, w32, word_of, zero, ℕ, ℤ, ◌*◌, ◌+◌, ◌-◌, ◌<◌, ◌∙◌, ◌∷◌, ◌≡◌, ◌≤◌}
 
 -- a place within a row of n
 row_of : (n a b c d : ℕ) → b < n → d < n → a * n + b ≡ c * n + d → ¬ (a < c)

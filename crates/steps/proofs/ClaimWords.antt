@@ -1,15 +1,5 @@
 -- What a claim word tells of its request, and the other way round.
-use Rattle.std.proofs.Common.{◌≡◌, ◌≢◌, ℕ, ◌<◌, true, false, ℤ, List, sym, refl, ◌∙◌, subst, arith, eqb, eq-eqb}
-use prog.Atomic.{either}
-use Rattle.claim.specs.declared.tag.Tag.{Tag}
-use Rattle.claim.specs.declared.tag.Tag.TheVariants.{Empty, Held, Ready, Running, Armed, Done}
-use Rattle.entry.specs.Entry.{Entry, fails}
-use Rattle.history.specs.declared.req.Req.{Req}
-use Rattle.history.specs.History.{Cause, by_reply, by_take, by_expire, by_count, by_fire, by_settle, by_sever, by_cut, Phase, unborn, runs, replied, reaped, phase, data_of}
-use Rattle.history.specs.Chains.{IsPlaced}
-use Rattle.steps.specs.declared.line.Line.{Line}
-use Rattle.steps.specs.Journal.{events_of, lent}
-use Rattle.steps.specs.Cells.{request_at, Home, Keeps, Ages, Says, CellOk, word_of, reply_bits, cause_bits}
+use Rattle.steps.proofs.Common.{Ages, Armed, Cause, CellOk, Done, Empty, Entry, Held, Home, IsPlaced, Keeps, Line, List, Phase, Ready, Req, Running, Says, Tag, arith, by_count, by_cut, by_expire, by_fire, by_reply, by_settle, by_sever, by_take, cause_bits, data_of, either, eq-eqb, eqb, events_of, fails, false, lent, phase, reaped, refl, replied, reply_bits, request_at, runs, subst, sym, true, unborn, word_of, ℕ, ℤ, ◌<◌, ◌∙◌, ◌≡◌, ◌≢◌}
 use Rattle.steps.proofs.CellNumbers.{one_word}
 
 -- an exchange that is known to find its word

@@ -1,16 +1,5 @@
 -- What the note of a count tells of its request, where that was not reaped since.
-use Rattle.std.proofs.Common.{◌≡◌, ℕ, true, List, ◌++◌, Option, Some, None, refl}
-use Rattle.entry.specs.Entry.{Entry}
-use Rattle.history.specs.declared.req.Req.{Req}
-use Rattle.history.specs.declared.event.Event.{Event}
-use Rattle.history.specs.History.{Submission, submission, phase}
-use Rattle.history.specs.Chains.{IsPlaced, before_in, placed_from, is_timeout}
-use Rattle.history.specs.Legal.{Legal, count_of}
-use Rattle.steps.specs.declared.line.Line.{Line}
-use Rattle.steps.specs.declared.view.Layout.{Layout}
-use Rattle.steps.specs.Fairness.{IsReaped, NotesTell}
-use Rattle.steps.specs.Journal.{events_of, noted}
-use Rattle.steps.specs.Cells.{setup_of, request_at, count_at}
+use Rattle.steps.proofs.Common.{Entry, Event, IsPlaced, IsReaped, Layout, Legal, Line, List, None, NotesTell, Option, Req, Some, Submission, before_in, count_at, count_of, events_of, is_timeout, noted, phase, placed_from, refl, request_at, setup_of, submission, true, ℕ, ◌++◌, ◌≡◌}
 use Rattle.steps.proofs.FreeCells.{reaped_later}
 
 handed_in : (before after : Option Submission) (e : Entry) → placed_from before after ≡ Some e → (y : Submission) × (after ≡ Some y)

@@ -1,27 +1,6 @@
 -- The table at the start, the cuts and joins of seats, and the table at the end.
-use Rattle.std.proofs.Common.{◌≡◌, ◌≢◌, ℕ, zero, suc, ◌+◌, ◌-◌, ◌<◌, ◌≤◌, ◌⊎◌, true, false, Option, None, List, [], ◌∷◌, ◌++◌, map, replicate, length, get_or, set, sym, refl, ap, ◌∙◌, subst, inl, inr, ⊎_elim, arith, true≢false, append-nil}
 use Rattle.std.proofs.lemmas.Bool.Decides.{nat_tests}
-use mathlib.Core.Option.{some, some-injective, some-ne-none}
-use mathlib.Core.Logic.{dite}
-use native.Mathlib.Decide.{ℕ_discrete}
-use lib.ListN.{get_elem?, length-replicate, get_or-replicate}
-use Rattle.atomic_table.specs.Table.{State, opening, Splits, Joins, Final, Seen}
-use Rattle.atomic_table.proofs.Lists.{at_set, at_longer, set_else}
-use Rattle.claim.specs.declared.tag.Tag.TheVariants.{Empty}
-use Rattle.history.specs.declared.event.Event.{Event}
-use Rattle.history.specs.declared.req.Req.{Req}
-use Rattle.history.specs.Pipes.{untouched}
-use Rattle.history.proofs.Requests.{same_itself}
-use Rattle.steps.specs.declared.line.Line.{Line}
-use Rattle.steps.specs.declared.parcel.Thing.{Thing}
-use Rattle.steps.specs.declared.view.Heard.{Heard}
-use Rattle.steps.specs.declared.view.Layout.{Layout}
-use Rattle.steps.specs.declared.view.Role.{Role}
-use Rattle.steps.specs.declared.view.Role.TheVariants.{Poller, Submitter, Lending, Idle, Busy, Leaving, Parting, Spent}
-use Rattle.steps.specs.declared.view.View.{View}
-use Rattle.steps.specs.Journal.{events_of}
-use Rattle.steps.specs.Cells.{CellOk, PipeIs, total, claim_at, note_at, pipe_at, slot_at, slots_of, words_of}
-use Rattle.steps.specs.Rule.{Owner, nobody, pollers, rings, workers, holders, owner, stands_for, apart, NoneOf, Begins, IsHeard, IsGone, Saw, SeatOk, parts_of, IsRunBy, IsHeldBy, IsLentBy, IsOneOf, Knows, Ruled, opening_view, without_one, without_next, next_poller, submitter_of, next_submitter, idle_one, messenger, hearing, spent_view, Ended}
+use Rattle.steps.proofs.Common.{Begins, Busy, CellOk, Empty, Ended, Event, Final, Heard, Idle, IsGone, IsHeard, IsHeldBy, IsLentBy, IsOneOf, IsRunBy, Joins, Knows, Layout, Leaving, Lending, Line, List, None, NoneOf, Option, Owner, Parting, PipeIs, Poller, Req, Role, Ruled, Saw, SeatOk, Seen, Spent, Splits, State, Submitter, Thing, View, [], ap, apart, append-nil, arith, at_longer, at_set, claim_at, dite, events_of, false, get_elem?, get_or, get_or-replicate, hearing, holders, idle_one, inl, inr, length, length-replicate, map, messenger, next_poller, next_submitter, nobody, note_at, opening, opening_view, owner, parts_of, pipe_at, pollers, refl, replicate, rings, same_itself, set, set_else, slot_at, slots_of, some, some-injective, some-ne-none, spent_view, stands_for, submitter_of, subst, suc, sym, total, true, true≢false, untouched, without_next, without_one, words_of, workers, zero, ℕ, ℕ_discrete, ⊎_elim, ◌++◌, ◌+◌, ◌-◌, ◌<◌, ◌∙◌, ◌∷◌, ◌≡◌, ◌≢◌, ◌≤◌, ◌⊎◌}
 use Rattle.steps.proofs.Roles.{apart_sym, works_for, idle_apart, idle_none, none_of, spent_apart}
 use Rattle.steps.proofs.RuleKept.{parts_set, run_set, held_set, lent_set, known_set, IsKnown, at_now}
 

@@ -1,27 +1,5 @@
 -- What the steps of timers and cancels have in common: an exchange that answers a request which waits or is armed, and an event that leaves all requests where they are.
-use Rattle.std.proofs.Common.{◌≡◌, ◌≢◌, ℕ, ◌<◌, Bool, true, false, not, Option, Some, ℤ, List, [], ◌∷◌, get_or, set, sym, refl, ap, ◌∙◌, subst, arith, true≢false, length-set}
-use lib.ListN.{get_elem?}
-use Rattle.atomic_table.specs.Table.{State, keeps}
-use Rattle.claim.specs.declared.tag.Tag.{Tag}
-use Rattle.claim.specs.declared.tag.Tag.TheVariants.{Held, Ready, Running, Armed, Done}
-use Rattle.entry.specs.Entry.{Entry, fails}
-use Rattle.history.specs.declared.req.Req.{Req}
-use Rattle.history.specs.declared.event.Event.{Event}
-use Rattle.history.specs.History.{Cause, Phase, runs, replied, unborn, same, concerns, becomes, phase, answers, data_in, shuts, ticks, clock_of, was_shut, IsIdle, IsReplied}
-use Rattle.history.specs.Chains.{IsPlaced}
-use Rattle.history.specs.Pipes.{flow}
-use Rattle.history.specs.Legal.{Setup, MayCome, shut_for, Legal}
-use Rattle.history.proofs.Requests.{same_itself, same_false}
-use Rattle.steps.specs.declared.line.Line.{Line}
-use Rattle.steps.specs.declared.line.Line.TheVariants.{Did}
-use Rattle.steps.specs.declared.parcel.Thing.{Thing}
-use Rattle.steps.specs.declared.view.Layout.{Layout}
-use Rattle.steps.specs.declared.view.View.{View}
-use Rattle.steps.specs.Fairness.{Fair}
-use Rattle.steps.specs.Journal.{events_of, lent}
-use Rattle.steps.specs.Cells.{setup_of, IsCell, request_at, claim_at, note_at, pipe_at, slot_at, word_of, reply_bits, cause_bits, Home, Keeps, Says, PipeOk}
-use Rattle.steps.specs.Rule.{owns, Ruled, Extends}
-use Rattle.steps.specs.Plays.{Seated, is_idle, IsIdleWord}
+use Rattle.steps.proofs.Common.{Armed, Bool, Cause, Did, Done, Entry, Event, Extends, Fair, Held, Home, IsCell, IsIdle, IsIdleWord, IsPlaced, IsReplied, Keeps, Layout, Legal, Line, List, MayCome, Option, Phase, PipeOk, Ready, Req, Ruled, Running, Says, Seated, Setup, Some, State, Tag, Thing, View, [], answers, ap, arith, becomes, cause_bits, claim_at, clock_of, concerns, data_in, events_of, fails, false, flow, get_elem?, get_or, is_idle, keeps, length-set, lent, not, note_at, owns, phase, pipe_at, refl, replied, reply_bits, request_at, runs, same, same_false, same_itself, set, setup_of, shut_for, shuts, slot_at, subst, sym, ticks, true, true≢false, unborn, was_shut, word_of, ℕ, ℤ, ◌<◌, ◌∙◌, ◌∷◌, ◌≡◌, ◌≢◌}
 use Rattle.steps.proofs.CellNumbers.{other_cell, other_age, one_word, bits_fit}
 use Rattle.steps.proofs.JournalGrowth.{begins, phase_stays, counted_in, lasts_by, placed_lasts}
 use Rattle.steps.proofs.Frames.{ages_stay, keeps_stays, pipe_stays, done_keeps}

@@ -1,23 +1,6 @@
 -- What the facts of a cell say of a request that was reaped: its outcome, and once they are another one's that its whole chain has replied.
-use Rattle.std.proofs.Common.{◌≡◌, ◌≢◌, ⊎_elim, ℕ, zero, suc, ◌+◌, ◌*◌, ◌%◌, ◌<◌, Bool, true, false, cond, ℤ, List, [], ◌∷◌, Some, sym, refl, ap, ◌∙◌, subst, arith, eq-eqb, ne_eqb, suc-mul}
-use mathlib.Core.Logic.{dite}
-use native.Mathlib.Decide.{ℕ_discrete}
 use Rattle.claim.specs.Facts.{Facts, bit, packed_facts}
-use Rattle.entry.specs.Entry.{Entry, fails}
-use Rattle.history.specs.declared.req.Req.{Req}
-use Rattle.history.specs.declared.event.Event.TheVariants.{Submit, Reap}
-use Rattle.history.specs.History.{Cause, Phase, unborn, replied, reaped, Submission, same, concerns, phase, reply_in, submission, after_reap}
-use Rattle.history.specs.Chains.{IsPlaced, IsChainDone}
-use Rattle.history.specs.Legal.{Setup, Legal}
-use Rattle.history.proofs.Requests.{bool_cases, same_true}
-use Rattle.history.proofs.Growth.{MayChange, may_change, changed, unchanged, counted, submission_some}
-use Rattle.steps.specs.declared.line.Line.{Line}
-use Rattle.steps.specs.declared.line.Line.TheVariants.{Did, Lent, Noted}
-use Rattle.steps.specs.declared.view.Layout.{Layout}
-use Rattle.steps.specs.Fairness.{Orderly, IsFree, IsReaped, FactsLeft, FactsTell}
-use Rattle.steps.specs.Journal.{events_of, lent, noted}
-use Rattle.steps.specs.Cells.{IsCell, ring_of, place_of, cells_in, request_at, facts_at}
-use Rattle.steps.specs.Notes.{facts_of, outcome_of}
+use Rattle.steps.proofs.Common.{Bool, Cause, Did, Entry, FactsLeft, FactsTell, IsCell, IsChainDone, IsFree, IsPlaced, IsReaped, Layout, Legal, Lent, Line, List, MayChange, Noted, Orderly, Phase, Reap, Req, Setup, Some, Submission, Submit, [], after_reap, ap, arith, bool_cases, cells_in, changed, concerns, cond, counted, dite, eq-eqb, events_of, facts_at, facts_of, fails, false, lent, may_change, ne_eqb, noted, outcome_of, phase, place_of, reaped, refl, replied, reply_in, request_at, ring_of, same, same_true, submission, submission_some, subst, suc, suc-mul, sym, true, unborn, unchanged, zero, ℕ, ℕ_discrete, ℤ, ⊎_elim, ◌%◌, ◌*◌, ◌+◌, ◌<◌, ◌∙◌, ◌∷◌, ◌≡◌, ◌≢◌}
 use Rattle.steps.proofs.JournalGrowth.{was_reaped}
 use Rattle.steps.proofs.FreeCells.{reaped_as}
 use Rattle.steps.proofs.NotesKept.{reaped_born, done_on, earlier_gone, earlier_reaped, IsStored, IsFresh, IsClosing, stored_by, placed_before, notes_are}

@@ -1,21 +1,7 @@
 -- What the facts of a cell tell of its request.
-use Rattle.std.proofs.Common.{◌≡◌, ◌≢◌, ◌⊎◌, ⊎_elim, inl, inr, ℕ, ◌+◌, ◌*◌, ◌%◌, ◌<◌, ◌≤◌, ◌&&◌, nat_lt, ltb-true, Bool, true, false, cond, true≢false, ℤ, negsuc, List, Option, Some, None, IsTrue, sym, refl, ap, ◌∙◌, subst, arith}
 use Rattle.claim.specs.Facts.{Facts, bit, packed_facts, fits_facts}
-use Rattle.entry.specs.declared.op.Op.{Op}
-use Rattle.entry.specs.declared.op.Op.TheVariants.{Nop, PollAdd, Timeout, TimeoutRemove, AsyncCancel, LinkTimeout, Close, Read, Write, Splice, Invalid}
-use Rattle.entry.specs.Entry.{Entry, fails, drains, links_soft, links_hard}
-use Rattle.history.specs.declared.req.Req.{Req}
-use Rattle.history.specs.History.{Cause, Phase, unborn, waits, runs, armed, replied, reaped, Submission, submission, submits, phase, IsReplied}
-use Rattle.history.specs.Chains.{IsPlaced, IsChainDone, placed_behind, placed_from, before_in}
-use Rattle.history.specs.Legal.{Setup, Legal}
-use Rattle.history.proofs.Requests.{bool_cases, and_left, and_right}
-use Rattle.history.proofs.Growth.{submission_some, reply_of_replied, born_once}
-use Rattle.steps.specs.declared.line.Line.{Line}
-use Rattle.steps.specs.declared.view.Layout.{Layout}
-use Rattle.steps.specs.Fairness.{IsReaped, Orderly, NotesTell, FactsTell}
-use Rattle.steps.specs.Journal.{events_of, lent, noted}
-use Rattle.steps.specs.Cells.{IsCell, request_at, facts_at, setup_of}
-use Rattle.steps.specs.Notes.{row_number, ticks_in, etime_in, facts_of, outcome_of}
+use Rattle.history.proofs.Requests.{and_right}
+use Rattle.steps.proofs.Common.{AsyncCancel, Bool, Cause, Close, Entry, FactsTell, Invalid, IsCell, IsChainDone, IsPlaced, IsReaped, IsReplied, IsTrue, Layout, Legal, Line, LinkTimeout, List, None, Nop, NotesTell, Op, Option, Orderly, Phase, PollAdd, Read, Req, Setup, Some, Splice, Submission, Timeout, TimeoutRemove, Write, and_left, ap, arith, armed, before_in, bool_cases, born_once, cond, drains, etime_in, events_of, facts_at, facts_of, fails, false, inl, inr, lent, links_hard, links_soft, ltb-true, nat_lt, negsuc, noted, outcome_of, phase, placed_behind, placed_from, reaped, refl, replied, reply_of_replied, request_at, row_number, runs, setup_of, submission, submission_some, submits, subst, sym, ticks_in, true, true≢false, unborn, waits, ℕ, ℤ, ⊎_elim, ◌%◌, ◌&&◌, ◌*◌, ◌+◌, ◌<◌, ◌∙◌, ◌≡◌, ◌≢◌, ◌≤◌, ◌⊎◌}
 use Rattle.steps.proofs.FactsKept.{packed_generation}
 use Rattle.steps.proofs.NotesKept.{lent_out}
 use Rattle.steps.specs.FactsTold.{AreFacts, TellsFacts}

@@ -1,24 +1,5 @@
 -- A line about one request leaves all other cells and pipes as they were.
-use Rattle.std.specs.Prelude.{◌==◌}
-use Rattle.std.proofs.Common.{◌≡◌, ◌≢◌, ℕ, ◌<◌, Bool, true, false, cond, List, [], ◌∷◌, ◌++◌, Option, Some, None, sym, refl, ap, ◌∙◌, subst, ⊎_elim, arith, true≢false, eqb-true, ne_eqb}
-use Rattle.history.specs.declared.req.Req.{Req}
-use Rattle.history.specs.declared.event.Event.{Event}
-use Rattle.history.specs.declared.event.Event.TheVariants.{Reply}
-use Rattle.history.specs.History.{Phase, unborn, waits, runs, armed, replied, same, answers, data_in, data_of, phase, submission, submits}
-use Rattle.history.specs.Chains.{is_timer, IsPlaced, Open}
-use Rattle.history.specs.Pipes.{flow}
-use Rattle.history.specs.Legal.{Setup, Legal, IsOf}
-use Rattle.history.proofs.Requests.{bool_cases}
-use Rattle.claim.specs.declared.tag.Tag.TheVariants.{Empty, Held, Ready, Running, Armed, Done}
-use Rattle.claim.specs.declared.tag.Tag.{Tag}
-use Rattle.steps.specs.declared.line.Line.{Line}
-use Rattle.steps.specs.declared.line.Line.TheVariants.{Did, Hold, Free}
-use Rattle.steps.specs.declared.view.Layout.{Layout}
-use Rattle.steps.specs.declared.view.Role.{Role}
-use Rattle.steps.specs.Fairness.{Fair}
-use Rattle.steps.specs.Journal.{events_of, holder, is_holder, lays, lying}
-use Rattle.steps.specs.Cells.{request_at, Home, IsParcel, Keeps, Ages, MayBegin, Says, CellOk, stands, PipeIs, PipeSays, PipeOk}
-use Rattle.steps.specs.Rule.{holders, stands_for, NoneOf}
+use Rattle.steps.proofs.Common.{Ages, Armed, Bool, CellOk, Did, Done, Empty, Event, Fair, Free, Held, Hold, Home, IsOf, IsParcel, IsPlaced, Keeps, Layout, Legal, Line, List, MayBegin, None, NoneOf, Open, Option, Phase, PipeIs, PipeOk, PipeSays, Ready, Reply, Req, Role, Running, Says, Setup, Some, Tag, [], answers, ap, arith, armed, bool_cases, cond, data_in, data_of, eqb-true, events_of, false, flow, holder, holders, is_holder, is_timer, lays, lying, ne_eqb, phase, refl, replied, request_at, runs, same, stands, stands_for, submission, submits, subst, sym, true, true≢false, unborn, waits, ℕ, ⊎_elim, ◌++◌, ◌<◌, ◌==◌, ◌∙◌, ◌∷◌, ◌≡◌, ◌≢◌}
 use Rattle.steps.proofs.JournalGrowth.{about, phase_stays, data_stays, freed_stays, lent_stays, counted_in, lasts_by, lasts, submission_lasts, placed_lasts, open_lasts, kind_lasts}
 
 abbrev pub Quiet : List ℕ → Line → ℕ → Type 0

@@ -1,17 +1,6 @@
 -- When a cell is free for its next request, and what others leave of its notes.
-use Rattle.std.proofs.Common.{◌≡◌, ℕ, zero, suc, ◌+◌, ◌*◌, ◌<◌, ◌==◌, Bool, true, false, cond, true≢false, ℤ, List, [], ◌∷◌, ◌++◌, sym, refl, ap, ◌∙◌, subst, arith, ne_eqb, suc-mul}
-use Rattle.history.specs.declared.req.Req.{Req}
-use Rattle.history.specs.History.{Cause, Phase, unborn, replied, reaped, phase}
-use Rattle.history.specs.Chains.{IsChainDone}
-use Rattle.history.specs.Legal.{Setup, Legal}
-use Rattle.steps.specs.declared.line.Line.{Line}
-use Rattle.steps.specs.declared.line.Line.TheVariants.{Did, Freed, Lent, Noted, Hold, Free}
-use Rattle.steps.specs.declared.view.Layout.{Layout}
-use Rattle.steps.specs.declared.view.Role.{Role}
-use Rattle.steps.specs.Journal.{events_of, noted}
-use Rattle.steps.specs.Cells.{IsCell, ring_of, place_of, cells_in, request_at, note_at, facts_at}
-use Rattle.steps.specs.Fairness.{IsReaped, IsFree, IsIn, IsFactsNote, Fair, Orderly}
-use Rattle.steps.specs.Rule.{rings, stands_for, owns, NoneOf}
+use Rattle.std.proofs.Common.{◌==◌}
+use Rattle.steps.proofs.Common.{Bool, Cause, Did, Fair, Free, Freed, Hold, IsCell, IsChainDone, IsFactsNote, IsFree, IsIn, IsReaped, Layout, Legal, Lent, Line, List, NoneOf, Noted, Orderly, Phase, Req, Role, Setup, [], ap, arith, cells_in, cond, events_of, facts_at, false, ne_eqb, note_at, noted, owns, phase, place_of, reaped, refl, replied, request_at, ring_of, rings, stands_for, subst, suc, suc-mul, sym, true, true≢false, unborn, zero, ℕ, ℤ, ◌*◌, ◌++◌, ◌+◌, ◌<◌, ◌∙◌, ◌∷◌, ◌≡◌}
 use Rattle.steps.proofs.CellNumbers.{located}
 use Rattle.steps.proofs.JournalGrowth.{legal_before, lasts, reaped_lasts, done_lasts, counted_in}
 

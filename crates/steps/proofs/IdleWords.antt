@@ -1,22 +1,6 @@
 -- What a claim word tells of a request that waits, is armed or runs, and of one that is over. A word that was seen not to be Held stays until its request runs or replies.
-use Rattle.std.proofs.Common.{◌≡◌, ◌≢◌, ◌⊎◌, ⊎_elim, inl, inr, ℕ, ◌+◌, ◌-◌, ◌*◌, ◌<◌, ◌≤◌, ◌&&◌, nat_lt, lt-ltb, Bool, true, false, cond, IsTrue, List, [], ◌∷◌, ◌++◌, Some, sym, refl, ap, ◌∙◌, subst, arith, true≢false}
-use mathlib.Core.Logic.{dite}
-use native.Mathlib.Decide.{ℕ_discrete}
-use Rattle.claim.specs.declared.tag.Tag.{Tag}
-use Rattle.claim.specs.declared.tag.Tag.TheVariants.{Empty, Held, Ready, Running, Armed, Done}
-use Rattle.claim.specs.Claim.{Claim, fits, packed}
-use Rattle.history.specs.declared.req.Req.{Req}
-use Rattle.history.specs.declared.event.Event.{Event}
-use Rattle.history.specs.History.{Phase, unborn, armed, reaped, concerns, becomes, phase, IsReplied}
-use Rattle.history.specs.declared.event.Event.TheVariants.{Take, Expire, Count, Fire, Settle, Cut}
-use Rattle.history.proofs.Requests.{bool_cases}
-use Rattle.history.proofs.Growth.{MayChange, may_change, changed, unchanged, replied_stays}
-use Rattle.history.specs.Legal.{Setup, Legal}
-use Rattle.steps.specs.declared.line.Line.{Line}
-use Rattle.steps.specs.Journal.{events_of, frees, freed}
-use Rattle.steps.specs.Cells.{request_at, Home, Says, word_of}
-use Rattle.steps.specs.Rule.{Shown}
-use Rattle.steps.specs.Plays.{is_idle, IsIdleWord}
+use Rattle.std.proofs.Common.{lt-ltb}
+use Rattle.steps.proofs.Common.{Armed, Bool, Claim, Count, Cut, Done, Empty, Event, Expire, Fire, Held, Home, IsIdleWord, IsReplied, IsTrue, Legal, Line, List, MayChange, Phase, Ready, Req, Running, Says, Settle, Setup, Shown, Some, Tag, Take, [], ap, arith, armed, becomes, bool_cases, changed, concerns, cond, dite, events_of, false, fits, freed, frees, inl, inr, is_idle, may_change, nat_lt, packed, phase, reaped, refl, replied_stays, request_at, subst, sym, true, true≢false, unborn, unchanged, word_of, ℕ, ℕ_discrete, ⊎_elim, ◌&&◌, ◌*◌, ◌++◌, ◌+◌, ◌-◌, ◌<◌, ◌∙◌, ◌∷◌, ◌≡◌, ◌≢◌, ◌≤◌, ◌⊎◌}
 use Rattle.steps.proofs.JournalGrowth.{Lasting, lasts, counted_in, legal_before}
 use Rattle.steps.proofs.ClaimWords.{says_of}
 

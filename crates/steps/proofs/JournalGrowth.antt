@@ -1,22 +1,7 @@
 -- What stays true as the journal grows: of every line, and of the lines of others.
-use Rattle.std.proofs.Common.{◌≡◌, ◌≢◌, ℕ, ◌<◌, ◌≤◌, ◌==◌, Bool, true, false, cond, ℤ, List, [], ◌∷◌, ◌++◌, Some, None, sym, refl, ap, ◌∙◌, subst, ⊎_elim, arith, true≢false, ne_eqb}
-use Rattle.entry.specs.Entry.{Entry}
-use Rattle.history.specs.declared.req.Req.{Req}
-use Rattle.history.specs.declared.event.Event.{Event}
-use Rattle.history.specs.declared.event.Event.TheVariants.{Submit, Begin, Park, Reply, Take, Miss, Tick, Expire, Count, Fire, FireMiss, Settle, Sever, Reap, Shut, Cut}
-use Rattle.history.specs.History.{Cause, Phase, unborn, runs, replied, reaped, Submission, same, concerns, becomes, phase, answers, data_in, data_of, submission, submits, adds_to, was_shut, later_replies, IsReplied}
-use Rattle.history.specs.Chains.{before_in, previous, IsPlaced, IsChainDone, Open, Severed}
-use Rattle.history.specs.Legal.{Setup, MayCome, shut_for, Legal, IsOf}
-use Rattle.history.proofs.Requests.{bool_cases, same_true, same_false}
-use Rattle.history.proofs.Growth.{MayChange, may_change, changed, unchanged, counted, submission_stays, submission_none, replied_stays}
+use Rattle.std.proofs.Common.{◌==◌}
 use Rattle.history.proofs.LaterReplies.{later_grows}
-use Rattle.history.proofs.Opening.{placed_stays, open_stays, severed_stays, done_stays}
-use Rattle.steps.specs.declared.line.Line.{Line}
-use Rattle.steps.specs.declared.line.Line.TheVariants.{Did, Freed, Lent, Noted, Hold, Free}
-use Rattle.steps.specs.declared.view.Role.{Role}
-use Rattle.steps.specs.declared.view.Role.TheVariants.{Busy}
-use Rattle.steps.specs.Journal.{events_of, freed, lent}
-use Rattle.steps.specs.Rule.{rings, stands_for, owns, NoneOf}
+use Rattle.steps.proofs.Common.{Begin, Bool, Busy, Cause, Count, Cut, Did, Entry, Event, Expire, Fire, FireMiss, Free, Freed, Hold, IsChainDone, IsOf, IsPlaced, IsReplied, Legal, Lent, Line, List, MayChange, MayCome, Miss, None, NoneOf, Noted, Open, Park, Phase, Reap, Reply, Req, Role, Settle, Setup, Sever, Severed, Shut, Some, Submission, Submit, Take, Tick, [], adds_to, answers, ap, arith, becomes, before_in, bool_cases, changed, concerns, cond, counted, data_in, data_of, done_stays, events_of, false, freed, later_replies, lent, may_change, ne_eqb, open_stays, owns, phase, placed_stays, previous, reaped, refl, replied, replied_stays, rings, runs, same, same_false, same_true, severed_stays, shut_for, stands_for, submission, submission_none, submission_stays, submits, subst, sym, true, true≢false, unborn, unchanged, was_shut, ℕ, ℤ, ⊎_elim, ◌++◌, ◌<◌, ◌∙◌, ◌∷◌, ◌≡◌, ◌≢◌, ◌≤◌}
 
 -- the line is about this request
 abbrev pub about : Line → Req → Bool

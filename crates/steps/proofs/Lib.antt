@@ -1,3 +1,4 @@
+pub mod Common
 pub mod StepKinds
 pub mod CutsJoinsEnd
 pub mod Frames

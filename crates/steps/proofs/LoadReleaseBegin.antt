@@ -1,39 +1,6 @@
 -- Loads, and the kinds of step that let a request start: release and begin.
-use Rattle.std.proofs.Common.{◌≡◌, ◌≢◌, ℕ, ◌<◌, true, false, cond, Option, Some, List, [], ◌∷◌, get_or, set, sym, refl, ap, ◌∙◌, subst, inl, inr, arith, eqb, true≢false, length-set}
-use mathlib.Core.Option.{some, none}
 use mathlib.Core.Option as maybe
-use mathlib.Core.Logic.{dite}
-use native.Mathlib.Decide.{ℕ_discrete}
-use lib.ListN.{get_elem?}
-use prog.Atomic.{either}
-use Rattle.atomic_table.specs.Table.{step, keeps, takes, Allows}
-use Rattle.atomic_table.proofs.Lists.{set_else}
-use Rattle.claim.specs.declared.tag.Tag.TheVariants.{Held, Ready, Running}
-use Rattle.history.specs.declared.req.Req.{Req}
-use Rattle.history.specs.declared.event.Event.TheVariants.{Begin}
-use Rattle.history.specs.History.{waits, runs, phase, submits, IsReplied}
-use Rattle.history.specs.Chains.{is_timer, Open}
-use Rattle.history.specs.Legal.{Legal, IsOf}
-use Rattle.history.proofs.Requests.{same_itself, same_false}
-use Rattle.steps.specs.declared.line.Line.{Line}
-use Rattle.steps.specs.declared.line.Line.TheVariants.{Did, Freed}
-use Rattle.steps.specs.declared.parcel.Thing.{Thing}
-use Rattle.steps.specs.declared.parcel.Thing.TheVariants.{Full}
-use Rattle.steps.specs.declared.view.Layout.{Layout}
-use Rattle.steps.specs.declared.view.Role.{Role}
-use Rattle.steps.specs.declared.view.View.{View}
-use Rattle.atomic_table.specs.Table.{State}
-use Rattle.history.specs.Legal.{Setup}
-use Rattle.history.specs.History.{was_shut, clock_of}
-use Rattle.history.specs.Pipes.{flow}
-use Rattle.steps.specs.Cells.{setup_of}
-use Rattle.steps.specs.Plays.{Seated}
-use Rattle.steps.specs.Fairness.{Fair}
-use Rattle.steps.specs.declared.view.Role.TheVariants.{Idle, Busy, Spent}
-use Rattle.steps.specs.Journal.{events_of, freed, holder}
-use Rattle.steps.specs.Cells.{IsCell, ring_of, request_at, Keeps, MayBegin, claim_at, note_at, slot_at, word_of}
-use Rattle.steps.specs.Rule.{pollers, workers, holders, stands_for, Ruled}
-use Rattle.steps.specs.Plays.{looked, noticed, tried, released, began}
+use Rattle.steps.proofs.Common.{Allows, Begin, Busy, Did, Fair, Freed, Full, Held, Idle, IsCell, IsOf, IsReplied, Keeps, Layout, Legal, Line, List, MayBegin, Open, Option, Ready, Req, Role, Ruled, Running, Seated, Setup, Some, Spent, State, Thing, View, [], ap, arith, began, claim_at, clock_of, cond, dite, either, eqb, events_of, false, flow, freed, get_elem?, get_or, holder, holders, inl, inr, is_timer, keeps, length-set, looked, none, note_at, noticed, phase, pollers, refl, released, request_at, ring_of, runs, same_false, same_itself, set, set_else, setup_of, slot_at, some, stands_for, step, submits, subst, sym, takes, tried, true, true≢false, waits, was_shut, word_of, workers, ℕ, ℕ_discrete, ◌<◌, ◌∙◌, ◌∷◌, ◌≡◌, ◌≢◌}
 use Rattle.steps.proofs.CellNumbers.{other_cell, other_age}
 use Rattle.steps.proofs.Roles.{unowned, busy_apart, works_for}
 use Rattle.steps.proofs.JournalGrowth.{counted_in, open_lasts, kind_lasts, phase_stays}

@@ -1,20 +1,5 @@
 -- Which requests a cancel is meant for stays as the journal grows, and what had a cell before has gone.
-use Rattle.std.proofs.Common.{◌≡◌, ℕ, ◌+◌, ◌<◌, ◌≤◌, true, false, cond, List, [], ◌∷◌, ◌++◌, Some, sym, refl, ap, ◌∙◌, subst, ⊎_elim, arith}
-use Rattle.history.specs.declared.req.Req.{Req}
-use Rattle.history.specs.declared.event.Event.TheVariants.{Submit}
-use Rattle.history.specs.History.{Submission, phase, same, submission, submits}
-use Rattle.history.specs.Chains.{IsBefore, placed}
-use Rattle.history.specs.Answers.{Matches}
-use Rattle.history.specs.Legal.{Setup, Legal}
-use Rattle.history.proofs.Requests.{bool_cases, same_true}
-use Rattle.history.proofs.Growth.{submission_some}
-use Rattle.history.proofs.Opening.{placed_stays}
-use Rattle.steps.specs.declared.line.Line.{Line}
-use Rattle.steps.specs.declared.line.Line.TheVariants.{Did}
-use Rattle.steps.specs.declared.view.Layout.{Layout}
-use Rattle.steps.specs.Fairness.{IsReaped, IsFree, Orderly}
-use Rattle.steps.specs.Journal.{events_of}
-use Rattle.steps.specs.Cells.{setup_of, cells_in}
+use Rattle.steps.proofs.Common.{Did, IsBefore, IsFree, IsReaped, Layout, Legal, Line, List, Matches, Orderly, Req, Setup, Some, Submission, Submit, [], ap, arith, bool_cases, cells_in, cond, events_of, false, phase, placed, placed_stays, refl, same, same_true, setup_of, submission, submission_some, submits, subst, sym, true, ℕ, ⊎_elim, ◌++◌, ◌+◌, ◌<◌, ◌∙◌, ◌∷◌, ◌≡◌, ◌≤◌}
 use Rattle.steps.proofs.JournalGrowth.{lasts}
 use Rattle.steps.proofs.FreeCells.{free_later}
 

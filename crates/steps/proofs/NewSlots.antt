@@ -1,18 +1,8 @@
 -- The slots of a new table, as far as they are made.
-use Rattle.std.proofs.Common.{◌≡◌, ℕ, ◌+◌, ◌<◌, Option, Some, None, List, [], ◌∷◌, ◌++◌, length, sym, refl, ap, ◌∙◌, subst, arith, length-append, get_or}
-use Rattle.std.specs.Prelude.{vec_capacity}
-use mathlib.Core.Logic.{dite}
-use mathlib.Core.Option.{some}
-use native.Mathlib.Decide.{ℕ_discrete}
-use lib.ListN.{get_elem?}
-use Rattle.atomic_table.proofs.Lists.{at_longer}
-use Rattle.history.specs.Pipes.{untouched}
 use Rattle.pipe.specs.Pipe.{Conduit}
 use Rattle.pipe.specs.PipeAnswers.{new_conduit}
-use Rattle.steps.specs.declared.parcel.Thing.{Thing}
-use Rattle.steps.specs.declared.parcel.Thing.TheVariants.{Piped}
 use Rattle.steps.specs.declared.parcel.WaitedPipe.{WaitedPipe}
-use Rattle.steps.specs.Cells.{PipeIn, slot_at, slots_of}
+use Rattle.steps.proofs.Common.{List, None, Option, PipeIn, Piped, Some, Thing, [], ap, arith, at_longer, dite, get_elem?, get_or, length, length-append, refl, slot_at, slots_of, some, subst, sym, untouched, vec_capacity, ℕ, ℕ_discrete, ◌++◌, ◌+◌, ◌<◌, ◌∙◌, ◌∷◌, ◌≡◌}
 
 at_last : {A : Type 0} (l : List A) (a : A) → get_elem? (l ++ a ∷ []) (length l) ≡ some a
 at_last [] a = refl

@@ -1,39 +1,6 @@
 -- The notes that a submitter stores before its Submit and before its Reap. With the facts it takes the slot of its cell.
-use Rattle.std.specs.Prelude.{◌==◌}
-use Rattle.std.proofs.Common.{◌≡◌, ◌≢◌, ℕ, ◌+◌, ◌*◌, ◌<◌, ◌⊎◌, Bool, true, false, cond, Option, Some, None, ℤ, List, ◌∷◌, get_or, set, sym, refl, ap, ◌∙◌, subst, inl, inr, arith, ne_eqb, eq-eqb, true≢false, get_or-set_other, get_or-set_same, length-set}
-use mathlib.Core.Option.{some, none}
 use mathlib.Core.Option as maybe
-use mathlib.Core.Logic.{dite}
-use native.Mathlib.Decide.{ℕ_discrete}
-use lib.ListN.{get_elem?}
-use Rattle.atomic_table.specs.Table.{step, keeps, takes, stepped, Allows}
-use Rattle.atomic_table.proofs.Lists.{set_else}
-use Rattle.claim.specs.declared.tag.Tag.TheVariants.{Empty, Done}
-use Rattle.entry.specs.Entry.{Entry, fails}
-use Rattle.history.specs.Chains.{IsPlaced}
-use Rattle.history.specs.declared.req.Req.{Req}
-use Rattle.history.specs.History.{Cause, replied, phase, data_of}
-use Rattle.history.specs.Legal.{Legal}
-use Rattle.history.proofs.Requests.{same_itself, same_false}
-use Rattle.history.proofs.Growth.{unborn_yet}
-use Rattle.steps.specs.declared.line.Line.{Line}
-use Rattle.steps.specs.declared.line.Line.TheVariants.{Lent, Noted}
-use Rattle.steps.specs.declared.parcel.Thing.{Thing}
-use Rattle.steps.specs.declared.parcel.Thing.TheVariants.{Full}
-use Rattle.steps.specs.declared.view.Layout.{Layout}
-use Rattle.steps.specs.declared.view.Role.{Role}
-use Rattle.steps.specs.declared.view.View.{View}
-use Rattle.atomic_table.specs.Table.{State}
-use Rattle.history.specs.Legal.{Setup}
-use Rattle.steps.specs.Cells.{setup_of}
-use Rattle.steps.specs.Plays.{Seated}
-use Rattle.steps.specs.declared.view.Role.TheVariants.{Submitter, Lending, Busy}
-use Rattle.steps.specs.Journal.{events_of, lent, noted}
-use Rattle.steps.specs.Cells.{IsCell, ring_of, request_at, CellOk, IsParcel, claim_at, note_at, facts_at, slot_at, cause_bits}
-use Rattle.steps.specs.Rule.{rings, workers, stands_for, apart, is_leaving, Vacant, Ruled, Extends}
-use Rattle.steps.specs.Fairness.{Fair, IsFactsNote}
-use Rattle.steps.specs.Notes.{outcome_of}
-use Rattle.steps.specs.Plays.{opened, noted_more, emptied, Hands}
+use Rattle.steps.proofs.Common.{Allows, Bool, Busy, Cause, CellOk, Done, Empty, Entry, Extends, Fair, Full, Hands, IsCell, IsFactsNote, IsParcel, IsPlaced, Layout, Legal, Lending, Lent, Line, List, None, Noted, Option, Req, Role, Ruled, Seated, Setup, Some, State, Submitter, Thing, Vacant, View, ap, apart, arith, cause_bits, claim_at, cond, data_of, dite, emptied, eq-eqb, events_of, facts_at, fails, false, get_elem?, get_or, get_or-set_other, get_or-set_same, inl, inr, is_leaving, keeps, length-set, lent, ne_eqb, none, note_at, noted, noted_more, opened, outcome_of, phase, refl, replied, request_at, ring_of, rings, same_false, same_itself, set, set_else, setup_of, slot_at, some, stands_for, step, stepped, subst, sym, takes, true, true≢false, unborn_yet, workers, ℕ, ℕ_discrete, ℤ, ◌*◌, ◌+◌, ◌<◌, ◌==◌, ◌∙◌, ◌∷◌, ◌≡◌, ◌≢◌, ◌⊎◌}
 use Rattle.steps.proofs.CellNumbers.{other_cell, other_age, one_word}
 use Rattle.steps.proofs.Roles.{as_lending, idle_hands}
 use Rattle.steps.proofs.JournalGrowth.{begins, ran, lent_stays, counted_in, placed_lasts}

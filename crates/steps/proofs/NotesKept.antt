@@ -1,24 +1,5 @@
 -- While a request is submitted its notes are those of its entry, and once its slot is out for the Reap, the outcome stands in them.
-use Rattle.std.proofs.Common.{◌≡◌, ◌≢◌, ◌⊎◌, ⊎_elim, ℕ, zero, suc, ◌+◌, ◌*◌, ◌<◌, ◌≤◌, Bool, true, false, cond, true≢false, ℤ, List, [], ◌∷◌, Some, sym, refl, ap, ◌∙◌, subst, inl, inr, arith, eq-eqb, ne_eqb, suc-mul, nat_lt, ltb-true, ltb-false}
-use mathlib.Core.Logic.{dite}
-use native.Mathlib.Decide.{ℕ_discrete}
-use Rattle.entry.specs.Entry.{Entry, fails}
-use Rattle.history.specs.declared.req.Req.{Req}
-use Rattle.history.specs.declared.event.Event.{Event}
-use Rattle.history.specs.declared.event.Event.TheVariants.{Submit, Reap}
-use Rattle.history.specs.History.{Cause, Phase, unborn, waits, runs, armed, replied, reaped, Submission, same, concerns, phase, submission, submits, after_reap}
-use Rattle.history.specs.Chains.{IsPlaced, IsChainDone, is_timeout}
-use Rattle.history.specs.Legal.{Setup, Legal, MayCome, count_of}
-use Rattle.history.proofs.Requests.{bool_cases, same_itself, same_true}
-use Rattle.history.proofs.Growth.{MayChange, may_change, changed, unchanged, born_once, submission_none}
-use Rattle.history.proofs.Opening.{placed_stays}
-use Rattle.steps.specs.declared.line.Line.{Line}
-use Rattle.steps.specs.declared.line.Line.TheVariants.{Did, Lent, Noted}
-use Rattle.steps.specs.declared.view.Layout.{Layout}
-use Rattle.steps.specs.Fairness.{Fair, Orderly, IsFree, IsReaped, IsIn, AreNoted, IsFactsNote, NotesSay, NotesTell}
-use Rattle.steps.specs.Journal.{events_of, lent, noted}
-use Rattle.steps.specs.Cells.{IsCell, ring_of, place_of, cells_in, request_at, facts_at, user_at, count_at}
-use Rattle.steps.specs.Notes.{facts_of, outcome_of}
+use Rattle.steps.proofs.Common.{AreNoted, Bool, Cause, Did, Entry, Event, Fair, IsCell, IsChainDone, IsFactsNote, IsFree, IsIn, IsPlaced, IsReaped, Layout, Legal, Lent, Line, List, MayChange, MayCome, Noted, NotesSay, NotesTell, Orderly, Phase, Reap, Req, Setup, Some, Submission, Submit, [], after_reap, ap, arith, armed, bool_cases, born_once, cells_in, changed, concerns, cond, count_at, count_of, dite, eq-eqb, events_of, facts_at, facts_of, fails, false, inl, inr, is_timeout, lent, ltb-false, ltb-true, may_change, nat_lt, ne_eqb, noted, outcome_of, phase, place_of, placed_stays, reaped, refl, replied, request_at, ring_of, runs, same, same_itself, same_true, submission, submission_none, submits, subst, suc, suc-mul, sym, true, true≢false, unborn, unchanged, user_at, waits, zero, ℕ, ℕ_discrete, ℤ, ⊎_elim, ◌*◌, ◌+◌, ◌<◌, ◌∙◌, ◌∷◌, ◌≡◌, ◌≢◌, ◌≤◌, ◌⊎◌}
 use Rattle.steps.proofs.CellNumbers.{one_cell, other_cell}
 use Rattle.steps.proofs.FreeCells.{reaped_as}
 use Rattle.steps.proofs.JournalGrowth.{legal_tail, reaped_lasts, done_lasts, lasts_by, counted_in}

@@ -1,25 +1,7 @@
 -- What only the poller's own events change: the clock, which timers fired, and an armed LINK_TIMEOUT. What only a worker's own change: what its cancel did.
-use Rattle.std.proofs.Common.{◌≡◌, ℕ, ◌==◌, not, Bool, true, false, cond, List, [], ◌∷◌, ◌++◌, sym, ap, ◌∙◌, subst, ⊎_elim, refl, true≢false}
-use Rattle.std.proofs.lemmas.Bool.{and_right}
-use Rattle.entry.specs.declared.op.Op.{Op}
-use Rattle.entry.specs.declared.op.Op.TheVariants.{AsyncCancel, TimeoutRemove, LinkTimeout}
-use Rattle.entry.specs.Entry.{Entry}
-use Rattle.history.specs.declared.req.Req.{Req}
-use Rattle.history.specs.declared.event.Event.{Event}
-use Rattle.history.specs.declared.event.Event.TheVariants.{Take, Miss, Tick, Expire, Count, Fire, FireMiss, Settle, Cut}
-use Rattle.history.specs.History.{took, missed, armed, concerns, phase, fired, hit, clock_of, was_shut}
-use Rattle.history.specs.Chains.{IsPlaced, IsLinkTimeout, is_link_timeout, is_timeout}
-use Rattle.history.specs.Answers.{asks_for}
-use Rattle.history.specs.Legal.{Setup, MayCome, shut_for, Legal}
-use Rattle.history.proofs.Requests.{bool_cases, same_true}
-use Rattle.history.proofs.Growth.{MayChange, may_change, unchanged}
+use Rattle.std.proofs.Common.{◌==◌}
 use Rattle.history.proofs.Catches.{hit_matches}
-use Rattle.steps.specs.declared.line.Line.{Line}
-use Rattle.steps.specs.declared.line.Line.TheVariants.{Did}
-use Rattle.steps.specs.declared.view.Role.{Role}
-use Rattle.steps.specs.declared.view.Role.TheVariants.{Busy}
-use Rattle.steps.specs.Journal.{events_of}
-use Rattle.steps.specs.Rule.{pollers, stands_for, owns, NoneOf}
+use Rattle.steps.proofs.Common.{AsyncCancel, Bool, Busy, Count, Cut, Did, Entry, Event, Expire, Fire, FireMiss, IsLinkTimeout, IsPlaced, Legal, Line, LinkTimeout, List, MayChange, MayCome, Miss, NoneOf, Op, Req, Role, Settle, Setup, Take, Tick, TimeoutRemove, [], and_right, ap, armed, asks_for, bool_cases, clock_of, concerns, cond, events_of, false, fired, hit, is_link_timeout, is_timeout, may_change, missed, not, owns, phase, pollers, refl, same_true, shut_for, stands_for, subst, sym, took, true, true≢false, unchanged, was_shut, ℕ, ⊎_elim, ◌++◌, ◌∙◌, ◌∷◌, ◌≡◌}
 use Rattle.steps.proofs.JournalGrowth.{legal_tail, live_tail, counted_in, lasts, placed_lasts, legal_before}
 
 -- no cancel asks for a LINK_TIMEOUT

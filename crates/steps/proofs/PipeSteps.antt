@@ -1,46 +1,9 @@
 -- How a worker takes a pipe, and how it gives it back, or one of two: before a reply, or after it.
-use Rattle.std.specs.Prelude.{◌==◌}
-use Rattle.std.proofs.Common.{◌≡◌, ◌≢◌, ℕ, suc, ◌+◌, ◌<◌, ◌⊎◌, true, false, cond, List, [], ◌∷◌, ◌++◌, length, Option, Some, None, get_or, set, sym, refl, ap, ◌∙◌, subst, ⊎_elim, inl, inr, arith, eqb, eqb-true, eq-eqb, ne_eqb, true≢false, length-set, get_or-set_same, get_or-set_other}
-use Rattle.std.proofs.lemmas.Bool.{and_parts, and_from, and_right}
-use mathlib.Core.Option.{some, none}
 use mathlib.Core.Option as maybe
-use mathlib.Core.Logic.{dite}
-use native.Mathlib.Decide.{ℕ_discrete}
-use lib.ListN.{get_elem?}
-use lib.Seq.{set-get_or}
-use prog.Atomic.{either}
-use Rattle.atomic_table.specs.Table.{State, step, keeps, takes, gives, stepped, carried_after, Allows, rest}
-use Rattle.atomic_table.proofs.Lists.{set_here, set_else, exchanged}
-use Rattle.history.specs.declared.req.Req.{Req}
-use Rattle.history.specs.declared.event.Event.{Event}
-use Rattle.history.specs.History.{same, phase, was_shut, clock_of, submission, submits, Submission}
-use Rattle.history.specs.Chains.{IsPlaced}
-use Rattle.history.specs.Pipes.{Flow, content, contents, flow, flows_as}
-use Rattle.history.specs.Answers.{is_pipe, OpAnswers}
-use Rattle.history.specs.Users.{uses_at}
-use Rattle.history.specs.Legal.{Legal, Setup}
-use Rattle.entry.specs.Entry.{Entry}
-use Rattle.history.proofs.Requests.{same_itself, same_true}
 use Rattle.history.proofs.Contents.{flows_as_by}
-use Rattle.history.specs.declared.event.Event.TheVariants.{Reply}
-use Rattle.steps.specs.declared.line.Laid.{Laid}
 use Rattle.steps.specs.declared.line.Laid.TheVariants.{NoRequest}
-use Rattle.steps.specs.declared.line.Line.{Line}
-use Rattle.steps.specs.declared.line.Line.TheVariants.{Did, Hold, Free}
 use Rattle.steps.specs.declared.parcel.WaitedPipe.{WaitedPipe}
-use Rattle.steps.specs.declared.parcel.Thing.{Thing}
-use Rattle.steps.specs.declared.parcel.Thing.TheVariants.{Full, Piped}
-use Rattle.steps.specs.declared.view.Heard.{Heard}
-use Rattle.steps.specs.declared.view.Layout.{Layout}
-use Rattle.steps.specs.declared.view.Role.{Role}
-use Rattle.steps.specs.declared.view.Role.TheVariants.{Idle, Busy, Leaving, Parting, Lending}
-use Rattle.steps.specs.declared.view.Step.{Step}
-use Rattle.steps.specs.declared.view.View.{View}
-use Rattle.steps.specs.Fairness.{Fair, Orderly, HasWaited, MayLay}
-use Rattle.steps.specs.Journal.{events_of, lent, noted, holder, is_holder, lays, lying}
-use Rattle.steps.specs.Cells.{setup_of, request_at, claim_at, note_at, pipe_at, slot_at, Home, stands, PipeIs, PipeSays, PipeOk}
-use Rattle.steps.specs.Rule.{Owner, holders, stands_for, is_leaving, owns, apart, IsHeard, Saw, SeatOk, IsHeldBy, Knows, Ruled, seeing, Looks, Extends, IsStep, leaves_one}
-use Rattle.steps.specs.Plays.{Seated, HasAlone, HasBoth, HasPipe, HasPipeAfter, IsSamePipe, pipe_taken, pipe_returned, pipe_left, pipe_left_first, pipe_left_last}
+use Rattle.steps.proofs.Common.{Allows, Busy, Did, Entry, Event, Extends, Fair, Flow, Free, Full, HasAlone, HasBoth, HasPipe, HasPipeAfter, HasWaited, Heard, Hold, Home, Idle, IsHeard, IsHeldBy, IsPlaced, IsSamePipe, IsStep, Knows, Laid, Layout, Leaving, Legal, Lending, Line, List, Looks, MayLay, None, OpAnswers, Option, Orderly, Owner, Parting, PipeIs, PipeOk, PipeSays, Piped, Reply, Req, Role, Ruled, Saw, SeatOk, Seated, Setup, Some, State, Step, Submission, Thing, View, [], and_from, and_parts, and_right, ap, apart, arith, carried_after, claim_at, clock_of, cond, content, contents, dite, either, eq-eqb, eqb, eqb-true, events_of, exchanged, false, flow, flows_as, get_elem?, get_or, get_or-set_other, get_or-set_same, gives, holder, holders, inl, inr, is_holder, is_leaving, is_pipe, keeps, lays, leaves_one, length, length-set, lent, lying, ne_eqb, none, note_at, noted, owns, phase, pipe_at, pipe_left, pipe_left_first, pipe_left_last, pipe_returned, pipe_taken, refl, request_at, rest, same, same_itself, same_true, seeing, set, set-get_or, set_else, set_here, setup_of, slot_at, some, stands, stands_for, step, stepped, submission, submits, subst, suc, sym, takes, true, true≢false, uses_at, was_shut, ℕ, ℕ_discrete, ⊎_elim, ◌++◌, ◌+◌, ◌<◌, ◌==◌, ◌∙◌, ◌∷◌, ◌≡◌, ◌≢◌, ◌⊎◌}
 use Rattle.steps.proofs.Roles.{same_sym, idle_hands, idle_apart, idle_owns, none_of, parting_apart, parting_owns}
 use Rattle.steps.proofs.JournalGrowth.{about, lasts, legal_before, submitted_in, submission_lasts, placed_lasts}
 use Rattle.steps.proofs.Frames.{pipe_stays, still_lacks}

@@ -1,26 +1,6 @@
 -- A pipe that a worker has stays with it, and nobody else changes what is in it. A reply hangs on the pipe that its entry names, and changes no other.
-use Rattle.std.specs.Prelude.{◌==◌, ◌&&◌, ◌||◌}
-use Rattle.std.proofs.Common.{◌≡◌, ◌≢◌, inr, ℕ, ◌+◌, Bool, true, false, cond, not, ℤ, pos, negsuc, List, [], ◌∷◌, ◌++◌, slice_index, take, Option, Some, None, sym, refl, ap, ◌∙◌, subst, ⊎_elim, arith, true≢false, eqb-true, eq-eqb, ne_eqb, append-nil}
-use Rattle.entry.specs.declared.op.Op.{Op}
-use Rattle.entry.specs.declared.op.Op.TheVariants.{Nop, Close, Read, Write, Splice, PollAdd, AsyncCancel, TimeoutRemove, Invalid}
-use Rattle.entry.specs.Entry.{Entry}
-use Rattle.history.specs.declared.req.Req.{Req}
-use Rattle.history.specs.declared.event.Event.{Event}
-use Rattle.history.specs.declared.event.Event.TheVariants.{Reply}
-use Rattle.history.specs.History.{Submission, submission, hit}
-use Rattle.history.specs.Chains.{placed, IsPlaced}
-use Rattle.history.specs.Pipes.{Flow, contents, flow, offered, flows, flows_as, moves, End, no_end, read_end, write_end, end_of, reads, writes, closes, is_zero}
-use Rattle.history.specs.Answers.{Answer, now, bad_end, is_pipe, answer_read, answer_write, answer_splice, answer_poll, read_events, write_events, read_from, write_to, splice_of, close_of, poll_of, CancelBy, OpAnswers}
-use Rattle.history.specs.Users.{is_at, uses_at, uses_at_in, is_steady}
-use Rattle.history.proofs.Requests.{bool_cases, same_false}
-use Rattle.steps.specs.declared.line.Line.{Line}
-use Rattle.steps.specs.declared.line.Line.TheVariants.{Did, Hold, Free}
-use Rattle.steps.specs.declared.view.Layout.{Layout}
-use Rattle.steps.specs.declared.view.Role.{Role}
-use Rattle.steps.specs.Fairness.{Fair, Orderly, HasWaited}
-use Rattle.steps.specs.Journal.{events_of, holder, is_holder, lays, lying}
-use Rattle.steps.specs.Cells.{stands}
-use Rattle.steps.specs.Rule.{holders, stands_for, owns, NoneOf}
+use Rattle.std.specs.Prelude.{◌&&◌}
+use Rattle.steps.proofs.Common.{Answer, AsyncCancel, Bool, CancelBy, Close, Did, End, Entry, Event, Fair, Flow, Free, HasWaited, Hold, Invalid, IsPlaced, Layout, Line, List, None, NoneOf, Nop, Op, OpAnswers, Option, Orderly, PollAdd, Read, Reply, Req, Role, Some, Splice, Submission, TimeoutRemove, Write, [], answer_poll, answer_read, answer_splice, answer_write, ap, append-nil, arith, bad_end, bool_cases, close_of, closes, cond, contents, end_of, eq-eqb, eqb-true, events_of, false, flow, flows, flows_as, hit, holder, holders, inr, is_at, is_holder, is_pipe, is_steady, is_zero, lays, lying, moves, ne_eqb, negsuc, no_end, not, now, offered, owns, placed, poll_of, pos, read_end, read_events, read_from, reads, refl, same_false, slice_index, splice_of, stands, stands_for, submission, subst, sym, take, true, true≢false, uses_at, uses_at_in, write_end, write_events, write_to, writes, ℕ, ℤ, ⊎_elim, ◌++◌, ◌+◌, ◌==◌, ◌||◌, ◌∙◌, ◌∷◌, ◌≡◌, ◌≢◌}
 use Rattle.steps.proofs.Roles.{idle_hands}
 
 -- ---- what a reply leaves alone

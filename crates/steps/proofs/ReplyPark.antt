@@ -1,38 +1,5 @@
 -- How a worker ends with a request: by a reply, with the pipe that its entry names or without one, or by parking it.
-use Rattle.std.proofs.Common.{◌≡◌, ◌≢◌, ℕ, ◌<◌, true, false, Option, Some, ℤ, List, [], ◌∷◌, get_or, set, sym, refl, ap, ◌∙◌, subst, inr, arith, eqb, length-set}
-use mathlib.Core.Option.{some, none}
-use prog.Atomic.{either}
-use Rattle.atomic_table.specs.Table.{step, gives, Allows, rest}
-use Rattle.atomic_table.proofs.Lists.{set_here, set_else}
-use Rattle.claim.specs.declared.tag.Tag.TheVariants.{Ready, Running, Done}
-use Rattle.entry.specs.Entry.{Entry, fails}
-use Rattle.history.specs.declared.req.Req.{Req}
-use Rattle.history.specs.declared.event.Event.{Event}
-use Rattle.history.specs.declared.event.Event.TheVariants.{Park, Reply}
-use Rattle.history.specs.History.{by_reply, waits, runs, replied, phase, submission, submits, hit, nothing, IsReplied}
-use Rattle.history.specs.Chains.{IsPlaced}
-use Rattle.history.specs.Legal.{Legal}
-use Rattle.history.proofs.Requests.{same_itself, same_true}
-use Rattle.steps.specs.declared.line.Line.{Line}
-use Rattle.steps.specs.declared.line.Line.TheVariants.{Did}
-use Rattle.steps.specs.declared.parcel.Parcel.{Parcel}
-use Rattle.steps.specs.declared.parcel.Thing.{Thing}
-use Rattle.steps.specs.declared.parcel.Thing.TheVariants.{Full}
-use Rattle.steps.specs.declared.view.Layout.{Layout}
-use Rattle.steps.specs.declared.view.Role.{Role}
-use Rattle.steps.specs.declared.view.View.{View}
-use Rattle.atomic_table.specs.Table.{State}
-use Rattle.history.specs.Legal.{Setup}
-use Rattle.history.specs.Pipes.{Flow, flow}
-use Rattle.history.specs.Answers.{is_pipe, OpAnswers}
-use Rattle.history.specs.Users.{uses_at, uses_at_in}
-use Rattle.steps.specs.Cells.{setup_of}
-use Rattle.steps.specs.Plays.{Seated}
-use Rattle.steps.specs.declared.view.Role.TheVariants.{Idle, Busy, Leaving}
-use Rattle.steps.specs.Journal.{events_of, lent, holder}
-use Rattle.steps.specs.Cells.{IsCell, request_at, IsParcel, claim_at, slot_at, word_of, reply_bits, cause_bits}
-use Rattle.steps.specs.Rule.{holders, stands_for, apart, owns, Ruled, Extends}
-use Rattle.steps.specs.Plays.{MayReply, sure, replied_with, parked}
+use Rattle.steps.proofs.Common.{Allows, Busy, Did, Done, Entry, Event, Extends, Flow, Full, Idle, IsCell, IsParcel, IsPlaced, IsReplied, Layout, Leaving, Legal, Line, List, MayReply, OpAnswers, Option, Parcel, Park, Ready, Reply, Req, Role, Ruled, Running, Seated, Setup, Some, State, Thing, View, [], ap, apart, arith, by_reply, cause_bits, claim_at, either, eqb, events_of, fails, false, flow, get_or, gives, hit, holder, holders, inr, is_pipe, length-set, lent, none, nothing, owns, parked, phase, refl, replied, replied_with, reply_bits, request_at, rest, runs, same_itself, same_true, set, set_else, set_here, setup_of, slot_at, some, stands_for, step, submission, submits, subst, sure, sym, true, uses_at, uses_at_in, waits, word_of, ℕ, ℤ, ◌<◌, ◌∙◌, ◌∷◌, ◌≡◌, ◌≢◌}
 use Rattle.steps.proofs.CellNumbers.{other_cell, other_age, one_word, one_result}
 use Rattle.steps.proofs.CancelsKept.{hit_now, cancel_now}
 use Rattle.steps.proofs.PipesKept.{answer_stays, one_data, reply_leaves}

@@ -1,14 +1,7 @@
 -- Whose lines are whose: two roles that are apart own no line together.
-use Rattle.std.specs.Prelude.{◌==◌, ◌&&◌}
-use Rattle.std.proofs.Common.{◌≡◌, ◌⊎◌, ℕ, Bool, List, [], ◌∷◌, true, false, not, sym, refl, ap, ◌∙◌, subst, ⊎_elim, inl, inr, true≢false, arith}
+use Rattle.std.specs.Prelude.{◌&&◌}
 use Rattle.std.proofs.lemmas.Bool.Decides.{nat_tests}
-use Rattle.history.specs.declared.req.Req.{Req}
-use Rattle.history.specs.History.{same}
-use Rattle.history.proofs.Requests.{bool_cases, same_itself, same_true}
-use Rattle.steps.specs.declared.line.Line.{Line}
-use Rattle.steps.specs.declared.view.Role.{Role}
-use Rattle.steps.specs.declared.view.Role.TheVariants.{Poller, Submitter, Lending, Idle, Busy, Leaving, Parting, Spent}
-use Rattle.steps.specs.Rule.{Owner, nobody, pollers, rings, workers, holders, owner, stands_for, owns, apart, NoneOf, is_leaving}
+use Rattle.steps.proofs.Common.{Bool, Busy, Idle, Leaving, Lending, Line, List, NoneOf, Owner, Parting, Poller, Req, Role, Spent, Submitter, [], ap, apart, arith, bool_cases, false, holders, inl, inr, is_leaving, nobody, not, owner, owns, pollers, refl, rings, same, same_itself, same_true, stands_for, subst, sym, true, true≢false, workers, ℕ, ⊎_elim, ◌==◌, ◌∙◌, ◌∷◌, ◌≡◌, ◌⊎◌}
 
 pub same_sym : (a b : Req) → same a b ≡ same b a
 same_sym a b = grind (arith, nat_tests)

@@ -1,30 +1,7 @@
 -- A step of one seat keeps the rule where it is right for its own cell and its own view.
 use Rattle.std.proofs.lemmas.List.{append_assoc}
-use Rattle.std.proofs.Common.{◌≡◌, ℕ, zero, suc, ◌+◌, ◌<◌, ◌≤◌, ◌⊎◌, true, false, Option, Some, None, List, [], ◌∷◌, ◌++◌, length, get_or, set, sym, refl, ap, ◌∙◌, subst, inl, ⊎_elim, arith, length-set, get_or-set_same, get_or-set_other}
-use mathlib.Core.Logic.{dite}
-use mathlib.Core.Option.{some, none, some-injective, some-ne-none}
 use mathlib.Core.Option as maybe
-use native.Mathlib.Decide.{ℕ_discrete}
-use lib.ListN.{get_elem?}
-use Rattle.atomic_table.specs.Table.{State}
-use Rattle.atomic_table.proofs.Lists.{at_set, set_else}
-use Rattle.history.specs.declared.event.Event.{Event}
-use Rattle.history.specs.declared.req.Req.{Req}
-use Rattle.history.specs.History.{phase, runs, clock_of, was_shut, IsReplied}
-use Rattle.history.specs.Pipes.{flow}
-use Rattle.history.specs.Legal.{Legal}
-use Rattle.steps.specs.declared.line.Line.{Line}
-use Rattle.steps.specs.declared.parcel.Thing.{Thing}
-use Rattle.steps.specs.declared.view.Heard.{Heard}
-use Rattle.steps.specs.declared.view.Layout.{Layout}
-use Rattle.steps.specs.declared.view.Role.{Role}
-use Rattle.steps.specs.declared.view.Role.TheVariants.{Busy, Lending}
-use Rattle.steps.specs.declared.view.Step.{Step}
-use Rattle.steps.specs.declared.view.View.{View}
-use Rattle.steps.specs.Fairness.{Fair}
-use Rattle.steps.specs.Journal.{events_of, lent, noted, holder}
-use Rattle.steps.specs.Cells.{setup_of, IsCell, CellOk, PipeOk, Home, claim_at, note_at, pipe_at, slot_at, slots_of, words_of}
-use Rattle.steps.specs.Rule.{holders, stands_for, owns, apart, is_leaving, Begins, AreMade, IsHeard, AllBegin, AllSaw, IsGone, SeatOk, parts_of, IsRunBy, IsHeldBy, IsLentBy, Knows, Ruled, seeing}
+use Rattle.steps.proofs.Common.{AllBegin, AllSaw, AreMade, Begins, Busy, CellOk, Event, Fair, Heard, Home, IsCell, IsGone, IsHeard, IsHeldBy, IsLentBy, IsReplied, IsRunBy, Knows, Layout, Legal, Lending, Line, List, None, Option, PipeOk, Req, Role, Ruled, SeatOk, Some, State, Step, Thing, View, [], ap, apart, arith, at_set, claim_at, clock_of, dite, events_of, false, flow, get_elem?, get_or, get_or-set_other, get_or-set_same, holder, holders, inl, is_leaving, length, length-set, lent, none, note_at, noted, owns, parts_of, phase, pipe_at, refl, runs, seeing, set, set_else, setup_of, slot_at, slots_of, some, some-injective, some-ne-none, stands_for, subst, suc, sym, true, was_shut, words_of, zero, ℕ, ℕ_discrete, ⊎_elim, ◌++◌, ◌+◌, ◌<◌, ◌∙◌, ◌∷◌, ◌≡◌, ◌≤◌, ◌⊎◌}
 use Rattle.steps.proofs.Roles.{apart_sym, others_own}
 use Rattle.steps.proofs.JournalGrowth.{replied_later}
 use Rattle.steps.proofs.Frames.{Quiet, cell_stays, pipe_stays}

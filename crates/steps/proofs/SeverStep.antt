@@ -1,23 +1,5 @@
 -- Sever: the poller ends a request of which an earlier member of its chain has failed.
-use Rattle.std.proofs.Common.{◌≡◌, ◌≢◌, ℕ, ◌<◌, true, negsuc, List, refl, arith, eqb}
-use mathlib.Core.Option.{none}
-use prog.Atomic.{either}
-use Rattle.atomic_table.specs.Table.{step, Allows}
-use Rattle.claim.specs.declared.tag.Tag.TheVariants.{Held, Done}
-use Rattle.entry.specs.Entry.{Entry, fails}
-use Rattle.history.specs.declared.req.Req.{Req}
-use Rattle.history.specs.declared.event.Event.TheVariants.{Sever}
-use Rattle.history.specs.History.{by_sever, submits}
-use Rattle.history.specs.Chains.{IsPlaced, Severed}
-use Rattle.history.specs.Legal.{Setup}
-use Rattle.history.proofs.Requests.{same_itself}
-use Rattle.steps.specs.declared.view.Layout.{Layout}
-use Rattle.steps.specs.declared.view.Role.TheVariants.{Spent}
-use Rattle.steps.specs.declared.view.View.{View}
-use Rattle.steps.specs.Journal.{events_of}
-use Rattle.steps.specs.Cells.{setup_of, IsCell, ring_of, request_at, claim_at, word_of, reply_bits, cause_bits}
-use Rattle.steps.specs.Rule.{pollers, stands_for, Ruled}
-use Rattle.steps.specs.Plays.{Seated, tried, severed}
+use Rattle.steps.proofs.Common.{Allows, Done, Entry, Held, IsCell, IsPlaced, Layout, List, Req, Ruled, Seated, Setup, Sever, Severed, Spent, View, arith, by_sever, cause_bits, claim_at, either, eqb, events_of, fails, negsuc, none, pollers, refl, reply_bits, request_at, ring_of, same_itself, setup_of, severed, stands_for, step, submits, tried, true, word_of, ℕ, ◌<◌, ◌≡◌, ◌≢◌}
 use Rattle.steps.proofs.JournalGrowth.{severed_lasts, placed_lasts}
 use Rattle.steps.proofs.EndingIdle.{Ends, answers_does}
 use Rattle.steps.proofs.StepKinds.{lasts_now, tries}

@@ -1,30 +1,7 @@
 -- What lies with its pipes has no answer there.
-use Rattle.std.specs.Prelude.{◌==◌}
-use Rattle.std.proofs.Common.{◌≡◌, ◌⊎◌, inl, inr, ⊎_elim, ℕ, ◌<◌, ◌≤◌, Bool, true, false, cond, ℤ, List, [], ◌∷◌, ◌++◌, Option, Some, None, sym, refl, ap, ◌∙◌, subst, true≢false, eqb-true, arith}
-use Rattle.entry.specs.declared.op.Op.{Op}
-use Rattle.entry.specs.declared.op.Op.TheVariants.{AsyncCancel, TimeoutRemove}
-use Rattle.entry.specs.Entry.{Entry}
-use Rattle.history.specs.declared.req.Req.{Req}
-use Rattle.history.specs.declared.event.Event.{Event}
-use Rattle.history.specs.declared.event.Event.TheVariants.{Reply}
-use Rattle.history.specs.History.{Submission, submission, submits}
-use Rattle.history.specs.Chains.{IsPlaced, before_in, placed, placed_from}
-use Rattle.history.specs.Pipes.{flow}
-use Rattle.history.specs.Answers.{OpAnswers, is_pipe}
-use Rattle.history.specs.Users.{uses_at, uses_at_in, is_steady}
-use Rattle.history.specs.Legal.{Setup, Legal}
-use Rattle.history.proofs.Requests.{bool_cases, same_itself}
-use Rattle.history.proofs.Growth.{submission_none}
-use Rattle.history.proofs.Opening.{placed_stays}
-use Rattle.steps.specs.declared.line.Laid.{Laid}
 use Rattle.steps.specs.declared.line.Laid.TheVariants.{NoRequest, Behind, Alone}
-use Rattle.steps.specs.declared.line.Line.{Line}
-use Rattle.steps.specs.declared.line.Line.TheVariants.{Did, Free}
-use Rattle.steps.specs.declared.view.Layout.{Layout}
-use Rattle.steps.specs.Journal.{events_of, holder, is_holder, lays, lying}
-use Rattle.steps.specs.Fairness.{HasNone, HasWaited, MayLay, Orderly}
-use Rattle.steps.specs.Cells.{setup_of}
 use Rattle.steps.specs.Sleepers.{LiesIn, NoneSleeps}
+use Rattle.steps.proofs.Common.{AsyncCancel, Bool, Did, Entry, Event, Free, HasNone, HasWaited, IsPlaced, Laid, Layout, Legal, Line, List, MayLay, None, Op, OpAnswers, Option, Orderly, Reply, Req, Setup, Some, Submission, TimeoutRemove, [], ap, arith, before_in, bool_cases, cond, eqb-true, events_of, false, flow, holder, inl, inr, is_holder, is_pipe, is_steady, lays, lying, placed, placed_from, placed_stays, refl, same_itself, setup_of, submission, submission_none, submits, subst, sym, true, true≢false, uses_at, uses_at_in, ℕ, ℤ, ⊎_elim, ◌++◌, ◌<◌, ◌==◌, ◌∙◌, ◌∷◌, ◌≡◌, ◌≤◌, ◌⊎◌}
 use Rattle.steps.proofs.PipesKept.{answer_stays, untouched_flow}
 
 in_more : (rs : List Req) (c r : Req) → LiesIn (rs ++ (c ∷ [])) r → LiesIn rs r ⊎ (c ≡ r)

@@ -1,36 +1,5 @@
 -- How a kind of step is proved: what the seat does at the state found is turned into what the table asks of the step.
-use Rattle.std.proofs.Common.{◌≡◌, ◌≢◌, ℕ, ◌+◌, ◌*◌, ◌<◌, ◌⊎◌, ⊎_elim, Bool, true, false, cond, Option, Some, None, ℤ, List, [], ◌∷◌, ◌++◌, get_or, set, sym, refl, ap, ◌∙◌, subst, arith, eqb, true≢false}
-use mathlib.Core.Option.{some, none}
-use mathlib.Core.Logic.{dite}
-use native.Mathlib.Decide.{ℕ_discrete}
-use lib.ListN.{get_elem?}
-use lib.Seq.{set-get_or}
-use prog.Atomic.{either}
-use Rattle.atomic_table.specs.Table.{State, step, Act, keeps, gives, stepped, Allows, Valid, carried_after, rest}
-use Rattle.atomic_table.proofs.Lists.{exchanged}
-use Rattle.claim.specs.declared.tag.Tag.{Tag}
-use Rattle.claim.specs.declared.tag.Tag.TheVariants.{Empty, Running}
-use Rattle.history.specs.declared.req.Req.{Req}
-use Rattle.history.specs.declared.event.Event.{Event}
-use Rattle.history.specs.History.{Cause, Phase, unborn, replied, reaped, phase, runs, submits, was_shut, data_of, IsReplied}
-use Rattle.history.specs.Chains.{before_in}
-use Rattle.history.specs.Legal.{Setup, Legal}
-use Rattle.history.proofs.Requests.{same_itself, same_true}
-use Rattle.history.proofs.Growth.{unborn_yet}
-use Rattle.steps.specs.declared.line.Line.{Line}
-use Rattle.steps.specs.declared.parcel.Parcel.{Parcel}
-use Rattle.steps.specs.declared.parcel.Thing.{Thing}
-use Rattle.steps.specs.declared.parcel.Thing.TheVariants.{Full}
-use Rattle.steps.specs.declared.view.Layout.{Layout}
-use Rattle.steps.specs.declared.view.Role.{Role}
-use Rattle.steps.specs.declared.view.Role.TheVariants.{Idle, Busy, Spent}
-use Rattle.steps.specs.declared.view.Step.{Step}
-use Rattle.steps.specs.declared.view.View.{View}
-use Rattle.steps.specs.Fairness.{Fair, Orderly, IsFree}
-use Rattle.steps.specs.Journal.{events_of, freed, lent, noted, holder}
-use Rattle.steps.specs.Cells.{setup_of, IsCell, ring_of, request_at, CellOk, Ages, claim_at, note_at, slot_at, word_of}
-use Rattle.steps.specs.Rule.{workers, holders, rings, stands_for, is_leaving, owns, NoneOf, Vacant, Ruled, seeing, IsStep, Extends}
-use Rattle.steps.specs.Plays.{Seated, At, is_idle, looked, noticed, tried, tried_idle, sure}
+use Rattle.steps.proofs.Common.{Act, Ages, Allows, At, Bool, Busy, Cause, CellOk, Empty, Event, Extends, Fair, Full, Idle, IsCell, IsFree, IsReplied, IsStep, Layout, Legal, Line, List, None, NoneOf, Option, Orderly, Parcel, Phase, Req, Role, Ruled, Running, Seated, Setup, Some, Spent, State, Step, Tag, Thing, Vacant, Valid, View, [], ap, arith, before_in, carried_after, claim_at, cond, data_of, dite, either, eqb, events_of, exchanged, false, freed, get_elem?, get_or, gives, holder, holders, is_idle, is_leaving, keeps, lent, looked, none, note_at, noted, noticed, owns, phase, reaped, refl, replied, request_at, rest, ring_of, rings, runs, same_itself, same_true, seeing, set, set-get_or, setup_of, slot_at, some, stands_for, step, stepped, submits, subst, sure, sym, tried, tried_idle, true, true≢false, unborn, unborn_yet, was_shut, word_of, workers, ℕ, ℕ_discrete, ℤ, ⊎_elim, ◌*◌, ◌++◌, ◌+◌, ◌<◌, ◌∙◌, ◌∷◌, ◌≡◌, ◌≢◌, ◌⊎◌}
 use Rattle.steps.proofs.CellNumbers.{one_word}
 use Rattle.steps.proofs.Roles.{idle_apart, same_sym, worker_is}
 use Rattle.steps.proofs.JournalGrowth.{begins, ran, replied_by, legal_before, still_runs, still_reaped, still_replied, still_data, same_submits, same_lent, same_before, Lasting, lasts}

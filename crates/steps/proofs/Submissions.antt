@@ -1,16 +1,6 @@
 -- What a Submit says of its own request: the entry before it, that its buffer fits, and what a TIMEOUT is placed as.
-use Rattle.std.proofs.Common.{◌≡◌, ℕ, ◌-◌, ◌==◌, ◌&&◌, not, Bool, true, false, cond, List, [], ◌∷◌, Option, Some, None, sym, ap, ◌∙◌, subst, ⊎_elim, arith, true≢false, eq-eqb}
-use Rattle.entry.specs.declared.op.Op.{Op}
-use Rattle.entry.specs.declared.op.Op.TheVariants.{Invalid}
-use Rattle.entry.specs.Entry.{Entry}
-use Rattle.history.specs.declared.req.Req.{Req}
-use Rattle.history.specs.declared.event.Event.{Event}
-use Rattle.history.specs.declared.event.Event.TheVariants.{Submit}
-use Rattle.history.specs.History.{Submission, submission, same}
-use Rattle.history.specs.Chains.{before_in, previous, hosts, placed_behind, is_timeout, is_link_timeout}
-use Rattle.history.specs.Legal.{Setup, Legal, Fits, count_of}
-use Rattle.history.proofs.Requests.{bool_cases, same_false}
-use Rattle.steps.specs.Notes.{count_in}
+use Rattle.std.proofs.Common.{◌==◌}
+use Rattle.steps.proofs.Common.{Bool, Entry, Event, Fits, Invalid, Legal, List, None, Op, Option, Req, Setup, Some, Submission, Submit, [], ap, arith, before_in, bool_cases, cond, count_in, count_of, eq-eqb, false, hosts, is_link_timeout, is_timeout, not, placed_behind, previous, same, same_false, submission, subst, sym, true, true≢false, ℕ, ⊎_elim, ◌&&◌, ◌-◌, ◌∙◌, ◌∷◌, ◌≡◌}
 
 -- its own Submit leaves what stands before a request
 pub before_own : (h : List Event) (q : Req) (e : Entry) (bytes : List ℕ) (last : Bool) → before_in (Submit q e bytes last ∷ h) q ≡ before_in h q

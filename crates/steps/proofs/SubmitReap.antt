@@ -1,39 +1,5 @@
 -- Submit and Reap: the submitter gives the slot of its cell back.
-use Rattle.std.proofs.Common.{◌≡◌, ℕ, suc, ◌<◌, Bool, true, false, cond, Option, Some, None, ℤ, List, ◌∷◌, get_or, set, sym, refl, ap, ◌∙◌, subst, inr, arith, eqb, eq-eqb, true≢false, length-set}
-use mathlib.Core.Option.{some, none}
-use mathlib.Core.Logic.{dite}
-use native.Mathlib.Decide.{ℕ_discrete}
-use lib.ListN.{get_elem?}
-use prog.Atomic.{either}
-use Rattle.atomic_table.specs.Table.{step, gives, Allows, rest}
-use Rattle.atomic_table.proofs.Lists.{set_here, set_else}
-use Rattle.claim.specs.declared.tag.Tag.TheVariants.{Empty, Held, Done}
-use Rattle.entry.specs.Entry.{Entry, fails}
-use Rattle.history.specs.declared.req.Req.{Req}
-use Rattle.history.specs.declared.event.Event.TheVariants.{Submit, Reap}
-use Rattle.history.specs.History.{Cause, Submission, replied, reaped, after_reap, same, phase, submission, submits}
-use Rattle.history.specs.Chains.{IsPlaced, before_in, placed_behind, placed_from, is_timeout}
-use Rattle.history.specs.Legal.{Legal, Fits, count_of}
-use Rattle.history.proofs.Requests.{same_itself, same_false}
-use Rattle.steps.specs.declared.line.Line.{Line}
-use Rattle.steps.specs.declared.line.Line.TheVariants.{Did}
-use Rattle.steps.specs.declared.parcel.Parcel.{Parcel}
-use Rattle.steps.specs.declared.parcel.Thing.{Thing}
-use Rattle.steps.specs.declared.parcel.Thing.TheVariants.{Full}
-use Rattle.steps.specs.declared.view.Layout.{Layout}
-use Rattle.steps.specs.declared.view.Role.{Role}
-use Rattle.steps.specs.declared.view.View.{View}
-use Rattle.atomic_table.specs.Table.{State}
-use Rattle.history.specs.Legal.{Setup}
-use Rattle.steps.specs.Cells.{setup_of}
-use Rattle.steps.specs.Plays.{Seated}
-use Rattle.steps.specs.declared.view.Role.TheVariants.{Submitter, Lending}
-use Rattle.steps.specs.Fairness.{Fair, IsCountNoted}
-use Rattle.steps.specs.Notes.{facts_of}
-use Rattle.steps.specs.Journal.{events_of, lent, noted}
-use Rattle.steps.specs.Cells.{IsCell, ring_of, request_at, claim_at, facts_at, user_at, slot_at, word_of, reply_bits, cause_bits}
-use Rattle.steps.specs.Rule.{rings, workers, stands_for, owns, apart, Vacant, Ruled, Extends}
-use Rattle.steps.specs.Plays.{sure, submitted, reaps}
+use Rattle.steps.proofs.Common.{Allows, Bool, Cause, Did, Done, Empty, Entry, Extends, Fair, Fits, Full, Held, IsCell, IsCountNoted, IsPlaced, Layout, Legal, Lending, Line, List, None, Option, Parcel, Reap, Req, Role, Ruled, Seated, Setup, Some, State, Submission, Submit, Submitter, Thing, Vacant, View, after_reap, ap, apart, arith, before_in, cause_bits, claim_at, cond, count_of, dite, either, eq-eqb, eqb, events_of, facts_at, facts_of, fails, false, get_elem?, get_or, gives, inr, is_timeout, length-set, lent, none, noted, owns, phase, placed_behind, placed_from, reaped, reaps, refl, replied, reply_bits, request_at, rest, ring_of, rings, same, same_false, same_itself, set, set_else, set_here, setup_of, slot_at, some, stands_for, step, submission, submits, submitted, subst, suc, sure, sym, true, true≢false, user_at, word_of, workers, ℕ, ℕ_discrete, ℤ, ◌<◌, ◌∙◌, ◌∷◌, ◌≡◌}
 use Rattle.steps.proofs.CellNumbers.{other_cell, other_age, same_bits, ring_in}
 use Rattle.steps.proofs.Roles.{as_lending}
 use Rattle.steps.proofs.JournalGrowth.{about, begins, lent_stays, counted_in, placed_lasts, phase_stays}

@@ -1,30 +1,7 @@
 -- The poller's steps on the clock and on timers.
-use Rattle.std.proofs.Common.{◌≡◌, ◌≢◌, ◌⊎◌, ⊎_elim, inl, inr, ℕ, ◌+◌, ◌<◌, ◌≤◌, Bool, true, false, cond, ℤ, pos, negsuc, Option, Some, List, ◌∷◌, get_or, sym, refl, ap, ◌∙◌, subst, arith, eqb, true≢false, get_or-set_same, get_or-set_other}
-use mathlib.Core.Option.{none}
-use lib.Seq.{set-get_or}
-use prog.Atomic.{either}
-use Rattle.atomic_table.specs.Table.{State, step, keeps, Allows}
-use Rattle.claim.specs.declared.tag.Tag.TheVariants.{Held, Running, Armed, Done}
-use Rattle.entry.specs.declared.op.Op.{Op}
-use Rattle.entry.specs.declared.op.Op.TheVariants.{Timeout, LinkTimeout}
-use Rattle.entry.specs.Entry.{Entry, fails, fails_op}
-use Rattle.history.specs.declared.req.Req.{Req}
-use Rattle.history.specs.declared.event.Event.TheVariants.{Tick, Arm, Expire, Count, Fire, FireMiss, Settle}
-use Rattle.history.specs.History.{by_expire, by_count, by_fire, by_settle, armed, replied, phase, fired, clock_of, submits, later_replies, IsReplied}
-use Rattle.history.specs.Chains.{IsPlaced, IsLinkTimeout, IsTarget, Open, is_timeout, is_link_timeout}
-use Rattle.history.specs.Legal.{Setup, Legal, ticks_of, count_of}
 use Rattle.history.proofs.LaterReplies.{count_timeout}
-use Rattle.history.proofs.Requests.{same_itself}
-use Rattle.steps.specs.declared.line.Line.{Line}
-use Rattle.steps.specs.declared.line.Line.TheVariants.{Did}
-use Rattle.steps.specs.declared.parcel.Thing.{Thing}
-use Rattle.steps.specs.declared.view.Layout.{Layout}
-use Rattle.steps.specs.declared.view.Role.TheVariants.{Busy, Spent}
-use Rattle.steps.specs.declared.view.View.{View}
-use Rattle.steps.specs.Journal.{events_of}
-use Rattle.steps.specs.Cells.{setup_of, IsCell, ring_of, request_at, claim_at, word_of, reply_bits, cause_bits}
-use Rattle.steps.specs.Rule.{pollers, stands_for, Ruled, Extends}
-use Rattle.steps.specs.Plays.{Seated, IsIdleWord, next_of, tried, tried_idle, armed_for, expired, counted, settled, fired_at, fired_late, clock_set}
+use Rattle.steps.specs.Plays.{counted}
+use Rattle.steps.proofs.Common.{Allows, Arm, Armed, Bool, Busy, Count, Did, Done, Entry, Expire, Extends, Fire, FireMiss, Held, IsCell, IsIdleWord, IsLinkTimeout, IsPlaced, IsReplied, IsTarget, Layout, Legal, Line, LinkTimeout, List, Op, Open, Option, Req, Ruled, Running, Seated, Settle, Setup, Some, Spent, State, Thing, Tick, Timeout, View, ap, arith, armed, armed_for, by_count, by_expire, by_fire, by_settle, cause_bits, claim_at, clock_of, clock_set, cond, count_of, either, eqb, events_of, expired, fails, fails_op, false, fired, fired_at, fired_late, get_or, get_or-set_other, get_or-set_same, inl, inr, is_link_timeout, is_timeout, keeps, later_replies, negsuc, next_of, none, phase, pollers, pos, refl, replied, reply_bits, request_at, ring_of, same_itself, set-get_or, settled, setup_of, stands_for, step, submits, subst, sym, ticks_of, tried, tried_idle, true, true≢false, word_of, ℕ, ℤ, ⊎_elim, ◌+◌, ◌<◌, ◌∙◌, ◌∷◌, ◌≡◌, ◌≢◌, ◌≤◌, ◌⊎◌}
 use Rattle.steps.proofs.CellNumbers.{other_cell, other_age, one_word}
 use Rattle.steps.proofs.JournalGrowth.{placed_lasts, open_lasts, replies_last, replied_later, counted_in, legal_before}
 use Rattle.steps.proofs.Frames.{ages_stay}

@@ -1,24 +1,8 @@
 -- What a view keeps between two steps of one call.
-use Rattle.std.proofs.Common.{◌≡◌, ℕ, ◌<◌, true, false, ℤ, List, ◌∷◌, ◌++◌, Option, Some, eq-eqb, sym, refl, ap, ◌∙◌, subst, arith}
 use Rattle.atomic_table.specs.Seated.{TableId}
 use Rattle.atomic_table.specs.declared.shared.Seat.{Seat}
-use Rattle.entry.specs.Entry.{Entry}
-use Rattle.history.specs.declared.event.Event.{Event}
-use Rattle.history.specs.declared.req.Req.{Req}
-use Rattle.history.specs.History.{Cause, replied, phase, submits, submission, was_shut}
-use Rattle.history.specs.Chains.{before_in, IsPlaced}
-use Rattle.history.specs.Legal.{Setup, Legal}
-use Rattle.steps.specs.declared.line.Line.{Line}
-use Rattle.steps.specs.declared.parcel.Parcel.{Parcel}
-use Rattle.steps.specs.declared.parcel.Thing.{Thing}
-use Rattle.steps.specs.declared.view.Layout.{Layout}
-use Rattle.steps.specs.declared.view.Role.{Role}
-use Rattle.steps.specs.declared.view.Role.TheVariants.{Submitter, Lending}
-use Rattle.steps.specs.declared.view.View.{View}
-use Rattle.steps.specs.Fairness.{Orderly, IsFree}
-use Rattle.steps.specs.Journal.{events_of, noted, stores}
-use Rattle.steps.specs.Cells.{setup_of, IsCell, ring_of, request_at, note_at, IsParcel}
-use Rattle.steps.specs.Rule.{rings, stands_for, Vacant, Extends, Fits}
+use Rattle.steps.specs.Rule.{Fits}
+use Rattle.steps.proofs.Common.{Cause, Entry, Event, Extends, IsCell, IsFree, IsParcel, IsPlaced, Layout, Legal, Lending, Line, List, Option, Orderly, Parcel, Req, Role, Setup, Some, Submitter, Thing, Vacant, View, ap, arith, before_in, eq-eqb, events_of, false, note_at, noted, phase, refl, replied, request_at, ring_of, rings, setup_of, stands_for, stores, submission, submits, subst, sym, true, was_shut, ℕ, ℤ, ◌++◌, ◌<◌, ◌∙◌, ◌∷◌, ◌≡◌}
 use Rattle.steps.proofs.FreeCells.{free_later, same_noted}
 use Rattle.steps.proofs.JournalGrowth.{submitted_in, submission_lasts, legal_before, counted_in, placed_lasts, lasts, still_reaped, still_replied, same_submits, same_before}
 

@@ -1,11 +1,6 @@
 -- Where a text is cut at its first space or line feed.
-use Rattle.std.proofs.Common.{◌≡◌, ℕ, zero, suc, ◌<◌, ◌^◌, List, [], ◌∷◌, ◌++◌, length, slice_index, inl, inr, ℤ, pos, negsuc, arith, refl}
-use Rattle.std.specs.Prelude.{FitsSigned}
-use Rattle.std.specs.Int.{w32, IsInRange}
-use Rattle.std.specs.Fmt.{decimal, signed_decimal}
-use Rattle.std.proofs.lemmas.Fmt.{decimal_is_IsNumeral}
 use Rattle.std.proofs.lemmas.Str.Parse.{digit_at}
-use Rattle.text.specs.Line.{IsCut, IsCutByte, data_text}
+use Rattle.text.proofs.Common.{FitsSigned, IsCut, IsCutByte, IsInRange, List, [], arith, data_text, decimal, decimal_is_IsNumeral, inl, inr, length, negsuc, pos, refl, signed_decimal, slice_index, suc, w32, zero, ℕ, ℤ, ◌++◌, ◌<◌, ◌^◌, ◌∷◌, ◌≡◌}
 
 abbrev pub IsUncut : List ℕ → Type 0
 IsUncut word = (k : ℕ) → k < length word → IsCutByte (slice_index word k) → ⊥

@@ -1,6 +1,5 @@
 -- The hexadecimal text of bytes is read as those bytes.
-use Rattle.std.proofs.Common.{◌≡◌, ℕ, ◌+◌, ◌*◌, ◌/◌, ◌≤◌, List, [], ◌∷◌, ◌++◌, length, take, drop, refl, arith, length-append, Option, None, Result, Ok, Err, IfOk, IfSome, IsSomeAnd, sym, ap, ◌∙◌, inl, inr}
-use Rattle.std.specs.Prelude.{◌⊎◌}
+use Rattle.std.proofs.Common.{IfSome}
 use Rattle.std.specs.Global.{Vec}
 use Rattle.std.specs.declared.alloc.AllocError.{AllocError}
 use Rattle.hex.specs.declared.error.FromHexError.{FromHexError}
@@ -8,7 +7,7 @@ use Rattle.hex.specs.declared.error.FromHexError.TheVariants.{OutOfMemory}
 use Rattle.hex.specs.Hex.{IsBytes, encode_lower, decode_of, lower_digits}
 use Rattle.hex.proofs.HexLemmas.{decode_of-encode_lower, length-encode_with}
 use Rattle.std.proofs.lemmas.List.{take_at, drop_at, take-append-drop, length-take}
-use Rattle.text.specs.Line.{data_text}
+use Rattle.text.proofs.Common.{Err, IfOk, IsSomeAnd, List, None, Ok, Option, Result, [], ap, arith, data_text, drop, inl, inr, length, length-append, refl, sym, take, ℕ, ◌*◌, ◌++◌, ◌+◌, ◌/◌, ◌∙◌, ◌∷◌, ◌≡◌, ◌≤◌, ◌⊎◌}
 
 read_back : (digits bytes : List ℕ) → IsBytes bytes → digits ≡ encode_lower bytes → decode_of digits ≡ Ok bytes
 read_back digits bytes are e = ap decode_of e ∙ decode_of-encode_lower bytes are

@@ -1,8 +1,6 @@
 -- The parts of a line's text.
-use Rattle.std.proofs.Common.{◌≡◌, ℕ, List, ◌∷◌, ◌++◌, ℤ, sym, ap, ◌∙◌, append_assoc}
-use Rattle.std.specs.Fmt.{signed_decimal}
 use Rattle.std.proofs.lemmas.List.{append_cancel_left}
-use Rattle.text.specs.Line.{data_text, line_text}
+use Rattle.text.proofs.Common.{List, ap, append_assoc, data_text, line_text, signed_decimal, sym, ℕ, ℤ, ◌++◌, ◌∙◌, ◌∷◌, ◌≡◌}
 
 -- what stands behind the label and its space
 abbrev pub behind_label : ℤ → List ℕ → List ℕ → List ℕ

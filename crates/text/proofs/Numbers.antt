@@ -1,20 +1,15 @@
 -- The decimal text of a number is read as that number.
-use Rattle.std.proofs.Common.{Option, to_z, of_z, ◌≡◌, ℕ, Bool, true, false, None, Some, refl, sym, ◌&&◌, ◌<◌, ◌^◌, List, Result, Ok, ℤ, pos, negsuc, arith, decimal}
-use Rattle.std.specs.Prelude.{FitsSigned}
-use Rattle.std.specs.Int.{w32}
-use Rattle.std.specs.Fmt.{signed_decimal}
+use Rattle.std.proofs.Common.{decimal}
 use Rattle.std.specs.Str.{IsUtf8}
 use Rattle.std.proofs.lemmas.Str.{IsUtf8-from_ascii}
-use Rattle.std.proofs.lemmas.Fmt.{IsAscii-decimal, IsAscii-signed}
 use Rattle.std.proofs.lemmas.Int.{to_z-of_z}
 use lib.Signed.{mag}
-use Rattle.std.specs.Prelude.{IfSome, nat_eq, nat_lt}
 use Rattle.std.specs.Str.Parse.{digits_value}
-use Rattle.std.proofs.lemmas.Fmt.{decimal_is_IsNumeral}
 use Rattle.std.proofs.lemmas.Bool.{and_parts, lt-ltb}
 use borrow.Author.Tests.{ltb-true}
 use lib.Pointwise.{bytes_decides, pointwise}
 use Rattle.text.specs.Number.{number_in}
+use Rattle.text.proofs.Common.{Bool, FitsSigned, IfSome, IsAscii-decimal, IsAscii-signed, List, None, Ok, Option, Result, Some, arith, decimal_is_IsNumeral, false, nat_eq, nat_lt, negsuc, of_z, pos, refl, signed_decimal, sym, to_z, true, w32, ℕ, ℤ, ◌&&◌, ◌<◌, ◌^◌, ◌≡◌}
 
 pub mag_small : (z : ℤ) → FitsSigned w32 z → mag z < 2 ^ 63
 mag_small (pos n) h = omega (arith, h)

@@ -1,16 +1,6 @@
 -- The least of the fronts is the least of all timers.
-use Rattle.std.proofs.Common.{◌≡◌, ℕ, ◌+◌, ◌<◌, ◌≤◌, Bool, true, false, cond, List, [], ◌∷◌, length, Option, Some, None, refl, sym, ap, ◌∙◌, subst, true≢false, below_more, le_refl, arith}
-use Rattle.std.specs.Prelude.{◌%◌, nat_lt}
-use Rattle.std.proofs.lemmas.Bool.{eqb-true, ltb-false, ltb-true}
 use Rattle.std.proofs.lemmas.Nat.{mod_below}
-use Rattle.std.proofs.lemmas.Option.{none-some}
-use Rattle.history.specs.declared.req.Req.{Req}
-use Rattle.history.proofs.Requests.{same_itself}
-use Rattle.wheel.specs.declared.sorted.Timer.{Timer}
-use Rattle.history.specs.History.{same}
-use Rattle.wheel.specs.Deadlines.{armed, dropped, IsFirstDue}
-use Rattle.wheel.specs.TimerLists.{InOrder, deadline_in}
-use Rattle.wheel.specs.Wheel.{AreFrom, Deadlines, IsLeast, IsWheel, StandFrom, bound_of, deadline_at, earlier_of, front_of, has_deadline, in_slot, slot_list}
+use Rattle.wheel.proofs.Common.{AreFrom, Bool, Deadlines, InOrder, IsFirstDue, IsLeast, IsWheel, List, None, Option, Req, Some, StandFrom, Timer, [], ap, arith, armed, below_more, bound_of, cond, deadline_at, deadline_in, dropped, earlier_of, eqb-true, false, front_of, has_deadline, in_slot, le_refl, length, ltb-false, ltb-true, nat_lt, none-some, refl, same, same_itself, slot_list, subst, sym, true, true≢false, ℕ, ◌%◌, ◌+◌, ◌<◌, ◌∙◌, ◌∷◌, ◌≡◌, ◌≤◌}
 use Rattle.wheel.proofs.Slotting.{from_slot, own_slot}
 use Rattle.wheel.proofs.Sorting.{from_first}
 

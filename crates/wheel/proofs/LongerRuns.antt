@@ -1,10 +1,8 @@
 -- A run with one call more.
-use Rattle.std.proofs.Common.{ℕ, ◌+◌, ◌<◌, List, [], ◌∷◌, ◌++◌, length, take, get_or, Option, refl, sym, subst}
 use Rattle.std.proofs.lemmas.List.{take_more}
-use Rattle.history.specs.declared.req.Req.{Req}
 use Rattle.wheel.specs.declared.calls.Call.{Call}
 use Rattle.wheel.specs.declared.calls.Answer.{Answer}
-use Rattle.wheel.specs.CallRuns.{Answers, Runs}
+use Rattle.wheel.proofs.Common.{Answers, List, Option, Req, Runs, [], get_or, length, refl, subst, sym, take, ℕ, ◌++◌, ◌+◌, ◌<◌, ◌∷◌}
 
 pub runs_more : (f g h : Req → Option ℕ) (cs : List Call) (xs : List Answer) (c : Call) (a : Answer) → Runs f cs xs g → Answers g c a h → Runs f (cs ++ c ∷ []) (xs ++ a ∷ []) h
 runs_more f g h [] [] c a e s = (h, subst (λ (z : Req → Option ℕ). Answers z c a h) e s, refl)

@@ -1,15 +1,5 @@
 -- Each timer stands in the slot of its deadline: so it stays as a timer is armed, and as one is dropped.
-use Rattle.std.proofs.Common.{◌≡◌, ℕ, Bool, true, false, cond, List, Option, Some, None, ◌⊎◌, refl, sym, ap, ◌∙◌, subst, ⊎_elim}
-use Rattle.std.specs.Prelude.{◌%◌, ◌==◌}
-use Rattle.std.proofs.lemmas.Bool.{cases_eq, eq-eqb, ne_eqb}
-use Rattle.std.proofs.lemmas.Option.{none-some}
-use Rattle.history.specs.declared.req.Req.{Req}
-use Rattle.history.specs.History.{same}
-use Rattle.history.proofs.Requests.{same_true}
-use Rattle.wheel.specs.declared.sorted.Timer.{Timer}
-use Rattle.wheel.specs.Deadlines.{armed, dropped}
-use Rattle.wheel.specs.TimerLists.{deadline_in}
-use Rattle.wheel.specs.Wheel.{Deadlines, IsWheel, deadline_at, in_slot, slot_list}
+use Rattle.wheel.proofs.Common.{Bool, Deadlines, IsWheel, List, None, Option, Req, Some, Timer, ap, armed, cases_eq, cond, deadline_at, deadline_in, dropped, eq-eqb, false, in_slot, ne_eqb, none-some, refl, same, same_true, slot_list, subst, sym, true, ℕ, ⊎_elim, ◌%◌, ◌==◌, ◌∙◌, ◌≡◌, ◌⊎◌}
 
 -- the slot of a deadline has it, and no other slot has
 pub own_slot : (i d : ℕ) → i ≡ d % 256 → in_slot i (Some d) ≡ Some d

@@ -1,16 +1,5 @@
 -- Lists of timers: what a timer more and a request less make of the deadlines and of their order.
-use Rattle.std.proofs.Common.{◌≡◌, ℕ, zero, suc, ◌<◌, ◌≤◌, Bool, true, false, cond, List, [], ◌∷◌, length, get_or, Option, Some, None, refl, sym, ap, ◌∙◌, subst, ⊎_elim, true≢false, arith}
-use Rattle.std.specs.Prelude.{nat_le, insert}
-use Rattle.std.specs.List.{remove, slice_get}
-use Rattle.std.proofs.lemmas.Bool.{cases_lt, le-leb, leb-true}
-use Rattle.std.proofs.lemmas.Option.{none-some, slice_get-get_or}
-use Rattle.std.proofs.Common.{Vec, Global, vec_len}
-use Rattle.history.specs.declared.req.Req.{Req}
-use Rattle.history.specs.History.{same}
-use Rattle.history.proofs.Requests.{bool_cases, not_true, same_itself, same_true, same_false}
-use Rattle.wheel.specs.declared.sorted.Timer.{Timer}
-use Rattle.wheel.specs.Deadlines.{armed, dropped, IsFirstDue}
-use Rattle.wheel.specs.TimerLists.{deadline_in, AllFrom, InOrder, IsOnce, without, with_timer}
+use Rattle.wheel.proofs.Common.{AllFrom, Bool, Global, InOrder, IsFirstDue, IsOnce, List, None, Option, Req, Some, Timer, Vec, [], ap, arith, armed, bool_cases, cases_lt, cond, deadline_in, dropped, false, get_or, insert, le-leb, leb-true, length, nat_le, none-some, not_true, refl, remove, same, same_false, same_itself, same_true, slice_get, slice_get-get_or, subst, suc, sym, true, true≢false, vec_len, with_timer, without, zero, ℕ, ⊎_elim, ◌<◌, ◌∙◌, ◌∷◌, ◌≡◌, ◌≤◌}
 
 -- two names of one request
 same_as : (a b q : Req) → same a b ≡ true → same a q ≡ same b q

@@ -1,19 +1,5 @@
 -- Before its search a cancel comes past the earlier requests of its ring that have replied, one after the other.
-use Rattle.std.proofs.Common.{◌≡◌, ◌≢◌, ⊎_elim, inl, inr, ℕ, ◌+◌, ◌-◌, ◌<◌, ◌≤◌, max, nat_lt, ltb-true, ltb-false, true, false, List, ◌++◌, length, length-append, sym, refl, ap, ◌∙◌, subst, arith}
-use mathlib.Core.Logic.{dite}
-use native.Mathlib.Decide.{ℕ_discrete}
-use Rattle.std.proofs.lemmas.List.{append_assoc}
-use Rattle.history.specs.declared.req.Req.{Req}
-use Rattle.history.specs.History.{IsReplied, phase}
-use Rattle.history.proofs.Requests.{bool_cases}
-use Rattle.steps.specs.declared.line.Line.{Line}
-use Rattle.steps.specs.declared.view.Step.{Step}
-use Rattle.steps.specs.declared.view.View.{View}
-use Rattle.steps.specs.Cells.{claim_at}
-use Rattle.steps.specs.Journal.{events_of}
-use Rattle.steps.specs.Rule.{Looks}
-use Rattle.work.specs.Passes.{ArePast}
-use Rattle.work.specs.Searches.{FewSteps, FewerSteps, WentOn}
+use Rattle.work.proofs.Common.{ArePast, FewSteps, FewerSteps, IsReplied, Line, List, Looks, Req, Step, View, WentOn, ap, append_assoc, arith, bool_cases, claim_at, dite, events_of, false, inl, inr, length, length-append, ltb-false, ltb-true, max, nat_lt, phase, refl, subst, sym, true, ℕ, ℕ_discrete, ⊎_elim, ◌++◌, ◌+◌, ◌-◌, ◌<◌, ◌∙◌, ◌≡◌, ◌≢◌, ◌≤◌}
 use Rattle.work.proofs.CancelGrowth.{went_both}
 use Rattle.work.proofs.CancelSearch.{steps_both}
 use Rattle.work.proofs.CancelWalk.{Walked, in_ring, walked_first}

@@ -1,40 +1,8 @@
 -- What a worker knows once its cancel has gone over the requests, and what it replies.
-use Rattle.std.proofs.Common.{◌≡◌, ◌≢◌, ⊎_elim, inl, ℕ, ◌+◌, ◌<◌, ◌≤◌, ◌==◌, Bool, true, false, cond, ℤ, pos, List, [], ◌∷◌, length, Option, Some, sym, refl, ap, ◌∙◌, subst, arith, true≢false, eqb-true}
-use Rattle.atomic_table.specs.Seated.{TableId}
-use Rattle.answers.specs.NamedEnds.{UsesNone}
-use Rattle.entry.specs.declared.op.Op.{Op}
-use Rattle.entry.specs.declared.op.Op.TheVariants.{AsyncCancel, TimeoutRemove}
-use Rattle.history.specs.declared.req.Req.{Req}
-use Rattle.history.specs.declared.event.Event.{Event}
-use Rattle.history.specs.declared.event.Event.TheVariants.{Take, Miss}
-use Rattle.history.specs.Answers.{CancelAnswers, CancelBy, OpAnswers}
-use Rattle.history.specs.History.{Hit, hit, hits, nothing, took, missed, same, tally}
-use Rattle.history.proofs.Requests.{same_itself}
-use Rattle.steps.specs.declared.line.Line.{Line}
-use Rattle.steps.specs.declared.line.Line.TheVariants.{Did}
-use Rattle.steps.specs.declared.parcel.Parcel.{Parcel}
-use Rattle.steps.specs.declared.parcel.Thing.{Thing}
-use Rattle.steps.specs.declared.parcel.Thing.TheVariants.{Full}
-use Rattle.steps.specs.declared.view.Role.{Role}
-use Rattle.steps.specs.declared.view.Role.TheVariants.{Busy}
-use Rattle.steps.specs.declared.view.Step.{Step}
-use Rattle.steps.specs.declared.view.View.{View}
-use Rattle.steps.specs.Cells.{IsCell, cells_in, claim_at, request_at, setup_of, slot_at}
-use Rattle.steps.specs.Journal.{events_of, holder}
-use Rattle.steps.specs.Plays.{MayReply}
-use Rattle.steps.specs.Rule.{Extends, IsStep, Looks, stands_for, holders}
-use Rattle.steps.proofs.CellNumbers.{located}
 use Rattle.steps.proofs.Frames.{still_lacks}
-use Rattle.steps.proofs.JournalGrowth.{submitted_in}
-use Rattle.steps.proofs.PipeSteps.{lacks_after}
-use Rattle.steps.proofs.ViewsKept.{layout_after, role_after}
 use Rattle.work.specs.declared.cancel.Searched.{Searched}
 use Rattle.work.specs.declared.cancel.Searched.TheVariants.{NoneLeft, Ended, Found}
-use Rattle.work.specs.declared.cancel.Wanted.{Wanted}
-use Rattle.work.specs.Board.{Facts, IsOf}
-use Rattle.work.specs.Passes.{Pass, RunsIt}
-use Rattle.work.specs.Searches.{WorkerSeat, Cancels, DidSearch, FewSteps, FewerSteps, WentBy, WentOn, steps_at, wanted_in}
-use Rattle.work.specs.WorkerRuns.{AreHits, DidHunt, DidSweep, Told, op_run, run_as}
+use Rattle.work.proofs.Common.{AreHits, AsyncCancel, Bool, Busy, CancelAnswers, CancelBy, Cancels, Did, DidHunt, DidSearch, DidSweep, Event, Extends, Facts, FewSteps, FewerSteps, Full, Hit, IsCell, IsOf, IsStep, Line, List, Looks, MayReply, Miss, Op, OpAnswers, Option, Parcel, Pass, Req, Role, RunsIt, Some, Step, TableId, Take, Thing, TimeoutRemove, Told, UsesNone, View, Wanted, WentBy, WentOn, WorkerSeat, [], ap, arith, cells_in, claim_at, cond, eqb-true, events_of, false, hit, hits, holder, holders, inl, lacks_after, layout_after, length, located, missed, nothing, op_run, pos, refl, request_at, role_after, run_as, same, same_itself, setup_of, slot_at, stands_for, steps_at, submitted_in, subst, sym, tally, took, true, true≢false, wanted_in, ℕ, ℤ, ⊎_elim, ◌+◌, ◌<◌, ◌==◌, ◌∙◌, ◌∷◌, ◌≡◌, ◌≢◌, ◌≤◌}
 use Rattle.work.proofs.CancelGrowth.{by_hit, by_later, by_role, did_hit, went_hit, went_role}
 use Rattle.work.proofs.CancelHits.{tally_taken}
 use Rattle.work.proofs.CancelSearch.{all_wanted}

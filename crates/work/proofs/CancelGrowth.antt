@@ -1,30 +1,6 @@
 -- A worker that runs a cancel sees more and more: what it knows stays.
-use Rattle.std.proofs.Common.{◌≡◌, ◌≢◌, ⊎_elim, inl, inr, ℕ, ◌<◌, Bool, true, false, List, [], ◌∷◌, ◌++◌, sym, refl, ap, ◌∙◌, subst, arith}
-use Rattle.std.proofs.lemmas.List.{append_assoc}
-use Rattle.atomic_table.specs.Seated.{TableId}
-use Rattle.history.specs.declared.req.Req.{Req}
-use Rattle.history.specs.declared.event.Event.{Event}
-use Rattle.history.specs.Answers.{Matches}
-use Rattle.history.specs.Chains.{IsPlaced}
-use Rattle.history.specs.History.{Hit, unborn, has_missed, hit, hits, nothing, phase, submits, IsReplied}
-use Rattle.history.specs.Legal.{Legal}
-use Rattle.history.proofs.Growth.{born_once}
-use Rattle.steps.specs.declared.line.Line.{Line}
-use Rattle.steps.specs.declared.line.Line.TheVariants.{Did}
-use Rattle.steps.specs.declared.view.Layout.{Layout}
-use Rattle.steps.specs.declared.view.Role.{Role}
-use Rattle.steps.specs.declared.view.Role.TheVariants.{Busy}
-use Rattle.steps.specs.declared.view.View.{View}
-use Rattle.steps.specs.Cells.{setup_of}
-use Rattle.steps.specs.Fairness.{Orderly}
-use Rattle.steps.specs.Journal.{events_of}
-use Rattle.steps.specs.Rule.{Extends, Looks, NoneOf}
-use Rattle.steps.proofs.JournalGrowth.{replied_later, submits_grow}
 use Rattle.steps.proofs.MatchesKept.{placed_on, match_on, match_off}
-use Rattle.steps.proofs.OwnFacts.{same_hit}
-use Rattle.steps.proofs.ViewsKept.{layout_after, role_after}
-use Rattle.work.specs.declared.cancel.Wanted.{Wanted}
-use Rattle.work.specs.Searches.{ArePassed, Cancels, IsMeant, MayAim, WentBy, WentOn, WorkerSeat}
+use Rattle.work.proofs.Common.{ArePassed, Bool, Busy, Cancels, Did, Event, Extends, Hit, IsMeant, IsPlaced, IsReplied, Layout, Legal, Line, List, Looks, Matches, MayAim, NoneOf, Orderly, Req, Role, TableId, View, Wanted, WentBy, WentOn, WorkerSeat, [], ap, append_assoc, arith, born_once, events_of, false, has_missed, hit, hits, inl, inr, layout_after, nothing, phase, refl, replied_later, role_after, same_hit, setup_of, submits, submits_grow, subst, sym, true, unborn, ℕ, ⊎_elim, ◌++◌, ◌<◌, ◌∙◌, ◌∷◌, ◌≡◌, ◌≢◌}
 use Rattle.work.proofs.PassesKept.{looks_both}
 use Rattle.work.proofs.RunsKept.{same_hit_looked}
 

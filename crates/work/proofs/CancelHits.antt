@@ -1,11 +1,5 @@
 -- What the own events of a cancel's worker tell: which requests it took, how many, and which it found running.
-use Rattle.std.proofs.Common.{◌≡◌, ◌≢◌, ℕ, suc, ◌+◌, ◌≤◌, ◌==◌, ◌||◌, Bool, true, false, cond, List, [], ◌∷◌, ◌++◌, length, length-append, refl, ap, ◌∙◌, arith, ne_eqb}
-use Rattle.history.specs.declared.req.Req.{Req}
-use Rattle.history.specs.declared.event.Event.{Event}
-use Rattle.history.specs.declared.event.Event.TheVariants.{Take, Miss}
-use Rattle.history.specs.History.{Hit, took, missed, has_missed, hit, same, tally}
-use Rattle.history.proofs.Requests.{same_itself}
-use Rattle.work.specs.WorkerRuns.{AreHits, taken_in}
+use Rattle.work.proofs.Common.{AreHits, Bool, Event, Hit, List, Miss, Req, Take, [], ap, arith, cond, false, has_missed, hit, length, length-append, missed, ne_eqb, refl, same, same_itself, suc, taken_in, tally, took, true, ℕ, ◌++◌, ◌+◌, ◌==◌, ◌||◌, ◌∙◌, ◌∷◌, ◌≡◌, ◌≢◌, ◌≤◌}
 
 same_as : (a b : Req) → a ≡ b → same a b ≡ true
 same_as a b e = ap (λ (z : Req). same z b) e ∙ same_itself b

@@ -1,29 +1,8 @@
 -- What the notes of a cell tell a cancel of the cell's request: whether it is meant for that.
-use Rattle.std.proofs.Common.{◌≡◌, ◌⊎◌, ⊎_elim, inl, inr, ℕ, ◌<◌, ◌&&◌, ◌==◌, not, Bool, true, false, cond, List, ◌++◌, Option, Some, IsTrue, sym, ap, ◌∙◌, subst, arith, eqb-true, eq-eqb, true≢false}
-use Rattle.claim.specs.Facts.{Facts as FactsParts, packed_facts, fits_facts}
-use Rattle.entry.specs.declared.op.Op.{Op}
-use Rattle.entry.specs.declared.op.Op.TheVariants.{AsyncCancel, TimeoutRemove}
-use Rattle.entry.specs.Entry.{Entry}
-use Rattle.history.specs.declared.req.Req.{Req}
-use Rattle.history.specs.declared.event.Event.{Event}
-use Rattle.history.specs.History.{Phase, Submission, submission, submits, phase, reaped, IsReplied}
-use Rattle.history.specs.Answers.{Matches, asks_for}
-use Rattle.history.specs.Chains.{IsBefore, IsPlaced, before_in, hosts, is_link_timeout, placed_behind, placed_from}
-use Rattle.history.specs.Legal.{Setup, Legal}
-use Rattle.history.proofs.Growth.{submission_some}
-use Rattle.history.proofs.Requests.{bool_cases, and_left, and_right}
-use Rattle.steps.specs.declared.line.Line.{Line}
-use Rattle.steps.specs.declared.view.Layout.{Layout}
-use Rattle.steps.specs.declared.view.View.{View}
-use Rattle.steps.specs.Fairness.{IsReaped, NotesTell, FactsTell, Orderly}
+use Rattle.claim.specs.Facts.{Facts as FactsParts}
 use Rattle.steps.specs.FactsTold.{TellsFacts}
-use Rattle.steps.specs.Journal.{events_of, noted}
-use Rattle.steps.specs.Cells.{IsCell, facts_at, user_at, request_at, setup_of}
-use Rattle.steps.specs.Rule.{Looks}
 use Rattle.steps.proofs.FactsRead.{own_facts, other_facts, reaped_or}
-use Rattle.steps.proofs.JournalGrowth.{lasts, placed_lasts, replied_later, submits_grow}
-use Rattle.work.specs.declared.cancel.Wanted.{Wanted}
-use Rattle.work.specs.Searches.{IsMeant, is_kind, wanted_in}
+use Rattle.work.proofs.Common.{AsyncCancel, Bool, Entry, Event, FactsTell, IsBefore, IsCell, IsMeant, IsPlaced, IsReaped, IsReplied, IsTrue, Layout, Legal, Line, List, Looks, Matches, NotesTell, Op, Option, Orderly, Phase, Req, Setup, Some, Submission, TimeoutRemove, View, Wanted, and_left, and_right, ap, arith, asks_for, before_in, bool_cases, cond, eq-eqb, eqb-true, events_of, facts_at, false, fits_facts, hosts, inl, inr, is_kind, is_link_timeout, lasts, not, noted, packed_facts, phase, placed_behind, placed_from, placed_lasts, reaped, replied_later, request_at, setup_of, submission, submission_some, submits, submits_grow, subst, sym, true, true≢false, user_at, wanted_in, ℕ, ⊎_elim, ◌&&◌, ◌++◌, ◌<◌, ◌==◌, ◌∙◌, ◌≡◌, ◌⊎◌}
 
 -- ---- by the entries
 

@@ -1,41 +1,13 @@
 -- A worker that runs a cancel goes from one earlier request to the next: what it knows stays, and what it finds out.
-use Rattle.std.proofs.Common.{◌≡◌, ◌≢◌, ◌⊎◌, ⊎_elim, inl, inr, ℕ, ◌+◌, ◌<◌, ◌≤◌, ◌==◌, not, Bool, true, false, cond, negsuc, List, [], ◌∷◌, ◌++◌, Some, sym, refl, ap, ◌∙◌, subst, arith, true≢false, eqb-true, length, length-append}
 use Rattle.std.proofs.Math.Bool.{and-false}
-use mathlib.Core.Logic.{dite}
-use native.Mathlib.Decide.{ℕ_discrete}
-use Rattle.std.proofs.lemmas.List.{append_assoc}
-use Rattle.atomic_table.specs.Seated.{TableId}
-use Rattle.claim.specs.declared.tag.Tag.{Tag}
 use Rattle.claim.specs.declared.tag.Tag.TheVariants.{Held, Ready, Running, Armed}
-use Rattle.entry.specs.declared.op.Op.{Op}
-use Rattle.entry.specs.declared.op.Op.TheVariants.{AsyncCancel, Timeout, TimeoutRemove, LinkTimeout}
-use Rattle.entry.specs.Entry.{fails, fails_op}
-use Rattle.history.specs.declared.req.Req.{Req}
-use Rattle.history.specs.declared.event.Event.{Event}
-use Rattle.history.specs.History.{Phase, unborn, runs, phase, submits, IsIdle, IsReplied}
-use Rattle.history.specs.Answers.{AimsAt, Matches, MayHit, is_all}
-use Rattle.history.specs.Chains.{IsBefore, is_link_timeout}
-use Rattle.history.specs.Legal.{Setup, Legal}
-use Rattle.history.proofs.Requests.{bool_cases}
-use Rattle.history.proofs.Growth.{born_once}
-use Rattle.steps.specs.declared.line.Line.{Line}
-use Rattle.steps.specs.declared.view.Layout.{Layout}
-use Rattle.steps.specs.declared.view.Role.TheVariants.{Busy}
-use Rattle.steps.specs.declared.view.Step.{Step}
-use Rattle.steps.specs.declared.view.View.{View}
-use Rattle.steps.specs.Journal.{events_of}
-use Rattle.steps.specs.Cells.{IsCell, setup_of, request_at, word_of, claim_at, note_at}
-use Rattle.steps.specs.Plays.{IsIdleWord, is_idle}
-use Rattle.steps.specs.Rule.{IsStep, Looks, Shown}
 use Rattle.steps.proofs.ClaimWords.{says_of}
 use Rattle.steps.proofs.EndingIdle.{idle_says}
 use Rattle.steps.proofs.IdleWords.{ready_again, same_again}
-use Rattle.steps.proofs.OwnFacts.{never_asked}
-use Rattle.work.specs.declared.cancel.Wanted.{Wanted}
 use Rattle.work.specs.declared.cancel.Target.{Target}
 use Rattle.work.specs.declared.cancel.Tried.{Tried}
-use Rattle.work.specs.declared.cancel.Tried.TheVariants.{Passed, Took, Missed}
-use Rattle.work.specs.Searches.{DidTake, DidTry, WorkerSeat, Cancels, IsEarlier, IsMeant, MayAim, AreAt, StepsIn, steps_at, target_in, wanted_in}
+use Rattle.work.specs.declared.cancel.Tried.TheVariants.{Took}
+use Rattle.work.proofs.Common.{AimsAt, AreAt, AsyncCancel, Bool, Busy, Cancels, DidTake, DidTry, Event, IsBefore, IsCell, IsEarlier, IsIdle, IsIdleWord, IsMeant, IsReplied, IsStep, Layout, Legal, Line, LinkTimeout, List, Looks, Matches, MayAim, MayHit, Missed, Op, Passed, Phase, Req, Setup, Shown, Some, Step, StepsIn, TableId, Tag, Timeout, TimeoutRemove, View, Wanted, WorkerSeat, [], ap, append_assoc, arith, bool_cases, born_once, claim_at, cond, dite, eqb-true, events_of, fails, fails_op, false, inl, inr, is_all, is_idle, is_link_timeout, length, length-append, negsuc, never_asked, not, note_at, phase, refl, request_at, runs, setup_of, steps_at, submits, subst, sym, target_in, true, true≢false, unborn, wanted_in, word_of, ℕ, ℕ_discrete, ⊎_elim, ◌++◌, ◌+◌, ◌<◌, ◌==◌, ◌∙◌, ◌∷◌, ◌≡◌, ◌≢◌, ◌≤◌, ◌⊎◌}
 use Rattle.work.proofs.CancelGrowth.{aim_on, cancels_grown, grown_look, meant_on, went_later}
 use Rattle.work.proofs.RunsKept.{same_hit_looked}
 

@@ -1,26 +1,7 @@
 -- A cancel of all its matches goes over the earlier requests of its ring that can still have a cell: each match before the next one has replied, or was found running.
-use Rattle.std.proofs.Common.{◌≡◌, ◌≢◌, ◌⊎◌, ⊎_elim, inl, inr, ℕ, ◌+◌, ◌*◌, ◌-◌, ◌<◌, ◌≤◌, ◌||◌, Bool, true, cond, negsuc, List, [], ◌∷◌, ◌++◌, length, length-append, sym, refl, ap, ◌∙◌, subst, arith, eq-eqb}
-use mathlib.Core.Logic.{dite}
-use native.Mathlib.Decide.{ℕ_discrete}
-use Rattle.atomic_table.specs.Seated.{TableId}
-use Rattle.history.specs.declared.req.Req.{Req}
-use Rattle.history.specs.declared.event.Event.{Event}
-use Rattle.history.specs.declared.event.Event.TheVariants.{Take, Miss}
-use Rattle.history.specs.Answers.{Matches}
-use Rattle.history.specs.History.{Hit, by_take, replied, has_missed, hit, missed, nothing, phase, same, IsReplied}
-use Rattle.history.proofs.Requests.{same_itself}
-use Rattle.steps.specs.declared.line.Line.{Line}
-use Rattle.steps.specs.declared.line.Line.TheVariants.{Did}
-use Rattle.steps.specs.declared.view.Role.TheVariants.{Busy}
-use Rattle.steps.specs.declared.view.View.{View}
-use Rattle.steps.specs.Journal.{events_of}
-use Rattle.steps.specs.Rule.{Extends}
 use Rattle.work.specs.declared.cancel.Tried.{Tried}
-use Rattle.work.specs.declared.cancel.Tried.TheVariants.{Passed, Took, Missed}
-use Rattle.work.specs.declared.cancel.Wanted.{Wanted}
-use Rattle.work.specs.Passes.{ArePast}
-use Rattle.work.specs.Searches.{WorkerSeat, Cancels, DidTry, MayAim, WentBy}
-use Rattle.work.specs.WorkerRuns.{AreHits, DidSweep, taken_in}
+use Rattle.work.specs.declared.cancel.Tried.TheVariants.{Took}
+use Rattle.work.proofs.Common.{AreHits, ArePast, Bool, Busy, Cancels, Did, DidSweep, DidTry, Event, Extends, Hit, IsReplied, Line, List, Matches, MayAim, Miss, Missed, Passed, Req, TableId, Take, View, Wanted, WentBy, WorkerSeat, [], ap, arith, by_take, cond, dite, eq-eqb, events_of, has_missed, hit, inl, inr, length, length-append, missed, negsuc, nothing, phase, refl, replied, same, same_itself, subst, sym, taken_in, true, ℕ, ℕ_discrete, ⊎_elim, ◌*◌, ◌++◌, ◌+◌, ◌-◌, ◌<◌, ◌||◌, ◌∙◌, ◌∷◌, ◌≡◌, ◌≢◌, ◌≤◌, ◌⊎◌}
 use Rattle.work.proofs.CancelGrowth.{Grown, by_both, by_grown, by_hit, did_hit, match_back, replied_on, went_hit, went_role}
 use Rattle.work.proofs.CancelHits.{hits_below, none_missed, still_missed, still_took}
 use Rattle.work.proofs.CancelWalk.{Walked, in_ring, passed_first, walked_first}

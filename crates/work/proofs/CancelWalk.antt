@@ -1,27 +1,8 @@
 -- A cancel goes over earlier requests of its ring that can still have a cell, and visits each cell once. Its search for one target has come past those matches that have replied.
-use Rattle.std.proofs.Common.{◌≡◌, ◌≢◌, ◌⊎◌, ⊎_elim, inl, ℕ, ◌+◌, ◌*◌, ◌-◌, ◌<◌, ◌≤◌, ◌==◌, Bool, true, false, cond, true≢false, List, [], ◌∷◌, ◌++◌, length, length-append, sym, refl, ap, ◌∙◌, subst, arith, eqb-true}
-use mathlib.Core.Logic.{dite}
-use native.Mathlib.Decide.{ℕ_discrete}
-use Rattle.std.proofs.lemmas.List.{append_assoc}
-use Rattle.atomic_table.specs.Seated.{TableId}
-use Rattle.history.specs.declared.req.Req.{Req}
-use Rattle.history.specs.Answers.{Matches, NoneLeft}
-use Rattle.history.specs.Chains.{IsBefore}
-use Rattle.history.specs.History.{hit, nothing, phase, IsReplied}
-use Rattle.history.proofs.Requests.{bool_cases}
-use Rattle.steps.specs.declared.view.Layout.{Layout}
-use Rattle.steps.specs.declared.view.Step.{Step}
-use Rattle.steps.specs.declared.view.View.{View}
-use Rattle.steps.specs.Fairness.{IsReaped}
-use Rattle.steps.specs.Journal.{events_of}
-use Rattle.steps.specs.Cells.{IsCell, cells_in, claim_at, facts_at, user_at, place_of, ring_of, request_at, total}
-use Rattle.steps.proofs.CellNumbers.{one_row}
+use Rattle.history.specs.Answers.{NoneLeft}
 use Rattle.steps.proofs.MatchesKept.{gone_before}
 use Rattle.work.specs.declared.cancel.Target.{Target}
-use Rattle.work.specs.declared.cancel.Tried.TheVariants.{Passed}
-use Rattle.work.specs.declared.cancel.Wanted.{Wanted}
-use Rattle.work.specs.Passes.{ArePast, IsGridOf}
-use Rattle.work.specs.Searches.{WorkerSeat, ArePassed, AreAt, Cancels, DidTry, FewSteps, FewerSteps, IsEarlier, MayAim, StepsIn, WentOn, steps_at, target_in}
+use Rattle.work.proofs.Common.{AreAt, ArePassed, ArePast, Bool, Cancels, DidTry, FewSteps, FewerSteps, IsBefore, IsCell, IsEarlier, IsGridOf, IsReaped, IsReplied, Layout, List, Matches, MayAim, Passed, Req, Step, StepsIn, TableId, View, Wanted, WentOn, WorkerSeat, [], ap, append_assoc, arith, bool_cases, cells_in, claim_at, cond, dite, eqb-true, events_of, facts_at, false, hit, inl, length, length-append, nothing, one_row, phase, place_of, refl, request_at, ring_of, steps_at, subst, sym, target_in, total, true, true≢false, user_at, ℕ, ℕ_discrete, ⊎_elim, ◌*◌, ◌++◌, ◌+◌, ◌-◌, ◌<◌, ◌==◌, ◌∙◌, ◌∷◌, ◌≡◌, ◌≢◌, ◌≤◌, ◌⊎◌}
 use Rattle.work.proofs.CancelGrowth.{Grown, cancels_grown, grown_went, passed_on, went_both, went_hit}
 use Rattle.work.proofs.CancelSearch.{steps_both}
 

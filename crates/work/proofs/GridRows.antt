@@ -1,9 +1,6 @@
 -- A row of the grid tells where its ring's cells lie.
-use Rattle.std.proofs.Common.{◌≡◌, ℕ, zero, suc, ◌+◌, ◌-◌, ◌*◌, ◌/◌, ◌%◌, ◌<◌, ◌≤◌, nat_lt, true, false, cond, List, [], ◌∷◌, ◌++◌, take, length, get_or, sym, refl, ap, ◌∙◌, subst, arith, ltb-true, lt-ltb, le-ltb}
-use Rattle.work.specs.declared.grid.Row.{Row}
-use Rattle.work.specs.Grid.{cells_of, RowsFrom, AreCellCounts}
-use Rattle.steps.specs.Cells.{IsCell, request_at, total, cells_in, ring_of, place_of}
-use Rattle.steps.proofs.CellNumbers.{first_cell}
+use Rattle.std.proofs.Common.{lt-ltb}
+use Rattle.work.proofs.Common.{AreCellCounts, IsCell, List, Row, RowsFrom, [], ap, arith, cells_in, cells_of, cond, false, first_cell, get_or, le-ltb, length, ltb-true, nat_lt, place_of, refl, request_at, ring_of, subst, suc, sym, take, total, true, zero, ℕ, ◌%◌, ◌*◌, ◌++◌, ◌+◌, ◌-◌, ◌/◌, ◌<◌, ◌∙◌, ◌∷◌, ◌≡◌, ◌≤◌}
 
 pub cells_long : (rows : List Row) → length (cells_of rows) ≡ length rows
 cells_long [] = refl

@@ -1,10 +1,6 @@
 -- Who is among those that lie with a pipe.
-use Rattle.std.proofs.Common.{◌≡◌, Bool, true, false, ◌||◌, List, [], ◌∷◌, ◌++◌, sym, refl, inl, inr, ap, ◌∙◌, ⊎_elim, subst, true≢false}
 use Rattle.std.specs.List.{list_any}
-use Rattle.history.specs.declared.req.Req.{Req}
-use Rattle.history.specs.History.{same}
-use Rattle.history.proofs.Requests.{bool_cases, same_itself, same_true}
-use Rattle.steps.specs.Sleepers.{LiesIn}
+use Rattle.work.proofs.Common.{Bool, LiesIn, List, Req, [], ap, bool_cases, false, inl, inr, refl, same, same_itself, same_true, subst, sym, true, true≢false, ⊎_elim, ◌++◌, ◌||◌, ◌∙◌, ◌∷◌, ◌≡◌}
 
 -- who was laid down last
 pub lies_last : (rs : List Req) (r : Req) → LiesIn (rs ++ (r ∷ [])) r

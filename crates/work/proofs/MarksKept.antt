@@ -1,19 +1,5 @@
 -- What a worker's marks tell stays true, whatever it sees.
-use Rattle.std.proofs.Common.{◌≡◌, ◌⊎◌, ⊎_elim, ℕ, ◌<◌, List, ◌∷◌, ◌++◌, sym, ap, ◌∙◌, subst}
-use Rattle.history.specs.declared.req.Req.{Req}
-use Rattle.history.specs.Legal.{Setup, Legal}
-use Rattle.steps.specs.declared.line.Line.{Line}
-use Rattle.steps.specs.declared.view.Layout.{Layout}
-use Rattle.steps.specs.declared.view.Role.{Role}
-use Rattle.steps.specs.declared.view.View.{View}
-use Rattle.steps.specs.Cells.{setup_of}
-use Rattle.steps.specs.Journal.{events_of}
-use Rattle.steps.specs.Rule.{Extends, Looks}
-use Rattle.steps.proofs.JournalGrowth.{replied_later}
-use Rattle.work.specs.declared.lists.Lists.{Lists}
-use Rattle.work.specs.declared.marks.Marks.{Marks}
-use Rattle.work.specs.Passes.{AreMarked, ArePast, HasRooms, IsIdleSeat, mark_of}
-use Rattle.work.specs.Searches.{WentOn, WorkerSeat}
+use Rattle.work.proofs.Common.{AreMarked, ArePast, Extends, HasRooms, IsIdleSeat, Layout, Legal, Line, List, Lists, Looks, Marks, Req, Role, Setup, View, WentOn, WorkerSeat, ap, events_of, mark_of, replied_later, setup_of, subst, sym, ℕ, ⊎_elim, ◌++◌, ◌<◌, ◌∙◌, ◌∷◌, ◌≡◌, ◌⊎◌}
 use Rattle.work.proofs.CancelGrowth.{Grown}
 
 pub past_later : (S : Setup) (later j : List Line) (ring n : ℕ) → Legal S (events_of (later ++ j)) → ArePast j ring n → ArePast (later ++ j) ring n

@@ -1,43 +1,15 @@
 -- What the notes of a request tell the worker that runs it; and what a run came to that began with looks at them.
-use Rattle.std.proofs.Common.{◌≡◌, ◌⊎◌, ⊎_elim, inl, inr, ℕ, ◌+◌, ◌*◌, ◌==◌, ne_eqb, Bool, true, false, cond, ℤ, List, [], ◌∷◌, ◌++◌, Option, Some, None, IsTrue, sym, refl, ap, ◌∙◌, subst, arith, length-append}
-use Rattle.std.proofs.lemmas.List.{append_assoc}
-use Rattle.atomic_table.specs.Seated.{TableId}
 use Rattle.answers.specs.declared.named.NamedPipes.{NamedPipes}
 use Rattle.answers.specs.declared.named.NamedPipes.TheVariants.{Nothing, One, Both}
-use Rattle.claim.specs.Facts.{Facts, packed_facts, fits_facts}
-use Rattle.entry.specs.declared.op.Op.{Op}
-use Rattle.entry.specs.declared.op.Op.TheVariants.{Nop, PollAdd, Timeout, TimeoutRemove, AsyncCancel, LinkTimeout, Close, Read, Write, Splice, Invalid}
-use Rattle.entry.specs.Entry.{Entry}
-use Rattle.history.specs.declared.req.Req.{Req}
-use Rattle.history.specs.declared.event.Event.{Event}
-use Rattle.history.specs.declared.event.Event.TheVariants.{Begin, Park, Reply}
-use Rattle.history.specs.History.{Cause, phase, replied, runs, submission, unborn, was_shut}
-use Rattle.history.specs.Chains.{IsPlaced}
-use Rattle.history.specs.Legal.{Legal, Setup}
-use Rattle.history.proofs.Requests.{bool_cases, same_itself}
-use Rattle.steps.specs.declared.line.Line.{Line}
-use Rattle.steps.specs.declared.line.Line.TheVariants.{Did}
-use Rattle.steps.specs.declared.parcel.Parcel.{Parcel}
-use Rattle.steps.specs.declared.view.Role.{Role}
-use Rattle.steps.specs.declared.view.Role.TheVariants.{Busy}
-use Rattle.steps.specs.declared.view.Step.{Step}
-use Rattle.steps.specs.declared.view.View.{View}
-use Rattle.steps.specs.Cells.{cells_in, claim_at, facts_at, setup_of, user_at}
-use Rattle.steps.specs.Fairness.{IsReaped, NotesSay}
-use Rattle.steps.specs.Journal.{event_of, events_of, lent, noted}
+use Rattle.claim.specs.Facts.{Facts}
 use Rattle.steps.specs.Notes.{row_number}
-use Rattle.steps.specs.Rule.{Begins, Extends, IsStep, Looks, NoneOf, Saw, owns, seeing}
 use Rattle.steps.proofs.FactsRead.{parts_of, parts_small, row_small, same_facts}
-use Rattle.steps.proofs.JournalGrowth.{lasts, placed_lasts, still_runs, submitted_in}
 use Rattle.steps.proofs.NotesKept.{lent_out, notes_are}
-use Rattle.work.specs.declared.cancel.Wanted.{Wanted}
 use Rattle.work.specs.declared.run.Parked.{Parked as Reason}
 use Rattle.work.specs.declared.run.Parked.TheVariants.{NotReady, PipeBusy}
 use Rattle.work.specs.declared.run.Ran.{Ran}
 use Rattle.work.specs.declared.run.Ran.TheVariants.{Replied, Parked}
-use Rattle.work.specs.Passes.{IsUnderway, Pass, RunsIt, Running, Took, notes_read, own_of, seen_of}
-use Rattle.work.specs.Searches.{FewSteps, ReadNotes, steps_at, wanted_in}
-use Rattle.work.specs.WorkerRuns.{EndsBy, FoundOut, HasStepped, HasWoken, IsReason, IsRun, LaidDown, StepsAt, StepsBy, WakesAt, op_run, run_as}
+use Rattle.work.proofs.Common.{AsyncCancel, Begin, Begins, Bool, Busy, Cause, Close, Did, EndsBy, Entry, Event, Extends, FewSteps, FoundOut, HasStepped, HasWoken, Invalid, IsPlaced, IsReaped, IsReason, IsRun, IsStep, IsTrue, IsUnderway, LaidDown, Legal, Line, LinkTimeout, List, Looks, None, NoneOf, Nop, NotesSay, Op, Option, Parcel, Park, Pass, PollAdd, Read, ReadNotes, Reply, Req, Role, Running, RunsIt, Saw, Setup, Some, Splice, Step, StepsAt, StepsBy, TableId, Timeout, TimeoutRemove, Took, View, WakesAt, Wanted, Write, [], ap, append_assoc, arith, bool_cases, cells_in, claim_at, cond, event_of, events_of, facts_at, false, fits_facts, inl, inr, lasts, length-append, lent, ne_eqb, noted, notes_read, op_run, own_of, owns, packed_facts, phase, placed_lasts, refl, replied, run_as, runs, same_itself, seeing, seen_of, setup_of, steps_at, still_runs, submission, submitted_in, subst, sym, true, unborn, user_at, wanted_in, was_shut, ℕ, ℤ, ⊎_elim, ◌*◌, ◌++◌, ◌+◌, ◌==◌, ◌∙◌, ◌∷◌, ◌≡◌, ◌⊎◌}
 use Rattle.work.proofs.CancelSearch.{steps_both}
 use Rattle.work.proofs.RunsKept.{begins_both, runs_placed, took_both}
 

@@ -1,12 +1,5 @@
 -- Which events of a part of the journal are a role's own.
-use Rattle.std.proofs.Common.{◌≡◌, cond, List, [], ◌∷◌, ◌++◌, ap, ◌∙◌, refl, ⊎_elim}
-use Rattle.history.proofs.Requests.{bool_cases}
-use Rattle.history.specs.declared.event.Event.{Event}
-use Rattle.steps.specs.declared.line.Line.{Line}
-use Rattle.steps.specs.declared.view.Role.{Role}
-use Rattle.steps.specs.Journal.{event_of}
-use Rattle.steps.specs.Rule.{owns, NoneOf}
-use Rattle.work.specs.Passes.{own_of}
+use Rattle.work.proofs.Common.{Event, Line, List, NoneOf, Role, [], ap, bool_cases, cond, event_of, own_of, owns, refl, ⊎_elim, ◌++◌, ◌∙◌, ◌∷◌, ◌≡◌}
 
 -- lines of others have no own event
 pub own_none : (role : Role) (l : List Line) → NoneOf role l → own_of role l ≡ []

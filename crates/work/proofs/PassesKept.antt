@@ -1,21 +1,7 @@
 -- A pass of a board stays one of its own.
-use Rattle.std.proofs.Common.{◌≡◌, ℕ, List, [], ◌∷◌, ◌++◌, false, sym, refl, ap, ◌∙◌, subst}
-use Rattle.std.proofs.lemmas.List.{append_assoc}
-use Rattle.history.specs.History.{was_shut}
-use Rattle.history.specs.Legal.{Legal}
-use Rattle.steps.specs.declared.line.Line.{Line}
 use Rattle.steps.specs.declared.view.Heard.{Heard}
-use Rattle.steps.specs.declared.view.Layout.{Layout}
-use Rattle.steps.specs.declared.view.Role.{Role}
-use Rattle.steps.specs.declared.view.View.{View}
-use Rattle.steps.specs.Fairness.{Orderly}
-use Rattle.steps.specs.Journal.{events_of}
-use Rattle.steps.specs.Cells.{setup_of}
-use Rattle.steps.specs.Rule.{AllBegin, AreMade, NoneOf, Looks, Extends, IsStep, seeing}
-use Rattle.steps.specs.Sleepers.{NoneSleeps}
 use Rattle.steps.proofs.Sleepers.{none_sleeps}
-use Rattle.work.specs.Board.{Facts, IsOf, share_of}
-use Rattle.work.specs.Passes.{Pass, Took}
+use Rattle.work.proofs.Common.{AllBegin, AreMade, Extends, Facts, IsOf, IsStep, Layout, Legal, Line, List, Looks, NoneOf, NoneSleeps, Orderly, Pass, Role, Took, View, [], ap, append_assoc, events_of, false, refl, seeing, setup_of, share_of, subst, sym, was_shut, ℕ, ◌++◌, ◌∙◌, ◌∷◌, ◌≡◌}
 
 pub looked_of : (b : Facts) (p q : Pass) → IsOf b p → q.table ≡ p.table → Looks p.view q.view → IsOf b q
 looked_of b p q o t x =

@@ -1,30 +1,7 @@
 -- What the answer of a run with one pipe in hand comes to: it lays its request down there, or it may reply.
-use Rattle.std.proofs.Common.{◌≡◌, ℕ, ◌<◌, true, false, ℤ, List, [], ◌∷◌, length, slice_index, vec_capacity, Option, None, Some, sym, refl, ap, ◌∙◌, subst}
-use Rattle.std.proofs.lemmas.Bool.{lt-ltb}
-use Rattle.atomic_table.specs.Seated.{TableId}
-use Rattle.answers.specs.Answered.{Answered, Does, IsPipe}
-use Rattle.answers.specs.NamedEnds.{UsesOne}
-use Rattle.entry.specs.declared.op.Op.{Op}
-use Rattle.entry.specs.Entry.{Entry}
-use Rattle.history.specs.declared.req.Req.{Req}
-use Rattle.history.specs.Answers.{OpAnswers, is_pipe}
-use Rattle.history.specs.Chains.{IsPlaced}
-use Rattle.history.specs.Pipes.{flow}
+use Rattle.std.proofs.Common.{vec_capacity}
 use Rattle.history.proofs.Contents.{sound}
-use Rattle.pipe.specs.Pipe.{Conduit}
-use Rattle.steps.specs.declared.line.Laid.{Laid}
-use Rattle.steps.specs.declared.parcel.Parcel.{Parcel}
-use Rattle.steps.specs.declared.parcel.Thing.TheVariants.{Full, Piped}
-use Rattle.steps.specs.declared.parcel.WaitedPipe.{WaitedPipe}
-use Rattle.steps.specs.declared.view.View.{View}
-use Rattle.steps.specs.Cells.{setup_of, request_at, slot_at, total}
-use Rattle.steps.specs.Fairness.{MayLay}
-use Rattle.steps.specs.Journal.{events_of, lays}
-use Rattle.steps.specs.Plays.{Seated, HasPipeAfter, HasPipeLaid, MayReply}
-use Rattle.work.specs.declared.lists.Lists.{Lists}
-use Rattle.work.specs.Passes.{IsHoldingSeat, Settled}
-use Rattle.work.specs.Searches.{WorkerSeat}
-use Rattle.work.specs.WorkerRuns.{Unanswered}
+use Rattle.work.proofs.Common.{Answered, Conduit, Does, Entry, Full, HasPipeAfter, HasPipeLaid, IsHoldingSeat, IsPipe, IsPlaced, Laid, List, Lists, MayLay, MayReply, None, Op, OpAnswers, Option, Parcel, Piped, Req, Seated, Settled, Some, TableId, Unanswered, UsesOne, View, WaitedPipe, WorkerSeat, [], ap, events_of, false, flow, is_pipe, lays, length, lt-ltb, refl, request_at, setup_of, slice_index, slot_at, subst, sym, total, true, ℕ, ℤ, ◌<◌, ◌∙◌, ◌∷◌, ◌≡◌}
 use Rattle.work.proofs.PipesWaited.{may_lay, waited_now}
 use Rattle.work.proofs.RunsKept.{has_one, one_handed, pipe_after, pipe_may, piped_entry, piped_in, run_piped, runs_placed}
 use Rattle.work.proofs.TaskKept.{Hand}

@@ -1,28 +1,6 @@
 -- Who lies with the pipes that a worker has in hand, as it gives them back.
-use Rattle.std.proofs.Common.{◌≡◌, inl, ℕ, true, ℤ, List, [], ◌∷◌, Some, sym, refl, ap, ◌∙◌, subst}
-use Rattle.history.specs.declared.req.Req.{Req}
-use Rattle.history.specs.declared.event.Event.{Event}
-use Rattle.history.specs.declared.event.Event.TheVariants.{Reply}
-use Rattle.history.specs.Answers.{is_pipe}
-use Rattle.history.specs.Pipes.{Flow}
-use Rattle.history.proofs.Requests.{same_itself}
-use Rattle.steps.specs.declared.line.Laid.{Laid}
-use Rattle.steps.specs.declared.line.Laid.TheVariants.{NoRequest}
-use Rattle.steps.specs.declared.line.Line.{Line}
-use Rattle.steps.specs.declared.line.Line.TheVariants.{Did, Free}
-use Rattle.steps.specs.declared.parcel.WaitedPipe.{WaitedPipe}
-use Rattle.steps.specs.declared.view.Role.{Role}
-use Rattle.steps.specs.declared.view.Role.TheVariants.{Busy}
-use Rattle.steps.specs.declared.view.View.{View}
-use Rattle.steps.specs.Cells.{stands}
-use Rattle.steps.specs.Fairness.{HasNone, HasWaited, MayLay, Orderly}
-use Rattle.steps.specs.Journal.{goes_out, holder, lays, lying}
-use Rattle.steps.specs.Plays.{IsSamePipe}
-use Rattle.steps.specs.Rule.{Begins, Extends, holders, stands_for}
-use Rattle.steps.specs.Sleepers.{LiesIn}
 use Rattle.steps.proofs.PipesKept.{still_has}
-use Rattle.work.specs.Passes.{LiesAs}
-use Rattle.work.specs.WorkerRuns.{LaidDown, TookAlong}
+use Rattle.work.proofs.Common.{Begins, Busy, Did, Event, Extends, Flow, Free, HasNone, HasWaited, IsSamePipe, Laid, LaidDown, LiesAs, LiesIn, Line, List, MayLay, NoRequest, Orderly, Reply, Req, Role, Some, TookAlong, View, WaitedPipe, [], ap, goes_out, holder, holders, inl, is_pipe, lays, lying, refl, same_itself, stands, stands_for, subst, sym, true, ℕ, ℤ, ◌∙◌, ◌∷◌, ◌≡◌}
 use Rattle.work.proofs.RunsKept.{begins_both}
 
 -- what has no answer now may be laid down

@@ -1,55 +1,12 @@
 -- What the single steps of a run come to: which events the pass went on by, how many steps it took, and whose pass it stays.
-use Rattle.std.proofs.Common.{◌≡◌, ℕ, suc, ◌+◌, ◌<◌, ◌≤◌, ◌&&◌, not, cond, Bool, true, false, ℤ, List, [], ◌∷◌, ◌++◌, length, slice_index, Option, Some, None, sym, refl, ap, ◌∙◌, subst, ⊎_elim, true≢false, ltb-true, eq-eqb, length-append, arith, vec_capacity}
-use Rattle.std.proofs.lemmas.Bool.{cases_eq}
-use Rattle.std.proofs.lemmas.List.{append_assoc}
-use Rattle.atomic_table.specs.Table.{rest, turned}
-use Rattle.atomic_table.specs.Seated.{TableId}
+use Rattle.std.proofs.Common.{vec_capacity}
 use Rattle.answers.specs.declared.named.NamedPipes.{NamedPipes}
-use Rattle.answers.specs.Answered.{IsPipe, is_plain}
-use Rattle.answers.specs.NamedEnds.{UsesNone, UsesOne, UsesBoth, JoinsPipes, AreNamed}
-use Rattle.answers.proofs.Naming.{only_joined, uses_joined}
-use Rattle.entry.specs.declared.op.Op.{Op}
-use Rattle.entry.specs.declared.op.Op.TheVariants.{Nop, Close, Read, Write, Splice, PollAdd, Timeout, LinkTimeout, AsyncCancel, TimeoutRemove, Invalid}
-use Rattle.entry.specs.Entry.{Entry}
-use Rattle.history.specs.declared.req.Req.{Req}
-use Rattle.history.specs.declared.event.Event.{Event}
-use Rattle.history.specs.declared.event.Event.TheVariants.{Begin, Reply}
-use Rattle.history.specs.Answers.{OpAnswers, is_pipe}
-use Rattle.history.specs.Chains.{IsPlaced, is_link_timeout, is_timer, hosts, before_in, placed_behind, placed_from}
-use Rattle.history.specs.History.{submission, Submission, hit, nothing, was_shut}
-use Rattle.history.specs.Legal.{Legal, Setup, FitsOp, IsOf as IsOfKind}
+use Rattle.history.specs.Legal.{IsOf as IsOfKind}
 use Rattle.history.specs.Users.{uses_at}
-use Rattle.history.proofs.Requests.{bool_cases}
-use Rattle.history.specs.Pipes.{Flow, contents, flow, offered, flows, flows_as}
-use Rattle.pipe.specs.Pipe.{Conduit}
-use Rattle.steps.specs.declared.line.Line.{Line}
-use Rattle.steps.specs.declared.line.Line.TheVariants.{Did, Hold}
-use Rattle.steps.specs.declared.parcel.Parcel.{Parcel}
-use Rattle.steps.specs.declared.parcel.Thing.{Thing}
-use Rattle.steps.specs.declared.parcel.Thing.TheVariants.{Full, Piped}
-use Rattle.steps.specs.declared.parcel.WaitedPipe.{WaitedPipe}
-use Rattle.steps.specs.declared.view.Layout.{Layout}
-use Rattle.steps.specs.declared.view.Role.{Role}
-use Rattle.steps.specs.declared.view.Role.TheVariants.{Idle, Busy, Leaving}
-use Rattle.steps.specs.declared.view.Step.{Step}
-use Rattle.steps.specs.declared.view.View.{View}
-use Rattle.steps.specs.Fairness.{Orderly}
-use Rattle.steps.specs.Journal.{event_of, events_of, holder}
-use Rattle.steps.specs.Cells.{setup_of, IsCell, request_at, claim_at, pipe_at, slot_at, over, total, IsParcel, PipeIs}
-use Rattle.steps.specs.Plays.{Seated, HasBoth, MayReply, IsSamePipe}
-use Rattle.steps.specs.Rule.{AreMade, NoneOf, owns, Begins, Looks, Extends, IsStep, leaves, leaves_one}
-use Rattle.steps.proofs.JournalGrowth.{lasts, placed_lasts, submission_lasts, submitted_in}
 use Rattle.steps.proofs.CancelOnce.{IsEarly, unhit as not_hit}
-use Rattle.steps.proofs.OwnFacts.{same_hit}
 use Rattle.steps.proofs.Submissions.{fits_is}
-use Rattle.steps.proofs.ViewsKept.{layout_after, role_after, parts_after, parcel_after}
-use Rattle.work.specs.Board.{Facts, IsOf, share_of}
-use Rattle.work.specs.Passes.{Pass, Running, Took, HasRooms, RunsIt, IsGridOf, own_of}
-use Rattle.work.specs.Searches.{wanted_in}
-use Rattle.work.specs.declared.cancel.Wanted.{Wanted}
-use Rattle.work.specs.declared.lists.Lists.{Lists}
 use Rattle.work.specs.declared.run.Ran.{Ran}
-use Rattle.work.specs.WorkerRuns.{AreFew, DidReply, EndsBy, FoundOut, MissedPipe, StepsAt, StepsBy, op_run, run_as}
+use Rattle.work.proofs.Common.{AreFew, AreMade, AreNamed, AsyncCancel, Begin, Begins, Bool, Busy, Close, Conduit, Did, DidReply, EndsBy, Entry, Event, Extends, Facts, FitsOp, Flow, FoundOut, Full, HasBoth, HasRooms, Hold, Idle, Invalid, IsCell, IsGridOf, IsOf, IsParcel, IsPipe, IsPlaced, IsSamePipe, IsStep, JoinsPipes, Layout, Leaving, Legal, Line, LinkTimeout, List, Lists, Looks, MayReply, MissedPipe, None, NoneOf, Nop, Op, OpAnswers, Option, Orderly, Parcel, Pass, PipeIs, Piped, PollAdd, Read, Reply, Req, Role, Running, RunsIt, Seated, Setup, Some, Splice, Step, StepsAt, StepsBy, Submission, TableId, Thing, Timeout, TimeoutRemove, Took, UsesBoth, UsesNone, UsesOne, View, WaitedPipe, Wanted, Write, [], ap, append_assoc, arith, before_in, bool_cases, cases_eq, claim_at, cond, contents, eq-eqb, event_of, events_of, false, flow, flows, flows_as, hit, holder, hosts, is_link_timeout, is_pipe, is_plain, is_timer, lasts, layout_after, leaves, leaves_one, length, length-append, ltb-true, not, nothing, offered, only_joined, op_run, over, own_of, owns, parcel_after, parts_after, pipe_at, placed_behind, placed_from, placed_lasts, refl, request_at, rest, role_after, run_as, same_hit, setup_of, share_of, slice_index, slot_at, submission, submission_lasts, submitted_in, subst, suc, sym, total, true, true≢false, turned, uses_joined, wanted_in, was_shut, ℕ, ℤ, ⊎_elim, ◌&&◌, ◌++◌, ◌+◌, ◌<◌, ◌∙◌, ◌∷◌, ◌≡◌, ◌≤◌}
 use Rattle.work.proofs.OwnEvents.{own_append, silent_line}
 use Rattle.work.proofs.PassesKept.{extended_of}
 

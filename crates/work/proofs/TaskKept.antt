@@ -1,23 +1,5 @@
 -- What a worker has of its request stays so, whatever it sees and does; and how its slots lie.
-use Rattle.std.proofs.Common.{◌≡◌, ℕ, List, [], ◌∷◌, Option, None, sym, ap, ◌∙◌, subst}
-use Rattle.atomic_table.specs.Seated.{TableId}
-use Rattle.atomic_table.specs.Table.{rest, turned}
-use Rattle.entry.specs.Entry.{Entry}
-use Rattle.history.specs.declared.req.Req.{Req}
-use Rattle.history.specs.History.{hit}
-use Rattle.steps.specs.declared.line.Line.{Line}
-use Rattle.steps.specs.declared.parcel.Parcel.{Parcel}
-use Rattle.steps.specs.declared.parcel.Thing.{Thing}
-use Rattle.steps.specs.declared.view.Role.TheVariants.{Busy}
-use Rattle.steps.specs.declared.view.View.{View}
-use Rattle.steps.specs.Journal.{events_of}
-use Rattle.steps.specs.Plays.{Seated}
-use Rattle.steps.specs.Rule.{Looks, Extends}
-use Rattle.steps.proofs.ViewsKept.{layout_after}
-use Rattle.work.specs.declared.lists.Lists.{Lists}
-use Rattle.work.specs.declared.marks.Marks.{Marks}
-use Rattle.work.specs.Passes.{AreMarked, HasRooms, IsTask, RunsIt, with_asked}
-use Rattle.work.specs.Searches.{WorkerSeat}
+use Rattle.work.proofs.Common.{AreMarked, Busy, Entry, Extends, HasRooms, IsTask, Line, List, Lists, Looks, Marks, None, Option, Parcel, Req, RunsIt, Seated, TableId, Thing, View, WorkerSeat, [], ap, events_of, hit, layout_after, rest, subst, sym, turned, with_asked, ℕ, ◌∙◌, ◌∷◌, ◌≡◌}
 use Rattle.work.proofs.MarksKept.{marked_after, marked_looked}
 use Rattle.work.proofs.RunsKept.{grid_on, runs_on, runs_look, runs_same, same_hit_looked, same_hit_silent}
 

@@ -1,7 +1,4 @@
-use Rattle.std.proofs.Common.{false, refl}
-use Rattle.std.proofs.lemmas.Bool.{lt-ltb}
-use Rattle.entry.specs.declared.op.Op.TheVariants.{AsyncCancel}
-use Rattle.prep.specs.Built.{plain}
+use Rattle.prep.proofs.Common.{AsyncCancel, false, lt-ltb, plain, refl}
 use Rattle.prep.proofs.Columns.{plain-fits}
 use Rattle.prep.proofs.cancel.Goals as goal
 

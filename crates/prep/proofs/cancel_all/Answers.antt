@@ -1,7 +1,4 @@
-use Rattle.std.proofs.Common.{true, refl}
-use Rattle.std.proofs.lemmas.Bool.{lt-ltb}
-use Rattle.entry.specs.declared.op.Op.TheVariants.{AsyncCancel}
-use Rattle.prep.specs.Built.{plain}
+use Rattle.prep.proofs.Common.{AsyncCancel, lt-ltb, plain, refl, true}
 use Rattle.prep.proofs.Columns.{plain-fits}
 use Rattle.prep.proofs.cancel_all.Goals as goal
 

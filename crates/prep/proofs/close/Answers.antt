@@ -1,8 +1,4 @@
-use Rattle.std.proofs.Common.{refl}
-use Rattle.std.specs.Int.{w32}
-use Rattle.std.proofs.lemmas.Int.{to_z-of_z}
-use Rattle.entry.specs.declared.op.Op.TheVariants.{Close}
-use Rattle.prep.specs.Built.{plain}
+use Rattle.prep.proofs.Common.{Close, plain, refl, to_z-of_z, w32}
 use Rattle.prep.proofs.Columns.{is_i32-from, plain-fits}
 use Rattle.prep.proofs.close.Goals as goal
 

@@ -1,4 +1,4 @@
-use Rattle.prep.specs.Built.{link_timeout_op}
+use Rattle.prep.proofs.Common.{link_timeout_op}
 use Rattle.prep.proofs.Columns.{Reads-link_timeout, built}
 use Rattle.prep.proofs.link_timeout.Goals as goal
 

@@ -1,6 +1,4 @@
-use Rattle.std.proofs.Common.{refl}
-use Rattle.prep.specs.Built.{plain}
-use Rattle.entry.specs.declared.op.Op.TheVariants.{Nop}
+use Rattle.prep.proofs.Common.{Nop, plain, refl}
 use Rattle.prep.proofs.nop.Goals as goal
 
 pub returns : goal.returns

@@ -1,6 +1,4 @@
-use Rattle.std.specs.Int.{w32}
-use Rattle.std.proofs.lemmas.Int.{to_z-of_z}
-use Rattle.prep.specs.Built.{poll_op}
+use Rattle.prep.proofs.Common.{poll_op, to_z-of_z, w32}
 use Rattle.prep.proofs.Columns.{Reads-poll, built}
 use Rattle.prep.proofs.poll_add.Goals as goal
 

@@ -1,6 +1,4 @@
-use Rattle.std.specs.Int.{w32}
-use Rattle.std.proofs.lemmas.Int.{to_z-of_z}
-use Rattle.prep.specs.Built.{read_op}
+use Rattle.prep.proofs.Common.{read_op, to_z-of_z, w32}
 use Rattle.prep.proofs.Columns.{Reads-read, built}
 use Rattle.prep.proofs.read.Goals as goal
 

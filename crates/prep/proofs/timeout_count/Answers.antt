@@ -1,4 +1,4 @@
-use Rattle.prep.specs.Built.{timeout_count_op}
+use Rattle.prep.proofs.Common.{timeout_count_op}
 use Rattle.prep.proofs.Columns.{Reads-timeout, built}
 use Rattle.prep.proofs.timeout_count.Goals as goal
 

@@ -1,7 +1,4 @@
-use Rattle.std.proofs.Common.{refl}
-use Rattle.std.proofs.lemmas.Bool.{lt-ltb}
-use Rattle.entry.specs.declared.op.Op.TheVariants.{TimeoutRemove}
-use Rattle.prep.specs.Built.{plain}
+use Rattle.prep.proofs.Common.{TimeoutRemove, lt-ltb, plain, refl}
 use Rattle.prep.proofs.Columns.{plain-fits}
 use Rattle.prep.proofs.timeout_remove.Goals as goal
 

@@ -1,6 +1,4 @@
-use Rattle.std.specs.Int.{w32}
-use Rattle.std.proofs.lemmas.Int.{to_z-of_z}
-use Rattle.prep.specs.Built.{write_op}
+use Rattle.prep.proofs.Common.{to_z-of_z, w32, write_op}
 use Rattle.prep.proofs.Columns.{Reads-write, built}
 use Rattle.prep.proofs.write.Goals as goal
 

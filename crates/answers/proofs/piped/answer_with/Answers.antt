@@ -1,7 +1,4 @@
-use Rattle.std.proofs.Common.{ℤ, w32, SFits, rules, subst}
-use Rattle.std.proofs.lemmas.Int.{to_z-of_z}
-use Rattle.entry.specs.declared.op.Op.TheVariants.{PollAdd, Close, Read, Write, Splice}
-use Rattle.answers.specs.Answered.{Answered}
+use Rattle.answers.proofs.Common.{Answered, Close, PollAdd, Read, SFits, Splice, Write, rules, subst, to_z-of_z, w32, ℤ}
 use Rattle.answers.proofs.piped.answer_with.Goals as goal
 
 pub returns-in-PollAdd : goal.returns-in-PollAdd

@@ -1,9 +1,5 @@
-use Rattle.std.proofs.Common.{◌≡◌, ℕ, ℤ, pos, w32, to_z, sym, subst, arith}
-use Rattle.std.proofs.lemmas.Int.{to_z_pos, to_z-of_z}
-use Rattle.history.specs.Pipes.{end_of}
 use Rattle.pipe.specs.declared.ends.End.TheVariants.{Read}
-use Rattle.pipe.specs.declared.ready.Ready.TheVariants.{Now}
-use Rattle.answers.specs.NamedEnds.{IsSide}
+use Rattle.answers.proofs.Common.{IsSide, Now, arith, end_of, pos, subst, sym, to_z, to_z-of_z, to_z_pos, w32, ℕ, ℤ, ◌≡◌}
 use Rattle.answers.proofs.Operating.{read_does, side_read}
 use Rattle.answers.proofs.piped.read.Goals as goal
 

@@ -1,9 +1,5 @@
-use Rattle.std.proofs.Common.{◌≡◌, ℕ, ℤ, pos, w32, to_z, sym, subst, length, arith}
-use Rattle.std.proofs.lemmas.Int.{to_z_pos, to_z-of_z}
-use Rattle.history.specs.Pipes.{end_of}
 use Rattle.pipe.specs.declared.ends.End.TheVariants.{Write}
-use Rattle.pipe.specs.declared.ready.Ready.TheVariants.{Now, Fail}
-use Rattle.answers.specs.NamedEnds.{IsSide}
+use Rattle.answers.proofs.Common.{Fail, IsSide, Now, arith, end_of, length, pos, subst, sym, to_z, to_z-of_z, to_z_pos, w32, ℕ, ℤ, ◌≡◌}
 use Rattle.answers.proofs.Operating.{write_does, side_write, write_error, signed_error}
 use Rattle.answers.proofs.piped.write.Goals as goal
 

@@ -1,6 +1,4 @@
-use Rattle.std.proofs.Common.{rules, ℕ, ◌<◌, ℤ, w32, [], sym, ◌∙◌, subst}
-use Rattle.std.proofs.lemmas.Int.{to_z-of_z}
-use Rattle.history.specs.Answers.{OpAnswers}
+use Rattle.answers.proofs.Common.{OpAnswers, [], rules, subst, sym, to_z-of_z, w32, ℕ, ℤ, ◌<◌, ◌∙◌}
 use Rattle.answers.proofs.Absent.{answers_off}
 use Rattle.answers.proofs.plain.answer_without.Goals as goal
 

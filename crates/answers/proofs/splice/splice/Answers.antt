@@ -1,8 +1,4 @@
-use Rattle.std.proofs.Common.{◌≡◌, ℕ, ℤ, true, pos, w32, to_z, sym, subst, arith}
-use Rattle.std.proofs.lemmas.Int.{to_z_pos, to_z-of_z}
-use Rattle.history.specs.Pipes.{end_of}
-use Rattle.pipe.specs.declared.ready.Ready.TheVariants.{Now, Fail}
-use Rattle.answers.specs.NamedEnds.{gives, takes}
+use Rattle.answers.proofs.Common.{Fail, Now, arith, end_of, gives, pos, subst, sym, takes, to_z, to_z-of_z, to_z_pos, true, w32, ℕ, ℤ, ◌≡◌}
 use Rattle.answers.proofs.Operating.{signed_error}
 use Rattle.answers.proofs.Splicing.{both_does, splice_error}
 use Rattle.answers.proofs.splice.splice.Goals as goal

@@ -1,8 +1,4 @@
-use Rattle.std.proofs.Common.{◌≡◌, ℤ, false, w32, sym, ◌∙◌, subst}
-use Rattle.std.proofs.lemmas.Bool.{and_left, and_right}
-use Rattle.std.proofs.lemmas.Int.{to_z-of_z}
-use Rattle.history.specs.Pipes.{end_of}
-use Rattle.answers.specs.NamedEnds.{are_of_one, gives, takes}
+use Rattle.answers.proofs.Common.{and_left, and_right, are_of_one, end_of, false, gives, subst, sym, takes, to_z-of_z, w32, ℤ, ◌∙◌, ◌≡◌}
 use Rattle.answers.proofs.Splicing.{alone_apart, alone_refused}
 use Rattle.answers.proofs.splice.splice_alone.Goals as goal
 use Rattle.answers.proofs.splice.splice_alone.Goals.{else-are_of_one-via-then-are_of_one+then-gives+else-takes, else-are_of_one-via-then-are_of_one+else-gives, else-are_of_one-via-else-are_of_one}

@@ -1,4 +1,4 @@
-use Rattle.std.proofs.Common.{◌≡◌, ◌<◌, ◌+◌, ◌∙◌, Bool, true, cond, sym, ap, subst, arith, length}
+use Rattle.bell.proofs.Common.{Bool, ap, arith, cond, length, subst, sym, true, ◌+◌, ◌<◌, ◌∙◌, ◌≡◌}
 use Rattle.bell.proofs.AllTails.{IsReading, goes_on}
 use Rattle.bell.proofs.sleeper.read_all.Goals as goal
 use Rattle.bell.proofs.sleeper.read_all.Goals.{then-read_one, else-read_one}

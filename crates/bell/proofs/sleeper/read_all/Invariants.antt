@@ -1,4 +1,4 @@
-use Rattle.std.proofs.Common.{◌≡◌}
+use Rattle.bell.proofs.Common.{◌≡◌}
 use Rattle.bell.proofs.AllTails.{IsReading}
 use Rattle.bell.proofs.sleeper.read_all.Given as goal
 

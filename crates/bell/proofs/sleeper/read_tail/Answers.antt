@@ -1,4 +1,4 @@
-use Rattle.std.proofs.Common.{arith}
+use Rattle.bell.proofs.Common.{arith}
 use Rattle.bell.proofs.SleeperSteps.{read_allows}
 use Rattle.bell.proofs.sleeper.read_tail.Goals as goal
 

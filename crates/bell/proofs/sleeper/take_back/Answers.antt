@@ -1,4 +1,4 @@
-use Rattle.std.proofs.Common.{arith}
+use Rattle.bell.proofs.Common.{arith}
 use Rattle.bell.proofs.SleeperSteps.{take_back_allows}
 use Rattle.bell.proofs.sleeper.take_back.Goals as goal
 

@@ -1,5 +1,4 @@
-use Rattle.std.proofs.Common.{◌∙◌, ap, arith}
-use Rattle.bell.specs.declared.view.View.{View}
+use Rattle.bell.proofs.Common.{View, ap, arith, ◌∙◌}
 use Rattle.bell.proofs.SleeperSteps.{ask_allows}
 use Rattle.bell.proofs.sleeper.wait_for_wake.Goals as goal
 

@@ -1,4 +1,4 @@
-use Rattle.std.proofs.Common.{◌≡◌}
+use Rattle.bell.proofs.Common.{◌≡◌}
 use Rattle.bell.proofs.sleeper.wait_for_wake.Given as goal
 
 abbrev pub invariant-loop : goal.invariant-loop

@@ -1,10 +1,4 @@
-use Rattle.std.proofs.Common.{◌≤◌, ℕ, ◌+◌, ◌*◌, [], sym, ◌∙◌, arith}
-use Rattle.gates.specs.EntryRows.{waiting}
-use Rattle.history.specs.History.{submits}
-use Rattle.steps.specs.Journal.{events_of}
-use Rattle.work.specs.Passes.{pass_of}
-use Rattle.board.specs.PollerRows.{owed}
-use Rattle.board.specs.TimerCalls.{armed_by}
+use Rattle.board.proofs.Common.{[], arith, armed_by, events_of, owed, pass_of, submits, sym, waiting, ℕ, ◌*◌, ◌+◌, ◌∙◌, ◌≤◌}
 use Rattle.board.proofs.RowLaws.{knows_goes, few_wait, few_added, owed_bound, submits_goes}
 use Rattle.board.proofs.TimersHeld.{clock_watched}
 use Rattle.board.proofs.TimerLooks.{arms_lost, arms_after}

@@ -1,13 +1,5 @@
-use Rattle.std.proofs.Common.{◌≡◌, ◌<◌, ℕ, ◌+◌, ◌*◌, Some, None, inl, inr, sym, ap, ◌∙◌, subst, arith}
-use Rattle.gates.specs.EntryRows.{waiting}
-use Rattle.history.specs.History.{phase, submits, IsReplied}
-use Rattle.steps.specs.Journal.{events_of}
-use Rattle.work.specs.Passes.{pass_of}
 use Rattle.board.specs.declared.poller.Arming.TheVariants.{NotHeld}
-use Rattle.board.specs.declared.poller.Released.{Released}
-use Rattle.board.specs.PollerRows.{Paid}
-use Rattle.board.specs.PollerTimers.{looks_at}
-use Rattle.board.specs.TimerCalls.{armed_by}
+use Rattle.board.proofs.Common.{IsReplied, None, Paid, Released, Some, ap, arith, armed_by, events_of, inl, inr, looks_at, pass_of, phase, submits, subst, sym, waiting, ℕ, ◌*◌, ◌+◌, ◌<◌, ◌∙◌, ◌≡◌}
 use Rattle.board.proofs.RowLaws.{few_added, knows_on, knows_goes, numbered_at, watches_held}
 use Rattle.board.proofs.TimersHeld.{clock_watched}
 use Rattle.board.proofs.TimerLooks.{arms_lost, arms_after, arms_barred, arms_other, timer_on, as_timer, timer_paid, linked_looks}

@@ -1,8 +1,4 @@
-use Rattle.std.proofs.Common.{Some, None, sym, ◌∙◌, subst, arith}
-use Rattle.history.specs.History.{phase, IsReplied}
-use Rattle.steps.specs.Journal.{events_of}
-use Rattle.work.specs.Passes.{pass_of}
-use Rattle.board.specs.declared.poller.Released.{Released}
+use Rattle.board.proofs.Common.{IsReplied, None, Released, Some, arith, events_of, pass_of, phase, subst, sym, ◌∙◌}
 use Rattle.board.proofs.RowLaws.{knows_on}
 use Rattle.board.proofs.PlainRows.{plain_born, plain_may}
 use Rattle.board.proofs.TimersHeld.{clock_watched}

@@ -1,17 +1,4 @@
-use Rattle.std.proofs.Common.{◌≡◌, ◌<◌, [], Some, refl, ap, ◌∙◌, subst, arith}
-use Rattle.history.specs.declared.req.Req.{Req}
-use Rattle.history.specs.History.{armed, clock_of, phase}
-use Rattle.steps.specs.declared.view.Layout.{Layout}
-use Rattle.steps.specs.declared.view.Role.{Role}
-use Rattle.steps.specs.Cells.{request_at, setup_of}
-use Rattle.steps.specs.Journal.{events_of}
-use Rattle.steps.specs.Rule.{pollers, stands_for}
-use Rattle.steps.proofs.JournalGrowth.{counted_in}
-use Rattle.work.specs.Passes.{pass_of}
-use Rattle.board.specs.declared.alarm.Alarm.{Alarm}
-use Rattle.board.specs.declared.alarm.Alarm.TheVariants.{Alone, Linked}
-use Rattle.board.specs.Calls.{Stands}
-use Rattle.board.specs.PollerTimers.{IsKept}
+use Rattle.board.proofs.Common.{Alarm, Alone, IsKept, Layout, Linked, Req, Role, Some, Stands, [], ap, arith, armed, clock_of, counted_in, events_of, pass_of, phase, pollers, refl, request_at, setup_of, stands_for, subst, ◌<◌, ◌∙◌, ◌≡◌}
 use Rattle.board.proofs.Expiries.{expires_after, expires_early, expires_linked, expires_unarmed}
 use Rattle.board.proofs.PassFacts.{found_word}
 use Rattle.board.proofs.TimersHeld.{alarm_goes, clock_watched, none}

@@ -1,5 +1,4 @@
-use Rattle.std.proofs.Common.{◌≢◌, true, sym, ◌∙◌, true≢false}
-use Rattle.work.specs.Passes.{pass_of}
+use Rattle.board.proofs.Common.{pass_of, sym, true, true≢false, ◌∙◌, ◌≢◌}
 use Rattle.board.proofs.LastSteps.{decides_missed}
 use Rattle.board.proofs.TimerLooks.{arms_armed, arms_lost, keeps_armed}
 use Rattle.board.proofs.Watching.{watched_look, paid_one}

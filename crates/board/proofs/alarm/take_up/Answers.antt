@@ -1,6 +1,4 @@
-use Rattle.std.proofs.Common.{ℕ, ◌+◌, ◌*◌, arith}
-use Rattle.gates.specs.EntryRows.{waiting}
-use Rattle.board.specs.PollerRows.{owed}
+use Rattle.board.proofs.Common.{arith, owed, waiting, ℕ, ◌*◌, ◌+◌}
 use Rattle.board.proofs.RowLaws.{knows_on, numbered_at, held_born}
 use Rattle.board.proofs.Watching.{still_ours, watched_then, paid_on, paid_with}
 use Rattle.board.proofs.alarm.take_up.Goals as goal

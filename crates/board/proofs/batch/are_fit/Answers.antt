@@ -1,6 +1,4 @@
-use Rattle.std.proofs.Common.{◌≡◌, ℕ, ◌+◌, drop, suc, refl, sym, ◌∙◌, subst, arith, true≢false}
-use Rattle.history.specs.Legal.{FitsOp}
-use Rattle.board.specs.Batches.{Entries, AreFit}
+use Rattle.board.proofs.Common.{AreFit, Entries, FitsOp, arith, drop, refl, subst, suc, sym, true≢false, ℕ, ◌+◌, ◌∙◌, ◌≡◌}
 use Rattle.board.proofs.BatchesKept.{left_at, none_left}
 use Rattle.board.proofs.batch.are_fit.Goals as goal
 

@@ -1,5 +1,4 @@
-use Rattle.std.proofs.Common.{◌↔◌, drop}
-use Rattle.board.specs.Batches.{AreFit}
+use Rattle.board.proofs.Common.{AreFit, drop, ◌↔◌}
 use Rattle.board.proofs.batch.are_fit.Given as goal
 
 -- the whole batch fits where what is left does

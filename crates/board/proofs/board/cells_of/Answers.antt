@@ -1,7 +1,4 @@
-use Rattle.std.proofs.Common.{◌≡◌, ◌+◌, ℕ, List, [], ◌∷◌, ◌++◌, None, drop, sym, ap, ◌∙◌}
-use Rattle.std.proofs.lemmas.List.{append_assoc, append-nil, at_drop_more, drop_all}
-use Rattle.board.specs.declared.shape.RingShape.{RingShape}
-use Rattle.board.specs.ShapeLimits.{counts}
+use Rattle.board.proofs.Common.{List, None, RingShape, [], ap, append-nil, append_assoc, at_drop_more, counts, drop, drop_all, sym, ℕ, ◌++◌, ◌+◌, ◌∙◌, ◌∷◌, ◌≡◌}
 use Rattle.board.proofs.board.cells_of.Goals as goal
 
 pub loop-ring-preserved : goal.loop-ring-preserved

@@ -1,5 +1,5 @@
 use Rattle.std.specs.Prelude.{◌≡◌, drop, ◌++◌}
-use Rattle.board.specs.ShapeLimits.{counts}
+use Rattle.board.proofs.Common.{counts}
 use Rattle.board.proofs.board.cells_of.Given as goal
 
 -- the numbers so far, and those that are left, are all

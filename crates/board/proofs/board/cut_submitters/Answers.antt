@@ -1,9 +1,5 @@
-use Rattle.std.proofs.Common.{rules, ◌≡◌, ◌<◌, ◌+◌, ℕ, length, List, [], ◌∷◌, ◌++◌, refl, sym, ap, ◌∙◌, subst, arith}
 use Rattle.std.proofs.lemmas.List.{length-append}
-use Rattle.steps.specs.declared.view.Role.TheVariants.{Submitter}
-use Rattle.work.specs.Grid.{AreCellCounts}
-use Rattle.work.specs.Passes.{Pass, pass_of}
-use Rattle.board.specs.New.{AreSubmitters, IsFresh}
+use Rattle.board.proofs.Common.{AreCellCounts, AreSubmitters, IsFresh, List, Pass, Submitter, [], ap, arith, length, pass_of, refl, rules, subst, sym, ℕ, ◌++◌, ◌+◌, ◌<◌, ◌∙◌, ◌∷◌, ◌≡◌}
 use Rattle.board.proofs.NewPasses.{submitters_more, cut_submitter, submitter_seat, submitter_seen, submitter_fresh}
 use Rattle.board.proofs.board.cut_submitters.Goals as goal
 

@@ -1,6 +1,5 @@
 use Rattle.std.specs.Prelude.{◌≡◌, length}
-use Rattle.work.specs.Board.{Facts}
-use Rattle.board.specs.New.{AreSubmitters, IsCutting}
+use Rattle.board.proofs.Common.{AreSubmitters, Facts, IsCutting}
 use Rattle.board.proofs.board.cut_submitters.Given as goal
 
 -- the submitters of the rings so far were cut

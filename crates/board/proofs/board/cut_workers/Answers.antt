@@ -1,12 +1,5 @@
-use Rattle.std.proofs.Common.{◌≡◌, ◌<◌, ◌+◌, ℕ, Option, length, List, [], ◌∷◌, ◌++◌, sym, ap, ◌∙◌, subst, arith}
 use Rattle.std.proofs.lemmas.List.{length-append}
-use Rattle.atomic_table.specs.Table.{Me}
-use Rattle.steps.specs.declared.parcel.Thing.{Thing}
-use Rattle.steps.specs.declared.view.Layout.{Layout}
-use Rattle.steps.specs.declared.view.View.{View}
-use Rattle.steps.specs.Cells.{total}
-use Rattle.work.specs.Passes.{HasRooms, Pass, pass_of}
-use Rattle.board.specs.New.{AreWorkers, IsCutting}
+use Rattle.board.proofs.Common.{AreWorkers, HasRooms, IsCutting, Layout, List, Me, Option, Pass, Thing, View, [], ap, arith, length, pass_of, subst, sym, total, ℕ, ◌++◌, ◌+◌, ◌<◌, ◌∙◌, ◌∷◌, ◌≡◌}
 use Rattle.board.proofs.NewPasses.{workers_more, cut_worker, worker_fresh}
 use Rattle.board.proofs.board.cut_workers.Goals as goal
 

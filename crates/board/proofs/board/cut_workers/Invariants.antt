@@ -1,6 +1,5 @@
 use Rattle.std.specs.Prelude.{◌≡◌, length}
-use Rattle.work.specs.Board.{Facts}
-use Rattle.board.specs.New.{AreWorkers, IsCutting}
+use Rattle.board.proofs.Common.{AreWorkers, Facts, IsCutting}
 use Rattle.board.proofs.board.cut_workers.Given as goal
 
 -- so many workers were cut

@@ -1,8 +1,4 @@
-use Rattle.std.proofs.Common.{◌≡◌, ◌+◌, ◌++◌, ◌∷◌, [], ℕ, List, length, sym, ap, ◌∙◌, subst, arith, w32, length-append}
-use Rattle.std.proofs.Math.Facts.{Fits-of_lt}
-use Rattle.gates.specs.EntryRows.{Kept}
-use Rattle.board.specs.PollerRows.{KnowsRow}
-use Rattle.work.proofs.GridRows.{counts_at}
+use Rattle.board.proofs.Common.{Fits-of_lt, Kept, KnowsRow, List, [], ap, arith, counts_at, length, length-append, subst, sym, w32, ℕ, ◌++◌, ◌+◌, ◌∙◌, ◌∷◌, ◌≡◌}
 use Rattle.board.proofs.RowsKept.{rows_more, new_row}
 use Rattle.board.proofs.board.rows_of.Goals as goal
 

@@ -1,6 +1,5 @@
 use Rattle.std.specs.Prelude.{◌≡◌, ℕ, [], length, slice_get, Some}
-use Rattle.gates.specs.EntryRows.{Kept}
-use Rattle.board.specs.PollerRows.{KnowsRow}
+use Rattle.board.proofs.Common.{Kept, KnowsRow}
 use Rattle.board.proofs.board.rows_of.Given as goal
 
 -- the rings so far have their rows

@@ -1,7 +1,4 @@
-use Rattle.std.proofs.Common.{◌≡◌, ◌+◌, ℕ, max, List, None, drop, get_or, ap, arith}
-use Rattle.std.proofs.lemmas.List.{drop_all}
-use Rattle.board.specs.declared.shape.RingShape.{RingShape}
-use Rattle.board.specs.ShapeLimits.{counts, widest}
+use Rattle.board.proofs.Common.{List, None, RingShape, ap, arith, counts, drop, drop_all, get_or, max, widest, ℕ, ◌+◌, ◌≡◌}
 use Rattle.board.proofs.ShapeBounds.{widest_at}
 use Rattle.board.proofs.board.widest_of.Goals as goal
 

@@ -1,5 +1,5 @@
 use Rattle.std.specs.Prelude.{◌≡◌, max, drop}
-use Rattle.board.specs.ShapeLimits.{counts, widest}
+use Rattle.board.proofs.Common.{counts, widest}
 use Rattle.board.proofs.board.widest_of.Given as goal
 
 -- what was seen, and what is left

@@ -1,6 +1,4 @@
-use Rattle.std.proofs.Common.{sym, ap, ◌∙◌}
-use Rattle.std.proofs.lemmas.List.{drop_all}
-use Rattle.board.specs.ShapeLimits.{are_capacities}
+use Rattle.board.proofs.Common.{ap, are_capacities, drop_all, sym, ◌∙◌}
 use Rattle.board.proofs.ShapeBounds.{good_capacity, bad_capacity}
 use Rattle.board.proofs.bounds.are_capacities.Goals as goal
 

@@ -1,5 +1,5 @@
 use Rattle.std.specs.Prelude.{◌≡◌, drop}
-use Rattle.board.specs.ShapeLimits.{are_capacities}
+use Rattle.board.proofs.Common.{are_capacities}
 use Rattle.board.proofs.bounds.are_capacities.Given as goal
 
 -- the capacities so far are good

@@ -1,6 +1,4 @@
-use Rattle.std.proofs.Common.{sym, ap, ◌∙◌}
-use Rattle.std.proofs.lemmas.List.{drop_all}
-use Rattle.board.specs.ShapeLimits.{are_rings}
+use Rattle.board.proofs.Common.{ap, are_rings, drop_all, sym, ◌∙◌}
 use Rattle.board.proofs.ShapeBounds.{good_ring, bad_ring}
 use Rattle.board.proofs.bounds.are_rings.Goals as goal
 

@@ -1,5 +1,5 @@
 use Rattle.std.specs.Prelude.{◌≡◌, drop}
-use Rattle.board.specs.ShapeLimits.{are_rings}
+use Rattle.board.proofs.Common.{are_rings}
 use Rattle.board.proofs.bounds.are_rings.Given as goal
 
 -- the rings so far are good

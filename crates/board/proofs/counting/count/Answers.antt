@@ -1,11 +1,4 @@
-use Rattle.std.proofs.Common.{ℕ, ◌+◌, ◌-◌, Some, sym, subst, arith}
-use Rattle.steps.specs.Cells.{cells_in, request_at}
-use Rattle.steps.specs.Journal.{events_of}
-use Rattle.work.specs.Passes.{pass_of}
-use Rattle.board.specs.declared.alarm.Alarm.{Alarm}
-use Rattle.board.specs.declared.phase.Phase.TheVariants.{Armed}
-use Rattle.board.specs.Calls.{IsPresent, Stands}
-use Rattle.board.specs.PollerTimers.{IsKept, KnowsAlarm}
+use Rattle.board.proofs.Common.{Alarm, Armed, IsKept, IsPresent, KnowsAlarm, Some, Stands, arith, cells_in, events_of, pass_of, request_at, subst, sym, ℕ, ◌+◌, ◌-◌}
 use Rattle.board.proofs.CountLooks.{spends_add, spends_most, spends_own}
 use Rattle.board.proofs.Countings.{counts_after, counts_fewer, counts_none, counts_unarmed, enough_on, fewer_before, held_bound, one_deadline, unarmed_after, uncounted_alone, uncounted_linked}
 use Rattle.board.proofs.PassFacts.{found_word}

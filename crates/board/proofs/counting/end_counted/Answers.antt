@@ -1,5 +1,4 @@
-use Rattle.std.proofs.Common.{◌≡◌, ◌≢◌, ⊎_elim, true, false, sym, ◌∙◌, true≢false}
-use Rattle.history.proofs.Requests.{bool_cases}
+use Rattle.board.proofs.Common.{bool_cases, false, sym, true, true≢false, ⊎_elim, ◌∙◌, ◌≡◌, ◌≢◌}
 use Rattle.board.proofs.CountLooks.{spends_own}
 use Rattle.board.proofs.Countings.{counts_missed, counts_now}
 use Rattle.board.proofs.Watching.{watched_look, paid_one}

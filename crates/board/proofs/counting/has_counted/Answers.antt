@@ -1,9 +1,4 @@
-use Rattle.std.proofs.Common.{◌≡◌, ℕ, suc, ◌+◌, ◌-◌, ◌<◌, ◌≤◌, sym, ◌∙◌, subst, arith, leb-true}
-use Rattle.std.proofs.lemmas.Bool.{leb-false}
-use Rattle.steps.specs.Cells.{cells_in}
-use Rattle.work.specs.Board.{IsBoard}
-use Rattle.work.proofs.GridRows.{counts_at}
-use Rattle.board.specs.PollerRows.{Paid}
+use Rattle.board.proofs.Common.{IsBoard, Paid, arith, cells_in, counts_at, leb-false, leb-true, subst, suc, sym, ℕ, ◌+◌, ◌-◌, ◌<◌, ◌∙◌, ◌≡◌, ◌≤◌}
 use Rattle.board.proofs.Countings.{Tallied, byte_is, looks_all, tally_all, tally_enough, tally_looks, tally_more, tally_unborn}
 use Rattle.board.proofs.RowLaws.{small_number}
 use Rattle.board.proofs.Watching.{paid_add, paid_most, paid_one, watched_then}

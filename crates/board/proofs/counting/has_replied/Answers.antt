@@ -1,13 +1,5 @@
-use Rattle.std.proofs.Common.{◌≡◌, ℕ, List, sym, ap, subst}
-use Rattle.history.specs.declared.req.Req.{Req}
-use Rattle.steps.specs.declared.view.View.{View}
-use Rattle.steps.specs.Cells.{IsCell, request_at, claim_at}
-use Rattle.steps.specs.Rule.{IsStep}
-use Rattle.board.specs.PollerRows.{StepsTo}
-use Rattle.work.specs.Board.{Facts}
-use Rattle.work.specs.Passes.{pass_of}
 use Rattle.board.specs.declared.phase.Phase.{Phase as Standing}
-use Rattle.board.specs.Calls.{Stands}
+use Rattle.board.proofs.Common.{Facts, IsCell, IsStep, List, Req, Stands, StepsTo, View, ap, claim_at, pass_of, request_at, subst, sym, ℕ, ◌≡◌}
 use Rattle.board.proofs.Countings.{tells_pending, tells_replied}
 use Rattle.board.proofs.PassFacts.{found_word, spot_of}
 use Rattle.board.proofs.Watching.{watched_look}

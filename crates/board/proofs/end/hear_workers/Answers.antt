@@ -1,8 +1,4 @@
-use Rattle.std.proofs.Common.{◌≡◌, sym, ap, ◌∙◌, subst}
-use Rattle.work.specs.Board.{IsOf}
-use Rattle.work.specs.Passes.{Pass, pass_of}
-use Rattle.board.specs.Remains.{hearing_all}
-use Rattle.board.specs.Reports.{AreOf}
+use Rattle.board.proofs.Common.{AreOf, IsOf, Pass, ap, hearing_all, pass_of, subst, sym, ◌∙◌, ◌≡◌}
 use Rattle.board.proofs.HeardPasses.{are_of_last, heard_more, heard_role, heard_bare, one_worker}
 use Rattle.board.proofs.end.hear_workers.Goals as goal
 

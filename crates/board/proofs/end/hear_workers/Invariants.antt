@@ -1,7 +1,5 @@
 use Rattle.std.specs.Prelude.{◌≡◌, length}
-use Rattle.work.specs.Board.{Facts}
-use Rattle.board.specs.Remains.{hearing_all}
-use Rattle.board.specs.Reports.{AreOf}
+use Rattle.board.proofs.Common.{AreOf, Facts, hearing_all}
 use Rattle.board.proofs.end.hear_workers.Given as goal
 
 -- the seat heard those that are gone

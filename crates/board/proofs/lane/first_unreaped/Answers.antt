@@ -1,11 +1,4 @@
-use Rattle.std.proofs.Common.{◌≡◌, ℕ, ◌+◌, ◌-◌, ◌<◌, ◌≤◌, ◌==◌, ⊎_elim, List, true, false, get_or, sym, refl, ap, ◌∙◌, subst, arith, true≢false, eqb-true, eq-eqb}
-use Rattle.history.proofs.Requests.{bool_cases}
-use Rattle.steps.specs.Fairness.{IsFree}
-use Rattle.steps.specs.Journal.{events_of}
-use Rattle.steps.specs.Cells.{cells_in}
-use Rattle.work.specs.declared.grid.Spot.{Spot}
-use Rattle.board.specs.Lanes.{nth, IsLane, IsSpot}
-use Rattle.board.specs.declared.lane.Lane.{Lane}
+use Rattle.board.proofs.Common.{IsFree, IsLane, IsSpot, Lane, List, Spot, ap, arith, bool_cases, cells_in, eq-eqb, eqb-true, events_of, false, get_or, nth, refl, subst, sym, true, true≢false, ℕ, ⊎_elim, ◌+◌, ◌-◌, ◌<◌, ◌==◌, ◌∙◌, ◌≡◌, ◌≤◌}
 use Rattle.board.proofs.OwnCells.{same_default}
 use Rattle.board.proofs.LanesKept.{lane_cell, not_free, free_by_age, reaped_by_age}
 use Rattle.board.proofs.LaneWalks.{spot_on}

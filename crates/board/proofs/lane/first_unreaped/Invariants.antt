@@ -1,6 +1,4 @@
-use Rattle.std.proofs.Common.{◌≡◌, ◌+◌, ◌<◌, ℕ, get_or}
-use Rattle.work.specs.declared.grid.Spot.{Spot}
-use Rattle.board.specs.Lanes.{IsSpot}
+use Rattle.board.proofs.Common.{IsSpot, Spot, get_or, ℕ, ◌+◌, ◌<◌, ◌≡◌}
 use Rattle.board.proofs.lane.first_unreaped.Given as goal
 
 -- the reaping has come to the requests before the i-th

@@ -1,10 +1,4 @@
-use Rattle.std.proofs.Common.{ℕ, ◌<◌, List, sym, refl, ap, subst, ⊎_elim, inl, inr, arith, true≢false}
-use Rattle.history.specs.declared.req.Req.{Req}
-use Rattle.history.specs.History.{phase, IsReplied}
-use Rattle.steps.specs.declared.view.View.{View}
-use Rattle.steps.specs.Journal.{events_of}
-use Rattle.steps.specs.Cells.{setup_of, claim_at}
-use Rattle.work.specs.Passes.{pass_of}
+use Rattle.board.proofs.Common.{IsReplied, List, Req, View, ap, arith, claim_at, events_of, inl, inr, pass_of, phase, refl, setup_of, subst, sym, true≢false, ℕ, ⊎_elim, ◌<◌}
 use Rattle.board.proofs.Standings.{word_is}
 use Rattle.board.proofs.PassFacts.{stepped_once}
 use Rattle.board.proofs.LanesKept.{lane_cell, watched_one, unreaped_by_age, reaped_replied, not_pending, pending_by}

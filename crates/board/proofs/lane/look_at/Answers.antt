@@ -1,7 +1,4 @@
-use Rattle.std.proofs.Common.{ℕ, List, sym, refl, subst}
-use Rattle.steps.specs.Rule.{Shown}
-use Rattle.work.specs.Passes.{pass_of}
-use Rattle.board.specs.Lanes.{nth}
+use Rattle.board.proofs.Common.{List, Shown, nth, pass_of, refl, subst, sym, ℕ}
 use Rattle.board.proofs.PassFacts.{stepped_once}
 use Rattle.board.proofs.LanesKept.{lane_looked}
 use Rattle.board.proofs.lane.look_at.Goals as goal

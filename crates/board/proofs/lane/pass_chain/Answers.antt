@@ -1,13 +1,5 @@
-use Rattle.std.proofs.Common.{◌≡◌, ◌+◌, ◌<◌, ◌≤◌, ℕ, List, sym, refl, ap, ◌∙◌, subst, arith, true, true≢false, w64}
-use Rattle.std.proofs.Math.Facts.{Fits-of_lt}
-use Rattle.history.specs.History.{phase, IsReplied}
-use Rattle.history.specs.Chains.{IsChainDone, before_in, joins}
-use Rattle.steps.specs.declared.view.Layout.{Layout}
-use Rattle.steps.specs.Journal.{events_of}
-use Rattle.work.specs.Passes.{pass_of}
-use Rattle.board.specs.declared.lane.Lane.{Lane}
-use Rattle.board.specs.Calls.{Stepped}
-use Rattle.board.specs.Lanes.{nth, HasLookedAt, IsSpot, Watched, WereReaped}
+use Rattle.board.specs.Lanes.{Watched}
+use Rattle.board.proofs.Common.{Fits-of_lt, HasLookedAt, IsChainDone, IsReplied, IsSpot, Lane, Layout, List, Stepped, WereReaped, ap, arith, before_in, events_of, joins, nth, pass_of, phase, refl, subst, sym, true, true≢false, w64, ℕ, ◌+◌, ◌<◌, ◌∙◌, ◌≡◌, ◌≤◌}
 use Rattle.board.proofs.LanesKept.{lane_cell, walked_done, walked_open}
 use Rattle.board.proofs.LaneWalks.{Walking, TableSeat, walk_start, walk_looked, watched_took, facts_say, stepped_later, over_on, over_own, spot_on, ring_there, next_pending, next_small, lane_done, walk_on, walked_spent, linked_by}
 use Rattle.board.proofs.lane.pass_chain.Goals as goal

@@ -1,4 +1,4 @@
-use Rattle.std.proofs.Common.{◌-◌, ◌≡◌}
+use Rattle.board.proofs.Common.{◌-◌, ◌≡◌}
 use Rattle.board.proofs.LaneWalks.{Walking}
 use Rattle.board.proofs.lane.pass_chain.Given as goal
 

@@ -1,9 +1,4 @@
-use Rattle.std.proofs.Common.{◌≡◌, ℕ, sym, refl, ap, ◌∙◌, subst, arith, true≢false}
-use Rattle.history.specs.Chains.{IsChainDone}
-use Rattle.steps.specs.Journal.{events_of}
-use Rattle.work.specs.Passes.{pass_of}
-use Rattle.board.specs.declared.lane.Lane.{Lane}
-use Rattle.board.specs.Lanes.{nth, HasLookedAt}
+use Rattle.board.proofs.Common.{HasLookedAt, IsChainDone, Lane, ap, arith, events_of, nth, pass_of, refl, subst, sym, true≢false, ℕ, ◌∙◌, ◌≡◌}
 use Rattle.board.proofs.LaneWalks.{pass_start, pass_more, kept_more, watched_more, watched_took, stepped_later, over_on}
 use Rattle.board.proofs.lane.pass_chains.Goals as goal
 

@@ -1,11 +1,4 @@
-use Rattle.std.proofs.Common.{◌≡◌, ℕ, ◌+◌, ◌-◌, ◌*◌, ◌/◌, ◌<◌, ◌≤◌, List, ⊎_elim, inl, inr, true, sym, refl, ap, ◌∙◌, subst, arith}
-use Rattle.history.specs.Chains.{before_in, joins}
-use Rattle.steps.specs.declared.view.Layout.{Layout}
-use Rattle.steps.specs.Fairness.{IsFree}
-use Rattle.steps.specs.Journal.{events_of}
-use Rattle.steps.specs.Cells.{cells_in}
-use Rattle.board.specs.declared.lane.Lane.{Lane}
-use Rattle.board.specs.Lanes.{nth}
+use Rattle.board.proofs.Common.{IsFree, Lane, Layout, List, ap, arith, before_in, cells_in, events_of, inl, inr, joins, nth, refl, subst, sym, true, ℕ, ⊎_elim, ◌*◌, ◌+◌, ◌-◌, ◌/◌, ◌<◌, ◌∙◌, ◌≡◌, ◌≤◌}
 use Rattle.board.proofs.LaneWalks.{TableSeat, watched_layout, watched_before, last_generation}
 use Rattle.board.proofs.lane.room.Goals as goal
 

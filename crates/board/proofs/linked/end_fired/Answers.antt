@@ -1,5 +1,4 @@
-use Rattle.std.proofs.Common.{◌≡◌, ◌≢◌, true, false, ⊎_elim, sym, ◌∙◌, true≢false}
-use Rattle.history.proofs.Requests.{bool_cases}
+use Rattle.board.proofs.Common.{bool_cases, false, sym, true, true≢false, ⊎_elim, ◌∙◌, ◌≡◌, ◌≢◌}
 use Rattle.board.proofs.Strikes.{ends_missed, ends_now}
 use Rattle.board.proofs.Watching.{paid_one, watched_look}
 use Rattle.board.proofs.linked.end_fired.Goals as goal

@@ -1,4 +1,4 @@
-use Rattle.std.proofs.Common.{◌≢◌, true, sym, ◌∙◌, true≢false}
+use Rattle.board.proofs.Common.{sym, true, true≢false, ◌∙◌, ◌≢◌}
 use Rattle.board.proofs.Settlings.{settles_missed, settles_now}
 use Rattle.board.proofs.Watching.{watched_look, paid_one}
 use Rattle.board.proofs.linked.end_linked.Goals as goal

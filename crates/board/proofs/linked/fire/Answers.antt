@@ -1,14 +1,5 @@
-use Rattle.std.proofs.Common.{◌<◌, [], ◌∷◌, subst, arith}
-use Rattle.history.specs.declared.event.Event.TheVariants.{Fire, FireMiss}
-use Rattle.history.specs.History.{clock_of}
-use Rattle.history.specs.Chains.{previous}
-use Rattle.steps.specs.Cells.{request_at}
-use Rattle.steps.specs.Journal.{events_of}
-use Rattle.work.specs.Passes.{pass_of}
-use Rattle.board.specs.declared.phase.Phase.TheVariants.{Armed}
 use Rattle.board.specs.declared.linked.Struck.TheVariants.{Took, Missed, Over}
-use Rattle.board.specs.Calls.{Stands}
-use Rattle.board.specs.TimerCalls.{DidStrike, IsDueLinked}
+use Rattle.board.proofs.Common.{Armed, DidStrike, Fire, FireMiss, IsDueLinked, Stands, [], arith, clock_of, events_of, pass_of, previous, request_at, subst, ◌<◌, ◌∷◌}
 use Rattle.board.proofs.Expiries.{stepped_by}
 use Rattle.board.proofs.PassFacts.{found_word}
 use Rattle.board.proofs.Settlings.{born_goes, found_alone, found_born, found_linked, found_phase, found_unfired, settles_alone, settles_unarmed}

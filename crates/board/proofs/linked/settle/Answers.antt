@@ -1,9 +1,5 @@
-use Rattle.std.proofs.Common.{subst, arith}
 use Rattle.board.specs.declared.poller.Settling.TheVariants.{TargetOpen}
-use Rattle.steps.specs.Cells.{request_at}
-use Rattle.work.specs.Passes.{pass_of}
-use Rattle.board.specs.Calls.{Stands}
-use Rattle.board.specs.declared.phase.Phase.TheVariants.{Armed}
+use Rattle.board.proofs.Common.{Armed, Stands, arith, pass_of, request_at, subst}
 use Rattle.board.proofs.PassFacts.{found_word}
 use Rattle.board.proofs.Settlings.{armed_on, found_alone, found_born, found_linked, found_phase, found_unfired, linked_on, settles_after, settles_alone, settles_open, settles_unarmed, unfired_on}
 use Rattle.board.proofs.Watching.{born_on, paid_add, paid_most, paid_one, seat_looked, watched_look}

@@ -1,10 +1,4 @@
-use Rattle.std.proofs.Common.{◌≡◌, ℕ, ◌<◌, length, sym, refl, ap, ◌∙◌, subst, arith}
-use Rattle.steps.specs.declared.view.Layout.{Layout}
-use Rattle.steps.specs.declared.view.Role.TheVariants.{Poller}
-use Rattle.steps.specs.Rule.{Shown}
-use Rattle.steps.specs.declared.view.View.{View}
-use Rattle.work.proofs.CancelSearch.{idle_still}
-use Rattle.work.specs.Board.{Facts, share_of}
+use Rattle.board.proofs.Common.{Facts, Layout, Poller, Shown, View, ap, arith, idle_still, length, refl, share_of, subst, sym, ℕ, ◌<◌, ◌∙◌, ◌≡◌}
 use Rattle.board.proofs.Strikes.{never_idle, struck_born, struck_due, struck_fails, struck_missed, struck_once, struck_once_on, struck_over, struck_target, struck_took, struck_unfired}
 use Rattle.board.proofs.Watching.{paid_add, paid_most, paid_one, still_ours, watched_look, watched_then}
 use Rattle.board.proofs.linked.strike.Goals as goal

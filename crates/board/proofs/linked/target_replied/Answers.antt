@@ -1,12 +1,4 @@
-use Rattle.std.proofs.Common.{◌≡◌, sym, ap, ◌∙◌, subst, true≢false}
-use Rattle.history.specs.declared.req.Req.{Req}
-use Rattle.history.specs.Chains.{previous}
-use Rattle.steps.specs.declared.view.Layout.{Layout}
-use Rattle.steps.specs.Cells.{request_at}
-use Rattle.steps.specs.Journal.{events_of}
-use Rattle.steps.specs.Rule.{Shown}
-use Rattle.work.specs.Passes.{pass_of}
-use Rattle.board.specs.Calls.{Stands}
+use Rattle.board.proofs.Common.{Layout, Req, Shown, Stands, ap, events_of, pass_of, previous, request_at, subst, sym, true≢false, ◌∙◌, ◌≡◌}
 use Rattle.board.proofs.PassFacts.{found_word, stepped_once}
 use Rattle.board.proofs.Reaping.{unreplied}
 use Rattle.board.proofs.Settlings.{linked_on, replied_by, target_is}

@@ -1,9 +1,5 @@
-use Rattle.std.proofs.Common.{◌≡◌, ◌-◌, ◌<◌, ◌≤◌, length, refl, subst, arith}
-use Rattle.history.specs.Chains.{previous}
-use Rattle.steps.specs.Cells.{request_at, setup_of}
-use Rattle.steps.proofs.CellNumbers.{age_small}
-use Rattle.work.specs.Board.{Facts}
 use Rattle.history.proofs.StateWords.{no_ring}
+use Rattle.board.proofs.Common.{Facts, age_small, arith, length, previous, refl, request_at, setup_of, subst, ◌-◌, ◌<◌, ◌≡◌, ◌≤◌}
 use Rattle.board.proofs.Settlings.{link_later}
 use Rattle.board.proofs.linked.target_spot.Goals as goal
 

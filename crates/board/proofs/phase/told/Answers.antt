@@ -1,12 +1,6 @@
-use Rattle.std.proofs.Common.{◌≡◌, ℕ, ℤ, sym, ap, ◌∙◌, subst, arith, of_z, w32, SFits}
 use Rattle.std.proofs.lemmas.Int.{to_z-of_z}
-use Rattle.std.proofs.Math.Facts.{sfits_to_z, Fits-of_lt}
-use mir.Val.{to_z}
-use Rattle.claim.specs.Claim.{Claim}
-use Rattle.claim.specs.declared.tag.Tag.{Tag}
-use Rattle.history.specs.History.{replied}
 use Rattle.claim.specs.declared.tag.Tag.TheVariants.{Done}
-use Rattle.steps.specs.Cells.{request_at, Says}
+use Rattle.board.proofs.Common.{Claim, Fits-of_lt, SFits, Says, Tag, ap, arith, of_z, replied, request_at, sfits_to_z, subst, sym, to_z, w32, ℕ, ℤ, ◌∙◌, ◌≡◌}
 use Rattle.board.proofs.Standings.{fits_parts, parts_tell, reply_is}
 use Rattle.board.proofs.phase.told.Goals as goal
 

@@ -1,6 +1,5 @@
 use Rattle.std.specs.Prelude.{◌≡◌}
-use Rattle.std.specs.Mem.Slots.{slots_items, slots_filled, slots_len}
-use Rattle.board.specs.Remains.{IsEmptied}
+use Rattle.board.proofs.Common.{IsEmptied, slots_filled, slots_items, slots_len}
 use Rattle.board.proofs.remains.drop_slots.Given as goal
 
 abbrev pub invariant-loop-p : goal.invariant-loop-p

@@ -1,10 +1,4 @@
-use Rattle.std.proofs.Common.{ℕ, false, set, ◌≡◌, ◌<◌, ◌+◌, List, Option, length, ◌∙◌, subst, arith}
-use mathlib.Core.Option.{some}
-use lib.ListN.{get_elem?}
-use Rattle.std.specs.Mem.Slots.{slots_items, slots_filled, slots_counts}
-use Rattle.steps.specs.declared.parcel.Thing.{Thing}
-use Rattle.steps.specs.Cells.{claim_at, slot_at, slots_of}
-use Rattle.board.specs.Remains.{IsEmptied}
+use Rattle.board.proofs.Common.{IsEmptied, List, Option, Thing, arith, claim_at, false, get_elem?, length, set, slot_at, slots_counts, slots_filled, slots_items, slots_of, some, subst, ℕ, ◌+◌, ◌<◌, ◌∙◌, ◌≡◌}
 use Rattle.board.proofs.TakenCells.{emptied_more, taken_more}
 use Rattle.board.proofs.remains.take_cells.Goals as goal
 

@@ -1,7 +1,5 @@
-use Rattle.std.specs.Prelude.{◌≡◌, ◌≤◌, vec_capacity}
-use Rattle.std.specs.Mem.Slots.{slots_items, slots_filled, slots_len}
-use Rattle.steps.specs.Cells.{slots_of}
-use Rattle.board.specs.Remains.{IsEmptied, AreTaken}
+use Rattle.std.specs.Prelude.{◌≡◌, ◌≤◌}
+use Rattle.board.proofs.Common.{AreTaken, IsEmptied, slots_filled, slots_items, slots_len, slots_of, vec_capacity}
 use Rattle.board.proofs.remains.take_cells.Given as goal
 
 -- the first x cells are taken

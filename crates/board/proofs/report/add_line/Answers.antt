@@ -1,14 +1,5 @@
-use Rattle.std.proofs.Common.{◌≡◌, ℕ, List, get_or, sym, ◌∙◌, subst, arith, true≢false}
-use Rattle.history.specs.Legal.{Setup}
-use Rattle.history.specs.History.{phase}
-use Rattle.steps.specs.declared.line.Line.{Line}
 use Rattle.steps.specs.declared.parcel.Parcel.{Parcel}
-use Rattle.steps.specs.declared.parcel.Thing.TheVariants.{Full}
-use Rattle.steps.specs.Journal.{events_of}
-use Rattle.steps.specs.Cells.{request_at}
-use Rattle.steps.specs.Rule.{Shown}
-use Rattle.board.specs.Calls.{IsWord, IsPresent}
-use Rattle.board.specs.Remains.{IsLeft}
+use Rattle.board.proofs.Common.{Full, IsLeft, IsPresent, IsWord, Line, List, Setup, Shown, arith, events_of, get_or, phase, request_at, subst, sym, true≢false, ℕ, ◌∙◌, ◌≡◌}
 use Rattle.board.proofs.TakenCells.{word_at}
 use Rattle.board.proofs.ReportLines.{line_skipped, line_added, present_left, absent_left, is_line, has_slot, one_full}
 use Rattle.board.proofs.report.add_line.Goals as goal

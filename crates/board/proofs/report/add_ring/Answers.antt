@@ -1,10 +1,5 @@
-use Rattle.std.proofs.Common.{◌≡◌, ◌≤◌, ◌+◌, ◌*◌, ◌-◌, ℕ, List, get_or, vec_capacity, w64, sym, ap, ◌∙◌, subst, arith}
-use Rattle.std.proofs.Math.Facts.{Fits-of_lt}
-use Rattle.steps.specs.Cells.{cells_in}
-use Rattle.steps.specs.Rule.{Shown}
-use Rattle.work.proofs.GridRows.{counts_at}
-use Rattle.board.specs.Calls.{IsWord}
-use Rattle.board.specs.Remains.{Reports}
+use Rattle.std.proofs.Common.{vec_capacity}
+use Rattle.board.proofs.Common.{Fits-of_lt, IsWord, List, Reports, Shown, ap, arith, cells_in, counts_at, get_or, subst, sym, w64, ℕ, ◌*◌, ◌+◌, ◌-◌, ◌∙◌, ◌≡◌, ◌≤◌}
 use Rattle.board.proofs.TakenCells.{word_at}
 use Rattle.board.proofs.ReportLines.{ring_opens, ring_closes, few_rows}
 use Rattle.board.proofs.report.add_ring.Goals as goal

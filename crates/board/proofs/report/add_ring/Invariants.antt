@@ -1,7 +1,5 @@
-use Rattle.std.specs.Prelude.{List, vec_capacity}
-use Rattle.history.specs.Legal.{Setup}
-use Rattle.steps.specs.declared.line.Line.{Line}
-use Rattle.board.specs.Remains.{Reports}
+use Rattle.std.specs.Prelude.{List}
+use Rattle.board.proofs.Common.{Line, Reports, Setup, vec_capacity}
 use Rattle.board.proofs.report.add_ring.Given as goal
 
 -- the report goes up to the ring's k-th request

@@ -1,5 +1,5 @@
-use Rattle.std.proofs.Common.{◌≡◌, ℕ, length, vec_capacity, subst, arith}
-use Rattle.board.specs.Remains.{Reports}
+use Rattle.std.proofs.Common.{vec_capacity}
+use Rattle.board.proofs.Common.{Reports, arith, length, subst, ℕ, ◌≡◌}
 use Rattle.board.proofs.report.add_rings.Goals as goal
 
 pub add_ring-requires-clause-so_far : goal.add_ring-requires-clause-so_far

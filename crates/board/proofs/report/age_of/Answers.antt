@@ -1,6 +1,4 @@
-use Rattle.std.proofs.Common.{sym, ap, ◌∙◌, subst}
-use Rattle.claim.specs.Claim.{Claim}
-use Rattle.steps.specs.Cells.{Ages}
+use Rattle.board.proofs.Common.{Ages, Claim, ap, subst, sym, ◌∙◌}
 use Rattle.board.proofs.Standings.{parts_tell}
 use Rattle.board.proofs.report.age_of.Goals as goal
 

@@ -1,6 +1,4 @@
-use Rattle.std.proofs.Common.{◌≡◌, ◌<◌, Some, ℕ, subst, sym, ap, ◌∙◌}
-use mathlib.Core.Option.{some}
-use Rattle.steps.specs.declared.parcel.Thing.TheVariants.{Full}
+use Rattle.board.proofs.Common.{Full, Some, ap, some, subst, sym, ℕ, ◌<◌, ◌∙◌, ◌≡◌}
 use Rattle.board.proofs.TakenCells.{some_inside, thing_at, one_thing}
 use Rattle.board.proofs.report.take_parcel.Goals as goal
 

@@ -1,8 +1,5 @@
-use Rattle.std.proofs.Common.{◌≡◌, ◌+◌, ◌*◌, ◌≤◌, ◌∙◌, ℕ, ap, subst, arith}
 use Rattle.claim.specs.Facts.{Facts as FactsParts}
-use Rattle.gates.specs.EntryRows.{added, waiting, slot_with, stand_in}
-use Rattle.steps.specs.Journal.{events_of}
-use Rattle.work.specs.Board.{IsBoard}
+use Rattle.board.proofs.Common.{IsBoard, added, ap, arith, events_of, slot_with, stand_in, subst, waiting, ℕ, ◌*◌, ◌+◌, ◌∙◌, ◌≡◌, ◌≤◌}
 use Rattle.board.proofs.RowLaws.{knows_on, knows_facts, knows_done, knows_noted, waiting_added, on_ok, small_number}
 use Rattle.board.proofs.Watching.{paid_with}
 use Rattle.board.proofs.trail.add_next.Goals as goal

@@ -1,17 +1,8 @@
-use Rattle.std.proofs.Common.{◌≡◌, ◌<◌, ℕ, suc, List, ◌∷◌, Bool, true, false, Option, None, Some, refl, sym, ap, ◌∙◌, subst, ⊎_elim, inl, inr}
-use Rattle.gates.specs.EntryRows.{Kept, Stands, Waits}
-use Rattle.gates.specs.Slots.{Slot}
-use Rattle.gates.specs.Shows.{nth, named_in, linked_in, HaveGoneOn, IsLink}
-use Rattle.history.specs.declared.req.Req.{Req}
-use Rattle.history.specs.declared.event.Event.TheVariants.{Park}
-use Rattle.history.specs.History.{phase, IsReplied}
-use Rattle.history.specs.Chains.{IsChainBefore}
-use Rattle.steps.specs.Journal.{events_of}
-use Rattle.work.specs.Passes.{pass_of}
+use Rattle.gates.specs.EntryRows.{Stands}
+use Rattle.gates.specs.Shows.{nth}
 use Rattle.board.specs.declared.trail.Round.{Round}
-use Rattle.board.specs.declared.trail.Gating.{Gating}
 use Rattle.board.specs.declared.trail.Outcome.TheVariants.{Pending}
-use Rattle.board.specs.PollerRows.{Gated, Found, Watched, Watches, TellsOutcome, IsBlocked, FoundPending, IsUnended, IsNextLook, Advances}
+use Rattle.board.proofs.Common.{Advances, Bool, Found, FoundPending, Gated, Gating, HaveGoneOn, IsBlocked, IsChainBefore, IsLink, IsNextLook, IsReplied, IsUnended, Kept, List, None, Option, Park, Req, Slot, Some, TellsOutcome, Waits, Watched, Watches, ap, events_of, false, inl, inr, linked_in, named_in, pass_of, phase, refl, subst, suc, sym, true, ℕ, ⊎_elim, ◌<◌, ◌∙◌, ◌∷◌, ◌≡◌}
 use Rattle.board.proofs.LastSteps.{alive_back}
 use Rattle.board.proofs.PutBack.{replied_was, gone_on_was, open_was, open_back, is_severed, is_severed_back}
 use Rattle.board.proofs.RowLaws.{watches_waits}

@@ -1,6 +1,5 @@
-use Rattle.std.proofs.Common.{◌≡◌, ◌∙◌, ℕ, ◌+◌, ◌-◌, ◌*◌, ◌≤◌, subst, arith}
-use Rattle.gates.specs.EntryRows.{Stands, added, waiting, stand_ins}
-use Rattle.steps.specs.Cells.{cells_in}
+use Rattle.gates.specs.EntryRows.{Stands}
+use Rattle.board.proofs.Common.{added, arith, cells_in, stand_ins, subst, waiting, ℕ, ◌*◌, ◌+◌, ◌-◌, ◌∙◌, ◌≡◌, ◌≤◌}
 use Rattle.board.proofs.RowLaws.{knows_restarted}
 use Rattle.board.proofs.trail.catch_up.Goals as goal
 

@@ -1,7 +1,4 @@
-use Rattle.std.proofs.Common.{ℕ, ◌+◌, ◌*◌, arith}
-use Rattle.gates.specs.EntryRows.{waiting}
-use Rattle.work.specs.Passes.{pass_of}
-use Rattle.board.specs.PollerRows.{severed_by}
+use Rattle.board.proofs.Common.{arith, pass_of, severed_by, waiting, ℕ, ◌*◌, ◌+◌}
 use Rattle.board.proofs.LastSteps.{decides_shut}
 use Rattle.board.proofs.RowLaws.{knows_goes}
 use Rattle.board.proofs.Watching.{born_on, decides_after, paid_on, paid_with}

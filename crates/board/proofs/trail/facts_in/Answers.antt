@@ -1,18 +1,5 @@
-use Rattle.std.proofs.Common.{◌≡◌, ◌<◌, ◌∙◌, List, sym, ap, subst}
 use Rattle.claim.specs.Facts.{Facts as FactsParts}
-use Rattle.history.specs.declared.req.Req.{Req}
-use Rattle.history.specs.History.{submits}
-use Rattle.history.specs.Chains.{IsChainDone}
-use Rattle.history.specs.Legal.{Legal}
-use Rattle.steps.specs.declared.line.Line.{Line}
-use Rattle.steps.specs.declared.view.Layout.{Layout}
-use Rattle.steps.specs.declared.view.View.{View}
-use Rattle.steps.specs.Cells.{IsCell, request_at, setup_of}
-use Rattle.steps.specs.Fairness.{Orderly}
-use Rattle.steps.specs.Journal.{events_of}
-use Rattle.steps.specs.Rule.{Looks}
-use Rattle.steps.specs.FactsTold.{TellsFacts}
-use Rattle.steps.proofs.FactsRead.{own_facts, other_facts}
+use Rattle.board.proofs.Common.{IsCell, IsChainDone, Layout, Legal, Line, List, Looks, Orderly, Req, TellsFacts, View, ap, events_of, other_facts, own_facts, request_at, setup_of, submits, subst, sym, ◌<◌, ◌∙◌, ◌≡◌}
 use Rattle.board.proofs.Watching.{watched_look, born_on, paid_one}
 use Rattle.board.proofs.trail.facts_in.Goals as goal
 

@@ -1,7 +1,4 @@
-use Rattle.std.proofs.Common.{ℕ, ◌+◌, ◌*◌, ◌≤◌, arith}
-use Rattle.gates.specs.EntryRows.{waiting}
-use Rattle.board.specs.PollerRows.{owed}
-use Rattle.board.specs.declared.poller.Released.TheVariants.{NotHeld}
+use Rattle.board.proofs.Common.{NotHeld, arith, owed, waiting, ℕ, ◌*◌, ◌+◌, ◌≤◌}
 use Rattle.board.proofs.RowLaws.{knows_on, watches_held}
 use Rattle.board.proofs.Watching.{watched_then, decides_after, paid_with, paid_on}
 use Rattle.board.proofs.trail.follow.Goals as goal

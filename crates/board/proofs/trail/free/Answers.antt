@@ -1,9 +1,4 @@
-use Rattle.std.proofs.Common.{◌∙◌, ◌∷◌, sym, arith}
-use Rattle.history.specs.declared.event.Event.TheVariants.{Park}
-use Rattle.history.specs.Chains.{Open}
-use Rattle.steps.specs.Cells.{setup_of}
-use Rattle.steps.specs.Journal.{events_of}
-use Rattle.steps.proofs.JournalGrowth.{open_lasts}
+use Rattle.board.proofs.Common.{Open, Park, arith, events_of, open_lasts, setup_of, sym, ◌∙◌, ◌∷◌}
 use Rattle.board.proofs.LastSteps.{some_target, none_target, unlinked_by, link_timer, decides_timer, alive_back}
 use Rattle.board.proofs.RowLaws.{watches_on}
 use Rattle.board.proofs.Watching.{watched_none, lasts_on, born_on, decides_after, paid_on, paid_with}

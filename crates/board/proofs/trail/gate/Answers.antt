@@ -1,7 +1,4 @@
-use Rattle.std.proofs.Common.{◌≡◌, ◌≤◌, ◌*◌, ◌+◌, ℕ, ap, arith}
-use Rattle.gates.specs.EntryRows.{waiting}
-use Rattle.board.specs.declared.trail.Gating.{Gating}
-use Rattle.board.specs.PollerRows.{Paid, owed_back, looks_of, spared_by, costs_of}
+use Rattle.board.proofs.Common.{Gating, Paid, ap, arith, costs_of, looks_of, owed_back, spared_by, waiting, ℕ, ◌*◌, ◌+◌, ◌≡◌, ◌≤◌}
 use Rattle.board.proofs.Watching.{born_on, watched_then, gated_found, unended_before, unended_after, paid_on, paid_with}
 use Rattle.board.proofs.trail.gate.Goals as goal
 

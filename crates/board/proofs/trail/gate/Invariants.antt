@@ -1,7 +1,5 @@
 use Rattle.std.specs.Prelude.{◌≡◌, ◌+◌, ◌*◌, true}
-use Rattle.gates.specs.EntryRows.{waiting}
-use Rattle.work.specs.Passes.{pass_of}
-use Rattle.board.specs.PollerRows.{Watches, Watched, Paid, IsUnended, owed_back}
+use Rattle.board.proofs.Common.{IsUnended, Paid, Watched, Watches, owed_back, pass_of, waiting}
 use Rattle.board.proofs.trail.gate.Given as goal
 
 -- the requests that were passed are paid for, and so is a look at one of its chain, of which it is remembered what it found

@@ -1,11 +1,5 @@
-use Rattle.std.proofs.Common.{◌≢◌, ◌<◌, ⊎_elim, true, ◌∙◌, sym, subst, true≢false}
-use Rattle.history.specs.declared.req.Req.{Req}
-use Rattle.history.specs.History.{submits, IsReplied}
-use Rattle.history.specs.Chains.{Open, is_timeout}
 use Rattle.history.specs.Legal.{IsOf}
-use Rattle.steps.specs.Cells.{setup_of, MayBegin}
-use Rattle.steps.specs.Journal.{events_of}
-use Rattle.steps.proofs.JournalGrowth.{open_lasts, kind_lasts}
+use Rattle.board.proofs.Common.{IsReplied, MayBegin, Open, Req, events_of, is_timeout, kind_lasts, open_lasts, setup_of, submits, subst, sym, true, true≢false, ⊎_elim, ◌<◌, ◌∙◌, ◌≢◌}
 use Rattle.board.proofs.LastSteps.{no_timer, timeout_timer, timeout_clear, at_is, decides_freed, decides_missed, decides_timer}
 use Rattle.board.proofs.Watching.{watched_look, lasts_on, replied_on, paid_one}
 use Rattle.board.proofs.trail.hand_on.Goals as goal

@@ -1,12 +1,5 @@
-use Rattle.std.proofs.Common.{◌≡◌, true≢false, sym, ap, ◌∙◌, subst}
-use Rattle.history.specs.declared.req.Req.{Req}
-use Rattle.steps.specs.declared.view.Layout.{Layout}
-use Rattle.steps.specs.Cells.{request_at}
-use Rattle.steps.specs.Rule.{Shown}
 use Rattle.board.specs.declared.phase.Phase.{Phase as Standing}
-use Rattle.board.specs.declared.phase.Phase.TheVariants.{Held}
-use Rattle.board.specs.Calls.{Stands}
-use Rattle.work.specs.Passes.{pass_of}
+use Rattle.board.proofs.Common.{Held, Layout, Req, Shown, Stands, ap, pass_of, request_at, subst, sym, true≢false, ◌∙◌, ◌≡◌}
 use Rattle.board.proofs.Watching.{watched_look, paid_one}
 use Rattle.board.proofs.PassFacts.{found_word, stepped_once}
 use Rattle.board.proofs.Releasing.{unheld_looked}

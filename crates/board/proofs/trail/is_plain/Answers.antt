@@ -1,5 +1,5 @@
-use Rattle.std.proofs.Common.{◌||◌, ◌∙◌, not, ap}
 use Rattle.gates.specs.declared.traits.Traits.{Traits}
+use Rattle.board.proofs.Common.{ap, not, ◌||◌, ◌∙◌}
 use Rattle.board.proofs.trail.is_plain.Goals as goal
 
 pub returns : goal.returns

@@ -1,16 +1,6 @@
-use Rattle.std.proofs.Common.{◌≡◌, ◌==◌, refl, sym, ap, subst, arith}
 use Rattle.claim.specs.Facts.{Facts as FactsParts}
-use Rattle.history.specs.declared.req.Req.{Req}
-use Rattle.steps.specs.declared.view.Layout.{Layout}
-use Rattle.steps.specs.Cells.{IsCell, request_at}
-use Rattle.steps.specs.Fairness.{IsReaped}
-use Rattle.steps.specs.Journal.{events_of}
-use Rattle.work.specs.Board.{Facts}
-use Rattle.work.specs.Passes.{pass_of}
 use Rattle.board.specs.declared.phase.Phase.{Phase as Standing}
-use Rattle.board.specs.Calls.{Stands}
-use Rattle.steps.specs.Rule.{Shown}
-use Rattle.board.specs.PollerRows.{HasOutcome}
+use Rattle.board.proofs.Common.{Facts, HasOutcome, IsCell, IsReaped, Layout, Req, Shown, Stands, ap, arith, events_of, pass_of, refl, request_at, subst, sym, ◌==◌, ◌≡◌}
 use Rattle.board.proofs.WordOutcomes.{done_outcome, left_outcome}
 use Rattle.board.proofs.PassFacts.{found_word, stepped_once, spot_of}
 use Rattle.board.proofs.Reaping.{unreplied}

@@ -1,4 +1,4 @@
-use Rattle.std.proofs.Common.{◌∙◌, sym, true≢false}
+use Rattle.board.proofs.Common.{sym, true≢false, ◌∙◌}
 use Rattle.board.proofs.RowLaws.{noted_one, noted_none, plain_told}
 use Rattle.board.proofs.trail.note_plain.Goals as goal
 

@@ -1,8 +1,5 @@
-use Rattle.std.proofs.Common.{ℕ, false, ◌+◌, ◌*◌, refl, arith}
-use Rattle.gates.specs.EntryRows.{waiting}
 use Rattle.gates.specs.Shows.{nth}
-use Rattle.steps.specs.Journal.{events_of}
-use Rattle.board.specs.declared.poller.Released.TheVariants.{NotHeld}
+use Rattle.board.proofs.Common.{NotHeld, arith, events_of, false, refl, waiting, ℕ, ◌*◌, ◌+◌}
 use Rattle.board.proofs.RowLaws.{knows_on, watches_on, watches_held, knows_replied, watches_replied, chain_outcome}
 use Rattle.board.proofs.Watching.{watched_then, paid_on, paid_with, decides_after}
 use Rattle.board.proofs.trail.pass.Goals as goal

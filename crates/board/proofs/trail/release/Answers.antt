@@ -1,9 +1,4 @@
-use Rattle.std.proofs.Common.{ℕ, ◌+◌, ◌*◌, ◌<◌, ◌≤◌, [], arith}
-use Rattle.gates.specs.EntryRows.{added, waiting}
-use Rattle.history.specs.History.{submits}
-use Rattle.steps.specs.Journal.{events_of}
-use Rattle.work.specs.Passes.{pass_of}
-use Rattle.board.specs.PollerRows.{owed, severed_by}
+use Rattle.board.proofs.Common.{[], added, arith, events_of, owed, pass_of, severed_by, submits, waiting, ℕ, ◌*◌, ◌+◌, ◌<◌, ◌≤◌}
 use Rattle.board.proofs.RowLaws.{knows_on, few_wait, few_added, owed_bound, numbered_at, held_born, watches_held, submits_goes}
 use Rattle.board.proofs.Watching.{still_ours, decides_after, paid_most, paid_add}
 use Rattle.board.proofs.trail.release.Goals as goal

@@ -1,6 +1,4 @@
-use Rattle.std.proofs.Common.{ℕ, ◌+◌, ◌*◌, arith}
-use Rattle.gates.specs.EntryRows.{waiting}
-use Rattle.board.specs.PollerRows.{owed}
+use Rattle.board.proofs.Common.{arith, owed, waiting, ℕ, ◌*◌, ◌+◌}
 use Rattle.board.proofs.Watching.{born_on, decides_after, paid_with, paid_on}
 use Rattle.board.proofs.trail.release_by_row.Goals as goal
 

@@ -1,5 +1,4 @@
-use Rattle.std.proofs.Common.{◌≡◌, ℕ, ◌+◌, arith}
-use Rattle.board.specs.PollerRows.{owed}
+use Rattle.board.proofs.Common.{arith, owed, ℕ, ◌+◌, ◌≡◌}
 use Rattle.board.proofs.Watching.{born_on, decides_after, paid_with, paid_on, paid_most}
 use Rattle.board.proofs.trail.release_next.Goals as goal
 

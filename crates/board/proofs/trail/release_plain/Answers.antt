@@ -1,12 +1,6 @@
-use Rattle.std.proofs.Common.{◌∙◌, sym, ap, subst, true≢false, arith}
-use Rattle.entry.specs.Entry.{Entry, is_link_timeout}
-use Rattle.gates.specs.EntryRows.{added, waiting}
-use Rattle.gates.proofs.Lists.{one_some}
+use Rattle.entry.specs.Entry.{is_link_timeout}
 use Rattle.gates.proofs.PlainLaws.{plain_open}
-use Rattle.steps.specs.Journal.{events_of}
-use Rattle.work.specs.Board.{IsBoard}
-use Rattle.work.specs.Passes.{pass_of}
-use Rattle.board.specs.PollerRows.{severed_by}
+use Rattle.board.proofs.Common.{Entry, IsBoard, added, ap, arith, events_of, one_some, pass_of, severed_by, subst, sym, true≢false, waiting, ◌∙◌}
 use Rattle.board.proofs.RowLaws.{knows_on, knows_goes, knows_noted, numbered_at, small_number}
 use Rattle.board.proofs.Watching.{born_on, decides_after, paid_with, paid_on}
 use Rattle.board.proofs.trail.release_plain.Goals as goal

@@ -1,8 +1,4 @@
-use Rattle.std.proofs.Common.{◌≢◌, true, ◌∙◌, ◌∷◌, sym, subst, true≢false}
-use Rattle.history.specs.declared.req.Req.{Req}
-use Rattle.history.specs.declared.event.Event.TheVariants.{Park}
-use Rattle.history.specs.Chains.{IsPlaced}
-use Rattle.steps.specs.Journal.{events_of}
+use Rattle.board.proofs.Common.{IsPlaced, Park, Req, events_of, subst, sym, true, true≢false, ◌∙◌, ◌∷◌, ◌≢◌}
 use Rattle.board.proofs.LastSteps.{target_fails, not_of, placed_is, at_is, decides_severed, decides_missed, alive_back}
 use Rattle.board.proofs.Watching.{watched_look, paid_one}
 use Rattle.board.proofs.trail.sever.Goals as goal

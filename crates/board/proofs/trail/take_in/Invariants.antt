@@ -1,5 +1,5 @@
 use Rattle.std.specs.Prelude.{◌+◌}
-use Rattle.board.specs.PollerRows.{KnowsRow, Watched, Paid, owed}
+use Rattle.board.proofs.Common.{KnowsRow, Paid, Watched, owed}
 use Rattle.board.proofs.trail.take_in.Given as goal
 
 -- what was taken in so far was looked at, and paid for

@@ -1,9 +1,5 @@
-use Rattle.std.proofs.Common.{◌<◌, ◌≤◌, ◌-◌, ℕ, false, subst, arith}
-use Rattle.gates.specs.EntryRows.{added}
-use Rattle.gates.specs.Shows.{nth, IsOfChain}
-use Rattle.history.specs.Chains.{IsChainDone}
-use Rattle.steps.specs.Cells.{cells_in}
-use Rattle.steps.specs.Journal.{events_of}
+use Rattle.gates.specs.Shows.{nth}
+use Rattle.board.proofs.Common.{IsChainDone, IsOfChain, added, arith, cells_in, events_of, false, subst, ℕ, ◌-◌, ◌<◌, ◌≤◌}
 use Rattle.board.proofs.RowLaws.{way_done, knows_replied, chain_outcome}
 use Rattle.board.proofs.trail.take_one.Goals as goal
 

@@ -1,7 +1,6 @@
-use Rattle.script.specs.Rows.{rows_of}
-use Rattle.std.proofs.Common.{arith}
 use Rattle.std.proofs.lemmas.Grind.{common_steps}
 use Rattle.explore.proofs.Notes.{noted_on}
+use Rattle.checks.proofs.Common.{arith, rows_of}
 use Rattle.checks.proofs.Members.{among_at}
 use Rattle.checks.proofs.explained.explain.Goals as goal
 

@@ -1,10 +1,9 @@
-use Rattle.std.proofs.Common.{◌≡◌, ◌++◌, drop, map}
 use Rattle.std.specs.List.{AllByRecursion}
-use Rattle.script.specs.Rows.{rows_of}
 use Rattle.explore.specs.EventLogs.{IsHistoryOf}
 use Rattle.explore.specs.Noted.{Noted}
 use Rattle.explore.specs.Search.{HasStates}
 use Rattle.pictures.specs.Shown.{explained_of}
+use Rattle.checks.proofs.Common.{drop, map, rows_of, ◌++◌, ◌≡◌}
 use Rattle.checks.proofs.explained.explain.Given as goal
 
 abbrev pub invariant-loop-table : goal.invariant-loop-table

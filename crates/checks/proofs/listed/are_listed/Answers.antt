@@ -1,5 +1,4 @@
-use Rattle.std.proofs.Common.{refl, sym, ◌∙◌, true≢false}
-use Rattle.script.specs.Rows.{rows_of}
+use Rattle.checks.proofs.Common.{refl, rows_of, sym, true≢false, ◌∙◌}
 use Rattle.checks.proofs.Members.{all_in, among_at, one_more}
 use Rattle.checks.proofs.listed.are_listed.Goals as goal
 

@@ -1,6 +1,5 @@
-use Rattle.std.proofs.Common.{drop, map}
-use Rattle.script.specs.Rows.{rows_of}
 use Rattle.checks.specs.Verdicts.{AreAmong}
+use Rattle.checks.proofs.Common.{drop, map, rows_of}
 use Rattle.checks.proofs.listed.are_listed.Given as goal
 
 abbrev pub invariant-loop-one : goal.invariant-loop-one

@@ -1,8 +1,6 @@
 -- Tables that compare as equal have the same rows, and the other way round.
-use Rattle.std.proofs.Common.{refl, ap, sym, ◌∙◌, true≢false}
 use Rattle.explore.proofs.TableOrder.{same_rows, tables_same}
-use Rattle.script.specs.Rows.{rows_cmp, rows_of}
-use Rattle.checks.specs.Tallies.{is_equal}
+use Rattle.checks.proofs.Common.{ap, is_equal, refl, rows_cmp, rows_of, sym, true≢false, ◌∙◌}
 use Rattle.checks.proofs.Members.{not_equal, table_rows}
 use Rattle.checks.proofs.listed.are_same.Goals as goal
 

@@ -1,6 +1,4 @@
-use Rattle.std.proofs.Common.{List, ℕ, ℤ, map, refl, subst, sym}
-use Rattle.script.specs.Rows.{rows_of}
-use Rattle.explore.specs.Courses.{Among}
+use Rattle.checks.proofs.Common.{Among, List, map, refl, rows_of, subst, sym, ℕ, ℤ}
 use Rattle.checks.proofs.Members.{among_at}
 use Rattle.checks.proofs.listed.is_listed.Goals as goal
 

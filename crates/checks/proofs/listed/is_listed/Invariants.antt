@@ -1,6 +1,4 @@
-use Rattle.std.proofs.Common.{drop, map}
-use Rattle.script.specs.Rows.{rows_of}
-use Rattle.explore.specs.Courses.{Among}
+use Rattle.checks.proofs.Common.{Among, drop, map, rows_of}
 use Rattle.checks.proofs.listed.is_listed.Given as goal
 
 abbrev pub invariant-loop-one : goal.invariant-loop-one

@@ -1,8 +1,5 @@
-use Rattle.std.proofs.Common.{◌++◌, ◌∷◌, [], ap, arith, inl, inr, refl, length, length-append, map, sym, ◌∙◌}
-use Rattle.std.proofs.lemmas.List.{append-nil, nil_from_length}
 use Rattle.std.proofs.lemmas.Result.{err_from_is_err_and}
-use Rattle.script.specs.Rows.{rows_of}
-use Rattle.checks.specs.TableFiles.{count_text, tables_text}
+use Rattle.checks.proofs.Common.{[], ap, append-nil, arith, count_text, inl, inr, length, length-append, map, nil_from_length, refl, rows_of, sym, tables_text, ◌++◌, ◌∙◌, ◌∷◌}
 use Rattle.checks.proofs.Parts.{alone, count_is, fault_of_part, nothing_before, several, table_further, tables_more}
 use Rattle.checks.proofs.table_files.read_tables.Goals as goal
 

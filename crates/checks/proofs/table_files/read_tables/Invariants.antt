@@ -1,7 +1,5 @@
 -- The tables so far, each with its empty line, and the rest are the file; and the rest grows shorter.
-use Rattle.std.proofs.Common.{◌≡◌, ◌++◌, length, map}
-use Rattle.script.specs.Rows.{rows_of}
-use Rattle.checks.specs.TableFiles.{tables_text, AreTables}
+use Rattle.checks.proofs.Common.{AreTables, length, map, rows_of, tables_text, ◌++◌, ◌≡◌}
 use Rattle.checks.proofs.table_files.read_tables.Given as goal
 
 abbrev pub invariant-loop-part : goal.invariant-loop-part

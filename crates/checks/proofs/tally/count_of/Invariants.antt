@@ -1,6 +1,4 @@
-use Rattle.std.proofs.Common.{◌≡◌, ◌+◌, ◌≤◌, drop, map}
-use Rattle.script.specs.Rows.{rows_of}
-use Rattle.checks.specs.Tallies.{count_of}
+use Rattle.checks.proofs.Common.{count_of, drop, map, rows_of, ◌+◌, ◌≡◌, ◌≤◌}
 use Rattle.checks.proofs.tally.count_of.Given as goal
 
 abbrev pub invariant-loop-one : goal.invariant-loop-one

@@ -1,6 +1,4 @@
-use Rattle.std.proofs.Common.{◌≡◌, drop, map}
-use Rattle.script.specs.Rows.{rows_of}
-use Rattle.checks.specs.Tallies.{has_rows}
+use Rattle.checks.proofs.Common.{drop, has_rows, map, rows_of, ◌≡◌}
 use Rattle.checks.proofs.tally.has_rows.Given as goal
 
 abbrev pub invariant-loop-one : goal.invariant-loop-one

@@ -1,7 +1,5 @@
-use Rattle.std.proofs.Common.{◌≡◌, ◌++◌, drop, map, take}
-use Rattle.script.specs.Rows.{rows_of}
 use Rattle.pictures.specs.Shown.{tallied_of}
-use Rattle.checks.specs.Tallies.{tallied, tally_of}
+use Rattle.checks.proofs.Common.{drop, map, rows_of, take, tallied, tally_of, ◌++◌, ◌≡◌}
 use Rattle.checks.proofs.tally.tally_of.Given as goal
 
 abbrev pub invariant-loop-place : goal.invariant-loop-place

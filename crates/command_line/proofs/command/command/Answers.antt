@@ -1,5 +1,4 @@
-use Rattle.std.proofs.lemmas.Result.{IfOk-weaker}
-use Rattle.command_line.specs.CommandLine.{IsApp, bare_app, check_app, history_app, outcomes_app, run_app}
+use Rattle.command_line.proofs.Common.{IfOk-weaker, IsApp, bare_app, check_app, history_app, outcomes_app, run_app}
 use Rattle.command_line.proofs.CommandLines.{adds_command, settles}
 use Rattle.command_line.proofs.command.command.Goals as goal
 

@@ -1,7 +1,4 @@
-use Rattle.std.proofs.Common.{codes}
-use Rattle.std.proofs.lemmas.Result.{IfOk-weaker}
-use Rattle.clap.specs.Words.{new_app}
-use Rattle.command_line.specs.CommandLine.{IsApp}
+use Rattle.command_line.proofs.Common.{IfOk-weaker, IsApp, codes, new_app}
 use Rattle.command_line.proofs.CommandLines.{adds_word, explains}
 use Rattle.command_line.proofs.command.outcomes.Goals as goal
 

@@ -1,6 +1,4 @@
-use Rattle.std.proofs.Common.{◌∙◌, codes}
-use Rattle.clap.specs.Words.{found_of}
-use Rattle.clap.proofs.WalkLemmas.{first_value-rows}
+use Rattle.command_line.proofs.Common.{codes, first_value-rows, found_of, ◌∙◌}
 use Rattle.command_line.proofs.Words.{file_is}
 use Rattle.command_line.proofs.job.asked.Goals as goal
 

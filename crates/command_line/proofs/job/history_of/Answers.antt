@@ -1,5 +1,4 @@
-use Rattle.std.proofs.Common.{codes}
-use Rattle.clap.specs.Words.{found_of}
+use Rattle.command_line.proofs.Common.{codes, found_of}
 use Rattle.command_line.proofs.Words.{flag_is}
 use Rattle.command_line.proofs.job.history_of.Goals as goal
 

@@ -1,7 +1,5 @@
-use Rattle.std.proofs.Common.{◌≡◌, ◌∙◌, [], ap, map, subst}
-use Rattle.std.proofs.lemmas.Result.{err_from_is_err_and}
 use Rattle.clap.specs.Kinds.{HasKind}
-use Rattle.clap.specs.Words.{App, fault_of, is_simple, is_simple_and_free, subcommand_of}
+use Rattle.command_line.proofs.Common.{App, [], ap, err_from_is_err_and, fault_of, is_simple, is_simple_and_free, map, subcommand_of, subst, ◌∙◌, ◌≡◌}
 use Rattle.command_line.proofs.CommandLines.{ringrun_is_exact, ringrun_is_simple}
 use Rattle.command_line.proofs.Words.{asks_for}
 use Rattle.command_line.proofs.job.invocation_of.Goals as goal

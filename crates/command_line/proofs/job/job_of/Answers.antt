@@ -1,4 +1,4 @@
-use Rattle.std.proofs.Common.{◌≡◌, ℕ, List, ap, slice_index, arith}
+use Rattle.command_line.proofs.Common.{List, ap, arith, slice_index, ℕ, ◌≡◌}
 use Rattle.command_line.proofs.job.job_of.Goals as goal
 
 pub returns-in-outcomes-clause-job : goal.returns-in-outcomes-clause-job

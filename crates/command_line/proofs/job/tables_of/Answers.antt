@@ -1,9 +1,4 @@
-use Rattle.std.proofs.Common.{◌∙◌, [], List, ap, codes, map, sym}
-use Rattle.std.specs.Prelude.{Option, option_map, unwrap_or}
-use Rattle.std.specs.Borrow.{Bor}
-use Rattle.std.proofs.lemmas.Result.{IfOk-weaker}
-use Rattle.clap.specs.Words.{Text, found_of}
-use Rattle.clap.proofs.WalkLemmas.{raw_values-rows}
+use Rattle.command_line.proofs.Common.{Bor, IfOk-weaker, List, Option, Text, [], ap, codes, found_of, map, option_map, raw_values-rows, sym, unwrap_or, ◌∙◌}
 use Rattle.command_line.proofs.job.tables_of.Goals as goal
 
 pub returns-in-Some : goal.returns-in-Some

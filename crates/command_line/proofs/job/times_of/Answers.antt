@@ -1,9 +1,4 @@
-use Rattle.std.proofs.Common.{◌≡◌, ◌^◌, ◌<◌, ℕ, Some, refl, ap, sym, ◌∙◌, codes, arith}
-use Rattle.std.specs.Prelude.{decimal}
-use Rattle.std.specs.Str.Parse.{ParsesUnsigned, ExplainsUnsignedError, HasUnsignedDigitsIfOk}
-use Rattle.std.proofs.lemmas.Option.{none-some}
-use Rattle.clap.specs.Words.{found_of}
-use Rattle.clap.proofs.WalkLemmas.{one_text-rows}
+use Rattle.command_line.proofs.Common.{ExplainsUnsignedError, HasUnsignedDigitsIfOk, ParsesUnsigned, Some, ap, arith, codes, decimal, found_of, none-some, one_text-rows, refl, sym, ℕ, ◌<◌, ◌^◌, ◌∙◌, ◌≡◌}
 use Rattle.command_line.proofs.Words.{number_read}
 use Rattle.command_line.proofs.job.times_of.Goals as goal
 

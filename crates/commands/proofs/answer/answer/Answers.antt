@@ -1,9 +1,5 @@
-use Rattle.std.proofs.lemmas.Result.{err_from_is_err_and}
-use Rattle.commands.specs.declared.job.Job.TheVariants.{Outcomes, History}
+use Rattle.commands.proofs.Common.{Explains, History, Outcomes, Prints, Run, err_from_is_err_and}
 use Rattle.commands.proofs.Printing.{all_of, reads_of, prints_run, prints_history}
-use Rattle.commands.specs.declared.job.Job.TheVariants.{Run}
-use Rattle.commands.specs.Printed.{Prints}
-use Rattle.commands.specs.Status.{Explains}
 use Rattle.commands.proofs.Problems.{script_explains, search_explains, run_explains, history_explains, explains_as}
 use Rattle.commands.proofs.Telling.{plain_ok, plain_none, plain_err, counts_as, list_counts, list_prints}
 use Rattle.commands.proofs.answer.answer.Goals as goal

@@ -1,7 +1,4 @@
-use Rattle.std.proofs.Common.{subst}
-use Rattle.std.proofs.lemmas.Result.{err_from_is_err_and}
-use Rattle.commands.specs.Printed.{AppendsSome}
-use Rattle.std.specs.Io.KnownBytes.{Appends}
+use Rattle.commands.proofs.Common.{Appends, AppendsSome, err_from_is_err_and, subst}
 use Rattle.commands.proofs.Telling.{counted_for}
 use Rattle.commands.proofs.answer.carry_out.Goals as goal
 

@@ -1,5 +1,4 @@
-use Rattle.commands.specs.Printed.{IsOutcomesText}
-use Rattle.commands.specs.Status.{IsOfSearch}
+use Rattle.commands.proofs.Common.{IsOfSearch, IsOutcomesText}
 use Rattle.commands.proofs.Telling.{list_plain, list_survey, plain_ok, plain_err}
 use Rattle.commands.proofs.answer.list_text.Goals as goal
 

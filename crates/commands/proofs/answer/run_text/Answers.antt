@@ -1,4 +1,4 @@
-use Rattle.std.proofs.lemmas.Result.{err_from_is_err_and}
+use Rattle.commands.proofs.Common.{err_from_is_err_and}
 use Rattle.commands.proofs.Problems.{of_run_explains}
 use Rattle.commands.proofs.answer.run_text.Goals as goal
 

@@ -1,5 +1,4 @@
-use Rattle.std.proofs.Common.{map}
-use Rattle.script.specs.Rows.{rows_of}
+use Rattle.commands.proofs.Common.{map, rows_of}
 use Rattle.commands.proofs.answer.survey_text.Goals as goal
 
 pub returns-clause-prints : goal.returns-clause-prints

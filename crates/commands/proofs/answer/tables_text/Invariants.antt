@@ -1,7 +1,5 @@
 -- The text so far, and that of the tables that are left, are the whole text.
-use Rattle.std.proofs.Common.{◌≡◌, ◌++◌, drop, map}
-use Rattle.script.specs.Rows.{rows_of}
-use Rattle.commands.specs.Printed.{tables_text}
+use Rattle.commands.proofs.Common.{drop, map, rows_of, tables_text, ◌++◌, ◌≡◌}
 use Rattle.commands.proofs.answer.tables_text.Given as goal
 
 abbrev pub invariant-loop-table : goal.invariant-loop-table

@@ -1,6 +1,5 @@
-use Rattle.std.proofs.Common.{inl, inr, refl, rules, true≢false, sym, ◌∙◌}
 use Rattle.std.proofs.lemmas.Slice.Eq.{bytes_eq-Decides}
-use Rattle.commands.specs.declared.problem.Problem.TheVariants.{Input}
+use Rattle.commands.proofs.Common.{Input, inl, inr, refl, rules, sym, true≢false, ◌∙◌}
 use Rattle.commands.proofs.files.serve.Goals as goal
 
 pub returns-then-eq-clause-opened : goal.returns-then-eq-clause-opened

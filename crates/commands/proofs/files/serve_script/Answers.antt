@@ -1,6 +1,5 @@
-use Rattle.std.proofs.Common.{subst, sym, refl, rules}
-use Rattle.commands.specs.declared.problem.Problem.TheVariants.{Input}
 use Rattle.commands.specs.Opened.{IsTableAt}
+use Rattle.commands.proofs.Common.{Input, refl, rules, subst, sym}
 use Rattle.commands.proofs.Printing.{forget_printed, forget_unprinted}
 use Rattle.commands.proofs.Problems.{forget_told, forget_counted}
 use Rattle.commands.proofs.files.serve_script.Goals as goal

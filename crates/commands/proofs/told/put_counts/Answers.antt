@@ -1,4 +1,4 @@
-use Rattle.std.proofs.lemmas.Result.{err_from_is_err_and}
+use Rattle.commands.proofs.Common.{err_from_is_err_and}
 use Rattle.commands.proofs.Telling.{some_longer, then_all, then_some}
 use Rattle.commands.proofs.told.put_counts.Goals as goal
 

@@ -1,5 +1,4 @@
-use Rattle.std.proofs.Common.{codes}
-use Rattle.std.proofs.lemmas.Result.{err_from_is_err_and}
+use Rattle.commands.proofs.Common.{codes, err_from_is_err_and}
 use Rattle.commands.proofs.Telling.{after_all, begun_some, err_some, some_longer, then_all, then_some}
 use Rattle.commands.proofs.told.put_line.Goals as goal
 

@@ -1,8 +1,4 @@
-use Rattle.std.proofs.Common.{◌≡◌, ◌++◌, ◌∙◌, List, ℕ, codes, subst}
-use Rattle.std.specs.Prelude.{OnOk, OnErr}
-use Rattle.std.specs.Io.KnownBytes.{Appends}
-use Rattle.commands.specs.Printed.{AppendsSome}
-use Rattle.commands.specs.Told.{number_line, text_of}
+use Rattle.commands.proofs.Common.{Appends, AppendsSome, List, OnErr, OnOk, codes, number_line, subst, text_of, ℕ, ◌++◌, ◌∙◌, ◌≡◌}
 use Rattle.commands.proofs.told.put_number.Goals as goal
 
 pub returns : goal.returns

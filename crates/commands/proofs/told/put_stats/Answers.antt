@@ -1,7 +1,5 @@
-use Rattle.std.proofs.Common.{subst, sym}
-use Rattle.std.specs.Prelude.{Option}
 use Rattle.commands.specs.declared.told.Stats.{Stats}
-use Rattle.commands.specs.Told.{PutsCounts}
+use Rattle.commands.proofs.Common.{Option, PutsCounts, subst, sym}
 use Rattle.commands.proofs.Telling.{all_or_some, some_kept}
 use Rattle.commands.proofs.told.put_stats.Goals as goal
 

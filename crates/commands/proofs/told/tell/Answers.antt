@@ -1,5 +1,4 @@
-use Rattle.std.proofs.Common.{subst}
-use Rattle.commands.specs.Printed.{AppendsSome}
+use Rattle.commands.proofs.Common.{AppendsSome, subst}
 use Rattle.commands.proofs.Telling.{all_or_some, some_kept}
 use Rattle.commands.proofs.told.tell.Goals as goal
 

@@ -1,9 +1,4 @@
-use Rattle.std.proofs.Common.{ℤ, ◌∷◌, ap, ◌∙◌, replicate, rules}
-use Rattle.std.specs.Int.{w32, cast_unsigned}
-use Rattle.std.specs.Int.RustNames.{FitsSigned}
-use Rattle.std.proofs.lemmas.Int.{to_z-of_z}
-use Rattle.byteorder.specs.Endian.{little_bytes}
-use Rattle.entry.specs.Text.{put}
+use Rattle.entry.proofs.Common.{FitsSigned, ap, cast_unsigned, little_bytes, put, replicate, rules, to_z-of_z, w32, ℤ, ◌∙◌, ◌∷◌}
 use Rattle.entry.proofs.EntryBytes.{layout-written}
 use Rattle.entry.proofs.bytes.layout.Goals as goal
 

@@ -1,8 +1,4 @@
-use Rattle.std.proofs.Common.{ℤ, ap, ◌∙◌}
-use Rattle.std.specs.Int.{w32, cast_signed, cast_unsigned}
-use Rattle.std.proofs.lemmas.Int.{to_z-of_z}
-use Rattle.byteorder.specs.Endian.{little_bytes}
-use Rattle.entry.specs.Text.{put}
+use Rattle.entry.proofs.Common.{ap, cast_signed, cast_unsigned, little_bytes, put, to_z-of_z, w32, ℤ, ◌∙◌}
 use Rattle.entry.proofs.BytePlaces.{put-from_tail}
 use Rattle.entry.proofs.field.put_i32.Goals as goal
 

@@ -1,4 +1,4 @@
-use Rattle.byteorder.specs.Endian.{little_bytes}
+use Rattle.entry.proofs.Common.{little_bytes}
 use Rattle.entry.proofs.BytePlaces.{put-from_tail}
 use Rattle.entry.proofs.field.put_u32.Goals as goal
 

@@ -1,8 +1,4 @@
-use Rattle.std.proofs.Common.{◌≡◌, ◌∙◌, [], ap, arith}
-use Rattle.event_count.specs.declared.view.View.{View}
-use Rattle.event_count.specs.Journal.{number_of}
-use Rattle.event_count.specs.Passes.{new_notifying}
-use Rattle.event_count.specs.Rule.{with_notifier}
+use Rattle.event_count.proofs.Common.{View, [], ap, arith, new_notifying, number_of, with_notifier, ◌∙◌, ◌≡◌}
 use Rattle.event_count.proofs.Opening.{cuts_notifier, new_notifier_seat, one_more}
 use Rattle.event_count.proofs.event_count.cut_notifiers.Goals as goal
 

@@ -1,5 +1,4 @@
-use Rattle.std.proofs.Common.{◌≡◌}
-use Rattle.event_count.specs.Passes.{AreNewNotifiers}
+use Rattle.event_count.proofs.Common.{AreNewNotifiers, ◌≡◌}
 use Rattle.event_count.proofs.event_count.cut_notifiers.Given as goal
 
 abbrev pub invariant-loop-number : goal.invariant-loop-number

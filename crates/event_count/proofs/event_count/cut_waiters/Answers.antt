@@ -1,8 +1,4 @@
-use Rattle.std.proofs.Common.{◌≡◌, ◌∙◌, false, [], ap, arith}
-use Rattle.event_count.specs.declared.view.View.{View}
-use Rattle.event_count.specs.Journal.{number_of}
-use Rattle.event_count.specs.Passes.{new_waiting}
-use Rattle.event_count.specs.Rule.{with_waiter}
+use Rattle.event_count.proofs.Common.{View, [], ap, arith, false, new_waiting, number_of, with_waiter, ◌∙◌, ◌≡◌}
 use Rattle.event_count.proofs.Opening.{cuts_waiter, new_waiter_seat, one_more}
 use Rattle.event_count.proofs.event_count.cut_waiters.Goals as goal
 

@@ -1,5 +1,4 @@
-use Rattle.std.proofs.Common.{◌≡◌}
-use Rattle.event_count.specs.Passes.{AreNewWaiters}
+use Rattle.event_count.proofs.Common.{AreNewWaiters, ◌≡◌}
 use Rattle.event_count.proofs.event_count.cut_waiters.Given as goal
 
 abbrev pub invariant-loop-number : goal.invariant-loop-number

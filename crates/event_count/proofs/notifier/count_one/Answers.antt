@@ -1,4 +1,4 @@
-use Rattle.std.proofs.Common.{arith}
+use Rattle.event_count.proofs.Common.{arith}
 use Rattle.event_count.proofs.Steps.{count_allows}
 use Rattle.event_count.proofs.notifier.count_one.Goals as goal
 

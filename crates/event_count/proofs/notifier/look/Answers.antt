@@ -1,7 +1,4 @@
-use Rattle.std.proofs.Common.{◌≡◌, ◌<◌, ◌==◌, ◌⊎◌, ⊎_elim, ℕ, List, false, not, sym, ap, ◌∙◌, arith, eq-eqb, ne_eqb}
-use Rattle.event_count.specs.declared.view.Line.{Line}
-use Rattle.event_count.specs.declared.view.Role.{Role}
-use Rattle.event_count.specs.Journal.{number_of, owes, IsQuiet, Finds}
+use Rattle.event_count.proofs.Common.{Finds, IsQuiet, Line, List, Role, ap, arith, eq-eqb, false, ne_eqb, not, number_of, owes, sym, ℕ, ⊎_elim, ◌<◌, ◌==◌, ◌∙◌, ◌≡◌, ◌⊎◌}
 use Rattle.event_count.proofs.Lines.{owes_same, owes_found}
 use Rattle.event_count.proofs.Steps.{look_allows}
 use Rattle.event_count.proofs.notifier.look.Goals as goal

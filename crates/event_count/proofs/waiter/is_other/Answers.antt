@@ -1,8 +1,5 @@
-use Rattle.std.proofs.Common.{◌≡◌, ◌≢◌, ◌⊎◌, ⊎_elim, ◌∙◌, ℕ, true, not, nat_eq, ap, sym, arith, List}
 use Rattle.std.proofs.lemmas.Bool.Decides.{nat_tests}
-use Rattle.event_count.specs.declared.view.Line.{Line}
-use Rattle.event_count.specs.declared.view.Role.{Role}
-use Rattle.event_count.specs.Journal.{number_of, is_inside, count_of, Hears}
+use Rattle.event_count.proofs.Common.{Hears, Line, List, Role, ap, arith, count_of, is_inside, nat_eq, not, number_of, sym, true, ℕ, ⊎_elim, ◌∙◌, ◌≡◌, ◌≢◌, ◌⊎◌}
 use Rattle.event_count.proofs.Lines.{stayed_inside}
 use Rattle.event_count.proofs.Steps.{ask_allows}
 use Rattle.event_count.proofs.waiter.is_other.Goals as goal

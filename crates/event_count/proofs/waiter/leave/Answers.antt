@@ -1,4 +1,4 @@
-use Rattle.std.proofs.Common.{arith}
+use Rattle.event_count.proofs.Common.{arith}
 use Rattle.event_count.proofs.Steps.{leave_allows}
 use Rattle.event_count.proofs.waiter.leave.Goals as goal
 

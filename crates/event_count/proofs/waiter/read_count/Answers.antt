@@ -1,6 +1,4 @@
-use Rattle.std.proofs.Common.{◌∙◌, ap, arith}
-use Rattle.event_count.specs.declared.view.Role.{Role}
-use Rattle.event_count.specs.Journal.{number_of, is_inside}
+use Rattle.event_count.proofs.Common.{Role, ap, arith, is_inside, number_of, ◌∙◌}
 use Rattle.event_count.proofs.Lines.{stayed_inside}
 use Rattle.event_count.proofs.Steps.{read_allows}
 use Rattle.event_count.proofs.waiter.read_count.Goals as goal

@@ -1,7 +1,4 @@
-use Rattle.std.proofs.Common.{subst, List}
-use Rattle.event_count.specs.declared.view.Line.{Line}
-use Rattle.event_count.specs.declared.view.Role.{Role}
-use Rattle.event_count.specs.Journal.{number_of, Hears}
+use Rattle.event_count.proofs.Common.{Hears, Line, List, Role, number_of, subst}
 use Rattle.event_count.proofs.waiter.wait_for_notice.Goals as goal
 
 pub returns-then-is_other-clause-heard : goal.returns-then-is_other-clause-heard

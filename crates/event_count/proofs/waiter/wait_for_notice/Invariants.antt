@@ -1,4 +1,4 @@
-use Rattle.std.proofs.Common.{◌≡◌}
+use Rattle.event_count.proofs.Common.{◌≡◌}
 use Rattle.event_count.proofs.waiter.wait_for_notice.Given as goal
 
 abbrev pub invariant-loop : goal.invariant-loop

@@ -1,6 +1,4 @@
-use Rattle.std.proofs.Common.{sym, ◌∙◌, arith, below_more}
-use Rattle.std.proofs.lemmas.List.{length-map}
-use Rattle.gates.specs.Slots.{slot_of, is_draining}
+use Rattle.gates.proofs.Common.{arith, below_more, is_draining, length-map, slot_of, sym, ◌∙◌}
 use Rattle.gates.proofs.Lists.{passes_at}
 use Rattle.gates.proofs.cells.first_draining.Goals as goal
 

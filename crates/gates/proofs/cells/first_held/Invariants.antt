@@ -1,5 +1,4 @@
-use Rattle.std.proofs.Common.{◌≡◌, ◌-◌, ◌<◌, ◌≤◌, length, false, true}
-use Rattle.gates.specs.EntryRows.{held_at}
+use Rattle.gates.proofs.Common.{false, held_at, length, true, ◌-◌, ◌<◌, ◌≡◌, ◌≤◌}
 use Rattle.gates.proofs.cells.first_held.Given as goal
 
 abbrev pub invariant-loop-middle : goal.invariant-loop-middle

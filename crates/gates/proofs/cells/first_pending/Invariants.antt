@@ -1,5 +1,4 @@
-use Rattle.std.proofs.Common.{◌≡◌, ℕ, ◌-◌, ◌<◌, ◌≤◌, length, map, false}
-use Rattle.gates.specs.Slots.{slot_of, passes, is_pending}
+use Rattle.gates.proofs.Common.{false, is_pending, length, map, passes, slot_of, ℕ, ◌-◌, ◌<◌, ◌≡◌, ◌≤◌}
 use Rattle.gates.proofs.cells.first_pending.Given as goal
 
 abbrev pub invariant-loop-j : goal.invariant-loop-j

@@ -1,6 +1,4 @@
-use Rattle.std.proofs.Common.{◌≡◌, suc, ◌-◌, ◌∙◌, true, false, map, refl, ap, sym, arith}
-use Rattle.gates.specs.Slots.{slot_of, is_pending, passes}
-use Rattle.gates.specs.EntryRows.{held_of, held_at, nearest_in}
+use Rattle.gates.proofs.Common.{ap, arith, false, held_at, held_of, is_pending, map, nearest_in, passes, refl, slot_of, suc, sym, true, ◌-◌, ◌∙◌, ◌≡◌}
 use Rattle.gates.proofs.Lists.{passes_at}
 use Rattle.gates.proofs.cells.last_pending.Goals as goal
 

@@ -1,5 +1,4 @@
-use Rattle.std.proofs.Common.{◌≡◌, ◌≤◌}
-use Rattle.gates.specs.EntryRows.{nearest_in}
+use Rattle.gates.proofs.Common.{nearest_in, ◌≡◌, ◌≤◌}
 use Rattle.gates.proofs.cells.last_pending.Given as goal
 
 abbrev pub invariant-loop-m : goal.invariant-loop-m

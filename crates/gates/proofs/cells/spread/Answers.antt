@@ -1,9 +1,4 @@
-use Rattle.std.proofs.Common.{◌≡◌, ◌≢◌, ℕ, suc, ◌+◌, ◌<◌, ◌==◌, true, false, ⊎_elim, eqb-true, length, map, set, Some, sym, ap, ◌∙◌, subst, arith}
-use Rattle.std.specs.List.{slice_get}
-use Rattle.std.proofs.lemmas.List.{length-set}
-use Rattle.history.proofs.Requests.{bool_cases}
-use Rattle.gates.specs.Slots.{slot_of, next_of}
-use Rattle.gates.specs.EntryRows.{LinkedAt}
+use Rattle.gates.proofs.Common.{LinkedAt, Some, ap, arith, bool_cases, eqb-true, false, length, length-set, map, next_of, set, slice_get, slot_of, subst, suc, sym, true, ℕ, ⊎_elim, ◌+◌, ◌<◌, ◌==◌, ◌∙◌, ◌≡◌, ◌≢◌}
 use Rattle.gates.proofs.Lists.{get_there, get_set_other}
 use Rattle.gates.proofs.Links.{ne_of, with_behind, linked_more, linked_all, slots_kept, linked_end, behind_same}
 use Rattle.gates.proofs.cells.spread.Goals as goal

@@ -1,8 +1,5 @@
-use Rattle.std.proofs.Common.{◌≡◌, ◌≢◌, ℕ, ◌-◌, ◌<◌, ◌≤◌, length, map}
-use Rattle.std.specs.List.{slice_get}
 use Rattle.std.specs.VecDeque.{deque_capacity}
-use Rattle.gates.specs.Slots.{slot_of}
-use Rattle.gates.specs.EntryRows.{LinkedAt}
+use Rattle.gates.proofs.Common.{LinkedAt, length, map, slice_get, slot_of, ℕ, ◌-◌, ◌<◌, ◌≡◌, ◌≢◌, ◌≤◌}
 use Rattle.gates.proofs.cells.spread.Given as goal
 
 abbrev pub invariant-loop-j : goal.invariant-loop-j

@@ -1,5 +1,4 @@
-use Rattle.std.proofs.Common.{◌∙◌, ◌-◌, ◌<◌, length, ap, sym, arith}
-use Rattle.model.proofs.Common.{pending_of, slice_get-get_or}
+use Rattle.model.proofs.Common.{ap, arith, length, pending_of, slice_get-get_or, sym, ◌-◌, ◌<◌, ◌∙◌}
 use Rattle.model.proofs.RingReading.{joins_kept, undone_here, done_before}
 use Rattle.model.proofs.chain.is_chain_done.Goals as goal
 

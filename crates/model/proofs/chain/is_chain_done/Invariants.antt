@@ -1,5 +1,5 @@
-use Rattle.std.proofs.Common.{◌≡◌, ◌≤◌}
 use Rattle.model.specs.Decides.{chain_done}
+use Rattle.model.proofs.Common.{◌≡◌, ◌≤◌}
 use Rattle.model.proofs.chain.is_chain_done.Given as goal
 
 abbrev pub invariant-loop-m : goal.invariant-loop-m

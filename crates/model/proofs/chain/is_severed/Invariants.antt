@@ -1,5 +1,5 @@
-use Rattle.std.proofs.Common.{◌≡◌, ◌≤◌}
 use Rattle.model.specs.Decides.{severed_in}
+use Rattle.model.proofs.Common.{◌≡◌, ◌≤◌}
 use Rattle.model.proofs.chain.is_severed.Given as goal
 
 abbrev pub invariant-loop-m : goal.invariant-loop-m

@@ -1,5 +1,4 @@
-use Rattle.std.proofs.Common.{rules, ◌∙◌, ap, SFits, w32}
-use Rattle.model.proofs.Common.{to_z-of_z, fails_op}
+use Rattle.model.proofs.Common.{SFits, ap, fails_op, rules, to_z-of_z, w32, ◌∙◌}
 use Rattle.model.proofs.RingReading.{severs_kept}
 use Rattle.model.proofs.chain.severs.Goals as goal
 

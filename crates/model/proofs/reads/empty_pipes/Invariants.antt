@@ -1,5 +1,5 @@
-use Rattle.std.proofs.Common.{◌≡◌, take, map}
 use Rattle.model.specs.Fresh.{empty_pipe}
+use Rattle.model.proofs.Common.{map, take, ◌≡◌}
 use Rattle.model.proofs.reads.empty_pipes.Given as goal
 
 abbrev pub invariant-loop-cap : goal.invariant-loop-cap

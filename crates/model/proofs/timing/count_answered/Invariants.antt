@@ -1,5 +1,4 @@
-use Rattle.std.proofs.Common.{◌≡◌, ◌≤◌, length, take}
-use Rattle.model.proofs.Common.{filter, is_done}
+use Rattle.model.proofs.Common.{filter, is_done, length, take, ◌≡◌, ◌≤◌}
 use Rattle.model.proofs.timing.count_answered.Given as goal
 
 abbrev pub invariant-loop-request : goal.invariant-loop-request

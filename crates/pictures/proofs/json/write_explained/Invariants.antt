@@ -1,7 +1,4 @@
-use Rattle.std.proofs.Common.{◌≡◌, ◌++◌, drop, map}
-use Rattle.pictures.specs.Shown.{explained_of}
-use Rattle.serde_json.specs.View.{view}
-use Rattle.pictures.specs.Json.{explained_data}
+use Rattle.pictures.proofs.Common.{drop, explained_data, explained_of, map, view, ◌++◌, ◌≡◌}
 use Rattle.pictures.proofs.json.write_explained.Given as goal
 
 abbrev pub invariant-loop-one : goal.invariant-loop-one

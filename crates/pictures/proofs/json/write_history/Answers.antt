@@ -1,5 +1,4 @@
-use Rattle.std.proofs.Common.{◌∙◌, ap}
-use Rattle.serde_json.specs.Written.{has_float}
+use Rattle.pictures.proofs.Common.{ap, has_float, ◌∙◌}
 use Rattle.pictures.proofs.JsonValues.{history_plain}
 use Rattle.pictures.proofs.json.write_history.Goals as goal
 

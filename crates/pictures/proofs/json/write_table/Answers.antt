@@ -1,6 +1,4 @@
-use Rattle.std.proofs.Common.{◌∙◌, ap}
-use Rattle.script.specs.Rows.{rows_of}
-use Rattle.serde_json.specs.Written.{has_float}
+use Rattle.pictures.proofs.Common.{ap, has_float, rows_of, ◌∙◌}
 use Rattle.pictures.proofs.JsonValues.{table_plain}
 use Rattle.pictures.proofs.json.write_table.Goals as goal
 

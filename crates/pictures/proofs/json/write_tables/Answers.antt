@@ -1,10 +1,4 @@
-use Rattle.std.proofs.Common.{◌≡◌, ◌∙◌, ap, map, subst}
-use Rattle.std.specs.Prelude.{IfOk}
-use Rattle.serde_json.specs.Data.{Data}
-use Rattle.serde_json.specs.Written.{has_float}
-use Rattle.pictures.specs.Json.{json_text}
-use Rattle.script.specs.Rows.{rows_of}
-use Rattle.pictures.specs.Json.{table_data}
+use Rattle.pictures.proofs.Common.{Data, IfOk, ap, has_float, json_text, map, rows_of, subst, table_data, ◌∙◌, ◌≡◌}
 use Rattle.pictures.proofs.JsonValues.{list_ends, tables_plain}
 use Rattle.pictures.proofs.json.write_tables.Goals as goal
 

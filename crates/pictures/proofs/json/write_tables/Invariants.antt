@@ -1,7 +1,4 @@
-use Rattle.std.proofs.Common.{◌≡◌, ◌++◌, drop, map}
-use Rattle.script.specs.Rows.{rows_of}
-use Rattle.serde_json.specs.View.{view}
-use Rattle.pictures.specs.Json.{table_data}
+use Rattle.pictures.proofs.Common.{drop, map, rows_of, table_data, view, ◌++◌, ◌≡◌}
 use Rattle.pictures.proofs.json.write_tables.Given as goal
 
 abbrev pub invariant-loop-table : goal.invariant-loop-table

@@ -1,7 +1,4 @@
-use Rattle.std.proofs.Common.{◌≡◌, ◌++◌, drop, map}
-use Rattle.pictures.specs.Shown.{tallied_of}
-use Rattle.serde_json.specs.View.{view}
-use Rattle.pictures.specs.Json.{tallied_data}
+use Rattle.pictures.proofs.Common.{drop, map, tallied_data, tallied_of, view, ◌++◌, ◌≡◌}
 use Rattle.pictures.proofs.json.write_tally.Given as goal
 
 abbrev pub invariant-loop-one : goal.invariant-loop-one

@@ -1,10 +1,4 @@
-use Rattle.std.proofs.Common.{◌≡◌, ◌∙◌, ap, map, subst}
-use Rattle.std.specs.Prelude.{IfOk}
-use Rattle.serde_json.specs.Data.{Data}
-use Rattle.serde_json.specs.Written.{has_float}
-use Rattle.pictures.specs.Json.{json_text}
-use Rattle.pictures.specs.Shown.{verdict_of}
-use Rattle.pictures.specs.Json.{verdict_data}
+use Rattle.pictures.proofs.Common.{Data, IfOk, ap, has_float, json_text, map, subst, verdict_data, verdict_of, ◌∙◌, ◌≡◌}
 use Rattle.pictures.proofs.JsonValues.{list_ends, all_verdicts_plain}
 use Rattle.pictures.proofs.json.write_verdicts.Goals as goal
 

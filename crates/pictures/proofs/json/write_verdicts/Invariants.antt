@@ -1,7 +1,4 @@
-use Rattle.std.proofs.Common.{◌≡◌, ◌++◌, drop, map}
-use Rattle.pictures.specs.Shown.{verdict_of}
-use Rattle.serde_json.specs.View.{view}
-use Rattle.pictures.specs.Json.{verdict_data}
+use Rattle.pictures.proofs.Common.{drop, map, verdict_data, verdict_of, view, ◌++◌, ◌≡◌}
 use Rattle.pictures.proofs.json.write_verdicts.Given as goal
 
 abbrev pub invariant-loop-one : goal.invariant-loop-one

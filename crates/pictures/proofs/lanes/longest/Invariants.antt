@@ -1,6 +1,4 @@
-use Rattle.std.proofs.Common.{◌≡◌, max, drop, map}
-use Rattle.pictures.specs.Marks.{shown}
-use Rattle.pictures.specs.Pictures.{longest}
+use Rattle.pictures.proofs.Common.{drop, longest, map, max, shown, ◌≡◌}
 use Rattle.pictures.proofs.lanes.longest.Given as goal
 
 abbrev pub invariant-loop-mark : goal.invariant-loop-mark

@@ -1,5 +1,4 @@
-use Rattle.std.proofs.Common.{◌≡◌, ◌++◌, drop}
-use Rattle.pictures.specs.Pictures.{head_cells}
+use Rattle.pictures.proofs.Common.{drop, head_cells, ◌++◌, ◌≡◌}
 use Rattle.pictures.proofs.lanes.push_head.Given as goal
 
 abbrev pub invariant-loop-column : goal.invariant-loop-column

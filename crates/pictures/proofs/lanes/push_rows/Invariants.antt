@@ -1,6 +1,4 @@
-use Rattle.std.proofs.Common.{◌≡◌, ◌++◌, drop, map}
-use Rattle.pictures.specs.Marks.{shown}
-use Rattle.pictures.specs.Pictures.{rows}
+use Rattle.pictures.proofs.Common.{drop, map, rows, shown, ◌++◌, ◌≡◌}
 use Rattle.pictures.proofs.lanes.push_rows.Given as goal
 
 abbrev pub invariant-loop-mark : goal.invariant-loop-mark

@@ -1,5 +1,4 @@
-use Rattle.std.proofs.Common.{◌≡◌, ◌++◌, drop}
-use Rattle.pictures.specs.Pictures.{rule_cells}
+use Rattle.pictures.proofs.Common.{drop, rule_cells, ◌++◌, ◌≡◌}
 use Rattle.pictures.proofs.lanes.push_rule.Given as goal
 
 abbrev pub invariant-loop-width : goal.invariant-loop-width

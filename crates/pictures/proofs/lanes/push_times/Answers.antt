@@ -1,4 +1,4 @@
-use Rattle.std.proofs.Common.{◌∷◌, [], refl, replicate}
+use Rattle.pictures.proofs.Common.{[], refl, replicate, ◌∷◌}
 use Rattle.pictures.proofs.Turns.{counts}
 use Rattle.pictures.proofs.lanes.push_times.Goals as goal
 

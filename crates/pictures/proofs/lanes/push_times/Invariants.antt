@@ -1,4 +1,4 @@
-use Rattle.std.proofs.Common.{◌≡◌, ◌-◌, ◌++◌, replicate}
+use Rattle.pictures.proofs.Common.{replicate, ◌++◌, ◌-◌, ◌≡◌}
 use Rattle.pictures.proofs.lanes.push_times.Given as goal
 
 abbrev pub invariant-loop-done : goal.invariant-loop-done

@@ -1,6 +1,4 @@
-use Rattle.std.proofs.Common.{◌≡◌, ◌+◌, ◌∷◌, [], ℕ, ap, ap₂, ◌∙◌, length, map, max, sym, arith}
-use Rattle.pictures.specs.Marks.{shown}
-use Rattle.pictures.specs.Pictures.{width_of, widths_from}
+use Rattle.pictures.proofs.Common.{[], ap, ap₂, arith, length, map, max, shown, sym, width_of, widths_from, ℕ, ◌+◌, ◌∙◌, ◌∷◌, ◌≡◌}
 use Rattle.pictures.proofs.Turns.{counts}
 use Rattle.pictures.proofs.lanes.widths_of.Goals as goal
 

@@ -1,6 +1,4 @@
-use Rattle.std.proofs.Common.{◌≡◌, ◌+◌, ◌-◌, ◌++◌, map}
-use Rattle.pictures.specs.Marks.{shown}
-use Rattle.pictures.specs.Pictures.{widths, widths_from}
+use Rattle.pictures.proofs.Common.{map, shown, widths, widths_from, ◌++◌, ◌+◌, ◌-◌, ◌≡◌}
 use Rattle.pictures.proofs.lanes.widths_of.Given as goal
 
 abbrev pub invariant-loop-column : goal.invariant-loop-column

@@ -1,6 +1,5 @@
 -- The marks so far, and those of the events that are left, are all.
-use Rattle.std.proofs.Common.{◌≡◌, ◌++◌, drop, map, take}
-use Rattle.pictures.specs.Marks.{marks, marks_after, shown, workers_after, workers_in}
+use Rattle.pictures.proofs.Common.{drop, map, marks, marks_after, shown, take, workers_after, workers_in, ◌++◌, ◌≡◌}
 use Rattle.pictures.proofs.marks.marks_of.Given as goal
 
 abbrev pub invariant-loop-place : goal.invariant-loop-place

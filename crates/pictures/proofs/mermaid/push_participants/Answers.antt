@@ -1,5 +1,4 @@
-use Rattle.std.proofs.Common.{◌+◌, refl, arith}
-use Rattle.pictures.specs.Diagrams.{participants}
+use Rattle.pictures.proofs.Common.{arith, participants, refl, ◌+◌}
 use Rattle.pictures.proofs.Turns.{counts}
 use Rattle.pictures.proofs.mermaid.push_participants.Goals as goal
 

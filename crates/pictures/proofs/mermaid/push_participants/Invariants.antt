@@ -1,6 +1,4 @@
-use Rattle.std.proofs.Common.{◌≡◌, ◌+◌, ◌-◌, ◌++◌}
-use Rattle.std.specs.String.{string_bytes}
-use Rattle.pictures.specs.Diagrams.{participants}
+use Rattle.pictures.proofs.Common.{participants, string_bytes, ◌++◌, ◌+◌, ◌-◌, ◌≡◌}
 use Rattle.pictures.proofs.mermaid.push_participants.Given as goal
 
 abbrev pub invariant-loop-column : goal.invariant-loop-column

@@ -1,6 +1,4 @@
-use Rattle.std.proofs.Common.{◌≡◌, ◌++◌, List, ℕ, sym, subst}
-use Rattle.std.specs.Prelude.{OnOk}
-use Rattle.std.specs.String.{string_bytes}
+use Rattle.pictures.proofs.Common.{List, OnOk, string_bytes, subst, sym, ℕ, ◌++◌, ◌≡◌}
 use Rattle.pictures.proofs.Turns.{over_lane, to_target}
 use Rattle.pictures.proofs.mermaid.push_step.Goals as goal
 

@@ -1,7 +1,4 @@
-use Rattle.std.proofs.Common.{◌≡◌, ◌++◌, drop, map}
-use Rattle.std.specs.String.{string_bytes}
-use Rattle.pictures.specs.Marks.{shown}
-use Rattle.pictures.specs.Diagrams.{steps}
+use Rattle.pictures.proofs.Common.{drop, map, shown, steps, string_bytes, ◌++◌, ◌≡◌}
 use Rattle.pictures.proofs.mermaid.push_steps.Given as goal
 
 abbrev pub invariant-loop-mark : goal.invariant-loop-mark

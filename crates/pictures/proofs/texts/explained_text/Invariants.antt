@@ -1,6 +1,4 @@
-use Rattle.std.proofs.Common.{◌≡◌, ◌++◌, drop, map}
-use Rattle.pictures.specs.Shown.{explained_of}
-use Rattle.pictures.specs.Texts.{explained_lines}
+use Rattle.pictures.proofs.Common.{drop, explained_lines, explained_of, map, ◌++◌, ◌≡◌}
 use Rattle.pictures.proofs.texts.explained_text.Given as goal
 
 abbrev pub invariant-loop-one : goal.invariant-loop-one

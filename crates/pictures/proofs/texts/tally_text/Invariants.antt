@@ -1,6 +1,4 @@
-use Rattle.std.proofs.Common.{◌≡◌, ◌++◌, drop, map}
-use Rattle.pictures.specs.Shown.{tallied_of}
-use Rattle.pictures.specs.Texts.{tally_lines}
+use Rattle.pictures.proofs.Common.{drop, map, tallied_of, tally_lines, ◌++◌, ◌≡◌}
 use Rattle.pictures.proofs.texts.tally_text.Given as goal
 
 abbrev pub invariant-loop-one : goal.invariant-loop-one

@@ -1,6 +1,4 @@
-use Rattle.std.proofs.Common.{◌≡◌, ◌++◌, drop, map}
-use Rattle.pictures.specs.Shown.{verdict_of}
-use Rattle.pictures.specs.Texts.{verdict_lines}
+use Rattle.pictures.proofs.Common.{drop, map, verdict_lines, verdict_of, ◌++◌, ◌≡◌}
 use Rattle.pictures.proofs.texts.verdicts_text.Given as goal
 
 abbrev pub invariant-loop-one : goal.invariant-loop-one

@@ -1,7 +1,5 @@
 -- The events so far, and those that are left, are all.
-use Rattle.std.proofs.Common.{◌≡◌, [], ◌++◌, drop, map, take}
-use Rattle.serde_json.specs.View.{view}
-use Rattle.pictures.specs.Json.{events_after}
+use Rattle.pictures.proofs.Common.{[], drop, events_after, map, take, view, ◌++◌, ◌≡◌}
 use Rattle.pictures.proofs.values.history_value.Given as goal
 
 abbrev pub invariant-loop-place : goal.invariant-loop-place

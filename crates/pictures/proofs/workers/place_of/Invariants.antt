@@ -1,5 +1,4 @@
-use Rattle.std.proofs.Common.{◌≡◌, ◌+◌, drop}
-use Rattle.pictures.specs.Marks.{place_of}
+use Rattle.pictures.proofs.Common.{drop, place_of, ◌+◌, ◌≡◌}
 use Rattle.pictures.proofs.workers.place_of.Given as goal
 
 abbrev pub invariant-loop-place : goal.invariant-loop-place

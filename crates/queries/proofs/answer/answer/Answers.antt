@@ -1,6 +1,4 @@
-use Rattle.std.proofs.Common.{map}
-use Rattle.std.proofs.lemmas.Result.{err_from_is_err_and}
-use Rattle.queries.specs.Given.{given_of}
+use Rattle.queries.proofs.Common.{err_from_is_err_and, given_of, map}
 use Rattle.queries.proofs.Lines.{said_of, unsaid}
 use Rattle.commands.proofs.Printing.{reads_of}
 use Rattle.queries.proofs.Problems.{answered, explained, of_script_fault}

@@ -1,8 +1,4 @@
-use Rattle.std.proofs.Common.{subst}
-use Rattle.std.proofs.KnownBytes.{Keeps-refl}
-use Rattle.std.proofs.lemmas.Result.{err_from_is_err_and}
-use Rattle.std.specs.Io.KnownBytes.{Appends}
-use Rattle.commands.specs.Printed.{AppendsSome}
+use Rattle.queries.proofs.Common.{Appends, AppendsSome, Keeps-refl, err_from_is_err_and, subst}
 use Rattle.queries.proofs.Problems.{ends_by}
 use Rattle.queries.proofs.answer.carry_out.Goals as goal
 

@@ -1,4 +1,4 @@
-use Rattle.std.proofs.Common.{inr}
+use Rattle.queries.proofs.Common.{inr}
 use Rattle.queries.proofs.answer.perform.Goals as goal
 
 pub returns-in-Err-clause-ends : goal.returns-in-Err-clause-ends

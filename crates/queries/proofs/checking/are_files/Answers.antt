@@ -1,6 +1,4 @@
-use Rattle.std.proofs.lemmas.Result.{err_from_is_err_and}
-use Rattle.std.proofs.Common.{map}
-use Rattle.queries.specs.Given.{given_of}
+use Rattle.queries.proofs.Common.{err_from_is_err_and, given_of, map}
 use Rattle.queries.proofs.Gone.{among_at}
 use Rattle.queries.proofs.Problems.{of_files}
 use Rattle.queries.proofs.checking.are_files.Goals as goal

@@ -1,6 +1,5 @@
-use Rattle.std.proofs.Common.{◌≡◌, drop, map}
 use Rattle.pictures.specs.Shown.{verdict_of}
-use Rattle.queries.specs.Answers.{verdicts_status}
+use Rattle.queries.proofs.Common.{drop, map, verdicts_status, ◌≡◌}
 use Rattle.queries.proofs.checking.status_of.Given as goal
 
 abbrev pub invariant-loop-one : goal.invariant-loop-one

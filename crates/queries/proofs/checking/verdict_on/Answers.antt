@@ -1,5 +1,4 @@
-use Rattle.std.proofs.Common.{map}
-use Rattle.script.specs.Rows.{rows_of}
+use Rattle.queries.proofs.Common.{map, rows_of}
 use Rattle.queries.proofs.Problems.{verdict_holds}
 use Rattle.queries.proofs.checking.verdict_on.Goals as goal
 

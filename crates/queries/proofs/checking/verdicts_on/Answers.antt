@@ -1,6 +1,4 @@
-use Rattle.std.proofs.Common.{map, refl}
-use Rattle.std.proofs.lemmas.Result.{err_from_is_err_and}
-use Rattle.queries.specs.Given.{given_of}
+use Rattle.queries.proofs.Common.{err_from_is_err_and, given_of, map, refl}
 use Rattle.queries.proofs.Gone.{among_at, verdict_more, verdicts_all}
 use Rattle.queries.proofs.Problems.{of_files}
 use Rattle.queries.proofs.checking.verdicts_on.Goals as goal

@@ -1,7 +1,6 @@
-use Rattle.std.proofs.Common.{inl, inr, refl, true≢false, sym, ◌∙◌}
-use Rattle.std.proofs.KnownBytes.{Keeps-refl}
 use Rattle.std.proofs.lemmas.Slice.Eq.{bytes_eq-Decides}
 use Rattle.commands.specs.declared.problem.Problem.TheVariants.{Input}
+use Rattle.queries.proofs.Common.{Keeps-refl, inl, inr, refl, sym, true≢false, ◌∙◌}
 use Rattle.queries.proofs.Problems.{right_as}
 use Rattle.queries.proofs.files.serve.Goals as goal
 

@@ -1,5 +1,4 @@
-use Rattle.std.proofs.Common.{inl, inr}
-use Rattle.std.proofs.KnownBytes.{Keeps-refl}
+use Rattle.queries.proofs.Common.{Keeps-refl, inl, inr}
 use Rattle.queries.proofs.files.serve_script.Goals as goal
 
 pub returns-in-Ok-clause-ends : goal.returns-in-Ok-clause-ends

@@ -1,5 +1,5 @@
-use Rattle.std.proofs.Common.{refl, sym, ◌∙◌}
 use Rattle.std.proofs.lemmas.List.{nil_from_length}
+use Rattle.queries.proofs.Common.{refl, sym, ◌∙◌}
 use Rattle.queries.proofs.Gone.{read_all_of, read_further}
 use Rattle.queries.proofs.given.read_each.Goals as goal
 

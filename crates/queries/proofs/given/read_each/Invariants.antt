@@ -1,4 +1,4 @@
-use Rattle.std.proofs.Common.{vec_len}
+use Rattle.queries.proofs.Common.{vec_len}
 use Rattle.queries.proofs.Gone.{ReadsOn}
 use Rattle.queries.proofs.given.read_each.Given as goal
 

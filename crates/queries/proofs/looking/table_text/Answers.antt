@@ -1,4 +1,4 @@
-use Rattle.script.specs.Rows.{rows_of}
+use Rattle.queries.proofs.Common.{rows_of}
 use Rattle.queries.proofs.Problems.{look_none}
 use Rattle.queries.proofs.looking.table_text.Goals as goal
 

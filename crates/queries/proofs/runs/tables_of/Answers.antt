@@ -1,4 +1,4 @@
-use Rattle.std.proofs.Common.{◌∷◌, [], ap, arith, length, length-append, refl}
+use Rattle.queries.proofs.Common.{[], ap, arith, length, length-append, refl, ◌∷◌}
 use Rattle.queries.proofs.Gone.{run_more, runs_all}
 use Rattle.queries.proofs.runs.tables_of.Goals as goal
 

@@ -1,4 +1,4 @@
-use Rattle.std.proofs.Common.{◌≡◌, length}
+use Rattle.queries.proofs.Common.{length, ◌≡◌}
 use Rattle.queries.proofs.Gone.{RunsOn}
 use Rattle.queries.proofs.runs.tables_of.Given as goal
 

@@ -1,5 +1,4 @@
-use Rattle.std.proofs.Common.{◌≡◌, ◌+◌, take, sum_by}
-use Rattle.ready.specs.Rule.{all_shares}
+use Rattle.ready.proofs.Common.{all_shares, sum_by, take, ◌+◌, ◌≡◌}
 use Rattle.ready.proofs.pass.are_all.Given as goal
 
 abbrev pub invariant-loop-pass : goal.invariant-loop-pass

@@ -1,6 +1,4 @@
-use Rattle.std.proofs.Common.{◌≡◌, ◌<◌, ◌∙◌, ap, arith, length}
-use Rattle.crossbeam_queue.specs.Passes.{view}
-use Rattle.ready.specs.Rule.{all_shares, share_of}
+use Rattle.ready.proofs.Common.{all_shares, ap, arith, length, share_of, view, ◌<◌, ◌∙◌, ◌≡◌}
 use Rattle.ready.proofs.Balance.{accounts, takes, too_soon, settled}
 use Rattle.ready.proofs.queue.drain.Goals as goal
 

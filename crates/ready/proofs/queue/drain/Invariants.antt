@@ -1,6 +1,4 @@
-use Rattle.std.proofs.Common.{◌≡◌, ◌≤◌, ◌++◌, length, vec_capacity}
-use Rattle.crossbeam_queue.specs.Passes.{view, IsPassOf, ruled_capacity}
-use Rattle.ready.specs.Rule.{tally}
+use Rattle.ready.proofs.Common.{IsPassOf, length, ruled_capacity, tally, vec_capacity, view, ◌++◌, ◌≡◌, ◌≤◌}
 use Rattle.ready.proofs.queue.drain.Given as goal
 
 abbrev pub invariant-loop-n : goal.invariant-loop-n

@@ -1,12 +1,5 @@
-use Rattle.std.proofs.Common.{rules, ◌≡◌, ◌+◌, ◌++◌, ◌∷◌, [], ℕ, List, cond, sum_by, ap, arith}
-use Rattle.std.proofs.lemmas.List.Sums.{sum_by-append}
-use Rattle.history.specs.declared.req.Req.{Req}
 use Rattle.history.specs.History.{same}
-use Rattle.crossbeam_queue.specs.Passes.{view}
-use Rattle.ready.specs.declared.span.Span.{Span}
-use Rattle.ready.specs.Spans.{numbers_in}
-use Rattle.ready.specs.QueueParts.{listed}
-use Rattle.ready.specs.Ready.{Moves, all_put, all_taken, before, numbers_of}
+use Rattle.ready.proofs.Common.{List, Moves, Req, Span, [], all_put, all_taken, ap, arith, before, cond, listed, numbers_in, numbers_of, rules, sum_by, sum_by-append, view, ℕ, ◌++◌, ◌+◌, ◌∷◌, ◌≡◌}
 use Rattle.ready.proofs.SpanLists.{weighed, numbers_listed, last_put, last_taken}
 use Rattle.ready.proofs.queue.end.Goals as goal
 

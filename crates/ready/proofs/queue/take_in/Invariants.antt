@@ -1,7 +1,4 @@
-use Rattle.std.proofs.Common.{◌≡◌, ◌<◌, ◌≤◌, ◌+◌, ℕ, All, length, sum_by, vec_capacity}
-use Rattle.history.specs.declared.req.Req.{Req}
-use Rattle.crossbeam_queue.specs.Passes.{view, IsSamePass}
-use Rattle.ready.specs.Ready.{all_put, all_taken, numbers_of}
+use Rattle.ready.proofs.Common.{All, IsSamePass, Req, all_put, all_taken, length, numbers_of, sum_by, vec_capacity, view, ℕ, ◌+◌, ◌<◌, ◌≡◌, ◌≤◌}
 use Rattle.ready.proofs.queue.take_in.Given as goal
 
 abbrev pub invariant-loop-pass : goal.invariant-loop-pass

@@ -1,6 +1,4 @@
-use Rattle.std.proofs.Common.{◌≡◌, ◌+◌, ◌≤◌, ◌*◌, ◌++◌, length, vec_capacity}
-use Rattle.ready.specs.Spans.{most}
-use Rattle.ready.specs.Ready.{numbers_of}
+use Rattle.ready.proofs.Common.{length, most, numbers_of, vec_capacity, ◌*◌, ◌++◌, ◌+◌, ◌≡◌, ◌≤◌}
 use Rattle.ready.proofs.queue.unfold.Given as goal
 
 abbrev pub invariant-loop-span : goal.invariant-loop-span

@@ -1,9 +1,7 @@
-use Rattle.std.proofs.Common.{◌≡◌, ℕ, List, [], ◌∷◌, length, ◌++◌, ◌∙◌, ap, sym, subst, length-append, take, drop, ◌+◌, arith}
-use Rattle.std.proofs.lemmas.List.{length-take, length-drop}
-use Rattle.history.specs.Legal.{FitsOp}
+use Rattle.std.proofs.Common.{drop}
 use Rattle.std.proofs.Math.Seq.{take-add}
 use Rattle.board.specs.Batches.{Entries}
-use Rattle.ring_c.specs.ClientCalls.{AreRead}
+use Rattle.ring_c.proofs.Common.{AreRead, FitsOp, List, [], ap, arith, length, length-append, length-drop, length-take, subst, sym, take, ℕ, ◌++◌, ◌+◌, ◌∙◌, ◌∷◌, ◌≡◌}
 use Rattle.ring_c.proofs.Batches.{read_more}
 use Rattle.ring_c.proofs.batch.batch_of.Goals as goal
 

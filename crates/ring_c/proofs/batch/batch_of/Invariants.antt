@@ -1,5 +1,4 @@
-use Rattle.std.proofs.Common.{◌≡◌, ◌≤◌, length, take, vec_capacity}
-use Rattle.ring_c.specs.ClientCalls.{AreRead}
+use Rattle.ring_c.proofs.Common.{AreRead, length, take, vec_capacity, ◌≡◌, ◌≤◌}
 use Rattle.ring_c.proofs.batch.batch_of.Given as goal
 
 abbrev pub invariant-loop-i : goal.invariant-loop-i

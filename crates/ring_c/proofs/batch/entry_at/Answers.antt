@@ -1,5 +1,6 @@
-use Rattle.std.proofs.Common.{◌≡◌, ℕ, ◌+◌, ◌-◌, ◌*◌, List, take, drop, ap, ◌∙◌, subst, arith}
+use Rattle.std.proofs.Common.{drop}
 use Rattle.entry.specs.Text.{Says}
+use Rattle.ring_c.proofs.Common.{List, ap, arith, subst, take, ℕ, ◌*◌, ◌+◌, ◌-◌, ◌∙◌, ◌≡◌}
 use Rattle.ring_c.proofs.batch.entry_at.Goals as goal
 
 pub returns : goal.returns

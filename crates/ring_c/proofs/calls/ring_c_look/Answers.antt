@@ -1,5 +1,4 @@
-use Rattle.std.proofs.Common.{Err}
-use Rattle.ring_c.specs.declared.code.Code.TheVariants.{Closed}
+use Rattle.ring_c.proofs.Common.{Closed, Err}
 use Rattle.ring_c.proofs.Through.{through_closed, through_box}
 use Rattle.ring_c.proofs.calls.ring_c_look.Goals as goal
 

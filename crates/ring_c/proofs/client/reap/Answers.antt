@@ -1,4 +1,4 @@
-use Rattle.std.proofs.Common.{refl, ◌∙◌}
+use Rattle.ring_c.proofs.Common.{refl, ◌∙◌}
 use Rattle.ring_c.proofs.client.reap.Goals as goal
 
 pub returns-in-Ok-clause-reaps : goal.returns-in-Ok-clause-reaps

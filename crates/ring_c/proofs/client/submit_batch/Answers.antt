@@ -1,5 +1,4 @@
-use Rattle.std.proofs.Common.{ap, refl, inl, inr}
-use Rattle.history.specs.declared.req.Req.{Req}
+use Rattle.ring_c.proofs.Common.{Req, ap, inl, inr, refl}
 use Rattle.ring_c.proofs.client.submit_batch.Goals as goal
 
 pub returns-in-Ok-submit_batch-clause-submits : goal.returns-in-Ok-submit_batch-clause-submits

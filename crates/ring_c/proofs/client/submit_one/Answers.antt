@@ -1,7 +1,5 @@
-use Rattle.std.proofs.Common.{ℕ, List, [], ◌∷◌, length, take, ap, sym, subst, ◌∙◌, inr}
 use Rattle.std.proofs.Math.Seq.{take-length}
-use Rattle.history.specs.Legal.{FitsOp}
-use Rattle.board.specs.Calls.{next_of}
+use Rattle.ring_c.proofs.Common.{FitsOp, List, [], ap, inr, length, next_of, subst, sym, take, ℕ, ◌∙◌, ◌∷◌}
 use Rattle.ring_c.proofs.Batches.{one_reason, one_submitted, read_one}
 use Rattle.ring_c.proofs.client.submit_one.Goals as goal
 

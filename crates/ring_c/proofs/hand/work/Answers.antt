@@ -1,6 +1,6 @@
-use Rattle.std.proofs.Common.{subst, ap, length}
 use Rattle.work.specs.declared.run.Ran.{Ran}
 use Rattle.work.specs.WorkerRuns.{IsRun}
+use Rattle.ring_c.proofs.Common.{ap, length, subst}
 use Rattle.ring_c.proofs.hand.work.Goals as goal
 
 pub returns-in-Err-clause-works : goal.returns-in-Err-clause-works

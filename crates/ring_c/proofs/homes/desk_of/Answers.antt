@@ -1,5 +1,5 @@
-use Rattle.std.proofs.Common.{◌∙◌, ap, sym, length, Err}
 use Rattle.board.specs.declared.error.BoardError.{BoardError}
+use Rattle.ring_c.proofs.Common.{Err, ap, length, sym, ◌∙◌}
 use Rattle.ring_c.proofs.PassLists.{count_of, submitters_of, workers_of}
 use Rattle.ring_c.proofs.Lives.{made_of}
 use Rattle.ring_c.proofs.homes.desk_of.Goals as goal

@@ -1,8 +1,6 @@
-use Rattle.std.proofs.Common.{ℕ, List, [], ◌∷◌, ◌++◌, length, length-append, get_or, ap, sym, ◌∙◌, arith}
 use Rattle.std.specs.Prelude.{None}
-use Rattle.std.proofs.lemmas.List.{take_more}
 use Rattle.board.specs.declared.shape.RingShape.{RingShape}
-use Rattle.board.specs.ShapeLimits.{counts}
+use Rattle.ring_c.proofs.Common.{List, [], ap, arith, counts, get_or, length, length-append, sym, take_more, ℕ, ◌++◌, ◌∙◌, ◌∷◌}
 use Rattle.ring_c.proofs.PassLists.{counts_more}
 use Rattle.ring_c.proofs.homes.shape_of.Goals as goal
 

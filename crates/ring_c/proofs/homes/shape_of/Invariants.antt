@@ -1,5 +1,4 @@
-use Rattle.std.proofs.Common.{◌≡◌, ◌≤◌, length, take, vec_capacity}
-use Rattle.board.specs.ShapeLimits.{counts}
+use Rattle.ring_c.proofs.Common.{counts, length, take, vec_capacity, ◌≡◌, ◌≤◌}
 use Rattle.ring_c.proofs.homes.shape_of.Given as goal
 
 abbrev pub invariant-loop-cells : goal.invariant-loop-cells

@@ -1,5 +1,4 @@
-use Rattle.std.proofs.Common.{refl, sym, ◌∙◌, Err}
-use Rattle.ring_c.specs.declared.code.Code.TheVariants.{Closed, Foreign}
+use Rattle.ring_c.proofs.Common.{Closed, Err, Foreign, refl, sym, ◌∙◌}
 use Rattle.ring_c.proofs.life.ring_c_back.Goals as goal
 
 pub returns-then-stamp-clause-back : goal.returns-then-stamp-clause-back

@@ -1,6 +1,4 @@
-use Rattle.std.proofs.Common.{refl, sym, ap, ◌∙◌, Some, Ok, Err}
-use Rattle.ring_c.specs.declared.code.Code.TheVariants.{Closed, InUse}
-use Rattle.ring_c.specs.declared.inside.Inside.{Inside}
+use Rattle.ring_c.proofs.Common.{Closed, Err, InUse, Inside, Ok, Some, ap, refl, sym, ◌∙◌}
 use Rattle.ring_c.proofs.life.ring_c_give.Goals as goal
 
 pub returns-then-is_open-clause-given : goal.returns-then-is_open-clause-given

@@ -1,6 +1,4 @@
-use Rattle.std.proofs.Common.{refl, inl, inr, ap, ◌∙◌, Some, Ok, Err}
-use Rattle.ring_c.specs.declared.code.Code.TheVariants.{InUse}
-use Rattle.ring_c.specs.declared.inside.Inside.{Inside}
+use Rattle.ring_c.proofs.Common.{Err, InUse, Inside, Ok, Some, ap, inl, inr, refl, ◌∙◌}
 use Rattle.ring_c.proofs.life.ring_c_new.Goals as goal
 
 pub returns-then-is_open-clause-opened : goal.returns-then-is_open-clause-opened

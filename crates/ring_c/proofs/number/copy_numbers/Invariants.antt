@@ -1,5 +1,6 @@
-use Rattle.std.proofs.Common.{◌≡◌, map, take, drop}
+use Rattle.std.proofs.Common.{drop}
 use Rattle.ring_c.specs.Numbers.{number_for}
+use Rattle.ring_c.proofs.Common.{map, take, ◌≡◌}
 use Rattle.ring_c.proofs.number.copy_numbers.Given as goal
 
 abbrev pub invariant-loop-i : goal.invariant-loop-i

@@ -1,8 +1,5 @@
-use Rattle.std.proofs.Common.{ℕ, List, Bool, refl, inl, ap, sym, subst, ◌∙◌}
 use Rattle.std.proofs.lemmas.Option.{slice_get_read}
-use Rattle.board.specs.declared.completion.Completion.{Completion}
-use Rattle.ring_c.specs.declared.inside.Inside.TheVariants.{Report}
-use Rattle.ring_c.specs.ClientCalls.{Shows}
+use Rattle.ring_c.proofs.Common.{Bool, Completion, List, Report, Shows, ap, inl, refl, subst, sym, ℕ, ◌∙◌}
 use Rattle.ring_c.proofs.ReportLines.{given_bytes}
 use Rattle.ring_c.proofs.reports.line_bytes_in.Goals as goal
 

@@ -1,7 +1,5 @@
-use Rattle.std.proofs.Common.{List, Bool, refl, ap, sym, ◌∙◌, rules}
 use Rattle.std.proofs.lemmas.Option.{slice_get_read}
-use Rattle.board.specs.declared.completion.Completion.{Completion}
-use Rattle.ring_c.specs.declared.inside.Inside.TheVariants.{Report}
+use Rattle.ring_c.proofs.Common.{Bool, Completion, List, Report, ap, refl, rules, sym, ◌∙◌}
 use Rattle.ring_c.proofs.ReportLines.{told_line}
 use Rattle.ring_c.proofs.reports.line_in.Goals as goal
 

@@ -1,5 +1,4 @@
-use Rattle.std.proofs.Common.{[], ◌∷◌}
-use Rattle.history.specs.declared.event.Event.TheVariants.{Count}
+use Rattle.ring_c.proofs.Common.{Count, [], ◌∷◌}
 use Rattle.ring_c.proofs.TurnLaws.{turned_put, turned_silent_then}
 use Rattle.ring_c.proofs.turn.count.Goals as goal
 

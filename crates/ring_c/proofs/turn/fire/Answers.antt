@@ -1,9 +1,5 @@
-use Rattle.std.proofs.Common.{List, [], ◌∷◌, ◌++◌, ap, ◌∙◌, rules}
-use Rattle.std.proofs.lemmas.List.{append_assoc}
-use Rattle.history.specs.declared.req.Req.{Req}
-use Rattle.history.specs.declared.event.Event.TheVariants.{Fire, FireMiss, Settle}
 use Rattle.history.specs.Chains.{previous}
-use Rattle.ring_c.specs.Turns.{Told}
+use Rattle.ring_c.proofs.Common.{Fire, FireMiss, List, Req, Settle, Told, [], ap, append_assoc, rules, ◌++◌, ◌∙◌, ◌∷◌}
 use Rattle.ring_c.proofs.TurnLaws.{turned_put, turned_silent_then}
 use Rattle.ring_c.proofs.turn.fire.Goals as goal
 

@@ -1,6 +1,5 @@
-use Rattle.std.proofs.Common.{Vec, length, length-set, sym, ap, ◌∙◌, arith}
-use Rattle.std.specs.Global.{Global}
-use Rattle.history.specs.declared.req.Req.{Req}
+use Rattle.std.proofs.Common.{Vec}
+use Rattle.ring_c.proofs.Common.{Global, Req, ap, arith, length, length-set, sym, ◌∙◌}
 use Rattle.ring_c.proofs.TurnLaws.{turned_still, turned_then}
 use Rattle.ring_c.proofs.turn.go_over.Goals.{then-not-look_after, else-not-look_after}
 use Rattle.ring_c.proofs.turn.go_over.Goals as goal

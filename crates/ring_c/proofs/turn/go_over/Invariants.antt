@@ -1,5 +1,4 @@
-use Rattle.std.proofs.Common.{◌≡◌, ◌≤◌, length}
-use Rattle.ring_c.specs.Turns.{Turned}
+use Rattle.ring_c.proofs.Common.{Turned, length, ◌≡◌, ◌≤◌}
 use Rattle.ring_c.proofs.turn.go_over.Given as goal
 
 abbrev pub invariant-loop-i : goal.invariant-loop-i

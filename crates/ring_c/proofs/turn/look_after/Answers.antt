@@ -1,4 +1,4 @@
-use Rattle.std.proofs.Common.{[], refl}
+use Rattle.ring_c.proofs.Common.{[], refl}
 use Rattle.ring_c.proofs.TurnLaws.{turned_silent, turned_still, turned_then}
 use Rattle.ring_c.proofs.turn.look_after.Goals as goal
 

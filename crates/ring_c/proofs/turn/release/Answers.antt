@@ -1,6 +1,5 @@
-use Rattle.std.proofs.Common.{[], ◌∷◌, refl, inr}
-use Rattle.history.specs.declared.event.Event.TheVariants.{Arm, Sever}
 use Rattle.board.specs.declared.poller.Released.TheVariants.{NotHeld, Severed, Shut, Timer}
+use Rattle.ring_c.proofs.Common.{Arm, Sever, [], inr, refl, ◌∷◌}
 use Rattle.ring_c.proofs.TurnLaws.{others_alone, turned_freed, turned_put, turned_silent, turned_silent_then}
 use Rattle.ring_c.proofs.turn.release.Goals as goal
 

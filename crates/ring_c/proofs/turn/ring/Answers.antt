@@ -1,5 +1,4 @@
-use Rattle.std.proofs.Common.{[], ◌∷◌}
-use Rattle.history.specs.declared.event.Event.TheVariants.{Expire}
+use Rattle.ring_c.proofs.Common.{Expire, [], ◌∷◌}
 use Rattle.ring_c.proofs.TurnLaws.{turned_put, turned_silent_then}
 use Rattle.ring_c.proofs.turn.ring.Goals as goal
 

@@ -1,5 +1,4 @@
-use Rattle.std.proofs.Common.{[], ◌∷◌, refl}
-use Rattle.history.specs.declared.event.Event.TheVariants.{Settle}
+use Rattle.ring_c.proofs.Common.{Settle, [], refl, ◌∷◌}
 use Rattle.ring_c.proofs.TurnLaws.{turned_put, turned_silent}
 use Rattle.ring_c.proofs.turn.settle.Goals as goal
 

@@ -1,5 +1,4 @@
-use Rattle.std.proofs.Common.{subst, sym}
-use Rattle.ring_c.specs.Turns.{Told, Turned}
+use Rattle.ring_c.proofs.Common.{Told, Turned, subst, sym}
 use Rattle.ring_c.proofs.TurnLaws.{turned_looked, turned_still, turned_then}
 use Rattle.ring_c.proofs.turn.take_ring.Goals as goal
 

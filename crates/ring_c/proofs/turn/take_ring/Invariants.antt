@@ -1,4 +1,4 @@
-use Rattle.ring_c.specs.Turns.{Turned}
+use Rattle.ring_c.proofs.Common.{Turned}
 use Rattle.ring_c.proofs.turn.take_ring.Given as goal
 
 abbrev pub invariant-loop-k : goal.invariant-loop-k

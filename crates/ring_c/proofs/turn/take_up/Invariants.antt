@@ -1,4 +1,4 @@
-use Rattle.ring_c.specs.Turns.{Turned}
+use Rattle.ring_c.proofs.Common.{Turned}
 use Rattle.ring_c.proofs.turn.take_up.Given as goal
 
 abbrev pub invariant-loop-ring : goal.invariant-loop-ring

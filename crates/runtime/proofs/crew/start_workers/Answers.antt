@@ -1,12 +1,6 @@
-use Rattle.std.proofs.Common.{rules, ◌≡◌, ◌++◌, ◌∷◌, [], All, List, Some, length, length-append, sum_by, sym, ap, subst, arith}
-use Rattle.std.specs.Arc.{arc_value}
-use Rattle.std.proofs.lemmas.List.Elements.{All-pop, All-push}
-use Rattle.std.proofs.lemmas.List.Sums.{sum_by_push}
-use Rattle.ready.specs.Ready.{Moves, IsOf as IsOfQueue}
-use Rattle.work.specs.Board.{IsOf}
-use Rattle.work.specs.Passes.{Pass}
+use Rattle.ready.specs.Ready.{IsOf as IsOfQueue}
 use Rattle.runtime.specs.declared.started.WorkThread.{WorkThread}
-use Rattle.runtime.specs.Crews.{shares_of}
+use Rattle.runtime.proofs.Common.{All, All-pop, All-push, IsOf, List, Moves, Pass, Some, [], ap, arc_value, arith, length, length-append, rules, shares_of, subst, sum_by, sum_by_push, sym, ◌++◌, ◌∷◌, ◌≡◌}
 use Rattle.runtime.proofs.crew.start_workers.Goals as goal
 
 pub start_beside-requires-clause-worker : goal.start_beside-requires-clause-worker

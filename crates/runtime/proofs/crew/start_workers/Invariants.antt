@@ -1,8 +1,5 @@
-use Rattle.std.proofs.Common.{◌≡◌, ◌+◌, ◌≤◌, All, length, sum_by, vec_capacity}
-use Rattle.std.specs.Arc.{arc_value}
 use Rattle.ready.specs.Ready.{IsOf as IsOfQueue}
-use Rattle.work.specs.Board.{IsOf}
-use Rattle.runtime.specs.Crews.{AreWorking, shares_of}
+use Rattle.runtime.proofs.Common.{All, AreWorking, IsOf, arc_value, length, shares_of, sum_by, vec_capacity, ◌+◌, ◌≡◌, ◌≤◌}
 use Rattle.runtime.proofs.crew.start_workers.Given as goal
 
 abbrev pub invariant-loop-worker : goal.invariant-loop-worker

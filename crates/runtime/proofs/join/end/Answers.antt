@@ -1,6 +1,4 @@
-use Rattle.std.proofs.Common.{rules, ◌≡◌, List, ap, subst, arith}
-use Rattle.history.specs.declared.req.Req.{Req}
-use Rattle.ready.specs.Ready.{Moves, all_put, all_taken, times}
+use Rattle.runtime.proofs.Common.{List, Moves, Req, all_put, all_taken, ap, arith, rules, subst, times, ◌≡◌}
 use Rattle.runtime.proofs.DeskLaws.{none_there}
 use Rattle.runtime.proofs.join.end.Goals as goal
 

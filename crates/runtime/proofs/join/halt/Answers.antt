@@ -1,7 +1,4 @@
-use Rattle.std.proofs.Common.{length, sym, ap, ◌∙◌, subst, arith}
-use Rattle.steps.specs.Cells.{total}
-use Rattle.work.specs.Board.{Facts}
-use Rattle.runtime.specs.Clients.{AreClients}
+use Rattle.runtime.proofs.Common.{AreClients, Facts, ap, arith, length, subst, sym, total, ◌∙◌}
 use Rattle.runtime.proofs.RuntimeParts.{same_board, same_count}
 use Rattle.runtime.proofs.join.halt.Goals as goal
 

@@ -1,9 +1,4 @@
-use Rattle.std.proofs.Common.{◌++◌, ◌∷◌, List, map, subst}
-use Rattle.work.specs.Board.{Facts}
-use Rattle.work.specs.Passes.{Pass}
-use Rattle.board.specs.Reports.{IsReport}
-use Rattle.runtime.specs.Clients.{submitter_of}
-use Rattle.runtime.specs.Crews.{worker_of}
+use Rattle.runtime.proofs.Common.{Facts, IsReport, List, Pass, map, submitter_of, subst, worker_of, ◌++◌, ◌∷◌}
 use Rattle.runtime.proofs.RuntimeParts.{same_submitters}
 use Rattle.runtime.proofs.join.join_all.Goals as goal
 

@@ -1,11 +1,5 @@
-use Rattle.std.proofs.Common.{rules, ◌≡◌, ◌++◌, ◌∷◌, List, length, map, refl, ap, ◌∙◌, subst, IsTrue}
-use Rattle.work.specs.Board.{Facts}
-use Rattle.work.specs.Passes.{Pass}
-use Rattle.board.specs.Reports.{IsReport}
-use Rattle.steps.specs.declared.view.Role.TheVariants.{Poller}
-use Rattle.runtime.specs.Clients.{submitter_of}
-use Rattle.runtime.specs.Crews.{worker_of}
 use Rattle.runtime.specs.Rests.{CameToRest, HasRested}
+use Rattle.runtime.proofs.Common.{Facts, IsReport, IsTrue, List, Pass, Poller, ap, length, map, refl, rules, submitter_of, subst, worker_of, ◌++◌, ◌∙◌, ◌∷◌, ◌≡◌}
 use Rattle.runtime.proofs.RuntimeParts.{same_submitters}
 use Rattle.runtime.proofs.join.join_at_rest.Goals as goal
 use Rattle.runtime.proofs.join.join_at_rest.Goals.{then-is_drained, else-is_drained}

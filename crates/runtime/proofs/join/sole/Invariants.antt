@@ -1,5 +1,4 @@
-use Rattle.std.proofs.Common.{◌≡◌}
-use Rattle.std.specs.Arc.{arc_value}
+use Rattle.runtime.proofs.Common.{arc_value, ◌≡◌}
 use Rattle.runtime.proofs.join.sole.Given as goal
 
 abbrev pub invariant-loop : goal.invariant-loop

@@ -1,9 +1,4 @@
-use Rattle.std.proofs.Common.{◌≡◌, ◌++◌, ◌∷◌, [], Some, length, length-append, map, reverse, sym, ap, ◌∙◌, subst, arith}
-use Rattle.std.proofs.lemmas.List.{reverse-append}
-use Rattle.std.proofs.lemmas.List.Elements.{All-pop}
-use Rattle.work.specs.Board.{Facts, IsOf}
-use Rattle.board.specs.Reports.{AreOf}
-use Rattle.runtime.specs.Clients.{ClientFacts, submitter_of}
+use Rattle.runtime.proofs.Common.{All-pop, AreOf, ClientFacts, Facts, IsOf, Some, [], ap, arith, length, length-append, map, reverse, reverse-append, submitter_of, subst, sym, ◌++◌, ◌∙◌, ◌∷◌, ◌≡◌}
 use Rattle.runtime.proofs.RuntimeParts.{goes_over}
 use Rattle.runtime.proofs.join.submitters_of.Goals as goal
 

@@ -1,6 +1,4 @@
-use Rattle.std.proofs.Common.{◌≡◌, ◌+◌, ◌≤◌, ◌++◌, length, map, reverse, vec_capacity}
-use Rattle.board.specs.Reports.{AreOf}
-use Rattle.runtime.specs.Clients.{AreClients, submitter_of}
+use Rattle.runtime.proofs.Common.{AreClients, AreOf, length, map, reverse, submitter_of, vec_capacity, ◌++◌, ◌+◌, ◌≡◌, ◌≤◌}
 use Rattle.runtime.proofs.join.submitters_of.Given as goal
 
 abbrev pub invariant-loop-client : goal.invariant-loop-client

@@ -1,9 +1,4 @@
-use Rattle.std.proofs.Common.{refl, sym, ap, ◌∙◌, subst, [], ◌∷◌, arith, true≢false}
-use Rattle.history.specs.declared.event.Event.TheVariants.{Tick}
-use Rattle.steps.specs.Journal.{freed}
-use Rattle.work.specs.Passes.{Pass}
-use Rattle.runtime.specs.Turns.{GoesOn}
-use Rattle.runtime.specs.PollTurns.{IsPollers}
+use Rattle.runtime.proofs.Common.{GoesOn, IsPollers, Pass, Tick, [], ap, arith, freed, refl, subst, sym, true≢false, ◌∙◌, ◌∷◌}
 use Rattle.runtime.proofs.ClockLaws.{clock_kept, goes_along, heard, stops_along}
 use Rattle.runtime.proofs.TurnLaws.{goes_on, goes_on_then}
 use Rattle.runtime.proofs.poll.ask_clock.Goals as goal

@@ -1,5 +1,4 @@
-use Rattle.std.proofs.Common.{ap, ◌∙◌}
-use Rattle.runtime.specs.Backlogs.{Owed}
+use Rattle.runtime.proofs.Common.{Owed, ap, ◌∙◌}
 use Rattle.runtime.proofs.DeskLaws.{no_answers}
 use Rattle.runtime.proofs.poll.came_to.Goals as goal
 

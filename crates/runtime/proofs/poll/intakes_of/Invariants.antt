@@ -1,5 +1,4 @@
-use Rattle.std.proofs.Common.{◌≡◌, ℕ, length}
-use Rattle.runtime.specs.Desks.{taken_in}
+use Rattle.runtime.proofs.Common.{length, taken_in, ℕ, ◌≡◌}
 use Rattle.runtime.proofs.poll.intakes_of.Given as goal
 
 abbrev pub invariant-loop-ring : goal.invariant-loop-ring

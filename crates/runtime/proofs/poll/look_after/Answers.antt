@@ -1,9 +1,4 @@
-use Rattle.std.proofs.Common.{◌≡◌, ◌<◌, length, sym, subst, inl, inr, ⊎_elim, List, ap, ◌∙◌}
-use Rattle.work.specs.Passes.{Pass}
-use Rattle.runtime.specs.Desks.{AreHeldBack, cares_of, taken_in}
-use Rattle.runtime.specs.Shelves.{Places}
-use Rattle.runtime.specs.declared.lists.Intake.{Intake}
-use Rattle.runtime.specs.PollTurns.{IsTaken}
+use Rattle.runtime.proofs.Common.{AreHeldBack, Intake, IsTaken, List, Pass, Places, ap, cares_of, inl, inr, length, subst, sym, taken_in, ⊎_elim, ◌<◌, ◌∙◌, ◌≡◌}
 use Rattle.runtime.proofs.TurnLaws.{at_after, at_on, did_retry, did_ring, did_then}
 use Rattle.runtime.proofs.DeskLaws.{begins_then, held_later, held_then, pending_sooner, rung_on, rung_sooner, stopped_on, stuck_on}
 use Rattle.runtime.proofs.poll.look_after.Goals as goal

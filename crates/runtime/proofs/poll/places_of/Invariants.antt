@@ -1,5 +1,5 @@
-use Rattle.std.proofs.Common.{◌≡◌, ◌<◌, ◌^◌, take}
-use Rattle.runtime.specs.PollTurns.{cells_in_all}
+use Rattle.std.proofs.Common.{take}
+use Rattle.runtime.proofs.Common.{cells_in_all, ◌<◌, ◌^◌, ◌≡◌}
 use Rattle.runtime.proofs.poll.places_of.Given as goal
 
 abbrev pub invariant-loop-ring : goal.invariant-loop-ring

@@ -1,14 +1,5 @@
-use Rattle.std.proofs.Common.{◌≡◌, ◌≢◌, ◌≤◌, ◌<◌, ◌+◌, ℕ, inl, inr, ⊎_elim, sym, ap, ◌∙◌, subst, List, [], length, arith}
-use Rattle.history.specs.declared.req.Req.{Req}
 use Rattle.ready.specs.Ready.{IsOf as IsOfQueue}
-use Rattle.work.specs.Passes.{Pass, seen_of}
-use Rattle.runtime.specs.declared.lists.Intake.{Intake}
-use Rattle.runtime.specs.Backlogs.{Owed}
-use Rattle.runtime.specs.Desks.{AreHeldBack, ArePending, cares_of, taken_in}
-use Rattle.runtime.specs.PollTurns.{Desk, IsPollTurn, IsPollers, IsStill, IsTaken}
-use Rattle.runtime.specs.Shelves.{Places}
-use Rattle.steps.specs.Rule.{Begins}
-use Rattle.runtime.specs.Parts.{HasRung, IsStuck}
+use Rattle.runtime.proofs.Common.{AreHeldBack, ArePending, Begins, Desk, HasRung, Intake, IsPollTurn, IsPollers, IsStill, IsStuck, IsTaken, List, Owed, Pass, Places, Req, [], ap, arith, cares_of, inl, inr, length, seen_of, subst, sym, taken_in, ℕ, ⊎_elim, ◌+◌, ◌<◌, ◌∙◌, ◌≡◌, ◌≢◌, ◌≤◌}
 use Rattle.runtime.proofs.ClockLaws.{stays_along, still_pollers}
 use Rattle.runtime.proofs.TurnLaws.{did_retry, did_ring, did_then, nothing_done, turned}
 use Rattle.runtime.proofs.DeskLaws.{after_on, all_done_with, all_rung, held_later, held_sooner, is_stopped, no_answers, pending_later, pending_sooner, rung_is, rung_on, rung_sooner, went_room}

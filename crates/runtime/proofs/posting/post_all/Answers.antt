@@ -1,4 +1,4 @@
-use Rattle.std.proofs.Common.{sym, ◌∙◌}
+use Rattle.runtime.proofs.Common.{sym, ◌∙◌}
 use Rattle.runtime.proofs.RuntimeParts.{none_first}
 use Rattle.runtime.proofs.posting.post_all.Goals as goal
 

@@ -1,4 +1,4 @@
-use Rattle.std.proofs.Common.{◌≡◌}
+use Rattle.runtime.proofs.Common.{◌≡◌}
 use Rattle.runtime.proofs.posting.post_all.Given as goal
 
 abbrev pub invariant-loop : goal.invariant-loop

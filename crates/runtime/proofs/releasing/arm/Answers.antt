@@ -1,13 +1,6 @@
-use Rattle.std.proofs.Common.{◌≡◌, ◌⊎◌, refl, inl, inr, sym, ap, subst, ⊎_elim, List, [], ◌∷◌}
-use Rattle.history.specs.declared.req.Req.{Req}
-use Rattle.history.specs.declared.event.Event.{Event}
-use Rattle.history.specs.declared.event.Event.TheVariants.{Arm}
-use Rattle.board.specs.Calls.{Goes}
-use Rattle.board.specs.TimerCalls.{armed_by}
 use Rattle.board.specs.declared.poller.Arming.{Arming}
 use Rattle.board.specs.declared.poller.Arming.TheVariants.{NotTimer, Shut}
-use Rattle.runtime.specs.Desks.{IsHeldBack, LooksAfter, cares_of}
-use Rattle.runtime.specs.Shelves.{Places}
+use Rattle.runtime.proofs.Common.{Arm, Event, Goes, IsHeldBack, List, LooksAfter, Places, Req, [], ap, armed_by, cares_of, inl, inr, refl, subst, sym, ⊎_elim, ◌∷◌, ◌≡◌, ◌⊎◌}
 use Rattle.runtime.proofs.TurnLaws.{goes_on, rang_looked, rang_silent, rang_then}
 use Rattle.runtime.proofs.DeskLaws.{after_on, once_now, timer_stays, tried_later, waits_on}
 use Rattle.runtime.proofs.releasing.arm.Goals as goal

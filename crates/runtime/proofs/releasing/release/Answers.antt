@@ -1,10 +1,5 @@
-use Rattle.std.proofs.Common.{refl, inl, inr, sym, subst, [], ◌∷◌}
-use Rattle.history.specs.declared.event.Event.TheVariants.{Sever}
-use Rattle.history.specs.History.{IsReplied}
-use Rattle.work.specs.Passes.{Pass}
 use Rattle.board.specs.declared.poller.Released.TheVariants.{Severed, Shut, Timer, NotHeld}
-use Rattle.runtime.specs.Desks.{IsHeldBack, LooksAfter, cares_of}
-use Rattle.runtime.specs.Shelves.{Places}
+use Rattle.runtime.proofs.Common.{IsHeldBack, IsReplied, LooksAfter, Pass, Places, Sever, [], cares_of, inl, inr, refl, subst, sym, ◌∷◌}
 use Rattle.runtime.proofs.TurnLaws.{did_freed, did_ring, goes_on, others_alone, rang_answered, rang_looked, rang_then}
 use Rattle.runtime.proofs.DeskLaws.{after_on, done_waiting, once_now, tried_later, waits_on}
 use Rattle.runtime.proofs.releasing.release.Goals as goal

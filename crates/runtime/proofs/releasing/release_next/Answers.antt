@@ -1,6 +1,4 @@
-use Rattle.std.proofs.Common.{sym, subst}
-use Rattle.runtime.specs.Desks.{LooksAfter, cares_of}
-use Rattle.runtime.specs.Shelves.{Places}
+use Rattle.runtime.proofs.Common.{LooksAfter, Places, cares_of, subst, sym}
 use Rattle.runtime.proofs.TurnLaws.{did_still}
 use Rattle.runtime.proofs.DeskLaws.{waits_on}
 use Rattle.runtime.proofs.releasing.release_next.Goals as goal

@@ -1,8 +1,4 @@
-use Rattle.std.proofs.Common.{◌≡◌, ◌⊎◌}
-use Rattle.std.specs.Prelude.{IfOk}
-use Rattle.runtime.specs.Desks.{AreHeldBack, LooksAfter, cares_of}
-use Rattle.runtime.specs.Parts.{IsStuck}
-use Rattle.runtime.specs.PollTurns.{AreAt, Did, HasRoom}
+use Rattle.runtime.proofs.Common.{AreAt, AreHeldBack, Did, HasRoom, IfOk, IsStuck, LooksAfter, cares_of, ◌≡◌, ◌⊎◌}
 use Rattle.runtime.proofs.DeskLaws.{Passed}
 use Rattle.runtime.proofs.releasing.release_waiting.Given as goal
 

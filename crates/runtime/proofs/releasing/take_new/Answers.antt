@@ -1,4 +1,4 @@
-use Rattle.std.proofs.Common.{refl, ◌∙◌, inl, inr, ⊎_elim, arith}
+use Rattle.runtime.proofs.Common.{arith, inl, inr, refl, ⊎_elim, ◌∙◌}
 use Rattle.runtime.proofs.TurnLaws.{at_after, did_still, did_then, room_after}
 use Rattle.runtime.proofs.DeskLaws.{have_waited_then, taken_next}
 use Rattle.runtime.proofs.releasing.take_new.Goals as goal

@@ -1,5 +1,4 @@
-use Rattle.std.proofs.Common.{refl, sym, ap, ◌∙◌, ◌≡◌, inl, inr, ⊎_elim}
-use Rattle.runtime.specs.Shelves.{Places}
+use Rattle.runtime.proofs.Common.{Places, ap, inl, inr, refl, sym, ⊎_elim, ◌∙◌, ◌≡◌}
 use Rattle.runtime.proofs.TurnLaws.{at_after, did_ring, did_still, did_then, room_after}
 use Rattle.runtime.proofs.DeskLaws.{free_goes_on, free_unstuck, no_answers, same_places, waited_more, went_free}
 use Rattle.runtime.proofs.releasing.take_ring.Goals as goal

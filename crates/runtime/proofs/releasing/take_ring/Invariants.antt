@@ -1,7 +1,4 @@
-use Rattle.std.proofs.Common.{◌≡◌, ◌≢◌, ℕ, ◌<◌, length}
-use Rattle.runtime.specs.Desks.{LooksAfter, cares_of, taken_in}
-use Rattle.runtime.specs.Parts.{HasStopped, HaveWaited, IsStuck}
-use Rattle.runtime.specs.PollTurns.{AreAt, Did, HasRoom}
+use Rattle.runtime.proofs.Common.{AreAt, Did, HasRoom, HasStopped, HaveWaited, IsStuck, LooksAfter, cares_of, length, taken_in, ℕ, ◌<◌, ◌≡◌, ◌≢◌}
 use Rattle.runtime.proofs.releasing.take_ring.Given as goal
 
 abbrev pub invariant-loop-k : goal.invariant-loop-k

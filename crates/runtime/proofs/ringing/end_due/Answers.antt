@@ -1,6 +1,4 @@
-use Rattle.std.proofs.Common.{sym, subst, ◌∙◌, inr, ℕ, Option, arith}
-use Rattle.history.specs.declared.req.Req.{Req}
-use Rattle.runtime.specs.Desks.{IsLinkedDue, LooksAfter, cares_of}
+use Rattle.runtime.proofs.Common.{IsLinkedDue, LooksAfter, Option, Req, arith, cares_of, inr, subst, sym, ℕ, ◌∙◌}
 use Rattle.runtime.proofs.ClockLaws.{clock_kept}
 use Rattle.runtime.proofs.TurnLaws.{at_on, rang_moved, rang_then, room_rang}
 use Rattle.runtime.proofs.DeskLaws.{after_on, begins_then, drops_timer, once_now}

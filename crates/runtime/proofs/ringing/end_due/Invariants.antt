@@ -1,8 +1,4 @@
-use Rattle.std.proofs.Common.{◌≡◌, length}
-use Rattle.history.specs.History.{clock_of}
-use Rattle.work.specs.Passes.{seen_of}
-use Rattle.runtime.specs.Desks.{LooksAfter, cares_of}
-use Rattle.runtime.specs.PollTurns.{HasRoom, IsAt, Rang}
+use Rattle.runtime.proofs.Common.{HasRoom, IsAt, LooksAfter, Rang, cares_of, clock_of, length, seen_of, ◌≡◌}
 use Rattle.runtime.proofs.ringing.end_due.Given as goal
 
 abbrev pub invariant-loop-req : goal.invariant-loop-req

@@ -1,10 +1,5 @@
-use Rattle.std.proofs.Common.{refl, ap, ◌∙◌, [], ◌∷◌, sym, subst, ⊎_elim, true≢false, arith}
-use Rattle.history.specs.declared.req.Req.{Req}
-use Rattle.history.specs.declared.event.Event.TheVariants.{Fire, FireMiss, Settle}
 use Rattle.history.specs.Chains.{previous}
-use Rattle.outbox.specs.Outbox.{with_answered}
-use Rattle.work.specs.Passes.{Pass, seen_of}
-use Rattle.board.specs.TimerCalls.{IsUnarmed}
+use Rattle.runtime.proofs.Common.{Fire, FireMiss, IsUnarmed, Pass, Req, Settle, [], ap, arith, refl, seen_of, subst, sym, true≢false, with_answered, ⊎_elim, ◌∙◌, ◌∷◌}
 use Rattle.runtime.proofs.TurnLaws.{goes_on, rang_answered, rang_looked, rang_then, rang_twice}
 use Rattle.runtime.proofs.DeskLaws.{not_false, not_true, linked_apart, linked_on, not_early, linked_due, target_over, unarmed_both}
 use Rattle.runtime.proofs.ringing.fire.Goals as goal

@@ -1,6 +1,4 @@
-use Rattle.std.proofs.Common.{sym, subst, ℕ, Option}
-use Rattle.history.specs.declared.req.Req.{Req}
-use Rattle.runtime.specs.Desks.{LooksAfter, cares_of}
+use Rattle.runtime.proofs.Common.{LooksAfter, Option, Req, cares_of, subst, sym, ℕ}
 use Rattle.runtime.proofs.TurnLaws.{rang_still}
 use Rattle.runtime.proofs.DeskLaws.{after_on, drops_timer, no_answers}
 use Rattle.runtime.proofs.ringing.forget.Goals as goal

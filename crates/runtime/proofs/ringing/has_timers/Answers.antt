@@ -1,7 +1,4 @@
-use Rattle.std.proofs.Common.{sym, subst, ap, ◌∙◌, ℕ, Option}
-use Rattle.history.specs.declared.req.Req.{Req}
-use Rattle.wheel.specs.Wheel.{deadline_at}
-use Rattle.runtime.specs.Desks.{LooksAfter, cares_of}
+use Rattle.runtime.proofs.Common.{LooksAfter, Option, Req, ap, cares_of, deadline_at, subst, sym, ℕ, ◌∙◌}
 use Rattle.runtime.proofs.TurnLaws.{at_on, rang_moved, rang_then}
 use Rattle.runtime.proofs.DeskLaws.{after_on, drops_timer, fewer_dropped, no_answers}
 use Rattle.runtime.proofs.ringing.has_timers.Goals as goal

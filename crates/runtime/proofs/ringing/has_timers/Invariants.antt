@@ -1,7 +1,4 @@
-use Rattle.std.proofs.Common.{◌≡◌, length}
-use Rattle.runtime.specs.Desks.{LooksAfter, cares_of}
-use Rattle.runtime.specs.Parts.{HasFewerTimers, WentOn}
-use Rattle.runtime.specs.PollTurns.{IsAt}
+use Rattle.runtime.proofs.Common.{HasFewerTimers, IsAt, LooksAfter, WentOn, cares_of, length, ◌≡◌}
 use Rattle.runtime.proofs.ringing.has_timers.Given as goal
 
 abbrev pub invariant-loop-req : goal.invariant-loop-req

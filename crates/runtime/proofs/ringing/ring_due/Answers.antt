@@ -1,7 +1,4 @@
-use Rattle.std.proofs.Common.{sym, subst}
-use Rattle.wheel.specs.Wheel.{deadline_at}
-use Rattle.runtime.specs.Desks.{LooksAfter, cares_of}
-use Rattle.runtime.specs.Parts.{HasRung}
+use Rattle.runtime.proofs.Common.{HasRung, LooksAfter, cares_of, deadline_at, subst, sym}
 use Rattle.runtime.proofs.ringing.ring_due.Goals as goal
 
 pub returns-clause-cared : goal.returns-clause-cared

@@ -1,7 +1,4 @@
-use Rattle.std.proofs.Common.{refl, [], ◌∷◌, sym, subst, true≢false}
-use Rattle.history.specs.declared.event.Event.TheVariants.{Expire}
-use Rattle.work.specs.Passes.{Pass, seen_of}
-use Rattle.board.specs.TimerCalls.{IsUnarmed}
+use Rattle.runtime.proofs.Common.{Expire, IsUnarmed, Pass, [], refl, seen_of, subst, sym, true≢false, ◌∷◌}
 use Rattle.runtime.proofs.TurnLaws.{goes_on, rang_answered, rang_looked, rang_then}
 use Rattle.runtime.proofs.DeskLaws.{due_on, not_early}
 use Rattle.runtime.proofs.ringing.run_out.Goals as goal

@@ -1,7 +1,4 @@
-use Rattle.std.proofs.Common.{refl, inl, inr, subst, sym, true≢false, [], ◌∷◌}
-use Rattle.history.specs.declared.event.Event.TheVariants.{Settle}
-use Rattle.work.specs.Passes.{Pass, seen_of}
-use Rattle.board.specs.TimerCalls.{IsNoneToSettle}
+use Rattle.runtime.proofs.Common.{IsNoneToSettle, Pass, Settle, [], inl, inr, refl, seen_of, subst, sym, true≢false, ◌∷◌}
 use Rattle.runtime.proofs.TurnLaws.{rang_answered, rang_looked}
 use Rattle.runtime.proofs.ringing.settle.Goals as goal
 

@@ -1,11 +1,4 @@
-use Rattle.std.proofs.Common.{refl, inl, inr, sym, subst, ℕ, Option, [], ◌∷◌, ap, ◌∙◌}
-use Rattle.history.specs.declared.req.Req.{Req}
-use Rattle.history.specs.declared.event.Event.TheVariants.{Count}
-use Rattle.history.specs.History.{IsReplied}
-use Rattle.wheel.specs.Wheel.{deadline_at}
-use Rattle.work.specs.Passes.{Pass, seen_of}
-use Rattle.runtime.specs.Desks.{IsPendingTimer, LooksAfter, cares_of}
-use Rattle.runtime.specs.Shelves.{Places}
+use Rattle.runtime.proofs.Common.{Count, IsPendingTimer, IsReplied, LooksAfter, Option, Pass, Places, Req, [], ap, cares_of, deadline_at, inl, inr, refl, seen_of, subst, sym, ℕ, ◌∙◌, ◌∷◌}
 use Rattle.runtime.proofs.TurnLaws.{goes_on, rang_answered, rang_looked, rang_then}
 use Rattle.runtime.proofs.DeskLaws.{after_on, drops_timer, fewer_dropped, once_before, once_now, once_sooner, plain_or_over, replied_unarmed, unwatches, watches_on}
 use Rattle.runtime.proofs.ringing.watch.Goals as goal

@@ -1,7 +1,4 @@
-use Rattle.std.proofs.Common.{refl, sym, subst, ◌∙◌, inl, List, [], arith}
-use Rattle.std.proofs.lemmas.List.{append-nil}
-use Rattle.history.specs.declared.req.Req.{Req}
-use Rattle.runtime.specs.Desks.{LooksAfter, cares_of}
+use Rattle.runtime.proofs.Common.{List, LooksAfter, Req, [], append-nil, arith, cares_of, inl, refl, subst, sym, ◌∙◌}
 use Rattle.runtime.proofs.TurnLaws.{at_on, rang_still, rang_then, room_rang}
 use Rattle.runtime.proofs.DeskLaws.{next_pending, none_pending, passed_all, passed_some}
 use Rattle.runtime.proofs.ringing.watch_replies.Goals as goal

@@ -1,7 +1,4 @@
-use Rattle.std.proofs.Common.{◌≡◌}
-use Rattle.runtime.specs.Desks.{ArePending, LooksAfter, cares_of}
-use Rattle.runtime.specs.Parts.{HasFewerTimers}
-use Rattle.runtime.specs.PollTurns.{HasRoom, IsAt, Rang}
+use Rattle.runtime.proofs.Common.{ArePending, HasFewerTimers, HasRoom, IsAt, LooksAfter, Rang, cares_of, ◌≡◌}
 use Rattle.runtime.proofs.DeskLaws.{Passed}
 use Rattle.runtime.proofs.ringing.watch_replies.Given as goal
 

@@ -1,15 +1,8 @@
-use Rattle.std.proofs.Common.{◌≡◌, ℕ, ◌+◌, ◌<◌, ◌≤◌, Bool, true, false, cond, refl, sym, ap, ◌∙◌, subst, inl, inr, List, [], ◌∷◌, ◌++◌, length, arith}
-use Rattle.std.proofs.lemmas.List.{append_assoc, append-nil, length-append}
+use Rattle.std.proofs.lemmas.List.{length-append}
 use mathlib.Core.Bool.{not}
-use Rattle.board.specs.ShapeLimits.{widest}
 use Rattle.board.proofs.ShapeBounds.{none_wider}
-use Rattle.steps.specs.Cells.{cells_in, total}
 use Rattle.steps.specs.declared.view.Layout.{Layout}
-use Rattle.work.specs.Board.{Facts, IsOf}
-use Rattle.history.specs.declared.req.Req.{Req}
-use Rattle.outbox.specs.Outbox.{Waiting, with_answered}
-use Rattle.work.specs.Passes.{Pass}
-use Rattle.runtime.specs.WorkTurns.{Worked, answered_in, ended_in}
+use Rattle.runtime.proofs.Common.{Bool, Facts, IsOf, List, Pass, Req, Waiting, Worked, [], answered_in, ap, append-nil, append_assoc, arith, cells_in, cond, ended_in, false, inl, inr, length, refl, subst, sym, total, true, widest, with_answered, ℕ, ◌++◌, ◌+◌, ◌<◌, ◌∙◌, ◌∷◌, ◌≡◌, ◌≤◌}
 use Rattle.runtime.proofs.serving.serve.Goals as goal
 
 -- a run takes fewer requests than the widest ring has cells

@@ -1,10 +1,6 @@
-use Rattle.std.proofs.Common.{rules, ◌≡◌, ◌+◌, refl, sym, ap, ◌∙◌, subst, cond, Bool, List, inl, inr, [], ◌∷◌, ◌++◌, length, arith}
-use Rattle.std.proofs.lemmas.List.{append-nil, length-append}
-use Rattle.history.specs.declared.req.Req.{Req}
-use Rattle.outbox.specs.Outbox.{Waiting}
-use Rattle.work.specs.Board.{Facts, IsOf}
-use Rattle.work.specs.Passes.{Pass}
-use Rattle.runtime.specs.WorkTurns.{Desk, IsWorkTurn, Shifts}
+use Rattle.std.proofs.lemmas.List.{length-append}
+use Rattle.runtime.specs.WorkTurns.{Desk}
+use Rattle.runtime.proofs.Common.{Bool, Facts, IsOf, IsWorkTurn, List, Pass, Req, Shifts, Waiting, [], ap, append-nil, arith, cond, inl, inr, length, refl, rules, subst, sym, ◌++◌, ◌+◌, ◌∙◌, ◌∷◌, ◌≡◌}
 use Rattle.runtime.proofs.ShiftLaws.{back_same, shifts_again, shifts_put, shifts_tried}
 use Rattle.runtime.proofs.serving.work_turn.Goals as goal
 use Rattle.runtime.proofs.serving.work_turn.Goals.{then-left-2, else-left-2}

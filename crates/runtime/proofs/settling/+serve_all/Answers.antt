@@ -1,7 +1,4 @@
-use Rattle.std.proofs.Common.{rules, ◌≡◌, ◌∷◌, [], All, List, Some, length, length-append, sym, ap, subst, arith}
-use Rattle.std.proofs.lemmas.List.Elements.{All-pop, All-push}
-use Rattle.runtime.specs.declared.threads.WorkSide.{WorkSide}
-use Rattle.runtime.specs.Loops.{IsWorkSide}
+use Rattle.runtime.proofs.Common.{All, All-pop, All-push, IsWorkSide, List, Some, WorkSide, [], ap, arith, length, length-append, rules, subst, sym, ◌∷◌, ◌≡◌}
 use Rattle.runtime.proofs.settling.+serve_all.Goals as goal
 
 pub serve-worker-requires : goal.serve-worker-requires

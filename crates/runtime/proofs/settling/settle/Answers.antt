@@ -1,5 +1,5 @@
-use Rattle.std.proofs.Common.{rules, ◌≡◌, ◌≢◌}
 use Rattle.runtime.specs.declared.turn.Turn.TheVariants.{Idle, Moved}
+use Rattle.runtime.proofs.Common.{rules, ◌≡◌, ◌≢◌}
 use Rattle.runtime.proofs.settling.settle.Goals as goal
 
 pub returns-then-is_none-clause-rest : goal.returns-then-is_none-clause-rest

@@ -1,6 +1,4 @@
-use Rattle.std.proofs.Common.{◌≡◌, All, length, vec_capacity}
-use Rattle.runtime.specs.Crews.{shares_in}
-use Rattle.runtime.specs.Loops.{IsPollSide, IsWorkSide}
+use Rattle.runtime.proofs.Common.{All, IsPollSide, IsWorkSide, length, shares_in, vec_capacity, ◌≡◌}
 use Rattle.runtime.proofs.settling.settle.Given as goal
 
 abbrev pub invariant-loop : goal.invariant-loop

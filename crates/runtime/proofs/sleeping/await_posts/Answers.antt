@@ -1,6 +1,4 @@
-use Rattle.std.proofs.Common.{◌≤◌, ◌++◌, ℕ, List, [], sym, refl, ap, ◌∙◌, subst}
-use Rattle.std.proofs.lemmas.List.{append_assoc, append-nil}
-use Rattle.history.specs.declared.req.Req.{Req}
+use Rattle.runtime.proofs.Common.{List, Req, [], ap, append-nil, append_assoc, refl, subst, sym, ℕ, ◌++◌, ◌∙◌, ◌≤◌}
 use Rattle.runtime.proofs.sleeping.await_posts.Goals as goal
 
 pub loop-init : goal.loop-init

@@ -1,5 +1,4 @@
-use Rattle.std.proofs.Common.{◌≡◌, ◌++◌, List}
-use Rattle.history.specs.declared.req.Req.{Req}
+use Rattle.runtime.proofs.Common.{List, Req, ◌++◌, ◌≡◌}
 use Rattle.runtime.proofs.sleeping.await_posts.Given as goal
 
 abbrev pub invariant-loop : goal.invariant-loop

@@ -1,12 +1,5 @@
-use Rattle.std.proofs.Common.{rules, ◌≡◌, ◌++◌, ◌∷◌, [], All, List, Some, sym, ap, subst, arith}
-use Rattle.std.specs.Arc.{arc_value}
-use Rattle.std.proofs.lemmas.List.Elements.{All-pop, All-push}
-use Rattle.std.proofs.lemmas.List.Sums.{sum_by_push}
-use Rattle.runtime.specs.declared.shared.Shared.{Shared}
 use Rattle.runtime.specs.declared.started.WorkThread.{WorkThread}
-use Rattle.runtime.specs.declared.threads.WorkSide.{WorkSide}
-use Rattle.runtime.specs.Crews.{shares_in, shares_of}
-use Rattle.runtime.specs.Loops.{IsWorkSide}
+use Rattle.runtime.proofs.Common.{All, All-pop, All-push, IsWorkSide, List, Shared, Some, WorkSide, [], ap, arc_value, arith, rules, shares_in, shares_of, subst, sum_by_push, sym, ◌++◌, ◌∷◌, ◌≡◌}
 use Rattle.runtime.proofs.started.join_workers.Goals as goal
 
 pub loop-thread-preserved : goal.loop-thread-preserved

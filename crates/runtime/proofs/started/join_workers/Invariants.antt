@@ -1,6 +1,4 @@
-use Rattle.std.proofs.Common.{◌≡◌, ◌+◌, ◌≤◌, All, length, vec_capacity}
-use Rattle.runtime.specs.Crews.{AreWorking, shares_in, shares_of}
-use Rattle.runtime.specs.Loops.{IsWorkSide}
+use Rattle.runtime.proofs.Common.{All, AreWorking, IsWorkSide, length, shares_in, shares_of, vec_capacity, ◌+◌, ◌≡◌, ◌≤◌}
 use Rattle.runtime.proofs.started.join_workers.Given as goal
 
 abbrev pub invariant-loop-thread : goal.invariant-loop-thread

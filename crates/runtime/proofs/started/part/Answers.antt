@@ -1,9 +1,4 @@
-use Rattle.std.proofs.Common.{rules, ◌≡◌, ◌∷◌, [], All, List, length, length-append, sym, ap, subst, arith}
-use Rattle.std.proofs.lemmas.List.Elements.{All-push}
-use Rattle.std.proofs.lemmas.List.Sums.{sum_by_push}
-use Rattle.runtime.specs.declared.threads.WorkSide.{WorkSide}
-use Rattle.runtime.specs.Crews.{own_in, own_share, shares_in}
-use Rattle.runtime.specs.Loops.{IsWorkSide}
+use Rattle.runtime.proofs.Common.{All, All-push, IsWorkSide, List, WorkSide, [], ap, arith, length, length-append, own_in, own_share, rules, shares_in, subst, sum_by_push, sym, ◌∷◌, ◌≡◌}
 use Rattle.runtime.proofs.started.part.Goals as goal
 
 pub returns-in-Some-clause-ended : goal.returns-in-Some-clause-ended

@@ -1,5 +1,4 @@
-use Rattle.std.proofs.Common.{◌++◌, ◌∷◌, [], length, length-append, map, reverse, sym, ap, ◌∙◌, arith}
-use Rattle.runtime.specs.Crews.{ready_of, worker_of}
+use Rattle.runtime.proofs.Common.{[], ap, arith, length, length-append, map, ready_of, reverse, sym, worker_of, ◌++◌, ◌∙◌, ◌∷◌}
 use Rattle.runtime.proofs.RuntimeParts.{goes_over}
 use Rattle.runtime.proofs.started.passes_of.Goals as goal
 

@@ -1,5 +1,4 @@
-use Rattle.std.proofs.Common.{◌≡◌, ◌+◌, ◌<◌, ◌≤◌, ◌++◌, length, map, reverse, vec_capacity}
-use Rattle.runtime.specs.Crews.{ready_of, worker_of}
+use Rattle.runtime.proofs.Common.{length, map, ready_of, reverse, vec_capacity, worker_of, ◌++◌, ◌+◌, ◌<◌, ◌≡◌, ◌≤◌}
 use Rattle.runtime.proofs.started.passes_of.Given as goal
 
 abbrev pub invariant-loop-side : goal.invariant-loop-side

@@ -1,6 +1,5 @@
-use Rattle.std.proofs.Common.{◌∙◌}
 use Rattle.std.proofs.Math.Seq.{map-set_same}
-use Rattle.runtime.specs.Clients.{without_tail}
+use Rattle.runtime.proofs.Common.{without_tail, ◌∙◌}
 use Rattle.runtime.proofs.started.tell_end.Goals as goal
 
 pub loop-client-preserved : goal.loop-client-preserved

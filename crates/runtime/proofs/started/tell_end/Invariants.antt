@@ -1,5 +1,4 @@
-use Rattle.std.proofs.Common.{◌≡◌, map}
-use Rattle.runtime.specs.Clients.{without_tail}
+use Rattle.runtime.proofs.Common.{map, without_tail, ◌≡◌}
 use Rattle.runtime.proofs.started.tell_end.Given as goal
 
 abbrev pub invariant-loop-client : goal.invariant-loop-client

@@ -1,7 +1,4 @@
-use Rattle.std.proofs.Common.{rules, Some, length, length-append, ◌∷◌, [], sym, ap, ◌∙◌, arith}
-use Rattle.std.specs.Arc.{arc_value}
-use Rattle.std.proofs.lemmas.List.Elements.{All-pop}
-use Rattle.event_count.specs.Passes.{Notifying, IsNotifierOf}
+use Rattle.runtime.proofs.Common.{All-pop, IsNotifierOf, Notifying, Some, [], ap, arc_value, arith, length, length-append, rules, sym, ◌∙◌, ◌∷◌}
 use Rattle.runtime.proofs.startup.callers_of.Goals as goal
 
 pub new-requires : goal.new-requires

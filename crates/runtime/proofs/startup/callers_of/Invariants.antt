@@ -1,6 +1,4 @@
-use Rattle.std.proofs.Common.{◌≡◌, ◌+◌, ◌≤◌, All, length, vec_capacity}
-use Rattle.std.specs.Arc.{arc_value}
-use Rattle.event_count.specs.Passes.{IsNotifierOf}
+use Rattle.runtime.proofs.Common.{All, IsNotifierOf, arc_value, length, vec_capacity, ◌+◌, ◌≡◌, ◌≤◌}
 use Rattle.runtime.proofs.startup.callers_of.Given as goal
 
 abbrev pub invariant-loop-notifier : goal.invariant-loop-notifier

@@ -1,14 +1,6 @@
-use Rattle.std.proofs.Common.{rules, ◌≡◌, ◌+◌, ◌∷◌, [], length, reverse, length-append, sym, ap, ◌∙◌, subst, arith}
-use Rattle.std.specs.Arc.{arc_value}
-use Rattle.bell.specs.BellPasses.{IsRingerOf}
-use Rattle.steps.specs.declared.view.Role.TheVariants.{Submitter}
-use Rattle.work.specs.Board.{IsOf}
-use Rattle.work.specs.Passes.{Pass}
 use Rattle.board.specs.New.{AreSubmitters, IsFresh}
-use Rattle.runtime.specs.StartParts.{AreRingers}
-use Rattle.runtime.specs.Clients.{AreNewClients, IsNewClient}
-use Rattle.runtime.specs.declared.shared.Shared.{Shared}
 use Rattle.board.proofs.PassLists.{last_submitter}
+use Rattle.runtime.proofs.Common.{AreNewClients, AreRingers, IsNewClient, IsOf, IsRingerOf, Pass, Shared, Submitter, [], ap, arc_value, arith, length, length-append, reverse, rules, subst, sym, ◌+◌, ◌∙◌, ◌∷◌, ◌≡◌}
 use Rattle.runtime.proofs.RuntimeParts.{last_ringer, more_clients, same_ring}
 use Rattle.runtime.proofs.startup.clients_of.Goals as goal
 

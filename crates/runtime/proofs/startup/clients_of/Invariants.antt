@@ -1,8 +1,5 @@
-use Rattle.std.proofs.Common.{◌≡◌, ◌+◌, ◌≤◌, length, reverse, vec_capacity}
-use Rattle.std.specs.Arc.{arc_value}
 use Rattle.board.specs.New.{AreSubmitters}
-use Rattle.runtime.specs.Clients.{AreNewClients}
-use Rattle.runtime.specs.StartParts.{AreRingers}
+use Rattle.runtime.proofs.Common.{AreNewClients, AreRingers, arc_value, length, reverse, vec_capacity, ◌+◌, ◌≡◌, ◌≤◌}
 use Rattle.runtime.proofs.startup.clients_of.Given as goal
 
 abbrev pub invariant-loop-submitter : goal.invariant-loop-submitter

@@ -1,6 +1,5 @@
-use Rattle.std.proofs.Common.{◌≡◌, false, All, sym, subst}
-use Rattle.event_count.specs.Passes.{IsNotifierOf, IsWaiterOf}
 use Rattle.event_count.proofs.NewPasses.{notifiers_own, waiters_outside}
+use Rattle.runtime.proofs.Common.{All, IsNotifierOf, IsWaiterOf, false, subst, sym, ◌≡◌}
 use Rattle.runtime.proofs.startup.event_count_of.Goals as goal
 
 pub listeners_of-requires : goal.listeners_of-requires

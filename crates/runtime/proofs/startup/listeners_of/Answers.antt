@@ -1,7 +1,5 @@
-use Rattle.std.proofs.Common.{rules, ◌≡◌, false, Some, length, length-append, ◌∷◌, [], sym, ap, ◌∙◌, arith}
-use Rattle.std.specs.Arc.{arc_value}
-use Rattle.std.proofs.lemmas.List.Elements.{All-pop}
-use Rattle.event_count.specs.Passes.{Waiting, IsWaiterOf}
+use Rattle.event_count.specs.Passes.{Waiting}
+use Rattle.runtime.proofs.Common.{All-pop, IsWaiterOf, Some, [], ap, arc_value, arith, false, length, length-append, rules, sym, ◌∙◌, ◌∷◌, ◌≡◌}
 use Rattle.runtime.proofs.startup.listeners_of.Goals as goal
 
 pub new-requires-clause-own : goal.new-requires-clause-own

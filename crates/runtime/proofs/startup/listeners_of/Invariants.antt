@@ -1,6 +1,4 @@
-use Rattle.std.proofs.Common.{◌≡◌, ◌+◌, ◌≤◌, false, All, length, vec_capacity}
-use Rattle.std.specs.Arc.{arc_value}
-use Rattle.event_count.specs.Passes.{IsWaiterOf}
+use Rattle.runtime.proofs.Common.{All, IsWaiterOf, arc_value, false, length, vec_capacity, ◌+◌, ◌≡◌, ◌≤◌}
 use Rattle.runtime.proofs.startup.listeners_of.Given as goal
 
 abbrev pub invariant-loop-waiter : goal.invariant-loop-waiter

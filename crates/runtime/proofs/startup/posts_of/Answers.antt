@@ -1,5 +1,4 @@
-use Rattle.std.proofs.Common.{rules, ℕ, List, sym, subst, ◌∷◌, [], length, length-append, ap, ◌∙◌, arith}
-use Rattle.runtime.specs.PostLocks.{AreNumbered}
+use Rattle.runtime.proofs.Common.{AreNumbered, List, [], ap, arith, length, length-append, rules, subst, sym, ℕ, ◌∙◌, ◌∷◌}
 use Rattle.runtime.proofs.RuntimeParts.{numbered_push}
 use Rattle.runtime.proofs.startup.posts_of.Goals as goal
 

@@ -1,5 +1,4 @@
-use Rattle.std.proofs.Common.{◌≡◌, ◌≤◌, length, vec_capacity}
-use Rattle.runtime.specs.PostLocks.{AreNumbered}
+use Rattle.runtime.proofs.Common.{AreNumbered, length, vec_capacity, ◌≡◌, ◌≤◌}
 use Rattle.runtime.proofs.startup.posts_of.Given as goal
 
 abbrev pub invariant-loop-ring : goal.invariant-loop-ring

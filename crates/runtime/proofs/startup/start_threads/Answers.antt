@@ -1,7 +1,5 @@
-use Rattle.std.proofs.Common.{All, sym, subst}
-use Rattle.work.specs.Board.{IsOf}
-use Rattle.runtime.specs.declared.shared.Shared.{Shared}
 use Rattle.board.proofs.PassLists.{workers_of}
+use Rattle.runtime.proofs.Common.{All, IsOf, Shared, subst, sym}
 use Rattle.runtime.proofs.RuntimeParts.{new_clients}
 use Rattle.runtime.proofs.startup.start_threads.Goals as goal
 

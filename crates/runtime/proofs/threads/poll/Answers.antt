@@ -1,7 +1,4 @@
-use Rattle.std.proofs.Common.{rules, ◌≤◌, sym, ap, ◌∙◌, subst}
-use Rattle.work.specs.Passes.{seen_of}
-use Rattle.runtime.specs.PollTurns.{Desk}
-use Rattle.runtime.specs.Loops.{IsPolling}
+use Rattle.runtime.proofs.Common.{Desk, IsPolling, ap, rules, seen_of, subst, sym, ◌∙◌, ◌≤◌}
 use Rattle.runtime.proofs.threads.poll.Goals as goal
 
 pub loop-preserved-then-not-is_over : goal.loop-preserved-then-not-is_over

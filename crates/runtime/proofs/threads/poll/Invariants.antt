@@ -1,7 +1,4 @@
-use Rattle.std.proofs.Common.{◌≡◌, [], ◌≤◌}
-use Rattle.work.specs.Passes.{seen_of}
-use Rattle.runtime.specs.Crews.{own_in, own_share}
-use Rattle.runtime.specs.Loops.{IsPolling, MayOwn}
+use Rattle.runtime.proofs.Common.{IsPolling, MayOwn, [], own_in, own_share, seen_of, ◌≡◌, ◌≤◌}
 use Rattle.runtime.proofs.threads.poll.Given as goal
 
 abbrev pub invariant-loop : goal.invariant-loop

@@ -1,6 +1,4 @@
-use Rattle.std.proofs.Common.{◌≡◌, ◌≤◌}
-use Rattle.board.specs.ShapeLimits.{widest}
-use Rattle.runtime.specs.Loops.{IsServing}
+use Rattle.runtime.proofs.Common.{IsServing, widest, ◌≡◌, ◌≤◌}
 use Rattle.runtime.proofs.threads.work.Given as goal
 
 abbrev pub invariant-loop : goal.invariant-loop

@@ -1,4 +1,4 @@
-use Rattle.std.proofs.Common.{length}
+use Rattle.script_run.proofs.Common.{length}
 use Rattle.script_run.proofs.clock.+are_same.Given as goal
 
 abbrev pub decreases-are_same : goal.decreases-are_same

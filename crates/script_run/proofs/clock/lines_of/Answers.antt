@@ -1,8 +1,4 @@
-use Rattle.std.proofs.Common.{◌+◌, ◌∷◌, ◌++◌, [], List, take, sym, subst}
-use Rattle.script.specs.declared.act.Act.{Act}
-use Rattle.script.proofs.Items.{front_at}
-use Rattle.script_run.specs.declared.clock.ClockLine.{ClockLine}
-use Rattle.script_run.specs.ClockLines.{AreClockLines}
+use Rattle.script_run.proofs.Common.{Act, AreClockLines, ClockLine, List, [], front_at, subst, sym, take, ◌++◌, ◌+◌, ◌∷◌}
 use Rattle.script_run.proofs.ClockSteps.{lines_more}
 use Rattle.script_run.proofs.clock.lines_of.Goals as goal
 

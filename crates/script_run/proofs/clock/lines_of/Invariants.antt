@@ -1,5 +1,4 @@
-use Rattle.std.proofs.Common.{take}
-use Rattle.script_run.specs.ClockLines.{AreClockLines}
+use Rattle.script_run.proofs.Common.{AreClockLines, take}
 use Rattle.script_run.proofs.clock.lines_of.Given as goal
 
 abbrev pub invariant-loop-act : goal.invariant-loop-act

@@ -1,7 +1,4 @@
-use Rattle.std.proofs.Common.{◌≡◌, ℕ, ◌+◌, List, [], ◌∷◌, ◌++◌, take, get_or, sym, refl, ap, ◌∙◌, subst, add-one, Some}
-use Rattle.std.proofs.Math.Seq.{take-suc}
-use Rattle.std.specs.Prelude.{slice_get}
-use Rattle.script_run.specs.Hands.{AreEntries}
+use Rattle.script_run.proofs.Common.{AreEntries, List, Some, [], add-one, ap, get_or, refl, slice_get, subst, sym, take, take-suc, ℕ, ◌++◌, ◌+◌, ◌∙◌, ◌∷◌, ◌≡◌}
 use Rattle.script_run.proofs.ClientCalls.{entries_more}
 use Rattle.script_run.proofs.HandSteps.{element_at}
 use Rattle.script_run.proofs.lines.batch_of.Goals as goal

@@ -1,5 +1,4 @@
-use Rattle.std.proofs.Common.{take}
-use Rattle.script_run.specs.Hands.{AreEntries}
+use Rattle.script_run.proofs.Common.{AreEntries, take}
 use Rattle.script_run.proofs.lines.batch_of.Given as goal
 
 abbrev pub invariant-loop-place : goal.invariant-loop-place

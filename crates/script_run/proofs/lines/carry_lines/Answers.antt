@@ -1,7 +1,5 @@
-use Rattle.std.proofs.Common.{◌≡◌, ◌∙◌, Some, sym, refl}
-use Rattle.std.specs.Prelude.{slice_get}
+use Rattle.script_run.proofs.Common.{Some, err_from_is_err_and, refl, slice_get, sym, ◌∙◌, ◌≡◌}
 use Rattle.script_run.proofs.HandSteps.{element_at, line_carried, all_carried, stuck_at, if_stuck}
-use Rattle.std.proofs.lemmas.Result.{err_from_is_err_and}
 use Rattle.script_run.proofs.lines.carry_lines.Goals as goal
 
 pub loop-act-init : goal.loop-act-init

@@ -1,5 +1,4 @@
-use Rattle.std.proofs.Common.{◌≡◌, take}
-use Rattle.script_run.specs.Hands.{seen_by, AreTaken, HandAt, IsNewHand}
+use Rattle.script_run.proofs.Common.{AreTaken, HandAt, IsNewHand, seen_by, take, ◌≡◌}
 use Rattle.script_run.proofs.lines.carry_lines.Given as goal
 
 abbrev pub invariant-loop-act : goal.invariant-loop-act

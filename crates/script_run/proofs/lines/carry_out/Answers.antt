@@ -1,8 +1,4 @@
-use Rattle.std.proofs.Common.{◌≡◌, Some, None, refl, sym, subst}
-use Rattle.std.proofs.lemmas.Option.{none-some}
-use Rattle.script_run.specs.declared.lines.Halt.TheVariants.{Stuck}
-use Rattle.script_run.specs.Hands.{IsNewHand}
-use Rattle.script_run.specs.Tries.{IfStuck, IsStuckLine}
+use Rattle.script_run.proofs.Common.{IfStuck, IsNewHand, IsStuckLine, None, Some, Stuck, none-some, refl, subst, sym, ◌≡◌}
 use Rattle.script_run.proofs.HandSteps.{carried_as, stuck_as}
 use Rattle.script_run.proofs.lines.carry_out.Goals as goal
 

@@ -1,7 +1,4 @@
-use Rattle.std.proofs.Common.{sym, subst, ap, ◌∙◌, ℕ, List, refl}
-use Rattle.std.specs.Prelude.{slice_get}
-use Rattle.script.specs.declared.act.Act.{Act}
-use Rattle.script_run.specs.Hands.{AreEntries}
+use Rattle.script_run.proofs.Common.{Act, AreEntries, List, ap, refl, slice_get, subst, sym, ℕ, ◌∙◌}
 use Rattle.script_run.proofs.HandSteps.{carries_batch, went_then, went_same, tried_more, ran_out}
 use Rattle.script_run.proofs.lines.submit_line.Goals as goal
 

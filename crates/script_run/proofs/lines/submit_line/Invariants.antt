@@ -1,7 +1,5 @@
 -- The batch is the line's, and each try so far was in vain.
-use Rattle.script.specs.declared.act.Act.TheVariants.{Submit}
-use Rattle.script_run.specs.Hands.{AreEntries, Went}
-use Rattle.script_run.specs.Tries.{TriedInVain}
+use Rattle.script_run.proofs.Common.{AreEntries, Submit, TriedInVain, Went}
 use Rattle.script_run.proofs.lines.submit_line.Given as goal
 
 abbrev pub invariant-loop-try : goal.invariant-loop-try

@@ -1,6 +1,5 @@
-use Rattle.std.proofs.Common.{Some, refl}
-use Rattle.script.specs.declared.act.Act.{Act}
 use Rattle.script.proofs.HomesRead.{home_is}
+use Rattle.script_run.proofs.Common.{Act, Some, refl}
 use Rattle.script_run.proofs.HandSteps.{carries_wait, went_then, went_same, tried_more, ran_out}
 use Rattle.script_run.proofs.lines.wait.Goals as goal
 

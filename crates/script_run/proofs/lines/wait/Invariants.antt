@@ -1,7 +1,6 @@
 -- Each look so far was in vain.
 use Rattle.script.specs.declared.act.Act.TheVariants.{Wait}
-use Rattle.script_run.specs.Hands.{Went}
-use Rattle.script_run.specs.Tries.{TriedInVain}
+use Rattle.script_run.proofs.Common.{TriedInVain, Went}
 use Rattle.script_run.proofs.lines.wait.Given as goal
 
 abbrev pub invariant-loop-try : goal.invariant-loop-try

@@ -1,6 +1,4 @@
-use Rattle.std.proofs.Common.{IfSome, Some, None, ap, ◌∙◌, subst}
-use Rattle.std.proofs.lemmas.Option.{slice_get-get_or, slice_get_read}
-use Rattle.script_run.specs.RunRows.{IsRowOf}
+use Rattle.script_run.proofs.Common.{IfSome, IsRowOf, None, Some, ap, slice_get-get_or, slice_get_read, subst, ◌∙◌}
 use Rattle.script_run.proofs.rows.row_at.Goals as goal
 
 pub returns : goal.returns

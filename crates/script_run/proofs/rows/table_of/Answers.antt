@@ -1,5 +1,5 @@
-use Rattle.std.proofs.Common.{◌≡◌, ⊎_elim, sym, ◌∙◌, subst, arith, Some, IfSome, slice_get}
-use Rattle.script_run.specs.RunRows.{IsRow}
+use Rattle.std.proofs.Common.{slice_get}
+use Rattle.script_run.proofs.Common.{IfSome, IsRow, Some, arith, subst, sym, ⊎_elim, ◌∙◌, ◌≡◌}
 use Rattle.script_run.proofs.HandLists.{get_last}
 use Rattle.script_run.proofs.rows.table_of.Goals as goal
 

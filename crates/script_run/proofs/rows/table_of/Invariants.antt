@@ -1,5 +1,4 @@
-use Rattle.std.proofs.Common.{◌≡◌, length}
-use Rattle.script_run.specs.RunRows.{AreRows}
+use Rattle.script_run.proofs.Common.{AreRows, length, ◌≡◌}
 use Rattle.script_run.proofs.rows.table_of.Given as goal
 
 abbrev pub invariant-loop-place : goal.invariant-loop-place

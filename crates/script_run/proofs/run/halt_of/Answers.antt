@@ -1,4 +1,4 @@
-use Rattle.std.proofs.Common.{arith}
+use Rattle.script_run.proofs.Common.{arith}
 use Rattle.script_run.proofs.HandSteps.{halts_more}
 use Rattle.script_run.proofs.run.halt_of.Goals as goal
 

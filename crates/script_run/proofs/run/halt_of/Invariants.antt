@@ -1,8 +1,5 @@
 -- None of the hands so far was stopped; or the first that was is stuck, if one that is stuck is told.
-use Rattle.std.proofs.Common.{◌≡◌, ℕ, ◌<◌, slice_index_or, None, Some}
-use Rattle.script_run.specs.declared.hand.Hand.{Hand}
-use Rattle.script_run.specs.declared.lines.Halt.TheVariants.{Stuck}
-use Rattle.script_run.specs.Tries.{IsLowest}
+use Rattle.script_run.proofs.Common.{Hand, IsLowest, None, Some, Stuck, slice_index_or, ℕ, ◌<◌, ◌≡◌}
 use Rattle.script_run.proofs.run.halt_of.Given as goal
 
 abbrev pub invariant-loop-hand : goal.invariant-loop-hand

@@ -1,7 +1,5 @@
-use Rattle.std.proofs.Common.{◌≡◌, ◌++◌, [], ◌∷◌, List, None, length, length-append, map, reverse, sym, ap, ◌∙◌, subst, arith}
 use Rattle.std.proofs.lemmas.List.Elements.{All-push}
-use Rattle.script_run.specs.declared.hand.Hand.{Hand}
-use Rattle.script_run.specs.Hands.{AreNew, client_of}
+use Rattle.script_run.proofs.Common.{AreNew, Hand, List, None, [], ap, arith, client_of, length, length-append, map, reverse, subst, sym, ◌++◌, ◌∙◌, ◌∷◌, ◌≡◌}
 use Rattle.script_run.proofs.HandLists.{next_hand}
 use Rattle.script_run.proofs.run.hands_of.Goals as goal
 

@@ -1,5 +1,4 @@
-use Rattle.std.proofs.Common.{◌≡◌, ◌+◌, ◌≤◌, ◌++◌, length, map, reverse, vec_capacity}
-use Rattle.script_run.specs.Hands.{AreNew, client_of}
+use Rattle.script_run.proofs.Common.{AreNew, client_of, length, map, reverse, vec_capacity, ◌++◌, ◌+◌, ◌≡◌, ◌≤◌}
 use Rattle.script_run.proofs.run.hands_of.Given as goal
 
 abbrev pub invariant-loop-client : goal.invariant-loop-client

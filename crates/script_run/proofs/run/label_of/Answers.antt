@@ -1,4 +1,4 @@
-use Rattle.std.proofs.Common.{refl}
+use Rattle.script_run.proofs.Common.{refl}
 use Rattle.script_run.proofs.HandSteps.{element_at}
 use Rattle.script_run.proofs.run.label_of.Goals as goal
 

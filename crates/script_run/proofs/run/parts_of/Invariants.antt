@@ -1,5 +1,4 @@
-use Rattle.std.proofs.Common.{◌≡◌, ◌+◌, ◌≤◌, ◌++◌, length, map, reverse, false, vec_capacity}
-use Rattle.script_run.specs.Hands.{client_of, taken_by}
+use Rattle.script_run.proofs.Common.{client_of, false, length, map, reverse, taken_by, vec_capacity, ◌++◌, ◌+◌, ◌≡◌, ◌≤◌}
 use Rattle.script_run.proofs.run.parts_of.Given as goal
 
 abbrev pub invariant-loop-hand : goal.invariant-loop-hand

@@ -1,12 +1,6 @@
-use Rattle.std.proofs.Common.{rules, length, ◌≡◌, ◌∙◌, ap, ℕ, List, All, None, Some, sym, subst, inl, inr}
-use Rattle.runtime.specs.Clients.{ClientFacts, AreClients}
-use Rattle.script_run.specs.declared.hand.Hand.{Hand}
-use Rattle.script_run.specs.declared.lines.Halt.TheVariants.{Stuck}
-use Rattle.script_run.specs.Stuck.{HasLabel, IsStuckOn}
-use Rattle.script_run.specs.Tries.{IsLowest}
+use Rattle.script_run.proofs.Common.{All, AreClients, ClientFacts, Hand, HasLabel, IsLowest, IsStuckOn, List, None, Some, Stuck, ap, err_from_is_err_and, inl, inr, length, rules, subst, sym, ℕ, ◌∙◌, ◌≡◌}
 use Rattle.script_run.proofs.RunSteps.{in_order, are_carried, of_board, played}
 use Rattle.script_run.proofs.StuckRuns.{if_stuck_on, stuck_ring, stuck_clock, unstuck}
-use Rattle.std.proofs.lemmas.Result.{err_from_is_err_and}
 use Rattle.script_run.proofs.run.play.Goals as goal
 
 pub end_at_once-requires : goal.end_at_once-requires

@@ -1,17 +1,9 @@
-use Rattle.std.proofs.Common.{◌≡◌, List, Bool, length}
-use Rattle.work.specs.Board.{Facts}
-use Rattle.board.specs.declared.completion.Completion.{Completion}
-use Rattle.script.specs.declared.script.Script.{Script}
 use Rattle.script.specs.declared.table.Table.{Table}
 use Rattle.script.specs.Rows.{rows_of}
-use Rattle.script.specs.Tables.{IsTableOf}
-use Rattle.script_run.specs.Played.{IsPlayed}
-use Rattle.script_run.specs.RunRows.{AreRows, HasRun}
+use Rattle.script_run.proofs.Common.{AreRows, Bool, Completion, Facts, HasRun, IfErr-weaker, IfOk-weaker, IsPlayed, IsStuck, IsTableOf, List, Script, err_from_is_err_and, length, ◌≡◌}
 use Rattle.script_run.proofs.RunSteps.{starts, same_setup, if_ok}
 use Rattle.script_run.proofs.WholeTables.{is_table}
-use Rattle.std.proofs.lemmas.Result.{err_from_is_err_and, IfErr-weaker, IfOk-weaker}
 use Rattle.script_run.specs.Faults.{IsUnstuck, IfStuckOn}
-use Rattle.script_run.specs.Stuck.{IsStuck}
 use Rattle.script_run.proofs.StuckRuns.{stuck_of_run, unstuck}
 use Rattle.script_run.proofs.run.run_lines.Goals as goal
 

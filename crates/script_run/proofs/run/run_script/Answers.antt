@@ -1,5 +1,4 @@
-use Rattle.std.proofs.lemmas.Result.{err_from_is_err_and}
-use Rattle.script_run.specs.Stuck.{IsStuck}
+use Rattle.script_run.proofs.Common.{IsStuck, err_from_is_err_and}
 use Rattle.script_run.proofs.StuckRuns.{unstuck}
 use Rattle.script_run.proofs.run.run_script.Goals as goal
 

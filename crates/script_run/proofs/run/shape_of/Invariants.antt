@@ -1,4 +1,4 @@
-use Rattle.std.proofs.Common.{◌≡◌, length}
+use Rattle.script_run.proofs.Common.{length, ◌≡◌}
 use Rattle.script_run.proofs.run.shape_of.Given as goal
 
 abbrev pub invariant-loop-cells : goal.invariant-loop-cells

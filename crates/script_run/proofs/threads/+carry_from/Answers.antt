@@ -1,7 +1,4 @@
-use Rattle.std.proofs.Common.{◌≡◌, List, ◌++◌, ◌∷◌, [], ℕ, sym, subst}
-use Rattle.script.specs.declared.script.Script.{Script}
-use Rattle.script_run.specs.declared.hand.Hand.{Hand}
-use Rattle.script_run.specs.Tries.{AllCarriedOut, CarriedOut}
+use Rattle.script_run.proofs.Common.{AllCarriedOut, CarriedOut, Hand, List, Script, [], subst, sym, ℕ, ◌++◌, ◌∷◌, ◌≡◌}
 use Rattle.script_run.proofs.HandLists.{carried_more}
 use Rattle.script_run.proofs.threads.+carry_from.Goals as goal
 

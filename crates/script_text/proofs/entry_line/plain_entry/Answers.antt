@@ -1,7 +1,5 @@
-use Rattle.std.proofs.Common.{List, ℕ, ap, ◌∙◌}
 use Rattle.text.specs.Number.{number_in}
-use Rattle.script_text.specs.EntryLines.{all_stated, target_in}
-use Rattle.script_text.specs.Noted.{long_or}
+use Rattle.script_text.proofs.Common.{List, all_stated, ap, long_or, target_in, ℕ, ◌∙◌}
 use Rattle.script_text.proofs.CancelLines.{cancel_line}
 use Rattle.script_text.proofs.TimeoutLines.{timeout_line}
 use Rattle.script_text.proofs.entry_line.plain_entry.Goals as goal

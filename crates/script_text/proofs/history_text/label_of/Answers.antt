@@ -1,4 +1,5 @@
-use Rattle.std.proofs.Common.{◌≡◌, ◌<◌, ◌≤◌, length, get_or, sym, ◌∙◌, ltb-true, ltb-false}
+use Rattle.std.proofs.Common.{ltb-true, ltb-false}
+use Rattle.script_text.proofs.Common.{get_or, length, sym, ◌<◌, ◌∙◌, ◌≡◌, ◌≤◌}
 use Rattle.script_text.proofs.Histories.{label_of_none, label_of_one}
 use Rattle.script_text.proofs.history_text.label_of.Goals as goal
 

@@ -1,5 +1,4 @@
-use Rattle.std.proofs.Common.{arith, refl, sym, ◌∙◌}
-use Rattle.std.proofs.lemmas.List.{append-nil, drop_all}
+use Rattle.script_text.proofs.Common.{append-nil, arith, drop_all, refl, sym, ◌∙◌}
 use Rattle.script_text.proofs.Histories.{event_more}
 use Rattle.script_text.proofs.history_text.write_history.Goals as goal
 

@@ -1,6 +1,5 @@
-use Rattle.std.proofs.Common.{◌≡◌, ◌++◌, take, drop}
-use Rattle.std.specs.String.{string_bytes}
 use Rattle.script_text.specs.HistoryText.{history_text, text_after}
+use Rattle.script_text.proofs.Common.{drop, string_bytes, take, ◌++◌, ◌≡◌}
 use Rattle.script_text.proofs.history_text.write_history.Given as goal
 
 -- the lines so far, and those of the events that are left, are the whole text

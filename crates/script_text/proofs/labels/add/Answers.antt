@@ -1,4 +1,4 @@
-use Rattle.std.proofs.Common.{sym, ◌∙◌}
+use Rattle.script_text.proofs.Common.{sym, ◌∙◌}
 use Rattle.script_text.proofs.Indexed.{inserted}
 use Rattle.script_text.proofs.labels.add.Goals as goal
 

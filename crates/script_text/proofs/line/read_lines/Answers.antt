@@ -1,7 +1,4 @@
-use Rattle.std.proofs.Common.{◌≡◌, ◌<◌, ℕ, List, [], ◌∷◌, ◌++◌, Bor, length, take, ap, ◌∙◌, arith}
-use Rattle.std.proofs.lemmas.List.{get_or-map, length-map, map_push, take_more}
-use Rattle.script_text.specs.Sentences.{sentence, sentences}
-use Rattle.script_text.specs.TextWords.{texts}
+use Rattle.script_text.proofs.Common.{Bor, List, [], ap, arith, get_or-map, length, length-map, map_push, sentence, sentences, take, take_more, texts, ℕ, ◌++◌, ◌<◌, ◌∙◌, ◌∷◌, ◌≡◌}
 use Rattle.script_text.proofs.LinesAbove.{none_read, only_more, sentences_more}
 use Rattle.script_text.proofs.line.read_lines.Goals as goal
 

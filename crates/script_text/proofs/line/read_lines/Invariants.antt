@@ -1,6 +1,4 @@
-use Rattle.std.proofs.Common.{◌≡◌, List, take}
-use Rattle.script_text.specs.Sentences.{AreSentences, Sentence, sentences}
-use Rattle.script_text.specs.TextWords.{texts}
+use Rattle.script_text.proofs.Common.{AreSentences, List, Sentence, sentences, take, texts, ◌≡◌}
 use Rattle.script_text.proofs.line.read_lines.Given as goal
 
 abbrev pub invariant-loop-text : goal.invariant-loop-text

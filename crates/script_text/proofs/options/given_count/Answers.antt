@@ -1,7 +1,4 @@
-use Rattle.std.proofs.Common.{Bor, List, rules, tests, ℕ}
-use Rattle.std.proofs.lemmas.Iterator.{YieldsList-from_slice}
-use Rattle.std.proofs.lemmas.Iterator.Search.{find_from_yields_List}
-use Rattle.script_text.specs.Options.{count_in, is_count}
+use Rattle.script_text.proofs.Common.{Bor, List, YieldsList-from_slice, count_in, find_from_yields_List, is_count, rules, tests, ℕ}
 use Rattle.script_text.proofs.Mapped.{number_found, number_none}
 use Rattle.script_text.proofs.options.given_count.Goals as goal
 

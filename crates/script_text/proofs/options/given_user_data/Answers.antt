@@ -1,7 +1,4 @@
-use Rattle.std.proofs.Common.{Bor, List, rules, tests, ℕ}
-use Rattle.std.proofs.lemmas.Iterator.{YieldsList-from_slice}
-use Rattle.std.proofs.lemmas.Iterator.Search.{find_from_yields_List}
-use Rattle.script_text.specs.Options.{is_user_data, user_data_in}
+use Rattle.script_text.proofs.Common.{Bor, List, YieldsList-from_slice, find_from_yields_List, is_user_data, rules, tests, user_data_in, ℕ}
 use Rattle.script_text.proofs.Mapped.{number_found, number_none}
 use Rattle.script_text.proofs.options.given_user_data.Goals as goal
 

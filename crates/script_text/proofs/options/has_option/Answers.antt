@@ -1,7 +1,4 @@
-use Rattle.std.proofs.Common.{Bor, List, rules, tests, ℕ}
-use Rattle.std.proofs.lemmas.Iterator.{YieldsList-from_slice}
-use Rattle.std.proofs.lemmas.Iterator.Search.{any_from_yields_List}
-use Rattle.script_text.specs.TextWords.{is_same}
+use Rattle.script_text.proofs.Common.{Bor, List, YieldsList-from_slice, any_from_yields_List, is_same, rules, tests, ℕ}
 use Rattle.script_text.proofs.Mapped.{list_any-texts}
 use Rattle.script_text.proofs.options.has_option.Goals as goal
 

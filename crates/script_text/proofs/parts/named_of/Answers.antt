@@ -1,7 +1,5 @@
-use Rattle.std.proofs.Common.{◌≡◌, ◌∙◌}
-use Rattle.std.specs.String.{string_bytes}
 use Rattle.std.specs.Str.{IsUtf8}
-use Rattle.script_text.specs.TextWords.{texts, word_at}
+use Rattle.script_text.proofs.Common.{string_bytes, texts, word_at, ◌∙◌, ◌≡◌}
 use Rattle.script_text.proofs.Entering.{label_is_text}
 use Rattle.script_text.proofs.parts.named_of.Goals as goal
 

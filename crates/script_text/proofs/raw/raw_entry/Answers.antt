@@ -1,4 +1,4 @@
-use Rattle.std.proofs.Common.{◌≡◌, length}
+use Rattle.script_text.proofs.Common.{length, ◌≡◌}
 use Rattle.script_text.proofs.RawEntries.{raw_only}
 use Rattle.script_text.proofs.raw.raw_entry.Goals as goal
 

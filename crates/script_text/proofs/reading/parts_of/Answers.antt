@@ -1,9 +1,5 @@
-use Rattle.std.proofs.Common.{◌≡◌, ◌+◌, [], refl, sym, ◌∙◌, arith, below_more}
-use Rattle.std.specs.Prelude.{reverse}
 use Rattle.std.proofs.lemmas.Result.{err_from_is_err_and}
-use Rattle.script_text.specs.Above.{stated_in}
-use Rattle.script_text.specs.Scripts.{faults_of}
-use Rattle.script_text.specs.Sentences.{above_of, sentence, sentences}
+use Rattle.script_text.proofs.Common.{[], above_of, arith, below_more, faults_of, refl, reverse, sentence, sentences, stated_in, sym, ◌+◌, ◌∙◌, ◌≡◌}
 use Rattle.script_text.proofs.LinesAbove.{above_more, as_many_lines, line_here}
 use Rattle.script_text.proofs.ReadingLines.{faults_same, stands_more, told_here}
 use Rattle.script_text.proofs.reading.parts_of.Goals as goal

@@ -1,9 +1,4 @@
-use Rattle.std.proofs.Common.{◌≡◌, ◌<◌, ℕ, []}
-use Rattle.std.specs.Prelude.{reverse}
-use Rattle.script_text.specs.Above.{stated_in}
-use Rattle.script_text.specs.Parts.{Stands}
-use Rattle.script_text.specs.Scripts.{faults_at}
-use Rattle.script_text.specs.Sentences.{above_of, sentences}
+use Rattle.script_text.proofs.Common.{Stands, [], above_of, faults_at, reverse, sentences, stated_in, ℕ, ◌<◌, ◌≡◌}
 use Rattle.script_text.proofs.reading.parts_of.Given as goal
 
 abbrev pub invariant-loop-line : goal.invariant-loop-line

@@ -1,9 +1,7 @@
 use Rattle.std.proofs.lemmas.Result.{IfErr-weaker, IfOk-weaker, on_ok_weaker}
 use Rattle.script_text.specs.Kept.{IsFaultOf}
-use Rattle.script_text.specs.Scripts.{IsScriptOf, IsToldOf}
-use Rattle.script_text.specs.Sentences.{sentences}
 use Rattle.script_text.specs.TextWords.{text_lines}
-use Rattle.std.proofs.Common.{length, ◌≤◌}
+use Rattle.script_text.proofs.Common.{IsScriptOf, IsToldOf, length, sentences, ◌≤◌}
 use Rattle.script_text.proofs.ReadTexts.{all_plain, entries_few, some_sentence, told_among}
 use Rattle.script_text.proofs.reading.read_script.Goals as goal
 

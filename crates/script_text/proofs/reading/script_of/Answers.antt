@@ -1,6 +1,4 @@
-use Rattle.std.specs.Prelude.{IsSome}
-use Rattle.std.proofs.lemmas.Bool.{false≢true}
-use Rattle.script_text.specs.Sentences.{sentences}
+use Rattle.script_text.proofs.Common.{IsSome, false≢true, sentences}
 use Rattle.script_text.proofs.Accepted.{parts_kept}
 use Rattle.script_text.proofs.reading.script_of.Goals as goal
 

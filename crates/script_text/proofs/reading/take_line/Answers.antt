@@ -1,4 +1,4 @@
-use Rattle.script_text.specs.Sentences.{sentence}
+use Rattle.script_text.proofs.Common.{sentence}
 use Rattle.script_text.proofs.ReadingLines.{fits_of}
 use Rattle.script_text.proofs.reading.take_line.Goals as goal
 

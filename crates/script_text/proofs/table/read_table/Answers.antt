@@ -1,8 +1,6 @@
-use Rattle.std.proofs.Common.{◌≡◌, ◌<◌, ◌≤◌, [], length, get_or, sym, ◌∙◌}
-use Rattle.std.proofs.lemmas.List.{drop_all, nil_from_length}
-use Rattle.std.proofs.lemmas.Bool.{eqb-true}
 use Rattle.std.specs.Int.{w32}
 use Rattle.std.proofs.lemmas.Int.{to_z-of_z}
+use Rattle.script_text.proofs.Common.{[], drop_all, eqb-true, get_or, length, nil_from_length, sym, ◌<◌, ◌∙◌, ◌≡◌, ◌≤◌}
 use Rattle.script_text.proofs.TableLines.{bad_line_at, differs_now, not_empty, only_line, pushed_line, so_far_none, so_far_more, so_far_ends, so_far_found, so_far_all}
 use Rattle.script.proofs.Items.{rest_at}
 use Rattle.script_text.proofs.table.read_table.Goals as goal

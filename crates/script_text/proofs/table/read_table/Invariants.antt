@@ -1,5 +1,4 @@
-use Rattle.std.proofs.Common.{drop}
-use Rattle.script_text.specs.TableText.{shown_lines}
+use Rattle.script_text.proofs.Common.{drop, shown_lines}
 use Rattle.script_text.proofs.TableLines.{IsSoFar}
 use Rattle.script_text.proofs.table.read_table.Given as goal
 

@@ -1,7 +1,6 @@
-use Rattle.std.proofs.Common.{◌≡◌, ◌++◌}
 use Rattle.std.specs.Slice.Iter.{iter_rest}
 use Rattle.std.specs.Iterator.Adapters.{zip_first, zip_second}
-use Rattle.script_text.specs.TableText.{shown_lines, table_text}
+use Rattle.script_text.proofs.Common.{shown_lines, table_text, ◌++◌, ◌≡◌}
 use Rattle.script_text.proofs.table.write_table.Given as goal
 
 abbrev pub invariant-loop-entry : goal.invariant-loop-entry

@@ -1,7 +1,7 @@
-use Rattle.std.proofs.Common.{rules, tests}
 use Rattle.std.proofs.lemmas.Iterator.Consumers.{map_from_collect}
 use Rattle.std.proofs.lemmas.Iterator.Splits.{YieldsList-from_slice_split}
 use Rattle.script_text.specs.TextWords.{text_lines}
+use Rattle.script_text.proofs.Common.{rules, tests}
 use Rattle.script_text.proofs.words.lines_of.Goals as goal
 
 pub returns : goal.returns

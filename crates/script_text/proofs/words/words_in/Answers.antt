@@ -1,8 +1,8 @@
-use Rattle.std.proofs.Common.{ℕ, length, rules, tests}
-use Rattle.std.specs.Prelude.{◌==◌, List, not}
+use Rattle.std.specs.Prelude.{List}
 use Rattle.std.proofs.lemmas.Iterator.Consumers.{map_from_collect, YieldsList-at, YieldsList-from_filter}
 use Rattle.std.proofs.lemmas.Iterator.Splits.{YieldsList-from_slice_split}
 use Rattle.script_text.specs.TextWords.{words_in}
+use Rattle.script_text.proofs.Common.{length, not, rules, tests, ℕ, ◌==◌}
 use Rattle.script_text.proofs.words.words_in.Goals as goal
 
 pub returns : goal.returns

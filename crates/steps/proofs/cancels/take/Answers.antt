@@ -1,7 +1,4 @@
-use Rattle.std.proofs.Common.{◌∙◌, negsuc, refl, ap, arith}
-use Rattle.claim.specs.declared.tag.Tag.TheVariants.{Running, Done}
-use Rattle.history.specs.History.{by_take}
-use Rattle.steps.specs.Cells.{word_of, reply_bits, cause_bits}
+use Rattle.steps.proofs.Common.{Done, Running, ap, arith, by_take, cause_bits, negsuc, refl, reply_bits, word_of, ◌∙◌}
 use Rattle.steps.proofs.StepKinds.{either_way}
 use Rattle.steps.proofs.EndingIdle.{else_found}
 use Rattle.steps.proofs.CancelSteps.{take_allows}

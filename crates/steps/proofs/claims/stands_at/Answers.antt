@@ -1,10 +1,5 @@
-use Rattle.std.proofs.Common.{◌≡◌, ◌≢◌, ⊎_elim, ℕ, ◌<◌, true, false, Some, List, sym, refl, ap, ◌∙◌, subst, arith, eqb-true, ltb-true, IsTrue}
-use Rattle.claim.specs.declared.tag.Tag.{Tag}
-use Rattle.claim.specs.declared.tag.Tag.TheVariants.{Held, Ready, Armed}
-use Rattle.claim.specs.Claim.{Claim, fits, packed}
-use Rattle.history.proofs.Requests.{and_left, and_right}
-use Rattle.steps.specs.Cells.{word_of}
-use Rattle.steps.specs.Plays.{IsIdleWord}
+use Rattle.history.proofs.Requests.{and_right}
+use Rattle.steps.proofs.Common.{Armed, Claim, Held, IsIdleWord, IsTrue, List, Ready, Some, Tag, and_left, ap, arith, eqb-true, false, fits, ltb-true, packed, refl, subst, sym, true, word_of, ℕ, ⊎_elim, ◌<◌, ◌∙◌, ◌≡◌, ◌≢◌}
 use Rattle.steps.proofs.IdleWords.{over_by, not_running, is_going}
 use Rattle.steps.proofs.claims.stands_at.Goals as goal
 

@@ -1,4 +1,4 @@
-use Rattle.std.proofs.Common.{◌∙◌}
+use Rattle.steps.proofs.Common.{◌∙◌}
 use Rattle.steps.proofs.FactsKept.{packed_generation}
 use Rattle.steps.proofs.facts.facts.Goals as goal
 

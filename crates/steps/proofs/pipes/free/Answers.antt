@@ -1,6 +1,4 @@
-use Rattle.std.proofs.Common.{sym, ◌∙◌, subst}
-use Rattle.steps.specs.declared.view.View.{View}
-use Rattle.steps.specs.Plays.{HasAlone}
+use Rattle.steps.proofs.Common.{HasAlone, View, subst, sym, ◌∙◌}
 use Rattle.steps.proofs.PipeSteps.{one_worker, bare_after}
 use Rattle.steps.proofs.pipes.free.Goals as goal
 

@@ -1,8 +1,4 @@
-use Rattle.std.proofs.Common.{◌≡◌, ℕ, true, length, sym, ◌∙◌, subst}
-use Rattle.std.proofs.lemmas.Bool.{lt-ltb}
-use Rattle.history.specs.Answers.{is_pipe}
-use Rattle.steps.specs.declared.view.View.{View}
-use Rattle.steps.specs.Plays.{HasBoth}
+use Rattle.steps.proofs.Common.{HasBoth, View, is_pipe, length, lt-ltb, subst, sym, true, ℕ, ◌∙◌, ◌≡◌}
 use Rattle.steps.proofs.PipeSteps.{one_worker, one_other, alone_freed, other_freed, waits_freed}
 use Rattle.steps.proofs.pipes.free_one.Goals as goal
 

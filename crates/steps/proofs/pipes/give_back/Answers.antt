@@ -1,18 +1,4 @@
-use Rattle.std.proofs.Common.{◌≡◌, ◌<◌, ℕ, Some, length, sym, ◌∙◌, subst}
-use Rattle.std.proofs.lemmas.Bool.{lt-ltb}
-use Rattle.atomic_table.specs.Table.{Allows, step, rest}
-use mathlib.Core.Option.{none}
-use Rattle.history.specs.declared.req.Req.{Req}
-use Rattle.steps.specs.declared.line.Laid.{Laid}
-use Rattle.steps.specs.declared.line.Line.TheVariants.{Free}
-use Rattle.steps.specs.declared.view.Layout.{Layout}
-use Rattle.steps.specs.declared.view.Role.{Role}
-use Rattle.steps.specs.declared.view.Role.TheVariants.{Busy}
-use Rattle.steps.specs.Cells.{pipe_at}
-use Rattle.steps.specs.Fairness.{MayLay}
-use Rattle.steps.specs.Journal.{events_of, holder}
-use Rattle.steps.specs.Plays.{Seated, HasPipeLaid, pipe_returned}
-use Rattle.steps.specs.Rule.{Extends, IsStep, Ruled}
+use Rattle.steps.proofs.Common.{Allows, Busy, Extends, Free, HasPipeLaid, IsStep, Laid, Layout, MayLay, Req, Role, Ruled, Seated, Some, events_of, holder, length, lt-ltb, none, pipe_at, pipe_returned, rest, step, subst, sym, ℕ, ◌<◌, ◌∙◌, ◌≡◌}
 use Rattle.steps.proofs.PipeSteps.{one_worker, free_allows}
 use Rattle.steps.proofs.pipes.give_back.Goals as goal
 

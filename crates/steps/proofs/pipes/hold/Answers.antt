@@ -1,7 +1,4 @@
-use Rattle.std.proofs.Common.{◌≡◌, ◌≢◌, ℕ, Some, sym, ap, ◌∙◌, subst}
-use Rattle.history.specs.declared.req.Req.{Req}
-use Rattle.steps.specs.declared.view.View.{View}
-use Rattle.steps.specs.Journal.{holder}
+use Rattle.steps.proofs.Common.{Req, Some, View, ap, holder, subst, sym, ℕ, ◌∙◌, ◌≡◌, ◌≢◌}
 use Rattle.steps.proofs.PipeSteps.{one_worker, alone_after, lacks_after}
 use Rattle.steps.proofs.pipes.hold.Goals as goal
 

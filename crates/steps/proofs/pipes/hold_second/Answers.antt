@@ -1,11 +1,4 @@
-use Rattle.std.proofs.Common.{◌≡◌, ◌≢◌, ℕ, ◌<◌, true, false, length, Some, sym, ap, ◌∙◌, subst, ⊎_elim, true≢false}
-use Rattle.std.proofs.lemmas.Bool.{lt-ltb}
-use Rattle.history.specs.declared.req.Req.{Req}
-use Rattle.history.specs.Answers.{is_pipe}
-use Rattle.history.proofs.Requests.{bool_cases}
-use Rattle.steps.specs.declared.view.Role.TheVariants.{Busy}
-use Rattle.steps.specs.declared.view.View.{View}
-use Rattle.steps.specs.Plays.{HasAlone}
+use Rattle.steps.proofs.Common.{Busy, HasAlone, Req, Some, View, ap, bool_cases, false, is_pipe, length, lt-ltb, subst, sym, true, true≢false, ℕ, ⊎_elim, ◌<◌, ◌∙◌, ◌≡◌, ◌≢◌}
 use Rattle.steps.proofs.PipeSteps.{one_worker, one_alone, both_after, first_after, same_looked, alone_looked, lacks_after}
 use Rattle.steps.proofs.pipes.hold_second.Goals as goal
 

@@ -1,6 +1,4 @@
-use Rattle.std.proofs.Common.{◌≡◌, ℕ, subst}
-use Rattle.std.proofs.lemmas.Bool.{lt-ltb}
-use Rattle.steps.specs.Rule.{leaves}
+use Rattle.steps.proofs.Common.{leaves, lt-ltb, subst, ℕ, ◌≡◌}
 use Rattle.steps.proofs.PipeSteps.{leave_allows}
 use Rattle.steps.proofs.pipes.leave.Goals as goal
 

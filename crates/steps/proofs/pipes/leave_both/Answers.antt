@@ -1,10 +1,4 @@
-use Rattle.std.proofs.Common.{◌≡◌, ◌<◌, length, Some, sym, ap, ◌∙◌, subst}
-use Rattle.atomic_table.specs.Table.{rest}
-use Rattle.steps.specs.declared.view.View.{View}
-use Rattle.steps.specs.Journal.{holder}
-use Rattle.steps.specs.Cells.{pipe_at}
-use Rattle.steps.specs.Plays.{Seated, HasBoth, HasPipe}
-use Rattle.steps.specs.Rule.{leaves, leaves_one}
+use Rattle.steps.proofs.Common.{HasBoth, HasPipe, Seated, Some, View, ap, holder, leaves, leaves_one, length, pipe_at, rest, subst, sym, ◌<◌, ◌∙◌, ◌≡◌}
 use Rattle.steps.proofs.PipeSteps.{one_leaver}
 use Rattle.steps.proofs.pipes.leave_both.Goals as goal
 

@@ -1,6 +1,4 @@
-use Rattle.std.proofs.Common.{◌≡◌, ℕ, subst}
-use Rattle.std.proofs.lemmas.Bool.{lt-ltb}
-use Rattle.steps.specs.Rule.{leaves_one}
+use Rattle.steps.proofs.Common.{leaves_one, lt-ltb, subst, ℕ, ◌≡◌}
 use Rattle.steps.proofs.PipeSteps.{leave_first_allows}
 use Rattle.steps.proofs.pipes.leave_first.Goals as goal
 

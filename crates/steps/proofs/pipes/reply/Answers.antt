@@ -1,19 +1,4 @@
-use Rattle.std.proofs.Common.{◌≡◌, ℕ, ◌<◌, List, ◌∷◌, length, Option, sym, ap, ◌∙◌, subst, ℤ, w32}
-use Rattle.std.proofs.lemmas.Int.{to_z-of_z}
-use Rattle.std.proofs.lemmas.Bool.{lt-ltb}
-use Rattle.atomic_table.specs.Table.{rest}
-use Rattle.history.specs.declared.event.Event.TheVariants.{Reply}
-use Rattle.history.specs.declared.req.Req.{Req}
-use Rattle.steps.specs.declared.line.Line.{Line}
-use Rattle.steps.specs.declared.line.Line.TheVariants.{Did}
-use Rattle.steps.specs.declared.parcel.Thing.{Thing}
-use Rattle.steps.specs.declared.view.Layout.{Layout}
-use Rattle.steps.specs.declared.view.Step.{Step}
-use Rattle.steps.specs.declared.view.View.{View}
-use Rattle.steps.specs.declared.view.Role.TheVariants.{Leaving}
-use Rattle.steps.specs.Cells.{request_at, pipe_at}
-use Rattle.steps.specs.Plays.{HasPipe, MayReply}
-use Rattle.steps.specs.Rule.{Extends}
+use Rattle.steps.proofs.Common.{Did, Extends, HasPipe, Layout, Leaving, Line, List, MayReply, Option, Reply, Req, Step, Thing, View, ap, length, lt-ltb, pipe_at, request_at, rest, subst, sym, to_z-of_z, w32, ℕ, ℤ, ◌<◌, ◌∙◌, ◌∷◌, ◌≡◌}
 use Rattle.steps.proofs.ViewsKept.{layout_after, role_after}
 use Rattle.steps.proofs.PipeSteps.{alone_replied, pipe_replied}
 use Rattle.steps.proofs.pipes.reply.Goals as goal

@@ -1,18 +1,4 @@
-use Rattle.std.proofs.Common.{◌≡◌, ℕ, ◌<◌, true, List, length, Option, sym, refl, ap, ◌∙◌, subst, ℤ, w32}
-use Rattle.std.proofs.lemmas.Int.{to_z-of_z}
-use Rattle.std.proofs.lemmas.Bool.{lt-ltb}
-use Rattle.atomic_table.specs.Table.{rest}
-use Rattle.history.specs.declared.event.Event.TheVariants.{Reply}
-use Rattle.history.specs.declared.req.Req.{Req}
-use Rattle.history.specs.Answers.{is_pipe}
-use Rattle.steps.specs.declared.line.Line.TheVariants.{Did}
-use Rattle.steps.specs.declared.parcel.Thing.{Thing}
-use Rattle.steps.specs.declared.view.Layout.{Layout}
-use Rattle.steps.specs.declared.view.View.{View}
-use Rattle.steps.specs.declared.view.Role.TheVariants.{Leaving}
-use Rattle.steps.specs.Cells.{request_at, pipe_at}
-use Rattle.steps.specs.Plays.{HasPipe, MayReply}
-use Rattle.steps.specs.Rule.{Extends, IsStep, leaves_one}
+use Rattle.steps.proofs.Common.{Did, Extends, HasPipe, IsStep, Layout, Leaving, List, MayReply, Option, Reply, Req, Thing, View, ap, is_pipe, leaves_one, length, lt-ltb, pipe_at, refl, request_at, rest, subst, sym, to_z-of_z, true, w32, ℕ, ℤ, ◌<◌, ◌∙◌, ◌≡◌}
 use Rattle.steps.proofs.ViewsKept.{layout_after, role_after}
 use Rattle.steps.proofs.PipeSteps.{both_replied, pipe_replied}
 use Rattle.steps.proofs.pipes.reply_both.Goals as goal

@@ -1,7 +1,4 @@
-use Rattle.std.proofs.Common.{ℕ, subst, eqb-true, eq-eqb}
-use Rattle.steps.specs.declared.line.Line.TheVariants.{Hold}
-use Rattle.steps.specs.declared.view.Role.{Role}
-use Rattle.steps.specs.Rule.{Extends, IsStep}
+use Rattle.steps.proofs.Common.{Extends, Hold, IsStep, Role, eq-eqb, eqb-true, subst, ℕ}
 use Rattle.steps.proofs.PipeSteps.{hold_allows}
 use Rattle.steps.proofs.pipes.take.Goals as goal
 

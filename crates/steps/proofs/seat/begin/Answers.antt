@@ -1,5 +1,4 @@
-use Rattle.std.proofs.Common.{ℕ, sym, ◌∙◌, eq-eqb, subst, arith, eqb-true}
-use Rattle.steps.specs.Rule.{IsStep}
+use Rattle.steps.proofs.Common.{IsStep, arith, eq-eqb, eqb-true, subst, sym, ℕ, ◌∙◌}
 use Rattle.steps.proofs.LoadReleaseBegin.{begin_allows}
 use Rattle.steps.proofs.seat.begin.Goals as goal
 

@@ -1,4 +1,4 @@
-use Rattle.std.proofs.Common.{arith}
+use Rattle.steps.proofs.Common.{arith}
 use Rattle.steps.proofs.LoadReleaseBegin.{look_allows}
 use Rattle.steps.proofs.seat.look.Goals as goal
 

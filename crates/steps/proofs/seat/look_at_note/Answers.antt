@@ -1,9 +1,4 @@
-use Rattle.std.proofs.Common.{ℕ, List, subst, arith, sym, ap}
-use Rattle.steps.specs.declared.line.Line.{Line}
-use Rattle.steps.specs.declared.view.View.{View}
-use Rattle.steps.specs.Cells.{setup_of}
-use Rattle.steps.specs.Fairness.{NotesTell, FactsTell}
-use Rattle.steps.specs.Rule.{IsStep}
+use Rattle.steps.proofs.Common.{FactsTell, IsStep, Line, List, NotesTell, View, ap, arith, setup_of, subst, sym, ℕ}
 use Rattle.steps.proofs.NotesKept.{notes_tell}
 use Rattle.steps.proofs.FactsKept.{facts_tell}
 use Rattle.steps.proofs.LoadReleaseBegin.{notice_allows}

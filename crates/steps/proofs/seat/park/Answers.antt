@@ -1,5 +1,4 @@
-use Rattle.std.proofs.Common.{ℕ, [], refl, subst, ◌∙◌, arith}
-use Rattle.steps.specs.Rule.{IsStep}
+use Rattle.steps.proofs.Common.{IsStep, [], arith, refl, subst, ℕ, ◌∙◌}
 use Rattle.steps.proofs.ReplyPark.{park_allows}
 use Rattle.steps.proofs.seat.park.Goals as goal
 

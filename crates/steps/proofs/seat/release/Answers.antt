@@ -1,5 +1,4 @@
-use Rattle.std.proofs.Common.{ℕ, ◌∙◌, eq-eqb, ◌≡◌, true, sym, refl, subst, arith, eqb-true}
-use Rattle.steps.specs.Rule.{pollers, stands_for, IsStep}
+use Rattle.steps.proofs.Common.{IsStep, arith, eq-eqb, eqb-true, pollers, refl, stands_for, subst, sym, true, ℕ, ◌∙◌, ◌≡◌}
 use Rattle.steps.proofs.StepKinds.{either_way}
 use Rattle.steps.proofs.LoadReleaseBegin.{release_allows}
 use Rattle.steps.proofs.seat.release.Goals as goal

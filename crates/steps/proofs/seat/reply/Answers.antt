@@ -1,13 +1,5 @@
-use Rattle.std.proofs.Common.{ℕ, ℤ, List, refl, sym, subst, ◌∙◌, ap, arith, of_z, w32}
-use Rattle.std.proofs.lemmas.Int.{to_z-of_z}
 use mir.Val.{to_z}
-use Rattle.claim.specs.declared.tag.Tag.TheVariants.{Done}
-use Rattle.entry.specs.Entry.{Entry}
-use Rattle.history.specs.History.{by_reply}
-use Rattle.steps.specs.Cells.{request_at, word_of, reply_bits, cause_bits}
-use Rattle.steps.specs.Plays.{MayReply}
-use Rattle.steps.specs.declared.view.View.{View}
-use Rattle.steps.specs.Rule.{IsStep}
+use Rattle.steps.proofs.Common.{Done, Entry, IsStep, List, MayReply, View, ap, arith, by_reply, cause_bits, of_z, refl, reply_bits, request_at, subst, sym, to_z-of_z, w32, word_of, ℕ, ℤ, ◌∙◌}
 use Rattle.steps.proofs.CellNumbers.{bits_are, bits_fit}
 use Rattle.steps.proofs.ClaimWords.{cause_fits}
 use Rattle.steps.proofs.ReplyPark.{reply_allows}

@@ -1,8 +1,4 @@
-use Rattle.std.proofs.Common.{ℕ, ◌∙◌, eq-eqb, ◌≡◌, true, negsuc, sym, refl, ap, subst, arith, eqb-true}
-use Rattle.claim.specs.declared.tag.Tag.TheVariants.{Done}
-use Rattle.history.specs.History.{by_sever}
-use Rattle.steps.specs.Cells.{word_of, reply_bits, cause_bits}
-use Rattle.steps.specs.Rule.{pollers, stands_for, IsStep}
+use Rattle.steps.proofs.Common.{Done, IsStep, ap, arith, by_sever, cause_bits, eq-eqb, eqb-true, negsuc, pollers, refl, reply_bits, stands_for, subst, sym, true, word_of, ℕ, ◌∙◌, ◌≡◌}
 use Rattle.steps.proofs.StepKinds.{either_way}
 use Rattle.steps.proofs.SeverStep.{sever_allows}
 use Rattle.steps.proofs.seat.sever.Goals as goal

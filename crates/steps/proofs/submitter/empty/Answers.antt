@@ -1,15 +1,4 @@
-use Rattle.std.proofs.Common.{ℕ, ◌∷◌, Some, None, sym, ap, ◌∙◌, subst, arith}
-use Rattle.atomic_table.specs.Table.{rest}
-use Rattle.history.specs.declared.req.Req.{Req}
-use Rattle.history.specs.History.{data_of}
-use Rattle.steps.specs.declared.line.Line.TheVariants.{Lent}
-use Rattle.steps.specs.declared.parcel.Parcel.{Parcel}
-use Rattle.steps.specs.declared.parcel.Thing.TheVariants.{Full}
-use Rattle.steps.specs.declared.view.View.{View}
-use Rattle.steps.specs.declared.view.Role.TheVariants.{Lending}
-use Rattle.steps.specs.Journal.{events_of}
-use Rattle.steps.specs.Cells.{slot_at, facts_at, request_at, IsParcel}
-use Rattle.steps.specs.Rule.{Extends, IsStep}
+use Rattle.steps.proofs.Common.{Extends, Full, IsParcel, IsStep, Lending, Lent, None, Parcel, Req, Some, View, ap, arith, data_of, events_of, facts_at, request_at, rest, slot_at, subst, sym, ℕ, ◌∙◌, ◌∷◌}
 use Rattle.steps.proofs.StepKinds.{in_hand, same_parcel}
 use Rattle.steps.proofs.Notes.{empty_allows}
 use Rattle.steps.proofs.submitter.empty.Goals as goal

@@ -1,12 +1,4 @@
-use Rattle.std.proofs.Common.{ℕ, ◌∷◌, Some, None, sym, ap, ◌∙◌, subst, arith}
-use Rattle.atomic_table.specs.Table.{rest}
-use Rattle.history.specs.declared.req.Req.{Req}
-use Rattle.steps.specs.declared.line.Line.TheVariants.{Lent}
-use Rattle.steps.specs.declared.parcel.Thing.TheVariants.{Full}
-use Rattle.steps.specs.declared.view.View.{View}
-use Rattle.steps.specs.declared.view.Role.TheVariants.{Lending}
-use Rattle.steps.specs.Cells.{slot_at, facts_at, request_at}
-use Rattle.steps.specs.Rule.{Extends, IsStep}
+use Rattle.steps.proofs.Common.{Extends, Full, IsStep, Lending, Lent, None, Req, Some, View, ap, arith, facts_at, request_at, rest, slot_at, subst, sym, ℕ, ◌∙◌, ◌∷◌}
 use Rattle.steps.proofs.StepKinds.{in_hand}
 use Rattle.steps.proofs.Notes.{open_allows}
 use Rattle.steps.proofs.submitter.fill.Goals as goal

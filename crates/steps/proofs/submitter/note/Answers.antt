@@ -1,7 +1,4 @@
-use Rattle.std.proofs.Common.{ℕ, subst, arith}
-use Rattle.steps.specs.declared.line.Line.TheVariants.{Noted}
-use Rattle.steps.specs.Cells.{request_at}
-use Rattle.steps.specs.Rule.{Extends, IsStep}
+use Rattle.steps.proofs.Common.{Extends, IsStep, Noted, arith, request_at, subst, ℕ}
 use Rattle.steps.proofs.Notes.{more_allows}
 use Rattle.steps.proofs.submitter.note.Goals as goal
 

@@ -1,16 +1,4 @@
-use Rattle.std.proofs.Common.{ℕ, ◌<◌, ◌≡◌, ◌∷◌, None, Bool, true, cond, sym, refl, ap, ◌∙◌, subst}
-use Rattle.atomic_table.specs.Table.{rest}
-use Rattle.history.specs.declared.req.Req.{Req}
-use Rattle.history.specs.declared.event.Event.TheVariants.{Reap}
-use Rattle.history.specs.History.{data_of}
-use Rattle.steps.specs.declared.line.Line.TheVariants.{Did}
-use Rattle.steps.specs.declared.view.Layout.{Layout}
-use Rattle.steps.specs.declared.view.Role.TheVariants.{Submitter, Lending}
-use Rattle.steps.specs.Journal.{events_of, lent}
-use Rattle.history.proofs.Requests.{same_itself}
-use Rattle.steps.specs.declared.view.View.{View}
-use Rattle.steps.specs.Cells.{slot_at, request_at, ring_of}
-use Rattle.steps.specs.Rule.{Extends, IsDone}
+use Rattle.steps.proofs.Common.{Bool, Did, Extends, IsDone, Layout, Lending, None, Reap, Req, Submitter, View, ap, cond, data_of, events_of, lent, refl, request_at, rest, ring_of, same_itself, slot_at, subst, sym, true, ℕ, ◌<◌, ◌∙◌, ◌∷◌, ◌≡◌}
 use Rattle.steps.proofs.ViewsKept.{layout_after, role_after, parts_after, replied_after, placed_after, fits_after, submitter_can, parcel_after}
 use Rattle.steps.proofs.submitter.reap.Goals as goal
 

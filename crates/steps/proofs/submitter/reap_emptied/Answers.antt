@@ -1,7 +1,4 @@
-use Rattle.std.proofs.Common.{ℕ, ap, subst, ◌∙◌, arith, add-one}
-use Rattle.claim.specs.declared.tag.Tag.TheVariants.{Empty}
-use Rattle.steps.specs.Cells.{word_of}
-use Rattle.steps.specs.Rule.{IsStep}
+use Rattle.steps.proofs.Common.{Empty, IsStep, add-one, ap, arith, subst, word_of, ℕ, ◌∙◌}
 use Rattle.steps.proofs.SubmitReap.{reap_allows}
 use Rattle.steps.proofs.CellNumbers.{bits_fit}
 use Rattle.steps.proofs.ClaimWords.{cause_fits}

@@ -1,18 +1,5 @@
-use Rattle.std.proofs.Common.{ℕ, ◌<◌, ◌≡◌, ◌∷◌, Option, Some, true, cond, sym, refl, ap, ◌∙◌, subst, eq-eqb, ne_eqb, arith, Bool}
-use Rattle.atomic_table.specs.Table.{rest}
-use Rattle.history.specs.declared.req.Req.{Req}
-use Rattle.history.specs.declared.event.Event.TheVariants.{Submit}
-use Rattle.history.specs.History.{Submission, submits}
-use Rattle.history.specs.Chains.{before_in, placed_behind}
-use Rattle.steps.specs.declared.line.Line.TheVariants.{Did, Noted}
-use Rattle.steps.specs.declared.parcel.Thing.TheVariants.{Full}
-use Rattle.steps.specs.declared.view.Layout.{Layout}
-use Rattle.steps.specs.declared.view.Role.{Role}
-use Rattle.steps.specs.declared.view.Role.TheVariants.{Submitter, Lending}
-use Rattle.steps.specs.Journal.{events_of, noted}
-use Rattle.steps.specs.Notes.{facts_of, count_in, count_notes, words_in}
-use Rattle.steps.specs.Cells.{IsCell, slot_at, request_at, ring_of, claim_at, facts_at, user_at}
-use Rattle.steps.specs.Rule.{Extends, ExtendsAfter, AreSteps, Vacant}
+use Rattle.steps.specs.Notes.{words_in}
+use Rattle.steps.proofs.Common.{AreSteps, Bool, Did, Extends, ExtendsAfter, Full, IsCell, Layout, Lending, Noted, Option, Req, Role, Some, Submission, Submit, Submitter, Vacant, ap, arith, before_in, claim_at, cond, count_in, count_notes, eq-eqb, events_of, facts_at, facts_of, ne_eqb, noted, placed_behind, refl, request_at, rest, ring_of, slot_at, submits, subst, sym, true, user_at, ℕ, ◌<◌, ◌∙◌, ◌∷◌, ◌≡◌}
 use Rattle.steps.proofs.ViewsKept.{layout_after, role_after, parts_after, submits_after, noted_after, before_after, vacant_after, fits_after, submitter_can, lender_can}
 use Rattle.steps.proofs.submitter.submit.Goals as goal
 

@@ -1,18 +1,4 @@
-use Rattle.std.proofs.Common.{ℕ, ◌<◌, ◌≡◌, ◌∷◌, Option, Some, cond, sym, refl, ap, ◌∙◌, subst, eq-eqb, ne_eqb, arith, Bool}
-use Rattle.atomic_table.specs.Table.{rest}
-use Rattle.history.specs.declared.req.Req.{Req}
-use Rattle.history.specs.declared.event.Event.TheVariants.{Submit}
-use Rattle.history.specs.History.{Submission, submits}
-use Rattle.history.specs.Chains.{before_in, placed_behind}
-use Rattle.steps.specs.declared.line.Line.TheVariants.{Did, Noted}
-use Rattle.steps.specs.declared.parcel.Thing.TheVariants.{Full}
-use Rattle.steps.specs.declared.view.Layout.{Layout}
-use Rattle.steps.specs.declared.view.Role.{Role}
-use Rattle.steps.specs.declared.view.Role.TheVariants.{Submitter, Lending}
-use Rattle.steps.specs.Journal.{events_of, noted}
-use Rattle.steps.specs.Notes.{facts_of}
-use Rattle.steps.specs.Cells.{slot_at, request_at, ring_of, facts_at, user_at, count_at}
-use Rattle.steps.specs.Rule.{Extends, Vacant}
+use Rattle.steps.proofs.Common.{Bool, Did, Extends, Full, Layout, Lending, Noted, Option, Req, Role, Some, Submission, Submit, Submitter, Vacant, ap, arith, before_in, cond, count_at, eq-eqb, events_of, facts_at, facts_of, ne_eqb, noted, placed_behind, refl, request_at, rest, ring_of, slot_at, submits, subst, sym, user_at, ℕ, ◌<◌, ◌∙◌, ◌∷◌, ◌≡◌}
 use Rattle.steps.proofs.Submissions.{count_is}
 use Rattle.steps.proofs.ViewsKept.{layout_after, role_after, parts_after, submits_after, noted_after, before_after, vacant_after, fits_after, lender_can}
 use Rattle.steps.proofs.submitter.submit_counted.Goals as goal

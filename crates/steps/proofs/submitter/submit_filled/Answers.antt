@@ -1,5 +1,4 @@
-use Rattle.std.proofs.Common.{ℕ, subst, ◌∙◌, arith}
-use Rattle.steps.specs.Rule.{IsStep}
+use Rattle.steps.proofs.Common.{IsStep, arith, subst, ℕ, ◌∙◌}
 use Rattle.steps.proofs.SubmitReap.{submit_allows}
 use Rattle.steps.proofs.submitter.submit_filled.Goals as goal
 

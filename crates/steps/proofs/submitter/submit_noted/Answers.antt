@@ -1,4 +1,4 @@
-use Rattle.std.proofs.Common.{◌∙◌}
+use Rattle.steps.proofs.Common.{◌∙◌}
 use Rattle.steps.proofs.Submissions.{no_count}
 use Rattle.steps.proofs.submitter.submit_noted.Goals as goal
 

@@ -1,7 +1,4 @@
-use Rattle.std.proofs.Common.{◌≤◌, sym, subst, arith, Option, length, []}
-use Rattle.history.specs.Pipes.{untouched}
-use Rattle.steps.specs.declared.parcel.Thing.{Thing}
-use Rattle.steps.specs.Cells.{PipeIn}
+use Rattle.steps.proofs.Common.{Option, PipeIn, Thing, [], arith, length, subst, sym, untouched, ◌≤◌}
 use Rattle.steps.proofs.NewSlots.{pipe_pushed, cell_pushed, new_pipe_is}
 use Rattle.steps.proofs.table.new_slots.Goals as goal
 use Rattle.steps.proofs.table.new_slots.Goals.{in-Some+in_ok-new_pipe-in-Some, in-None}

@@ -1,11 +1,5 @@
-use Rattle.std.proofs.Common.{rules, Option, ◌<◌, ◌≡◌, ℕ, sym, refl, ap, ◌∙◌, subst, arith, replicate, List, []}
 use Rattle.std.proofs.lemmas.Grind.{common_steps}
-use Rattle.steps.specs.declared.view.Layout.{Layout}
-use mathlib.Core.Option.{some}
-use lib.ListN.{get_elem?}
-use Rattle.history.specs.Pipes.{untouched}
-use Rattle.steps.specs.declared.parcel.Thing.{Thing}
-use Rattle.steps.specs.Cells.{total, PipeIn, words_of}
+use Rattle.steps.proofs.Common.{Layout, List, Option, PipeIn, Thing, [], ap, arith, get_elem?, refl, replicate, rules, some, subst, sym, total, untouched, words_of, ℕ, ◌<◌, ◌∙◌, ◌≡◌}
 use Rattle.steps.proofs.CutsJoinsEnd.{starts}
 use Rattle.steps.proofs.table.set_up.Goals as goal
 

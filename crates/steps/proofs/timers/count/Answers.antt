@@ -1,6 +1,4 @@
-use Rattle.std.proofs.Common.{ℕ, ◌∙◌, eq-eqb, ◌≡◌, true, pos, sym, refl, subst, arith, eqb-true}
-use Rattle.steps.specs.Cells.{reply_bits}
-use Rattle.steps.specs.Rule.{pollers, stands_for, IsStep}
+use Rattle.steps.proofs.Common.{IsStep, arith, eq-eqb, eqb-true, pollers, pos, refl, reply_bits, stands_for, subst, sym, true, ℕ, ◌∙◌, ◌≡◌}
 use Rattle.steps.proofs.StepKinds.{either_way}
 use Rattle.steps.proofs.TimerSteps.{count_allows}
 use Rattle.steps.proofs.timers.count.Goals as goal

@@ -1,8 +1,4 @@
-use Rattle.std.proofs.Common.{◌∙◌, ◌≡◌, true, negsuc, sym, refl, ap, subst, arith}
-use Rattle.claim.specs.declared.tag.Tag.TheVariants.{Running, Done}
-use Rattle.history.specs.History.{by_fire}
-use Rattle.steps.specs.Cells.{word_of, reply_bits, cause_bits}
-use Rattle.steps.specs.Rule.{pollers, stands_for}
+use Rattle.steps.proofs.Common.{Done, Running, ap, arith, by_fire, cause_bits, negsuc, pollers, refl, reply_bits, stands_for, subst, sym, true, word_of, ◌∙◌, ◌≡◌}
 use Rattle.steps.proofs.StepKinds.{either_way}
 use Rattle.steps.proofs.EndingIdle.{else_found}
 use Rattle.steps.proofs.TimerSteps.{fire_allows}

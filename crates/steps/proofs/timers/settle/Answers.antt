@@ -1,6 +1,4 @@
-use Rattle.std.proofs.Common.{ℕ, ◌∙◌, eq-eqb, ◌≡◌, Bool, true, false, negsuc, cond, sym, refl, subst, arith, eqb-true}
-use Rattle.steps.specs.Cells.{reply_bits}
-use Rattle.steps.specs.Rule.{pollers, stands_for, IsStep}
+use Rattle.steps.proofs.Common.{Bool, IsStep, arith, cond, eq-eqb, eqb-true, false, negsuc, pollers, refl, reply_bits, stands_for, subst, sym, true, ℕ, ◌∙◌, ◌≡◌}
 use Rattle.steps.proofs.StepKinds.{either_way}
 use Rattle.steps.proofs.TimerSteps.{settle_allows}
 use Rattle.steps.proofs.timers.settle.Goals as goal

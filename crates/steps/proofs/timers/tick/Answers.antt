@@ -1,5 +1,4 @@
-use Rattle.std.proofs.Common.{◌≡◌, true, sym, refl, subst, arith}
-use Rattle.steps.specs.Rule.{pollers, stands_for}
+use Rattle.steps.proofs.Common.{arith, pollers, refl, stands_for, subst, sym, true, ◌≡◌}
 use Rattle.steps.proofs.TimerSteps.{tick_allows}
 use Rattle.steps.proofs.timers.tick.Goals as goal
 

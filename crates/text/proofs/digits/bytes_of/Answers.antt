@@ -1,8 +1,6 @@
-use Rattle.std.proofs.Common.{◌≡◌, sym, ap, ◌∙◌}
-use Rattle.std.proofs.lemmas.Bool.Decides.{Decides-eqb}
-use Rattle.std.proofs.lemmas.Slice.Eq.{slice_eq-Decides}
 use Rattle.hex.specs.Hex.{encode_lower}
 use Rattle.hex.proofs.HexLemmas.{decode_of-ok}
+use Rattle.text.proofs.Common.{Decides-eqb, ap, slice_eq-Decides, sym, ◌∙◌, ◌≡◌}
 use Rattle.text.proofs.Numbers.{true_and_false}
 use Rattle.text.proofs.Hexadecimal.{unread_reads, same_bytes}
 use Rattle.text.proofs.digits.bytes_of.Goals as goal

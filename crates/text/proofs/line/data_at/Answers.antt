@@ -1,4 +1,4 @@
-use Rattle.std.proofs.Common.{◌∙◌, arith}
+use Rattle.text.proofs.Common.{arith, ◌∙◌}
 use Rattle.text.proofs.Hexadecimal.{data_behind, data_length, data_digits, data_found}
 use Rattle.text.proofs.line.data_at.Goals as goal
 

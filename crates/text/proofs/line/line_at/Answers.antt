@@ -1,8 +1,5 @@
-use Rattle.std.proofs.Common.{◌≡◌, ℕ, List, ◌∷◌, ◌++◌, length, sym, ap, ◌∙◌}
-use Rattle.std.specs.Int.{w32}
-use Rattle.std.specs.Fmt.{signed_decimal}
 use Rattle.std.proofs.lemmas.Int.{to_z-of_z}
-use Rattle.text.specs.Line.{shown_count, data_text}
+use Rattle.text.proofs.Common.{List, ap, data_text, length, shown_count, signed_decimal, sym, w32, ℕ, ◌++◌, ◌∙◌, ◌∷◌, ◌≡◌}
 use Rattle.text.proofs.Numbers.{kept_reply}
 use Rattle.text.proofs.Lines.{line_parts, line_found, space_is}
 use Rattle.text.proofs.Cuts.{IsCut-data}

@@ -1,4 +1,4 @@
-use Rattle.std.proofs.Common.{sym, ◌∙◌}
+use Rattle.text.proofs.Common.{sym, ◌∙◌}
 use Rattle.text.proofs.Numbers.{kept_reply, some_is}
 use Rattle.text.proofs.Cuts.{cut_once, IsUncut-signed}
 use Rattle.text.proofs.line.reply_at.Goals as goal

@@ -1,5 +1,4 @@
-use Rattle.std.proofs.Common.{ℕ, ◌<◌, slice_index}
-use Rattle.text.specs.Line.{IsCutByte}
+use Rattle.text.proofs.Common.{IsCutByte, slice_index, ℕ, ◌<◌}
 use Rattle.text.proofs.line.word_at.Given as goal
 
 abbrev pub invariant-loop-i : goal.invariant-loop-i

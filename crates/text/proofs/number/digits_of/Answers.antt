@@ -1,8 +1,4 @@
-use Rattle.std.proofs.Common.{◌≡◌, sym, ◌∙◌, ap}
-use Rattle.std.proofs.lemmas.Bool.Decides.{Decides-eqb}
-use Rattle.std.proofs.lemmas.Slice.Eq.{slice_eq-Decides}
-use Rattle.std.proofs.lemmas.Fmt.{parse-decimal}
-use Rattle.std.specs.Fmt.{decimal}
+use Rattle.text.proofs.Common.{Decides-eqb, ap, decimal, parse-decimal, slice_eq-Decides, sym, ◌∙◌, ◌≡◌}
 use Rattle.text.proofs.Numbers.{decimal_is_text, true_and_false}
 use Rattle.text.proofs.number.digits_of.Goals as goal
 

@@ -1,9 +1,4 @@
-use Rattle.std.proofs.Common.{◌≡◌, Some, sym, ◌∙◌, ap}
-use Rattle.std.proofs.lemmas.Bool.Decides.{Decides-eqb}
-use Rattle.std.proofs.lemmas.Slice.Eq.{slice_eq-Decides}
-use Rattle.std.proofs.lemmas.Fmt.{parse-signed_decimal}
-use Rattle.std.specs.Int.{w32}
-use Rattle.std.specs.Fmt.{signed_decimal}
+use Rattle.text.proofs.Common.{Decides-eqb, Some, ap, parse-signed_decimal, signed_decimal, slice_eq-Decides, sym, w32, ◌∙◌, ◌≡◌}
 use Rattle.text.proofs.Numbers.{signed_is_text, mag_small, ok_is, kept_reply, true_and_false}
 use Rattle.text.proofs.number.reply_of.Goals as goal
 

@@ -1,6 +1,5 @@
-use Rattle.std.proofs.Common.{◌≡◌, ◌+◌, ◌++◌, [], ◌∷◌, arith, sym, subst, take}
 use Rattle.std.proofs.lemmas.Grind.{common_steps}
-use Rattle.wheel.specs.CallRuns.{Runs}
+use Rattle.wheel.proofs.Common.{Runs, [], arith, subst, sym, take, ◌++◌, ◌+◌, ◌∷◌, ◌≡◌}
 use Rattle.wheel.proofs.LongerRuns.{runs_next}
 use Rattle.wheel.proofs.calls.run.Goals as goal
 

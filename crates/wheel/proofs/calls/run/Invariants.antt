@@ -1,5 +1,4 @@
-use Rattle.std.proofs.Common.{take}
-use Rattle.wheel.specs.CallRuns.{Runs}
+use Rattle.wheel.proofs.Common.{Runs, take}
 use Rattle.wheel.proofs.calls.run.Given as goal
 
 abbrev pub invariant-loop-call : goal.invariant-loop-call

@@ -1,7 +1,4 @@
-use Rattle.std.proofs.Common.{◌≡◌, ℕ, ◌-◌, ◌<◌, ◌≤◌, false, length, Some}
-use Rattle.std.specs.List.{slice_get}
-use Rattle.history.specs.History.{same}
-use Rattle.wheel.specs.declared.sorted.Timer.{Timer}
+use Rattle.wheel.proofs.Common.{Some, Timer, false, length, same, slice_get, ℕ, ◌-◌, ◌<◌, ◌≡◌, ◌≤◌}
 use Rattle.wheel.proofs.sorted.find.Given as goal
 
 abbrev pub invariant-loop-k : goal.invariant-loop-k

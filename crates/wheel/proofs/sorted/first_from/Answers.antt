@@ -1,5 +1,4 @@
-use Rattle.std.proofs.Common.{◌≤◌, ◌+◌, ◌-◌, ◌/◌, get_or, arith}
-use Rattle.wheel.specs.declared.sorted.Timer.{Timer}
+use Rattle.wheel.proofs.Common.{Timer, arith, get_or, ◌+◌, ◌-◌, ◌/◌, ◌≤◌}
 use Rattle.wheel.proofs.Sorting.{up_to}
 use Rattle.wheel.proofs.sorted.first_from.Goals as goal
 

@@ -1,6 +1,4 @@
-use Rattle.std.proofs.Common.{◌≡◌, ℕ, ◌-◌, ◌<◌, ◌≤◌, length, Some}
-use Rattle.std.specs.List.{slice_get}
-use Rattle.wheel.specs.declared.sorted.Timer.{Timer}
+use Rattle.wheel.proofs.Common.{Some, Timer, length, slice_get, ℕ, ◌-◌, ◌<◌, ◌≡◌, ◌≤◌}
 use Rattle.wheel.proofs.sorted.first_from.Given as goal
 
 abbrev pub invariant-loop-low : goal.invariant-loop-low

@@ -1,6 +1,4 @@
-use Rattle.std.proofs.Common.{◌≡◌, ◌<◌, ◌≤◌, length, Some}
-use Rattle.std.specs.List.{slice_get}
-use Rattle.wheel.specs.declared.sorted.Timer.{Timer}
+use Rattle.wheel.proofs.Common.{Some, Timer, length, slice_get, ◌<◌, ◌≡◌, ◌≤◌}
 use Rattle.wheel.proofs.sorted.place.Given as goal
 
 abbrev pub invariant-loop-k : goal.invariant-loop-k

@@ -1,9 +1,5 @@
-use Rattle.std.proofs.Common.{◌≡◌, ◌<◌, ◌≤◌, ℕ, length, ap, ◌∙◌, subst, Bool, true, cond, List, Some, arith}
 use Rattle.std.proofs.lemmas.Grind.{common_steps}
-use Rattle.std.specs.Prelude.{insert, IsOk}
-use Rattle.std.specs.List.{slice_get}
-use Rattle.wheel.specs.declared.sorted.Timer.{Timer}
-use Rattle.wheel.specs.TimerLists.{with_timer}
+use Rattle.wheel.proofs.Common.{Bool, IsOk, List, Some, Timer, ap, arith, cond, insert, length, slice_get, subst, true, with_timer, ℕ, ◌<◌, ◌∙◌, ◌≡◌, ◌≤◌}
 use Rattle.wheel.proofs.Sorting.{insert_is}
 use Rattle.wheel.proofs.sorted.put.Goals as goal
 

@@ -1,12 +1,4 @@
-use Rattle.std.proofs.Common.{◌≡◌, ◌<◌, ◌≤◌, ℕ, true, false, length, get_or, List, Option, Some, None, refl, sym, ◌∙◌, subst, ⊎_elim, true≢false, arith}
-use Rattle.std.specs.Prelude.{IsSome, IsTrue, ◌↔◌}
-use Rattle.std.specs.List.{remove, slice_get}
-use Rattle.std.proofs.lemmas.Bool.{cases_lt}
-use Rattle.std.proofs.lemmas.Option.{slice_get_cases, slice_get_within}
-use Rattle.history.specs.declared.req.Req.{Req}
-use Rattle.history.specs.History.{same}
-use Rattle.wheel.specs.declared.sorted.Timer.{Timer}
-use Rattle.wheel.specs.TimerLists.{IsOnce, deadline_in, without}
+use Rattle.wheel.proofs.Common.{IsOnce, IsSome, IsTrue, List, None, Option, Req, Some, Timer, arith, cases_lt, deadline_in, false, get_or, length, refl, remove, same, slice_get, slice_get_cases, slice_get_within, subst, sym, true, true≢false, without, ℕ, ⊎_elim, ◌<◌, ◌↔◌, ◌∙◌, ◌≡◌, ◌≤◌}
 use Rattle.wheel.proofs.Sorting.{its_deadline, kept_whole, none_there, taken, vec_len-length}
 use Rattle.wheel.proofs.sorted.take_out.Goals as goal
 

@@ -1,4 +1,4 @@
-use Rattle.std.proofs.Common.{sym, ◌∙◌}
+use Rattle.wheel.proofs.Common.{sym, ◌∙◌}
 use Rattle.wheel.proofs.Fronts.{at_bound}
 use Rattle.wheel.proofs.timers.least.Goals as goal
 

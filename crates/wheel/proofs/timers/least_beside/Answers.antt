@@ -1,6 +1,4 @@
-use Rattle.std.proofs.Common.{◌≡◌, ◌+◌, ◌<◌, ◌≤◌, ⊎_elim, sym, ap, ◌∙◌, subst, arith}
-use Rattle.std.proofs.lemmas.Bool.{cases_lt}
-use Rattle.wheel.specs.Wheel.{IsLeast, earlier_of}
+use Rattle.wheel.proofs.Common.{IsLeast, ap, arith, cases_lt, earlier_of, subst, sym, ⊎_elim, ◌+◌, ◌<◌, ◌∙◌, ◌≡◌, ◌≤◌}
 use Rattle.wheel.proofs.Fronts.{least_more}
 use Rattle.wheel.proofs.timers.least_beside.Goals as goal
 

@@ -1,5 +1,4 @@
-use Rattle.std.proofs.Common.{◌+◌, ◌<◌, ◌≤◌}
-use Rattle.wheel.specs.Wheel.{IsLeast}
+use Rattle.wheel.proofs.Common.{IsLeast, ◌+◌, ◌<◌, ◌≤◌}
 use Rattle.wheel.proofs.timers.least_beside.Given as goal
 
 abbrev pub invariant-loop-slot : goal.invariant-loop-slot

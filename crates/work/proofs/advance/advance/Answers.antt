@@ -1,7 +1,4 @@
-use Rattle.std.proofs.Common.{◌≡◌, ℕ, ◌+◌, ◌-◌, ◌≤◌, max, List, sym, ap, ◌∙◌, subst, arith}
-use Rattle.steps.specs.Cells.{cells_in}
-use Rattle.steps.proofs.CellNumbers.{some_cells}
-use Rattle.work.specs.Passes.{ArePast}
+use Rattle.work.proofs.Common.{ArePast, List, ap, arith, cells_in, max, some_cells, subst, sym, ℕ, ◌+◌, ◌-◌, ◌∙◌, ◌≡◌, ◌≤◌}
 use Rattle.work.proofs.CancelAdvance.{fewer_less, past_max}
 use Rattle.work.proofs.CancelWalk.{past_oldest}
 use Rattle.work.proofs.MarksKept.{marked_set, marked_went}

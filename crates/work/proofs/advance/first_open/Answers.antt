@@ -1,9 +1,4 @@
-use Rattle.std.proofs.Common.{ℕ, ◌+◌, ◌-◌, ◌<◌, ◌≤◌, inr, refl, ◌∙◌, subst, arith}
-use Rattle.history.specs.declared.req.Req.{Req}
-use Rattle.history.specs.History.{IsReplied, phase}
-use Rattle.steps.specs.Cells.{cells_in}
-use Rattle.steps.specs.Journal.{events_of}
-use Rattle.steps.proofs.CellNumbers.{some_cells}
+use Rattle.work.proofs.Common.{IsReplied, Req, arith, cells_in, events_of, inr, phase, refl, some_cells, subst, ℕ, ◌+◌, ◌-◌, ◌<◌, ◌∙◌, ◌≤◌}
 use Rattle.work.proofs.CancelAdvance.{advancing_first, advancing_next}
 use Rattle.work.proofs.CancelGrowth.{grown_went, went_both}
 use Rattle.work.proofs.CancelWalk.{cancels_now, earlier_now, fewer_walked, target_now, walked_next}

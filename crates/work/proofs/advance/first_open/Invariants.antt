@@ -1,5 +1,4 @@
-use Rattle.std.proofs.Common.{◌≡◌, ◌≤◌, ◌-◌}
-use Rattle.steps.specs.Rule.{IsSameSeat}
+use Rattle.work.proofs.Common.{IsSameSeat, ◌-◌, ◌≡◌, ◌≤◌}
 use Rattle.work.proofs.CancelAdvance.{Advancing}
 use Rattle.work.proofs.advance.first_open.Given as goal
 

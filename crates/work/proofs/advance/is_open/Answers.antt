@@ -1,6 +1,4 @@
-use Rattle.std.proofs.Common.{refl, true≢false}
-use Rattle.steps.specs.declared.view.View.{View}
-use Rattle.work.specs.Searches.{target_in}
+use Rattle.work.proofs.Common.{View, refl, target_in, true≢false}
 use Rattle.work.proofs.CancelGrowth.{born_on, grown_look}
 use Rattle.work.proofs.CancelSearch.{stepped_claim, target_born}
 use Rattle.work.proofs.advance.is_open.Goals as goal

@@ -1,13 +1,5 @@
-use Rattle.std.proofs.Common.{◌≡◌, ◌⊎◌, ⊎_elim, inl, inr, List, refl, subst}
 use Rattle.claim.specs.declared.tag.Tag.TheVariants.{Running}
-use Rattle.history.specs.Answers.{Matches}
-use Rattle.steps.specs.Cells.{setup_of, word_of}
-use Rattle.steps.specs.Journal.{events_of}
-use Rattle.steps.specs.declared.line.Line.{Line}
-use Rattle.steps.specs.declared.view.View.{View}
-use Rattle.steps.specs.Plays.{IsIdleWord}
-use Rattle.steps.specs.Rule.{Looks, Shown}
-use Rattle.work.specs.Searches.{target_in}
+use Rattle.work.proofs.Common.{IsIdleWord, Line, List, Looks, Matches, Shown, View, events_of, inl, inr, refl, setup_of, subst, target_in, word_of, ⊎_elim, ◌≡◌, ◌⊎◌}
 use Rattle.work.proofs.CancelGrowth.{born_on, grown_look}
 use Rattle.work.proofs.CancelSearch.{idle_still, held_before, held_no_more, is_match, match_fails, may_hit, stepped_claim, target_born, word_open}
 use Rattle.work.proofs.cancel.attempt.Goals as goal

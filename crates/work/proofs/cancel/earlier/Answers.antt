@@ -1,7 +1,5 @@
-use Rattle.std.proofs.Common.{◌≡◌, refl, ap, arith}
-use Rattle.history.specs.declared.req.Req.{Req}
-use Rattle.steps.specs.Cells.{ring_of}
-use Rattle.steps.proofs.CellNumbers.{age_small, ring_in}
+use Rattle.steps.proofs.CellNumbers.{ring_in}
+use Rattle.work.proofs.Common.{Req, age_small, ap, arith, refl, ring_of, ◌≡◌}
 use Rattle.work.proofs.CancelWalk.{in_ring}
 use Rattle.work.proofs.cancel.earlier.Goals as goal
 

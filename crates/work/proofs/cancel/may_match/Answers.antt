@@ -1,7 +1,5 @@
-use Rattle.std.proofs.Common.{◌≡◌, ◌≢◌, Bool, true, false, refl, sym, ap, ◌∙◌, subst, arith}
 use Rattle.claim.specs.Facts.{Facts as FactsParts}
-use Rattle.history.specs.Chains.{IsBefore}
-use Rattle.work.specs.Searches.{target_in}
+use Rattle.work.proofs.Common.{Bool, IsBefore, ap, arith, false, refl, subst, sym, target_in, true, ◌∙◌, ◌≡◌, ◌≢◌}
 use Rattle.work.proofs.CancelNotes.{facts_told, gone_on, meant_by, other_kind, passed_by}
 use Rattle.work.proofs.CancelSearch.{cancels_looked, same_cancel, stepped_both, stepped_less, stepped_facts, stepped_user, target_born}
 use Rattle.work.proofs.PassesKept.{looks_both}

@@ -1,12 +1,4 @@
-use Rattle.std.proofs.Common.{ℕ, ◌+◌, ◌*◌, ◌-◌, ◌<◌, ◌≤◌, List, sym, refl, ◌∙◌, subst, arith}
-use Rattle.history.specs.declared.req.Req.{Req}
-use Rattle.history.specs.declared.event.Event.TheVariants.{Take, Miss}
-use Rattle.steps.specs.declared.line.Line.TheVariants.{Did}
-use Rattle.steps.specs.declared.view.Role.TheVariants.{Busy}
-use Rattle.steps.specs.Cells.{cells_in}
-use Rattle.steps.specs.Rule.{Extends}
-use Rattle.work.specs.declared.cancel.Tried.TheVariants.{Passed}
-use Rattle.work.specs.Searches.{DidTry}
+use Rattle.work.proofs.Common.{Busy, Did, DidTry, Extends, List, Miss, Passed, Req, Take, arith, cells_in, refl, subst, sym, ℕ, ◌*◌, ◌+◌, ◌-◌, ◌<◌, ◌∙◌, ◌≤◌}
 use Rattle.work.proofs.CancelGrowth.{went_both}
 use Rattle.work.proofs.CancelWalk.{cancels_now, earlier_now, few_walked, in_ring, none_left, search_aims, search_grown, searching_first, searching_next, target_now, walked_next}
 use Rattle.work.proofs.cancel.search.Goals as goal

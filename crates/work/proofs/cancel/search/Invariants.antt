@@ -1,5 +1,4 @@
-use Rattle.std.proofs.Common.{◌≡◌}
-use Rattle.steps.specs.Rule.{IsSameSeat}
+use Rattle.work.proofs.Common.{IsSameSeat, ◌≡◌}
 use Rattle.work.proofs.CancelWalk.{Searching}
 use Rattle.work.proofs.cancel.search.Given as goal
 

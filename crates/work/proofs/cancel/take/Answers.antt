@@ -1,7 +1,4 @@
-use Rattle.std.proofs.Common.{◌∙◌, subst, arith}
-use Rattle.history.specs.declared.req.Req.{Req}
-use Rattle.steps.specs.Rule.{Looks}
-use Rattle.work.specs.Searches.{DidTake, target_in}
+use Rattle.work.proofs.Common.{DidTake, Looks, Req, arith, subst, target_in, ◌∙◌}
 use Rattle.work.proofs.CancelSearch.{aim_looked, cancels_looked, earlier_looked, meant_looked, stepped_both, stepped_claim, stepped_less, take_later, target_looked}
 use Rattle.work.proofs.PassesKept.{looks_both}
 use Rattle.work.proofs.cancel.take.Goals as goal

@@ -1,6 +1,4 @@
-use Rattle.std.proofs.Common.{inr, sym, ◌∙◌, subst, true≢false}
-use Rattle.history.specs.declared.req.Req.{Req}
-use Rattle.work.specs.Searches.{DidTake, IsMeant, target_in}
+use Rattle.work.proofs.Common.{DidTake, IsMeant, Req, inr, subst, sym, target_in, true≢false, ◌∙◌}
 use Rattle.work.proofs.CancelSearch.{aim_looked, cancels_looked, earlier_looked, stepped_both, take_later, target_looked, try_taken}
 use Rattle.work.proofs.cancel.try_one.Goals as goal
 

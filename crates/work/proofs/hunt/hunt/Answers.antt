@@ -1,7 +1,4 @@
-use Rattle.std.proofs.Common.{rules, ℕ, ◌+◌, ◌*◌, ◌-◌, ◌<◌, ◌≤◌, sym, ◌∙◌, subst, arith, w32}
-use Rattle.std.proofs.lemmas.Int.{to_z-of_z}
-use Rattle.steps.specs.Cells.{cells_in}
-use Rattle.work.specs.WorkerRuns.{DidHunt}
+use Rattle.work.proofs.Common.{DidHunt, arith, cells_in, rules, subst, sym, to_z-of_z, w32, ℕ, ◌*◌, ◌+◌, ◌-◌, ◌<◌, ◌∙◌, ◌≤◌}
 use Rattle.work.proofs.CancelAdvance.{fewer_both}
 use Rattle.work.proofs.CancelEnds.{hunt_later}
 use Rattle.work.proofs.CancelGrowth.{by_grown, cancels_grown, grown_went, went_hit}

@@ -1,9 +1,4 @@
-use Rattle.std.proofs.Common.{rules, ◌≡◌, ℕ, pos, ◌<◌, List, length, sym, ap, ◌∙◌, subst, arith, w32}
-use Rattle.std.proofs.lemmas.Int.{to_z-of_z, to_z_pos}
-use Rattle.steps.specs.Cells.{cells_in}
-use Rattle.steps.proofs.CellNumbers.{some_cells}
-use Rattle.work.specs.Searches.{DidSearch}
-use Rattle.work.specs.WorkerRuns.{DidHunt}
+use Rattle.work.proofs.Common.{DidHunt, DidSearch, List, ap, arith, cells_in, length, pos, rules, some_cells, subst, sym, to_z-of_z, to_z_pos, w32, ℕ, ◌<◌, ◌∙◌, ◌≡◌}
 use Rattle.work.proofs.CancelEnds.{hunt_searched, hunt_swept, told_few}
 use Rattle.work.proofs.hunt.hunt_from.Goals as goal
 

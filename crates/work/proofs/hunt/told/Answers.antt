@@ -1,8 +1,5 @@
-use Rattle.std.proofs.Common.{pos, ◌<◌, List, [], ◌∷◌, ◌++◌, length, sym, refl, ap, ◌∙◌, subst}
-use Rattle.std.specs.Prelude.{vec_capacity}
-use Rattle.history.specs.declared.req.Req.{Req}
 use Rattle.work.specs.declared.cancel.Searched.{Searched}
-use Rattle.work.specs.WorkerRuns.{Told}
+use Rattle.work.proofs.Common.{List, Req, Told, [], ap, length, pos, refl, subst, sym, vec_capacity, ◌++◌, ◌<◌, ◌∙◌, ◌∷◌}
 use Rattle.work.proofs.hunt.told.Goals as goal
 
 pub note-requires : goal.note-requires

@@ -1,4 +1,4 @@
-use Rattle.std.proofs.Common.{sym, ◌∙◌}
+use Rattle.work.proofs.Common.{sym, ◌∙◌}
 use Rattle.work.proofs.LyingThere.{found_there, lies_found}
 use Rattle.work.proofs.lists.lies.Goals as goal
 

@@ -1,8 +1,4 @@
-use Rattle.std.proofs.Common.{◌≡◌, ℕ, ◌+◌, ◌*◌, ◌-◌, ◌<◌, ◌≤◌, sym, refl, ◌∙◌, subst, arith}
-use Rattle.history.specs.declared.req.Req.{Req}
-use Rattle.std.specs.Prelude.{vec_capacity}
-use Rattle.steps.specs.Cells.{cells_in}
-use Rattle.work.specs.Searches.{DidTry}
+use Rattle.work.proofs.Common.{DidTry, Req, arith, cells_in, refl, subst, sym, vec_capacity, ℕ, ◌*◌, ◌+◌, ◌-◌, ◌<◌, ◌∙◌, ◌≡◌, ◌≤◌}
 use Rattle.work.proofs.CancelWalk.{cancels_now, earlier_now, few_walked, in_ring, target_now, walked_next}
 use Rattle.work.proofs.CancelSweep.{Sweeping, sweep_aims, sweep_grown, sweeping_first, sweeping_on, sweeping_took, swept}
 use Rattle.work.proofs.sweep.sweep.Goals as goal

@@ -1,5 +1,5 @@
-use Rattle.std.specs.Prelude.{◌≡◌, ◌≤◌, vec_capacity}
-use Rattle.steps.specs.Rule.{IsSameSeat}
+use Rattle.std.specs.Prelude.{◌≡◌, ◌≤◌}
+use Rattle.work.proofs.Common.{IsSameSeat, vec_capacity}
 use Rattle.work.proofs.CancelSweep.{Sweeping}
 use Rattle.work.proofs.sweep.sweep.Given as goal
 

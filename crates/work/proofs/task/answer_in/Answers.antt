@@ -1,12 +1,5 @@
 use Rattle.std.specs.Vec.{with_items}
-use Rattle.std.proofs.lemmas.List.{with_items_is, places}
-use Rattle.std.proofs.Common.{rules, ◌≡◌, ℕ, List, ◌∷◌, Option, Some, sym, ap, ◌∙◌, subst}
-use Rattle.atomic_table.specs.Table.{rest}
-use Rattle.answers.specs.Answered.{Answered}
-use Rattle.steps.specs.declared.parcel.Parcel.{Parcel}
-use Rattle.steps.specs.declared.parcel.Thing.{Thing}
-use Rattle.steps.specs.declared.parcel.Thing.TheVariants.{Full}
-use Rattle.steps.proofs.StepKinds.{in_hand}
+use Rattle.work.proofs.Common.{Answered, Full, List, Option, Parcel, Some, Thing, ap, in_hand, places, rest, rules, subst, sym, with_items_is, ℕ, ◌∙◌, ◌∷◌, ◌≡◌}
 use Rattle.work.proofs.task.answer_in.Goals as goal
 
 same_parcel : (a b : Parcel) → ◌≡◌ {A = Option Thing} (Some (Full a)) (Some (Full b)) → a ≡ b

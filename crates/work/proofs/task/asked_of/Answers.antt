@@ -1,14 +1,5 @@
-use Rattle.std.proofs.Common.{rules, ℕ, ◌∙◌, Some, refl, sym, ap, subst}
-use Rattle.std.proofs.lemmas.Bool.{lt-ltb}
 use Rattle.claim.specs.Facts.{Facts}
-use Rattle.entry.specs.declared.op.Op.TheVariants.{Nop}
-use Rattle.entry.specs.Entry.{Entry}
-use Rattle.steps.specs.declared.parcel.Thing.TheVariants.{Full}
-use Rattle.steps.specs.declared.view.View.{View}
-use Rattle.steps.specs.Cells.{slot_at}
-use Rattle.steps.specs.Plays.{Seated}
-use Rattle.work.specs.Passes.{notes_read}
-use Rattle.work.specs.Searches.{ReadNotes}
+use Rattle.work.proofs.Common.{Entry, Full, Nop, ReadNotes, Seated, Some, View, ap, lt-ltb, notes_read, refl, rules, slot_at, subst, sym, ℕ, ◌∙◌}
 use Rattle.work.proofs.NotesRead.{is_nop, read_one, read_two, reads_one, row_told, underway_still, user_told}
 use Rattle.work.proofs.PassesKept.{looks_both}
 use Rattle.work.proofs.RunsKept.{runs_look}

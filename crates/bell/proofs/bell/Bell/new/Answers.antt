@@ -1,14 +1,6 @@
-use Rattle.std.proofs.Common.{rules, ◌≡◌, ◌<◌, ◌≢◌, ◌+◌, ℕ, ◌∙◌, sym, ap, subst, arith, replicate, List, length, length-append, ◌++◌, ◌∷◌, []}
 use Rattle.std.proofs.lemmas.Grind.{common_steps}
-use mathlib.Core.Option.{some}
-use mathlib.Core.Logic.{dite}
-use native.Mathlib.Decide.{ℕ_discrete}
-use lib.ListN.{get_elem?, length-replicate}
 use Rattle.atomic_table.specs.Seated.{TableId}
-use Rattle.atomic_table.proofs.Lists.{at_longer, at_last}
-use Rattle.bell.specs.declared.view.View.{View}
-use Rattle.bell.specs.Rule.{opening_view, with_ringer, new_ringer}
-use Rattle.bell.specs.BellPasses.{Ringing, new_ringing}
+use Rattle.bell.proofs.Common.{List, Ringing, View, [], ap, arith, at_last, at_longer, dite, get_elem?, length, length-append, length-replicate, new_ringer, new_ringing, opening_view, replicate, rules, some, subst, sym, with_ringer, ℕ, ℕ_discrete, ◌++◌, ◌+◌, ◌<◌, ◌∙◌, ◌∷◌, ◌≡◌, ◌≢◌}
 use Rattle.bell.proofs.SleeperSteps.{opens, cuts_ringer}
 use Rattle.bell.proofs.bell.Bell.new.Goals as goal
 

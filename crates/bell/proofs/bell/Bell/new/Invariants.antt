@@ -1,8 +1,4 @@
-use Rattle.std.proofs.Common.{◌≡◌, ℕ, ◌<◌, length}
-use mathlib.Core.Option.{some}
-use lib.ListN.{get_elem?}
-use Rattle.bell.specs.Rule.{opening_view}
-use Rattle.bell.specs.BellPasses.{new_ringing}
+use Rattle.bell.proofs.Common.{get_elem?, length, new_ringing, opening_view, some, ℕ, ◌<◌, ◌≡◌}
 use Rattle.bell.proofs.bell.Bell.new.Given as goal
 
 abbrev pub invariant-loop-ring : goal.invariant-loop-ring

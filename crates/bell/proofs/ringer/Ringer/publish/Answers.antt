@@ -1,8 +1,5 @@
-use Rattle.std.proofs.Common.{◌≡◌, ◌≤◌, ◌<◌, ◌+◌, ℕ, sym, ap, ◌∙◌, subst, arith}
 use Rattle.atomic_table.specs.Seated.{TableId}
-use Rattle.bell.specs.declared.view.Role.TheVariants.{Ringer}
-use Rattle.bell.specs.declared.view.View.{View}
-use Rattle.bell.specs.BellPasses.{Ringing}
+use Rattle.bell.proofs.Common.{Ringer, Ringing, View, ap, arith, subst, sym, ℕ, ◌+◌, ◌<◌, ◌∙◌, ◌≡◌, ◌≤◌}
 use Rattle.bell.proofs.RingerSteps.{store_allows, look_allows}
 use Rattle.bell.proofs.ringer.Ringer.publish.Goals as goal
 

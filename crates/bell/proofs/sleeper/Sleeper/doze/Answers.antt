@@ -1,5 +1,4 @@
-use Rattle.std.proofs.Common.{◌∙◌, ap, arith}
-use Rattle.bell.specs.BellPasses.{Sleeping}
+use Rattle.bell.proofs.Common.{Sleeping, ap, arith, ◌∙◌}
 use Rattle.bell.proofs.SleeperSteps.{arm_allows}
 use Rattle.bell.proofs.sleeper.Sleeper.doze.Goals as goal
 

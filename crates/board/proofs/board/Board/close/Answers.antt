@@ -1,12 +1,4 @@
-use Rattle.std.proofs.Common.{◌≡◌, ℕ, List, Option, length, sym, ap, ◌∙◌, subst}
-use Rattle.std.specs.Mem.Slots.{slots_items}
-use Rattle.steps.specs.declared.parcel.Thing.{Thing}
-use Rattle.steps.specs.declared.view.View.{View}
-use Rattle.steps.specs.Rule.{Ended}
-use Rattle.work.specs.Passes.{Pass, pass_of}
-use Rattle.work.specs.Board.{Facts, IsOf}
-use Rattle.board.specs.Remains.{Closing}
-use Rattle.board.specs.Reports.{AreOf}
+use Rattle.board.proofs.Common.{AreOf, Closing, Ended, Facts, IsOf, List, Option, Pass, Thing, View, ap, length, pass_of, slots_items, subst, sym, ℕ, ◌∙◌, ◌≡◌}
 use Rattle.board.proofs.TableEnd.{view_after}
 use Rattle.board.proofs.board.Board.close.Goals as goal
 

@@ -1,12 +1,5 @@
-use Rattle.std.proofs.Common.{◌≡◌, ◌∷◌, ◌++◌, ℕ, List, Option, Bool, length, vec_capacity, refl, sym, ap, ◌∙◌, subst, arith}
-use Rattle.std.specs.Mem.Slots.{slots_items, slots_counts}
-use Rattle.steps.specs.declared.parcel.Thing.{Thing}
-use Rattle.steps.specs.Cells.{total, setup_of}
-use Rattle.work.specs.Passes.{Pass}
-use Rattle.board.specs.declared.completion.Completion.{Completion}
-use Rattle.work.specs.Board.{Facts}
-use Rattle.board.specs.Remains.{Reports}
-use Rattle.board.specs.Reports.{IsReport}
+use Rattle.std.proofs.Common.{vec_capacity}
+use Rattle.board.proofs.Common.{Bool, Completion, Facts, IsReport, List, Option, Pass, Reports, Thing, ap, arith, length, refl, setup_of, slots_counts, slots_items, subst, sym, total, ℕ, ◌++◌, ◌∙◌, ◌∷◌, ◌≡◌}
 use Rattle.board.proofs.TableEnd.{closed_deep, closed_begins, closed_report}
 use Rattle.board.proofs.board.Board.end.Goals as goal
 

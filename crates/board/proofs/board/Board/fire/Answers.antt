@@ -1,5 +1,4 @@
-use Rattle.std.proofs.Common.{inl, ◌≤◌, ◌∙◌, length, sym, subst}
-use Rattle.work.specs.Board.{Facts}
+use Rattle.board.proofs.Common.{Facts, inl, length, subst, sym, ◌∙◌, ◌≤◌}
 use Rattle.board.proofs.PassFacts.{unborn_ring}
 use Rattle.board.proofs.board.Board.fire.Goals as goal
 

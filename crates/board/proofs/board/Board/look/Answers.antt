@@ -1,10 +1,4 @@
-use Rattle.std.proofs.Common.{◌≡◌, ◌≤◌, length, sym, ap, subst, inl, inr}
-use Rattle.history.specs.declared.req.Req.{Req}
-use Rattle.steps.specs.declared.view.Layout.{Layout}
-use Rattle.steps.specs.Cells.{IsCell, request_at}
-use Rattle.steps.specs.Rule.{Shown}
-use Rattle.work.specs.Board.{Facts}
-use Rattle.board.specs.Calls.{Stands}
+use Rattle.board.proofs.Common.{Facts, IsCell, Layout, Req, Shown, Stands, ap, inl, inr, length, request_at, subst, sym, ◌≡◌, ◌≤◌}
 use Rattle.board.proofs.GoesLaws.{goes_looked}
 use Rattle.board.proofs.PassFacts.{keeps_freed, unborn_ring, found_word, stepped_once, spot_of}
 use Rattle.board.proofs.board.Board.look.Goals as goal

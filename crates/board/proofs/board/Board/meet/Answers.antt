@@ -1,12 +1,5 @@
-use Rattle.std.proofs.Common.{◌≡◌, [], ◌∷◌, refl, sym, ap, ◌∙◌, subst}
-use Rattle.steps.specs.declared.view.Step.{Step}
-use Rattle.steps.specs.Cells.{claim_at}
-use Rattle.steps.specs.Rule.{Begins}
-use Rattle.work.specs.Board.{Facts, IsBoard}
-use Rattle.work.specs.Passes.{Pass, CanReach}
-use Rattle.work.proofs.PassesKept.{looked_of}
+use Rattle.board.proofs.Common.{Begins, CanReach, Facts, HasLooked, IsBoard, KeepsFreed, Pass, Step, [], ap, claim_at, looked_of, refl, subst, sym, ◌∙◌, ◌∷◌, ◌≡◌}
 use Rattle.board.proofs.GoesLaws.{goes_looked}
-use Rattle.board.specs.Calls.{HasLooked, KeepsFreed}
 use Rattle.board.proofs.PassFacts.{first_cell_reached, goes_told, begins_told, has_looked, keeps_freed, keeps_freed_told}
 use Rattle.board.proofs.board.Board.meet.Goals as goal
 

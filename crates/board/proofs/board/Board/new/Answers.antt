@@ -1,18 +1,4 @@
-use Rattle.std.proofs.Common.{◌≡◌, ◌≤◌, ℕ, List, [], Option, length, refl, sym, ap, ◌∙◌, subst, arith}
-use Rattle.atomic_table.specs.Table.{Me}
-use Rattle.steps.specs.declared.parcel.Thing.{Thing}
-use Rattle.steps.specs.declared.view.View.{View}
-use Rattle.steps.specs.declared.view.Layout.{Layout}
-use Rattle.steps.specs.declared.view.Role.TheVariants.{Poller}
-use Rattle.steps.specs.Cells.{cells_in, total, words_of}
-use Rattle.work.specs.Grid.{AreCells, AreCellCounts}
-use Rattle.work.specs.Board.{Facts}
-use Rattle.work.specs.Passes.{Pass, pass_of}
-use Rattle.board.specs.declared.shape.RingShape.{RingShape}
-use Rattle.board.specs.ShapeLimits.{counts, widest}
-use Rattle.board.specs.New.{IsCutting, IsFresh}
-use Rattle.board.specs.PollerRows.{KnowsRows}
-use Rattle.steps.specs.declared.line.Line.{Line}
+use Rattle.board.proofs.Common.{AreCellCounts, AreCells, Facts, IsCutting, IsFresh, KnowsRows, Layout, Line, List, Me, Option, Pass, Poller, RingShape, Thing, View, [], ap, arith, cells_in, counts, length, pass_of, refl, subst, sym, total, widest, words_of, ℕ, ◌∙◌, ◌≡◌, ◌≤◌}
 use Rattle.board.proofs.ShapeBounds.{none_wider, shape_says}
 use Rattle.board.proofs.NewPasses.{cut_all, poller_fresh}
 use Rattle.board.proofs.board.Board.new.Goals as goal

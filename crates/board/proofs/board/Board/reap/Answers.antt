@@ -1,22 +1,5 @@
-use Rattle.std.proofs.Common.{◌≡◌, inl, inr, ℕ, ◌≤◌, List, [], ◌∷◌, Some, refl, sym, ap, ◌∙◌, subst, arith, of_z, w32}
-use mir.Val.{to_z}
-use Rattle.history.specs.declared.req.Req.{Req}
-use Rattle.history.specs.declared.event.Event.TheVariants.{Reap}
-use Rattle.history.specs.History.{phase, submits, replied, data_of}
-use Rattle.steps.specs.declared.line.Line.TheVariants.{Did, Lent}
-use Rattle.steps.specs.declared.view.Layout.{Layout}
-use Rattle.steps.specs.declared.view.Role.{Role}
-use Rattle.steps.specs.declared.view.Role.TheVariants.{Lending}
-use Rattle.steps.specs.declared.view.View.{View}
-use Rattle.steps.specs.Cells.{IsCell, request_at, facts_at, place_of, setup_of, over, IsParcel}
-use Rattle.steps.specs.Rule.{ExtendsTwice, IsDone, Shown}
-use Rattle.work.specs.Board.{Facts, IsOf}
-use Rattle.work.specs.Passes.{seen_of}
-use Rattle.work.proofs.PassesKept.{looked_of}
 use Rattle.board.specs.declared.phase.Phase.{Phase as Standing}
-use Rattle.board.specs.declared.phase.Phase.TheVariants.{Done, Gone}
-use Rattle.steps.specs.Fairness.{IsReaped}
-use Rattle.board.specs.Calls.{Goes, Stands}
+use Rattle.board.proofs.Common.{Did, Done, ExtendsTwice, Facts, Goes, Gone, IsCell, IsDone, IsOf, IsParcel, IsReaped, Layout, Lending, Lent, List, Reap, Req, Role, Shown, Some, Stands, View, [], ap, arith, data_of, facts_at, inl, inr, looked_of, of_z, over, phase, place_of, refl, replied, request_at, seen_of, setup_of, submits, subst, sym, to_z, w32, ℕ, ◌∙◌, ◌∷◌, ◌≡◌, ◌≤◌}
 use Rattle.board.proofs.GoesLaws.{goes_looked, goes_then, goes_twice}
 use Rattle.board.proofs.PassFacts.{found_word, stepped_once, took_three}
 use Rattle.board.proofs.OnceEach.{reaped_once}

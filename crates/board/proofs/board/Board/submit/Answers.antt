@@ -1,19 +1,4 @@
-use Rattle.std.proofs.Common.{◌≡◌, ℕ, ◌+◌, ◌/◌, ◌<◌, ◌≤◌, List, [], ◌∷◌, true, length, refl, sym, ap, ◌∙◌, subst, arith}
-use Rattle.history.specs.declared.req.Req.{Req}
-use Rattle.history.specs.declared.event.Event.TheVariants.{Submit}
-use Rattle.history.specs.History.{submits}
-use Rattle.history.specs.Legal.{Fits, FitsOp}
-use Rattle.steps.specs.declared.view.Role.TheVariants.{Submitter}
-use Rattle.steps.specs.Cells.{cells_in}
-use Rattle.steps.specs.Fairness.{IsFree}
-use Rattle.work.specs.Board.{Facts, IsBoard}
-use Rattle.work.proofs.GridRows.{counts_at}
-use Rattle.steps.specs.declared.view.Layout.{Layout}
-use Rattle.work.specs.Passes.{Pass, seen_of, Took}
-use Rattle.work.proofs.RunsKept.{took_both}
-use Rattle.board.specs.Batches.{steps_for}
-use Rattle.board.specs.Calls.{Goes, next_of}
-use Rattle.board.specs.Lanes.{nth, RefusesRoom}
+use Rattle.board.proofs.Common.{Facts, Fits, FitsOp, Goes, IsBoard, IsFree, Layout, List, Pass, RefusesRoom, Req, Submit, Submitter, Took, [], ap, arith, cells_in, counts_at, length, next_of, nth, refl, seen_of, steps_for, submits, subst, sym, took_both, true, ℕ, ◌+◌, ◌/◌, ◌<◌, ◌∙◌, ◌∷◌, ◌≡◌, ◌≤◌}
 use Rattle.board.proofs.GoesLaws.{goes_then}
 use Rattle.board.proofs.LaneWalks.{watched_took, watched_submits}
 use Rattle.board.proofs.SubmitterLooks.{goes_watched, free_then, entry_reason}

@@ -1,12 +1,5 @@
-use Rattle.std.proofs.Common.{◌≡◌, ℕ, ◌+◌, ◌==◌, length, arith, sym, ap, ◌∙◌, subst}
-use Rattle.std.proofs.lemmas.List.{nil_from_length}
 use Rattle.std.specs.Vec.Iter.{into_iter_items, into_iter_len}
-use Rattle.history.specs.History.{submits}
-use Rattle.steps.specs.declared.view.Role.TheVariants.{Submitter}
-use Rattle.work.specs.Passes.{Pass, seen_of}
-use Rattle.board.specs.Batches.{Entries, is_empty, submits_of}
-use Rattle.board.specs.Calls.{Goes}
-use Rattle.board.specs.Lanes.{nth}
+use Rattle.board.proofs.Common.{Entries, Goes, Pass, Submitter, ap, arith, is_empty, length, nil_from_length, nth, seen_of, submits, submits_of, subst, sym, ℕ, ◌+◌, ◌==◌, ◌∙◌, ◌≡◌}
 use Rattle.board.proofs.BatchesKept.{Going, going_start, going_more, going_free, empty_is, going_end}
 use Rattle.board.proofs.board.Board.submit_all.Goals as goal
 

@@ -1,7 +1,5 @@
-use Rattle.std.proofs.Common.{◌≡◌, ℕ, length}
 use Rattle.std.specs.Vec.Iter.{into_iter_items, into_iter_len}
-use Rattle.history.specs.History.{submits}
-use Rattle.work.specs.Passes.{seen_of}
+use Rattle.board.proofs.Common.{length, seen_of, submits, ℕ, ◌≡◌}
 use Rattle.board.proofs.BatchesKept.{Going}
 use Rattle.board.proofs.board.Board.submit_all.Given as goal
 

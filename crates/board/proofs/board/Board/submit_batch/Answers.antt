@@ -1,15 +1,4 @@
-use Rattle.std.proofs.Common.{◌≡◌, ℕ, ◌+◌, ◌/◌, ◌<◌, ◌≤◌, List, [], length, refl, sym, ap, ◌∙◌, subst, arith}
-use Rattle.history.specs.declared.req.Req.{Req}
-use Rattle.history.specs.History.{submits}
-use Rattle.steps.specs.declared.view.Role.TheVariants.{Submitter}
-use Rattle.steps.specs.Cells.{cells_in}
-use Rattle.steps.specs.Fairness.{IsFree}
-use Rattle.work.specs.Board.{Facts}
-use Rattle.work.specs.Passes.{Pass, seen_of, Took}
-use Rattle.work.proofs.RunsKept.{took_both}
-use Rattle.board.specs.Batches.{Entries, AreFit, IsReady, steps_in, submits_of}
-use Rattle.board.specs.Calls.{Goes}
-use Rattle.board.specs.Lanes.{nth, RefusesRoom}
+use Rattle.board.proofs.Common.{AreFit, Entries, Facts, Goes, IsFree, IsReady, List, Pass, RefusesRoom, Req, Submitter, Took, [], ap, arith, cells_in, length, nth, refl, seen_of, steps_in, submits, submits_of, subst, sym, took_both, ℕ, ◌+◌, ◌/◌, ◌<◌, ◌∙◌, ◌≡◌, ◌≤◌}
 use Rattle.board.proofs.GoesLaws.{goes_then}
 use Rattle.board.proofs.LaneWalks.{watched_took, watched_submits}
 use Rattle.board.proofs.SubmitterLooks.{goes_watched, free_then}

@@ -1,19 +1,5 @@
-use Rattle.std.proofs.Common.{◌≡◌, ℕ, ◌/◌, ◌<◌, List, [], ◌∷◌, refl, sym, ap, ◌∙◌, subst}
-use Rattle.history.specs.declared.req.Req.{Req}
-use Rattle.history.specs.declared.event.Event.TheVariants.{Submit}
-use Rattle.steps.specs.declared.line.Line.TheVariants.{Did}
-use Rattle.steps.specs.declared.view.Layout.{Layout}
-use Rattle.steps.specs.declared.view.Role.TheVariants.{Submitter}
-use Rattle.steps.specs.Cells.{IsCell, request_at, cells_in, facts_at}
-use Rattle.steps.specs.Notes.{notes_of}
-use Rattle.steps.specs.Fairness.{IsFree}
-use Rattle.steps.specs.Rule.{ExtendsNoted}
-use Rattle.work.specs.Board.{Facts}
-use Rattle.work.specs.Passes.{seen_of}
-use Rattle.board.specs.Calls.{next_of, Goes}
+use Rattle.board.proofs.Common.{Did, ExtendsNoted, Facts, Goes, IsCell, IsFree, Layout, List, Req, Submit, Submitter, [], ap, cells_in, facts_at, next_of, notes_of, nth, refl, request_at, seen_of, submits, subst, sym, ℕ, ◌/◌, ◌<◌, ◌∙◌, ◌∷◌, ◌≡◌}
 use Rattle.board.proofs.GoesLaws.{goes_noted}
-use Rattle.history.specs.History.{submits}
-use Rattle.board.specs.Lanes.{nth}
 use Rattle.board.proofs.BatchesKept.{noted_next, took_noted}
 use Rattle.board.proofs.SubmitterLooks.{generation_is}
 use Rattle.board.proofs.board.Board.submit_next.Goals as goal

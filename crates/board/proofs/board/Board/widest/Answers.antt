@@ -1,4 +1,4 @@
-use Rattle.std.proofs.Common.{◌≤◌, ℕ, sym, subst}
+use Rattle.board.proofs.Common.{subst, sym, ℕ, ◌≤◌}
 use Rattle.board.proofs.ShapeBounds.{widest_few}
 use Rattle.board.proofs.board.Board.widest.Goals as goal
 

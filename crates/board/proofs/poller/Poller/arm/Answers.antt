@@ -1,15 +1,5 @@
-use Rattle.std.proofs.Common.{◌≡◌, ◌<◌, ℕ, List, length, set, refl, sym, ap, ◌∙◌, subst, arith}
-use Rattle.history.specs.declared.req.Req.{Req}
-use Rattle.steps.specs.declared.view.Layout.{Layout}
-use Rattle.steps.specs.declared.view.Role.{Role}
-use Rattle.steps.specs.Cells.{total}
-use Rattle.steps.specs.Journal.{events_of}
-use Rattle.steps.specs.Rule.{pollers, stands_for}
 use Rattle.steps.proofs.CellNumbers.{ring_in}
-use Rattle.work.specs.Passes.{Pass, pass_of}
-use Rattle.board.specs.PollerRows.{KnowsRow, KnowsRows}
-use Rattle.board.specs.PollerTimers.{KnowsTimers}
-use Rattle.board.specs.TimerCalls.{armed_by}
+use Rattle.board.proofs.Common.{KnowsRow, KnowsRows, KnowsTimers, Layout, List, Pass, Req, Role, ap, arith, armed_by, events_of, length, pass_of, pollers, refl, set, stands_for, subst, sym, total, ℕ, ◌<◌, ◌∙◌, ◌≡◌}
 use Rattle.board.proofs.AlarmsSet.{timers_after}
 use Rattle.board.proofs.RowsKept.{rows_goes, at_index}
 use Rattle.board.proofs.poller.Poller.arm.Goals as goal

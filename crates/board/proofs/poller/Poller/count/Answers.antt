@@ -1,12 +1,4 @@
-use Rattle.std.proofs.Common.{◌≡◌, ◌<◌, Some, length, sym, ap, ◌∙◌, subst, arith}
-use Rattle.history.specs.declared.req.Req.{Req}
-use Rattle.steps.specs.declared.view.Layout.{Layout}
-use Rattle.steps.specs.Cells.{request_at, total}
-use Rattle.steps.specs.Journal.{events_of}
-use Rattle.work.specs.Board.{IsOf}
-use Rattle.work.specs.Passes.{Pass, pass_of}
-use Rattle.board.specs.PollerTimers.{KnowsAlarm}
-use Rattle.board.specs.TimerCalls.{counted_by}
+use Rattle.board.proofs.Common.{IsOf, KnowsAlarm, Layout, Pass, Req, Some, ap, arith, counted_by, events_of, length, pass_of, request_at, subst, sym, total, ◌<◌, ◌∙◌, ◌≡◌}
 use Rattle.board.proofs.AlarmsSet.{found_at}
 use Rattle.board.proofs.Countings.{counted_calm}
 use Rattle.board.proofs.RowsKept.{rows_on}

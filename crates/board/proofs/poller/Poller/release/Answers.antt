@@ -1,10 +1,5 @@
-use Rattle.std.proofs.Common.{◌≡◌, ℕ, List, length, set, refl, sym, ap, ◌∙◌, subst, arith}
-use Rattle.history.specs.declared.req.Req.{Req}
-use Rattle.steps.specs.declared.view.Layout.{Layout}
 use Rattle.steps.proofs.CellNumbers.{ring_in}
-use Rattle.work.specs.Passes.{Pass, pass_of}
-use Rattle.board.specs.PollerRows.{KnowsRow, KnowsRows, severed_by}
-use Rattle.work.specs.Board.{IsOf}
+use Rattle.board.proofs.Common.{IsOf, KnowsRow, KnowsRows, Layout, List, Pass, Req, ap, arith, length, pass_of, refl, set, severed_by, subst, sym, ℕ, ◌∙◌, ◌≡◌}
 use Rattle.board.proofs.TimersHeld.{timers_on, released_calm}
 use Rattle.board.proofs.RowsKept.{rows_goes, at_index}
 use Rattle.board.proofs.poller.Poller.release.Goals as goal

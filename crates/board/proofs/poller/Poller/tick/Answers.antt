@@ -1,11 +1,4 @@
-use Rattle.std.proofs.Common.{◌≡◌, ◌∷◌, [], refl, sym, ap, subst, arith}
-use Rattle.history.specs.declared.event.Event.TheVariants.{Tick}
-use Rattle.steps.specs.declared.view.Role.{Role}
-use Rattle.steps.specs.Journal.{events_of}
-use Rattle.steps.specs.Rule.{pollers, stands_for}
-use Rattle.work.specs.Board.{IsOf}
-use Rattle.work.specs.Passes.{Pass, pass_of}
-use Rattle.board.specs.Calls.{Goes}
+use Rattle.board.proofs.Common.{Goes, IsOf, Pass, Role, Tick, [], ap, arith, events_of, pass_of, pollers, refl, stands_for, subst, sym, ◌∷◌, ◌≡◌}
 use Rattle.board.proofs.RowsKept.{rows_on}
 use Rattle.board.proofs.TimersHeld.{ticked_timers, goes_one, freed_one}
 use Rattle.board.proofs.Watching.{seat_own}

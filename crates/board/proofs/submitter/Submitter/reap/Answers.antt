@@ -1,11 +1,4 @@
-use Rattle.std.proofs.Common.{◌≡◌, ℕ, ◌+◌, ◌*◌, ◌%◌, ◌<◌, ◌≤◌, List, length, set, get_or, sym, refl, ap, subst, ◌∙◌, arith, w32, add-one, length-set}
-use Rattle.std.proofs.Math.Facts.{Fits-of_lt}
-use Rattle.claim.specs.Facts.{bit}
-use Rattle.entry.specs.Entry.{fails}
-use Rattle.steps.specs.Cells.{facts_at}
-use Rattle.steps.specs.Journal.{noted}
-use Rattle.steps.proofs.CellNumbers.{bits_fit}
-use Rattle.board.specs.Seats.{IsSubmitterSeat}
+use Rattle.board.proofs.Common.{Fits-of_lt, IsSubmitterSeat, List, add-one, ap, arith, bit, bits_fit, facts_at, fails, get_or, length, length-set, noted, refl, set, subst, sym, w32, ℕ, ◌%◌, ◌*◌, ◌+◌, ◌<◌, ◌∙◌, ◌≡◌, ◌≤◌}
 use Rattle.board.proofs.OwnCells.{same_default}
 use Rattle.board.proofs.SubmitterSeats.{here_by, seat_reaped}
 use Rattle.board.proofs.LaneSeats.{chains_reaped}

@@ -1,8 +1,5 @@
-use Rattle.std.proofs.Common.{◌≡◌, ℕ, ◌+◌, ◌<◌, ◌≤◌, length, sym, subst}
-use Rattle.steps.specs.declared.view.Role.TheVariants.{Submitter}
-use Rattle.steps.specs.Cells.{cells_in}
-use Rattle.work.specs.Passes.{Pass, pass_of, seen_of}
-use Rattle.board.specs.Lanes.{AreFree, LinkedAreReaped, RefusesRoom, Watched}
+use Rattle.board.specs.Lanes.{Watched}
+use Rattle.board.proofs.Common.{AreFree, LinkedAreReaped, Pass, RefusesRoom, Submitter, cells_in, length, pass_of, seen_of, subst, sym, ℕ, ◌+◌, ◌<◌, ◌≡◌, ◌≤◌}
 use Rattle.board.proofs.LaneSeats.{lane_ring, ok_more, err_more}
 use Rattle.board.proofs.submitter.Submitter.room.Goals as goal
 

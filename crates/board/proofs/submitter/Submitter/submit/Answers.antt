@@ -1,17 +1,4 @@
-use Rattle.std.proofs.Common.{◌≡◌, ◌≤◌, ◌+◌, ℕ, ◌<◌, ◌⊎◌, List, length, set, sym, ap, subst, ◌∙◌, arith}
-use Rattle.history.specs.declared.req.Req.{Req}
-use Rattle.history.specs.declared.event.Event.TheVariants.{Submit}
-use Rattle.history.specs.History.{submits}
-use Rattle.steps.specs.declared.line.Line.TheVariants.{Did}
-use Rattle.steps.specs.declared.view.Role.TheVariants.{Submitter}
-use Rattle.steps.specs.Fairness.{IsFree}
-use Rattle.steps.specs.Journal.{events_of}
-use Rattle.steps.specs.Cells.{request_at, cells_in, facts_at}
-use Rattle.steps.specs.Notes.{notes_of}
-use Rattle.steps.specs.Rule.{ExtendsNoted}
-use Rattle.work.specs.Passes.{Pass, seen_of}
-use Rattle.board.specs.Lanes.{nth, KnowsChains}
-use Rattle.board.specs.Seats.{IsNextCell, IsSubmitterSeat}
+use Rattle.board.proofs.Common.{Did, ExtendsNoted, IsFree, IsNextCell, IsSubmitterSeat, KnowsChains, List, Pass, Req, Submit, Submitter, ap, arith, cells_in, events_of, facts_at, length, notes_of, nth, request_at, seen_of, set, submits, subst, sym, ℕ, ◌+◌, ◌<◌, ◌∙◌, ◌≡◌, ◌≤◌, ◌⊎◌}
 use Rattle.board.proofs.SubmitterSeats.{cell_here, notes_other, seat_submitted, few_next}
 use Rattle.board.proofs.LanesKept.{vacant_by}
 use Rattle.board.proofs.LaneSeats.{chains_after}

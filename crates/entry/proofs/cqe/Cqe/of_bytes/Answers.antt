@@ -1,8 +1,5 @@
-use Rattle.std.proofs.Common.{◌≡◌, Some, length, sym, ap, ◌∙◌, rules}
-use Rattle.std.specs.Int.{w32, cast_signed, cast_unsigned}
-use Rattle.std.specs.Int.RustNames.{FitsSigned}
 use Rattle.entry.specs.declared.cqe.Cqe.{Cqe}
-use Rattle.entry.specs.Text.{cqe_text}
+use Rattle.entry.proofs.Common.{FitsSigned, Some, ap, cast_signed, cast_unsigned, cqe_text, length, rules, sym, w32, ◌∙◌, ◌≡◌}
 use Rattle.entry.proofs.Completion.{cqe_at, cqe_at-cqe_text, cqe_text-cqe_at, cqe_with, cqe_with-read, flags-cqe_text}
 use Rattle.entry.proofs.RowMeaning.{is_i32-fits, is_u64-lt}
 use Rattle.entry.proofs.cqe.Cqe.of_bytes.Goals as goal

@@ -1,4 +1,4 @@
-use Rattle.std.proofs.Common.{rules, sym, ◌∙◌}
+use Rattle.entry.proofs.Common.{rules, sym, ◌∙◌}
 use Rattle.entry.proofs.RowTests.{Decides-same_row}
 use Rattle.entry.proofs.op.Op.is_written_as.Goals as goal
 

@@ -1,4 +1,4 @@
-use Rattle.std.proofs.Common.{arith}
+use Rattle.entry.proofs.Common.{arith}
 use Rattle.entry.proofs.Masks.{masked_twice}
 use Rattle.entry.proofs.sqe.Sqe.invalid.Goals as goal
 

@@ -1,7 +1,5 @@
-use Rattle.std.proofs.Common.{◌≡◌, length, sym, ◌∙◌, rules, subst}
 use Rattle.std.proofs.lemmas.Bool.{false≢true}
-use Rattle.entry.specs.Entry.{Entry}
-use Rattle.entry.specs.Text.{Says, invalid_of}
+use Rattle.entry.proofs.Common.{Entry, Says, invalid_of, length, rules, subst, sym, ◌∙◌, ◌≡◌}
 use Rattle.entry.proofs.NumberBytes.{IsBytes}
 use Rattle.entry.proofs.RowMeaning.{Reads-text, Says-other, Says-plain, text-valid}
 use Rattle.entry.proofs.sqe.Sqe.of_bytes.Goals as goal

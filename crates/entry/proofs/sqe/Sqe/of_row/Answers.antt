@@ -1,6 +1,5 @@
-use Rattle.std.proofs.Common.{ℕ, rules, sym, subst}
-use Rattle.entry.specs.Entry.{Entry}
-use Rattle.entry.specs.Text.{Says, layout}
+use Rattle.entry.specs.Text.{layout}
+use Rattle.entry.proofs.Common.{Entry, Says, rules, subst, sym, ℕ}
 use Rattle.entry.proofs.RowMeaning.{Says-none, Says-row, refused}
 use Rattle.entry.proofs.EntryBytes.{InTypes}
 use Rattle.entry.proofs.sqe.Sqe.of_row.Goals as goal

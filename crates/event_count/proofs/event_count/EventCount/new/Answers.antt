@@ -1,5 +1,5 @@
-use Rattle.std.proofs.Common.{rules, ◌≡◌, ◌∷◌, [], arith}
 use Rattle.std.proofs.lemmas.Grind.{common_steps}
+use Rattle.event_count.proofs.Common.{[], arith, rules, ◌∷◌, ◌≡◌}
 use Rattle.event_count.proofs.Opening.{opens}
 use Rattle.event_count.proofs.event_count.EventCount.new.Goals as goal
 

@@ -1,5 +1,4 @@
-use Rattle.std.proofs.Common.{◌++◌, ◌∷◌, [], false, true, ap, ◌∙◌, subst}
-use Rattle.gates.specs.EntryRows.{Stands, slot_with, with_reply}
+use Rattle.gates.proofs.Common.{Stands, [], ap, false, slot_with, subst, true, with_reply, ◌++◌, ◌∙◌, ◌∷◌}
 use Rattle.gates.proofs.CellReplies.{with_last_reply}
 use Rattle.gates.proofs.row.Row.add_stand_in.Goals as goal
 

@@ -1,7 +1,4 @@
-use Rattle.std.proofs.Common.{◌≡◌, ◌<◌, ◌≤◌, ◌++◌, ◌∷◌, [], None, false, true, refl, sym, ap, ◌∙◌, subst, arith, length, true≢false}
-use Rattle.gates.specs.declared.cell.Cell.{Cell}
-use Rattle.gates.specs.Slots.{starting}
-use Rattle.gates.specs.EntryRows.{Kept, IsSound, IsToldBy, free_by}
+use Rattle.gates.proofs.Common.{Cell, IsSound, IsToldBy, Kept, None, [], ap, arith, false, free_by, length, refl, starting, subst, sym, true, true≢false, ◌++◌, ◌<◌, ◌∙◌, ◌∷◌, ◌≡◌, ◌≤◌}
 use Rattle.gates.proofs.Adding.{stands_added, stands_moved, told_dropped}
 use Rattle.gates.proofs.Freeing.{room_law, free_law, full_law, free_pos, first_done}
 use Rattle.gates.proofs.row.Row.add_traits.Goals as goal

@@ -1,9 +1,5 @@
-use Rattle.std.proofs.Common.{◌≡◌, ◌<◌, ◌≤◌, false, None, sym, subst, refl, length, map, arith}
-use Rattle.gates.specs.declared.cell.Cell.{Cell}
-use Rattle.gates.specs.Slots.{slot_of, is_draining}
-use Rattle.gates.specs.EntryRows.{IsFirst, IsToldBy, added}
+use Rattle.gates.proofs.Common.{Cell, IsFirst, IsToldBy, None, added, arith, false, is_draining, length, length-map, map, refl, slot_of, subst, sym, ◌<◌, ◌≡◌, ◌≤◌}
 use Rattle.gates.proofs.Adding.{drain_pushed, oldest_pushed, linked_pushed, sound_by}
-use Rattle.std.proofs.lemmas.List.{length-map}
 use Rattle.gates.proofs.row.Row.append.Goals as goal
 
 pub invariant_of-self : goal.invariant_of-self

@@ -1,5 +1,4 @@
-use Rattle.std.proofs.Common.{refl, inl, subst}
-use Rattle.gates.specs.EntryRows.{IsSound}
+use Rattle.gates.proofs.Common.{IsSound, inl, refl, subst}
 use Rattle.gates.proofs.Asking.{named_law, linked_law, asked_law}
 use Rattle.gates.proofs.Trailing.{Live, trailed}
 use Rattle.gates.proofs.row.Row.ask.Goals as goal

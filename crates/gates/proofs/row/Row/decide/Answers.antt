@@ -1,8 +1,5 @@
-use Rattle.std.proofs.Common.{◌≡◌, ◌-◌, ℕ, Option, Some, false, cond, sym, ◌∙◌, subst}
-use Rattle.std.specs.List.{slice_get}
-use Rattle.gates.specs.declared.cell.Cell.{Cell}
 use Rattle.gates.specs.declared.gate.Asked.{Asked}
-use Rattle.gates.specs.EntryRows.{IsBar, place_by, asked_by, asked_of}
+use Rattle.gates.proofs.Common.{Cell, IsBar, Option, Some, asked_by, asked_of, cond, false, place_by, slice_get, subst, sym, ℕ, ◌-◌, ◌∙◌, ◌≡◌}
 use Rattle.gates.proofs.Lists.{one_some}
 use Rattle.gates.proofs.row.Row.decide.Goals as goal
 

@@ -1,5 +1,4 @@
-use Rattle.std.proofs.Common.{◌<◌, ◌≤◌, ◌+◌, ◌-◌, sym, subst}
-use Rattle.gates.specs.EntryRows.{IsSound}
+use Rattle.gates.proofs.Common.{IsSound, subst, sym, ◌+◌, ◌-◌, ◌<◌, ◌≤◌}
 use Rattle.gates.proofs.Adding.{sound_dropped}
 use Rattle.gates.proofs.row.Row.drop_first.Goals as goal
 

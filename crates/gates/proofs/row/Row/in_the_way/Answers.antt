@@ -1,6 +1,4 @@
-use Rattle.std.proofs.Common.{◌≡◌, ◌+◌, ◌-◌, ◌≤◌, length, false, sym, ◌∙◌, subst, arith}
-use Rattle.gates.specs.EntryRows.{Kept, IsSound, added, free_by}
-use Rattle.gates.specs.Shows.{nth, IsOfChain}
+use Rattle.gates.proofs.Common.{IsOfChain, IsSound, Kept, added, arith, false, free_by, length, nth, subst, sym, ◌+◌, ◌-◌, ◌∙◌, ◌≡◌, ◌≤◌}
 use Rattle.gates.proofs.Lists.{one_some}
 use Rattle.gates.proofs.Freeing.{way_chained}
 use Rattle.gates.proofs.Trailing.{Live, trailed}

@@ -1,6 +1,4 @@
-use Rattle.std.proofs.Common.{refl, inl, sym, subst}
-use Rattle.gates.specs.EntryRows.{IsSound}
-use Rattle.gates.specs.Shows.{nth, IsGate}
+use Rattle.gates.proofs.Common.{IsGate, IsSound, inl, nth, refl, subst, sym}
 use Rattle.gates.proofs.Agreement.{Each, shown, shown_fresh}
 use Rattle.gates.proofs.Trailing.{Live, trailed}
 use Rattle.gates.proofs.Asking.{gate_law}

@@ -1,7 +1,4 @@
-use Rattle.std.proofs.Common.{◌≡◌, ◌<◌, ◌≤◌, ◌+◌, ◌-◌, ℕ, length, map, sym, ap, ◌∙◌, subst, refl, arith}
-use Rattle.std.proofs.lemmas.List.{length-map}
-use Rattle.gates.specs.Slots.{slot_of, is_pending, is_draining}
-use Rattle.gates.specs.EntryRows.{HasCell, Stands, added, waiting, waiting_in}
+use Rattle.gates.proofs.Common.{HasCell, Stands, added, ap, arith, is_draining, is_pending, length, length-map, map, refl, slot_of, subst, sym, waiting, waiting_in, ℕ, ◌+◌, ◌-◌, ◌<◌, ◌∙◌, ◌≡◌, ◌≤◌}
 use Rattle.gates.proofs.CellReplies.{linked_but, linked_alone, length_written, length_told, before_written, fewer, stands_replied}
 use Rattle.gates.proofs.row.Row.replied.Goals as goal
 

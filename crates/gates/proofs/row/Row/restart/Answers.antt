@@ -1,6 +1,4 @@
-use Rattle.std.proofs.Common.{List, sym, subst}
-use Rattle.gates.specs.declared.cell.Cell.{Cell}
-use Rattle.gates.specs.EntryRows.{Stands, stand_ins}
+use Rattle.gates.proofs.Common.{Cell, List, Stands, stand_ins, subst, sym}
 use Rattle.gates.proofs.Restarts.{stands_restarted}
 use Rattle.gates.proofs.row.Row.restart.Goals as goal
 

@@ -1,7 +1,4 @@
-use Rattle.std.proofs.Common.{◌≡◌, ◌-◌, Some, refl, inl, sym, subst}
-use Rattle.std.specs.List.{slice_get}
-use Rattle.gates.specs.EntryRows.{IsSound}
-use Rattle.gates.specs.Shows.{nth, IsTargetOf}
+use Rattle.gates.proofs.Common.{IsSound, IsTargetOf, Some, inl, nth, refl, slice_get, subst, sym, ◌-◌, ◌≡◌}
 use Rattle.gates.proofs.Agreement.{Each, shown}
 use Rattle.gates.proofs.Trailing.{Live, trailed}
 use Rattle.gates.proofs.Asking.{target_law}

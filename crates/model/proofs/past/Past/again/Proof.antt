@@ -1,5 +1,5 @@
 -- `again` makes another value of no bytes, and takes the same list for it.
-use Rattle.std.proofs.Common.{[], ◌∷◌, refl}
+use Rattle.model.proofs.Common.{[], refl, ◌∷◌}
 use Rattle.model.proofs.Token.{token, row, made, proved, named, a_type, inst_fn, tables, ‵, raw, ◌⊛◌, ◌$◌, ◌∵◌, !, qed, done, move, keep, split, join, suffices, use0, enter, no_more, and_then, returns, alloc_all, pass_all, free_all, look_at, get, sets, agg, RefOf, yes, RattleType, owns, shr_vals, shr_Tells, Slot, types_at, plain, layouts, nothing, alive, Stays, stay_dropped, Goes-dropped, walk_of, says, ends_at}
 use Rattle.model.specs.contracts.past.Past.again
 use Rattle.model.proofs.past.Past.again.Statement.{statement}

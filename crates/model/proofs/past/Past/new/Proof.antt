@@ -1,5 +1,5 @@
 -- `new` makes the value of no bytes, and takes the empty list for it.
-use Rattle.std.proofs.Common.{[], ◌∷◌, refl}
+use Rattle.model.proofs.Common.{[], refl, ◌∷◌}
 use Rattle.model.proofs.Token.{token, row, made, proved, a_type, inst_fn, tables, ‵, raw, ◌⊛◌, ◌$◌, ◌∵◌, !, qed, done, move, keep, split, join, suffices, use0, enter, no_more, and_then, returns, alloc_all, pass_all, free_all, look_at, get, sets, agg, owns, types_at, layouts, nothing, alive, walk_of, says, ends_at}
 use Rattle.model.specs.contracts.past.Past.new
 use Rattle.model.proofs.past.Past.new.Statement.{statement}

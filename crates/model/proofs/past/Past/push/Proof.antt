@@ -1,7 +1,7 @@
 -- `push` writes nothing: the value of no bytes stands for the longer list as well.
-use Rattle.std.proofs.Common.{[], ◌∷◌, refl}
 use mir.Val.{vunit}
 use base.Fml.{ftrue, flft}
+use Rattle.model.proofs.Common.{[], refl, ◌∷◌}
 use Rattle.model.proofs.Token.{row, proved, named, a_type, inst_fn, tables, ‵, raw, ◌⊛◌, ◌$◌, ◌∵◌, !, qed, done, move, keep, split, join, group, frame, fsplit3, suffices, feq_i, enter, of_opd, unit_lit, returns, alloc_all, pass_all, free_all, look_at, sets, RefOf, yes, RattleType, MutRef, ShrRef, mut_vals, mut_Tells, shr_vals, shr_Tells, Slot, plain, param, layouts, nothing, opens, closes, Stays, stay_ref, stay_dropped, Goes-ref, Goes-dropped, walk_of, says, ends_at}
 use Rattle.model.specs.contracts.past.Past.push
 use Rattle.model.proofs.past.Past.push.Statement.{statement}

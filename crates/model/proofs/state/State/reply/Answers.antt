@@ -1,5 +1,4 @@
-use Rattle.std.proofs.Common.{refl, ◌≡◌, ◌∙◌, ◌<◌, List, length, w32, to_z, of_z, sym, ap, subst, arith}
-use Rattle.model.proofs.Common.{slice_get, Request, now, answer_in, put_reply, bytes_in, moved}
+use Rattle.model.proofs.Common.{List, Request, answer_in, ap, arith, bytes_in, length, moved, now, of_z, put_reply, refl, slice_get, subst, sym, to_z, w32, ◌<◌, ◌∙◌, ◌≡◌}
 use Rattle.model.proofs.PipeEnds.{signed}
 use Rattle.model.proofs.RingWrites.{row_of}
 use Rattle.model.proofs.ReplyEvents.{reply_follows, reply_meets, reply_misses}

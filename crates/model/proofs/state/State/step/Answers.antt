@@ -1,5 +1,5 @@
-use Rattle.std.proofs.Common.{arith}
 use Rattle.model.specs.Steps.{may_step, put_step}
+use Rattle.model.proofs.Common.{arith}
 use Rattle.model.proofs.RingWrites.{meets_if}
 use Rattle.model.proofs.StepEvents.{step_decides}
 use Rattle.model.proofs.state.State.step.Goals as goal

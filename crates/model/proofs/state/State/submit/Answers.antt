@@ -1,5 +1,5 @@
-use Rattle.std.proofs.Common.{rules, ◌≡◌, length, ◌<◌, sym, ap, ◌∙◌, arith}
 use Rattle.history.specs.Legal.{Fits}
+use Rattle.model.proofs.Common.{ap, arith, length, rules, sym, ◌<◌, ◌∙◌, ◌≡◌}
 use Rattle.model.proofs.RingWrites.{row_of}
 use Rattle.model.proofs.WideEvents.{submit_meets}
 use Rattle.model.proofs.state.State.submit.Goals as goal

@@ -1,6 +1,4 @@
-use Rattle.std.proofs.Common.{◌≡◌, ◌-◌, ap, arith}
-use Rattle.crossbeam_queue.specs.Passes.{view}
-use Rattle.ready.specs.Rule.{all_shares, share_of}
+use Rattle.ready.proofs.Common.{all_shares, ap, arith, share_of, view, ◌-◌, ◌≡◌}
 use Rattle.ready.proofs.Balance.{forks}
 use Rattle.ready.proofs.queue.ReadyQueue.new.Goals as goal
 

@@ -1,7 +1,4 @@
-use Rattle.std.proofs.Common.{◌≡◌, ◌≤◌, ◌-◌, [], replicate, vec_capacity}
-use Rattle.crossbeam_queue.specs.Passes.{view, IsPassOf}
-use Rattle.ready.specs.Rule.{all_shares, tally}
-use Rattle.ready.specs.Ready.{unused}
+use Rattle.ready.proofs.Common.{IsPassOf, [], all_shares, replicate, tally, unused, vec_capacity, view, ◌-◌, ◌≡◌, ◌≤◌}
 use Rattle.ready.proofs.queue.ReadyQueue.new.Given as goal
 
 abbrev pub invariant-loop-n : goal.invariant-loop-n

@@ -1,9 +1,4 @@
-use Rattle.std.proofs.Common.{◌≡◌, ◌++◌, ◌∷◌, [], List, sym, ap, ◌∙◌, subst}
-use Rattle.history.specs.declared.req.Req.{Req}
-use Rattle.crossbeam_queue.specs.Passes.{view}
-use Rattle.ready.specs.Spans.{numbers_in}
-use Rattle.ready.specs.Ready.{Moves, numbers_of, moves_of, before, taking}
-use Rattle.ready.specs.QueueParts.{HasDrawn}
+use Rattle.ready.proofs.Common.{HasDrawn, List, Moves, Req, [], ap, before, moves_of, numbers_in, numbers_of, subst, sym, taking, view, ◌++◌, ◌∙◌, ◌∷◌, ◌≡◌}
 use Rattle.ready.proofs.SpanLists.{drawn_first, before_is, same_moves}
 use Rattle.ready.proofs.queue.ReadyQueue.next.Given.{Over}
 use Rattle.ready.proofs.queue.ReadyQueue.next.Goals as goal

@@ -1,4 +1,4 @@
-use Rattle.std.proofs.Common.{arith}
+use Rattle.ready.proofs.Common.{arith}
 use Rattle.ready.proofs.Balance.{puts}
 use Rattle.ready.proofs.queue.ReadyQueue.put_span.Goals as goal
 

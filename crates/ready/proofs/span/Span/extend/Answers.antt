@@ -1,6 +1,4 @@
-use Rattle.std.proofs.Common.{◌≡◌, ◌++◌, ◌+◌, ◌∷◌, [], suc, List, ap, ◌∙◌, arith}
-use Rattle.history.specs.declared.req.Req.{Req}
-use Rattle.ready.specs.Spans.{run_from}
+use Rattle.ready.proofs.Common.{List, Req, [], ap, arith, run_from, suc, ◌++◌, ◌+◌, ◌∙◌, ◌∷◌, ◌≡◌}
 use Rattle.ready.proofs.SpanLists.{run_snoc}
 use Rattle.ready.proofs.span.Span.extend.Goals as goal
 

@@ -1,6 +1,4 @@
-use Rattle.std.proofs.Common.{◌≤◌, length, List, subst, suc, arith}
-use Rattle.history.specs.declared.req.Req.{Req}
-use Rattle.ready.specs.Spans.{most}
+use Rattle.ready.proofs.Common.{List, Req, arith, length, most, subst, suc, ◌≤◌}
 use Rattle.ready.proofs.SpanLists.{run_length}
 use Rattle.ready.proofs.span.Span.split.Goals as goal
 

@@ -1,6 +1,4 @@
-use Rattle.std.proofs.Common.{◌≡◌, ◌≤◌, ◌+◌, ◌++◌, ◌∷◌, [], length, length-append, List, sym, ap, ◌∙◌, subst, suc, arith, append_assoc}
-use Rattle.history.specs.declared.req.Req.{Req}
-use Rattle.ready.specs.Spans.{most, run_from}
+use Rattle.ready.proofs.Common.{List, Req, [], ap, append_assoc, arith, length, length-append, most, run_from, subst, suc, sym, ◌++◌, ◌+◌, ◌∙◌, ◌∷◌, ◌≡◌, ◌≤◌}
 use Rattle.ready.proofs.SpanLists.{run_length, run_snoc}
 use Rattle.ready.proofs.span.Span.unfold.Goals as goal
 

@@ -1,5 +1,4 @@
-use Rattle.std.proofs.Common.{◌≡◌, ◌++◌, vec_capacity}
-use Rattle.ready.specs.Spans.{run_from}
+use Rattle.ready.proofs.Common.{run_from, vec_capacity, ◌++◌, ◌≡◌}
 use Rattle.ready.proofs.span.Span.unfold.Given as goal
 
 abbrev pub invariant-loop-n : goal.invariant-loop-n

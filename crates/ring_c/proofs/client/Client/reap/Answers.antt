@@ -1,7 +1,4 @@
-use Rattle.std.proofs.Common.{subst}
-use Rattle.work.specs.Board.{Facts}
-use Rattle.ring_c.specs.ClientCalls.{ReapsAt}
-use Rattle.ring_c.specs.Sides.{ClientFacts}
+use Rattle.ring_c.proofs.Common.{ClientFacts, Facts, ReapsAt, subst}
 use Rattle.ring_c.proofs.client.Client.reap.Goals as goal
 
 pub returns-clause-reaps : goal.returns-clause-reaps

@@ -1,7 +1,4 @@
-use Rattle.std.proofs.Common.{subst}
-use Rattle.work.specs.Board.{Facts}
-use Rattle.ring_c.specs.ClientCalls.{Submits}
-use Rattle.ring_c.specs.Sides.{ClientFacts}
+use Rattle.ring_c.proofs.Common.{ClientFacts, Facts, Submits, subst}
 use Rattle.ring_c.proofs.client.Client.submit.Goals as goal
 
 pub returns-then-entries-eq64-clause-submits : goal.returns-then-entries-eq64-clause-submits

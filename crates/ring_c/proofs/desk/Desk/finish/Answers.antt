@@ -1,7 +1,5 @@
-use Rattle.std.proofs.Common.{◌∷◌, ◌++◌, subst}
-use Rattle.work.specs.Board.{Facts}
 use Rattle.board.specs.Reports.{IsReport}
-use Rattle.ring_c.specs.Sides.{DeskFacts}
+use Rattle.ring_c.proofs.Common.{DeskFacts, Facts, subst, ◌++◌, ◌∷◌}
 use Rattle.ring_c.proofs.desk.Desk.finish.Goals as goal
 
 pub returns-in-Ok-try_unwrap-clause-report : goal.returns-in-Ok-try_unwrap-clause-report

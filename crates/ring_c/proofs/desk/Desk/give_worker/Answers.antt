@@ -1,5 +1,4 @@
-use Rattle.std.proofs.Common.{subst, sym}
-use Rattle.work.specs.Board.{Facts, IsOf}
+use Rattle.ring_c.proofs.Common.{Facts, IsOf, subst, sym}
 use Rattle.ring_c.proofs.PassLists.{are_of_rest, of_given}
 use Rattle.ring_c.proofs.desk.Desk.give_worker.Goals as goal
 

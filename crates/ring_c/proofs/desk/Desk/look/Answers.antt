@@ -1,7 +1,4 @@
-use Rattle.std.proofs.Common.{[], subst}
-use Rattle.work.specs.Board.{Facts}
-use Rattle.board.specs.Calls.{Goes, Finds}
-use Rattle.ring_c.specs.Sides.{DeskFacts}
+use Rattle.ring_c.proofs.Common.{DeskFacts, Facts, Finds, Goes, [], subst}
 use Rattle.ring_c.proofs.desk.Desk.look.Goals as goal
 
 pub returns-clause-looks : goal.returns-clause-looks

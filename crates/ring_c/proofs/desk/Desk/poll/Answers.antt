@@ -1,7 +1,4 @@
-use Rattle.std.proofs.Common.{subst}
-use Rattle.work.specs.Board.{Facts}
-use Rattle.ring_c.specs.Sides.{DeskFacts}
-use Rattle.ring_c.specs.Turns.{IsTurn}
+use Rattle.ring_c.proofs.Common.{DeskFacts, Facts, IsTurn, subst}
 use Rattle.ring_c.proofs.TurnLaws.{turned_then, whole_turn}
 use Rattle.ring_c.proofs.desk.Desk.poll.Goals as goal
 

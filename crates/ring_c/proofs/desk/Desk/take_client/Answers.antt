@@ -1,6 +1,4 @@
-use Rattle.std.proofs.Common.{subst, ap, ◌∙◌, sym}
-use Rattle.work.specs.Board.{Facts, IsOf}
-use Rattle.ring_c.specs.Sides.{ClientFacts, DeskFacts}
+use Rattle.ring_c.proofs.Common.{ClientFacts, DeskFacts, Facts, IsOf, ap, subst, sym, ◌∙◌}
 use Rattle.ring_c.proofs.PassLists.{are_of_more}
 use Rattle.ring_c.proofs.desk.Desk.take_client.Goals as goal
 

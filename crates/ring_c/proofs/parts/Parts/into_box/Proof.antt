@@ -1,36 +1,15 @@
 -- `into_box` hands what the parts own to `from_raw`.
-use Rattle.std.proofs.Common.{◌≡◌, List, [], ◌∷◌, ◌++◌, refl, sym, ap, subst, T}
-use mir.Syntax.{Body, place, copy, assign, rv_opd, seq, return}
 use mir.MapTy.{inst_fn}
-use mir.Val.{Val, vptr, has_ty, WT}
-use base.Logic.{ent, id⊢}
-use base.Fml.{ftrue, fsep, flft}
 use contract.BorrowLft.{◌⊑◌}
-use prog.Wp.{WpFn}
-use contract.Monad.{fact}
-use contract.Running.{tables}
-use types.Kit.{Item, at_ret, ‵, raw, ◌⊛◌, some, later, ◌$◌, ◌∵◌, !, qed, by, move, drop, use1, join, split, split3, pick, rewrite, fsplit, fjoin, feq_i, suffices, await, done}
-use types.Part.{whole, sub}
-use types.Run.{stop, fld, no_more, and_then, of_opd, returns, enter, first, blocks, exec}
-use types.ByLocal.{alloc_all, pass_all, free_all, look_at, get, get_in, sets, lands_last, env}
-use denote.RattleType.{RattleType}
-use denote.Exit.{no}
-use denote.RawPtr.{block_ptr}
-use denote.Signature.{plain}
-use denote.Steps.{heard, nothing, only}
 use denote.Triple.Call.{calls_at_last}
 use denote.Triple.Spec.{triple_of}
 use denote.Triple.Table.{framed}
-use denote.Triple.Walked.{says, Stays, stay_dropped, walk_of, ends_at}
-use Rattle.std.proofs.alloc.Calls.{token, Goes-blank}
-use Rattle.std.proofs.BoxSteps.Form.{Bx, D, R, P, B, args, box_ty, word, box_typed}
-use Rattle.std.proofs.BoxSteps.Steps.{box_out, box_in}
 use Rattle.std.proofs.boxed.Box.from_raw.Met
-use Rattle.std.proofs.raw_atomic.Walks.{proved_at}
 use Rattle.std.specs.Box.Ownership.{box_owns}
 use Rattle.std.specs.contracts.boxed.Box.from_raw
 use Rattle.ring_c.specs.contracts.parts.Parts
 use Rattle.ring_c.specs.contracts.parts.Parts.into_box
+use Rattle.ring_c.proofs.Common.{!, B, Body, Bx, D, Goes-blank, Item, List, P, R, RattleType, Stays, T, Val, WT, WpFn, [], alloc_all, and_then, ap, args, assign, at_ret, await, block_ptr, blocks, box_in, box_out, box_ty, box_typed, by, copy, done, drop, ends_at, ent, enter, env, exec, fact, feq_i, first, fjoin, fld, flft, free_all, fsep, fsplit, ftrue, get, get_in, has_ty, heard, id⊢, join, lands_last, later, look_at, move, no, no_more, nothing, of_opd, only, pass_all, pick, place, plain, proved_at, qed, raw, refl, return, returns, rewrite, rv_opd, says, seq, sets, some, split, split3, stay_dropped, stop, sub, subst, suffices, sym, tables, token, use1, vptr, walk_of, whole, word, ‵, ◌$◌, ◌++◌, ◌∵◌, ◌∷◌, ◌≡◌, ◌⊛◌}
 use Rattle.ring_c.proofs.parts.Parts.into_box.Statement
 use Rattle.ring_c.proofs.parts.Parts.into_box.Code
 

@@ -1,40 +1,19 @@
 -- `of` takes the box apart, and the parts own what it owned.
-use Rattle.std.proofs.Common.{◌≡◌, List, [], ◌∷◌, ◌++◌, refl, sym, ap, ◌∙◌, subst}
-use mir.Syntax.{Args, a_type, dcons, dnil}
 use mir.MapTy.{inst_fn}
 use mir.Raw
-use mir.Val.{Val, vstruct, of_list}
-use base.Logic.{ent, id⊢, never, fst∗}
-use base.Fml.{ftrue, fsep, flft}
 use contract.BorrowLft.{◌⊑◌}
-use prog.Wp.{WpFn}
 use types.Logic.{sem}
-use contract.Monad.{fact}
-use contract.Running.{tables}
-use types.Kit.{Item, ‵, raw, ◌⊛◌, some, later, ◌$◌, ◌∵◌, !, qed, by, move, drop, use1, join, split, split3, pick, rewrite, fsplit, fjoin, fpick, feq_l, suffices, await, done}
-use types.Part.{whole, sub, agg}
-use types.Run.{stop, fld, no_more, and_then, of_opd, returns, enter}
-use types.ByLocal.{alloc_all, pass_all, free_all, look_at, get, get_in, sets, lands_as}
-use denote.RattleType.{RattleType}
-use denote.Exit.{no}
 use denote.Param.{bounded}
-use denote.RawPtr.{Ptr, RawPtr, block_ptr, null_ptr, ptr_val, in_a_block}
-use denote.Signature.{plain}
-use denote.Steps.{heard, nothing, only}
 use denote.Struct.Tuple.{Tuple}
 use denote.Triple.Call.{calls_at}
 use denote.Triple.Spec.{triple_of}
 use denote.Triple.Table.{framed}
-use denote.Triple.Walked.{says, Stays, stay_dropped, walk_of, ends_at}
-use Rattle.std.proofs.alloc.Calls.{token, handle_tells, Goes-blank}
-use Rattle.std.proofs.BoxSteps.Form.{Bx, D, τ, R, P, B, word, box_typed}
-use Rattle.std.proofs.BoxSteps.Steps.{box_out, box_in}
 use Rattle.std.proofs.boxed.Box.into_raw_with_allocator.Met
-use Rattle.std.proofs.raw_atomic.Walks.{proved_at}
 use Rattle.std.specs.Box.Ownership.{box_owns}
 use Rattle.std.specs.contracts.boxed.Box.into_raw_with_allocator
 use Rattle.ring_c.specs.contracts.parts.Parts
 use Rattle.ring_c.specs.contracts.parts.Parts.of
+use Rattle.ring_c.proofs.Common.{!, Args, B, Bx, D, Goes-blank, Item, List, P, Ptr, R, RattleType, RawPtr, Stays, Val, WpFn, [], a_type, agg, alloc_all, and_then, ap, await, block_ptr, box_in, box_out, box_typed, by, dcons, dnil, done, drop, ends_at, ent, enter, fact, feq_l, fjoin, fld, flft, fpick, free_all, fsep, fsplit, fst∗, ftrue, get, get_in, handle_tells, heard, id⊢, in_a_block, join, lands_as, later, look_at, move, never, no, no_more, nothing, null_ptr, of_list, of_opd, only, pass_all, pick, plain, proved_at, ptr_val, qed, raw, refl, returns, rewrite, says, sets, some, split, split3, stay_dropped, stop, sub, subst, suffices, sym, tables, token, use1, vstruct, walk_of, whole, word, τ, ‵, ◌$◌, ◌++◌, ◌∙◌, ◌∵◌, ◌∷◌, ◌≡◌, ◌⊛◌}
 use Rattle.ring_c.proofs.parts.Parts.of.Statement
 use Rattle.ring_c.proofs.parts.Parts.of.Code
 

@@ -2,17 +2,15 @@
 use mir.Raw.{raw}
 use base.Fraction.{full_share}
 use base.Shift.{Keyless}
-use denote.Exit.{Exit, unchanged, leaves, hidden, under}
 use denote.Memory.{lone}
-use denote.RawPtr.{Ptr, block_ptr, null_ptr, lies_at}
 use denote.Struct.Struct.{exits_of}
 use denote.Struct.Owning.{shape, fields, to}
 use denote.Param.Send.{IsSend, Quiet, AllSend, owning_send, part_keyless, struct_send, sendable}
 use Rattle.std.specs.Prelude.{Option, Some, None}
-use Rattle.std.specs.Global.{Global}
 use Rattle.std.proofs.Crossing
 use Rattle.std.proofs.alloc.Global.TheSendSync
 use Rattle.ring_c.specs.contracts.inside.Inside
+use Rattle.ring_c.proofs.Common.{Exit, Global, Ptr, block_ptr, hidden, leaves, lies_at, null_ptr, unchanged, under}
 use Rattle.ring_c.proofs.inside.Inside.TheSendSync.{the_send}
 use Rattle.ring_c.specs.contracts.slot.Slot.{the_row, the_type}
 use Rattle.ring_c.specs.Slots.{slot_owns}

@@ -1,30 +1,12 @@
 -- `empty` makes a slot that owns nothing.
-use Rattle.std.proofs.Common.{List, [], ◌∷◌, ◌++◌, refl, sym, subst, T, None}
 use lib.Dec.{lit<}
-use mir.Syntax.{ty_ptr, ty_struct, tcons, tnil}
-use mir.Val.{Val, vstruct, vcons, vnil, has_ty, WT}
-use base.Logic.{ent, emp}
-use base.Fml.{ftrue, fsep}
-use prog.Wp.{WpFn}
-use contract.Running.{tables}
-use types.Kit.{Item, ‵, raw, ◌⊛◌, ◌$◌, ◌∵◌, !, qed, by, move, drop, join, split, fsplit, fjoin, fpack, feq_i, suffices, done}
-use types.Part.{agg}
-use types.Run.{lit, no_more, and_then, of_opd, returns, enter}
-use types.ByLocal.{alloc_all, pass_all, free_all, look_at, get, sets}
-use denote.RattleType.{Valss}
-use denote.RawPtr.{null_ptr, ptr_val}
-use denote.Exit.{yes}
-use denote.Signature.{plain}
-use denote.Steps.{nothing}
 use denote.Struct.Struct.{within}
 use denote.Struct.Owning.{shape, fields, to}
-use denote.Triple.Walked.{says, Stays, stay_dropped, walk_of, ends_at, Goes-dropped}
 use Rattle.std.proofs.ResultValues.{and_tt}
-use Rattle.std.proofs.alloc.Calls.{α, handle_tells}
-use Rattle.std.proofs.raw_atomic.Walks.{proved_at}
 use Rattle.std.specs.contracts.alloc.Global
 use Rattle.ring_c.specs.contracts.slot.Slot
 use Rattle.ring_c.specs.contracts.slot.Slot.empty
+use Rattle.ring_c.proofs.Common.{!, Goes-dropped, Item, List, None, Stays, T, Val, Valss, WT, WpFn, [], agg, alloc_all, and_then, by, done, drop, emp, ends_at, ent, enter, feq_i, fjoin, fpack, free_all, fsep, fsplit, ftrue, get, handle_tells, has_ty, join, lit, look_at, move, no_more, nothing, null_ptr, of_opd, pass_all, plain, proved_at, ptr_val, qed, raw, refl, returns, says, sets, split, stay_dropped, subst, suffices, sym, tables, tcons, tnil, ty_ptr, ty_struct, vcons, vnil, vstruct, walk_of, yes, α, ‵, ◌$◌, ◌++◌, ◌∵◌, ◌∷◌, ◌⊛◌}
 use Rattle.ring_c.proofs.AsBox.{E}
 use Rattle.ring_c.proofs.slot.Slot.empty.Statement
 use Rattle.ring_c.proofs.slot.Slot.empty.Code

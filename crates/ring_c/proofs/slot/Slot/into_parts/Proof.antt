@@ -1,25 +1,7 @@
 -- `into_parts` moves two fields, and what they own goes with them.
-use Rattle.std.proofs.Common.{◌≡◌, List, [], ◌∷◌, ◌++◌, refl, sym, subst, Option, Some}
-use mir.Val.{Val}
-use base.Logic.{ent, id⊢}
-use base.Fml.{ftrue, fsep}
-use prog.Wp.{WpFn}
-use contract.Monad.{fact}
-use contract.Running.{tables}
-use types.Kit.{Item, rewrite, ‵, raw, ◌⊛◌, ◌$◌, ◌∵◌, !, qed, by, move, drop, use1, join, split, fsplit, fjoin, suffices, done}
-use types.Part.{whole, sub, agg}
-use types.Run.{stop, fld, no_more, and_then, of_opd, returns, enter}
-use types.ByLocal.{alloc_all, pass_all, free_all, look_at, get, get_in, sets}
-use denote.Exit.{yes}
-use denote.Signature.{type_at}
-use denote.Steps.{nothing, heard}
-use denote.Triple.Walked.{says, Stays, stay_dropped, walk_of, ends_at, Goes-dropped}
-use Rattle.std.proofs.BoxSteps.Form.{D, B, word, box_typed}
-use Rattle.std.proofs.BoxSteps.Steps.{box_out, box_in}
-use Rattle.std.proofs.raw_atomic.Walks.{proved_at}
-use Rattle.ring_c.specs.declared.inside.Inside.{Inside}
 use Rattle.ring_c.specs.contracts.slot.Slot
 use Rattle.ring_c.specs.contracts.slot.Slot.into_parts
+use Rattle.ring_c.proofs.Common.{!, B, D, Goes-dropped, Inside, Item, List, Option, Some, Stays, Val, WpFn, [], agg, alloc_all, and_then, box_in, box_out, box_typed, by, done, drop, ends_at, ent, enter, fact, fjoin, fld, free_all, fsep, fsplit, ftrue, get, get_in, heard, id⊢, join, look_at, move, no_more, nothing, of_opd, pass_all, proved_at, qed, raw, refl, returns, rewrite, says, sets, split, stay_dropped, stop, sub, subst, suffices, sym, tables, type_at, use1, walk_of, whole, word, yes, ‵, ◌$◌, ◌++◌, ◌∵◌, ◌∷◌, ◌≡◌, ◌⊛◌}
 use Rattle.ring_c.proofs.AsBox.{E, FromSlot}
 use Rattle.ring_c.proofs.slot.Slot.into_parts.Statement
 use Rattle.ring_c.proofs.slot.Slot.into_parts.Code

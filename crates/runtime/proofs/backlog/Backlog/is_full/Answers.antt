@@ -1,8 +1,6 @@
-use Rattle.std.proofs.Common.{◌≡◌, List, Option, Some, None, [], ◌∷◌, ◌++◌, true, sym, ap, ◌∙◌, true≢false}
-use Rattle.history.specs.declared.req.Req.{Req}
 use Rattle.std.specs.Option.{is_some}
 use Rattle.ready.specs.Spans.{numbers_in}
-use Rattle.runtime.specs.Backlogs.{Owed, HasNext}
+use Rattle.runtime.proofs.Common.{HasNext, List, None, Option, Owed, Req, Some, [], ap, sym, true, true≢false, ◌++◌, ◌∙◌, ◌∷◌, ◌≡◌}
 use Rattle.runtime.proofs.backlog.Backlog.is_full.Goals as goal
 
 nil_right : (xs ys : List Req) → xs ++ ys ≡ [] → ys ≡ []

@@ -1,7 +1,6 @@
-use Rattle.std.proofs.Common.{ℕ, ◌+◌, sym, subst}
 use Rattle.steps.specs.Fairness.{IsFree}
-use Rattle.work.specs.Passes.{Pass, seen_of}
 use Rattle.board.specs.Lanes.{nth}
+use Rattle.runtime.proofs.Common.{Pass, seen_of, subst, sym, ℕ, ◌+◌}
 use Rattle.runtime.proofs.client.Client.submit_and_wait.Goals as goal
 
 pub returns-clause-free : goal.returns-clause-free

@@ -1,12 +1,6 @@
-use Rattle.std.proofs.Common.{ℕ, ◌+◌, sym, ap, ◌∙◌, subst}
 use Rattle.steps.specs.Fairness.{IsFree}
-use Rattle.work.specs.Board.{Facts}
-use Rattle.work.specs.Passes.{Pass, seen_of}
-use Rattle.board.specs.Calls.{next_of}
 use Rattle.board.specs.Lanes.{nth}
-use Rattle.board.specs.Refusals.{RefusesBatch}
-use Rattle.runtime.specs.Clients.{ClientFacts}
-use Rattle.runtime.specs.declared.shared.Shared.{Shared}
+use Rattle.runtime.proofs.Common.{ClientFacts, Facts, Pass, RefusesBatch, Shared, ap, next_of, seen_of, subst, sym, ℕ, ◌+◌, ◌∙◌}
 use Rattle.runtime.proofs.client.Client.submit_batch.Goals as goal
 
 pub returns-in-Ok-clause-free : goal.returns-in-Ok-clause-free

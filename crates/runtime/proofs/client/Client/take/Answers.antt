@@ -1,11 +1,4 @@
-use Rattle.std.proofs.Common.{Option, length, sym, subst}
-use Rattle.std.specs.Arc.{arc_value}
-use Rattle.history.specs.History.{submits}
-use Rattle.work.specs.Passes.{seen_of}
-use Rattle.board.specs.declared.completion.Completion.{Completion}
-use Rattle.board.specs.Refusals.{RefusesReap}
-use Rattle.runtime.specs.declared.shared.Shared.{Shared}
-use Rattle.runtime.specs.Clients.{ClientFacts, HasTaken}
+use Rattle.runtime.proofs.Common.{ClientFacts, Completion, HasTaken, Option, RefusesReap, Shared, arc_value, length, seen_of, submits, subst, sym}
 use Rattle.runtime.proofs.RuntimeParts.{took_one, took_refused}
 use Rattle.runtime.proofs.client.Client.take.Goals as goal
 use Rattle.runtime.proofs.client.Client.take.Goals.{in-Ok, in-Err}

@@ -1,7 +1,4 @@
-use Rattle.std.proofs.Common.{◌∙◌, ◌∷◌, [], Option, subst}
-use Rattle.history.specs.declared.event.Event.TheVariants.{Reap}
-use Rattle.board.specs.declared.completion.Completion.{Completion}
-use Rattle.runtime.specs.Clients.{HasTaken}
+use Rattle.runtime.proofs.Common.{Completion, HasTaken, Option, Reap, [], subst, ◌∙◌, ◌∷◌}
 use Rattle.runtime.proofs.WaitLaws.{Awaits, awaited, awaits_more, awaits_none, awaits_on, goes_after}
 use Rattle.runtime.proofs.client.Client.wait.Goals as goal
 

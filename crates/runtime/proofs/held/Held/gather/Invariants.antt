@@ -1,7 +1,6 @@
-use Rattle.std.proofs.Common.{◌≡◌, ◌-◌, ◌≤◌, ◌++◌, List, length}
-use Rattle.history.specs.declared.req.Req.{Req}
 use Rattle.std.specs.VecDeque.{deque_capacity}
 use Rattle.compring.specs.Posts.{waiting}
+use Rattle.runtime.proofs.Common.{List, Req, length, ◌++◌, ◌-◌, ◌≡◌, ◌≤◌}
 use Rattle.runtime.proofs.held.Held.gather.Given as goal
 
 -- what was taken out of the ring is in the list, in the same order

@@ -1,8 +1,4 @@
-use Rattle.std.proofs.Common.{◌≡◌, ℕ, ◌++◌, ◌∷◌, [], List, Option, sym, ap, ◌∙◌, subst, arith}
-use Rattle.history.specs.declared.req.Req.{Req}
-use Rattle.steps.specs.declared.line.Line.{Line}
-use Rattle.runtime.specs.Desks.{Cares, LooksAfter, cares_of}
-use Rattle.runtime.specs.Shelves.{Places}
+use Rattle.runtime.proofs.Common.{Cares, Line, List, LooksAfter, Option, Places, Req, [], ap, arith, cares_of, subst, sym, ℕ, ◌++◌, ◌∙◌, ◌∷◌, ◌≡◌}
 use Rattle.runtime.proofs.DeskLaws.{half_sets_timer, sets_timer, waits_on}
 use Rattle.runtime.proofs.lists.Lists.note.Goals as goal
 

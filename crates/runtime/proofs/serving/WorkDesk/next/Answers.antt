@@ -1,6 +1,5 @@
-use Rattle.std.proofs.Common.{ap, subst, refl, [], ◌∷◌}
-use Rattle.runtime.specs.Shelves.{Places}
-use Rattle.runtime.specs.WorkTurns.{Desk, Shifts}
+use Rattle.runtime.specs.WorkTurns.{Desk}
+use Rattle.runtime.proofs.Common.{Places, Shifts, [], ap, refl, subst, ◌∷◌}
 use Rattle.runtime.proofs.ShiftLaws.{shifts_out, shifts_taken}
 use Rattle.runtime.proofs.serving.WorkDesk.next.Goals as goal
 

@@ -1,6 +1,6 @@
 use Rattle.std.specs.Prelude.{◌≡◌, ◌≤◌, length}
 use Rattle.ready.specs.Ready.{IsOf as IsOfQueue}
-use Rattle.runtime.specs.WorkTurns.{PutsBack}
+use Rattle.runtime.proofs.Common.{PutsBack}
 use Rattle.runtime.proofs.serving.WorkDesk.put_kept.Given as goal
 
 -- those so far are in the queue

@@ -1,4 +1,5 @@
-use Rattle.std.specs.Prelude.{◌≡◌, ◌++◌, take}
+use Rattle.std.specs.Prelude.{◌≡◌, ◌++◌}
+use Rattle.runtime.proofs.Common.{take}
 use Rattle.runtime.proofs.shelf.Shelf.put_all.Given as goal
 
 -- those so far are after all others

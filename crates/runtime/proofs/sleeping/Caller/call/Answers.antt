@@ -1,5 +1,4 @@
-use Rattle.std.proofs.Common.{subst}
-use Rattle.event_count.specs.Passes.{HasNoticed, Notifying}
+use Rattle.runtime.proofs.Common.{HasNoticed, Notifying, subst}
 use Rattle.runtime.proofs.sleeping.Caller.call.Goals as goal
 
 pub returns : goal.returns

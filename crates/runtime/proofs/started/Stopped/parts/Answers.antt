@@ -1,11 +1,6 @@
-use Rattle.std.proofs.Common.{◌≡◌, ◌+◌, ◌++◌, ◌∷◌, [], ℕ, All, List, length, map, sym, ap, ◌∙◌, subst, arith}
-use Rattle.std.proofs.lemmas.List.{length-map}
-use Rattle.std.specs.Arc.{arc_value}
-use Rattle.ready.specs.Ready.{AreAll, Moves, IsOf as IsOfQueue}
+use Rattle.ready.specs.Ready.{IsOf as IsOfQueue}
 use Rattle.ready.specs.QueueParts.{IsRoom}
-use Rattle.board.specs.Reports.{AreOf}
-use Rattle.work.specs.Passes.{Pass}
-use Rattle.runtime.specs.Crews.{Crew, all_passes, ready_of, worker_of}
+use Rattle.runtime.proofs.Common.{All, AreAll, AreOf, Crew, List, Moves, Pass, [], all_passes, ap, arc_value, arith, length, length-map, map, ready_of, subst, sym, worker_of, ℕ, ◌++◌, ◌+◌, ◌∙◌, ◌∷◌, ◌≡◌}
 use Rattle.runtime.proofs.CrewLaws.{passes_all, passes_own, workers_own}
 use Rattle.runtime.proofs.started.Stopped.parts.Goals as goal
 

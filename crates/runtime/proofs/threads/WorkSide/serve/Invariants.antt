@@ -1,7 +1,5 @@
-use Rattle.std.proofs.Common.{◌≡◌, ◌≤◌, []}
-use Rattle.board.specs.ShapeLimits.{widest}
 use Rattle.runtime.specs.declared.turn.Turn.TheVariants.{Idle}
-use Rattle.runtime.specs.Loops.{IsServing}
+use Rattle.runtime.proofs.Common.{IsServing, [], widest, ◌≡◌, ◌≤◌}
 use Rattle.runtime.proofs.threads.WorkSide.serve.Given as goal
 
 abbrev pub invariant-loop-run : goal.invariant-loop-run

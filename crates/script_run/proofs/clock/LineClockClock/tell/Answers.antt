@@ -1,6 +1,4 @@
-use Rattle.std.proofs.Common.{◌≡◌, Some, sym, ap, ◌∙◌}
-use Rattle.script_run.specs.declared.clock.ClockLine.TheVariants.{Wait, Armed, Tick}
-use Rattle.script_run.specs.ClockLines.{line_at}
+use Rattle.script_run.proofs.Common.{Armed, Some, Tick, Wait, ap, line_at, sym, ◌∙◌, ◌≡◌}
 use Rattle.script_run.proofs.ClockSteps.{told_waiting, told_arming, told_setting, turn_counted, line_there, not_stuck, asked_is, waits_still, arms_still, at_next}
 use Rattle.script_run.proofs.clock.LineClockClock.tell.Goals as goal
 

@@ -1,4 +1,4 @@
-use Rattle.std.proofs.Common.{◌∙◌, refl, sym}
+use Rattle.script_run.proofs.Common.{refl, sym, ◌∙◌}
 use Rattle.script_run.proofs.HandSteps.{went_looked, reply_found}
 use Rattle.script_run.proofs.hand.Hand.sees_reply.Goals as goal
 

@@ -1,4 +1,4 @@
-use Rattle.script_run.specs.Hands.{Went}
+use Rattle.script_run.proofs.Common.{Went}
 use Rattle.script_run.proofs.hand.Hand.take_all.Given as goal
 
 abbrev pub invariant-loop : goal.invariant-loop

@@ -1,4 +1,4 @@
-use Rattle.std.proofs.Common.{refl, ◌∙◌, ◌∷◌, ◌++◌, [], ap}
+use Rattle.script_run.proofs.Common.{[], ap, refl, ◌++◌, ◌∙◌, ◌∷◌}
 use Rattle.script_run.proofs.HandSteps.{went_looked, went_took, went_still}
 use Rattle.script_run.proofs.hand.Hand.take_within.Goals as goal
 

@@ -1,4 +1,4 @@
-use Rattle.std.proofs.Common.{refl, ap}
+use Rattle.script_run.proofs.Common.{ap, refl}
 use Rattle.script_run.proofs.HandSteps.{handed, went_looked}
 use Rattle.script_run.proofs.hand.Hand.try_submit.Goals as goal
 

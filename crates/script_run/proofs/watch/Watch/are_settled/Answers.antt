@@ -1,4 +1,4 @@
-use Rattle.std.proofs.Common.{refl}
+use Rattle.script_run.proofs.Common.{refl}
 use Rattle.script_run.proofs.HandSteps.{went_looked, went_then}
 use Rattle.script_run.proofs.watch.Watch.are_settled.Goals as goal
 

@@ -1,7 +1,4 @@
-use Rattle.std.proofs.Common.{◌<◌, length, refl, subst}
-use Rattle.std.proofs.lemmas.Option.{slice_get_read}
-use Rattle.script_text.specs.declared.actor.Actor.{Actor}
-use Rattle.script_text.specs.Actors.{IsKnown}
+use Rattle.script_text.proofs.Common.{Actor, IsKnown, length, refl, slice_get_read, subst, ◌<◌}
 use Rattle.script_text.proofs.RingLines.{deeds_set}
 use Rattle.script_text.proofs.acts.Acts.push.Goals as goal
 

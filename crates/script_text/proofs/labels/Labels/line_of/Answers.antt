@@ -1,4 +1,4 @@
-use Rattle.std.proofs.Common.{sym, ◌∙◌}
+use Rattle.script_text.proofs.Common.{sym, ◌∙◌}
 use Rattle.script_text.proofs.Indexed.{line_there, no_line_there}
 use Rattle.script_text.proofs.labels.Labels.line_of.Goals as goal
 

@@ -1,7 +1,5 @@
-use Rattle.std.proofs.Common.{◌≡◌, ◌∙◌, ap, arith}
-use Rattle.script_text.specs.EntryLines.{all_stated, place_of}
 use Rattle.script_text.specs.Labels.{known_or, place_at}
-use Rattle.script_text.specs.TextWords.{is_same}
+use Rattle.script_text.proofs.Common.{all_stated, ap, arith, is_same, place_of, ◌∙◌, ◌≡◌}
 use Rattle.script_text.proofs.Indexed.{one_more}
 use Rattle.script_text.proofs.labels.Labels.push.Goals as goal
 

@@ -1,5 +1,4 @@
-use Rattle.std.proofs.Common.{◌≡◌, ◌+◌, arith}
-use Rattle.script_text.specs.Sentences.{above_of, sentence, sentences}
+use Rattle.script_text.proofs.Common.{above_of, arith, sentence, sentences, ◌+◌, ◌≡◌}
 use Rattle.script_text.proofs.LinesAbove.{above_more, as_many_lines, length_above, line_here}
 use Rattle.script_text.proofs.ReadingLines.{few_rings_above, outlines_more}
 use Rattle.script_text.proofs.outline.Outline.take_lines.Goals as goal

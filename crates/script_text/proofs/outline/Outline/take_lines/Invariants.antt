@@ -1,6 +1,5 @@
-use Rattle.std.proofs.Common.{◌≡◌}
 use Rattle.script_text.specs.Outlined.{Outlines}
-use Rattle.script_text.specs.Sentences.{above_of, sentences}
+use Rattle.script_text.proofs.Common.{above_of, sentences, ◌≡◌}
 use Rattle.script_text.proofs.outline.Outline.take_lines.Given as goal
 
 abbrev pub invariant-loop-line : goal.invariant-loop-line

@@ -1,9 +1,5 @@
-use Rattle.std.proofs.Common.{◌∙◌, length, refl}
 use Rattle.script_text.specs.declared.actor.Actor.TheVariants.{Ring}
-use Rattle.script_text.specs.Above.{is_same_actor}
-use Rattle.script_text.specs.Acts.{pending_at}
-use Rattle.script_text.specs.TextWords.{texts}
-use Rattle.script_text.specs.EntryLines.{all_stated}
+use Rattle.script_text.proofs.Common.{all_stated, is_same_actor, length, pending_at, refl, texts, ◌∙◌}
 use Rattle.script_text.proofs.Entering.{batch_more, entries_more}
 use Rattle.script_text.proofs.parts.Parts.push_line.Goals as goal
 

@@ -1,7 +1,5 @@
-use Rattle.std.proofs.Common.{◌<◌, ◌≤◌, ⊎_elim, arith}
-use Rattle.std.proofs.lemmas.Bool.{cases_lt}
 use Rattle.std.proofs.lemmas.List.{get_or_past}
-use Rattle.wheel.specs.Wheel.{no_timers}
+use Rattle.wheel.proofs.Common.{arith, cases_lt, no_timers, ⊎_elim, ◌<◌, ◌≤◌}
 use Rattle.wheel.proofs.slots.Slots.new.Goals as goal
 
 pub returns : goal.returns

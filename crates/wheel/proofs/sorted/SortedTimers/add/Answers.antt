@@ -1,6 +1,4 @@
-use Rattle.std.proofs.Common.{sym, ap, ◌∙◌, subst}
-use Rattle.wheel.specs.TimerLists.{InOrder, IsOnce, deadline_in, with_timer}
-use Rattle.wheel.specs.Deadlines.{armed}
+use Rattle.wheel.proofs.Common.{InOrder, IsOnce, ap, armed, deadline_in, subst, sym, with_timer, ◌∙◌}
 use Rattle.wheel.proofs.Sorting.{adds, once_with, order_with}
 use Rattle.wheel.proofs.sorted.SortedTimers.add.Goals as goal
 

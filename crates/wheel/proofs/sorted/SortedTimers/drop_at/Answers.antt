@@ -1,9 +1,4 @@
-use Rattle.std.proofs.Common.{◌≡◌, ◌<◌, Some, true, false, sym, ap, ◌∙◌, subst, ⊎_elim, arith}
-use Rattle.std.specs.List.{slice_get}
-use Rattle.history.specs.History.{same}
-use Rattle.history.proofs.Requests.{bool_cases}
-use Rattle.wheel.specs.TimerLists.{InOrder, IsOnce, deadline_in}
-use Rattle.wheel.specs.Deadlines.{dropped}
+use Rattle.wheel.proofs.Common.{InOrder, IsOnce, Some, ap, arith, bool_cases, deadline_in, dropped, false, same, slice_get, subst, sym, true, ⊎_elim, ◌<◌, ◌∙◌, ◌≡◌}
 use Rattle.wheel.proofs.Sorting.{drops, its_deadline, once_without, order_without}
 use Rattle.wheel.proofs.sorted.SortedTimers.drop_at.Goals as goal
 

@@ -1,7 +1,4 @@
-use Rattle.std.proofs.Common.{sym, ap, ◌∙◌, subst}
-use Rattle.wheel.specs.declared.sorted.Timer.{Timer}
-use Rattle.wheel.specs.TimerLists.{InOrder, IsOnce, deadline_in, with_timer, without}
-use Rattle.wheel.specs.Deadlines.{armed}
+use Rattle.wheel.proofs.Common.{InOrder, IsOnce, Timer, ap, armed, deadline_in, subst, sym, with_timer, without, ◌∙◌}
 use Rattle.wheel.proofs.Sorting.{arms, gone, once_with, once_without, order_with, order_without}
 use Rattle.wheel.proofs.sorted.SortedTimersTimerSet.arm.Goals as goal
 

@@ -1,6 +1,4 @@
-use Rattle.std.proofs.Common.{sym, ap, ◌∙◌, subst}
-use Rattle.wheel.specs.TimerLists.{InOrder, IsOnce, deadline_in}
-use Rattle.wheel.specs.Deadlines.{dropped}
+use Rattle.wheel.proofs.Common.{InOrder, IsOnce, ap, deadline_in, dropped, subst, sym, ◌∙◌}
 use Rattle.wheel.proofs.Sorting.{order_without, once_without, drops}
 use Rattle.wheel.proofs.sorted.SortedTimersTimerSet.drop_timer.Goals as goal
 

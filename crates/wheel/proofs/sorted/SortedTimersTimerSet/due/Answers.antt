@@ -1,4 +1,4 @@
-use Rattle.std.proofs.Common.{arith}
+use Rattle.wheel.proofs.Common.{arith}
 use Rattle.wheel.proofs.Sorting.{first_due, none_due}
 use Rattle.wheel.proofs.sorted.SortedTimersTimerSet.due.Goals as goal
 

@@ -1,9 +1,5 @@
-use Rattle.std.proofs.Common.{◌≡◌, Bool, true, false, not, refl, sym, ap, ◌∙◌, subst}
-use Rattle.std.proofs.lemmas.Option.{none-some}
 use Rattle.std.proofs.lemmas.Result.{err_from_is_err_and}
-use Rattle.wheel.specs.Deadlines.{armed}
-use Rattle.wheel.specs.TimerLists.{deadline_in}
-use Rattle.wheel.specs.Wheel.{deadline_at}
+use Rattle.wheel.proofs.Common.{Bool, ap, armed, deadline_at, deadline_in, false, none-some, not, refl, subst, sym, true, ◌∙◌, ◌≡◌}
 use Rattle.wheel.proofs.Fronts.{bound_armed, bound_reordered}
 use Rattle.wheel.proofs.Slotting.{armed_map, arms_again, arms_new, moves, reordered, stands, unchanged}
 use Rattle.wheel.proofs.timers.Timers.arm_counted.Goals as goal

@@ -1,5 +1,4 @@
-use Rattle.std.proofs.Common.{sym, subst}
-use Rattle.wheel.specs.Wheel.{AreFrom}
+use Rattle.wheel.proofs.Common.{AreFrom, subst, sym}
 use Rattle.wheel.proofs.Fronts.{least_bounds}
 use Rattle.wheel.proofs.timers.Timers.catch_up_counted.Goals as goal
 

@@ -1,4 +1,4 @@
-use Rattle.std.proofs.Common.{sym}
+use Rattle.wheel.proofs.Common.{sym}
 use Rattle.wheel.proofs.Fronts.{bound_dropped}
 use Rattle.wheel.proofs.Slotting.{drops, stands}
 use Rattle.wheel.proofs.timers.Timers.drop_counted.Goals as goal

@@ -1,6 +1,4 @@
-use Rattle.std.proofs.Common.{Some, None, subst}
-use Rattle.wheel.specs.Deadlines.{IsFirstDue}
-use Rattle.wheel.specs.Wheel.{deadline_at}
+use Rattle.wheel.proofs.Common.{IsFirstDue, None, Some, deadline_at, subst}
 use Rattle.wheel.proofs.Fronts.{later, least_is_due, least_is_later, none_at_all, nothing_due}
 use Rattle.wheel.proofs.timers.Timers.due_counted.Goals as goal
 

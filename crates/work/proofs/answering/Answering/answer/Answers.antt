@@ -1,30 +1,4 @@
-use Rattle.std.proofs.Common.{rules, ◌≡◌, ℕ, ◌<◌, true, ℤ, List, [], ◌∷◌, length, Some, None, sym, ap, ◌∙◌, subst, to_z, of_z, w32}
-use Rattle.std.proofs.lemmas.Int.{to_z-of_z}
-use Rattle.atomic_table.specs.Seated.{TableId}
-use Rattle.atomic_table.specs.Table.{rest}
-use Rattle.answers.specs.Answered.{is_plain}
-use Rattle.answers.specs.NamedEnds.{UsesNone}
-use Rattle.entry.specs.declared.op.Op.{Op}
-use Rattle.entry.specs.Entry.{Entry}
-use Rattle.history.specs.Answers.{OpAnswers}
-use Rattle.history.specs.Chains.{IsPlaced}
-use Rattle.history.specs.declared.event.Event.{Event}
-use Rattle.history.specs.declared.event.Event.TheVariants.{Reply}
-use Rattle.history.specs.declared.req.Req.{Req}
-use Rattle.steps.specs.declared.line.Line.TheVariants.{Did}
-use Rattle.steps.specs.declared.parcel.Parcel.{Parcel}
-use Rattle.steps.specs.declared.parcel.Thing.TheVariants.{Full}
-use Rattle.steps.specs.declared.view.Role.TheVariants.{Idle}
-use Rattle.steps.specs.declared.view.View.{View}
-use Rattle.steps.specs.Journal.{events_of}
-use Rattle.claim.specs.declared.tag.Tag.{Tag}
-use Rattle.steps.specs.Cells.{request_at, claim_at, slot_at, word_of}
-use Rattle.steps.specs.Plays.{MayReply}
-use Rattle.steps.specs.Rule.{Extends, IsStep}
-use Rattle.work.specs.declared.marks.Marks.{Marks}
-use Rattle.work.specs.Passes.{AreMarked, Pass, Running, IsTask, RunsIt, seen_of, with_asked}
-use Rattle.work.specs.Searches.{WorkerSeat, wanted_in}
-use Rattle.work.specs.WorkerRuns.{op_run, run_as}
+use Rattle.work.proofs.Common.{AreMarked, Did, Entry, Event, Extends, Full, Idle, IsPlaced, IsStep, IsTask, List, Marks, MayReply, None, Op, OpAnswers, Parcel, Pass, Reply, Req, Running, RunsIt, Some, TableId, Tag, UsesNone, View, WorkerSeat, [], ap, claim_at, events_of, is_plain, length, of_z, op_run, request_at, rest, rules, run_as, seen_of, slot_at, subst, sym, to_z, to_z-of_z, true, w32, wanted_in, with_asked, word_of, ℕ, ℤ, ◌<◌, ◌∙◌, ◌∷◌, ◌≡◌}
 use Rattle.work.proofs.MarksKept.{marked_after}
 use Rattle.work.proofs.RunsKept.{room_on, runs_placed, runs_entry, runs_kind, plain_run, plain_may}
 use Rattle.work.proofs.TaskKept.{in_front}

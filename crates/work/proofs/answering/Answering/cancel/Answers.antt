@@ -1,29 +1,5 @@
-use Rattle.std.proofs.Common.{rules, ◌≡◌, ◌≢◌, ℕ, ◌*◌, ◌-◌, ◌<◌, ℤ, List, [], ◌∷◌, ◌++◌, length, vec_capacity, Some, sym, refl, ap, ◌∙◌, subst, arith, to_z, of_z, w32}
-use Rattle.std.proofs.lemmas.Int.{to_z-of_z}
-use Rattle.atomic_table.specs.Table.{rest}
-use Rattle.claim.specs.declared.tag.Tag.{Tag}
-use Rattle.entry.specs.Entry.{Entry}
-use Rattle.history.specs.declared.event.Event.{Event}
-use Rattle.history.specs.declared.event.Event.TheVariants.{Reply}
-use Rattle.history.specs.declared.req.Req.{Req}
-use Rattle.history.specs.Chains.{IsPlaced}
-use Rattle.steps.specs.declared.line.Line.TheVariants.{Did}
-use Rattle.steps.specs.declared.parcel.Parcel.{Parcel}
-use Rattle.steps.specs.declared.parcel.Thing.TheVariants.{Full}
-use Rattle.steps.specs.declared.view.Role.{Role}
-use Rattle.steps.specs.declared.view.Role.TheVariants.{Idle}
-use Rattle.steps.specs.declared.view.View.{View}
-use Rattle.steps.specs.Cells.{IsCell, cells_in, request_at, slot_at, word_of}
-use Rattle.steps.specs.Journal.{holder}
-use Rattle.steps.specs.Plays.{Seated, MayReply}
-use Rattle.steps.specs.Rule.{Extends}
-use Rattle.steps.proofs.ViewsKept.{role_after}
-use Rattle.work.specs.Board.{IsOf}
-use Rattle.work.specs.declared.lists.Lists.{Lists}
-use Rattle.work.specs.declared.marks.Marks.{Marks}
-use Rattle.work.specs.Passes.{AreMarked, HasRooms, Pass, Running, seen_of, with_asked, woken_of}
-use Rattle.work.specs.Searches.{WorkerSeat, FewSteps, FewerSteps, wanted_in}
-use Rattle.work.specs.WorkerRuns.{AreFew, AreHits, DidHunt, EndsBy, run_as, taken_in}
+use Rattle.std.proofs.Common.{vec_capacity}
+use Rattle.work.proofs.Common.{AreFew, AreHits, AreMarked, Did, DidHunt, EndsBy, Entry, Event, Extends, FewSteps, FewerSteps, Full, HasRooms, Idle, IsCell, IsOf, IsPlaced, List, Lists, Marks, MayReply, Parcel, Pass, Reply, Req, Role, Running, Seated, Some, Tag, View, WorkerSeat, [], ap, arith, cells_in, holder, length, of_z, refl, request_at, rest, role_after, rules, run_as, seen_of, slot_at, subst, sym, taken_in, to_z, to_z-of_z, w32, wanted_in, with_asked, woken_of, word_of, ℕ, ℤ, ◌*◌, ◌++◌, ◌-◌, ◌<◌, ◌∙◌, ◌∷◌, ◌≡◌, ◌≢◌}
 use Rattle.work.proofs.CancelEnds.{by_bare, by_events, by_layout, by_of, by_runs, cancels_run, few_replied, may_hunt, ring_cells}
 use Rattle.work.proofs.MarksKept.{marked_after}
 use Rattle.work.proofs.RunsKept.{ends_by, room_on, runs_entry, runs_placed, worker_idle}

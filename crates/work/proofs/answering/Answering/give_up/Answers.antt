@@ -1,13 +1,4 @@
-use Rattle.std.proofs.Common.{[], Some, sym, ap, subst}
-use Rattle.history.specs.declared.req.Req.{Req}
-use Rattle.history.specs.declared.event.Event.TheVariants.{Park}
-use Rattle.steps.specs.declared.line.Line.TheVariants.{Did}
-use Rattle.steps.specs.declared.parcel.Parcel.{Parcel}
-use Rattle.steps.specs.declared.parcel.Thing.TheVariants.{Full}
-use Rattle.steps.specs.declared.view.Role.TheVariants.{Idle}
-use Rattle.steps.specs.declared.view.View.{View}
-use Rattle.steps.specs.Cells.{request_at, slot_at, IsParcel}
-use Rattle.work.specs.Passes.{IsTask, Pass, Running, with_asked}
+use Rattle.work.proofs.Common.{Did, Full, Idle, IsParcel, IsTask, Parcel, Park, Pass, Req, Running, Some, View, [], ap, request_at, slot_at, subst, sym, with_asked}
 use Rattle.work.proofs.MarksKept.{marked_after}
 use Rattle.work.proofs.PassesKept.{took_one}
 use Rattle.work.proofs.TaskKept.{in_front}

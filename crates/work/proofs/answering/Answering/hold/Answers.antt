@@ -1,27 +1,5 @@
-use Rattle.std.proofs.Common.{◌≡◌, ℕ, ◌<◌, true, true≢false, List, ◌∷◌, length, slice_index, Option, Some, None, sym, refl, ap, ◌∙◌, subst, arith}
-use Rattle.atomic_table.specs.Table.{rest}
-use Rattle.answers.specs.Answered.{IsPipe}
-use Rattle.entry.specs.declared.op.Op.{Op}
-use Rattle.entry.specs.Entry.{Entry}
-use Rattle.history.specs.Chains.{IsPlaced}
-use Rattle.history.specs.Pipes.{flow}
 use Rattle.history.specs.Users.{uses_at}
-use Rattle.steps.specs.declared.parcel.Parcel.{Parcel}
-use Rattle.steps.specs.declared.parcel.WaitedPipe.{WaitedPipe}
-use Rattle.steps.specs.Cells.{total}
-use Rattle.steps.specs.declared.line.Line.TheVariants.{Hold}
-use Rattle.steps.specs.declared.parcel.Thing.{Thing}
-use Rattle.steps.specs.declared.parcel.Thing.TheVariants.{Piped}
-use Rattle.steps.specs.declared.view.Role.{Role}
-use Rattle.steps.specs.declared.view.View.{View}
-use Rattle.steps.specs.Journal.{events_of}
-use Rattle.steps.specs.Plays.{Seated, HasAlone}
-use Rattle.steps.specs.Rule.{Looks}
-use Rattle.steps.proofs.StepKinds.{in_hand}
-use Rattle.steps.proofs.PipeSteps.{lacks_after}
-use Rattle.work.specs.Passes.{IsTask, LiesAs, Running, seen_of, with_asked}
-use Rattle.work.specs.Searches.{WorkerSeat}
-use Rattle.work.specs.WorkerRuns.{MissedPipe}
+use Rattle.work.proofs.Common.{Entry, HasAlone, Hold, IsPipe, IsPlaced, IsTask, LiesAs, List, Looks, MissedPipe, None, Op, Option, Parcel, Piped, Role, Running, Seated, Some, Thing, View, WaitedPipe, WorkerSeat, ap, arith, events_of, flow, in_hand, lacks_after, length, refl, rest, seen_of, slice_index, subst, sym, total, true, true≢false, with_asked, ℕ, ◌<◌, ◌∙◌, ◌∷◌, ◌≡◌}
 use Rattle.work.proofs.RunsKept.{handed_by}
 use Rattle.work.proofs.TaskKept.{task_lists, task_looked, task_on, task_still}
 use Rattle.work.proofs.answering.Answering.hold.Goals as goal

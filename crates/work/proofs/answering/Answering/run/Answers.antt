@@ -1,22 +1,6 @@
-use Rattle.std.proofs.Common.{◌≡◌, ◌<◌, List, [], length, Option, Some, None, sym, refl, ap, ◌∙◌, subst}
 use Rattle.answers.specs.declared.named.NamedPipes.TheVariants.{Nothing, One, Both}
-use Rattle.answers.specs.NamedEnds.{UsesNone, UsesOne, UsesBoth}
-use Rattle.entry.specs.declared.op.Op.{Op}
-use Rattle.entry.specs.Entry.{Entry}
-use Rattle.history.specs.declared.event.Event.TheVariants.{Reply}
-use Rattle.history.specs.declared.req.Req.{Req}
-use Rattle.history.specs.Chains.{IsPlaced}
-use Rattle.steps.specs.declared.line.Line.TheVariants.{Did}
-use Rattle.steps.specs.declared.parcel.Parcel.{Parcel}
-use Rattle.steps.specs.declared.view.Role.TheVariants.{Idle, Busy}
-use Rattle.steps.specs.declared.view.View.{View}
-use Rattle.steps.specs.Cells.{cells_in}
-use Rattle.steps.proofs.ViewsKept.{role_after}
 use Rattle.work.specs.declared.run.Ran.TheVariants.{Replied}
-use Rattle.work.specs.Passes.{Running, seen_of, with_asked}
-use Rattle.work.specs.declared.cancel.Wanted.{Wanted}
-use Rattle.work.specs.Searches.{wanted_in}
-use Rattle.work.specs.WorkerRuns.{run_as}
+use Rattle.work.proofs.Common.{Busy, Did, Entry, Idle, IsPlaced, List, None, Op, Option, Parcel, Reply, Req, Running, Some, UsesBoth, UsesNone, UsesOne, View, Wanted, [], ap, cells_in, length, refl, role_after, run_as, seen_of, subst, sym, wanted_in, with_asked, ◌<◌, ◌∙◌, ◌≡◌}
 use Rattle.work.proofs.CancelEnds.{ring_cells}
 use Rattle.work.proofs.RunsKept.{bare_reply, runs_entry, steps_plain, wanted_run, quiet_still, ends_by, took_none, took_more, past_is, one_placed, both_placed, worker_idle}
 use Rattle.work.proofs.PassesKept.{awake_of}

@@ -1,27 +1,5 @@
-use Rattle.std.proofs.Common.{◌≡◌, ℕ, ◌<◌, List, [], ◌++◌, length, inl, inr, sym, refl, ap, ◌∙◌, subst, arith}
-use Rattle.answers.specs.NamedEnds.{UsesBoth}
-use Rattle.answers.proofs.Naming.{uses_joined}
-use Rattle.entry.specs.Entry.{Entry}
-use Rattle.history.specs.declared.event.Event.TheVariants.{Reply, Park}
-use Rattle.history.specs.declared.req.Req.{Req}
-use Rattle.history.specs.Answers.{OpAnswers}
-use Rattle.history.specs.Chains.{IsPlaced}
-use Rattle.history.specs.Legal.{Legal}
-use Rattle.steps.specs.declared.line.Line.{Line}
-use Rattle.steps.specs.declared.line.Line.TheVariants.{Did, Hold, Free}
-use Rattle.steps.specs.declared.view.Layout.{Layout}
-use Rattle.steps.specs.declared.parcel.Parcel.{Parcel}
-use Rattle.steps.specs.declared.view.Role.TheVariants.{Idle, Busy, Leaving}
-use Rattle.steps.specs.declared.view.View.{View}
-use Rattle.steps.specs.Cells.{setup_of, pipe_at}
-use Rattle.steps.specs.Journal.{events_of}
-use Rattle.steps.specs.Plays.{HasBoth}
-use Rattle.steps.specs.Rule.{Extends}
-use Rattle.steps.proofs.ViewsKept.{layout_after, role_after}
-use Rattle.work.specs.Passes.{Pass, Running, seen_of, with_asked}
-use Rattle.work.specs.WorkerRuns.{LaidAtBoth, LaidDown, MissedPipe, NoAnswer, TookAlong, Unanswered}
+use Rattle.work.proofs.Common.{Busy, Did, Entry, Extends, Free, HasBoth, Hold, Idle, IsPlaced, LaidAtBoth, LaidDown, Layout, Leaving, Legal, Line, List, MissedPipe, NoAnswer, NoRequest, OpAnswers, Parcel, Park, Pass, Reply, Req, Running, TookAlong, Unanswered, UsesBoth, View, [], ap, arith, events_of, inl, inr, layout_after, length, pipe_at, refl, role_after, seen_of, setup_of, subst, sym, uses_joined, with_asked, ℕ, ◌++◌, ◌<◌, ◌∙◌, ◌≡◌}
 use Rattle.work.proofs.RunsKept.{bare_reply, both_handed, named_on, runs_on, placed_on, quiet_still, quiet_look, quiet_line, ends_by, took_none, took_more, took_both, missed_out, worker_on, worker_left_both, begins_on, begins_both, has_both}
-use Rattle.steps.specs.declared.line.Laid.TheVariants.{NoRequest}
 use Rattle.work.proofs.PipesWaited.{down_later, down_sooner}
 use Rattle.work.proofs.answering.Answering.run_between.Goals as goal
 

@@ -1,23 +1,4 @@
-use Rattle.std.proofs.Common.{◌≡◌, ℕ, ◌<◌, List, length, sym, refl, ap, ◌∙◌, subst, arith}
-use Rattle.answers.specs.NamedEnds.{UsesOne}
-use Rattle.entry.specs.Entry.{Entry}
-use Rattle.history.specs.declared.event.Event.TheVariants.{Reply, Park}
-use Rattle.history.specs.declared.req.Req.{Req}
-use Rattle.history.specs.Answers.{OpAnswers}
-use Rattle.history.specs.Chains.{IsPlaced}
-use Rattle.history.specs.Legal.{Legal}
-use Rattle.steps.specs.declared.line.Line.{Line}
-use Rattle.steps.specs.declared.line.Line.TheVariants.{Did, Hold, Free}
-use Rattle.steps.specs.declared.view.Layout.{Layout}
-use Rattle.steps.specs.declared.parcel.Parcel.{Parcel}
-use Rattle.steps.specs.declared.view.Role.TheVariants.{Idle, Busy, Leaving}
-use Rattle.steps.specs.declared.view.View.{View}
-use Rattle.steps.specs.Cells.{setup_of, pipe_at}
-use Rattle.steps.specs.Journal.{events_of}
-use Rattle.steps.specs.Rule.{Extends}
-use Rattle.steps.proofs.ViewsKept.{layout_after, role_after}
-use Rattle.work.specs.Passes.{Pass, Running, seen_of, with_asked}
-use Rattle.work.specs.WorkerRuns.{LaidDown, NoAnswer, TookAlong, Unanswered}
+use Rattle.work.proofs.Common.{Busy, Did, Entry, Extends, Free, Hold, Idle, IsPlaced, LaidDown, Layout, Leaving, Legal, Line, List, NoAnswer, OpAnswers, Parcel, Park, Pass, Reply, Req, Running, TookAlong, Unanswered, UsesOne, View, ap, arith, events_of, layout_after, length, pipe_at, refl, role_after, seen_of, setup_of, subst, sym, with_asked, ℕ, ◌<◌, ◌∙◌, ◌≡◌}
 use Rattle.work.proofs.RunsKept.{bare_reply, one_handed, named_on, quiet_still, quiet_look, quiet_line, ends_by, took_none, took_more, took_both, missed_out, worker_on, worker_left, begins_on, begins_both, placed_on, has_one, held_now}
 use Rattle.work.proofs.PipesWaited.{down_later, down_sooner}
 use Rattle.work.proofs.answering.Answering.run_with.Goals as goal

@@ -1,15 +1,4 @@
-use Rattle.std.proofs.Common.{◌≡◌, Some, sym, ap, ◌∙◌, subst}
-use Rattle.entry.specs.Entry.{Entry}
-use Rattle.history.specs.Chains.{IsPlaced}
-use Rattle.steps.specs.declared.parcel.Parcel.{Parcel}
-use Rattle.steps.specs.declared.parcel.Thing.TheVariants.{Full}
-use Rattle.steps.specs.declared.view.Role.TheVariants.{Busy}
-use Rattle.steps.specs.declared.view.View.{View}
-use Rattle.steps.specs.Cells.{slot_at}
-use Rattle.steps.specs.Journal.{events_of}
-use Rattle.steps.proofs.PipeSteps.{lacks_after}
-use Rattle.work.specs.Passes.{IsBusySeat, Running, notes_read, seen_of}
-use Rattle.work.specs.Searches.{ReadNotes}
+use Rattle.work.proofs.Common.{Busy, Entry, Full, IsBusySeat, IsPlaced, Parcel, ReadNotes, Running, Some, View, ap, events_of, lacks_after, notes_read, seen_of, slot_at, subst, sym, ◌∙◌, ◌≡◌}
 use Rattle.work.proofs.NotesRead.{placed_looked, reads_run}
 use Rattle.work.proofs.RunsKept.{runs_entry}
 use Rattle.work.proofs.TaskKept.{in_front, its_own, task_looked}

@@ -1,13 +1,4 @@
-use Rattle.std.proofs.Common.{subst}
-use Rattle.entry.specs.Entry.{Entry}
-use Rattle.history.specs.declared.req.Req.{Req}
-use Rattle.history.specs.Chains.{IsPlaced}
-use Rattle.steps.specs.declared.view.View.{View}
-use Rattle.steps.specs.Journal.{events_of}
-use Rattle.steps.specs.Rule.{seeing}
-use Rattle.work.specs.Passes.{notes_read, seen_of}
-use Rattle.work.specs.Searches.{ReadNotes, wanted_in}
-use Rattle.work.specs.WorkerRuns.{HasWoken, IsRun, StepsBy}
+use Rattle.work.proofs.Common.{Entry, HasWoken, IsPlaced, IsRun, ReadNotes, Req, StepsBy, View, events_of, notes_read, seeing, seen_of, subst, wanted_in}
 use Rattle.work.proofs.NotesRead.{ran_then, seen_as, stepped_then, woken_then}
 use Rattle.work.proofs.busy.Busy.run.Goals as goal
 

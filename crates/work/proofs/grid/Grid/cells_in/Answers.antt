@@ -1,6 +1,4 @@
-use Rattle.std.proofs.Common.{List, ℕ, ◌<◌, length, get_or, ap, sym, subst, arith, ◌∙◌, ltb-true, ltb-false}
-use Rattle.steps.specs.Cells.{cells_in}
-use Rattle.work.specs.declared.grid.Row.{Row}
+use Rattle.work.proofs.Common.{List, Row, ap, arith, cells_in, get_or, length, ltb-false, ltb-true, subst, sym, ℕ, ◌<◌, ◌∙◌}
 use Rattle.work.proofs.GridRows.{cells_long, cells_found, cells_lost}
 use Rattle.work.proofs.grid.Grid.cells_in.Goals as goal
 

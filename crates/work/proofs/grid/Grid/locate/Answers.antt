@@ -1,5 +1,4 @@
-use Rattle.std.proofs.Common.{ℕ, length, sym, ap, arith, ltb-false, List}
-use Rattle.work.specs.declared.grid.Row.{Row}
+use Rattle.work.proofs.Common.{List, Row, ap, arith, length, ltb-false, sym, ℕ}
 use Rattle.work.proofs.GridRows.{cells_long, row_found, spot_says}
 use Rattle.work.proofs.grid.Grid.locate.Goals as goal
 

@@ -1,8 +1,4 @@
-use Rattle.std.proofs.Common.{◌≡◌, ◌+◌, ℕ, List, [], ◌∷◌, ◌++◌, take, get_or, sym, ap, ◌∙◌, subst, arith}
-use Rattle.std.proofs.lemmas.List.{take_more}
-use Rattle.steps.specs.Cells.{total}
-use Rattle.work.specs.declared.grid.Row.{Row}
-use Rattle.work.specs.Grid.{cells_of, RowsFrom}
+use Rattle.work.proofs.Common.{List, Row, RowsFrom, [], ap, arith, cells_of, get_or, subst, sym, take, take_more, total, ℕ, ◌++◌, ◌+◌, ◌∙◌, ◌∷◌, ◌≡◌}
 use Rattle.work.proofs.GridRows.{cells_more, total_more, rows_more, counts_at, total_at}
 use Rattle.work.proofs.grid.Grid.new.Goals as goal
 

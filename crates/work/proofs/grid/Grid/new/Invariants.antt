@@ -1,6 +1,5 @@
 use Rattle.std.specs.Prelude.{◌≡◌, take}
-use Rattle.steps.specs.Cells.{total}
-use Rattle.work.specs.Grid.{cells_of, RowsFrom}
+use Rattle.work.proofs.Common.{RowsFrom, cells_of, total}
 use Rattle.work.proofs.grid.Grid.new.Given as goal
 
 -- the rows so far are those of the numbers so far, one behind the other

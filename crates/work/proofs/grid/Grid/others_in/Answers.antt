@@ -1,6 +1,4 @@
-use Rattle.std.proofs.Common.{◌≡◌, ℕ, ◌-◌, List, length, refl, sym, ap, ◌∙◌, arith, ltb-false}
-use Rattle.steps.specs.Cells.{cells_in}
-use Rattle.work.specs.declared.grid.Row.{Row}
+use Rattle.work.proofs.Common.{List, Row, ap, arith, cells_in, length, ltb-false, refl, sym, ℕ, ◌-◌, ◌∙◌, ◌≡◌}
 use Rattle.work.proofs.GridRows.{cells_long, cells_lost, row_found}
 use Rattle.work.proofs.grid.Grid.others_in.Goals as goal
 

@@ -1,4 +1,4 @@
-use Rattle.std.proofs.Common.{List, ℕ, length, ap, sym, ◌∙◌}
+use Rattle.work.proofs.Common.{List, ap, length, sym, ℕ, ◌∙◌}
 use Rattle.work.proofs.GridRows.{cells_long}
 use Rattle.work.proofs.grid.Grid.rings.Goals as goal
 

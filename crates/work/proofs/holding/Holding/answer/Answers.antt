@@ -1,34 +1,4 @@
-use Rattle.std.proofs.lemmas.Int.{to_z-of_z}
-use Rattle.std.proofs.Common.{rules, ◌≡◌, ℕ, suc, ◌<◌, ◌≤◌, ℤ, List, [], ◌∷◌, ◌++◌, Bool, Option, length, None, Some, sym, refl, ap, ◌∙◌, subst, to_z, of_z, w32}
-use Rattle.std.specs.Prelude.{is_some}
-use Rattle.atomic_table.specs.Table.{rest}
-use Rattle.answers.specs.Answered.{Answered}
-use Rattle.answers.specs.NamedEnds.{UsesOne}
-use Rattle.entry.specs.declared.op.Op.{Op}
-use Rattle.entry.specs.Entry.{Entry, fails}
-use Rattle.entry.specs.Entry.{Entry}
-use Rattle.history.specs.declared.req.Req.{Req}
-use Rattle.history.specs.declared.event.Event.TheVariants.{Reply}
-use Rattle.history.specs.Chains.{IsPlaced}
-use Rattle.history.specs.Legal.{FitsOp}
-use Rattle.steps.specs.declared.line.Laid.{Laid}
-use Rattle.steps.specs.declared.line.Line.TheVariants.{Did, Free}
-use Rattle.steps.specs.declared.parcel.Parcel.{Parcel}
-use Rattle.steps.specs.declared.parcel.Thing.TheVariants.{Full, Piped}
-use Rattle.steps.specs.declared.parcel.WaitedPipe.{WaitedPipe}
-use Rattle.steps.specs.declared.view.Role.{Role}
-use Rattle.steps.specs.declared.view.Role.TheVariants.{Leaving}
-use Rattle.steps.specs.declared.view.View.{View}
-use Rattle.steps.specs.Cells.{cells_in, request_at, claim_at, pipe_at, slot_at}
-use Rattle.steps.specs.Fairness.{MayLay}
-use Rattle.steps.specs.Journal.{events_of, goes_out, lays}
-use Rattle.steps.specs.Plays.{Seated, HasAlone, HasPipeLaid, HasPipeAfter, MayReply}
-use Rattle.steps.specs.Rule.{Extends, IsStep, IsTwoSteps, leaves}
-use Rattle.steps.specs.Sleepers.{LiesIn}
-use Rattle.steps.proofs.PipeSteps.{one_worker}
-use Rattle.work.specs.declared.lists.Lists.{Lists}
-use Rattle.work.specs.Passes.{Pass, Holding, IsHoldingSeat, Settled, seen_of, with_asked}
-use Rattle.work.specs.WorkerRuns.{LaidDown, TookAlong, Unanswered}
+use Rattle.work.proofs.Common.{Answered, Bool, Did, Entry, Extends, FitsOp, Free, Full, HasAlone, HasPipeAfter, HasPipeLaid, Holding, IsHoldingSeat, IsPlaced, IsStep, IsTwoSteps, Laid, LaidDown, Leaving, LiesIn, List, Lists, MayLay, MayReply, None, Op, Option, Parcel, Pass, Piped, Reply, Req, Role, Seated, Settled, Some, TookAlong, Unanswered, UsesOne, View, WaitedPipe, [], ap, cells_in, claim_at, events_of, fails, goes_out, is_some, lays, leaves, length, of_z, one_worker, pipe_at, refl, request_at, rest, rules, seen_of, slot_at, subst, suc, sym, to_z, to_z-of_z, w32, with_asked, ℕ, ℤ, ◌++◌, ◌<◌, ◌∙◌, ◌∷◌, ◌≡◌, ◌≤◌}
 use Rattle.work.proofs.MarksKept.{marked_left}
 use Rattle.work.proofs.RunsKept.{room_on, runs_fits}
 use Rattle.work.proofs.PipeAnswered.{known, left, may, pipe_there, unanswered, waits}

@@ -1,28 +1,4 @@
-use Rattle.std.proofs.Common.{◌≡◌, ℕ, ◌<◌, true≢false, List, ◌∷◌, length, slice_index, Option, Some, None, sym, refl, ap, ◌∙◌, subst, arith}
-use Rattle.atomic_table.specs.Table.{rest}
-use Rattle.answers.specs.Answered.{IsPipe}
-use Rattle.answers.specs.NamedEnds.{UsesBoth}
-use Rattle.entry.specs.Entry.{Entry}
-use Rattle.history.specs.Chains.{IsPlaced}
-use Rattle.history.specs.Pipes.{flow}
-use Rattle.history.specs.declared.req.Req.{Req}
-use Rattle.steps.specs.declared.line.Laid.TheVariants.{NoRequest}
-use Rattle.steps.specs.declared.parcel.Parcel.{Parcel}
-use Rattle.steps.specs.declared.parcel.WaitedPipe.{WaitedPipe}
-use Rattle.steps.specs.Fairness.{MayLay}
-use Rattle.steps.specs.declared.line.Line.TheVariants.{Hold, Free}
-use Rattle.steps.specs.declared.parcel.Thing.{Thing}
-use Rattle.steps.specs.declared.parcel.Thing.TheVariants.{Piped}
-use Rattle.steps.specs.declared.view.Role.{Role}
-use Rattle.steps.specs.declared.view.View.{View}
-use Rattle.steps.specs.Cells.{pipe_at, total}
-use Rattle.steps.specs.Journal.{events_of}
-use Rattle.steps.specs.Plays.{Seated, HasAlone, HasBoth, HasPipeLaid}
-use Rattle.steps.specs.Rule.{Looks, Extends, IsStep}
-use Rattle.steps.proofs.StepKinds.{in_hand}
-use Rattle.steps.proofs.ViewsKept.{layout_after}
-use Rattle.work.specs.Passes.{Holding, LiesAs, seen_of, with_asked}
-use Rattle.work.specs.WorkerRuns.{MissedPipe}
+use Rattle.work.proofs.Common.{Entry, Extends, Free, HasAlone, HasBoth, HasPipeLaid, Hold, Holding, IsPipe, IsPlaced, IsStep, LiesAs, List, Looks, MayLay, MissedPipe, NoRequest, None, Option, Parcel, Piped, Req, Role, Seated, Some, Thing, UsesBoth, View, WaitedPipe, ap, arith, events_of, flow, in_hand, layout_after, length, pipe_at, refl, rest, seen_of, slice_index, subst, sym, total, true≢false, with_asked, ℕ, ◌<◌, ◌∙◌, ◌∷◌, ◌≡◌}
 use Rattle.work.proofs.RunsKept.{both_handed, grid_on, pipe_still, piped_in}
 use Rattle.work.proofs.TaskKept.{task_looked, task_on, task_still}
 use Rattle.work.proofs.PipesWaited.{lies_still}

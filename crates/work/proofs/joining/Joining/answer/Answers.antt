@@ -1,42 +1,7 @@
-use Rattle.std.proofs.lemmas.Int.{to_z-of_z}
-use Rattle.std.proofs.Common.{rules, ◌≡◌, ℕ, suc, ◌<◌, ◌≤◌, ℤ, List, [], ◌∷◌, ◌++◌, Bool, true, Option, length, slice_index, Some, sym, refl, ap, ◌∙◌, subst, to_z, of_z, w32, arith}
-use Rattle.std.specs.Prelude.{vec_capacity, is_some}
-use Rattle.std.proofs.lemmas.Bool.{lt-ltb}
-use Rattle.atomic_table.specs.Table.{rest}
-use Rattle.answers.specs.Answered.{AnsweredBoth, IsPipe}
-use Rattle.answers.specs.NamedEnds.{UsesBoth}
-use Rattle.answers.proofs.Naming.{uses_joined}
-use Rattle.entry.specs.declared.op.Op.{Op}
-use Rattle.entry.specs.Entry.{Entry, fails}
-use Rattle.history.specs.declared.req.Req.{Req}
-use Rattle.history.specs.declared.event.Event.TheVariants.{Reply}
-use Rattle.history.specs.Answers.{OpAnswers, is_pipe}
-use Rattle.history.specs.Chains.{IsPlaced}
-use Rattle.history.specs.Pipes.{Flow, contents, flow, offered, flows}
 use Rattle.history.proofs.Contents.{sound}
-use Rattle.pipe.specs.Pipe.{Conduit}
-use Rattle.steps.specs.declared.line.Laid.{Laid}
-use Rattle.steps.specs.declared.line.Line.TheVariants.{Did, Free}
-use Rattle.steps.specs.declared.parcel.Parcel.{Parcel}
-use Rattle.steps.specs.declared.parcel.WaitedPipe.{WaitedPipe}
-use Rattle.steps.specs.declared.parcel.Thing.TheVariants.{Full, Piped}
-use Rattle.steps.specs.declared.view.Layout.{Layout}
-use Rattle.steps.specs.declared.view.Role.{Role}
-use Rattle.steps.specs.declared.view.Role.TheVariants.{Leaving}
-use Rattle.steps.specs.declared.view.View.{View}
-use Rattle.steps.specs.Journal.{events_of, goes_out, lays, lying}
-use Rattle.steps.specs.Cells.{setup_of, cells_in, total, request_at, claim_at, pipe_at, slot_at}
-use Rattle.steps.specs.Plays.{Seated, HasAlone, HasBoth, HasPipeLaid, HasPipesAfter, IsSamePipe, MayReply}
-use Rattle.steps.specs.Rule.{Extends, IsStep, IsThreeSteps, leaves, leaves_one}
-use Rattle.steps.specs.Sleepers.{LiesIn}
-use Rattle.steps.proofs.ViewsKept.{layout_after, role_after, parts_after}
-use Rattle.work.specs.Passes.{Pass, IsJoiningSeat, IsLaidOnce, Joining, Settled, seen_of, with_asked}
-use Rattle.work.specs.WorkerRuns.{LaidAtBoth, TookAlong, Unanswered}
-use Rattle.work.specs.declared.lists.Lists.{Lists}
+use Rattle.work.proofs.Common.{AnsweredBoth, Bool, Conduit, Did, Entry, Extends, Flow, Free, Full, HasAlone, HasBoth, HasPipeLaid, HasPipesAfter, HasWaited, IsJoiningSeat, IsLaidOnce, IsPipe, IsPlaced, IsSamePipe, IsStep, IsThreeSteps, Joining, Laid, LaidAtBoth, Layout, Leaving, LiesIn, List, Lists, MayLay, MayReply, Op, OpAnswers, Option, Parcel, Pass, Piped, Reply, Req, Role, Seated, Settled, Some, TookAlong, Unanswered, UsesBoth, View, WaitedPipe, [], ap, arith, cells_in, claim_at, contents, events_of, fails, flow, flows, goes_out, is_pipe, is_some, layout_after, lays, leaves, leaves_one, length, lt-ltb, lying, of_z, offered, one_worker, parts_after, pipe_at, refl, request_at, rest, role_after, rules, seen_of, setup_of, slice_index, slot_at, subst, suc, sym, to_z, to_z-of_z, total, true, uses_joined, vec_capacity, w32, with_asked, ℕ, ℤ, ◌++◌, ◌<◌, ◌∙◌, ◌∷◌, ◌≡◌, ◌≤◌}
 use Rattle.work.proofs.MarksKept.{marked_left}
 use Rattle.work.proofs.RunsKept.{piped_in, run_piped, runs_placed, begins_on, room_on, piped_entry, has_both, pipe_may, pipe_after, pipe_still, both_turned, in_three_hands}
-use Rattle.steps.specs.Fairness.{HasWaited, MayLay}
-use Rattle.steps.proofs.PipeSteps.{one_worker}
 use Rattle.work.proofs.PipesWaited.{down_later, down_sooner, laid_down, may_lay, took_along, waited_now}
 use Rattle.work.proofs.TaskKept.{task_lists, task_on}
 use Rattle.work.proofs.joining.Joining.answer.Goals as goal

@@ -1,14 +1,4 @@
-use Rattle.std.proofs.Common.{◌≡◌, ◌≢◌, ℕ, ◌<◌, List, [], ◌∷◌, length, Some, sym, refl, ap, ◌∙◌, subst, arith, true≢false}
-use Rattle.history.specs.declared.req.Req.{Req}
-use Rattle.history.specs.declared.event.Event.TheVariants.{Begin}
-use Rattle.steps.specs.declared.line.Line.TheVariants.{Did}
-use Rattle.steps.specs.declared.parcel.Thing.TheVariants.{Full}
-use Rattle.steps.specs.declared.view.Role.{Role}
-use Rattle.steps.specs.Cells.{IsCell, IsParcel, request_at, slot_at, total, words_of}
-use Rattle.steps.specs.Journal.{holder}
-use Rattle.steps.specs.Rule.{Extends}
-use Rattle.steps.proofs.ViewsKept.{layout_after}
-use Rattle.work.specs.Passes.{Pass, HasRooms, IsTask}
+use Rattle.work.proofs.Common.{Begin, Did, Extends, Full, HasRooms, IsCell, IsParcel, IsTask, List, Pass, Req, Role, Some, [], ap, arith, holder, layout_after, length, refl, request_at, slot_at, subst, sym, total, true≢false, words_of, ℕ, ◌<◌, ◌∙◌, ◌∷◌, ◌≡◌, ◌≢◌}
 use Rattle.work.proofs.MarksKept.{marked_after, worker_looked}
 use Rattle.work.proofs.PassesKept.{took_one}
 use Rattle.work.proofs.RunsKept.{grid_on, runs_begun, unhit_begun}
