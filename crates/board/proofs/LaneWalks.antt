@@ -4,9 +4,9 @@ use Rattle.std.proofs.Math.Nat.{div-lt_iff_lt-mul}
 use Rattle.atomic_table.specs.Seated.{TableId}
 use Rattle.claim.specs.Facts.{Facts}
 use Rattle.board.specs.Lanes.{Watched}
-use Rattle.board.proofs.Common.{Bool, Event, IsCell, IsChainDone, IsLane, IsOver, IsPlaced, IsReaped, IsReplied, IsSameSeat, IsSpot, IsTrue, Lane, Layout, Legal, Line, List, None, Option, Pass, Req, SameLane, Seat, Setup, Some, Spot, Step, Stepped, Submission, Submitter, Thing, Took, View, WereReaped, [], ap, append_assoc, arith, before_in, bool_cases, cases_lt, cells_in, claim_at, cond, continues, counted, dite, eq-eqb, eqb-true, events_of, facts_at, false, fits_facts, get_or, inl, inr, joins, lasts, legal_before, length, ne_eqb, noted, nth, packed_facts, phase, place_of, placed_behind, placed_from, previous, reaped, reaped_as, reaped_lasts, refl, replied_lasts, request_at, ring_of, same_before, same_submits, setup_of, submission, submission_lasts, submission_some, submits, submitter_can, subst, suc, suc-mul, sym, total, true, true≢false, unborn_yet, words_of, zero, ℕ, ℕ_discrete, ⊎_elim, ◌*◌, ◌++◌, ◌+◌, ◌-◌, ◌/◌, ◌<◌, ◌==◌, ◌∙◌, ◌∷◌, ◌≡◌, ◌≤◌, ◌⊎◌}
+use Rattle.board.proofs.Common.{Bool, Event, IsCell, IsChainDone, IsFree, IsLane, IsOver, IsPlaced, IsReaped, IsReplied, IsSameSeat, IsSpot, IsTrue, Lane, Layout, Legal, Line, List, None, Option, Pass, Req, SameLane, Seat, Setup, Some, Spot, Step, Stepped, Submission, Submitter, Thing, Took, View, WereReaped, [], ap, append_assoc, arith, before_in, before_it, bool_cases, cases_lt, cells_in, claim_at, cond, continues, counted, dite, eq-eqb, eqb-true, events_of, facts_at, false, fits_facts, get_or, inl, inr, joins, lasts, legal_before, length, located, ne_eqb, noted, nth, packed_facts, phase, place_of, placed_behind, placed_from, previous, reaped, reaped_as, reaped_lasts, refl, replied_lasts, request_at, ring_of, same_before, same_submits, setup_of, submission, submission_lasts, submission_some, submits, submitter_can, subst, suc, suc-mul, sym, total, true, true≢false, unborn_yet, words_of, zero, ℕ, ℕ_discrete, ⊎_elim, ◌*◌, ◌++◌, ◌+◌, ◌-◌, ◌/◌, ◌<◌, ◌==◌, ◌∙◌, ◌∷◌, ◌≡◌, ◌≤◌, ◌⊎◌}
 use Rattle.board.proofs.FactsWords.{Tells, chain_told}
-use Rattle.board.proofs.LanesKept.{lane_looked, lane_cell}
+use Rattle.board.proofs.LanesKept.{free_by_age, lane_cell, lane_looked, reaped_by_age, walked_done}
 use Rattle.board.proofs.OwnCells.{same_default}
 use Rattle.board.proofs.SubmitterLooks.{gen_small}
 
@@ -235,3 +235,38 @@ last_generation next count n least few fits over = let k : ℕ = next + (count -
     let ge : 16777215 * n ≤ k = (let m : ℕ = 16777215 * n in let g : m < next + count = over in let r : m ≤ k = omega arith in r) in
     let z : k / n < 16777216 = (div-lt_iff_lt-mul {k = n} {x = k} {y = 16777216} least).1 lt in
     ⊎_elim (λ (early : k / n < 16777215). absurd (let before : k < 16777215 * n = (div-lt_iff_lt-mul {k = n} {x = k} {y = 16777215} least).0 early in omega arith)) (λ (late : 16777215 ≤ k / n). omega arith) (cases_lt (k / n) 16777215)
+
+-- ---- the next request, by what is kept of its cell
+
+-- a request of the ring that was reaped, of whose chain all before it have replied, and which ends it by its facts: the chains up to it are done
+one_more : (s : TableSeat) (a : Lane) (read : ℕ) (o : Spot) (f : Facts) → IsLane s a → IsSpot s.me.0.layout.cells a.ring a.done o → a.done < a.next → IsReaped (phase (events_of s.me.0.seen) (nth a.ring a.done)) → read ≡ get_or a.facts.items o.number read → IsTrue (fits_facts f) → packed_facts f ≡ read → continues f o.generation ≡ false → IsLane s (record a { done = a.done + 1 })
+one_more s a read o f l spot lt gone at fits word ends =
+    let h : List Event = events_of s.me.0.seen in let c = reaped_as _ gone in let replied : IsReplied (phase h (nth a.ring a.done)) = subst IsReplied (sym c.2) tt in
+    let say = facts_say s a a.done read o f l spot lt replied at fits word in
+    lane_done s a a.done l (omega arith) lt (walked_done h a.ring a.done a.done l.1.done_are (λ j x y. absurd (omega arith)) replied (say.1 ends))
+
+-- the cell of the next request is free where its earlier requests were reaped, and the last of them ends its chain
+pub known_free : (s : TableSeat) (a : Lane) (o : Spot) (read : ℕ) (f : Facts) → IsLane s a → IsSpot s.me.0.layout.cells a.ring a.next o → get_or a.ages.items o.number 0 ≡ o.generation → read ≡ get_or a.facts.items o.number read → IsTrue (fits_facts f) → packed_facts f ≡ read → continues f (o.generation - 1) ≡ false → IsFree s.me.0.layout.cells (events_of s.me.0.seen) (nth a.ring a.next)
+known_free s a o read f l spot age at fits word ends = ⊎_elim (λ before. free_by_age s a a.next o l spot before age) full (cases_lt a.next (a.done + n)) where
+  K : List ℕ
+  K = s.me.0.layout.cells
+
+  n : ℕ
+  n = cells_in K a.ring
+
+  full : a.done + n ≤ a.next → IsFree K (events_of s.me.0.seen) (nth a.ring a.next)
+  full le = let q : Req = nth a.ring a.done in let near = l.1.near in let same : a.done + n ≡ a.next = omega arith in
+      let ring' : ring_of K o.cell ≡ a.ring = ap (λ (r : Req). r.ring) spot.at in let number : (request_at K o.cell o.generation).k ≡ a.next = ap (λ (r : Req). r.k) spot.at in
+      let some : 0 < n = (let p = (located K o.cell spot.inside).1 in let e = ap (cells_in K) ring' in omega arith) in
+      let b = before_it K o.cell o.generation q spot.inside (sym ring') (ap (λ (i : ℕ). q.k + cells_in K i) ring' ∙ (same ∙ sym number)) in
+      let e : o.generation - 1 ≡ b.0 = (let g = b.1 in omega arith) in
+      let o' : Spot = record o { generation = b.0 } in
+      let spot' : IsSpot K a.ring a.done o' = record { inside = spot.inside; small = spot.small; number_is = spot.number_is; at = sym b.2 } in
+      free_by_age s (record a { done = a.done + 1 }) a.next o (one_more s a read o' f l spot' (omega arith) (reaped_by_age s a a.next o l spot age q refl same) at fits word (ap (continues f) (sym e) ∙ ends)) spot (omega arith) age
+
+-- so is a cell that has had no request
+pub first_free : (s : TableSeat) (a : Lane) (o : Spot) → IsLane s a → IsSpot s.me.0.layout.cells a.ring a.next o → get_or a.ages.items o.number 0 ≡ o.generation → o.generation ≡ 0 → IsFree s.me.0.layout.cells (events_of s.me.0.seen) (nth a.ring a.next)
+first_free s a o l spot age first =
+    let K : List ℕ = s.me.0.layout.cells in let ring' : ring_of K o.cell ≡ a.ring = ap (λ (r : Req). r.ring) spot.at in
+    let number : 0 * cells_in K (ring_of K o.cell) + place_of K o.cell ≡ a.next = subst (λ (g : ℕ). (request_at K o.cell g).k ≡ a.next) first (ap (λ (r : Req). r.k) spot.at) in
+    free_by_age s a a.next o l spot (let p = (located K o.cell spot.inside).1 in let e = ap (cells_in K) ring' in omega arith) age

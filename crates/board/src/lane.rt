@@ -185,6 +185,24 @@ fn first_unreaped(lane: &Lane, grid: &Grid, count: u64) -> Option<u64>
     None
 }
 
+/// Whether what is kept of the cell of the ring's next request says that it is free, and may have one more: its earlier requests
+/// were reaped, and the chain of the last of them ended with it. Where it doesn't say so, the cell may be free all the same.
+fn is_known_free(lane: &Lane, grid: &Grid) -> bool
+    requires lane { (s : Seat (Option Thing) View) × IsLane s lane.now × (grid.now ≡ s.me.0.layout.cells) }
+    ensures free { result ≡ true → (s : Seat (Option Thing) View) → IsLane s lane.now → grid.now ≡ s.me.0.layout.cells → AreFree grid.now s.me.0 lane.now.ring lane.now.next 1 }
+    ensures fresh { result ≡ true → lane.now.next / cells_in grid.now lane.now.ring < 16777215 }
+{
+    let k = lane.next;
+    let Some(spot) = grid.locate(Req { ring: lane.ring, k }) else {
+        unreachable!()
+    };
+    let generation = spot.generation;
+    if u64::from(lane.ages[spot.number]) != generation || generation >= LAST_GENERATION {
+        return false;
+    }
+    generation == 0 || !goes_on(lane.facts[spot.number], generation - 1)
+}
+
 /// Whether there is room for the ring's next requests, so many of them: their cells are free, and have had fewer requests than
 /// they can have. Where a cell isn't free it looks before it says so: `Full` is true of the history after a step of this very call.
 pub(crate) fn room(
@@ -204,6 +222,9 @@ pub(crate) fn room(
     ensures fresh { IfOk result (λ _. (i : ℕ) → i < count → (lane.old.next + i) / cells_in grid.now lane.old.ring < 16777215) }
     ensures refused { IfErr result (λ e. RefusesRoom grid.now lane.old.ring lane.old.next count (pass_of seat.old) (pass_of seat.new) e) }
 {
+    if count == 1 && is_known_free(lane, grid) {
+        return Ok(());
+    }
     let cells = grid.cells_in(usize::from(lane.ring));
     if count > cells {
         return Err(SubmitError::Full);

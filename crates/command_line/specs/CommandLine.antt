@@ -78,14 +78,18 @@ IsApp c app = (app_of c ≡ app) × ((out-Command c).has_globals ≡ false)
 abbrev pub run_app : App
 run_app = with_rule (with_rule (with_rule (with_rule (with_rule (new_app (codes "run")) workers_rule) turns_rule) times_rule) (flag_rule (codes "json"))) file_rule
 
+-- the words that each search has beside its own
+abbrev pub with_search : App → App
+with_search app = with_rule (with_rule (with_rule (with_rule app limit_rule) (flag_rule (codes "progress"))) (flag_rule (codes "json"))) file_rule
+
 abbrev pub outcomes_app : App
-outcomes_app = with_rule (with_rule (with_rule (with_rule (with_rule (with_rule (new_app (codes "outcomes")) (flag_rule (codes "stats"))) (flag_rule (codes "explain"))) limit_rule) (flag_rule (codes "progress"))) (flag_rule (codes "json"))) file_rule
+outcomes_app = with_search (with_rule (with_rule (new_app (codes "outcomes")) (flag_rule (codes "stats"))) (flag_rule (codes "explain")))
 
 abbrev pub history_app : App
-history_app = with_rule (with_rule (with_rule (with_rule (with_rule (with_rule (with_rule (new_app (codes "history")) (flag_rule (codes "lanes"))) (flag_rule (codes "mermaid"))) limit_rule) (flag_rule (codes "progress"))) (flag_rule (codes "json"))) file_rule) table_rule
+history_app = with_rule (with_search (with_rule (with_rule (new_app (codes "history")) (flag_rule (codes "lanes"))) (flag_rule (codes "mermaid")))) table_rule
 
 abbrev pub check_app : App
-check_app = with_rule (with_rule (with_rule (with_rule (with_rule (new_app (codes "check")) limit_rule) (flag_rule (codes "progress"))) (flag_rule (codes "json"))) file_rule) tables_rule
+check_app = with_rule (with_search (new_app (codes "check"))) tables_rule
 
 -- the program's name, without its commands: one of them has to be given
 abbrev pub bare_app : App

@@ -1,15 +1,29 @@
 //! The command line, as clap reads it.
 ghost use Rattle.std.specs.Prelude.{IfOk, codes};
-ghost use Rattle.command_line.specs.CommandLine.{check_app, file_rule, flag_rule, history_app, limit_rule, outcomes_app, ringrun, run_app, table_rule, tables_rule, times_rule, turns_rule, workers_rule, IsApp, IsRead};
+ghost use Rattle.clap.specs.Words.{App, Rule, new_app, with_rule, with_subcommand};
+ghost use Rattle.command_line.specs.CommandLine.{bare_app, check_app, file_rule, flag_rule, history_app, limit_rule, outcomes_app, ringrun, run_app, table_rule, tables_rule, times_rule, turns_rule, with_search, workers_rule, IsApp, IsRead};
 
 use crate::job::TIMES;
 use clap::{Arg, ArgAction, Command, value_parser};
 use limits::WORKERS;
 use std::alloc::{AllocError, Global};
 
+/// A command, or that there was no memory for it.
+type Made<'a> = Result<Command<'a>, AllocError>;
+
 /// The program's commands.
 pub fn command<'a>(alloc: Global) -> Result<Command<'a>, AllocError>
     ensures { IfOk result (λ c. IsApp c ringrun) }
+{
+    let command = with_command(Ok(bare(alloc)), run(alloc));
+    let command = with_command(command, outcomes(alloc));
+    let command = with_command(command, history(alloc));
+    with_command(command, check(alloc))
+}
+
+/// The program without its commands.
+fn bare<'a>(alloc: Global) -> Command<'a>
+    ensures { IsApp result bare_app }
 {
     Command::new(alloc, "ringrun")
         .version("0.1.0")
@@ -19,104 +33,129 @@ pub fn command<'a>(alloc: Global) -> Result<Command<'a>, AllocError>
         .after_help("Example:\n  ringrun run examples/first.ring\nprints\n  a 0")
         .subcommand_required(true)
         .arg_required_else_help(true)
-        .subcommand(run(alloc)?)?
-        .subcommand(outcomes(alloc)?)?
-        .subcommand(history(alloc)?)?
-        .subcommand(check(alloc)?)
+}
+
+/// The command with another one within it.
+fn with_command<'a>(command: Made<'a>, other: Made<'a>) -> Made<'a>
+    ensures { (app one : App) → IfOk command.entry (λ c. IsApp c app) → IfOk other.entry (λ c. IsApp c one) → IfOk result (λ c. IsApp c (with_subcommand app one.top)) }
+{
+    command?.subcommand(other?)
+}
+
+/// The command with another word.
+fn with_arg<'a>(command: Made<'a>, arg: Arg<'a>) -> Made<'a>
+    ensures { (app : App) (rule : Rule) → IfOk command.entry (λ c. IsApp c app) → IsRead arg.entry rule → IfOk result (λ c. IsApp c (with_rule app rule)) }
+{
+    command?.arg(arg)
+}
+
+/// A command with its texts, of which the second is a longer one.
+fn described<'a>(
+    alloc: Global,
+    name: &'a str,
+    about: &'a str,
+    more: &'a str,
+    example: &'a str,
+) -> Command<'a>
+    ensures { IsApp result (new_app name.now) }
+{
+    Command::new(alloc, name)
+        .about(about)
+        .long_about(more)
+        .after_help(example)
+}
+
+/// The command with the words that each search has.
+fn with_search<'a>(alloc: Global, command: Made<'a>) -> Made<'a>
+    ensures { (app : App) → IfOk command.entry (λ c. IsApp c app) → IfOk result (λ c. IsApp c (with_search app)) }
+{
+    let command = with_arg(command, limit(alloc));
+    let command = with_arg(command, progress(alloc));
+    let command = with_arg(command, json(alloc));
+    with_arg(command, file(alloc))
 }
 
 /// The command `run`.
-fn run<'a>(alloc: Global) -> Result<Command<'a>, AllocError>
+fn run<'a>(alloc: Global) -> Made<'a>
     ensures { IfOk result (λ c. IsApp c run_app) }
 {
-    Command::new(alloc, "run")
-        .about("Carries a script out by threads, and prints its table of completions.")
-        .long_about(
-            "Carries a script out by threads, and prints its table of completions: a line for each entry, with its label and \
+    let command = described(
+        alloc,
+        "run",
+        "Carries a script out by threads, and prints its table of completions.",
+        "Carries a script out by threads, and prints its table of completions: a line for each entry, with its label and \
              its reply. Each ring has a thread of its own, and so have the poller, which carries out the clock's lines, and \
              each of several workers.",
-        )
-        .after_help(
-            "Example:\n  printf 'ring 4\\non 0\\nnop a\\nsubmit\\nwait a\\n' | ringrun run -\nprints\n  a 0\n\nStatus 0: the table was printed. 1: one line 'fault: ..' says why not. 2: the script has a fault, printed as\n'line N: ..'. 3: a line ran out of turns, printed as\n'stuck L' with the label that it waits for, or of the first entry that it submits.",
-        )
-        .arg(workers(alloc))?
-        .arg(turns(alloc))?
-        .arg(times(alloc))?
-        .arg(json(alloc))?
-        .arg(file(alloc))
+        "Example:\n  printf 'ring 4\\non 0\\nnop a\\nsubmit\\nwait a\\n' | ringrun run -\nprints\n  a 0\n\nStatus 0: the table was printed. 1: one line 'fault: ..' says why not. 2: the script has a fault, printed as\n'line N: ..'. 3: a line ran out of turns, printed as\n'stuck L' with the label that it waits for, or of the first entry that it submits.",
+    );
+    let command = with_arg(Ok(command), workers(alloc));
+    let command = with_arg(command, turns(alloc));
+    let command = with_arg(command, times(alloc));
+    let command = with_arg(command, json(alloc));
+    with_arg(command, file(alloc))
 }
 
 /// The command `outcomes`.
-fn outcomes<'a>(alloc: Global) -> Result<Command<'a>, AllocError>
+fn outcomes<'a>(alloc: Global) -> Made<'a>
     ensures { IfOk result (λ c. IsApp c outcomes_app) }
 {
-    Command::new(alloc, "outcomes")
+    let command = Command::new(alloc, "outcomes")
         .about("Lists every table of completions that a script can have, whatever the schedule.")
         .after_help(
             "Example:\n  printf 'ring 4\\non 0\\nnop a\\nsubmit\\nwait a\\n' | ringrun outcomes -\nprints\n  a 0\n\n  tables 1",
-        )
-        .arg(flag(
-            alloc,
-            "stats",
-            "Prints the number of states met, and the states a second, to standard error",
-        ))?
-        .arg(flag(
-            alloc,
-            "explain",
-            "Prints after each table a history that leads to it",
-        ))?
-        .arg(limit(alloc))?
-        .arg(progress(alloc))?
-        .arg(json(alloc))?
-        .arg(file(alloc))
+        );
+    let first = flag(
+        alloc,
+        "stats",
+        "Prints the number of states met, and the states a second, to standard error",
+    );
+    let second = flag(
+        alloc,
+        "explain",
+        "Prints after each table a history that leads to it",
+    );
+    let command = with_arg(with_arg(Ok(command), first), second);
+    with_search(alloc, command)
 }
 
 /// The command `history`.
-fn history<'a>(alloc: Global) -> Result<Command<'a>, AllocError>
+fn history<'a>(alloc: Global) -> Made<'a>
     ensures { IfOk result (λ c. IsApp c history_app) }
 {
-    Command::new(alloc, "history")
+    let command = Command::new(alloc, "history")
         .about(
             "Prints one legal history of a script that ends in a given table, or that there is none.",
         )
         .after_help(
             "Example: with the line `a 0` in the file TABLE,\n  printf 'ring 4\\non 0\\nnop a\\nsubmit\\nwait a\\n' | ringrun history - TABLE\nprints\n  submit a\n  begin a\n  reply a 0\n  shut",
-        )
-        .arg(flag(
-            alloc,
-            "lanes",
-            "Prints the history as a table with a column for each that takes steps",
-        ))?
-        .arg(flag(
-            alloc,
-            "mermaid",
-            "Prints the history as a sequence diagram for Mermaid; counts before --lanes",
-        ))?
-        .arg(limit(alloc))?
-        .arg(progress(alloc))?
-        .arg(json(alloc))?
-        .arg(file(alloc))?
-        .arg(table(alloc))
+        );
+    let first = flag(
+        alloc,
+        "lanes",
+        "Prints the history as a table with a column for each that takes steps",
+    );
+    let second = flag(
+        alloc,
+        "mermaid",
+        "Prints the history as a sequence diagram for Mermaid; counts before --lanes",
+    );
+    let command = with_arg(with_arg(Ok(command), first), second);
+    with_arg(with_search(alloc, command), table(alloc))
 }
 
 /// The command `check`.
-fn check<'a>(alloc: Global) -> Result<Command<'a>, AllocError>
+fn check<'a>(alloc: Global) -> Made<'a>
     ensures { IfOk result (λ c. IsApp c check_app) }
 {
-    Command::new(alloc, "check")
-        .about("Says of each table whether it is one of those that a script can have.")
-        .long_about(
-            "Says of each file whether its table is one of those that a script can have, by one search: a line 'FILE: yes' or \
+    let command = described(
+        alloc,
+        "check",
+        "Says of each table whether it is one of those that a script can have.",
+        "Says of each file whether its table is one of those that a script can have, by one search: a line 'FILE: yes' or \
              'FILE: no'. A file may have several tables, each followed by an empty line; then it is 'yes' where all are.",
-        )
-        .after_help(
-            "Example: with the line `a 0` in the file TABLE,\n  printf 'ring 4\\non 0\\nnop a\\nsubmit\\nwait a\\n' | ringrun check - TABLE\nprints\n  TABLE: yes\n\nStatus 0: each is. 3: one isn't.",
-        )
-        .arg(limit(alloc))?
-        .arg(progress(alloc))?
-        .arg(json(alloc))?
-        .arg(file(alloc))?
-        .arg(tables(alloc))
+        "Example: with the line `a 0` in the file TABLE,\n  printf 'ring 4\\non 0\\nnop a\\nsubmit\\nwait a\\n' | ringrun check - TABLE\nprints\n  TABLE: yes\n\nStatus 0: each is. 3: one isn't.",
+    );
+    with_arg(with_search(alloc, Ok(command)), tables(alloc))
 }
 
 fn workers<'a>(alloc: Global) -> Arg<'a>
