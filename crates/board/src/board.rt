@@ -253,6 +253,7 @@ impl Board {
     }
 
     /// Takes the request's completion.
+    #[inline(always)]
     pub fn reap(&self, submitter: &mut Submitter, req: Req) -> Result<Completion, ReapError>
         requires { IsOf self.now submitter.old }
         ensures reaped { IfOk result (λ x. Goes self.now submitter.old (Reap req ∷ []) submitter.new) }

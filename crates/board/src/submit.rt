@@ -95,6 +95,7 @@ impl Board {
     }
 
     /// Submits the ring's next request, whose cell is free.
+    #[inline(always)]
     fn submit_next(&self, submitter: &mut Submitter, parcel: Parcel) -> Req
         requires of { IsOf self.now submitter.old }
         requires free { (ring : ℕ) → submitter.old.view.role ≡ Role.Submitter ring → IsFree self.now.layout.cells (seen_of submitter.old) (next_of submitter.old ring) × ((next_of submitter.old ring).k / cells_in self.now.layout.cells ring < 16777215) }

@@ -118,6 +118,7 @@ impl Submitter {
     }
 
     /// Submits its next request, whose cell is free.
+    #[inline(always)]
     pub(crate) fn submit(&mut self, words: &Words, spot: Spot, parcel: Parcel)
         requires reach { CanReach words.now.table_id self.old spot.cell }
         requires parts { 0 < self.old.view.parts }
@@ -142,6 +143,7 @@ impl Submitter {
     }
 
     /// Takes what was handed in, with the data, of the request whose claim word was seen to be `done`, and ends the request.
+    #[inline(always)]
     pub(crate) fn reap(&mut self, words: &Words, spot: Spot, done: u64, failed: bool) -> Parcel
         requires reach { CanReach words.now.table_id self.old spot.cell }
         requires parts { 0 < self.old.view.parts }

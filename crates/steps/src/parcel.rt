@@ -33,6 +33,7 @@ pub enum Thing {
 }
 
 /// What a slot with a request has.
+#[inline(always)]
 pub fn parcel_of(thing: Option<Thing>) -> Parcel
     requires full { (p : Parcel) × (thing ≡ Some (Full p)) }
     ensures is { thing ≡ Some (Full result) }

@@ -23,6 +23,7 @@ use crate::table::{TableSeat, Words};
 use crate::{claims, plays};
 
 /// Notes the facts, takes the slot of a cell that is free, and puts the parcel there.
+#[inline(always)]
 fn fill(
     words: &Words,
     seat: &mut TableSeat,
@@ -50,6 +51,7 @@ fn fill(
 }
 
 /// Stores another note of the request whose slot is taken.
+#[inline(always)]
 fn note(
     words: &Words,
     seat: &mut TableSeat,
@@ -71,6 +73,7 @@ fn note(
 }
 
 /// Submits the parcel in the slot, whose notes are stored.
+#[inline(always)]
 fn submit_filled(words: &Words, seat: &mut TableSeat, cell: usize, generation: u32)
     requires fits { Fits words.now.table_id seat.old cell }
     requires small { generation < 16777216 }
@@ -88,6 +91,7 @@ fn submit_filled(words: &Words, seat: &mut TableSeat, cell: usize, generation: u
 }
 
 /// Notes the count of a TIMEOUT, and submits the parcel in the slot, whose other notes are stored.
+#[inline(always)]
 fn submit_counted(words: &Words, seat: &mut TableSeat, cell: usize, generation: u32, count: u32)
     requires fits { Fits words.now.table_id seat.old cell }
     requires small { generation < 16777216 }
@@ -104,6 +108,7 @@ fn submit_counted(words: &Words, seat: &mut TableSeat, cell: usize, generation: 
 }
 
 /// Notes the count, if there is one, and submits the parcel in the slot, whose other notes are stored.
+#[inline(always)]
 fn submit_noted(
     words: &Words,
     seat: &mut TableSeat,
@@ -129,6 +134,7 @@ fn submit_noted(
 
 /// Submits to a cell that is free: two notes, for a TIMEOUT a third, and the exchange of its claim word. `hosted` says whether a LINK_TIMEOUT may
 /// stand directly after the entry before it; one that may not is placed as Invalid. Gives the facts that were noted.
+#[inline(always)]
 pub fn submit(
     words: &Words,
     seat: &mut TableSeat,
@@ -159,6 +165,7 @@ pub fn submit(
 }
 
 /// Notes the outcome, takes the slot of a request that has replied, and empties it.
+#[inline(always)]
 fn empty(words: &Words, seat: &mut TableSeat, cell: usize, generation: u32, outcome: u64) -> Parcel
     requires fits { Fits words.now.table_id seat.old cell }
     requires small { generation < 16777216 }
@@ -176,6 +183,7 @@ fn empty(words: &Words, seat: &mut TableSeat, cell: usize, generation: u32, outc
 }
 
 /// Ends a request whose slot was emptied.
+#[inline(always)]
 fn reap_emptied(words: &Words, seat: &mut TableSeat, cell: usize, generation: u32, done: u64)
     requires fits { Fits words.now.table_id seat.old cell }
     requires small { generation + 1 < 16777216 }
@@ -192,6 +200,7 @@ fn reap_emptied(words: &Words, seat: &mut TableSeat, cell: usize, generation: u3
 }
 
 /// Reaps the request whose claim word was seen to be `done`, after its facts were noted with its outcome.
+#[inline(always)]
 pub fn reap(
     words: &Words,
     seat: &mut TableSeat,
