@@ -276,15 +276,15 @@ impl Board {
         let word = submitter.look_at(words, spot.cell);
         match told(word, spot.generation) {
             Phase::Done(res) => {
-                let parcel = submitter.reap(words, spot, word, has_failed(word));
+                let returned = submitter.reap(words, spot, word, has_failed(word));
                 let cqe = Cqe {
-                    user_data: parcel.sqe.user_data(),
+                    user_data: returned.0,
                     res,
                 };
                 Ok(Completion {
                     req,
                     cqe,
-                    buffer: parcel.buffer,
+                    buffer: returned.1,
                 })
             }
             Phase::Gone => Err(ReapError::Gone),

@@ -6,6 +6,7 @@ ghost use Rattle.history.specs.declared.event.Event.TheVariants.{Submit, Reap};
 ghost use Rattle.history.specs.History.{Cause, data_of, submits};
 ghost use Rattle.history.specs.Legal.{Fits as FitsEntry};
 ghost use Rattle.steps.specs.declared.line.Line.TheVariants.{Did, Lent};
+ghost use Rattle.steps.specs.declared.parcel.Parcel.{Parcel};
 ghost use Rattle.steps.specs.declared.view.Role.{Role};
 ghost use Rattle.steps.specs.declared.view.Role.TheVariants.{Lending};
 ghost use Rattle.steps.specs.Fairness.{IsFree};
@@ -142,9 +143,15 @@ impl Submitter {
         self.lane.go_on(spot.number, facts, hosted);
     }
 
-    /// Takes what was handed in, with the data, of the request whose claim word was seen to be `done`, and ends the request.
+    /// Takes the user_data and the buffer, with the data, of the request whose claim word was seen to be `done`, and ends the request.
     #[inline(always)]
-    pub(crate) fn reap(&mut self, words: &Words, spot: Spot, done: u64, failed: bool) -> Parcel
+    pub(crate) fn reap(
+        &mut self,
+        words: &Words,
+        spot: Spot,
+        done: u64,
+        failed: bool,
+    ) -> (u64, Vec<u8>)
         requires reach { CanReach words.now.table_id self.old spot.cell }
         requires parts { 0 < self.old.view.parts }
         requires small { spot.generation + 1 < 16777216 }
@@ -156,14 +163,14 @@ impl Submitter {
         ensures table { self.new.table ≡ self.old.table }
         ensures reaps { let r : Req = request_at self.old.view.layout.cells spot.cell spot.generation in (outcome : ℕ) × ExtendsTwice self.old.view (Lent r (facts_at spot.cell) outcome) (Lending r) (Did (Reap r)) (Role.Submitter r.ring) self.new.view }
         ensures steps { IsTwoSteps (facts_at spot.cell) (claim_at spot.cell) self.old.view self.new.view }
-        ensures parcel { IsParcel self.new.view.seen (request_at self.old.view.layout.cells spot.cell spot.generation) (data_of (seen_of self.old) (request_at self.old.view.layout.cells spot.cell spot.generation)) result }
+        ensures parcel { (p : Parcel) × IsParcel self.new.view.seen (request_at self.old.view.layout.cells spot.cell spot.generation) (data_of (seen_of self.old) (request_at self.old.view.layout.cells spot.cell spot.generation)) p × (result.0 ≡ p.sqe.user_data) × (result.1 ≡ p.buffer) }
     {
         let outcome = with_outcome(self.lane.facts[spot.number], failed);
         let generation = spot.generation as u32;
-        let parcel = submitter::reap(words, &mut self.seat, spot.cell, generation, done, outcome);
+        let returned = submitter::reap(words, &mut self.seat, spot.cell, generation, done, outcome);
         self.lane.facts[spot.number] = outcome;
         self.lane.ages[spot.number] += 1;
-        parcel
+        returned
     }
 }
 

@@ -164,9 +164,16 @@ pub fn submit(
     facts
 }
 
-/// Notes the outcome, takes the slot of a request that has replied, and empties it.
+/// Notes the outcome, takes the slot of a request that has replied, and empties it. Gives its user_data and its buffer: of its parcel no
+/// more is moved than that.
 #[inline(always)]
-fn empty(words: &Words, seat: &mut TableSeat, cell: usize, generation: u32, outcome: u64) -> Parcel
+fn empty(
+    words: &Words,
+    seat: &mut TableSeat,
+    cell: usize,
+    generation: u32,
+    outcome: u64,
+) -> (u64, Vec<u8>)
     requires fits { Fits words.now.table_id seat.old cell }
     requires small { generation < 16777216 }
     requires submitter { (seat.old.me.0.role ≡ Submitter (ring_of seat.old.me.0.layout.cells cell)) × (0 < seat.old.me.0.parts) }
@@ -175,11 +182,12 @@ fn empty(words: &Words, seat: &mut TableSeat, cell: usize, generation: u32, outc
     ensures seat { IsSameSeat seat.old seat.new × (seat.new.me.1 ≡ (slot_at cell, None) ∷ seat.old.me.1) }
     ensures lends { Extends seat.old.me.0 (Lent (request_at seat.old.me.0.layout.cells cell generation) (facts_at cell) outcome) (Lending (request_at seat.old.me.0.layout.cells cell generation)) seat.new.me.0 }
     ensures step { (found : ℕ) × IsStep (facts_at cell) found seat.old.me.0 seat.new.me.0 }
-    ensures parcel { IsParcel seat.new.me.0.seen (request_at seat.old.me.0.layout.cells cell generation) (data_of (events_of seat.old.me.0.seen) (request_at seat.old.me.0.layout.cells cell generation)) result }
+    ensures parcel { (p : Parcel) × IsParcel seat.new.me.0.seen (request_at seat.old.me.0.layout.cells cell generation) (data_of (events_of seat.old.me.0.seen) (request_at seat.old.me.0.layout.cells cell generation)) p × (result.0 ≡ p.sqe.user_data) × (result.1 ≡ p.buffer) }
 {
     words.store::<plays::EmptyCell>(seat, note_word(cell, FACTS), outcome);
     let thing = words.exchange(seat, slot(cell), None);
-    parcel_of(thing)
+    let Parcel { sqe, buffer, .. } = parcel_of(thing);
+    (sqe.user_data(), buffer)
 }
 
 /// Ends a request whose slot was emptied.
@@ -199,7 +207,8 @@ fn reap_emptied(words: &Words, seat: &mut TableSeat, cell: usize, generation: u3
     words.compare_exchange::<plays::Reap>(seat, claim_word(cell), done, empty);
 }
 
-/// Reaps the request whose claim word was seen to be `done`, after its facts were noted with its outcome.
+/// Reaps the request whose claim word was seen to be `done`, after its facts were noted with its outcome. Gives its user_data and its
+/// buffer.
 #[inline(always)]
 pub fn reap(
     words: &Words,
@@ -208,7 +217,7 @@ pub fn reap(
     generation: u32,
     done: u64,
     outcome: u64,
-) -> Parcel
+) -> (u64, Vec<u8>)
     requires fits { Fits words.now.table_id seat.old cell }
     requires small { generation + 1 < 16777216 }
     requires submitter { (seat.old.me.0.role ≡ Submitter (ring_of seat.old.me.0.layout.cells cell)) × (0 < seat.old.me.0.parts) }
@@ -218,9 +227,9 @@ pub fn reap(
     ensures seat { IsSameSeat seat.old seat.new × (seat.new.me.1 ≡ seat.old.me.1) }
     ensures reaps { ExtendsTwice seat.old.me.0 (Lent (request_at seat.old.me.0.layout.cells cell generation) (facts_at cell) outcome) (Lending (request_at seat.old.me.0.layout.cells cell generation)) (Did (Reap (request_at seat.old.me.0.layout.cells cell generation))) (Submitter (ring_of seat.old.me.0.layout.cells cell)) seat.new.me.0 }
     ensures steps { IsTwoSteps (facts_at cell) (claim_at cell) seat.old.me.0 seat.new.me.0 }
-    ensures parcel { IsParcel seat.new.me.0.seen (request_at seat.old.me.0.layout.cells cell generation) (data_of (events_of seat.old.me.0.seen) (request_at seat.old.me.0.layout.cells cell generation)) result }
+    ensures parcel { (p : Parcel) × IsParcel seat.new.me.0.seen (request_at seat.old.me.0.layout.cells cell generation) (data_of (events_of seat.old.me.0.seen) (request_at seat.old.me.0.layout.cells cell generation)) p × (result.0 ≡ p.sqe.user_data) × (result.1 ≡ p.buffer) }
 {
-    let parcel = empty(words, seat, cell, generation, outcome);
+    let returned = empty(words, seat, cell, generation, outcome);
     reap_emptied(words, seat, cell, generation, done);
-    parcel
+    returned
 }
