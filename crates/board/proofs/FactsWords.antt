@@ -1,7 +1,7 @@
 -- What the parts of a facts word are, by the word, and what they say of the chain of its request.
 use Rattle.claim.specs.Facts.{Facts}
 use Rattle.steps.proofs.FactsKept.{facts_tell, packed_generation}
-use Rattle.board.proofs.Common.{Bool, Entry, Event, Invalid, IsCell, IsChainDone, IsPlaced, IsReaped, IsReplied, IsTrue, Layout, Legal, Line, List, Option, Orderly, Phase, Req, Some, Submission, ap, arith, before_in, bit, bool_cases, cond, continues, dite, events_of, facts_at, facts_of, fails, false, fits_facts, hosts, inl, inr, is_link_timeout, joins, lent, links, links_hard, links_soft, low_facts, ltb-true, nat_lt, ne_eqb, not, noted, notes_are, outcome_of, packed_facts, parts_of, parts_small, phase, placed_behind, placed_from, reaped, refl, replied, reply_in, request_at, row_small, same_facts, setup_of, submission, submission_some, submits, subst, sym, true, true≢false, ℕ, ℕ_discrete, ⊎_elim, ◌%◌, ◌&&◌, ◌*◌, ◌+◌, ◌<◌, ◌==◌, ◌||◌, ◌∙◌, ◌≡◌, ◌≤◌, ◌⊎◌}
+use Rattle.board.proofs.Common.{Bool, Entry, Event, Invalid, IsCell, IsChainDone, IsPlaced, IsReaped, IsReplied, IsTrue, Layout, Legal, Line, List, Option, Orderly, Phase, Req, Some, Submission, ap, arith, before_in, bit, bool_cases, cond, continues, dite, events_of, facts_at, facts_of, fails, false, fits_facts, hosts, inl, inr, is_link_timeout, joins, lent, links, links_hard, links_soft, low_facts, ne_eqb, not, noted, notes_are, outcome_of, packed_facts, parts_of, parts_small, phase, placed_behind, placed_from, reaped, refl, replied, reply_in, request_at, row_small, same_facts, setup_of, submission, submission_some, submits, subst, sym, true, ℕ, ℕ_discrete, ⊎_elim, ◌%◌, ◌&&◌, ◌*◌, ◌+◌, ◌<◌, ◌==◌, ◌||◌, ◌∙◌, ◌≡◌, ◌⊎◌}
 
 -- the parts of a word that are the facts of a request, with an outcome or without
 pub parts_are : (f : Facts) (g : ℕ) (d : Entry) (last : Bool) → IsTrue (fits_facts f) → g < 16777216 → packed_facts f % 8589934592 ≡ facts_of g d last % 8589934592 → (f.generation ≡ g) × (f.links_soft ≡ links_soft d) × (f.links_hard ≡ links_hard d) × (f.last ≡ last)

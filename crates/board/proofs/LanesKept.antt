@@ -1,7 +1,7 @@
 -- What a submitter knows of the chains of its ring, from one step to the next, and who has replied.
 use Rattle.board.specs.declared.phase.Phase.{Phase as Standing}
 use Rattle.board.specs.Lanes.{Watched}
-use Rattle.board.proofs.Common.{Armed, Bool, Cause, Did, Done, Entry, Event, Extends, Gone, Held, IsCell, IsChainBefore, IsChainDone, IsFree, IsLane, IsReaped, IsReplied, IsSpot, IsStep, KnowsCell, KnowsChains, Lane, Layout, Legal, Line, List, Looks, None, Option, Orderly, Phase, Ready, Req, Role, Running, Seat, Setup, Some, Spot, Stands, Submission, Submit, Submitter, Thing, Unborn, Vacant, View, [], ap, arith, before_in, before_it, bool_cases, cases_lt, cells_in, cond, counted, dite, done_lasts, earlier_reaped, eqb-true, events_of, false, get_or, hosts, inl, inr, joins, lasts, legal_before, length, ne_eqb, nth, phase, place_of, previous, reaped_as, reaped_born, refl, request_at, ring_of, rings, same, same_before, same_itself, setup_of, stands_for, submission, submits, submitter_can, subst, suc, suc-mul, sym, true, true≢false, unborn, unborn_yet, was_shut, zero, ℕ, ℕ_discrete, ℤ, ⊎_elim, ◌*◌, ◌++◌, ◌+◌, ◌-◌, ◌<◌, ◌==◌, ◌∙◌, ◌∷◌, ◌≡◌, ◌≢◌, ◌≤◌, ◌⊎◌}
+use Rattle.board.proofs.Common.{Armed, Bool, Cause, Did, Done, Entry, Event, Extends, Gone, Held, IsCell, IsChainBefore, IsChainDone, IsFree, IsLane, IsReaped, IsReplied, IsSpot, IsStep, KnowsCell, KnowsChains, Lane, Layout, Legal, Line, List, Looks, None, Option, Orderly, Phase, Ready, Req, Role, Running, Seat, Setup, Some, Spot, Stands, Submission, Submit, Submitter, Thing, Unborn, Vacant, View, ap, arith, before_in, before_it, bool_cases, cases_lt, cells_in, cond, counted, dite, done_lasts, earlier_reaped, eqb-true, events_of, false, get_or, hosts, inr, joins, lasts, legal_before, length, ne_eqb, nth, phase, place_of, previous, reaped_as, reaped_born, refl, request_at, ring_of, rings, same_before, same_itself, setup_of, stands_for, submission, submits, submitter_can, subst, suc, suc-mul, sym, true, true≢false, unborn, unborn_yet, zero, ℕ, ℕ_discrete, ℤ, ⊎_elim, ◌*◌, ◌++◌, ◌+◌, ◌-◌, ◌<◌, ◌==◌, ◌∙◌, ◌∷◌, ◌≡◌, ◌≢◌, ◌≤◌, ◌⊎◌}
 use Rattle.board.proofs.SubmitterSeats.{seat_looked, cell_here}
 use Rattle.board.proofs.OwnCells.{same_default}
 

@@ -2,7 +2,7 @@
 use Rattle.std.specs.Option.{is_some}
 use Rattle.gates.specs.Shows.{nth}
 use Rattle.history.specs.Legal.{IsOf as IsOfKind}
-use Rattle.board.proofs.Common.{AsyncCancel, Bool, Close, Decides, Did, Entry, Event, Extends, Facts, Freed, Goes, Invalid, IsAt, IsClear, IsLinkTimeout, IsOurs, IsPlaced, IsReplied, IsStep, IsTarget, IsTargetOf, Layout, Legal, Line, LinkTimeout, List, MayArm, None, Nop, NotHeld, Op, Open, Option, Park, PollAdd, Read, Released, Req, Role, Seat, Setup, Sever, Severed, Shown, Some, Splice, Submission, Tag, Thing, Timeout, TimeoutRemove, View, Watched, Write, [], ap, arith, before_in, bool_cases, by_sever, claim_at, cond, eq-eqb, events_of, extended_of, fails, fails_op, false, freed, gate_of, is_link_timeout, is_link_timeout_in, is_timeout, is_timer, lasts, length, negsuc, not, own_none, own_of, owns, pass_of, phase, placed_behind, placed_from, pollers, previous, refl, replied, request_at, same_itself, setup_of, severed_lasts, stands_for, submission, submission_some, submits, subst, sym, true, true≢false, word_of, ℕ, ⊎_elim, ◌&&◌, ◌++◌, ◌<◌, ◌==◌, ◌||◌, ◌∙◌, ◌∷◌, ◌≡◌, ◌≢◌}
+use Rattle.board.proofs.Common.{AsyncCancel, Bool, Close, Decides, Did, Entry, Event, Extends, Facts, Freed, Invalid, IsAt, IsClear, IsLinkTimeout, IsOurs, IsPlaced, IsReplied, IsStep, IsTarget, IsTargetOf, Layout, Legal, Line, LinkTimeout, List, MayArm, None, Nop, NotHeld, Op, Open, Option, Park, PollAdd, Read, Released, Req, Role, Seat, Setup, Sever, Severed, Shown, Some, Splice, Submission, Tag, Thing, Timeout, TimeoutRemove, View, Watched, Write, [], ap, arith, before_in, bool_cases, by_sever, claim_at, cond, eq-eqb, events_of, extended_of, fails, fails_op, false, freed, gate_of, is_link_timeout, is_link_timeout_in, is_timeout, is_timer, lasts, length, negsuc, not, own_none, own_of, owns, pass_of, phase, placed_behind, placed_from, pollers, previous, refl, replied, request_at, same_itself, setup_of, severed_lasts, stands_for, submission, submission_some, submits, subst, sym, true, true≢false, word_of, ℕ, ⊎_elim, ◌&&◌, ◌++◌, ◌<◌, ◌==◌, ◌||◌, ◌∙◌, ◌∷◌, ◌≡◌, ◌≢◌}
 use Rattle.board.proofs.GoesLaws.{goes_freed}
 use Rattle.board.proofs.PassFacts.{freed_may, freed_more, same_freed}
 use Rattle.board.proofs.Standings.{unheld}

@@ -1,7 +1,7 @@
 -- A submitter's seat from one call to the next.
 use Rattle.std.specs.Prelude.{◌==◌}
 use lib.Seq.{set-get_or}
-use Rattle.board.proofs.Common.{Bool, Cause, Did, Entry, ExtendsAfter, ExtendsNoted, ExtendsTwice, IsCell, IsDone, IsNextCell, IsReaped, IsSubmitterSeat, KnowsCell, KnowsCells, Layout, Lending, Lent, Line, List, Looks, None, Noted, Option, Pass, Reap, Req, Role, Seat, Shown, Some, Submit, Submitter, Thing, Vacant, View, [], ap, arith, bool_cases, cells_in, cond, count_in, count_notes, done_word, eq-eqb, events_of, facts_at, false, get_or, length, length-set, located, mul-le-mul_right, ne_eqb, notes_of, pass_of, phase, place_of, reaped_as, refl, replied, request_at, ring_of, rings, same, set, setup_of, stands_for, submits, submitter_can, subst, suc, suc-mul, sym, true, ℕ, ℤ, ⊎_elim, ◌*◌, ◌+◌, ◌<◌, ◌∙◌, ◌∷◌, ◌≡◌, ◌≤◌}
+use Rattle.board.proofs.Common.{Bool, Cause, Did, Entry, ExtendsAfter, ExtendsNoted, ExtendsTwice, IsCell, IsDone, IsReaped, IsSubmitterSeat, KnowsCell, KnowsCells, Layout, Lending, Lent, Line, List, Looks, None, Noted, Option, Pass, Reap, Req, Role, Seat, Shown, Some, Submit, Submitter, Thing, View, [], ap, arith, bool_cases, cells_in, cond, count_in, count_notes, done_word, eq-eqb, events_of, facts_at, false, get_or, length, length-set, located, mul-le-mul_right, ne_eqb, notes_of, pass_of, phase, place_of, reaped_as, refl, replied, request_at, ring_of, rings, same, set, setup_of, stands_for, submits, submitter_can, subst, suc, suc-mul, sym, true, ℕ, ℤ, ⊎_elim, ◌*◌, ◌+◌, ◌<◌, ◌∙◌, ◌∷◌, ◌≡◌, ◌≤◌}
 use Rattle.board.proofs.OwnCells.{KnowsRing, knows_put, knows_line, knows_reaped, ring_looked, ring_extended}
 
 abbrev TableSeat : Type 0

@@ -1,6 +1,6 @@
 -- What the facts of a request that has no reply tell of it, if it is a timer.
 use Rattle.claim.specs.Facts.{Facts}
-use Rattle.board.proofs.Common.{AsyncCancel, Bool, Cause, Close, Entry, Invalid, IsPlaced, IsReplied, IsTrue, Layout, Legal, Line, LinkTimeout, List, Nop, NotesTell, Op, Option, Orderly, PollAdd, Read, Req, Some, Splice, Timeout, TimeoutRemove, Write, ap, arith, before_in, bool_cases, born_once, etime_in, events_of, facts_at, facts_of, fails_op, false, fits_facts, is_link_timeout, is_timeout, is_timer, lent, lent_out, ltb-true, nat_lt, negsuc, not, noted, packed_facts, parts_of, parts_small, phase, placed_behind, placed_from, reaped_replied, refl, replied, request_at, row_number, row_small, same_facts, setup_of, submission_some, submits, subst, sym, ticks_in, ticks_of, true, true≢false, unborn, ℕ, ⊎_elim, ◌%◌, ◌&&◌, ◌*◌, ◌+◌, ◌<◌, ◌∙◌, ◌≡◌, ◌≢◌, ◌≤◌}
+use Rattle.board.proofs.Common.{AsyncCancel, Bool, Cause, Close, Entry, Invalid, IsPlaced, IsReplied, IsTrue, Layout, Legal, Line, LinkTimeout, List, Nop, NotesTell, Op, Orderly, PollAdd, Read, Req, Some, Splice, Timeout, TimeoutRemove, Write, ap, arith, before_in, bool_cases, born_once, etime_in, events_of, facts_at, facts_of, fails_op, false, fits_facts, is_link_timeout, is_timeout, is_timer, lent, lent_out, negsuc, not, noted, packed_facts, parts_of, parts_small, phase, placed_behind, placed_from, reaped_replied, refl, replied, request_at, row_number, row_small, same_facts, setup_of, submission_some, submits, subst, sym, ticks_in, ticks_of, true, unborn, ℕ, ⊎_elim, ◌<◌, ◌∙◌, ◌≡◌, ◌≢◌, ◌≤◌}
 
 -- ---- rows of the table
 

@@ -5,7 +5,7 @@ use Rattle.steps.proofs.CountsRead.{count_told}
 use Rattle.board.specs.declared.alarm.Timer.{Timer}
 use Rattle.board.specs.declared.poller.Arming.{Arming}
 use Rattle.board.specs.declared.poller.Arming.TheVariants.{Armed, NotHeld}
-use Rattle.board.proofs.Common.{Alarm, Alone, Arm, ArmTells, Arms, Decides, Did, Entry, Event, Extends, Facts, IsAlarm, IsAt, IsBarred, IsHeld, IsKept, IsLinkTimeout, IsNoTimer, IsOurs, IsPlaced, IsReplied, IsSameSeat, IsShutTimer, IsStep, IsTimerAs, IsTrue, Layout, Legal, Line, LinkTimeout, Linked, List, Looks, None, NotTimer, NotesTell, Op, Option, Orderly, Paid, Pass, Released, Req, Role, Seat, Setup, Severed, Shut, Some, Stepped, Tag, Thing, View, Watched, [], ap, arith, armed, claim_at, clock_of, cond, count_at, count_of, events_of, facts_at, false, fired, fits_facts, is_link_timeout, is_timeout, is_timer, kind_lasts, lasts, looks_at, looks_for_count, not, noted, packed_facts, pass_of, phase, placed_lasts, pollers, reaped_replied, refl, request_at, same_itself, setup_of, stands_for, submits, subst, sym, ticks_of, true, true≢false, word_of, ℕ, ◌*◌, ◌++◌, ◌+◌, ◌<◌, ◌||◌, ◌∙◌, ◌∷◌, ◌≡◌, ◌≢◌, ◌≤◌}
+use Rattle.board.proofs.Common.{Alarm, Alone, Arm, ArmTells, Arms, Decides, Did, Entry, Event, Extends, Facts, IsAlarm, IsAt, IsBarred, IsHeld, IsKept, IsLinkTimeout, IsNoTimer, IsOurs, IsPlaced, IsReplied, IsSameSeat, IsShutTimer, IsStep, IsTimerAs, IsTrue, Layout, Legal, Line, LinkTimeout, Linked, List, Looks, None, NotTimer, NotesTell, Op, Option, Orderly, Paid, Pass, Released, Req, Role, Seat, Setup, Severed, Shut, Some, Stepped, Tag, Thing, View, Watched, [], ap, arith, armed, claim_at, clock_of, cond, count_at, count_of, events_of, facts_at, false, fired, fits_facts, is_link_timeout, is_timeout, is_timer, kind_lasts, lasts, looks_at, looks_for_count, noted, packed_facts, pass_of, phase, placed_lasts, pollers, reaped_replied, refl, request_at, same_itself, setup_of, stands_for, submits, subst, sym, ticks_of, true, true≢false, word_of, ℕ, ◌++◌, ◌+◌, ◌<◌, ◌||◌, ◌∙◌, ◌∷◌, ◌≡◌}
 use Rattle.board.proofs.GoesLaws.{goes_then}
 use Rattle.board.proofs.TimersHeld.{goes_one, freed_one}
 use Rattle.board.proofs.TimersKept.{unfired_yet, timer_is as link_is}

@@ -1,5 +1,5 @@
 use Rattle.claim.specs.Facts.{Facts as FactsParts}
-use Rattle.board.proofs.Common.{IsPlaced, ap, arith, not, placed_lasts, refl, setup_of, subst, sym, ℕ, ◌∙◌, ◌≡◌, ◌≢◌, ◌≤◌}
+use Rattle.board.proofs.Common.{IsPlaced, ap, not, placed_lasts, setup_of, subst, sym, ℕ, ◌∙◌, ◌≤◌}
 use Rattle.board.proofs.TimerFacts.{timeout_row, link_row, other_row}
 use Rattle.board.proofs.TimerLooks.{count_read, timer_told}
 use Rattle.board.proofs.Watching.{born_on, lasts_on, paid_add, paid_one, replied_on, still_ours, watched_look, watched_then}

@@ -1,4 +1,4 @@
-use Rattle.board.proofs.Common.{AreFree, IsFree, Lane, Layout, List, ap, arith, before_in, cells_in, events_of, inl, inr, joins, nth, refl, subst, sym, true, ℕ, ⊎_elim, ◌*◌, ◌+◌, ◌-◌, ◌/◌, ◌<◌, ◌∙◌, ◌≡◌, ◌≤◌}
+use Rattle.board.proofs.Common.{AreFree, IsFree, Lane, Layout, List, ap, arith, before_in, cells_in, events_of, inr, joins, nth, refl, subst, sym, true, ℕ, ⊎_elim, ◌*◌, ◌+◌, ◌-◌, ◌<◌, ◌∙◌, ◌≡◌, ◌≤◌}
 use Rattle.board.proofs.LaneWalks.{TableSeat, watched_layout, watched_before, last_generation}
 use Rattle.board.proofs.lane.room.Goals as goal
 

@@ -1,4 +1,4 @@
-use Rattle.board.proofs.Common.{Goes, IsOf, Pass, Role, Tick, [], ap, arith, events_of, pass_of, pollers, refl, stands_for, subst, sym, ◌∷◌, ◌≡◌}
+use Rattle.board.proofs.Common.{Goes, IsOf, Pass, Role, Tick, [], ap, arith, pass_of, pollers, refl, stands_for, subst, sym, ◌∷◌, ◌≡◌}
 use Rattle.board.proofs.RowsKept.{rows_on}
 use Rattle.board.proofs.TimersHeld.{ticked_timers, goes_one, freed_one}
 use Rattle.board.proofs.Watching.{seat_own}

@@ -1,4 +1,5 @@
-use Rattle.board.proofs.Common.{Fits-of_lt, IsSubmitterSeat, List, add-one, ap, arith, bit, bits_fit, facts_at, fails, get_or, length, length-set, noted, refl, set, subst, sym, w32, ℕ, ◌%◌, ◌*◌, ◌+◌, ◌<◌, ◌∙◌, ◌≡◌, ◌≤◌}
+use Rattle.board.proofs.Common.{Fits-of_lt, IsParcel, IsSubmitterSeat, Pass, Req, ap, arith, bit, bits_fit, data_of, facts_at, fails, get_or, noted, request_at, seen_of, set, subst, sym, w32, ℕ, ◌%◌, ◌*◌, ◌+◌, ◌<◌, ◌∙◌, ◌≡◌}
+use Rattle.steps.specs.declared.parcel.Parcel.{Parcel}
 use Rattle.board.proofs.OwnCells.{same_default}
 use Rattle.board.proofs.SubmitterSeats.{here_by, seat_reaped}
 use Rattle.board.proofs.LaneSeats.{chains_reaped}
@@ -31,3 +32,7 @@ invariant_of-self c = let s = c.self.inside in let o = c.args.spot in let k = (h
           (seat_reaped s.seat c.reap-returned.new.seat s.lane.ring s.lane.next s.lane.ages.items s.lane.facts.items c.self.invariant.0 o.cell o.generation fact k.asked.0 k.ring_is c.reap-returned.ensures.seat.1 c.reap-returned.ensures.reaps (ap (λ (p : ℕ). get_or s.lane.ages.items p 0) (sym k.asked.1) ∙ k.age)),
       chains_reaped s.seat.me.0 c.reap-returned.new.seat.me.0 s.lane.ring s.lane.next s.lane.done s.lane.hosted _ c.self.invariant.0.role k.ring_is c.self.invariant.1 o.cell fact c.reap-returned.ensures.reaps,
     )
+
+pub returns-clause-parcel : goal.returns-clause-parcel
+returns-clause-parcel c = let o = c.args.spot in let j = c.reap-returned.new.seat.me.0.seen in
+    subst (λ (p : Pass). let r : Req = request_at p.view.layout.cells o.cell o.generation in (x : Parcel) × IsParcel j r (data_of (seen_of p) r) x × (c.reap-returned.result.0 ≡ x.sqe.user_data) × (c.reap-returned.result.1 ≡ x.buffer)) c.self.view_is c.reap-returned.ensures.parcel
