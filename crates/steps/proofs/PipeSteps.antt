@@ -38,7 +38,6 @@ one_alone j p n q a b = dite (ℕ_discrete n p) (λ e. sym e) (λ ne. absurd (a.
 pub one_other : (j : List Line) (p n m : ℕ) (q : Req) → HasBoth j p n q → HasBoth j p m q → n ≡ m
 one_other j p n m q a b = dite (ℕ_discrete m n) (λ e. sym e) (λ ne. absurd (a.3 m (λ e. b.0 (sym e)) ne b.2))
 
--- and has them in either order
 pub both_turned : (j : List Line) (p n : ℕ) (q : Req) → HasBoth j p n q → HasBoth j n p q
 both_turned j p n q has = ((λ e. has.0 (sym e)), has.2, has.1, (λ m other ne. has.3 m ne other))
 
