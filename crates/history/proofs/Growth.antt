@@ -36,26 +36,18 @@ pending_born p i e = subst IsPending e i
 idle_takes : (c t : Req) (p : Phase) → IsIdle p → MayChange p (Take c t)
 idle_takes c t waits i = tt
 idle_takes c t (armed d) i = tt
-idle_takes c t unborn i = i
-idle_takes c t runs i = i
-idle_takes c t (replied x res) i = i
-idle_takes c t (reaped x res) i = i
+idle_takes c t p i = i
 
 idle_fires : (c t : Req) (p : Phase) → IsIdle p → MayChange p (Fire c t)
 idle_fires c t waits i = tt
 idle_fires c t (armed d) i = tt
-idle_fires c t unborn i = i
-idle_fires c t runs i = i
-idle_fires c t (replied x res) i = i
-idle_fires c t (reaped x res) i = i
+idle_fires c t p i = i
 
 pending_cuts : (r : Req) (p : Phase) → IsPending p → MayChange p (Cut r)
-pending_cuts r waits i = tt
-pending_cuts r (armed d) i = tt
 pending_cuts r unborn i = i
-pending_cuts r runs i = tt
 pending_cuts r (replied x res) i = i
 pending_cuts r (reaped x res) i = i
+pending_cuts r p i = tt
 
 module _ (s : Setup) where
   -- every event but a Submit changes a request that was submitted, in a way that its place allows
@@ -65,18 +57,15 @@ module _ (s : Setup) where
   changes (Park r) h q n a w = let x = at_request h r q runs w a in rw x tt
   changes (Reply r res data') h q n a w = let x = at_request h r q runs w a.0 in rw x tt
   changes (Take c t) h q n a w = subst (λ (z : Req). MayChange (phase h z) (Take c t)) (same_true t q w) (idle_takes c t (phase h t) a.2)
-  changes (Miss c t) h q n a w = absurd (true≢false (sym w))
-  changes (Tick m) h q n a w = absurd (true≢false (sym w))
   changes (Arm r d) h q n a w = let x = at_request h r q waits w a.0 in rw x tt
   changes (Expire r) h q n a w = let x = at_request h r q (armed a.0.0) w a.0.1 in rw x tt
   changes (Count r) h q n a w = let x = at_request h r q (armed a.is_armed.0) w a.is_armed.1 in rw x tt
   changes (Fire l t) h q n a w = subst (λ (z : Req). MayChange (phase h z) (Fire l t)) (same_true t q w) (idle_fires l t (phase h t) a.3)
-  changes (FireMiss l t) h q n a w = absurd (true≢false (sym w))
   changes (Settle l) h q n a w = let x = at_request h l q (armed a.0.0) w a.0.1 in rw x tt
   changes (Sever r) h q n a w = let x = at_request h r q waits w a.0 in rw x tt
   changes (Reap r) h q n a w = let x = at_request h r q (replied a.0 a.1) w a.2 in rw x tt
-  changes Shut h q n a w = absurd (true≢false (sym w))
   changes (Cut r) h q n a w = subst (λ (z : Req). MayChange (phase h z) (Cut r)) (same_true r q w) (pending_cuts r (phase h r) a)
+  changes e h q n a w = absurd (true≢false (sym w))
 
   unborn_changes : (e : Event) → is_submit e ≡ false → MayChange unborn e → ⊥
   unborn_changes (Submit r e bytes last) n m = true≢false n
@@ -109,11 +98,7 @@ module _ (s : Setup) where
 
   is_unborn : (p : Phase) → ((p ≡ unborn → ⊥) → ⊥) → p ≡ unborn
   is_unborn unborn h = refl
-  is_unborn waits h = absurd (h (λ e. cc))
-  is_unborn runs h = absurd (h (λ e. cc))
-  is_unborn (armed d) h = absurd (h (λ e. cc))
-  is_unborn (replied c res) h = absurd (h (λ e. cc))
-  is_unborn (reaped c res) h = absurd (h (λ e. cc))
+  is_unborn p h = absurd (h (λ e. cc))
 
   -- a request past those that were submitted is unborn
   pub unborn_yet : (h : List Event) (q : Req) → Legal s h → submits h q.ring ≤ q.k → phase h q ≡ unborn
@@ -207,18 +192,12 @@ module _ (s : Setup) where
   pub replied_of_reply : (p : Phase) (res : ℤ) → reply_in p ≡ Some res → IsReplied p
   replied_of_reply (replied c x) res is = tt
   replied_of_reply (reaped c x) res is = tt
-  replied_of_reply unborn res is = cc
-  replied_of_reply waits res is = cc
-  replied_of_reply runs res is = cc
-  replied_of_reply (armed d) res is = cc
+  replied_of_reply p res is = cc
 
   pub reply_of_replied : (p : Phase) → IsReplied p → (res : ℤ) × (reply_in p ≡ Some res)
   reply_of_replied (replied c x) i = (x, refl)
   reply_of_replied (reaped c x) i = (x, refl)
-  reply_of_replied unborn i = absurd i
-  reply_of_replied waits i = absurd i
-  reply_of_replied runs i = absurd i
-  reply_of_replied (armed d) i = absurd i
+  reply_of_replied p i = absurd i
 
   pub replied_stays : (e : Event) (h : List Event) (q : Req) → Legal s h → MayCome s h e → IsReplied (phase h q) → IsReplied (phase (e ∷ h) q)
   replied_stays e h q l a i = let x = reply_of_replied (phase h q) i in replied_of_reply (phase (e ∷ h) q) x.0 (reply_stays e h q x.0 l a x.1)

@@ -12,15 +12,7 @@ answers_replied h (Fire l t) q w = rw w tt
 answers_replied h (Settle l) q w = rw w tt
 answers_replied h (Sever r) q w = rw w tt
 answers_replied h (Cut r) q w = rw w tt
-answers_replied h (Submit r e bytes last) q w = absurd (true≢false (sym w))
-answers_replied h (Begin r) q w = absurd (true≢false (sym w))
-answers_replied h (Park r) q w = absurd (true≢false (sym w))
-answers_replied h (Miss c t) q w = absurd (true≢false (sym w))
-answers_replied h (Tick n) q w = absurd (true≢false (sym w))
-answers_replied h (Arm r d) q w = absurd (true≢false (sym w))
-answers_replied h (FireMiss l t) q w = absurd (true≢false (sym w))
-answers_replied h (Reap r) q w = absurd (true≢false (sym w))
-answers_replied h Shut q w = absurd (true≢false (sym w))
+answers_replied h e q w = absurd (true≢false (sym w))
 
 pub untaken : (s : Setup) (h : List Event) (q : Req) → Legal s h → ¬ IsReplied (phase h q) → data_of h q ≡ []
 untaken s [] q l n = refl

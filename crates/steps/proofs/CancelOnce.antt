@@ -1,5 +1,5 @@
 -- A cancel that waits has not taken a request, nor found one running: who parks a request has done nothing with it.
-use Rattle.steps.proofs.Common.{Arm, Begin, Bool, Count, Cut, Did, Event, Expire, Fire, Hit, Layout, Legal, Line, List, Miss, Orderly, Park, Phase, Reap, Reply, Req, Settle, Setup, Sever, Submit, Take, [], ap, arith, armed, becomes, bool_cases, changed, concerns, cond, events_of, false, hit, missed, nothing, phase, reaped, refl, replied, runs, same, same_true, setup_of, submits, subst, sym, took, true, unborn, unborn_yet, unchanged, waits, ⊎_elim, ◌∙◌, ◌∷◌, ◌≡◌}
+use Rattle.steps.proofs.Common.{Arm, Begin, Bool, Count, Cut, Did, Event, Expire, Fire, Layout, Legal, Line, List, Miss, Orderly, Park, Phase, Reap, Reply, Req, Settle, Setup, Sever, Submit, Take, [], ap, arith, becomes, bool_cases, changed, concerns, cond, events_of, false, hit, missed, nothing, phase, reaped, refl, replied, runs, same, same_true, setup_of, submits, subst, sym, took, true, unborn, unborn_yet, unchanged, waits, ⊎_elim, ◌∙◌, ◌∷◌, ◌≡◌}
 
 -- it was not begun yet, or put back
 abbrev pub IsEarly : Phase → Type 0

@@ -1,10 +1,11 @@
 -- A cancel takes the request that it is meant for, or finds it running.
 use Rattle.steps.specs.Plays.{missed}
-use Rattle.steps.proofs.Common.{AimsAt, Allows, Bool, Busy, Did, Done, Entry, Extends, Hit, IsCell, IsFirst, IsIdle, IsIdleWord, IsPlaced, IsReplied, Layout, List, MayHit, Miss, Option, Phase, Req, Role, Ruled, Running, Seated, Setup, State, Take, Thing, View, ap, arith, armed, by_take, carried_after, cause_bits, claim_at, either, eqb, events_of, fails, false, get_or, has_missed, is_all, negsuc, none, owns, phase, refl, reply_bits, request_at, ring_of, same_itself, set-get_or, setup_of, step, submits, subst, sym, taken, tried_idle, true, waits, word_of, ℕ, ◌<◌, ◌∙◌, ◌≡◌}
+use Rattle.steps.proofs.Common.{AimsAt, Allows, Bool, Busy, Did, Done, Entry, Extends, Hit, IsCell, IsFirst, IsIdle, IsIdleWord, IsPlaced, IsReplied, Layout, List, MayHit, Miss, Phase, Req, Role, Ruled, Running, Seated, Setup, Take, View, ap, arith, armed, by_take, carried_after, cause_bits, claim_at, either, eqb, events_of, fails, false, get_or, has_missed, is_all, negsuc, none, owns, phase, refl, reply_bits, request_at, ring_of, same_itself, set-get_or, setup_of, step, submits, subst, sym, taken, tried_idle, true, waits, word_of, ℕ, ◌<◌, ◌∙◌, ◌≡◌}
 use Rattle.steps.proofs.ClaimWords.{says_of}
 use Rattle.steps.proofs.CancelsKept.{c_born, placed_same, hit_now, match_now, match_was, answered_now}
 use Rattle.steps.proofs.EndingIdle.{Ends, Silent, idle_says, answers_does, silent_does}
 use Rattle.steps.proofs.StepKinds.{There, busy_now, tries_idle}
+use Rattle.steps.proofs.RuleKept.{St}
 
 idle_open : (p : Phase) → IsIdle p → ¬ IsReplied p
 idle_open waits i d = d
@@ -23,9 +24,6 @@ module _ (slots id : ℕ) (me : Seated) where
 
   abbrev S : Setup
   S = setup_of L
-
-  abbrev St : Type 0
-  St = State (Option Thing) View
 
   module _ (x g : ℕ) (inside : IsCell K x) (f : g < 16777216) (c : Req) (busy : v.role ≡ Busy c) (may : MayHit (events_of v.seen) c (request_at K x g)) where
     abbrev q : Req

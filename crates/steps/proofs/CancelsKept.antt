@@ -1,9 +1,10 @@
 -- What a worker knows of the cancel that it runs stays: what it did, which requests it is meant for, and so its answer.
-use Rattle.steps.proofs.Common.{Bool, Busy, CancelAnswers, CancelBy, Event, Hit, IsReplied, Layout, List, Matches, NoneLeft, NoneOf, Option, Req, Role, Ruled, Seated, Setup, State, Thing, View, ap, events_of, false, has_missed, hit, inl, inr, missed, nothing, phase, placed, runs, setup_of, submits, subst, sym, took, true, ℕ, ℤ, ⊎_elim, ◌<◌, ◌∙◌, ◌≡◌}
+use Rattle.steps.proofs.Common.{Bool, Busy, CancelAnswers, CancelBy, Event, Hit, IsReplied, Layout, List, Matches, NoneLeft, NoneOf, Req, Role, Ruled, Seated, Setup, View, ap, events_of, false, has_missed, hit, inl, inr, missed, nothing, phase, placed, runs, setup_of, submits, subst, sym, took, true, ℕ, ℤ, ⊎_elim, ◌<◌, ◌∙◌, ◌≡◌}
 use Rattle.steps.proofs.JournalGrowth.{replied_later, counted_in, legal_before}
 use Rattle.steps.proofs.MatchesKept.{placed_on, match_on, match_off}
 use Rattle.steps.proofs.OwnFacts.{same_hit}
 use Rattle.steps.proofs.StepKinds.{There, later, past_is, legal_now, none_now}
+use Rattle.steps.proofs.RuleKept.{St}
 
 answer_by : (h n : List Event) (c : Req) (res : ℤ) → (NoneLeft h c → NoneLeft n c) → (x : Hit) → CancelAnswers h c x res → CancelAnswers n c x res
 answer_by h n c res none (took t x) a = a
@@ -24,9 +25,6 @@ module _ (slots id : ℕ) (me : Seated) where
 
   abbrev S : Setup
   S = setup_of L
-
-  abbrev St : Type 0
-  St = State (Option Thing) View
 
   pub placed_same : (q : Req) (s : St) (r : Ruled L s) → There slots id me s → q.k < submits (events_of v.seen) q.ring → placed (events_of r.past) q ≡ placed (events_of v.seen) q
   placed_same q s r at born = ap (λ j. placed (events_of j) q) (past_is slots id me s r at) ∙ placed_on S (later slots id me s r at) v.seen (legal_now slots id me s r at) q born

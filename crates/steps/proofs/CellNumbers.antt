@@ -65,11 +65,7 @@ tag_at n = cond (eqb n 0) Empty (cond (eqb n 1) Held (cond (eqb n 2) Ready (cond
 tag_at-number : (t : Tag) → tag_at (tag_number t) ≡ t
 unfolding tag_at
 tag_at-number Empty = refl
-tag_at-number Held = refl
-tag_at-number Ready = refl
-tag_at-number Running = refl
-tag_at-number Armed = refl
-tag_at-number Done = refl
+tag_at-number t = refl
 
 one_tag : (s t : Tag) → tag_number s ≡ tag_number t → s ≡ t
 one_tag s t e = sym (tag_at-number s) ∙ (ap tag_at e ∙ tag_at-number t)

@@ -1,28 +1,19 @@
 -- What a claim word tells of its request, and the other way round.
-use Rattle.steps.proofs.Common.{Ages, Armed, Cause, CellOk, Done, Empty, Entry, Held, Home, IsPlaced, Keeps, Line, List, Phase, Ready, Req, Running, Says, Tag, arith, by_count, by_cut, by_expire, by_fire, by_reply, by_settle, by_sever, by_take, cause_bits, data_of, either, eq-eqb, eqb, events_of, fails, false, lent, phase, reaped, refl, replied, reply_bits, request_at, runs, subst, sym, true, unborn, word_of, ℕ, ℤ, ◌<◌, ◌∙◌, ◌≡◌, ◌≢◌}
+use Rattle.steps.proofs.Common.{Ages, Armed, Cause, CellOk, Done, Empty, Entry, Held, Home, IsPlaced, Keeps, Line, List, Phase, Ready, Req, Running, Says, Tag, arith, by_reply, cause_bits, data_of, either, eq-eqb, eqb, events_of, fails, false, lent, phase, reaped, refl, replied, reply_bits, request_at, runs, subst, sym, true, unborn, word_of, ℕ, ℤ, ◌<◌, ◌∙◌, ◌≡◌, ◌≢◌}
 use Rattle.steps.proofs.CellNumbers.{one_word}
+use Rattle.steps.specs.Cells.{cause_number}
 
 -- an exchange that is known to find its word
 pub certain : (n old new : ℕ) (F : ℕ → Type 0) → n ≡ old → F new → F (either (eqb n old) new n)
 certain n old new F e f = subst (λ b. F (either b new n)) (sym (eq-eqb n old e)) f
 
+small_number : (c : Cause) → cause_number c < 8
+small_number by_reply = omega arith
+small_number c = omega arith
+
 pub cause_fits : (c : Cause) (b : _) → cause_bits c b < 16
-cause_fits by_reply true = omega arith
-cause_fits by_reply false = omega arith
-cause_fits by_take true = omega arith
-cause_fits by_take false = omega arith
-cause_fits by_expire true = omega arith
-cause_fits by_expire false = omega arith
-cause_fits by_count true = omega arith
-cause_fits by_count false = omega arith
-cause_fits by_fire true = omega arith
-cause_fits by_fire false = omega arith
-cause_fits by_settle true = omega arith
-cause_fits by_settle false = omega arith
-cause_fits by_sever true = omega arith
-cause_fits by_sever false = omega arith
-cause_fits by_cut true = omega arith
-cause_fits by_cut false = omega arith
+cause_fits c true = let n = small_number c in omega arith
+cause_fits c false = let n = small_number c in omega arith
 
 module _ (K : List ℕ) (j : List Line) (x w : ℕ) (home : Home) where
   abbrev At : Tag → ℕ → ℕ → ℕ → Type 0
@@ -37,12 +28,10 @@ module _ (K : List ℕ) (j : List Line) (x w : ℕ) (home : Home) where
   gen_is ok g p is a b = let u : ¬ (g < ok.gen) = λ l. (let z = ok.ages.before g l in a z.0 z.1 (sym is ∙ z.2)) in let v : ¬ (ok.gen < g) = λ l. b (sym is ∙ ok.ages.after g l) in omega arith
 
   says_running : (r : Req) (c p : ℕ) (t : Tag) → Says j r home c p t → phase (events_of j) r ≡ runs → (t ≡ Running) × (c ≡ 0) × (p ≡ 0)
-  says_running r c p Empty s is = let y = s.2 in absurd (cc)
-  says_running r c p Held s is = let y = s.2 in absurd (cc)
-  says_running r c p Ready s is = let y = s.2 in absurd (cc)
   says_running r c p Running s is = (refl, s.0, s.1)
   says_running r c p Armed s is = let y = s.1 in absurd (cc)
   says_running r c p Done s is = let y = s.3 in absurd (cc)
+  says_running r c p t s is = let y = s.2 in absurd (cc)
 
   abbrev pub DoneSays : Req → ℕ → ℕ → Cause → ℤ → Type 0
   DoneSays r c p c' res = (e : Entry) × (c ≡ cause_bits c' (fails e res)) × reply_bits res p × IsPlaced (events_of j) r e × (lent j r ≡ false → Keeps j r home (data_of (events_of j) r))
@@ -58,19 +47,14 @@ module _ (K : List ℕ) (j : List Line) (x w : ℕ) (home : Home) where
 
   says_empty : (r : Req) (c p : ℕ) (t : Tag) → Says j r home c p t → phase (events_of j) r ≡ unborn → (t ≡ Empty) × (c ≡ 0) × (p ≡ 0)
   says_empty r c p Empty s is = (refl, s.0, s.1)
-  says_empty r c p Held s is = let y = s.2 in absurd (cc)
-  says_empty r c p Ready s is = let y = s.2 in absurd (cc)
-  says_empty r c p Running s is = let y = s.2 in absurd (cc)
   says_empty r c p Armed s is = let y = s.1 in absurd (cc)
   says_empty r c p Done s is = let y = s.3 in absurd (cc)
+  says_empty r c p t s is = let y = s.2 in absurd (cc)
 
   pub not_reaped : (r : Req) (c p : ℕ) (t : Tag) (c' : Cause) (res : ℤ) → Says j r home c p t → phase (events_of j) r ≢ reaped c' res
-  not_reaped r c p Empty c' res s is = let y = s.2 in absurd (cc)
-  not_reaped r c p Held c' res s is = let y = s.2 in absurd (cc)
-  not_reaped r c p Ready c' res s is = let y = s.2 in absurd (cc)
-  not_reaped r c p Running c' res s is = let y = s.2 in absurd (cc)
   not_reaped r c p Armed c' res s is = let y = s.1 in absurd (cc)
   not_reaped r c p Done c' res s is = let y = s.3 in absurd (cc)
+  not_reaped r c p t c' res s is = let y = s.2 in absurd (cc)
 
   word_by : (ok : CellOk K j x w home) (t : Tag) (c g p : ℕ) → ok.tag ≡ t → ok.cause ≡ c → ok.gen ≡ g → ok.payload ≡ p → w ≡ word_of t c g p
   word_by ok t c g p a b d e = ok.word_is ∙ (λ i. word_of (a i) (b i) (d i) (e i))

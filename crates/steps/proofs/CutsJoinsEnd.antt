@@ -1,8 +1,8 @@
 -- The table at the start, the cuts and joins of seats, and the table at the end.
 use Rattle.std.proofs.lemmas.Bool.Decides.{nat_tests}
-use Rattle.steps.proofs.Common.{Begins, Busy, CellOk, Empty, Ended, Event, Final, Heard, Idle, IsGone, IsHeard, IsHeldBy, IsLentBy, IsOneOf, IsRunBy, Joins, Knows, Layout, Leaving, Lending, Line, List, None, NoneOf, Option, Owner, Parting, PipeIs, Poller, Req, Role, Ruled, Saw, SeatOk, Seen, Spent, Splits, State, Submitter, Thing, View, [], ap, apart, append-nil, arith, at_longer, at_set, claim_at, dite, events_of, false, get_elem?, get_or, get_or-replicate, hearing, holders, idle_one, inl, inr, length, length-replicate, map, messenger, next_poller, next_submitter, nobody, note_at, opening, opening_view, owner, parts_of, pipe_at, pollers, refl, replicate, rings, same_itself, set, set_else, slot_at, slots_of, some, some-injective, some-ne-none, spent_view, stands_for, submitter_of, subst, suc, sym, total, true, true≢false, untouched, without_next, without_one, words_of, workers, zero, ℕ, ℕ_discrete, ⊎_elim, ◌++◌, ◌+◌, ◌-◌, ◌<◌, ◌∙◌, ◌∷◌, ◌≡◌, ◌≢◌, ◌≤◌, ◌⊎◌}
+use Rattle.steps.proofs.Common.{Begins, Busy, CellOk, Empty, Ended, Event, Final, Heard, Idle, IsGone, IsHeard, IsHeldBy, IsLentBy, IsOneOf, IsRunBy, Joins, Knows, Layout, Lending, Line, List, None, NoneOf, Option, Owner, PipeIs, Poller, Req, Role, Ruled, Saw, SeatOk, Seen, Spent, Splits, Submitter, Thing, View, [], ap, apart, append-nil, arith, at_longer, at_set, claim_at, dite, events_of, false, get_elem?, get_or, get_or-replicate, hearing, holders, idle_one, inl, inr, length, length-replicate, map, messenger, next_poller, next_submitter, nobody, note_at, opening, opening_view, owner, parts_of, pipe_at, pollers, refl, replicate, rings, same_itself, set, set_else, slot_at, slots_of, some, some-injective, some-ne-none, spent_view, stands_for, submitter_of, subst, suc, sym, total, true, true≢false, untouched, without_next, without_one, words_of, workers, zero, ℕ, ℕ_discrete, ⊎_elim, ◌++◌, ◌+◌, ◌-◌, ◌<◌, ◌∙◌, ◌∷◌, ◌≡◌, ◌≢◌, ◌≤◌, ◌⊎◌}
 use Rattle.steps.proofs.Roles.{apart_sym, works_for, idle_apart, idle_none, none_of, spent_apart}
-use Rattle.steps.proofs.RuleKept.{parts_set, run_set, held_set, lent_set, known_set, IsKnown, at_now}
+use Rattle.steps.proofs.RuleKept.{St, parts_set, run_set, held_set, lent_set, known_set, IsKnown, at_now}
 
 at_end : {A : Type 0} (l : List A) (a b : A) (j : ℕ) → get_elem? (l ++ a ∷ []) j ≡ some b → (get_elem? l j ≡ some b) ⊎ ((j ≡ length l) × (a ≡ b))
 at_end [] a b zero e = inr (refl, some-injective a b e)
@@ -94,9 +94,6 @@ known_joined vs id other v w j there at ne k =
     (λ n'. (k.0, k.1, set_else (set vs id (hearing v w)) other k.0 spent_view n' ∙ (set_else vs id k.0 (hearing v w) n ∙ k.2), k.3, k.4)))
 
 module _ (L : Layout) where
-  abbrev St : Type 0
-  St = State (Option Thing) View
-
   -- START: the slots of the cells are empty, and those of the pipes have new pipes
   pub starts : (rows words : ℕ) (slots : List (Option Thing)) → rows ≡ total L.cells → words ≡ words_of rows → length slots ≡ slots_of rows
       → ((x : ℕ) → x < rows → get_elem? slots (slot_at x) ≡ some None) → ((p : ℕ) → p < 64 → (o : Option Thing) × (get_elem? slots p ≡ some o) × PipeIs L p o (untouched, []))
@@ -191,28 +188,19 @@ module _ (L : Layout) where
       }
 
   next_left : (n : ℕ) (o : Owner) → stands_for (Poller n) o ≡ false → stands_for (Poller (suc n)) o ≡ false
-  next_left n nobody h = refl
   next_left n pollers h = h
   next_left n (rings i) h = grind (arith, nat_tests)
-  next_left n (workers c) h = refl
-  next_left n (holders c p) h = refl
+  next_left n o h = refl
 
   next_right : (n : ℕ) (o : Owner) → stands_for (Poller n) o ≡ false → stands_for (Submitter n) o ≡ false
-  next_right n nobody h = refl
-  next_right n pollers h = refl
   next_right n (rings i) h = grind (arith, nat_tests)
-  next_right n (workers c) h = refl
-  next_right n (holders c p) h = refl
+  next_right n o h = refl
 
   next_apart : (n : ℕ) (u : Role) → apart (Poller n) u ≡ true → (apart (Poller (suc n)) u ≡ true) × (apart (Submitter n) u ≡ true)
   next_apart n (Poller m) h = absurd (true≢false (sym h))
   next_apart n (Submitter i) h = (grind (arith, nat_tests), grind (arith, nat_tests))
   next_apart n (Lending r) h = (grind (arith, nat_tests), grind (arith, nat_tests))
-  next_apart n Idle h = (refl, refl)
-  next_apart n (Busy q) h = (refl, refl)
-  next_apart n (Leaving q) h = (refl, refl)
-  next_apart n (Parting q p) h = (refl, refl)
-  next_apart n Spent h = (refl, refl)
+  next_apart n a h = (refl, refl)
 
   -- the next submitter leaves the poller
   pub cuts_submitter : (id : ℕ) (v : View) (n : ℕ) → v.role ≡ Poller n → 1 < v.parts → Splits (Ruled L) id v (without_next v) (next_submitter v)

@@ -1,11 +1,11 @@
 -- What the steps of timers and cancels have in common: an exchange that answers a request which waits or is armed, and an event that leaves all requests where they are.
-use Rattle.steps.proofs.Common.{Armed, Bool, Cause, Did, Done, Entry, Event, Extends, Fair, Held, Home, IsCell, IsIdle, IsIdleWord, IsPlaced, IsReplied, Keeps, Layout, Legal, Line, List, MayCome, Option, Phase, PipeOk, Ready, Req, Ruled, Running, Says, Seated, Setup, Some, State, Tag, Thing, View, [], answers, ap, arith, becomes, cause_bits, claim_at, clock_of, concerns, data_in, events_of, fails, false, flow, get_elem?, get_or, is_idle, keeps, length-set, lent, not, note_at, owns, phase, pipe_at, refl, replied, reply_bits, request_at, runs, same, same_false, same_itself, set, setup_of, shut_for, shuts, slot_at, subst, sym, ticks, true, true≢false, unborn, was_shut, word_of, ℕ, ℤ, ◌<◌, ◌∙◌, ◌∷◌, ◌≡◌, ◌≢◌}
-use Rattle.steps.proofs.CellNumbers.{other_cell, other_age, one_word, bits_fit}
+use Rattle.steps.proofs.Common.{Armed, Bool, Cause, Did, Done, Entry, Event, Extends, Fair, Held, Home, IsCell, IsIdle, IsIdleWord, IsPlaced, IsReplied, Keeps, Layout, Legal, Line, List, MayCome, Phase, PipeOk, Ready, Req, Ruled, Running, Says, Seated, Setup, Tag, View, [], answers, ap, arith, becomes, cause_bits, claim_at, clock_of, concerns, data_in, events_of, fails, false, flow, get_elem?, get_or, inl, is_idle, keeps, length-set, lent, note_at, owns, phase, pipe_at, refl, replied, reply_bits, request_at, runs, same, same_false, same_itself, set, setup_of, shut_for, shuts, slot_at, subst, sym, ticks, true, true≢false, unborn, was_shut, word_of, ℕ, ℤ, ◌<◌, ◌∙◌, ◌∷◌, ◌≡◌, ◌≢◌}
+use Rattle.steps.proofs.CellNumbers.{one_word, bits_fit}
 use Rattle.steps.proofs.JournalGrowth.{begins, phase_stays, counted_in, lasts_by, placed_lasts}
-use Rattle.steps.proofs.Frames.{ages_stay, keeps_stays, pipe_stays, done_keeps}
+use Rattle.steps.proofs.Frames.{keeps_stays, pipe_stays, done_keeps}
 use Rattle.steps.proofs.ClaimWords.{says_of, cause_fits}
-use Rattle.steps.proofs.RuleKept.{gone_same, adds_claim, adds_else, owned, seat_sees, run_set, held_set, lent_set, at_now, left_now, made_with}
-use Rattle.steps.proofs.StepKinds.{now_is, tick, with_line, Does, There, busy_now, extends, same_turns}
+use Rattle.steps.proofs.RuleKept.{St, gone_same, adds_else, owned, seat_sees, run_set, held_set, lent_set, at_now, left_now, made_with}
+use Rattle.steps.proofs.StepKinds.{hand_stays, now_is, tick, with_line, Does, There, busy_now, extends, same_turns}
 use Rattle.steps.proofs.LoadReleaseBegin.{quiet_line}
 
 -- what an idle request's word says, whichever it is
@@ -56,9 +56,6 @@ module _ (slots id : ℕ) (me : Seated) where
   abbrev S : Setup
   S = setup_of L
 
-  abbrev St : Type 0
-  St = State (Option Thing) View
-
   module _ (ev : Event) (own : owns v.role (Did ev) ≡ true) (has : (s : St) → Ruled L s → There slots id me s → 0 < v.parts) where
     abbrev l : Line
     l = Did ev
@@ -82,36 +79,22 @@ module _ (slots id : ℕ) (me : Seated) where
       abbrev pub Known : Type 0
       Known = (s : St) (r : Ruled L s) → There slots id me s → Says r.past q (get_elem? s.homes (slot_at x)) 0 pay tag → MayCome S (events_of r.past) ev × (becomes (events_of r.past) ev (phase (events_of r.past) q) ≡ replied cause res) × IsPlaced (events_of r.past) q e
 
-      pub answers_does : (new : ℕ) → new ≡ word_of Done (cause_bits cause (fails e res)) g b → Known → (s : St) (r : Ruled L s) → There slots id me s → get_or s.words (claim_at x) 0 ≡ word_of tag 0 g pay → Does slots id me L s (claim_at x) new Told
+      pub answers_does : (new : ℕ) → new ≡ word_of Done (cause_bits cause (fails e res)) g b → Known → (s : St) (r : Ruled L s) → There slots id me s → get_or s.words (claim_at x) 0 ≡ word_of tag 0 g pay → Does slots id me s (claim_at x) new Told
       answers_does new is_new known s r at is =
           let here = says_of K r.past x _ _ tag 0 g pay (r.cells x inside) is (omega arith) f fd in let said = idle_says r.past q _ 0 pay tag idle here.0 in let k = known s r at here.0 in
           let legal = legal_with s r ends.plain k.0 in let live = live_with s r ends.plain in
           let done : phase (events_of (l ∷ r.past)) q ≡ replied cause res = now_is _ _ _ (ends.concerns' q ∙ same_itself q) ∙ k.1 in
           let born = counted_in S r.past q (phase (events_of r.past) q) r.legal refl (idle_unborn _ said.0) in
-          let kept : Keeps (l ∷ r.past) q (get_elem? s.homes (slot_at x)) (data_in ev) = subst (Keeps (l ∷ r.past) q (get_elem? s.homes (slot_at x))) (sym ends.data') (keeps_stays S l r.past legal q _ [] born said.2) in (
-            with_line slots id me (claim_at x) s r.past l v.role,
-            keeps,
-            tt,
-            adds_claim L s r id v v.role x new s.homes l (tick slots id me (claim_at x) s (l ∷ r.past)) ((claim_at x), get_or s.words (claim_at x) 0, refl) inside refl (quiet_line L r.past l (ends.plain.fair' L r.past) live (ends.clock' _) (λ p. (refl, ends.plain.flow' (events_of r.past) p)))
-                (same_turns slots id me s r at l own ends.plain.begins' legal (has s r at) (ends.plain.lent' r.past) (λ c busy. (let run = (busy_now slots id me s r at c busy).1 in phase_stays l r.past c (ends.concerns' c ∙ same_false q c (λ same'. idle_runs _ said.0 (ap (phase (events_of r.past)) same' ∙ run))) ∙ run))) legal at (owned L s r id v l at own)
-                (λ y h other k. ends.concerns' (request_at K y k) ∙ other_cell K x y g k inside h other) (λ w. refl) refl (λ y other. refl) record {
-                  tag = Done;
-                  cause = cause_bits cause (fails e res);
-                  gen = g;
-                  payload = b;
-                  fits = (cause_fits cause (fails e res), f, bits_fit res b bits);
-                  word_is = is_new;
-                  says = (cause, res, e, done, bits, lasts_by S (λ h. IsPlaced h q e) q (placed_lasts S q e) l r.past legal born k.2, refl, λ _. done_keeps ev r.past q _ ends.answers' kept);
-                  ages = ages_stay S l r.past legal K x g (λ n other. ends.concerns' (request_at K x n) ∙ other_age K x g n inside other) here.1;
-                },
-            (extends slots id me s r at l v.role legal live (ends.plain.fair' L r.past) (tick slots id me (claim_at x) s (l ∷ r.past)) ((claim_at x), get_or s.words (claim_at x) 0, refl), refl),
-            refl,
-          )
+          let kept : Keeps (l ∷ r.past) q (get_elem? s.homes (slot_at x)) (data_in ev) = subst (Keeps (l ∷ r.past) q (get_elem? s.homes (slot_at x))) (sym ends.data') (keeps_stays S l r.past legal q _ [] born said.2) in
+          hand_stays slots id me s r at x g new inside l v.role ends.concerns' (λ w. refl) (quiet_line L r.past l (ends.plain.fair' L r.past) live (ends.clock' _) (λ p. (refl, ends.plain.flow' (events_of r.past) p)))
+          (same_turns slots id me s r at l own ends.plain.begins' legal (has s r at) (ends.plain.lent' r.past) (λ c busy. (let run = (busy_now slots id me s r at c busy).1 in phase_stays l r.past c (ends.concerns' c ∙ same_false q c (λ same'. idle_runs _ said.0 (ap (phase (events_of r.past)) same' ∙ run))) ∙ run))) legal (owned L s r id v l at own)
+          Done (cause_bits cause (fails e res)) b (cause_fits cause (fails e res), f, bits_fit res b bits) is_new here.1
+          (cause, res, e, done, bits, lasts_by S (λ h. IsPlaced h q e) q (placed_lasts S q e) l r.past legal born k.2, refl, λ _. done_keeps ev r.past q _ ends.answers' kept)
 
     -- ---- it leaves all requests: the word i becomes n, and only the clock's may change by that
     module _ (quiet : Silent ev) (i n : ℕ) where
       pub silent_does : (s : St) (r : Ruled L s) → There slots id me s → MayCome S (events_of r.past) ev
-          → ((w : ℕ) → ¬ (w ≡ 0) → get_or (set s.words i n) w 0 ≡ get_or s.words w 0) → get_or (set s.words i n) 0 0 ≡ clock_of (events_of (l ∷ r.past)) → Does slots id me L s i n Told
+          → ((w : ℕ) → ¬ (w ≡ 0) → get_or (set s.words i n) w 0 ≡ get_or s.words w 0) → get_or (set s.words i n) 0 0 ≡ clock_of (events_of (l ∷ r.past)) → Does slots id me s i n Told
       silent_does s r at may words clock =
           let legal = legal_with s r quiet.plain may in let live = live_with s r quiet.plain in let t = tick slots id me i s (l ∷ r.past) in let w = with_line slots id me i s r.past l v.role in
           let stays : (q : Req) → phase (events_of (l ∷ r.past)) q ≡ phase (events_of r.past) q = λ q. phase_stays l r.past q (quiet.concerns' q) in (
@@ -126,7 +109,7 @@ module _ (slots id : ℕ) (me : Seated) where
                 (λ p q is. held_set s.views id v w q p at (λ z. z) (r.held_by p q is))
                 (λ q is. lent_set s.views id v w q at (λ z. z) (r.lent_by q (sym (quiet.plain.lent' r.past q) ∙ is)))
                 (id, w, at_now s.views id v w at, has s r at, Rattle.std.proofs.Common.inl refl),
-            (extends slots id me s r at l v.role legal live (quiet.plain.fair' L r.past) t (i, get_or s.words i 0, refl), refl),
+            (extends slots id me s r at i l v.role legal live (quiet.plain.fair' L r.past), refl),
             refl,
           )
 

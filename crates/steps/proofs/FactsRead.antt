@@ -1,23 +1,14 @@
 -- What the facts of a cell tell of its request.
 use Rattle.claim.specs.Facts.{Facts, bit, packed_facts, fits_facts}
 use Rattle.history.proofs.Requests.{and_right}
-use Rattle.steps.proofs.Common.{AsyncCancel, Bool, Cause, Close, Entry, FactsTell, Invalid, IsCell, IsChainDone, IsPlaced, IsReaped, IsReplied, IsTrue, Layout, Legal, Line, LinkTimeout, List, None, Nop, NotesTell, Op, Option, Orderly, Phase, PollAdd, Read, Req, Setup, Some, Splice, Submission, Timeout, TimeoutRemove, Write, and_left, ap, arith, armed, before_in, bool_cases, born_once, cond, drains, etime_in, events_of, facts_at, facts_of, fails, false, inl, inr, lent, links_hard, links_soft, ltb-true, nat_lt, negsuc, noted, outcome_of, phase, placed_behind, placed_from, reaped, refl, replied, reply_of_replied, request_at, row_number, runs, setup_of, submission, submission_some, submits, subst, sym, ticks_in, true, true≢false, unborn, waits, ℕ, ℤ, ⊎_elim, ◌%◌, ◌&&◌, ◌*◌, ◌+◌, ◌<◌, ◌∙◌, ◌≡◌, ◌≢◌, ◌≤◌, ◌⊎◌}
+use Rattle.steps.proofs.Common.{Bool, Cause, Entry, FactsTell, IsCell, IsChainDone, IsPlaced, IsReaped, IsReplied, IsTrue, Layout, Legal, Line, List, Nop, NotesTell, Op, Orderly, Phase, Req, Setup, Some, Submission, and_left, ap, arith, before_in, bool_cases, born_once, drains, etime_in, events_of, facts_at, facts_of, fails, false, inl, inr, lent, links_hard, links_soft, ltb-true, noted, outcome_of, phase, placed_behind, placed_from, reaped, refl, replied, reply_of_replied, request_at, row_number, setup_of, submission, submission_some, submits, sym, ticks_in, true, unborn, ℕ, ℤ, ⊎_elim, ◌%◌, ◌*◌, ◌+◌, ◌<◌, ◌∙◌, ◌≡◌, ◌⊎◌}
 use Rattle.steps.proofs.FactsKept.{packed_generation}
 use Rattle.steps.proofs.NotesKept.{lent_out}
 use Rattle.steps.specs.FactsTold.{AreFacts, TellsFacts}
 
 pub row_small : (op : Op) → row_number op < 16
 row_small Nop = omega arith
-row_small (PollAdd fd mask) = omega arith
-row_small (Timeout ticks etime_success count) = omega arith
-row_small (TimeoutRemove user_data) = omega arith
-row_small (AsyncCancel user_data all) = omega arith
-row_small (LinkTimeout ticks) = omega arith
-row_small (Close fd) = omega arith
-row_small (Read fd offset len) = omega arith
-row_small (Write fd offset len) = omega arith
-row_small (Splice fd_in fd_out len) = omega arith
-row_small Invalid = omega arith
+row_small op = omega arith
 
 bit_small : (b : Bool) → bit b < 2
 bit_small true = omega arith
@@ -87,11 +78,7 @@ are_outcome w g e last failed f small is =
 
 pub reaped_or : (p : Phase) → IsReaped p ⊎ (¬ IsReaped p)
 reaped_or (reaped c res) = inl tt
-reaped_or (replied c res) = inr (λ z. z)
-reaped_or unborn = inr (λ z. z)
-reaped_or waits = inr (λ z. z)
-reaped_or runs = inr (λ z. z)
-reaped_or (armed d) = inr (λ z. z)
+reaped_or p = inr (λ z. z)
 
 pub reaped_replied : (p : Phase) → IsReaped p → IsReplied p
 reaped_replied (reaped c res) r = tt

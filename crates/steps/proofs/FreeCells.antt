@@ -1,6 +1,6 @@
 -- When a cell is free for its next request, and what others leave of its notes.
 use Rattle.std.proofs.Common.{◌==◌}
-use Rattle.steps.proofs.Common.{Bool, Cause, Did, Fair, Free, Freed, Hold, IsCell, IsChainDone, IsFactsNote, IsFree, IsIn, IsReaped, Layout, Legal, Lent, Line, List, NoneOf, Noted, Orderly, Phase, Req, Role, Setup, [], ap, arith, cells_in, cond, events_of, facts_at, false, ne_eqb, note_at, noted, owns, phase, place_of, reaped, refl, replied, request_at, ring_of, rings, stands_for, subst, suc, suc-mul, sym, true, true≢false, unborn, zero, ℕ, ℤ, ◌*◌, ◌++◌, ◌+◌, ◌<◌, ◌∙◌, ◌∷◌, ◌≡◌}
+use Rattle.steps.proofs.Common.{Bool, Cause, Fair, IsCell, IsChainDone, IsFactsNote, IsFree, IsIn, IsReaped, Layout, Legal, Lent, Line, List, NoneOf, Noted, Orderly, Phase, Req, Role, Setup, [], ap, arith, cells_in, cond, events_of, facts_at, false, ne_eqb, note_at, noted, owns, phase, place_of, reaped, refl, replied, request_at, ring_of, rings, stands_for, subst, suc, suc-mul, sym, true, true≢false, unborn, zero, ℕ, ℤ, ◌*◌, ◌++◌, ◌+◌, ◌<◌, ◌∙◌, ◌∷◌, ◌≡◌}
 use Rattle.steps.proofs.CellNumbers.{located}
 use Rattle.steps.proofs.JournalGrowth.{legal_before, lasts, reaped_lasts, done_lasts, counted_in}
 
@@ -45,10 +45,7 @@ module _ (L : Layout) (role : Role) (x k : ℕ) (small : k < 7) (inside : IsCell
   noted_by : (l : Line) (j : List Line) → Fair L j l → owns role l ≡ false → noted (l ∷ j) (note_at x k) ≡ noted j (note_at x k)
   noted_by (Lent r word value) j f n = let w = facts_word L.cells j r word value (phase (events_of j) r) f in elsewhere r word value (noted j (note_at x k)) w.0 w.1 0 n w.2 (omega arith) w.3
   noted_by (Noted r word value) j f n = elsewhere r word value (noted j (note_at x k)) f.0 f.1 f.2 n f.3 (let few = f.4.1 in omega arith) f.5
-  noted_by (Did e) j f n = refl
-  noted_by (Freed r) j f n = refl
-  noted_by (Hold r p) j f n = refl
-  noted_by (Free r p laid) j f n = refl
+  noted_by l j f n = refl
 
   pub same_noted : (later seen : List Line) → Orderly L (later ++ seen) → NoneOf role later → noted (later ++ seen) (note_at x k) ≡ noted seen (note_at x k)
   same_noted [] seen o n = refl

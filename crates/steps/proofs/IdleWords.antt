@@ -1,6 +1,6 @@
 -- What a claim word tells of a request that waits, is armed or runs, and of one that is over. A word that was seen not to be Held stays until its request runs or replies.
 use Rattle.std.proofs.Common.{lt-ltb}
-use Rattle.steps.proofs.Common.{Armed, Bool, Claim, Count, Cut, Done, Empty, Event, Expire, Fire, Held, Home, IsIdleWord, IsReplied, IsTrue, Legal, Line, List, MayChange, Phase, Ready, Req, Running, Says, Settle, Setup, Shown, Some, Tag, Take, [], ap, arith, armed, becomes, bool_cases, changed, concerns, cond, dite, events_of, false, fits, freed, frees, inl, inr, is_idle, may_change, nat_lt, packed, phase, reaped, refl, replied_stays, request_at, subst, sym, true, true≢false, unborn, unchanged, word_of, ℕ, ℕ_discrete, ⊎_elim, ◌&&◌, ◌*◌, ◌++◌, ◌+◌, ◌-◌, ◌<◌, ◌∙◌, ◌∷◌, ◌≡◌, ◌≢◌, ◌≤◌, ◌⊎◌}
+use Rattle.steps.proofs.Common.{Armed, Bool, Claim, Count, Cut, Done, Empty, Event, Expire, Fire, Held, Home, IsIdleWord, IsReplied, IsTrue, Legal, Line, List, MayChange, Phase, Ready, Req, Running, Says, Settle, Setup, Shown, Tag, Take, [], ap, arith, armed, becomes, bool_cases, changed, concerns, cond, dite, events_of, false, fits, freed, frees, inl, inr, is_idle, may_change, packed, phase, reaped, refl, replied_stays, request_at, subst, sym, true, true≢false, unborn, unchanged, word_of, ℕ, ℕ_discrete, ⊎_elim, ◌++◌, ◌-◌, ◌<◌, ◌∙◌, ◌∷◌, ◌≡◌, ◌≢◌, ◌⊎◌}
 use Rattle.steps.proofs.JournalGrowth.{Lasting, lasts, counted_in, legal_before}
 use Rattle.steps.proofs.ClaimWords.{says_of}
 

@@ -1,16 +1,14 @@
 -- What stays true as the journal grows: of every line, and of the lines of others.
 use Rattle.std.proofs.Common.{◌==◌}
 use Rattle.history.proofs.LaterReplies.{later_grows}
-use Rattle.steps.proofs.Common.{Begin, Bool, Busy, Cause, Count, Cut, Did, Entry, Event, Expire, Fire, FireMiss, Free, Freed, Hold, IsChainDone, IsOf, IsPlaced, IsReplied, Legal, Lent, Line, List, MayChange, MayCome, Miss, None, NoneOf, Noted, Open, Park, Phase, Reap, Reply, Req, Role, Settle, Setup, Sever, Severed, Shut, Some, Submission, Submit, Take, Tick, [], adds_to, answers, ap, arith, becomes, before_in, bool_cases, changed, concerns, cond, counted, data_in, data_of, done_stays, events_of, false, freed, later_replies, lent, may_change, ne_eqb, open_stays, owns, phase, placed_stays, previous, reaped, refl, replied, replied_stays, rings, runs, same, same_false, same_true, severed_stays, shut_for, stands_for, submission, submission_none, submission_stays, submits, subst, sym, true, true≢false, unborn, unchanged, was_shut, ℕ, ℤ, ⊎_elim, ◌++◌, ◌<◌, ◌∙◌, ◌∷◌, ◌≡◌, ◌≢◌, ◌≤◌}
+use Rattle.steps.proofs.Common.{Begin, Bool, Busy, Cause, Count, Cut, Did, Entry, Event, Expire, Fire, FireMiss, Freed, IsChainDone, IsOf, IsPlaced, IsReplied, Legal, Lent, Line, List, MayChange, MayCome, Miss, None, NoneOf, Open, Park, Phase, Reap, Reply, Req, Role, Settle, Setup, Sever, Severed, Shut, Some, Submission, Submit, Take, Tick, [], adds_to, answers, ap, arith, becomes, before_in, bool_cases, changed, concerns, cond, counted, data_in, data_of, done_stays, events_of, false, freed, later_replies, lent, may_change, ne_eqb, open_stays, owns, phase, placed_stays, previous, reaped, refl, replied, replied_stays, rings, runs, same, same_false, same_true, severed_stays, shut_for, stands_for, submission, submission_none, submission_stays, submits, subst, sym, true, true≢false, unborn, unchanged, was_shut, ℕ, ℤ, ⊎_elim, ◌++◌, ◌<◌, ◌∙◌, ◌∷◌, ◌≡◌, ◌≢◌, ◌≤◌}
 
 -- the line is about this request
 abbrev pub about : Line → Req → Bool
 about (Did e) q = concerns e q
 about (Freed r) q = same r q
 about (Lent r word value) q = same r q
-about (Noted r word value) q = false
-about (Hold r p) q = false
-about (Free r p laid) q = false
+about l q = false
 
 -- an event that answers a request changes where it stands
 pub answers_concerns : (e : Event) (q : Req) → concerns e q ≡ false → answers e q ≡ false

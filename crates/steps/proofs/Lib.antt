@@ -31,3 +31,4 @@ pub mod MatchesKept
 pub mod IdleWords
 pub mod CountsRead
 pub mod Sleepers
+pub mod PollerExchanges

@@ -1,12 +1,12 @@
 -- The notes that a submitter stores before its Submit and before its Reap. With the facts it takes the slot of its cell.
 use mathlib.Core.Option as maybe
-use Rattle.steps.proofs.Common.{Allows, Bool, Busy, Cause, CellOk, Done, Empty, Entry, Extends, Fair, Full, Hands, IsCell, IsFactsNote, IsParcel, IsPlaced, Layout, Legal, Lending, Lent, Line, List, None, Noted, Option, Req, Role, Ruled, Seated, Setup, Some, State, Submitter, Thing, Vacant, View, ap, apart, arith, cause_bits, claim_at, cond, data_of, dite, emptied, eq-eqb, events_of, facts_at, fails, false, get_elem?, get_or, get_or-set_other, get_or-set_same, inl, inr, is_leaving, keeps, length-set, lent, ne_eqb, none, note_at, noted, noted_more, opened, outcome_of, phase, refl, replied, request_at, ring_of, rings, same_false, same_itself, set, set_else, setup_of, slot_at, some, stands_for, step, stepped, subst, sym, takes, true, true≢false, unborn_yet, workers, ℕ, ℕ_discrete, ℤ, ◌*◌, ◌+◌, ◌<◌, ◌==◌, ◌∙◌, ◌∷◌, ◌≡◌, ◌≢◌, ◌⊎◌}
+use Rattle.steps.proofs.Common.{Allows, Bool, Busy, Cause, CellOk, Done, Empty, Entry, Extends, Fair, Full, Hands, IsCell, IsFactsNote, IsParcel, IsPlaced, Layout, Legal, Lending, Lent, Line, List, None, Noted, Option, Req, Role, Ruled, Seated, Setup, Some, Submitter, Thing, Vacant, View, ap, apart, arith, cause_bits, claim_at, cond, data_of, dite, emptied, eq-eqb, events_of, facts_at, fails, false, fits, get_elem?, get_or, get_or-set_other, get_or-set_same, inl, inr, is_leaving, keeps, length-set, lent, ne_eqb, none, note_at, noted, noted_more, opened, outcome_of, phase, refl, replied, request_at, ring_of, rings, same_false, same_itself, set, set_else, setup_of, slot_at, some, stands_for, step, stepped, subst, sym, takes, true, true≢false, unborn_yet, workers, ℕ, ℕ_discrete, ℤ, ◌*◌, ◌+◌, ◌<◌, ◌==◌, ◌∙◌, ◌∷◌, ◌≡◌, ◌≢◌, ◌⊎◌}
 use Rattle.steps.proofs.CellNumbers.{other_cell, other_age, one_word}
 use Rattle.steps.proofs.Roles.{as_lending, idle_hands}
 use Rattle.steps.proofs.JournalGrowth.{begins, ran, lent_stays, counted_in, placed_lasts}
 use Rattle.steps.proofs.Frames.{ages_stay, cell_stays}
 use Rattle.steps.proofs.ClaimWords.{says_of, done_word}
-use Rattle.steps.proofs.RuleKept.{LeavesGone, Turns, gone_own, adds, owned}
+use Rattle.steps.proofs.RuleKept.{St, LeavesGone, Turns, gone_own, adds, owned}
 use Rattle.steps.proofs.StepKinds.{tick, with_line, Does, There, shaped, seen_legal, lasts_now, lent_now, replied_now, data_now, noted_now, free_now, vacant_now, extends, same_turns}
 use Rattle.steps.proofs.LoadReleaseBegin.{quiet_line, dec_req}
 
@@ -22,9 +22,6 @@ module _ (slots id : ℕ) (me : Seated) where
 
   abbrev S : Setup
   S = setup_of L
-
-  abbrev St : Type 0
-  St = State (Option Thing) View
 
   -- the words after a store in a note word
   note_set : (s : St) (r : Ruled L s) (x k n : ℕ) (l : Line) → IsCell K x → k < 7 → ((w : ℕ) → noted (l ∷ r.past) w ≡ cond (note_at x k == w) n (noted r.past w)) → (y i : ℕ) → IsCell K y → i < 7 → get_or (set s.words (note_at x k) n) (note_at y i) 0 ≡ noted (l ∷ r.past) (note_at y i)
@@ -75,7 +72,7 @@ module _ (slots id : ℕ) (me : Seated) where
     one_vacant g h legal a b lt = let z = b.gone_by g lt in let u = unborn_yet S (events_of v.seen) (request_at K x g) legal a.next in let y = z.2 in absurd (cc)
 
     -- NOTE before the Submit: the empty slot is taken
-    open_does : (n m : ℕ) → n ≡ g + 16777216 * m → Vacant K v.seen x g → lent v.seen q ≡ false → (s : St) (r : Ruled L s) → There slots id me s → Does slots id me L s (facts_at x) n (opened (step slots (facts_at x) n 0 none) me n)
+    open_does : (n m : ℕ) → n ≡ g + 16777216 * m → Vacant K v.seen x g → lent v.seen q ≡ false → (s : St) (r : Ruled L s) → There slots id me s → Does slots id me s (facts_at x) n (opened (step slots (facts_at x) n 0 none) me n)
     open_does n m value free home s r at =
         let l : Line = Lent q (facts_at x) n in let now = vacant_now slots id me s r at x g inside f submits_here free in
         let fair : Fair L r.past l = subst (IsFactsNote K r.past q (facts_at x) n) (sym now.1) (x, g, m, (inside, refl), f, refl, value, free_now slots id me s r at x g free) in let at_home = now.2 (lent_now slots id me s r at q false submits_here home) in
@@ -97,7 +94,7 @@ module _ (slots id : ℕ) (me : Seated) where
               let free'' : Vacant K v.seen x h = subst (λ (z : ℕ). Vacant K v.seen z h) (sym same') free' in
               let a : ¬ (g < h) = one_vacant g h (seen_legal slots id me s r at) free free'' in let b : ¬ (h < g) = one_vacant h g (seen_legal slots id me s r at) free'' free in let gen : g ≡ h = omega arith in (
                 subst (λ (z : ℕ × ℕ). Extends v (Lent (request_at K z.0 z.1) (facts_at x) n) (Lending (request_at K z.0 z.1)) (with_line slots id me (facts_at x) s r.past l (Lending q)) × ((slot_at x, None) ∷ me.1 ≡ (slot_at z.0, None) ∷ me.1)) (λ i. (same' i, gen i))
-                    (extends slots id me s r at l (Lending q) r.legal r.live fair (tick slots id me (facts_at x) s (l ∷ r.past)) ((facts_at x), get_or s.words (facts_at x) 0, refl), refl),
+                    (extends slots id me s r at (facts_at x) l (Lending q) r.legal r.live fair, refl),
                 (get_or s.words (facts_at x) 0, refl),
               )),
           refl,
@@ -107,7 +104,7 @@ module _ (slots id : ℕ) (me : Seated) where
     open_allows M n m value free home = shaped slots id me M (facts_at x) (λ _. n) (λ _. opened (step slots (facts_at x) n 0 none) me n) (λ z. (let y = sym mine ∙ z in cc)) (open_does n m value free home)
 
     -- NOTE before the Reap: the slot is taken, with the buffer and the data
-    empty_does : (n : ℕ) (c : Cause) (res : ℤ) (e : Entry) → phase (events_of v.seen) q ≡ replied c res → IsPlaced (events_of v.seen) q e → n ≡ outcome_of (noted v.seen (facts_at x)) (fails e res) → lent v.seen q ≡ false → (s : St) (r : Ruled L s) → There slots id me s → Does slots id me L s (facts_at x) n (emptied (step slots (facts_at x) n 0 none) me n)
+    empty_does : (n : ℕ) (c : Cause) (res : ℤ) (e : Entry) → phase (events_of v.seen) q ≡ replied c res → IsPlaced (events_of v.seen) q e → n ≡ outcome_of (noted v.seen (facts_at x)) (fails e res) → lent v.seen q ≡ false → (s : St) (r : Ruled L s) → There slots id me s → Does slots id me s (facts_at x) n (emptied (step slots (facts_at x) n 0 none) me n)
     empty_does n c res e done is_e value home s r at =
         let l : Line = Lent q (facts_at x) n in let ok = r.cells x inside in let done' = replied_now slots id me s r at q c res submits_here done in
         let word = done_word K r.past x _ _ ok g c res done' in let parcel = word.keeps (lent_now slots id me s r at q false submits_here home) in
@@ -131,7 +128,7 @@ module _ (slots id : ℕ) (me : Seated) where
               let word' = done_word K r.past x _ _ ok h c' res' other in
               let o = one_word Done Done _ g word.payload _ h word'.payload word.fits.0 word.fits.1 word.fits.2 word'.fits.0 word'.fits.1 word'.fits.2 (sym word.word_is ∙ word'.word_is) in (
                 subst (λ (z : ℕ × ℕ). Extends v (Lent (request_at K z.0 z.1) (facts_at x) n) (Lending (request_at K z.0 z.1)) (with_line slots id me (facts_at x) s r.past l (Lending q)) × Hands (with_line slots id me (facts_at x) s r.past l (Lending q), (slot_at x, Some (Full parcel.0)) ∷ me.1) z.0 (request_at K z.0 z.1) (data_of (events_of v.seen) (request_at K z.0 z.1)) me.1) (λ i. (same' i, o.2 i))
-                    (extends slots id me s r at l (Lending q) r.legal r.live fair (tick slots id me (facts_at x) s (l ∷ r.past)) ((facts_at x), get_or s.words (facts_at x) 0, refl), (parcel.0, refl, subst (λ (z : List ℕ). IsParcel r.past q z parcel.0) (data_now slots id me s r at q c res submits_here done) parcel.2)),
+                    (extends slots id me s r at (facts_at x) l (Lending q) r.legal r.live fair, (parcel.0, refl, subst (λ (z : List ℕ). IsParcel r.past q z parcel.0) (data_now slots id me s r at q c res submits_here done) parcel.2)),
                 (get_or s.words (facts_at x) 0, refl),
               )),
           refl,
@@ -148,7 +145,7 @@ module _ (slots id : ℕ) (me : Seated) where
     lends_it : stands_for v.role (rings (ring_of K x)) ≡ true
     lends_it = ap (λ (z : Role). stands_for z (rings (ring_of K x))) mine ∙ eq-eqb (ring_of K x) (ring_of K x) refl
 
-    more_does : (n : ℕ) → Vacant K v.seen x g → (s : St) (u : Ruled L s) → There slots id me s → Does slots id me L s (note_at x i) n (noted_more (step slots (note_at x i) n 0 none) me n)
+    more_does : (n : ℕ) → Vacant K v.seen x g → (s : St) (u : Ruled L s) → There slots id me s → Does slots id me s (note_at x i) n (noted_more (step slots (note_at x i) n 0 none) me n)
     more_does n free s u at =
         let l : Line = Noted r (note_at x i) n in let now = vacant_now slots id me s u at x g inside f lends_it free in
         let fair : Fair L u.past l = (x, g, i, (inside, refl), (low, few), refl, now.1, free_now slots id me s u at x g free) in
@@ -162,7 +159,7 @@ module _ (slots id : ℕ) (me : Seated) where
               (note_set s u x i n l inside (omega arith) (λ w. refl)) refl (λ y other. refl)
               (subst (λ (z : ℕ). CellOk K (l ∷ u.past) x z (get_elem? s.homes (slot_at x))) (sym (get_or-set_other s.words (note_at x i) (claim_at x) n 0 (omega arith))) (cell_stays S l u.past u.legal K x _ _ (λ _. refl) (u.cells x inside))),
           (λ c role'. let same' : r ≡ c = (let z = sym mine ∙ role' in cc) in (
-            (subst (λ (z : Req). Extends v (Noted z (note_at x i) n) v.role view) same' (extends slots id me s u at l v.role u.legal u.live fair (tick slots id me (note_at x i) s (l ∷ u.past)) ((note_at x i), get_or s.words (note_at x i) 0, refl)), refl),
+            (subst (λ (z : Req). Extends v (Noted z (note_at x i) n) v.role view) same' (extends slots id me s u at (note_at x i) l v.role u.legal u.live fair), refl),
             (get_or s.words (note_at x i) 0, refl),
           )),
           refl,

@@ -1,5 +1,5 @@
 -- While a request is submitted its notes are those of its entry, and once its slot is out for the Reap, the outcome stands in them.
-use Rattle.steps.proofs.Common.{AreNoted, Bool, Cause, Did, Entry, Event, Fair, IsCell, IsChainDone, IsFactsNote, IsFree, IsIn, IsPlaced, IsReaped, Layout, Legal, Lent, Line, List, MayChange, MayCome, Noted, NotesSay, NotesTell, Orderly, Phase, Reap, Req, Setup, Some, Submission, Submit, [], after_reap, ap, arith, armed, bool_cases, born_once, cells_in, changed, concerns, cond, count_at, count_of, dite, eq-eqb, events_of, facts_at, facts_of, fails, false, inl, inr, is_timeout, lent, ltb-false, ltb-true, may_change, nat_lt, ne_eqb, noted, outcome_of, phase, place_of, placed_stays, reaped, refl, replied, request_at, ring_of, runs, same, same_itself, same_true, submission, submission_none, submits, subst, suc, suc-mul, sym, true, true≢false, unborn, unchanged, user_at, waits, zero, ℕ, ℕ_discrete, ℤ, ⊎_elim, ◌*◌, ◌+◌, ◌<◌, ◌∙◌, ◌∷◌, ◌≡◌, ◌≢◌, ◌≤◌, ◌⊎◌}
+use Rattle.steps.proofs.Common.{AreNoted, Bool, Cause, Did, Entry, Event, Fair, IsCell, IsChainDone, IsFactsNote, IsFree, IsIn, IsPlaced, IsReaped, Layout, Legal, Lent, Line, List, MayChange, MayCome, Noted, NotesSay, NotesTell, Orderly, Phase, Reap, Req, Setup, Some, Submission, Submit, [], after_reap, ap, arith, bool_cases, born_once, cells_in, changed, concerns, cond, count_at, count_of, dite, eq-eqb, events_of, facts_at, facts_of, fails, false, inl, inr, is_timeout, lent, ltb-false, ltb-true, may_change, nat_lt, ne_eqb, noted, outcome_of, phase, place_of, placed_stays, reaped, refl, replied, request_at, ring_of, same, same_itself, same_true, submission, submission_none, submits, subst, suc, suc-mul, sym, true, true≢false, unborn, unchanged, user_at, zero, ℕ, ℕ_discrete, ℤ, ⊎_elim, ◌*◌, ◌+◌, ◌<◌, ◌∙◌, ◌∷◌, ◌≡◌, ◌≢◌, ◌≤◌, ◌⊎◌}
 use Rattle.steps.proofs.CellNumbers.{one_cell, other_cell}
 use Rattle.steps.proofs.FreeCells.{reaped_as}
 use Rattle.steps.proofs.JournalGrowth.{legal_tail, reaped_lasts, done_lasts, lasts_by, counted_in}
@@ -8,11 +8,7 @@ use Rattle.steps.proofs.JournalGrowth.{legal_tail, reaped_lasts, done_lasts, las
 
 either_born : (p : Phase) → (p ≡ unborn) ⊎ (p ≢ unborn)
 either_born unborn = inl refl
-either_born waits = inr (λ e. cc)
-either_born runs = inr (λ e. cc)
-either_born (armed d) = inr (λ e. cc)
-either_born (replied c res) = inr (λ e. cc)
-either_born (reaped c res) = inr (λ e. cc)
+either_born p = inr (λ e. cc)
 
 pub reaped_born : (p : Phase) → IsReaped p → p ≢ unborn
 reaped_born p r e = subst IsReaped e r

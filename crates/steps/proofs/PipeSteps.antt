@@ -3,13 +3,13 @@ use mathlib.Core.Option as maybe
 use Rattle.history.proofs.Contents.{flows_as_by}
 use Rattle.steps.specs.declared.line.Laid.TheVariants.{NoRequest}
 use Rattle.steps.specs.declared.parcel.WaitedPipe.{WaitedPipe}
-use Rattle.steps.proofs.Common.{Allows, Busy, Did, Entry, Event, Extends, Fair, Flow, Free, Full, HasAlone, HasBoth, HasPipe, HasPipeAfter, HasWaited, Heard, Hold, Home, Idle, IsHeard, IsHeldBy, IsPlaced, IsSamePipe, IsStep, Knows, Laid, Layout, Leaving, Legal, Lending, Line, List, Looks, MayLay, None, OpAnswers, Option, Orderly, Owner, Parting, PipeIs, PipeOk, PipeSays, Piped, Reply, Req, Role, Ruled, Saw, SeatOk, Seated, Setup, Some, State, Step, Submission, Thing, View, [], and_from, and_parts, and_right, ap, apart, arith, carried_after, claim_at, clock_of, cond, content, contents, dite, either, eq-eqb, eqb, eqb-true, events_of, exchanged, false, flow, flows_as, get_elem?, get_or, get_or-set_other, get_or-set_same, gives, holder, holders, inl, inr, is_holder, is_leaving, is_pipe, keeps, lays, leaves_one, length, length-set, lent, lying, ne_eqb, none, note_at, noted, owns, phase, pipe_at, pipe_left, pipe_left_first, pipe_left_last, pipe_returned, pipe_taken, refl, request_at, rest, same, same_itself, same_true, seeing, set, set-get_or, set_else, set_here, setup_of, slot_at, some, stands, stands_for, step, stepped, submission, submits, subst, suc, sym, takes, true, true≢false, uses_at, was_shut, ℕ, ℕ_discrete, ⊎_elim, ◌++◌, ◌+◌, ◌<◌, ◌==◌, ◌∙◌, ◌∷◌, ◌≡◌, ◌≢◌, ◌⊎◌}
+use Rattle.steps.proofs.Common.{Allows, At, Busy, Did, Entry, Event, Extends, Fair, Flow, Free, Full, HasAlone, HasBoth, HasPipe, HasPipeAfter, HasWaited, Heard, Hold, Home, Idle, IsHeard, IsHeldBy, IsPlaced, IsSamePipe, IsStep, Knows, Laid, Layout, Leaving, Legal, Lending, Line, List, Looks, MayLay, None, OpAnswers, Option, Orderly, Owner, Parting, PipeIs, PipeOk, PipeSays, Piped, Reply, Req, Role, Ruled, Saw, SeatOk, Seated, Setup, Some, State, Step, Submission, Thing, View, [], and_from, and_parts, and_right, answers, ap, apart, arith, claim_at, clock_of, cond, content, contents, dite, either, eq-eqb, eqb, eqb-true, events_of, exchanged, false, flow, flows_as, get_elem?, get_or, get_or-set_other, get_or-set_same, gives, holder, holders, inl, inr, is_holder, is_leaving, is_pipe, lays, leaves_one, length, length-set, lent, lying, ne_eqb, none, note_at, noted, owns, phase, pipe_at, pipe_left, pipe_left_first, pipe_left_last, pipe_returned, pipe_taken, refl, request_at, rest, same, same_itself, same_true, seeing, set, set_else, set_here, setup_of, slot_at, some, stands, stands_for, step, stepped, submission, submits, subst, suc, sym, takes, true, true≢false, uses_at, was_shut, ℕ, ℕ_discrete, ℤ, ⊎_elim, ◌++◌, ◌<◌, ◌==◌, ◌∙◌, ◌∷◌, ◌≡◌, ◌≢◌, ◌⊎◌}
 use Rattle.steps.proofs.Roles.{same_sym, idle_hands, idle_apart, idle_owns, none_of, parting_apart, parting_owns}
 use Rattle.steps.proofs.JournalGrowth.{about, lasts, legal_before, submitted_in, submission_lasts, placed_lasts}
 use Rattle.steps.proofs.Frames.{pipe_stays, still_lacks}
 use Rattle.steps.proofs.PipesKept.{still_has, still_waits}
-use Rattle.steps.proofs.RuleKept.{IsTick, LeavesGone, heard_more, heard_begin, gone_own, gone_same, at_now, run_set, held_set, lent_set, known_set, IsKnown, adds_else, owned, seat_sees, looks, made_at, made_with}
-use Rattle.steps.proofs.StepKinds.{tick, Does, There, shaped, busy_now, lacks_now, extends}
+use Rattle.steps.proofs.RuleKept.{St, IsTick, LeavesGone, heard_more, gone_own, gone_same, at_now, run_set, held_set, lent_set, known_set, IsKnown, adds_else, owned, seat_sees, made_with}
+use Rattle.steps.proofs.StepKinds.{told_as, word_stays, saw_all, tick, Does, There, shaped, busy_now, lacks_now, extends}
 
 -- what stands at a pipe's word and in its slot
 at_home : (L : Layout) (j : List Line) (p word : ℕ) (home : Home) (o : Option Req) → PipeSays L j p word home o → word ≡ 0 → (o ≡ None) × (x : Option Thing) × (home ≡ some (some x)) × PipeIs L p x (stands j p)
@@ -38,7 +38,6 @@ one_alone j p n q a b = dite (ℕ_discrete n p) (λ e. sym e) (λ ne. absurd (a.
 pub one_other : (j : List Line) (p n m : ℕ) (q : Req) → HasBoth j p n q → HasBoth j p m q → n ≡ m
 one_other j p n m q a b = dite (ℕ_discrete m n) (λ e. sym e) (λ ne. absurd (a.3 m (λ e. b.0 (sym e)) ne b.2))
 
--- and has them in either order
 pub both_turned : (j : List Line) (p n : ℕ) (q : Req) → HasBoth j p n q → HasBoth j n p q
 both_turned j p n q has = ((λ e. has.0 (sym e)), has.2, has.1, (λ m other ne. has.3 m ne other))
 
@@ -78,9 +77,6 @@ module _ (slots id : ℕ) (me : Seated) where
   abbrev L : Layout
   L = v.layout
 
-  abbrev St : Type 0
-  St = State (Option Thing) View
-
   -- what the worker of q has is still its own
   pub has_now : (s : St) (r : Ruled L s) → There slots id me s → (q : Req) (p : ℕ) → stands_for v.role (holders q p) ≡ true → is_pipe L.caps p ≡ true → holder v.seen p ≡ Some q → (holder r.past p ≡ Some q) × (stands r.past p ≡ stands v.seen p)
   has_now s r at q p mine there h = let seat = r.seats id v at in let x = still_has L v.role q p mine there (stands v.seen p) seat.saw.later v.seen (subst (Orderly L) seat.saw.is r.orderly) seat.saw.none (h, refl) in
@@ -115,7 +111,7 @@ module _ (slots id : ℕ) (me : Seated) where
     goes_on s r at l same t tick = seat_sees L (l ∷ r.past) t v v.role refl
         (λ c is. (let b = busy_now slots id me s r at c is in (b.0, ap (λ h. phase h c) same ∙ b.1))) (λ c is. absurd (true≢false (sym is ∙ ap (λ (z : Role). is_leaving z c) busy))) (λ c is. absurd (let y = sym busy ∙ is in cc)) (made_with L s r id v l t at tick)
 
-    hold_does : p < length L.caps → (s : St) (r : Ruled L s) → There slots id me s → get_or s.words (pipe_at p) 0 ≡ 0 → Does slots id me L s (pipe_at p) 1 (λ m'. Extends v (Hold q p) v.role m'.0 × HasPipe m' p me.1)
+    hold_does : p < length L.caps → (s : St) (r : Ruled L s) → There slots id me s → get_or s.words (pipe_at p) 0 ≡ 0 → Does slots id me s (pipe_at p) 1 (λ m'. Extends v (Hold q p) v.role m'.0 × HasPipe m' p me.1)
     hold_does there s r at is =
         let l : Line = Hold q p in let home = at_home L r.past p _ _ (holder r.past p) (r.pipes p small) is in let t = tick slots id me (pipe_at p) s (l ∷ r.past) in
         let w : View = seeing v v.role (l ∷ r.past) t in let c = a_pipe L p home.1 (stands r.past p) there home.3 in (
@@ -126,44 +122,28 @@ module _ (slots id : ℕ) (me : Seated) where
               (subst (PipeSays L (l ∷ r.past) p 1 (some maybe.none)) (sym (held_here r.past q p)) refl) (λ c is'. is') (λ c is'. is')
               (λ c is'. (let one : q ≡ c = (let z = sym (held_here r.past q p) ∙ is' in cc) in (id, w, at_now s.views id v w at, subst (λ (z : Req). stands_for v.role (holders z p) ≡ true) one mine))) (λ m c ne was own. own)
               (λ has k. (has, Rattle.std.proofs.Common.inl refl)),
-          (extends slots id me s r at l v.role r.legal r.live home.0 t (pipe_at p, get_or s.words (pipe_at p) 0, refl), (c.0, ap (λ (o : Option Thing). (p, o) ∷ me.1) c.1, subst (λ (o : Option Thing). PipeIs L p o (stands r.past p)) c.1 home.3)),
+          (extends slots id me s r at (pipe_at p) l v.role r.legal r.live home.0, (c.0, ap (λ (o : Option Thing). (p, o) ∷ me.1) c.1, subst (λ (o : Option Thing). PipeIs L p o (stands r.past p)) c.1 home.3)),
           refl,
         )
 
     -- a miss is a look that found who has the pipe
-    misses : (s : St) (r : Ruled L s) → There slots id me s → get_or s.words (pipe_at p) 0 ≢ 0 → Does slots id me L s (pipe_at p) (get_or s.words (pipe_at p) 0) (λ m'. Looks v m'.0 × (m'.1 ≡ me.1) × (o : Req) × (holder m'.0.seen p ≡ Some o))
-    misses s r at ne = let t = tick slots id me (pipe_at p) s r.past in let seat = r.seats id v at in (
-      seeing v v.role r.past t,
-      keeps,
-      tt,
-      looks L s r id v (pipe_at p) (get_or s.words (pipe_at p) 0) t (pipe_at p, get_or s.words (pipe_at p) 0, refl) at refl (busy_now slots id me s r at) (set-get_or s.words (pipe_at p) 0),
-      (let o = is_out L r.past p _ _ (holder r.past p) (r.pipes p small) ne in (record { now = r.past; saw = seat.saw; heard = heard_begin r.past v.heard seat.heard; legal = r.legal; live = r.live; orderly = r.orderly; steps = t; made = made_at L s r id v t at (pipe_at p, get_or s.words (pipe_at p) 0, refl); is = refl }, refl, o.0, o.1)),
-      refl,
-    )
+    misses : (s : St) (r : Ruled L s) → There slots id me s → get_or s.words (pipe_at p) 0 ≢ 0 → Does slots id me s (pipe_at p) (get_or s.words (pipe_at p) 0) (λ m'. Looks v m'.0 × (m'.1 ≡ me.1) × (o : Req) × (holder m'.0.seen p ≡ Some o))
+    misses s r at ne = let o = is_out L r.past p _ _ (holder r.past p) (r.pipes p small) ne in
+        word_stays slots id me (pipe_at p) s r at (λ m. Looks v m.0 × (m.1 ≡ me.1) × (c : Req) × (holder m.0.seen p ≡ Some c)) (saw_all slots id me s r at (pipe_at p), refl, o.0, o.1)
 
     pub hold_allows : (M : Layout) → p < length L.caps → Allows (Ruled M) slots id me (pipe_at p) (λ n. either (eqb n 0) 1 n) (pipe_taken (step slots (pipe_at p) 0 1 none) me)
-    hold_allows M there = shaped slots id me M (pipe_at p) (λ n. either (eqb n 0) 1 n) (pipe_taken (step slots (pipe_at p) 0 1 none) me) (λ z. (let y = sym busy ∙ z in cc))
-        (λ s r at. exchanged (get_or s.words (pipe_at p) 0) 0 1 (λ m. Does slots id me L s (pipe_at p) m (pipe_taken (step slots (pipe_at p) 0 1 none) me (get_or s.words (pipe_at p) 0)))
-        (λ hit. let d = hold_does there s r at hit in (
-          d.0,
-          d.1,
-          d.2,
-          d.3,
-          (
-            (λ _ n c here few is. let one : p ≡ n = omega arith in let who : q ≡ c = (let z = sym busy ∙ is in cc) in subst (λ (z : ℕ × Req). Extends v (Hold z.1 z.0) v.role d.0 × HasPipe (d.0, carried_after me.1 d.1) z.0 me.1) (λ i. (one i, who i)) d.4),
-            (λ ne. absurd (ne hit)),
-            d.5,
-          ),
-          d.5,
-        ))
-        (λ ne. let d = misses s r at ne in (
-          d.0,
-          d.1,
-          d.2,
-          d.3,
-          ((λ e. absurd (ne e)), (λ _. (d.4.0, d.4.1, λ n here. (let one : p ≡ n = omega arith in subst (λ (z : ℕ). (o : Req) × (holder d.0.seen z ≡ Some o)) one (d.4.2, d.4.3)))), d.5),
-          d.5,
-        )))
+    hold_allows M there = let st : At = step slots (pipe_at p) 0 1 none in shaped slots id me M (pipe_at p) (λ n. either (eqb n 0) 1 n) (pipe_taken st me) (λ z. (let y = sym busy ∙ z in cc))
+        (λ s r at. let n : ℕ = get_or s.words (pipe_at p) 0 in exchanged n 0 1 (λ m. Does slots id me s (pipe_at p) m (pipe_taken st me n))
+        (λ hit. told_as slots id me s (pipe_at p) 1 (λ m. Extends v (Hold q p) v.role m.0 × HasPipe m p me.1) (pipe_taken st me n) (λ m d last. (
+          (λ _ k c here few is. let one : p ≡ k = omega arith in let who : q ≡ c = (let z = sym busy ∙ is in cc) in subst (λ (z : ℕ × Req). Extends v (Hold z.1 z.0) v.role m.0 × HasPipe m z.0 me.1) (λ i. (one i, who i)) d),
+          (λ ne. absurd (ne hit)),
+          last,
+        )) (hold_does there s r at hit))
+        (λ ne. told_as slots id me s (pipe_at p) n (λ m. Looks v m.0 × (m.1 ≡ me.1) × (c : Req) × (holder m.0.seen p ≡ Some c)) (pipe_taken st me n) (λ m d last. (
+          (λ e. absurd (ne e)),
+          (λ _. (d.0, d.1, λ k here. (let one : p ≡ k = omega arith in subst (λ (z : ℕ). (o : Req) × (holder m.0.seen z ≡ Some o)) one (d.2, d.3)))),
+          last,
+        )) (misses s r at ne)))
 
     -- FREE, before a reply
     module _ (laid : Laid) (c : WaitedPipe) (there : is_pipe L.caps p ≡ true) (has : holder v.seen p ≡ Some q) (may : MayLay L.caps (events_of v.seen) q p laid) (out : me.1 ≡ (p, Some (Piped c)) ∷ rest me.1) (good : PipeIs L p (Some (Piped c)) (flow (events_of v.seen) p, lays laid q (lying v.seen p))) where
@@ -171,7 +151,7 @@ module _ (slots id : ℕ) (me : Seated) where
       may_now s r at NoRequest k = tt
       may_now s r at how k = waits_now s r at q p mine there has q k
 
-      free_does : (s : St) (r : Ruled L s) → There slots id me s → Does slots id me L s (pipe_at p) 0 (pipe_returned laid (step slots (pipe_at p) 0 0 none) me 0)
+      free_does : (s : St) (r : Ruled L s) → There slots id me s → Does slots id me s (pipe_at p) 0 (pipe_returned laid (step slots (pipe_at p) 0 0 none) me 0)
       free_does s r at =
           let l : Line = Free q p laid in let t = tick slots id me (pipe_at p) s (l ∷ r.past) in let w : View = seeing v v.role (l ∷ r.past) t in let now' = has_now s r at q p mine there has in
           let none' = freed_here r.past q p laid in let fair : Fair L r.past l = (now'.0, may_now s r at laid may) in (
@@ -183,7 +163,7 @@ module _ (slots id : ℕ) (me : Seated) where
                 (subst (PipeSays L (l ∷ r.past) p 0 (some (some (Some (Piped c))))) (sym none') (refl, Some (Piped c), refl, subst (PipeIs L p (Some (Piped c))) (sym (laid_here r.past q p laid ∙ ap (λ (z : Flow × List Req). (z.0, lays laid q z.1)) now'.1)) good)) (λ c is'. is') (λ c is'. is')
                 (λ c is'. absurd (let z = sym none' ∙ is' in cc)) (λ m c ne was own. own) (λ has' k. (has', Rattle.std.proofs.Common.inl refl))),
             (λ n d here is has'. let one : p ≡ n = omega arith in let who : q ≡ d = (let z = sym busy ∙ is in cc) in
-                subst (λ (z : ℕ × Req). Extends v (Free z.1 z.0 laid) v.role w × (rest me.1 ≡ rest me.1) × ((found : ℕ) × IsStep (pipe_at p) found v w)) (λ i. (one i, who i)) (extends slots id me s r at l v.role r.legal r.live fair t (pipe_at p, get_or s.words (pipe_at p) 0, refl), refl, (get_or s.words (pipe_at p) 0, refl))),
+                subst (λ (z : ℕ × Req). Extends v (Free z.1 z.0 laid) v.role w × (rest me.1 ≡ rest me.1) × ((found : ℕ) × IsStep (pipe_at p) found v w)) (λ i. (one i, who i)) (extends slots id me s r at (pipe_at p) l v.role r.legal r.live fair, refl, (get_or s.words (pipe_at p) 0, refl))),
             refl,
           )
 
@@ -200,15 +180,15 @@ module _ (slots id : ℕ) (me : Seated) where
     over : (d : Req) → (v.role ≢ Busy d) × (next ≢ Busy d) × (v.role ≢ Lending d) × (next ≢ Lending d)
     others : (m : ℕ) (d : Req) → m ≢ p → stands_for v.role (holders d m) ≡ true → (stands_for next (holders d m) ≡ true) ⊎ (holder v.seen m ≢ Some d)
 
-  module _ (q : Req) (p : ℕ) (next : Role) (k : GivesUp q p next) (small : p < 64) (c : WaitedPipe) (there : is_pipe L.caps p ≡ true) (has : holder v.seen p ≡ Some q) (out : me.1 ≡ (p, Some (Piped c)) ∷ rest me.1) (good : PipeIs L p (Some (Piped c)) (stands v.seen p)) where
-    -- the view after it, which has seen no more
-    abbrev given_up : ℕ → View
-    given_up found = record v { role = next; steps = record { word = pipe_at p; found = found; seen = v.seen } ∷ v.steps }
+  -- the view after it, which has seen no more
+  abbrev given_up : ℕ → Role → ℕ → View
+  given_up p next found = record v { role = next; steps = record { word = pipe_at p; found = found; seen = v.seen } ∷ v.steps }
 
-    abbrev GivenUp : Seated → Type 0
-    GivenUp m' = (found : ℕ) × (m'.0 ≡ given_up found) × (m'.1 ≡ rest me.1)
+  abbrev GivenUp : ℕ → Role → Seated → Type 0
+  GivenUp p next m = (found : ℕ) × (m.0 ≡ given_up p next found) × (m.1 ≡ rest me.1)
 
-    given_up_ok : (s : St) (r : Ruled L s) → There slots id me s → SeatOk L (Free q p NoRequest ∷ r.past) (given_up (get_or s.words (pipe_at p) 0))
+  module _ (q : Req) (p : ℕ) (next : Role) (k : GivesUp q p next) (small : p < 64) (there : is_pipe L.caps p ≡ true) (has : holder v.seen p ≡ Some q) (top : HasPipe me p (rest me.1)) where
+    given_up_ok : (s : St) (r : Ruled L s) → There slots id me s → SeatOk L (Free q p NoRequest ∷ r.past) (given_up p next (get_or s.words (pipe_at p) 0))
     given_up_ok s r at = let l : Line = Free q p NoRequest in let seat = r.seats id v at in record {
       layout = λ _. refl;
       saw = record { later = l ∷ seat.saw.later; is = ap (λ (j : List Line). l ∷ j) seat.saw.is; none = (k.off, none_of v.role next k.fewer seat.saw.later seat.saw.none) };
@@ -219,16 +199,16 @@ module _ (slots id : ℕ) (me : Seated) where
       lending = λ d is. absurd ((k.over d).3 is);
     }
 
-    gives_up : (s : St) (r : Ruled L s) → There slots id me s → Does slots id me L s (pipe_at p) 0 GivenUp
+    gives_up : (s : St) (r : Ruled L s) → There slots id me s → Does slots id me s (pipe_at p) 0 (GivenUp p next)
     gives_up s r at =
-        let l : Line = Free q p NoRequest in let n : ℕ = get_or s.words (pipe_at p) 0 in let w : View = given_up n in let now' = has_now s r at q p k.works there has in let none' = freed_here r.past q p NoRequest in (
+        let l : Line = Free q p NoRequest in let n : ℕ = get_or s.words (pipe_at p) 0 in let w : View = given_up p next n in let now' = has_now s r at q p k.works there has in let none' = freed_here r.past q p NoRequest in (
           w,
           gives,
           tt,
-          subst (λ (cs : List (ℕ × Option Thing)). Ruled L (stepped s (pipe_at p) 0 id cs w gives)) (sym out)
-              (pipe_line L s r id v w at p small l (λ j. refl) (λ j i. refl) (λ j c. refl) (λ c. refl) (freed_else r.past q p NoRequest) 0 (some (Some (Piped c))) (now'.0, tt) (given_up_ok s r at) refl (gone_own v.role next l k.works k.spread) (λ y h. h)
+          subst (λ (cs : List (ℕ × Option Thing)). Ruled L (stepped s (pipe_at p) 0 id cs w gives)) (sym top.1)
+              (pipe_line L s r id v w at p small l (λ j. refl) (λ j i. refl) (λ j c. refl) (λ c. refl) (freed_else r.past q p NoRequest) 0 (some (Some (Piped top.0))) (now'.0, tt) (given_up_ok s r at) refl (gone_own v.role next l k.works k.spread) (λ y h. h)
               (λ i u other at'. (let o = owned L s r id v l at k.works i u other at' in (o.0, k.spread u.role o.1)))
-              (subst (PipeSays L (l ∷ r.past) p 0 (some (some (Some (Piped c))))) (sym none') (refl, Some (Piped c), refl, subst (PipeIs L p (Some (Piped c))) (sym (laid_here r.past q p NoRequest ∙ now'.1)) good))
+              (subst (PipeSays L (l ∷ r.past) p 0 (some (some (Some (Piped top.0))))) (sym none') (refl, Some (Piped top.0), refl, subst (PipeIs L p (Some (Piped top.0))) (sym (laid_here r.past q p NoRequest ∙ now'.1)) top.2))
               (λ d is'. absurd ((k.over d).0 is')) (λ d is'. absurd ((k.over d).2 is'))
               (λ d is'. absurd (let z = sym none' ∙ is' in cc))
               (λ m d ne was own. ⊎_elim (λ (y : stands_for next (holders d m) ≡ true). y) (λ (lacks : holder v.seen m ≢ Some d). absurd (lacks_now slots id me s r at d m own lacks was)) (k.others m d ne own)) (λ has' h. (has', h))),
@@ -257,13 +237,9 @@ module _ (slots id : ℕ) (me : Seated) where
       others = λ m d ne own. inr (subst (λ (z : Req). holder v.seen m ≢ Some z) (only d m own) (has.1 m ne));
     }
 
-    leave_does : (p : ℕ) (small : p < 64) (c : WaitedPipe) (there : is_pipe L.caps p ≡ true) (has : HasAlone v.seen p q) (out : me.1 ≡ (p, Some (Piped c)) ∷ rest me.1) (good : PipeIs L p (Some (Piped c)) (stands v.seen p))
-        → (s : St) (r : Ruled L s) → There slots id me s → Does slots id me L s (pipe_at p) 0 (pipe_left (step slots (pipe_at p) 0 0 none) me 0)
-    leave_does p small c there has out good s r at = let d = gives_up q p Idle (gives_alone p has) small c there has.0 out good s r at in (d.0, d.1, d.2, d.3, (λ m e here is has'. d.4), d.5)
-
-    pub leave_allows : (p : ℕ) (small : p < 64) (c : WaitedPipe) (there : is_pipe L.caps p ≡ true) (has : HasAlone v.seen p q) (out : me.1 ≡ (p, Some (Piped c)) ∷ rest me.1) (good : PipeIs L p (Some (Piped c)) (stands v.seen p))
-        → (M : Layout) → Allows (Ruled M) slots id me (pipe_at p) (λ _. 0) (λ _. pipe_left (step slots (pipe_at p) 0 0 none) me 0)
-    leave_allows p small c there has out good M = shaped slots id me M (pipe_at p) (λ _. 0) (λ _. pipe_left (step slots (pipe_at p) 0 0 none) me 0) (λ z. (let y = sym leaving ∙ z in cc)) (leave_does p small c there has out good)
+    pub leave_allows : (p : ℕ) → p < 64 → is_pipe L.caps p ≡ true → HasAlone v.seen p q → HasPipe me p (rest me.1) → (M : Layout) → Allows (Ruled M) slots id me (pipe_at p) (λ _. 0) (λ _. pipe_left (step slots (pipe_at p) 0 0 none) me 0)
+    leave_allows p small there has top M = let then : Seated → Type 0 = pipe_left (step slots (pipe_at p) 0 0 none) me 0 in shaped slots id me M (pipe_at p) (λ _. 0) (λ _. then) (λ z. (let y = sym leaving ∙ z in cc))
+        (λ s r at. told_as slots id me s (pipe_at p) 0 (GivenUp p Idle) then (λ m d _ n e here is has'. d) (gives_up q p Idle (gives_alone p has) small there has.0 top s r at))
 
     -- it gives one of its two pipes back, and has the other alone
     gives_one : (p n : ℕ) → HasBoth v.seen p n q → GivesUp q p (Parting q n)
@@ -279,19 +255,11 @@ module _ (slots id : ℕ) (me : Seated) where
           (λ other. inr (subst (λ (z : Req). holder v.seen m ≢ Some z) (only d m own) (has.3 m ne other)));
     }
 
-    pub leave_first_allows : (p n : ℕ) (small : p < 64) (c : WaitedPipe) (there : is_pipe L.caps p ≡ true) (has : HasBoth v.seen p n q) (out : me.1 ≡ (p, Some (Piped c)) ∷ rest me.1) (good : PipeIs L p (Some (Piped c)) (stands v.seen p))
-        → (M : Layout) → Allows (Ruled M) slots id me (pipe_at p) (λ _. 0) (λ _. pipe_left_first (step slots (pipe_at p) 0 0 none) me 0)
-    leave_first_allows p n small c there has out good M = shaped slots id me M (pipe_at p) (λ _. 0) (λ _. pipe_left_first (step slots (pipe_at p) 0 0 none) me 0) (λ z. (let y = sym leaving ∙ z in cc))
-        (λ s r at. (let d = gives_up q p (Parting q n) (gives_one p n has) small c there has.1 out good s r at in (
-          d.0,
-          d.1,
-          d.2,
-          d.3,
-          (λ p' n' e here is both. (let one : p ≡ p' = omega arith in let who : q ≡ e = (let z = sym leaving ∙ is in cc) in
-              let kept : n ≡ n' = one_other v.seen p n n' q has (subst (λ (z : ℕ × Req). HasBoth v.seen z.0 n' z.1) (λ i. (sym one i, sym who i)) both) in
-              subst (λ (z : Req × ℕ). (found : ℕ) × (d.0 ≡ leaves_one z.0 z.1 (pipe_at p) found v) × (carried_after me.1 d.1 ≡ rest me.1)) (λ i. (who i, kept i)) d.4)),
-          d.5,
-        )))
+    pub leave_first_allows : (p n : ℕ) → p < 64 → is_pipe L.caps p ≡ true → HasBoth v.seen p n q → HasPipe me p (rest me.1) → (M : Layout) → Allows (Ruled M) slots id me (pipe_at p) (λ _. 0) (λ _. pipe_left_first (step slots (pipe_at p) 0 0 none) me 0)
+    leave_first_allows p n small there has top M = let then : Seated → Type 0 = pipe_left_first (step slots (pipe_at p) 0 0 none) me 0 in shaped slots id me M (pipe_at p) (λ _. 0) (λ _. then) (λ z. (let y = sym leaving ∙ z in cc))
+        (λ s r at. told_as slots id me s (pipe_at p) 0 (GivenUp p (Parting q n)) then (λ m d _ p' n' e here is both. let one : p ≡ p' = omega arith in let who : q ≡ e = (let z = sym leaving ∙ is in cc) in
+        let kept : n ≡ n' = one_other v.seen p n n' q has (subst (λ (z : ℕ × Req). HasBoth v.seen z.0 n' z.1) (λ i. (sym one i, sym who i)) both) in
+        subst (λ (z : Req × ℕ). (found : ℕ) × (m.0 ≡ leaves_one z.0 z.1 (pipe_at p) found v) × (m.1 ≡ rest me.1)) (λ i. (who i, kept i)) d) (gives_up q p (Parting q n) (gives_one p n has) small there has.1 top s r at))
 
   -- the worker of q, which has replied, and of two pipes has given back one
   module _ (q : Req) (p : ℕ) (parting : v.role ≡ Parting q p) where
@@ -306,10 +274,9 @@ module _ (slots id : ℕ) (me : Seated) where
       others = λ m d ne own. absurd (ne (sym (eqb-true p m (and_parts (same d q) (p == m) (subst (λ (z : Role). stands_for z (holders d m) ≡ true) parting own)).1)));
     }
 
-    pub leave_last_allows : (small : p < 64) (c : WaitedPipe) (there : is_pipe L.caps p ≡ true) (has : holder v.seen p ≡ Some q) (out : me.1 ≡ (p, Some (Piped c)) ∷ rest me.1) (good : PipeIs L p (Some (Piped c)) (stands v.seen p))
-        → (M : Layout) → Allows (Ruled M) slots id me (pipe_at p) (λ _. 0) (λ _. pipe_left_last (step slots (pipe_at p) 0 0 none) me 0)
-    leave_last_allows small c there has out good M = shaped slots id me M (pipe_at p) (λ _. 0) (λ _. pipe_left_last (step slots (pipe_at p) 0 0 none) me 0) (λ z. (let y = sym parting ∙ z in cc))
-        (λ s r at. (let d = gives_up q p Idle gives_last small c there has out good s r at in (d.0, d.1, d.2, d.3, (λ m e here is. d.4), d.5)))
+    pub leave_last_allows : p < 64 → is_pipe L.caps p ≡ true → holder v.seen p ≡ Some q → HasPipe me p (rest me.1) → (M : Layout) → Allows (Ruled M) slots id me (pipe_at p) (λ _. 0) (λ _. pipe_left_last (step slots (pipe_at p) 0 0 none) me 0)
+    leave_last_allows small there has top M = let then : Seated → Type 0 = pipe_left_last (step slots (pipe_at p) 0 0 none) me 0 in shaped slots id me M (pipe_at p) (λ _. 0) (λ _. then) (λ z. (let y = sym parting ∙ z in cc))
+        (λ s r at. told_as slots id me s (pipe_at p) 0 (GivenUp p Idle) then (λ m d _ n e here is. d) (gives_up q p Idle gives_last small there has top s r at))
 
 -- ---- what a view keeps of its pipes between two steps of one call
 

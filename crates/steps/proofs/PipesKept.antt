@@ -1,6 +1,6 @@
 -- A pipe that a worker has stays with it, and nobody else changes what is in it. A reply hangs on the pipe that its entry names, and changes no other.
 use Rattle.std.specs.Prelude.{◌&&◌}
-use Rattle.steps.proofs.Common.{Answer, AsyncCancel, Bool, CancelBy, Close, Did, End, Entry, Event, Fair, Flow, Free, HasWaited, Hold, Invalid, IsPlaced, Layout, Line, List, None, NoneOf, Nop, Op, OpAnswers, Option, Orderly, PollAdd, Read, Reply, Req, Role, Some, Splice, Submission, TimeoutRemove, Write, [], answer_poll, answer_read, answer_splice, answer_write, ap, append-nil, arith, bad_end, bool_cases, close_of, closes, cond, contents, end_of, eq-eqb, eqb-true, events_of, false, flow, flows, flows_as, hit, holder, holders, inr, is_at, is_holder, is_pipe, is_steady, is_zero, lays, lying, moves, ne_eqb, negsuc, no_end, not, now, offered, owns, placed, poll_of, pos, read_end, read_events, read_from, reads, refl, same_false, slice_index, splice_of, stands, stands_for, submission, subst, sym, take, true, true≢false, uses_at, uses_at_in, write_end, write_events, write_to, writes, ℕ, ℤ, ⊎_elim, ◌++◌, ◌+◌, ◌==◌, ◌||◌, ◌∙◌, ◌∷◌, ◌≡◌, ◌≢◌}
+use Rattle.steps.proofs.Common.{Answer, AsyncCancel, Bool, CancelBy, Close, Did, End, Entry, Event, Fair, Flow, Free, HasWaited, Hold, Invalid, IsPlaced, Layout, Line, List, None, NoneOf, Nop, Op, OpAnswers, Option, Orderly, PollAdd, Read, Reply, Req, Role, Some, Splice, Submission, TimeoutRemove, Write, [], answer_poll, answer_read, answer_splice, answer_write, ap, append-nil, arith, bad_end, bool_cases, close_of, closes, cond, contents, end_of, eq-eqb, eqb-true, events_of, false, flow, flows, flows_as, hit, holder, holders, inr, is_at, is_holder, is_pipe, is_steady, is_zero, lays, lying, ne_eqb, negsuc, no_end, not, now, offered, owns, placed, poll_of, pos, read_end, read_events, read_from, reads, refl, same_false, slice_index, splice_of, stands, stands_for, submission, subst, sym, take, true, true≢false, uses_at, uses_at_in, write_end, write_events, write_to, writes, ℕ, ℤ, ⊎_elim, ◌++◌, ◌+◌, ◌==◌, ◌||◌, ◌∙◌, ◌∷◌, ◌≡◌, ◌≢◌}
 use Rattle.steps.proofs.Roles.{idle_hands}
 
 -- ---- what a reply leaves alone

@@ -1,15 +1,15 @@
 -- How a worker ends with a request: by a reply, with the pipe that its entry names or without one, or by parking it.
-use Rattle.steps.proofs.Common.{Allows, Busy, Did, Done, Entry, Event, Extends, Flow, Full, Idle, IsCell, IsParcel, IsPlaced, IsReplied, Layout, Leaving, Legal, Line, List, MayReply, OpAnswers, Option, Parcel, Park, Ready, Reply, Req, Role, Ruled, Running, Seated, Setup, Some, State, Thing, View, [], ap, apart, arith, by_reply, cause_bits, claim_at, either, eqb, events_of, fails, false, flow, get_or, gives, hit, holder, holders, inr, is_pipe, length-set, lent, none, nothing, owns, parked, phase, refl, replied, replied_with, reply_bits, request_at, rest, runs, same_itself, same_true, set, set_else, set_here, setup_of, slot_at, some, stands_for, step, submission, submits, subst, sure, sym, true, uses_at, uses_at_in, waits, word_of, ℕ, ℤ, ◌<◌, ◌∙◌, ◌∷◌, ◌≡◌, ◌≢◌}
-use Rattle.steps.proofs.CellNumbers.{other_cell, other_age, one_word, one_result}
+use Rattle.steps.proofs.Common.{Allows, Busy, Did, Done, Entry, Event, Extends, Flow, Full, Idle, IsCell, IsParcel, IsPlaced, IsReplied, Layout, Leaving, Legal, Line, List, MayReply, OpAnswers, Parcel, Park, Ready, Reply, Req, Role, Ruled, Running, Seated, Setup, Some, View, [], ap, apart, arith, by_reply, cause_bits, claim_at, either, eqb, events_of, fails, false, flow, get_or, hit, holder, holders, inr, is_pipe, lent, none, nothing, owns, parked, phase, refl, replied, replied_with, reply_bits, request_at, rest, runs, same_itself, same_true, setup_of, stands_for, step, submission, submits, subst, sure, sym, true, uses_at, uses_at_in, waits, word_of, ℕ, ℤ, ◌<◌, ◌∙◌, ◌∷◌, ◌≡◌, ◌≢◌}
+use Rattle.steps.proofs.CellNumbers.{one_word, one_result}
 use Rattle.steps.proofs.CancelsKept.{hit_now, cancel_now}
 use Rattle.steps.proofs.PipesKept.{answer_stays, one_data, reply_leaves}
 use Rattle.steps.proofs.PipeSteps.{has_now}
 use Rattle.steps.proofs.Roles.{idle_apart, leaving_apart}
 use Rattle.steps.proofs.JournalGrowth.{begins, ran, counted_in, submission_lasts, placed_lasts}
-use Rattle.steps.proofs.Frames.{may_stays, ages_stay, done_keeps}
+use Rattle.steps.proofs.Frames.{may_stays, done_keeps}
 use Rattle.steps.proofs.ClaimWords.{says_of, running_word, cause_fits}
-use Rattle.steps.proofs.RuleKept.{Calm, Turns, gone_own, adds_claim, owned}
-use Rattle.steps.proofs.StepKinds.{now_is, tick, with_line, Does, There, seen_legal, lasts_now, busy_now, extends, ends_run, sures, Out, home_again}
+use Rattle.steps.proofs.RuleKept.{St, Calm, Turns, gone_own, owned}
+use Rattle.steps.proofs.StepKinds.{slot_comes, told_as, now_is, Does, There, seen_legal, lasts_now, busy_now, ends_run, sures, Out}
 use Rattle.steps.proofs.LoadReleaseBegin.{quiet_line}
 
 module _ (slots id : ℕ) (me : Seated) where
@@ -24,9 +24,6 @@ module _ (slots id : ℕ) (me : Seated) where
 
   abbrev S : Setup
   S = setup_of L
-
-  abbrev St : Type 0
-  St = State (Option Thing) View
 
   -- the parcel in the hand, as it was handed in
   parcel_now : (s : St) (r : Ruled L s) → There slots id me s → (q : Req) (data' : List ℕ) (p : Parcel) → q.k < submits (events_of v.seen) q.ring → IsParcel v.seen q data' p → IsParcel r.past q data' p
@@ -86,36 +83,22 @@ module _ (slots id : ℕ) (me : Seated) where
       legal_now' s r at = ((r.live, ((running_now s r at).1, (e, entry_now s r at, answer_now s r at))), r.legal)
 
       reply_does : (b old new : ℕ) → Ends → ((u : Role) → apart (Busy q) u ≡ true → apart (after q) u ≡ true) → new ≡ word_of Done (cause_bits by_reply (fails e res)) g b → b < 4294967296 → reply_bits res b
-          → (s : St) (r : Ruled L s) → There slots id me s → (get_or s.words (claim_at x) 0 ≡ word_of Running 0 g 0) × Does slots id me L s (claim_at x) new (replied_with after (step slots (claim_at x) old new none) me x q)
+          → (s : St) (r : Ruled L s) → There slots id me s → (get_or s.words (claim_at x) 0 ≡ word_of Running 0 g 0) × Does slots id me s (claim_at x) new (replied_with after (step slots (claim_at x) old new none) me x q)
       reply_does b old new ends spread is_new fb bits s r at =
-          let l : Line = Did (Reply q res data') in let now = running_now s r at in let k = entry_now s r at in let w : View = with_line slots id me (claim_at x) s r.past l (after q) in
+          let l : Line = Did (Reply q res data') in let now = running_now s r at in let k = entry_now s r at in
           let here = says_of K r.past x _ _ Running 0 g 0 (r.cells x inside) now.2 (omega arith) f (omega arith) in let given' = parcel_now s r at q data' p now.0 given in
           let legal = legal_now' s r at in (
             now.2,
-            (
-              w,
-              gives,
-              tt,
-              home_again slots id me x new (Some (Full p)) s w out (adds_claim L s r id v (after q) x new (set s.homes (slot_at x) (some (Some (Full p)))) l (tick slots id me (claim_at x) s (l ∷ r.past)) ((claim_at x), get_or s.words (claim_at x) 0, refl) inside refl (calm s r at)
-                  (ends s r at legal) legal at
-                  (λ i u other there. (let o = owned L s r id v l at (own_line l (same_itself q)) i u other there in (o.0, spread u.role (subst (λ (z : Role). apart z u.role ≡ true) busy o.1))))
-                  (λ y h other m. other_cell K x y g m inside h other) (λ w. refl) (length-set s.homes (slot_at x) (some (Some (Full p)))) (λ y other. set_else s.homes (slot_at x) y (some (Some (Full p))) other) record {
-                    tag = Done;
-                    cause = cause_bits by_reply (fails e res);
-                    gen = g;
-                    payload = b;
-                    fits = (cause_fits by_reply (fails e res), f, fb);
-                    word_is = is_new;
-                    says = (by_reply, res, e, done (events_of r.past), bits, k, refl, λ _. done_keeps (Reply q res data') r.past q _ (same_itself q) (p, set_here s.homes (slot_at x) (some (Some (Full p))) (r.deep x inside), given'));
-                    ages = ages_stay S l r.past legal K x g (λ n other. other_age K x g n inside other) here.1;
-                  }),
-              (λ g' c' b' res' e' d fg' fc' fb' bits' second placed' answer'. let o = one_word Done Done (cause_bits by_reply (fails e res)) g b c' g' b' (cause_fits by_reply (fails e res)) f fb fc' fg' fb' (sym is_new ∙ second) in
-                  let same_res : res ≡ res' = one_result res res' b bits (subst (reply_bits res') (sym o.3) bits') in let same_entry : e ≡ e' = (let z = sym may.placed_is ∙ placed' in cc) in
-                  let a : OpAnswers L.caps (events_of v.seen) q e.op res d = subst (λ (z : ℤ). OpAnswers L.caps (events_of v.seen) q e.op z d) (sym same_res) (subst (λ (z : Entry). OpAnswers L.caps (events_of v.seen) q z.op res' d) (sym same_entry) answer') in
-                  let same_data : data' ≡ d = one_data L.caps (events_of v.seen) q e.op res data' d may.answers a in
-                  subst (λ (z : ℤ × List ℕ). Extends v (Did (Reply q z.0 z.1)) (after q) w × (rest me.1 ≡ rest me.1)) (λ i. (same_res i, same_data i)) (extends slots id me s r at l (after q) legal r.live (calm s r at).fair (tick slots id me (claim_at x) s (l ∷ r.past)) ((claim_at x), get_or s.words (claim_at x) 0, refl), refl)),
-              refl,
-            ),
+            told_as slots id me s (claim_at x) new (λ m. Extends v l (after q) m.0 × (m.1 ≡ rest me.1)) (replied_with after (step slots (claim_at x) old new none) me x q)
+                (λ m told _ g' c' b' res' e' d fg' fc' fb' bits' second placed' answer'. let o = one_word Done Done (cause_bits by_reply (fails e res)) g b c' g' b' (cause_fits by_reply (fails e res)) f fb fc' fg' fb' (sym is_new ∙ second) in
+                let same_res : res ≡ res' = one_result res res' b bits (subst (reply_bits res') (sym o.3) bits') in let same_entry : e ≡ e' = (let z = sym may.placed_is ∙ placed' in cc) in
+                let a : OpAnswers L.caps (events_of v.seen) q e.op res d = subst (λ (z : ℤ). OpAnswers L.caps (events_of v.seen) q e.op z d) (sym same_res) (subst (λ (z : Entry). OpAnswers L.caps (events_of v.seen) q z.op res' d) (sym same_entry) answer') in
+                let same_data : data' ≡ d = one_data L.caps (events_of v.seen) q e.op res data' d may.answers a in
+                subst (λ (z : ℤ × List ℕ). Extends v (Did (Reply q z.0 z.1)) (after q) m.0 × (m.1 ≡ rest me.1)) (λ i. (same_res i, same_data i)) told)
+                (slot_comes slots id me s r at x g new inside l (after q) (λ c. refl) (λ w. refl) (calm s r at) (ends s r at legal) legal
+                (λ i u other there. (let o = owned L s r id v l at (own_line l (same_itself q)) i u other there in (o.0, spread u.role (subst (λ (z : Role). apart z u.role ≡ true) busy o.1))))
+                Done (cause_bits by_reply (fails e res)) b (cause_fits by_reply (fails e res), f, fb) is_new here.1 (Some (Full p)) out
+                (by_reply, res, e, done (events_of r.past), bits, k, refl, λ _. done_keeps (Reply q res data') r.past q _ (same_itself q) (p, refl, given'))),
           )
 
       allows : (M : Layout) (b old new : ℕ) → Ends → ((u : Role) → apart (Busy q) u ≡ true → apart (after q) u ≡ true) → old ≡ word_of Running 0 g 0 → new ≡ word_of Done (cause_bits by_reply (fails e res)) g b → b < 4294967296 → reply_bits res b
@@ -136,33 +119,17 @@ module _ (slots id : ℕ) (me : Seated) where
         (λ s r at legal. leaves_run s r at (Did (Reply q res data')) q (own_line (Did (Reply q res data')) (same_itself q)) refl legal busy (subst IsReplied (sym (done Leaving e res may (events_of r.past))) tt) (λ _. refl)) (leaving_apart q) is_old is_new fb bits
 
     -- PARK
-    park_does : (old new : ℕ) → hit (events_of v.seen) q ≡ nothing → data' ≡ [] → ((n : ℕ) → holder v.seen n ≢ Some q) → new ≡ word_of Ready 0 g 0 → (s : St) (r : Ruled L s) → There slots id me s → (get_or s.words (claim_at x) 0 ≡ word_of Running 0 g 0) × Does slots id me L s (claim_at x) new (parked (step slots (claim_at x) old new none) me x q)
+    park_does : (old new : ℕ) → hit (events_of v.seen) q ≡ nothing → data' ≡ [] → ((n : ℕ) → holder v.seen n ≢ Some q) → new ≡ word_of Ready 0 g 0 → (s : St) (r : Ruled L s) → There slots id me s → (get_or s.words (claim_at x) 0 ≡ word_of Running 0 g 0) × Does slots id me s (claim_at x) new (parked (step slots (claim_at x) old new none) me x q)
     park_does old new unhit none' bare is_new s r at =
         let fair : hit (events_of r.past) q ≡ nothing = hit_now slots id me q busy s r at ∙ unhit in
         let l : Line = Did (Park q) in let now = running_now s r at in let running = now.1 in
         let here = says_of K r.past x _ _ Running 0 g 0 (r.cells x inside) now.2 (omega arith) f (omega arith) in
         let legal : Legal S (events_of (l ∷ r.past)) = ((r.live, running), r.legal) in let waiting : phase (events_of (l ∷ r.past)) q ≡ waits = now_is _ _ _ (same_itself q) in (
           now.2,
-          (
-            with_line slots id me (claim_at x) s r.past l Idle,
-            gives,
-            tt,
-            home_again slots id me x new (Some (Full p)) s (with_line slots id me (claim_at x) s r.past l Idle) out (adds_claim L s r id v Idle x new (set s.homes (slot_at x) (some (Some (Full p)))) l (tick slots id me (claim_at x) s (l ∷ r.past)) ((claim_at x), get_or s.words (claim_at x) 0, refl) inside refl (quiet_line L r.past l fair r.live refl (λ p. (refl, refl)))
-                (ends_run slots id me s r at l q (own_line l (same_itself q)) refl legal busy (λ u. (let z = sym waiting ∙ u in cc)) bare (λ _. refl)) legal at
-                (λ i u other there. ((owned L s r id v l at (own_line l (same_itself q)) i u other there).0, idle_apart u.role))
-                (λ y h other k. other_cell K x y g k inside h other) (λ w. refl) (length-set s.homes (slot_at x) (some (Some (Full p)))) (λ y other. set_else s.homes (slot_at x) y (some (Some (Full p))) other) record {
-                  tag = Ready;
-                  cause = 0;
-                  gen = g;
-                  payload = 0;
-                  fits = (omega arith, f, omega arith);
-                  word_is = is_new;
-                  says = (refl, refl, waiting, here.0.3, here.0.4, (p, set_here s.homes (slot_at x) (some (Some (Full p))) (r.deep x inside), subst (λ (d : List ℕ). IsParcel r.past q d p) none' (parcel_now s r at q data' p now.0 given)), may_stays S l r.past legal q (counted_in S r.past q runs r.legal running (λ e. cc)) here.0.5);
-                  ages = ages_stay S l r.past legal K x g (λ n other. other_age K x g n inside other) here.1;
-                }),
-            (extends slots id me s r at l Idle legal r.live fair (tick slots id me (claim_at x) s (l ∷ r.past)) ((claim_at x), get_or s.words (claim_at x) 0, refl), refl),
-            refl,
-          ),
+          slot_comes slots id me s r at x g new inside l Idle (λ c. refl) (λ w. refl) (quiet_line L r.past l fair r.live refl (λ p. (refl, refl))) (ends_run slots id me s r at l q (own_line l (same_itself q)) refl legal busy (λ u. (let z = sym waiting ∙ u in cc)) bare (λ _. refl)) legal
+              (λ i u other there. ((owned L s r id v l at (own_line l (same_itself q)) i u other there).0, idle_apart u.role))
+              Ready 0 0 (omega arith, f, omega arith) is_new here.1 (Some (Full p)) out
+              (refl, refl, waiting, here.0.3, here.0.4, (p, refl, subst (λ (d : List ℕ). IsParcel r.past q d p) none' (parcel_now s r at q data' p now.0 given)), may_stays S l r.past legal q (counted_in S r.past q runs r.legal running (λ e. cc)) here.0.5),
         )
 
     pub park_allows : (M : Layout) (old new : ℕ) → hit (events_of v.seen) q ≡ nothing → data' ≡ [] → ((n : ℕ) → holder v.seen n ≢ Some q) → old ≡ word_of Running 0 g 0 → new ≡ word_of Ready 0 g 0 → Allows (Ruled M) slots id me (claim_at x) (λ n. either (eqb n old) new n) (sure Running parked (step slots (claim_at x) old new none) me)

@@ -111,11 +111,7 @@ pub worker_is : (a : Role) (q : Req) → stands_for a (workers q) ≡ true → (
 worker_is (Busy r) q h = inl (ap Busy (sym (same_true q r h)))
 worker_is (Leaving r) q h = inr h
 worker_is (Parting r p) q h = inr h
-worker_is (Poller n) q h = absurd (true≢false (sym h))
-worker_is (Submitter i) q h = absurd (true≢false (sym h))
-worker_is (Lending r) q h = absurd (true≢false (sym h))
-worker_is Idle q h = absurd (true≢false (sym h))
-worker_is Spent q h = absurd (true≢false (sym h))
+worker_is a q h = absurd (true≢false (sym h))
 
 pub idle_owns : (o : Owner) → stands_for Idle o ≡ false
 idle_owns nobody = refl

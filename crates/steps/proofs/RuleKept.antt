@@ -1,7 +1,7 @@
 -- A step of one seat keeps the rule where it is right for its own cell and its own view.
 use Rattle.std.proofs.lemmas.List.{append_assoc}
 use mathlib.Core.Option as maybe
-use Rattle.steps.proofs.Common.{AllBegin, AllSaw, AreMade, Begins, Busy, CellOk, Event, Fair, Heard, Home, IsCell, IsGone, IsHeard, IsHeldBy, IsLentBy, IsReplied, IsRunBy, Knows, Layout, Legal, Lending, Line, List, None, Option, PipeOk, Req, Role, Ruled, SeatOk, Some, State, Step, Thing, View, [], ap, apart, arith, at_set, claim_at, clock_of, dite, events_of, false, flow, get_elem?, get_or, get_or-set_other, get_or-set_same, holder, holders, inl, is_leaving, length, length-set, lent, none, note_at, noted, owns, parts_of, phase, pipe_at, refl, runs, seeing, set, set_else, setup_of, slot_at, slots_of, some, some-injective, some-ne-none, stands_for, subst, suc, sym, true, was_shut, words_of, zero, ℕ, ℕ_discrete, ⊎_elim, ◌++◌, ◌+◌, ◌<◌, ◌∙◌, ◌∷◌, ◌≡◌, ◌≤◌, ◌⊎◌}
+use Rattle.steps.proofs.Common.{AllBegin, AllSaw, AreMade, Begins, Busy, CellOk, Event, Fair, Heard, Home, IsCell, IsGone, IsHeard, IsHeldBy, IsLentBy, IsReplied, IsRunBy, Knows, Layout, Legal, Lending, Line, List, None, Option, PipeOk, Req, Role, Ruled, SeatOk, Some, State, Step, Thing, View, [], ap, apart, arith, at_set, claim_at, clock_of, dite, events_of, false, flow, get_elem?, get_or, get_or-set_other, get_or-set_same, holder, holders, inl, is_leaving, length, length-set, lent, note_at, noted, owns, parts_of, phase, pipe_at, refl, runs, seeing, set, set_else, setup_of, slot_at, slots_of, some, some-injective, some-ne-none, stands_for, subst, suc, sym, true, was_shut, words_of, zero, ℕ, ℕ_discrete, ⊎_elim, ◌++◌, ◌+◌, ◌<◌, ◌∙◌, ◌∷◌, ◌≡◌, ◌≤◌, ◌⊎◌}
 use Rattle.steps.proofs.Roles.{apart_sym, others_own}
 use Rattle.steps.proofs.JournalGrowth.{replied_later}
 use Rattle.steps.proofs.Frames.{Quiet, cell_stays, pipe_stays}
@@ -92,12 +92,13 @@ IsTick v j t = (i : ℕ) × (n : ℕ) × (t ≡ record { word = i; found = n; se
 pub tick_made : (v : View) (j : List Line) (t : List Step) → IsTick v j t → Begins j v.seen → AreMade v.seen v.steps → AreMade j t
 tick_made v j t k b m = subst (AreMade j) (sym k.2) (([], refl), made_longer j v.seen v.steps b m)
 
+-- a state of the table
+abbrev pub St : Type 0
+St = State (Option Thing) View
+
 module _ (L : Layout) where
   abbrev pub K : List ℕ
   K = L.cells
-
-  abbrev pub St : Type 0
-  St = State (Option Thing) View
 
   pub seat_stays : (l : Line) (j : List Line) (v : View) → owns v.role l ≡ false → ((x : Heard) → IsHeard x v.heard → owns x.role l ≡ false) → SeatOk L j v → SeatOk L (l ∷ j) v
   seat_stays l j v n heard s = record {

@@ -1,15 +1,14 @@
 -- The poller's steps on the clock and on timers.
 use Rattle.history.proofs.LaterReplies.{count_timeout}
 use Rattle.steps.specs.Plays.{counted}
-use Rattle.steps.proofs.Common.{Allows, Arm, Armed, Bool, Busy, Count, Did, Done, Entry, Expire, Extends, Fire, FireMiss, Held, IsCell, IsIdleWord, IsLinkTimeout, IsPlaced, IsReplied, IsTarget, Layout, Legal, Line, LinkTimeout, List, Op, Open, Option, Req, Ruled, Running, Seated, Settle, Setup, Some, Spent, State, Thing, Tick, Timeout, View, ap, arith, armed, armed_for, by_count, by_expire, by_fire, by_settle, cause_bits, claim_at, clock_of, clock_set, cond, count_of, either, eqb, events_of, expired, fails, fails_op, false, fired, fired_at, fired_late, get_or, get_or-set_other, get_or-set_same, inl, inr, is_link_timeout, is_timeout, keeps, later_replies, negsuc, next_of, none, phase, pollers, pos, refl, replied, reply_bits, request_at, ring_of, same_itself, set-get_or, settled, setup_of, stands_for, step, submits, subst, sym, ticks_of, tried, tried_idle, true, true≢false, word_of, ℕ, ℤ, ⊎_elim, ◌+◌, ◌<◌, ◌∙◌, ◌∷◌, ◌≡◌, ◌≢◌, ◌≤◌, ◌⊎◌}
-use Rattle.steps.proofs.CellNumbers.{other_cell, other_age, one_word}
+use Rattle.steps.proofs.Common.{Allows, Arm, Armed, Bool, Busy, Count, Did, Done, Entry, Expire, Extends, Fire, FireMiss, Held, IsCell, IsIdleWord, IsLinkTimeout, IsPlaced, IsReplied, IsTarget, Layout, Legal, Line, LinkTimeout, List, Op, Open, Req, Ruled, Running, Seated, Settle, Setup, Some, Spent, Tick, Timeout, View, ap, arith, armed, armed_for, by_count, by_expire, by_fire, by_settle, cause_bits, claim_at, clock_of, clock_set, cond, count_of, either, eqb, events_of, expired, fails, fails_op, false, fired, fired_at, fired_late, get_or, get_or-set_other, get_or-set_same, inl, inr, is_link_timeout, is_timeout, later_replies, negsuc, next_of, none, phase, pollers, pos, refl, replied, reply_bits, request_at, ring_of, same_itself, set-get_or, settled, setup_of, stands_for, step, submits, subst, sym, ticks, ticks_of, tried, tried_idle, true, true≢false, word_of, ℕ, ℤ, ⊎_elim, ◌+◌, ◌<◌, ◌∙◌, ◌∷◌, ◌≡◌, ◌≢◌, ◌≤◌, ◌⊎◌}
+use Rattle.steps.proofs.CellNumbers.{one_word}
 use Rattle.steps.proofs.JournalGrowth.{placed_lasts, open_lasts, replies_last, replied_later, counted_in, legal_before}
-use Rattle.steps.proofs.Frames.{ages_stay}
 use Rattle.steps.proofs.ClaimWords.{says_of}
-use Rattle.steps.proofs.RuleKept.{adds_claim, owned}
+use Rattle.steps.proofs.RuleKept.{St, owned}
 use Rattle.steps.proofs.OwnFacts.{same_clock, same_fired, still_armed}
 use Rattle.steps.proofs.EndingIdle.{Ends, Silent, idle_says, answers_does, silent_does}
-use Rattle.steps.proofs.StepKinds.{now_is, tick, with_line, Does, There, later, past_is, legal_now, live_now, none_now, lasts_now, extends, same_turns, shaped, tries, tries_idle}
+use Rattle.steps.proofs.StepKinds.{hand_stays, told_as, now_is, Does, There, later, past_is, legal_now, live_now, none_now, lasts_now, same_turns, shaped, tries, tries_idle}
 use Rattle.steps.proofs.LoadReleaseBegin.{quiet_line}
 
 -- the reply of a LINK_TIMEOUT is no failure
@@ -34,9 +33,6 @@ module _ (slots id : ℕ) (me : Seated) where
 
   abbrev S : Setup
   S = setup_of L
-
-  abbrev St : Type 0
-  St = State (Option Thing) View
 
   module _ (mine : stands_for v.role pollers ≡ true) (has : 0 < v.parts) where
     clock_now : (s : St) (r : Ruled L s) → There slots id me s → clock_of (events_of r.past) ≡ clock_of (events_of v.seen)
@@ -66,30 +62,16 @@ module _ (slots id : ℕ) (me : Seated) where
 
       -- ARM
       arm_does : (old new d : ℕ) → d < 4294967296 → new ≡ word_of Armed 0 g d → Open (events_of v.seen) q → (e : Entry) (n : ℕ) → IsPlaced (events_of v.seen) q e → ticks_of e.op ≡ Some n → d ≡ clock_of (events_of v.seen) + n
-          → (s : St) (r : Ruled L s) → There slots id me s → get_or s.words (claim_at x) 0 ≡ word_of Held 0 g 0 → Does slots id me L s (claim_at x) new (armed_for (step slots (claim_at x) old new none) me x q)
+          → (s : St) (r : Ruled L s) → There slots id me s → get_or s.words (claim_at x) 0 ≡ word_of Held 0 g 0 → Does slots id me s (claim_at x) new (armed_for (step slots (claim_at x) old new none) me x q)
       arm_does old new d small is_new may e n placed_is ticks_is due s r at is =
           let l : Line = Did (Arm q d) in let may' : Open (events_of r.past) q = lasts_now slots id me s r at (λ h. Open h q) q (open_lasts S q) born may in
           let here = says_of K r.past x _ _ Held 0 g 0 (r.cells x inside) is (omega arith) f (omega arith) in
           let legal : Legal S (events_of (l ∷ r.past)) = ((r.live, (here.0.2, may', e, n, placed_now q e s r at born placed_is, ticks_is, due ∙ ap (λ c. c + n) (sym (clock_now s r at)))), r.legal) in
           let done : phase (events_of (l ∷ r.past)) q ≡ armed d = now_is _ _ _ (same_itself q) in
-          let ext = extends slots id me s r at l v.role legal r.live tt (tick slots id me (claim_at x) s (l ∷ r.past)) ((claim_at x), get_or s.words (claim_at x) 0, refl) in (
-            with_line slots id me (claim_at x) s r.past l v.role,
-            keeps,
-            tt,
-            adds_claim L s r id v v.role x new s.homes l (tick slots id me (claim_at x) s (l ∷ r.past)) ((claim_at x), get_or s.words (claim_at x) 0, refl) inside refl (quiet_line L r.past l tt r.live refl (λ p. (refl, refl))) (same_turns slots id me s r at l mine refl legal has (λ _. refl) (λ c is. absurd (lazy c is))) legal at (owned L s r id v l at mine)
-                (λ y h other k. other_cell K x y g k inside h other) (λ w. refl) refl (λ y other. refl) record {
-                  tag = Armed;
-                  cause = 0;
-                  gen = g;
-                  payload = d;
-                  fits = (omega arith, f, small);
-                  word_is = is_new;
-                  says = (refl, done, here.0.3, here.0.4, here.0.5);
-                  ages = ages_stay S l r.past legal K x g (λ n other. other_age K x g n inside other) here.1;
-                },
-            (λ h b fh fb w. (let o = one_word Armed Armed 0 g d 0 h b (omega arith) f small (omega arith) fh fb (sym is_new ∙ w) in subst (λ (z : ℕ). Extends v (Did (Arm q z)) v.role (with_line slots id me (claim_at x) s r.past l v.role) × (me.1 ≡ me.1)) o.3 (ext, refl))),
-            refl,
-          )
+          told_as slots id me s (claim_at x) new (λ m. Extends v l v.role m.0 × (m.1 ≡ me.1)) (armed_for (step slots (claim_at x) old new none) me x q)
+          (λ m told _ h b fh fb w. let o = one_word Armed Armed 0 g d 0 h b (omega arith) f small (omega arith) fh fb (sym is_new ∙ w) in subst (λ (z : ℕ). Extends v (Did (Arm q z)) v.role m.0 × (m.1 ≡ me.1)) o.3 told)
+          (hand_stays slots id me s r at x g new inside l v.role (λ c. refl) (λ w. refl) (quiet_line L r.past l tt r.live refl (λ p. (refl, refl))) (same_turns slots id me s r at l mine refl legal has (λ _. refl) (λ c is. absurd (lazy c is))) legal (owned L s r id v l at mine)
+          Armed 0 d (omega arith, f, small) is_new here.1 (refl, done, here.0.3, here.0.4, here.0.5))
 
       pub arm_allows : (M : Layout) (old new d : ℕ) → v.role ≢ Spent → d < 4294967296 → old ≡ word_of Held 0 g 0 → new ≡ word_of Armed 0 g d → Open (events_of v.seen) q → (e : Entry) (n : ℕ) → IsPlaced (events_of v.seen) q e → ticks_of e.op ≡ Some n → d ≡ clock_of (events_of v.seen) + n
           → Allows (Ruled M) slots id me (claim_at x) (λ n. either (eqb n old) new n) (tried Held armed_for (step slots (claim_at x) old new none) me)

@@ -1,5 +1,5 @@
 use Rattle.history.proofs.Requests.{and_right}
-use Rattle.steps.proofs.Common.{Armed, Claim, Held, IsIdleWord, IsTrue, List, Ready, Some, Tag, and_left, ap, arith, eqb-true, false, fits, ltb-true, packed, refl, subst, sym, true, word_of, ℕ, ⊎_elim, ◌<◌, ◌∙◌, ◌≡◌, ◌≢◌}
+use Rattle.steps.proofs.Common.{Armed, Claim, Held, IsIdleWord, IsTrue, Ready, Some, Tag, and_left, ap, eqb-true, fits, ltb-true, packed, refl, subst, sym, true, word_of, ℕ, ⊎_elim, ◌∙◌, ◌≡◌}
 use Rattle.steps.proofs.IdleWords.{over_by, not_running, is_going}
 use Rattle.steps.proofs.claims.stands_at.Goals as goal
 

@@ -3,8 +3,8 @@ use Rattle.steps.proofs.PipeSteps.{leave_allows}
 use Rattle.steps.proofs.pipes.leave.Goals as goal
 
 pub store-requires : goal.store-requires
-store-requires c = let f = c.requires.fits in let l = c.requires.leaving in let p = c.requires.pipe in
-    rw c.pipe_word.ensures (f.0, f.3, leave_allows _ _ c.args.seat.now.me l.0 l.1 c.args.pipe f.1 p.0 (lt-ltb _ _ f.2) l.2 p.1 p.2 _)
+store-requires c = let f = c.requires.fits in let l = c.requires.leaving in
+    rw c.pipe_word.ensures (f.0, f.3, leave_allows _ _ c.args.seat.now.me l.0 l.1 c.args.pipe f.1 (lt-ltb _ _ f.2) l.2 c.requires.pipe _)
 
 pub returns : goal.returns
 returns c = let l = c.requires.leaving in let d = c.store.ensures.2 c.args.pipe l.0 c.pipe_word.ensures l.1 l.2.0 in record {

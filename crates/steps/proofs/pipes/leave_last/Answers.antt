@@ -3,8 +3,8 @@ use Rattle.steps.proofs.PipeSteps.{leave_last_allows}
 use Rattle.steps.proofs.pipes.leave_last.Goals as goal
 
 pub store-requires : goal.store-requires
-store-requires c = let f = c.requires.fits in let l = c.requires.parting in let p = c.requires.pipe in
-    rw c.pipe_word.ensures (f.0, f.3, leave_last_allows _ _ c.args.seat.now.me l.0 c.args.pipe l.1 f.1 p.0 (lt-ltb _ _ f.2) l.2 p.1 p.2 _)
+store-requires c = let f = c.requires.fits in let l = c.requires.parting in
+    rw c.pipe_word.ensures (f.0, f.3, leave_last_allows _ _ c.args.seat.now.me l.0 c.args.pipe l.1 f.1 (lt-ltb _ _ f.2) l.2 c.requires.pipe _)
 
 pub returns : goal.returns
 returns c = let l = c.requires.parting in let d = c.store.ensures.2 c.args.pipe l.0 c.pipe_word.ensures l.1 in record {

@@ -1,30 +1,17 @@
-use Rattle.steps.proofs.Common.{IsStep, arith, eq-eqb, eqb-true, pollers, refl, stands_for, subst, sym, true, ℕ, ◌∙◌, ◌≡◌}
-use Rattle.steps.proofs.StepKinds.{either_way}
+use Rattle.steps.proofs.Common.{arith, ◌<◌}
+use Rattle.steps.proofs.PollerExchanges.{polls, told_by}
 use Rattle.steps.proofs.TimerSteps.{arm_allows}
 use Rattle.steps.proofs.timers.arm.Goals as goal
 
 pub compare_exchange-requires : goal.compare_exchange-requires
-compare_exchange-requires c = let f = c.requires.fits in let role = c.requires.poller.0.1 in
+compare_exchange-requires c = let f = c.requires.fits in let k = polls _ _ c.requires.poller.0.1 in
     rw c.claim_word.ensures (
       f.0,
       omega arith,
-      arm_allows _ _ _ (subst (λ z. stands_for z pollers ≡ true) (sym role) refl) c.requires.poller.1 c.args.cell c.args.generation f.2 c.requires.small (λ q e. (let y = sym role in cc)) c.requires.submitted _ _ _ c.args.deadline (λ e. (let y = sym role in cc)) (let r = c.ranges.deadline.fits in omega arith) c.held-held.ensures c.armed-armed.ensures c.requires.may c.requires.timer.0 c.requires.timer.1 c.requires.timer.2 c.requires.timer.3 c.requires.timer.4,
+      arm_allows _ _ _ k.0 c.requires.poller.1 c.args.cell c.args.generation f.2 c.requires.small k.2 c.requires.submitted _ _ _ c.args.deadline k.1 (let r = c.ranges.deadline.fits in omega arith) c.held-held.ensures c.armed-armed.ensures c.requires.may c.requires.timer.0 c.requires.timer.1 c.requires.timer.2 c.requires.timer.3 c.requires.timer.4,
     )
 
-pub returns-clause-arms : goal.returns-clause-arms
-returns-clause-arms c = let f = c.requires.fits in let p = c.compare_exchange.ensures.2.0 in λ e. (p (eqb-true _ _ e) c.args.cell c.args.generation 0 c.claim_word.ensures f.2 c.requires.small (omega arith) c.held-held.ensures c.args.generation c.args.deadline c.requires.small (let r = c.ranges.deadline.fits in omega arith) c.armed-armed.ensures).0
-
-pub returns-clause-seat : goal.returns-clause-seat
-returns-clause-seat c = let f = c.requires.fits in let p = c.compare_exchange.ensures.2.0 in let m = c.compare_exchange.ensures.2.1 in (
-  (c.compare_exchange.ensures.0, c.compare_exchange.ensures.1),
-  either_way c.compare_exchange.result c.held-held.result _ (λ hit. (p hit c.args.cell c.args.generation 0 c.claim_word.ensures f.2 c.requires.small (omega arith) c.held-held.ensures c.args.generation c.args.deadline c.requires.small (let r = c.ranges.deadline.fits in omega arith) c.armed-armed.ensures).1) (λ miss. (m miss).1),
-)
-
-pub returns-clause-missed : goal.returns-clause-missed
-returns-clause-missed c = let f = c.requires.fits in λ ne. let m = c.compare_exchange.ensures.2.1 (λ hit. ne (eq-eqb _ _ hit)) in (c.compare_exchange.result, subst (λ (i : ℕ). IsStep i c.compare_exchange.result c.args.seat.now.me.0 c.compare_exchange.new.seat.me.0) c.claim_word.ensures m.3, m.2 c.args.cell c.claim_word.ensures f.2, λ e. ne (eq-eqb _ _ (e ∙ sym c.held-held.ensures)))
-
-pub returns-clause-step : goal.returns-clause-step
-returns-clause-step c = λ e. subst (λ (z : ℕ × ℕ). IsStep z.0 z.1 c.args.seat.now.me.0 c.compare_exchange.new.seat.me.0) (λ i. (c.claim_word.ensures i, (eqb-true _ _ e ∙ c.held-held.ensures) i)) c.compare_exchange.ensures.2.2
-
-pub returns-clause-looks : goal.returns-clause-looks
-returns-clause-looks c = λ ne. (c.compare_exchange.ensures.2.1 (λ hit. ne (eq-eqb _ _ hit))).0
+pub returns : goal.returns
+returns c = let f = c.requires.fits in let e = c.compare_exchange.ensures in let g = c.args.generation in let small : c.args.deadline < 4294967296 = (let r = c.ranges.deadline.fits in omega arith) in
+    let t = told_by c.args.seat.now.me c.compare_exchange.new.seat.me _ c.args.cell _ c.compare_exchange.result _ _ c.claim_word.ensures f.2 c.held-held.ensures (λ hit. e.2.0 hit c.args.cell g 0 c.claim_word.ensures f.2 c.requires.small (omega arith) c.held-held.ensures g c.args.deadline c.requires.small small c.armed-armed.ensures) e.2.1 e.2.2 in
+    record { seat = ((e.0, e.1), t.hand); arms = t.adds; step = t.step; looks = t.looks; missed = t.missed }
