@@ -74,9 +74,3 @@ goes_on v0 v w old tails new k b r l is one is_new is_old =
 -- once all were read
 pub ends : (v0 v : View) (old tails : List ℕ) (b : Bool) → IsReading v0 old (length old) v tails b → HasRead v0 v tails
 ends v0 v old tails b is = record { role = is.role; tails_are = is.tails_are; armed = is.armed; all = λ z. is.all z ∙ sym is.long; kept = λ z. is.kept (z ∙ is.long) ∙ sym is.long; wakes_are = is.wakes_are; loads = subst (λ (k : ℕ). v.loads ≡ loads_of k tails ++ v0.loads) (sym is.long) is.loads }
-
-pub ends_risen : (v0 v : View) (old tails : List ℕ) (k : ℕ) (b : Bool) → IsReading v0 old k v tails b → HaveRisen old tails
-ends_risen v0 v old tails k b is = (is.long, is.risen)
-
-pub ends_changed : (v0 v : View) (old tails : List ℕ) (k : ℕ) → IsReading v0 old k v tails true → tails ≢ old
-ends_changed v0 v old tails k is e = let d = is.differs refl in d.2 (ap (λ (z : List ℕ). slice_index z d.0) e)

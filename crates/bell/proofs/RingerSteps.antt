@@ -117,10 +117,6 @@ other_find r q ne = ⊎_elim (λ (e : (r == q) ≡ true). absurd (ne (eqb-true r
   bool_is' true = inl refl
   bool_is' false = inr refl
 
-pub bit_true : (b : Bool) → bit b ≡ 1 → b ≡ true
-bit_true true e = refl
-bit_true false e = absurd (omega arith)
-
 pub bit_false : (b : Bool) → bit b ≡ 0 → b ≡ false
 bit_false true e = absurd (omega arith)
 bit_false false e = refl

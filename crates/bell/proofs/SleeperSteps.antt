@@ -157,9 +157,6 @@ last_of [] a b (suc i) e = absurd (some-ne-none b (sym e))
 last_of (x ∷ vs) a b zero e = inl e
 last_of (x ∷ vs) a b (suc i) e = ⊎_elim (λ (h : get_elem? vs i ≡ some b). inl h) (λ (h : (i ≡ length vs) × (a ≡ b)). inr (ap suc h.0, h.1)) (last_of vs a b i e)
 
-between_longer : (vs : List View) (a : View) (q : ℕ) → IsBetween vs q → IsBetween (vs ++ a ∷ []) q
-between_longer vs a q b = (b.0, b.1, at_longer vs (a ∷ []) b.0 b.1 b.2, b.3, b.4)
-
 -- the next ring's ringer leaves the sleeper
 pub cuts_ringer : (n id : ℕ) (v : View) → v.role ≡ Sleeper → v.rings < n → v.armed ≡ false → v.wakes ≡ [] → Splits (Ruled n) id v (with_ringer v) (new_ringer v)
 cuts_ringer n id v role room off none' = λ s k at.

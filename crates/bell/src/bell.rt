@@ -6,7 +6,7 @@ use crate::error::BellError;
 use crate::law::Law;
 use crate::plays::CutRinger;
 use crate::ringer::{MustWake, Ringer};
-use crate::sleeper::{Nap, Sleeper};
+use crate::sleeper::{Nap, Sleeper, read_all};
 use crate::view::View;
 use crate::wakes::Wakes;
 use atomic_table::Table;
@@ -99,7 +99,7 @@ impl Bell {
         ensures risen { HaveRisen sleeper.old.tails sleeper.new.tails }
         ensures few { self.now.rings ≤ 16 }
     {
-        sleeper.collect(&self.table.shared);
+        read_all(&self.table.shared, &mut sleeper.seat, &mut sleeper.tails);
     }
 
     /// Sets the wake bit, and reads all tails again: `Dozed` where none has changed since it was read last, else `Work`,

@@ -15,8 +15,8 @@ use std::sync::Wait;
 /// history of the wake word.
 #[derive(Drop)]
 pub struct Sleeper {
-    seat: Seat<u8, View>,
-    tails: Vec<u64>,
+    pub(crate) seat: Seat<u8, View>,
+    pub(crate) tails: Vec<u64>,
     dozes: bool,
 }
 
@@ -67,7 +67,7 @@ fn read_one(words: &Words, seat: &mut Seat<u8, View>, tails: &mut Vec<u64>, ring
 }
 
 /// Reads all tails, and says whether one of them changed.
-fn read_all(words: &Words, seat: &mut Seat<u8, View>, tails: &mut Vec<u64>) -> bool
+pub(crate) fn read_all(words: &Words, seat: &mut Seat<u8, View>, tails: &mut Vec<u64>) -> bool
     requires own { (seat.old.table_id ≡ words.now.table_id) × IsBell words.now.table_id words.now.key }
     requires sleeper { seat.old.me.0.role ≡ Role.Sleeper }
     requires tails { (seat.old.me.0.tails ≡ tails.old.items) × (length tails.old.items ≡ words.now.key) }
@@ -126,16 +126,6 @@ impl Sleeper {
         ensures { result ≡ slice_index self.now.tails ring }
     {
         self.tails[ring as usize]
-    }
-
-    /// Reads all tails.
-    pub(crate) fn collect(&mut self, words: &Words)
-        requires own { (self.old.table ≡ words.now.table_id) × IsBell words.now.table_id words.now.key }
-        ensures pass { (self.new.table ≡ self.old.table) × (self.new.dozes ≡ self.old.dozes) × (self.new.wakes ≡ self.old.wakes) }
-        ensures read { HasLoaded self.old self.new }
-        ensures risen { HaveRisen self.old.tails self.new.tails }
-    {
-        read_all(words, &mut self.seat, &mut self.tails);
     }
 
     /// Sets the wake bit, reads all tails again, and takes the bit back where one of them changed.

@@ -43,9 +43,6 @@ inside_left w j = ap (λ (b : Bool). cond b false (is_inside w j)) (eq-eqb w w r
 pub owes_found : (m : ℕ) (j : List Line) → owes m (Found m ∷ j) ≡ true
 owes_found m j = ap (λ (b : Bool). cond b true (owes m j)) (eq-eqb m m refl)
 
-pub owes_counted : (m : ℕ) (j : List Line) → owes m (Counted m ∷ j) ≡ false
-owes_counted m j = ap (λ (b : Bool). cond b false (owes m j)) (eq-eqb m m refl)
-
 abbrev one_if : Bool → ℕ
 one_if true = 1
 one_if false = 0

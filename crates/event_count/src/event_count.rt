@@ -5,10 +5,10 @@ ghost use Rattle.event_count.specs.declared.view.Role.{Role};
 
 use crate::error::EventCountError;
 use crate::law::Law;
-use crate::notifier::Notifier;
+use crate::notifier::{Notifier, count_one, look};
 use crate::plays::{CutNotifier, CutWaiter};
 use crate::view::View;
-use crate::waiter::{Waiter, Words};
+use crate::waiter::{Waiter, Words, enter, leave, read_count, wait_at_most, wait_for_notice};
 use crate::wakes::Wakes;
 use atomic_table::{Seat, Table};
 use std::alloc::Global;
@@ -136,7 +136,10 @@ impl EventCount {
         ensures pass { waiter.new ≡ record waiter.old { entered = true; key = waiter.new.key; seen = waiter.new.seen } }
         ensures entered { HasEntered waiter.old waiter.new }
     {
-        waiter.prepare(&self.table.shared);
+        let words = &self.table.shared;
+        enter(words, &mut waiter.seat);
+        waiter.key = read_count(words, &mut waiter.seat);
+        waiter.entered = true;
     }
 
     /// Leaves without waiting.
@@ -146,7 +149,8 @@ impl EventCount {
         ensures pass { waiter.new ≡ record waiter.old { entered = false; seen = waiter.new.seen } }
         ensures left { HasLeft waiter.old waiter.new }
     {
-        waiter.cancel(&self.table.shared);
+        leave(&self.table.shared, &mut waiter.seat);
+        waiter.entered = false;
     }
 
     /// Waits until the count is another than the key, and leaves. It parks, and burns no time.
@@ -156,7 +160,10 @@ impl EventCount {
         ensures pass { waiter.new ≡ record waiter.old { entered = false; seen = waiter.new.seen } }
         ensures woken { HasWoken waiter.old waiter.new }
     {
-        waiter.wait(rt, &self.table.shared);
+        let (words, seat) = (&self.table.shared, &mut waiter.seat);
+        wait_for_notice(rt, words, seat, waiter.key);
+        leave(words, seat);
+        waiter.entered = false;
     }
 
     /// `wait`, for no longer than about `most`: it may also return sooner. The answer says whether it found the count to be another
@@ -168,7 +175,11 @@ impl EventCount {
         ensures woken { result ≡ true → HasWoken waiter.old waiter.new }
         ensures left { result ≡ false → HasLeft waiter.old waiter.new }
     {
-        waiter.wait_timeout(rt, &self.table.shared, most)
+        let (words, inside) = (&self.table.shared, &mut waiter.seat);
+        let is_woken = wait_at_most(rt, words, inside, waiter.key, most);
+        leave(words, inside);
+        waiter.entered = false;
+        is_woken
     }
 
     /// Gives notice of what was done before: where a waiter has entered, the count grows, and one who is parked is woken. The
@@ -204,9 +215,11 @@ impl EventCount {
         ensures noticed { HasNoticed notifier.old notifier.new result }
         ensures wakes { wakes.new ≡ wakes.old + wakes_for result }
     {
-        let has_found = notifier.notice(&self.table.shared);
+        let words = &self.table.shared;
+        let has_found = look(words, &mut notifier.seat);
         if has_found {
-            wakes.give(&self.table.shared, reach);
+            count_one(words, &mut notifier.seat);
+            wakes.give(words, reach);
         }
         has_found
     }

@@ -1,7 +1,7 @@
 //! The one who gives notice.
 ghost use Rattle.std.specs.Prelude.{◌≡◌, true, false};
 ghost use Rattle.event_count.specs.Journal.{number_of, IsQuiet, Finds, Counts};
-ghost use Rattle.event_count.specs.Passes.{is_owing, HasNoticed, IsNotifierAt, IsNotifierSeat, IsSameSeat};
+ghost use Rattle.event_count.specs.Passes.{is_owing, IsNotifierAt, IsNotifierSeat, IsSameSeat};
 
 use crate::plays::{CountOne, LookInside};
 use crate::view::View;
@@ -12,7 +12,7 @@ use std::marker::Model;
 /// The pass of one who gives notice. Contracts see its number, and what it has seen of the journal.
 #[derive(Drop)]
 pub struct Notifier {
-    seat: Seat<u8, View>,
+    pub(crate) seat: Seat<u8, View>,
 }
 
 impl Model for Notifier {
@@ -27,7 +27,7 @@ impl Model for Notifier {
 }
 
 /// Whether somebody has entered.
-fn look(words: &Words, seat: &mut Seat<u8, View>) -> bool
+pub(crate) fn look(words: &Words, seat: &mut Seat<u8, View>) -> bool
     requires own { IsNotifierAt words.now.table_id seat.old }
     requires paid { is_owing seat.old.me.0 ≡ false }
     ensures same { IsSameSeat seat.old seat.new }
@@ -39,7 +39,7 @@ fn look(words: &Words, seat: &mut Seat<u8, View>) -> bool
 }
 
 /// Adds one to the count.
-fn count_one(words: &Words, seat: &mut Seat<u8, View>)
+pub(crate) fn count_one(words: &Words, seat: &mut Seat<u8, View>)
     requires own { IsNotifierAt words.now.table_id seat.old }
     requires owed { is_owing seat.old.me.0 ≡ true }
     ensures same { IsSameSeat seat.old seat.new }
@@ -56,18 +56,5 @@ impl Notifier {
         ensures { result ≡ record { table = seat.table_id; number = number_of seat.me.0.role; seen = seat.me.0.seen } }
     {
         Notifier { seat }
-    }
-
-    /// Looks whether somebody has entered, and counts the notice if so.
-    pub(crate) fn notice(&mut self, words: &Words) -> bool
-        requires own { self.old.table ≡ words.now.table_id }
-        ensures pass { self.new ≡ record self.old { seen = self.new.seen } }
-        ensures noticed { HasNoticed self.old self.new result }
-    {
-        let has_found = look(words, &mut self.seat);
-        if has_found {
-            count_one(words, &mut self.seat);
-        }
-        has_found
     }
 }

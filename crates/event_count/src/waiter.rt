@@ -1,7 +1,7 @@
 //! The one who enters before it may sleep, and leaves again.
 ghost use Rattle.std.specs.Prelude.{◌≡◌, true, false};
 ghost use Rattle.event_count.specs.Journal.{number_of, count_of, Enters, Stayed, Hears, Leaves};
-ghost use Rattle.event_count.specs.Passes.{is_in, HasEntered, HasLeft, HasWoken, IsSameSeat, IsWaiterAt, IsWaiterSeat};
+ghost use Rattle.event_count.specs.Passes.{is_in, IsSameSeat, IsWaiterAt, IsWaiterSeat};
 
 use crate::law::Law;
 use crate::plays::{AskCount, Enter, Leave, ReadCount};
@@ -24,9 +24,9 @@ pub(crate) const INSIDE: usize = 1;
 /// key, and what it has seen of the journal.
 #[derive(Drop)]
 pub struct Waiter {
-    seat: Seat<u8, View>,
-    entered: bool,
-    key: u64,
+    pub(crate) seat: Seat<u8, View>,
+    pub(crate) entered: bool,
+    pub(crate) key: u64,
 }
 
 impl Model for Waiter {
@@ -41,7 +41,7 @@ impl Model for Waiter {
 }
 
 /// Adds one to those who have entered.
-fn enter(words: &Words, seat: &mut Seat<u8, View>)
+pub(crate) fn enter(words: &Words, seat: &mut Seat<u8, View>)
     requires own { IsWaiterAt words.now.table_id seat.old }
     requires outside { is_in seat.old.me.0 ≡ false }
     ensures same { IsSameSeat seat.old seat.new }
@@ -52,7 +52,7 @@ fn enter(words: &Words, seat: &mut Seat<u8, View>)
 }
 
 /// Reads the count.
-fn read_count(words: &Words, seat: &mut Seat<u8, View>) -> u64
+pub(crate) fn read_count(words: &Words, seat: &mut Seat<u8, View>) -> u64
     requires own { IsWaiterAt words.now.table_id seat.old }
     requires inside { is_in seat.old.me.0 ≡ true }
     ensures same { IsSameSeat seat.old seat.new }
@@ -76,7 +76,7 @@ fn is_other(words: &Words, seat: &mut Seat<u8, View>, key: u64) -> bool
 }
 
 /// Parks until the count is another than the key. A park looks at the low 32 bits alone.
-fn wait_for_notice<R: Wait>(rt: &R, words: &Words, seat: &mut Seat<u8, View>, key: u64)
+pub(crate) fn wait_for_notice<R: Wait>(rt: &R, words: &Words, seat: &mut Seat<u8, View>, key: u64)
     requires own { IsWaiterAt words.now.table_id seat.old }
     requires inside { is_in seat.old.me.0 ≡ true }
     requires key { key ≡ count_of seat.old.me.0.seen }
@@ -94,7 +94,7 @@ fn wait_for_notice<R: Wait>(rt: &R, words: &Words, seat: &mut Seat<u8, View>, ke
 }
 
 /// Parks while the count is the key, once, and no longer than about `most`. Whether the count is then another.
-fn wait_at_most<R: Wait>(
+pub(crate) fn wait_at_most<R: Wait>(
     rt: &R,
     words: &Words,
     seat: &mut Seat<u8, View>,
@@ -114,7 +114,7 @@ fn wait_at_most<R: Wait>(
 }
 
 /// Takes one from those who have entered.
-fn leave(words: &Words, seat: &mut Seat<u8, View>)
+pub(crate) fn leave(words: &Words, seat: &mut Seat<u8, View>)
     requires own { IsWaiterAt words.now.table_id seat.old }
     requires inside { is_in seat.old.me.0 ≡ true }
     ensures same { IsSameSeat seat.old seat.new }
@@ -142,56 +142,5 @@ impl Waiter {
         ensures { result ≡ self.now.entered }
     {
         self.entered
-    }
-
-    /// Enters, and then reads the count.
-    pub(crate) fn prepare(&mut self, words: &Words)
-        requires own { self.old.table ≡ words.now.table_id }
-        requires outside { self.old.entered ≡ false }
-        ensures pass { self.new ≡ record self.old { entered = true; key = self.new.key; seen = self.new.seen } }
-        ensures entered { HasEntered self.old self.new }
-    {
-        enter(words, &mut self.seat);
-        self.key = read_count(words, &mut self.seat);
-        self.entered = true;
-    }
-
-    /// Leaves.
-    pub(crate) fn cancel(&mut self, words: &Words)
-        requires own { self.old.table ≡ words.now.table_id }
-        requires entered { self.old.entered ≡ true }
-        ensures pass { self.new ≡ record self.old { entered = false; seen = self.new.seen } }
-        ensures left { HasLeft self.old self.new }
-    {
-        leave(words, &mut self.seat);
-        self.entered = false;
-    }
-
-    /// Parks while the count is the key, and then leaves.
-    pub(crate) fn wait<R: Wait>(&mut self, rt: &R, words: &Words)
-        requires own { self.old.table ≡ words.now.table_id }
-        requires entered { self.old.entered ≡ true }
-        ensures pass { self.new ≡ record self.old { entered = false; seen = self.new.seen } }
-        ensures woken { HasWoken self.old self.new }
-    {
-        let seat = &mut self.seat;
-        wait_for_notice(rt, words, seat, self.key);
-        leave(words, seat);
-        self.entered = false;
-    }
-
-    /// Parks while the count is the key, no longer than about `most`, and then leaves. Whether the count was another.
-    pub(crate) fn wait_timeout<R: Wait>(&mut self, rt: &R, words: &Words, most: Duration) -> bool
-        requires own { self.old.table ≡ words.now.table_id }
-        requires entered { self.old.entered ≡ true }
-        ensures pass { self.new ≡ record self.old { entered = false; seen = self.new.seen } }
-        ensures woken { result ≡ true → HasWoken self.old self.new }
-        ensures left { result ≡ false → HasLeft self.old self.new }
-    {
-        let inside = &mut self.seat;
-        let is_woken = wait_at_most(rt, words, inside, self.key, most);
-        leave(words, inside);
-        self.entered = false;
-        is_woken
     }
 }

@@ -104,39 +104,29 @@ pub is_i32-from : (z : ℤ) → FitsSigned w32 z → IsTrue (is_i32 z)
 is_i32-from (pos n) fits = lt-ltb n _ fits.sfits
 is_i32-from (negsuc n) fits = lt-ltb n _ fits.sfits
 
-is_read : (z : ℤ) (len off : ℕ) (o : Op) → IsTrue (is_valid o) → IsTrue (fits_op o)
-    → record { opcode = 22; fd = z; off = off; addr = 0; len = len; word = 0; splice_fd_in = pos 0 } ≡ row o → IsTrue (is_place off && nat_lt len 2147483648)
-is_read z len off (Read fd offset n) valid ok is =
-    let parts = both_true (is_i32 fd) (nat_lt n 2147483648) ok in
-    both (is_place-place off offset (ap (λ (r : Row). r.off) is)) (ap (λ (r : Row). nat_lt r.len 2147483648) is ∙ parts.1)
-is_read z len off o valid ok is = let code = ap (λ (r : Row). r.opcode) is in absurd (omega arith)
+-- a READ or a WRITE, by its row
+is_moved : (o : Op) → IsTrue (fits_op o) → IsTrue (((row o).opcode == 22) || ((row o).opcode == 23)) → IsTrue (is_place (row o).off && nat_lt (row o).len 2147483648)
+is_moved (Read fd offset n) ok code = both (is_place-place _ offset refl) (both_true (is_i32 fd) (nat_lt n 2147483648) ok).1
+is_moved (Write fd offset n) ok code = both (is_place-place _ offset refl) (both_true (is_i32 fd) (nat_lt n 2147483648) ok).1
+is_moved o ok code = absurd (false≢true code)
+
+Reads-moved : (r : Row) (op : Op) → IsTrue ((r.opcode == 22) || (r.opcode == 23)) → (IsTrue (nat_lt r.len 2147483648) → IsTrue (fits_op op)) → (r.off ≡ place (offset_of r.off) → r ≡ row op) → IsTrue (is_valid op)
+    → Reads r (if is_place r.off && nat_lt r.len 2147483648 then op else Invalid)
+Reads-moved r op code fits is valid =
+    Reads-chosen r (is_place r.off && nat_lt r.len 2147483648) op
+    (λ t.
+    let parts = both_true (is_place r.off) (nat_lt r.len 2147483648) t in
+    (fits parts.1, is (place-offset_of r.off parts.0)))
+    valid
+    (λ o v ok same. ap (λ (q : Row). is_place q.off && nat_lt q.len 2147483648) same ∙ is_moved o ok (ap (λ (q : Row). (q.opcode == 22) || (q.opcode == 23)) (sym same) ∙ code))
 
 pub Reads-read : (z fd : ℤ) (len off : ℕ) → FitsSigned w32 fd → z ≡ fd
     → Reads (record { opcode = 22; fd = z; off = off; addr = 0; len = len; word = 0; splice_fd_in = pos 0 }) (read_op fd len off)
-Reads-read z fd len off fits is =
-    Reads-chosen _ (is_place off && nat_lt len 2147483648) (Read fd (offset_of off) len)
-    (λ t.
-    let parts = both_true (is_place off) (nat_lt len 2147483648) t in
-    let at = place-offset_of off parts.0 in
-    (both (is_i32-from fd fits) parts.1, rw (is, ← at) refl))
-    refl (is_read z len off)
-
-is_write : (z : ℤ) (len off : ℕ) (o : Op) → IsTrue (is_valid o) → IsTrue (fits_op o)
-    → record { opcode = 23; fd = z; off = off; addr = 0; len = len; word = 0; splice_fd_in = pos 0 } ≡ row o → IsTrue (is_place off && nat_lt len 2147483648)
-is_write z len off (Write fd offset n) valid ok is =
-    let parts = both_true (is_i32 fd) (nat_lt n 2147483648) ok in
-    both (is_place-place off offset (ap (λ (r : Row). r.off) is)) (ap (λ (r : Row). nat_lt r.len 2147483648) is ∙ parts.1)
-is_write z len off o valid ok is = let code = ap (λ (r : Row). r.opcode) is in absurd (omega arith)
+Reads-read z fd len off fits is = Reads-moved _ (Read fd (offset_of off) len) refl (λ t. both (is_i32-from fd fits) t) (λ at. rw (is, ← at) refl) refl
 
 pub Reads-write : (z fd : ℤ) (len off : ℕ) → FitsSigned w32 fd → z ≡ fd
     → Reads (record { opcode = 23; fd = z; off = off; addr = 0; len = len; word = 0; splice_fd_in = pos 0 }) (write_op fd len off)
-Reads-write z fd len off fits is =
-    Reads-chosen _ (is_place off && nat_lt len 2147483648) (Write fd (offset_of off) len)
-    (λ t.
-    let parts = both_true (is_place off) (nat_lt len 2147483648) t in
-    let at = place-offset_of off parts.0 in
-    (both (is_i32-from fd fits) parts.1, rw (is, ← at) refl))
-    refl (is_write z len off)
+Reads-write z fd len off fits is = Reads-moved _ (Write fd (offset_of off) len) refl (λ t. both (is_i32-from fd fits) t) (λ at. rw (is, ← at) refl) refl
 
 is_splice : (y z : ℤ) (len : ℕ) (o : Op) → IsTrue (is_valid o) → IsTrue (fits_op o)
     → record { opcode = 30; fd = z; off = 18446744073709551615; addr = 18446744073709551615; len = len; word = 0; splice_fd_in = y } ≡ row o → IsTrue (nat_lt len 2147483648)

@@ -26,8 +26,7 @@ step_past (Submit places ∷ xs) ys k =
 step_past (Tick m ∷ xs) ys k =
     ap (λ (b : Bool). cond b (Some (Sets m)) (step_at (xs ++ ys) (((1 + steps_in xs) + k) - 1))) (later (steps_in xs) k)
     ∙ (ap (step_at (xs ++ ys)) (off 1 (steps_in xs) k) ∙ step_past xs ys k)
-step_past (Wait p ∷ xs) ys k = step_past xs ys k
-step_past (Armed p ∷ xs) ys k = step_past xs ys k
+step_past (_ ∷ xs) ys k = step_past xs ys k
 
 pub passes_past : (c : Script) (h : List Event) (xs ys : List Act) (k : ℕ) → AreDone c h xs → passes (is_done c h) ys k ≡ true → passes (is_done c h) (xs ++ ys) (steps_in xs + k) ≡ true
 passes_past c h [] ys k d w = ap (passes (is_done c h) ys) (zero-add k) ∙ w
@@ -49,8 +48,7 @@ pub steps_both : (xs ys : List Act) → steps_in (xs ++ ys) ≡ steps_in xs + st
 steps_both [] ys = sym (zero-add (steps_in ys))
 steps_both (Submit places ∷ xs) ys = let i = steps_both xs ys in omega arith
 steps_both (Tick n ∷ xs) ys = let i = steps_both xs ys in omega arith
-steps_both (Wait p ∷ xs) ys = steps_both xs ys
-steps_both (Armed p ∷ xs) ys = steps_both xs ys
+steps_both (_ ∷ xs) ys = steps_both xs ys
 
 -- ---- an event of another
 

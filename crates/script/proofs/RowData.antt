@@ -11,7 +11,7 @@ use Rattle.history.specs.Pipes.{Flow, flow, content, End, no_end, read_end, writ
 use Rattle.history.specs.Answers.{Answer, now, later, bad_end, answer_read, answer_write, answer_splice, answer_poll, free_in, most_spliced, read_events, write_events, is_pipe, read_from, write_to, splice_into, splice_of, close_of, poll_of, OpAnswers, Answers}
 use Rattle.history.proofs.Growth.{MayChange, may_change, changed, unchanged}
 use Rattle.script.specs.Rows.{data_count}
-use Rattle.script.proofs.Common.{Bool, Event, Legal, List, None, Option, Phase, Req, Setup, Some, Submission, [], ap, armed, becomes, bit_and, bit_or, bool_cases, concerns, cond, data_of, false, fired, length, min, nat_le, nat_lt, negsuc, not, phase, pos, reaped, refl, replied, reply, reply_in, runs, same_true, submission, subst, sym, take, true, true≢false, unborn, waits, ℕ, ℤ, ⊎_elim, ◌&&◌, ◌==◌, ◌∙◌, ◌∷◌, ◌≡◌}
+use Rattle.script.proofs.Common.{Bool, Event, Legal, List, None, Option, Phase, Req, Setup, Some, Submission, [], ap, armed, becomes, bit_and, bit_or, bool_cases, concerns, cond, data_of, false, fired, length, min, nat_le, nat_lt, negsuc, not, phase, pos, refl, replied, reply, reply_in, runs, same_true, submission, subst, sym, take, true, true≢false, waits, ℕ, ℤ, ⊎_elim, ◌&&◌, ◌==◌, ◌∙◌, ◌∷◌, ◌≡◌}
 
 -- ---- what answers come with
 
@@ -57,8 +57,7 @@ reads w len =
 
 reads_from : (caps : List ℕ) (flow_at : ℕ → Flow) (e : End) (len : ℕ) → AsMany (read_from caps flow_at e len)
 reads_from caps flow_at (read_end p) len = either AsMany (is_pipe caps p) (answer_read (flow_at p) len) bad_end (reads (flow_at p) len) (many (negsuc 8) [] refl)
-reads_from caps flow_at (write_end p) len = many (negsuc 8) [] refl
-reads_from caps flow_at no_end len = many (negsuc 8) [] refl
+reads_from caps flow_at _ len = many (negsuc 8) [] refl
 
 writes : (cap : ℕ) (w : Flow) (len : ℕ) → HasNone (answer_write cap w len)
 writes cap w len =
@@ -71,8 +70,7 @@ writes cap w len =
 
 writes_to : (caps : List ℕ) (flow_at : ℕ → Flow) (e : End) (len : ℕ) → HasNone (write_to caps flow_at e len)
 writes_to caps flow_at (write_end p) len = either HasNone (is_pipe caps p) (answer_write (slice_index caps p) (flow_at p) len) bad_end (writes (slice_index caps p) (flow_at p) len) (none (negsuc 8))
-writes_to caps flow_at (read_end p) len = none (negsuc 8)
-writes_to caps flow_at no_end len = none (negsuc 8)
+writes_to caps flow_at _ len = none (negsuc 8)
 
 splices : (cap : ℕ) (v w : Flow) (len : ℕ) → HasNone (answer_splice cap v w len)
 splices cap v w len =
@@ -89,10 +87,7 @@ splices_into caps flow_at p q len =
 
 splices_of : (caps : List ℕ) (flow_at : ℕ → Flow) (x y : End) (len : ℕ) → HasNone (splice_of caps flow_at x y len)
 splices_of caps flow_at (read_end p) (write_end q) len = either HasNone (is_pipe caps p && not (flow_at p).read_shut) (splice_into caps flow_at p q len) bad_end (splices_into caps flow_at p q len) (none (negsuc 8))
-splices_of caps flow_at (read_end p) (read_end q) len = none (negsuc 8)
-splices_of caps flow_at (read_end p) no_end len = none (negsuc 8)
-splices_of caps flow_at (write_end p) y len = none (negsuc 8)
-splices_of caps flow_at no_end y len = none (negsuc 8)
+splices_of caps flow_at _ _ len = none (negsuc 8)
 
 closes : (caps : List ℕ) (flow_at : ℕ → Flow) (e : End) → HasNone (close_of caps flow_at e)
 closes caps flow_at (read_end p) = either HasNone (is_pipe caps p && not (flow_at p).read_shut) (now (pos 0) []) bad_end (none (pos 0)) (none (negsuc 8))
@@ -128,16 +123,7 @@ answer_long caps h r (LinkTimeout ticks) res data' a = absurd a
 
 linked_none : (op : Op) (res : ℤ) → is_link_timeout op ≡ true → 0 ≡ data_count op res
 linked_none (LinkTimeout ticks) res w = refl
-linked_none Nop res w = absurd (true≢false (sym w))
-linked_none Invalid res w = absurd (true≢false (sym w))
-linked_none (Read fd offset len) res w = absurd (true≢false (sym w))
-linked_none (Write fd offset len) res w = absurd (true≢false (sym w))
-linked_none (Splice fd_in fd_out len) res w = absurd (true≢false (sym w))
-linked_none (Close fd) res w = absurd (true≢false (sym w))
-linked_none (PollAdd fd mask) res w = absurd (true≢false (sym w))
-linked_none (AsyncCancel user_data all) res w = absurd (true≢false (sym w))
-linked_none (TimeoutRemove user_data) res w = absurd (true≢false (sym w))
-linked_none (Timeout ticks etime_success count) res w = absurd (true≢false (sym w))
+linked_none _ res w = absurd (true≢false (sym w))
 
 behind_count : (a b : Bool) (e : Entry) (res : ℤ) → (a ≡ true → 0 ≡ data_count e.op res) → data_count (cond (a && b) (record e { op = Invalid }) e).op res ≡ data_count e.op res
 behind_count true true e res z = z refl
@@ -186,17 +172,18 @@ same_data _ h r w = refl
 no_reply : (p q : Phase) (res : ℤ) → p ≡ q → reply_in q ≡ None → reply_in p ≡ Some res → ⊥
 no_reply p q res e n w = none_some res (sym n ∙ (ap reply_in (sym e) ∙ w))
 
--- answered with 0 and no data
-bare : (h : List Event) (e : Event) (r : Req) (p : Phase) (res : ℤ) (op : Op) → phase (e ∷ h) r ≡ p → reply_in p ≡ Some (pos 0) → reply (e ∷ h) r ≡ Some res → data_of (e ∷ h) r ≡ [] → length (data_of (e ∷ h) r) ≡ data_count op res
-bare h e r p res op is says re d = let one : pos 0 ≡ res = some_same (pos 0) res (sym says ∙ (ap reply_in (sym is) ∙ re)) in ap length d ∙ (sym (none_count op) ∙ ap (data_count op) one) where
-  some_same : {X : Type 0} → (a b : X) → Some a ≡ Some b → a ≡ b
-  some_same a b e = cc
+some_same : {X : Type 0} → (a b : X) → Some a ≡ Some b → a ≡ b
+some_same a b e = cc
 
--- answered with an error number and no data
+-- answered with 0 or an error number, and no data
+ended : (h : List Event) (e : Event) (r : Req) (p : Phase) (v res : ℤ) (op : Op) → data_count op v ≡ 0 → phase (e ∷ h) r ≡ p → reply_in p ≡ Some v → reply (e ∷ h) r ≡ Some res → data_of (e ∷ h) r ≡ [] → length (data_of (e ∷ h) r) ≡ data_count op res
+ended h e r p v res op nothing is says re d = ap length d ∙ (sym nothing ∙ ap (data_count op) (some_same v res (sym says ∙ (ap reply_in (sym is) ∙ re))))
+
+bare : (h : List Event) (e : Event) (r : Req) (p : Phase) (res : ℤ) (op : Op) → phase (e ∷ h) r ≡ p → reply_in p ≡ Some (pos 0) → reply (e ∷ h) r ≡ Some res → data_of (e ∷ h) r ≡ [] → length (data_of (e ∷ h) r) ≡ data_count op res
+bare h e r p res op = ended h e r p (pos 0) res op (none_count op)
+
 failed : (h : List Event) (e : Event) (r : Req) (p : Phase) (n : ℕ) (res : ℤ) (op : Op) → phase (e ∷ h) r ≡ p → reply_in p ≡ Some (negsuc n) → reply (e ∷ h) r ≡ Some res → data_of (e ∷ h) r ≡ [] → length (data_of (e ∷ h) r) ≡ data_count op res
-failed h e r p n res op is says re d = let one : negsuc n ≡ res = some_same (negsuc n) res (sym says ∙ (ap reply_in (sym is) ∙ re)) in ap length d ∙ (sym (cut_count op n) ∙ ap (data_count op) one) where
-  some_same : {X : Type 0} → (a b : X) → Some a ≡ Some b → a ≡ b
-  some_same a b e = cc
+failed h e r p n res op = ended h e r p (negsuc n) res op (cut_count op n)
 
 long_after : (s : Setup) (e : Event) (h : List Event) (r : Req) → Legal s (e ∷ h) → concerns e r ≡ true → IsLong h r → IsLong (e ∷ h) r
 long_after s (event.Submit q d bytes last) h r l w k res y re sub = absurd (no_reply (phase (event.Submit q d bytes last ∷ h) r) waits res (changed s (event.Submit q d bytes last) h r w) refl re)
@@ -207,9 +194,7 @@ long_after s (event.Reply q v data') h r l w k res y re sub =
     let is : phase (event.Reply q v data' ∷ h) r ≡ replied Rattle.history.specs.History.by_reply v = changed s (event.Reply q v data') h r w in
     let one : v ≡ res = some_same v res (ap reply_in (sym is) ∙ re) in
     let a : Answers s.caps h r v data' = subst (λ (z : Req). Answers s.caps h z v data') (same_true q r w) l.0.1.1 in
-    ap length (ap (λ (b : Bool). cond b data' (data_of h r)) w) ∙ (answer_long s.caps h r a.0.op v data' a.2 ∙ (placed_count (before_in h r) (submission h r) y a.0 v sub a.1 ∙ ap (data_count y.entry.op) one)) where
-      some_same : {X : Type 0} → (a b : X) → Some a ≡ Some b → a ≡ b
-      some_same a b e = cc
+    ap length (ap (λ (b : Bool). cond b data' (data_of h r)) w) ∙ (answer_long s.caps h r a.0.op v data' a.2 ∙ (placed_count (before_in h r) (submission h r) y a.0 v sub a.1 ∙ ap (data_count y.entry.op) one))
 long_after s (event.Take c t) h r l w k res y re sub = failed h (event.Take c t) r (becomes h (event.Take c t) (phase h r)) 124 res y.entry.op (changed s (event.Take c t) h r w) refl re (ap (λ (b : Bool). cond b [] (data_of h r)) w)
 long_after s (event.Expire q) h r l w k res y re sub = failed h (event.Expire q) r (becomes h (event.Expire q) (phase h r)) 61 res y.entry.op (changed s (event.Expire q) h r w) refl re (ap (λ (b : Bool). cond b [] (data_of h r)) w)
 long_after s (event.Count q) h r l w k res y re sub = bare h (event.Count q) r (becomes h (event.Count q) (phase h r)) res y.entry.op (changed s (event.Count q) h r w) refl re (ap (λ (b : Bool). cond b [] (data_of h r)) w)
@@ -223,11 +208,7 @@ long_after s (event.Cut q) h r l w k res y re sub = failed h (event.Cut q) r (be
 long_after s (event.Reap q) h r l w k res y re sub = k res y (reaped_same (phase h r) (may_change s (event.Reap q) h r l.1 l.0.1 w) (ap reply_in (sym (changed s (event.Reap q) h r w)) ∙ re)) sub where
   reaped_same : (p : Phase) → MayChange p (event.Reap q) → reply_in (becomes h (event.Reap q) p) ≡ Some res → reply_in p ≡ Some res
   reaped_same (replied c v) m e = e
-  reaped_same (reaped c v) m e = e
-  reaped_same unborn m e = e
-  reaped_same waits m e = e
-  reaped_same runs m e = e
-  reaped_same (armed d) m e = e
+  reaped_same _ m e = e
 long_after s _ h r l w k res y re sub = absurd (true≢false (sym w))
 
 pub data_long : (s : Setup) (h : List Event) (r : Req) → Legal s h → IsLong h r
