@@ -21,7 +21,7 @@ pub use Rattle.board.specs.declared.poller.Arming.TheVariants.{NotTimer, Shut}
 pub use Rattle.board.specs.declared.poller.Released.{Released}
 pub use Rattle.board.specs.declared.poller.Released.TheVariants.{NotHeld}
 pub use Rattle.board.specs.declared.shape.RingShape.{RingShape}
-pub use Rattle.board.specs.declared.trail.Gating.{Gating}
+pub use Rattle.board.specs.declared.gating.Gating.{Gating}
 pub use Rattle.claim.specs.Claim.{Claim, allows, fits, is_cause, packed}
 pub use Rattle.claim.specs.Facts.{bit, fits_facts, packed_facts}
 pub use Rattle.claim.specs.declared.tag.Tag.{Tag}

@@ -1,5 +1,5 @@
 -- The poller's seat looks, and the steps of its looks are paid for.
-use Rattle.board.specs.declared.trail.Outcome.TheVariants.{Pending}
+use Rattle.board.specs.declared.looks.Outcome.TheVariants.{Pending}
 use Rattle.history.proofs.Opening.{chain_stays}
 use Rattle.board.proofs.Common.{Begins, Bool, Decided, Decides, Did, Event, Extends, Facts, Found, FoundHeld, FoundPending, Gated, Gating, HaveGoneOn, IsBlocked, IsChainBefore, IsHeld, IsOurs, IsPollerSeat, IsReaped, IsReplied, IsSameSeat, IsShutOut, IsStep, IsUnended, Kept, LastAt, Lasting, Legal, Line, List, Looks, NotHeld, Option, Paid, Poller, Released, Req, Seat, Step, Stepped, TellsOutcome, Thing, View, WasHeld, Watched, [], ap, append_assoc, arith, events_of, false, gone_on_stays, inl, inr, lasts, length, length-append, pass_of, phase, reaped_later, refl, replied_later, setup_of, submits, submits_grow, subst, suc, sym, true, ℕ, ⊎_elim, ◌++◌, ◌+◌, ◌<◌, ◌∙◌, ◌∷◌, ◌≡◌, ◌≤◌}
 use Rattle.board.proofs.GoesLaws.{goes_looked, goes_still, goes_then}

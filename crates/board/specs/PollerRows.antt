@@ -25,12 +25,12 @@ use Rattle.work.specs.Passes.{Pass, pass_of, seen_of}
 use Rattle.work.specs.Searches.{steps_at}
 use Rattle.board.specs.Calls.{Goes, Stepped, FoundHeld, IsHeld, IsUnheld, MayStart}
 use Rattle.board.specs.Seats.{IsPollerSeat}
-use Rattle.board.specs.declared.trail.Outcome.{Outcome}
-use Rattle.board.specs.declared.trail.Outcome.TheVariants.{Pending, Replied, ChainDone}
-use Rattle.board.specs.declared.trail.Passing.{Passing}
-use Rattle.board.specs.declared.trail.Passing.TheVariants.{Waits, Passed, Lost}
-use Rattle.board.specs.declared.trail.Gating.{Gating}
-use Rattle.board.specs.declared.trail.Round.{Round}
+use Rattle.board.specs.declared.looks.Outcome.{Outcome}
+use Rattle.board.specs.declared.looks.Outcome.TheVariants.{Pending, Replied, ChainDone}
+use Rattle.board.specs.declared.gating.Passing.{Passing}
+use Rattle.board.specs.declared.gating.Passing.TheVariants.{Waits, Passed, Lost}
+use Rattle.board.specs.declared.gating.Gating.{Gating}
+use Rattle.board.specs.declared.gating.Round.{Round}
 use Rattle.board.specs.declared.poller.Released.{Released}
 use Rattle.board.specs.declared.poller.Released.TheVariants.{NotHeld}
 

@@ -14,9 +14,11 @@ ghost use Rattle.board.specs.TimerCalls.{Arms, Expires, Keeps};
 ghost use Rattle.board.specs.Seats.{IsPollerSeat};
 
 use crate::board::Board;
+use crate::gating::{Gating, gate};
+use crate::intake::take_in;
+use crate::looks::is_held;
 use crate::phase::{Phase, told};
 use crate::poller::{Arming, Expiry};
-use crate::trail::{Gating, gate, is_held, take_in};
 use claim::unpack_facts;
 use gates::Row;
 use history::Req;

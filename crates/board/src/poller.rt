@@ -18,7 +18,7 @@ ghost use Rattle.board.specs.Seats.{IsPollerSeat};
 use crate::alarm::{self, Alarm};
 use crate::board::Board;
 use crate::error::ClockEnd;
-use crate::{counting, linked, trail};
+use crate::{counting, linked, release};
 use gates::Row;
 use history::Req;
 use limits::TICK;
@@ -184,7 +184,7 @@ impl Poller {
         ensures steps { Paid self.old.view self.new.view 0 (4 * submits (seen_of self.new) req.ring + 4) }
     {
         let ring = usize::from(req.ring);
-        trail::release(board, &mut self.seat, &mut self.rows[ring], spot, req)
+        release::release(board, &mut self.seat, &mut self.rows[ring], spot, req)
     }
 
     /// Arms the request in this cell.

@@ -1,17 +1,267 @@
 //! What the poller does for a request that waits.
-ghost use Rattle.std.specs.Prelude.{◌≡◌, ◌≢◌, ◌⊎◌, ◌+◌, ◌*◌, ◌≤◌, false, true, length};
+ghost use Rattle.std.specs.Prelude.{◌≡◌, ◌≢◌, ◌⊎◌, ◌+◌, ◌*◌, ◌≤◌, false, true, length, ◌<◌, IfSome, IfNone};
 ghost use Rattle.history.specs.declared.req.Req.{Req};
-ghost use Rattle.history.specs.History.{same, submits};
-ghost use Rattle.steps.specs.Journal.{freed};
+ghost use Rattle.history.specs.History.{same, submits, phase, IsReplied};
+ghost use Rattle.steps.specs.Journal.{freed, events_of};
 ghost use Rattle.work.specs.Board.{IsOf};
-ghost use Rattle.work.specs.Passes.{seen_of};
+ghost use Rattle.work.specs.Passes.{seen_of, pass_of};
 ghost use Rattle.board.specs.declared.poller.Released.TheVariants.{Severed, Freed, Shut, Timer, NotHeld};
 ghost use Rattle.board.specs.Calls.{Goes, FoundHeld, IsUnheld, MayStart, Stepped};
-ghost use Rattle.board.specs.PollerRows.{IsCanceled, IsShutOut, MayArm, Paid, severed_by};
+ghost use Rattle.board.specs.PollerRows.{IsCanceled, IsShutOut, MayArm, Paid, severed_by, KnowsRow, Watches, IsNumbered, IsAt, IsOurs, Watched, owed, Decides};
+ghost use Rattle.gates.specs.EntryRows.{added, waiting};
+ghost use Rattle.history.specs.Chains.{IsLinkTimeout, Open, Severed as IsSevered, is_timeout};
+ghost use Rattle.history.specs.Legal.{IsOf as IsOfKind};
+ghost use Rattle.board.specs.Seats.{IsPollerSeat};
 
 use crate::board::Board;
+use crate::gating::{Gating, gate};
+use crate::intake::{note_plain, take_in};
+use crate::looks::{facts_in, is_held};
 use crate::poller::{Poller, Released};
+use gates::Row;
 use history::Req;
+use steps::facts::TIMEOUT;
+use steps::{TableSeat, seat};
+use work::Spot;
+
+/// Whether a worker is to run the request, which is no LINK_TIMEOUT: its facts tell whether it is a TIMEOUT. They don't any more
+/// once it has replied.
+fn is_worked(board: &Board, seat: &mut TableSeat, spot: Spot, req: Req) -> bool
+    requires ours { IsOurs board.now seat.old }
+    requires at { IsAt board.now.layout.cells spot.cell spot.generation req }
+    requires small { spot.generation < 16777216 }
+    requires born { req.k < submits (events_of seat.old.me.0.seen) req.ring }
+    ensures watched { Watched board.now seat.old seat.new }
+    ensures worked { result ≡ true → IsOfKind (events_of seat.new.me.0.seen) req is_timeout false }
+    ensures timer { result ≡ false → IsOfKind (events_of seat.new.me.0.seen) req is_timeout true ⊎ IsReplied (phase (events_of seat.new.me.0.seen) req) }
+    ensures steps { Paid seat.old.me.0 seat.new.me.0 0 1 }
+{
+    match facts_in(board, seat, spot, req) {
+        Some(facts) => facts.row != TIMEOUT,
+        None => false,
+    }
+}
+
+/// Moves the request, which is open and no LINK_TIMEOUT, to the workers, unless it is a TIMEOUT that still waits.
+fn hand_on(board: &Board, seat: &mut TableSeat, spot: Spot, req: Req, worked: bool) -> Released
+    requires ours { IsOurs board.now seat.old }
+    requires at { IsAt board.now.layout.cells spot.cell spot.generation req }
+    requires small { spot.generation < 16777216 }
+    requires born { req.k < submits (events_of seat.old.me.0.seen) req.ring }
+    requires open { Open (events_of seat.old.me.0.seen) req }
+    requires unlinked { IsLinkTimeout (events_of seat.old.me.0.seen) req → ⊥ }
+    requires worked { worked ≡ true → IsOfKind (events_of seat.old.me.0.seen) req is_timeout false }
+    requires timer { worked ≡ false → IsOfKind (events_of seat.old.me.0.seen) req is_timeout true ⊎ IsReplied (phase (events_of seat.old.me.0.seen) req) }
+    ensures seat { IsPollerSeat seat.new }
+    ensures decides { Decides board.now req (pass_of seat.old) (pass_of seat.new) result }
+    ensures steps { Paid seat.old.me.0 seat.new.me.0 0 1 }
+{
+    if !worked {
+        if !is_held(board, seat, spot, req) {
+            return Released::NotHeld;
+        }
+        return Released::Timer;
+    }
+    let words = &board.table.shared;
+    if seat::release(words, seat, spot.cell, spot.generation as u32) {
+        Released::Freed
+    } else {
+        Released::NotHeld
+    }
+}
+
+/// Moves the request, which is open, to the workers, unless it is a timer: a linked one, which has a target, or a TIMEOUT that
+/// still waits.
+fn free(board: &Board, seat: &mut TableSeat, row: &Row, spot: Spot, req: Req) -> Released
+    requires ours { IsOurs board.now seat.old }
+    requires at { IsAt board.now.layout.cells spot.cell spot.generation req }
+    requires small { spot.generation < 16777216 }
+    requires born { req.k < submits (events_of seat.old.me.0.seen) req.ring }
+    requires watches { Watches board.now.layout.cells seat.old.me.0.seen req row.now }
+    requires open { (IsSevered (events_of seat.old.me.0.seen) req → ⊥) × Open (events_of seat.old.me.0.seen) req }
+    ensures seat { IsPollerSeat seat.new }
+    ensures decides { Decides board.now req (pass_of seat.old) (pass_of seat.new) result }
+    ensures steps { Paid seat.old.me.0 seat.new.me.0 0 2 }
+{
+    if row.target_of(req.k).is_some() {
+        return Released::Timer;
+    }
+    let worked = is_worked(board, seat, spot, req);
+    hand_on(board, seat, spot, req, worked)
+}
+
+/// Answers the request, of which an earlier member of its chain failed.
+fn sever(board: &Board, seat: &mut TableSeat, row: &Row, spot: Spot, req: Req) -> Released
+    requires ours { IsOurs board.now seat.old }
+    requires at { IsAt board.now.layout.cells spot.cell spot.generation req }
+    requires small { spot.generation < 16777216 }
+    requires born { req.k < submits (events_of seat.old.me.0.seen) req.ring }
+    requires watches { Watches board.now.layout.cells seat.old.me.0.seen req row.now }
+    requires severed { IsSevered (events_of seat.old.me.0.seen) req }
+    ensures seat { IsPollerSeat seat.new }
+    ensures decides { Decides board.now req (pass_of seat.old) (pass_of seat.new) result }
+    ensures steps { Paid seat.old.me.0 seat.new.me.0 0 1 }
+{
+    let fails = row.target_of(req.k).is_none();
+    let words = &board.table.shared;
+    if seat::sever(words, seat, spot.cell, spot.generation as u32, fails) {
+        Released::Severed
+    } else {
+        Released::NotHeld
+    }
+}
+
+/// Releases the request, which the row has.
+fn decide(board: &Board, seat: &mut TableSeat, row: &mut Row, spot: Spot, req: Req) -> Released
+    requires ours { IsOurs board.now seat.old }
+    requires at { IsAt board.now.layout.cells spot.cell spot.generation req }
+    requires small { spot.generation < 16777216 }
+    requires numbered { IsNumbered board.now.layout.cells req }
+    requires born { req.k < submits (events_of seat.old.me.0.seen) req.ring }
+    requires watches { Watches board.now.layout.cells seat.old.me.0.seen req row.old }
+    ensures seat { IsPollerSeat seat.new }
+    ensures decides { Decides board.now req (pass_of seat.old) (pass_of seat.new) result }
+    ensures knows { KnowsRow board.now.layout.cells seat.new.me.0.seen req.ring row.new }
+    ensures steps { Paid seat.old.me.0 seat.new.me.0 0 (3 * waiting row.old + 1) }
+{
+    match gate(board, seat, row, spot, req) {
+        Gating::Severed => sever(board, seat, row, spot, req),
+        Gating::Open => free(board, seat, row, spot, req),
+        Gating::Linked => Released::Timer,
+        Gating::Shut => Released::Shut,
+        Gating::Lost => Released::NotHeld,
+    }
+}
+
+/// Takes in what the row lacks up to the request. Whether that still waits.
+fn follow(board: &Board, seat: &mut TableSeat, row: &mut Row, spot: Spot, req: Req) -> bool
+    requires ours { IsOurs board.now seat.old }
+    requires at { IsAt board.now.layout.cells spot.cell spot.generation req }
+    requires numbered { IsNumbered board.now.layout.cells req }
+    requires born { req.k < submits (events_of seat.old.me.0.seen) req.ring }
+    requires knows { KnowsRow board.now.layout.cells seat.old.me.0.seen req.ring row.old }
+    ensures watched { Watched board.now seat.old seat.new }
+    ensures knows { KnowsRow board.now.layout.cells seat.new.me.0.seen req.ring row.new }
+    ensures watches { result ≡ true → Watches board.now.layout.cells seat.new.me.0.seen req row.new }
+    ensures lost { result ≡ false → Decides board.now req (pass_of seat.old) (pass_of seat.new) NotHeld }
+    ensures steps { Paid seat.old.me.0 seat.new.me.0 (3 * waiting row.new) (owed row.old (req.k + 1) + 1) }
+{
+    take_in(board, seat, row, req);
+    is_held(board, seat, spot, req)
+}
+
+/// Releases the request where all before it are plain, and it is too: it is open, whoever has replied, and the row needn't have
+/// it. None where it isn't, or its facts are gone.
+#[inline(always)]
+fn release_plain(
+    board: &Board,
+    seat: &mut TableSeat,
+    row: &mut Row,
+    spot: Spot,
+    req: Req,
+) -> Option<Released>
+    requires ours { IsOurs board.now seat.old }
+    requires at { IsAt board.now.layout.cells spot.cell spot.generation req }
+    requires small { spot.generation < 16777216 }
+    requires born { req.k < submits (events_of seat.old.me.0.seen) req.ring }
+    requires knows { KnowsRow board.now.layout.cells seat.old.me.0.seen req.ring row.old }
+    requires plain { req.k ≤ row.old.plain }
+    ensures seat { IsPollerSeat seat.new }
+    ensures decides { IfSome result (λ x. Decides board.now req (pass_of seat.old) (pass_of seat.new) x) }
+    ensures watched { IfNone result (Watched board.now seat.old seat.new) }
+    ensures knows { KnowsRow board.now.layout.cells seat.new.me.0.seen req.ring row.new }
+    ensures same { (added row.new ≡ added row.old) × (waiting row.new ≡ waiting row.old) }
+    ensures steps { Paid seat.old.me.0 seat.new.me.0 0 2 }
+    ensures step { IfNone result (Paid seat.old.me.0 seat.new.me.0 0 1) }
+{
+    let _ = &board.grid;
+    let Some(facts) = facts_in(board, seat, spot, req) else {
+        return None;
+    };
+    if !note_plain(row, facts, req) {
+        return None;
+    }
+    Some(hand_on(board, seat, spot, req, facts.row != TIMEOUT))
+}
+
+/// Releases the request: the row takes in what it lacks, and it passes what is in the way.
+fn release_by_row(
+    board: &Board,
+    seat: &mut TableSeat,
+    row: &mut Row,
+    spot: Spot,
+    req: Req,
+) -> Released
+    requires ours { IsOurs board.now seat.old }
+    requires at { IsAt board.now.layout.cells spot.cell spot.generation req }
+    requires small { spot.generation < 16777216 }
+    requires numbered { IsNumbered board.now.layout.cells req }
+    requires born { req.k < submits (events_of seat.old.me.0.seen) req.ring }
+    requires knows { KnowsRow board.now.layout.cells seat.old.me.0.seen req.ring row.old }
+    ensures seat { IsPollerSeat seat.new }
+    ensures decides { Decides board.now req (pass_of seat.old) (pass_of seat.new) result }
+    ensures knows { KnowsRow board.now.layout.cells seat.new.me.0.seen req.ring row.new }
+    ensures steps { Paid seat.old.me.0 seat.new.me.0 0 (owed row.old (req.k + 1) + 2) }
+{
+    if !follow(board, seat, row, spot, req) {
+        return Released::NotHeld;
+    }
+    decide(board, seat, row, spot, req)
+}
+
+/// Releases the request, where all before it are plain: by itself if it is plain too, else by the row.
+fn release_next(
+    board: &Board,
+    seat: &mut TableSeat,
+    row: &mut Row,
+    spot: Spot,
+    req: Req,
+) -> Released
+    requires ours { IsOurs board.now seat.old }
+    requires at { IsAt board.now.layout.cells spot.cell spot.generation req }
+    requires small { spot.generation < 16777216 }
+    requires numbered { IsNumbered board.now.layout.cells req }
+    requires born { req.k < submits (events_of seat.old.me.0.seen) req.ring }
+    requires knows { KnowsRow board.now.layout.cells seat.old.me.0.seen req.ring row.old }
+    requires plain { req.k ≤ row.old.plain }
+    ensures seat { IsPollerSeat seat.new }
+    ensures decides { Decides board.now req (pass_of seat.old) (pass_of seat.new) result }
+    ensures knows { KnowsRow board.now.layout.cells seat.new.me.0.seen req.ring row.new }
+    ensures steps { Paid seat.old.me.0 seat.new.me.0 0 (owed row.old (req.k + 1) + 3) }
+{
+    match release_plain(board, seat, row, spot, req) {
+        Some(released) => released,
+        None => release_by_row(board, seat, row, spot, req),
+    }
+}
+
+/// Releases the request: it looks whether that waits, takes in what the row lacks, and passes what is in its way.
+pub(crate) fn release(
+    board: &Board,
+    seat: &mut TableSeat,
+    row: &mut Row,
+    spot: Spot,
+    req: Req,
+) -> Released
+    requires ours { IsOurs board.now seat.old }
+    requires at { IsAt board.now.layout.cells spot.cell spot.generation req }
+    requires knows { KnowsRow board.now.layout.cells seat.old.me.0.seen req.ring row.old }
+    ensures seat { IsPollerSeat seat.new }
+    ensures decides { Decides board.now req (pass_of seat.old) (pass_of seat.new) result }
+    ensures knows { KnowsRow board.now.layout.cells seat.new.me.0.seen req.ring row.new }
+    ensures steps { Paid seat.old.me.0 seat.new.me.0 0 (4 * submits (events_of seat.new.me.0.seen) req.ring + 4) }
+{
+    if !is_held(board, seat, spot, req) {
+        return Released::NotHeld;
+    }
+    if req.k < row.count() {
+        return decide(board, seat, row, spot, req);
+    }
+    if row.plain() < req.k {
+        return release_by_row(board, seat, row, spot, req);
+    }
+    release_next(board, seat, row, spot, req)
+}
 
 impl Board {
     /// Moves a request that waits, and is open, to the workers; or answers it, where an earlier member of its chain failed. It
