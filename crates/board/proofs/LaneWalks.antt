@@ -245,28 +245,30 @@ one_more s a read o f l spot lt gone at fits word ends =
     let say = facts_say s a a.done read o f l spot lt replied at fits word in
     lane_done s a a.done l (omega arith) lt (walked_done h a.ring a.done a.done l.1.done_are (λ j x y. absurd (omega arith)) replied (say.1 ends))
 
--- the cell of the next request is free where its earlier requests were reaped, and the last of them ends its chain
-pub known_free : (s : TableSeat) (a : Lane) (o : Spot) (read : ℕ) (f : Facts) → IsLane s a → IsSpot s.me.0.layout.cells a.ring a.next o → get_or a.ages.items o.number 0 ≡ o.generation → read ≡ get_or a.facts.items o.number read → IsTrue (fits_facts f) → packed_facts f ≡ read → continues f (o.generation - 1) ≡ false → IsFree s.me.0.layout.cells (events_of s.me.0.seen) (nth a.ring a.next)
-known_free s a o read f l spot age at fits word ends = ⊎_elim (λ before. free_by_age s a a.next o l spot before age) full (cases_lt a.next (a.done + n)) where
+-- the cell of one of the next requests is free, where the chains that end with the request that had it before are done but for that one
+pub known_free : (s : TableSeat) (a : Lane) (k : ℕ) (o : Spot) → IsLane s a → IsSpot s.me.0.layout.cells a.ring k o → a.next ≤ k → k < a.next + cells_in s.me.0.layout.cells a.ring → k ≤ a.done + cells_in s.me.0.layout.cells a.ring → get_or a.ages.items o.number 0 ≡ o.generation
+    → (o.generation ≡ 0) ⊎ ((read : ℕ) × (f : Facts) × (read ≡ get_or a.facts.items o.number read) × IsTrue (fits_facts f) × (packed_facts f ≡ read) × (continues f (o.generation - 1) ≡ false))
+    → IsFree s.me.0.layout.cells (events_of s.me.0.seen) (nth a.ring k) × ((e : ℕ) × (k < e + cells_in s.me.0.layout.cells a.ring) × IsLane s (record a { done = e }))
+known_free s a k o l spot low high near age by = ⊎_elim (λ before. free a.done before l) full (cases_lt k (a.done + n)) where
   K : List ℕ
   K = s.me.0.layout.cells
 
   n : ℕ
   n = cells_in K a.ring
 
-  full : a.done + n ≤ a.next → IsFree K (events_of s.me.0.seen) (nth a.ring a.next)
-  full le = let q : Req = nth a.ring a.done in let near = l.1.near in let same : a.done + n ≡ a.next = omega arith in
-      let ring' : ring_of K o.cell ≡ a.ring = ap (λ (r : Req). r.ring) spot.at in let number : (request_at K o.cell o.generation).k ≡ a.next = ap (λ (r : Req). r.k) spot.at in
-      let some : 0 < n = (let p = (located K o.cell spot.inside).1 in let e = ap (cells_in K) ring' in omega arith) in
-      let b = before_it K o.cell o.generation q spot.inside (sym ring') (ap (λ (i : ℕ). q.k + cells_in K i) ring' ∙ (same ∙ sym number)) in
-      let e : o.generation - 1 ≡ b.0 = (let g = b.1 in omega arith) in
-      let o' : Spot = record o { generation = b.0 } in
-      let spot' : IsSpot K a.ring a.done o' = record { inside = spot.inside; small = spot.small; number_is = spot.number_is; at = sym b.2 } in
-      free_by_age s (record a { done = a.done + 1 }) a.next o (one_more s a read o' f l spot' (omega arith) (reaped_by_age s a a.next o l spot age q refl same) at fits word (ap (continues f) (sym e) ∙ ends)) spot (omega arith) age
+  free : (e : ℕ) → k < e + n → IsLane s (record a { done = e }) → IsFree K (events_of s.me.0.seen) (nth a.ring k) × ((e : ℕ) × (k < e + n) × IsLane s (record a { done = e }))
+  free e before lane = (free_by_age s (record a { done = e }) k o lane spot before age, (e, before, lane))
 
--- so is a cell that has had no request
-pub first_free : (s : TableSeat) (a : Lane) (o : Spot) → IsLane s a → IsSpot s.me.0.layout.cells a.ring a.next o → get_or a.ages.items o.number 0 ≡ o.generation → o.generation ≡ 0 → IsFree s.me.0.layout.cells (events_of s.me.0.seen) (nth a.ring a.next)
-first_free s a o l spot age first =
-    let K : List ℕ = s.me.0.layout.cells in let ring' : ring_of K o.cell ≡ a.ring = ap (λ (r : Req). r.ring) spot.at in
-    let number : 0 * cells_in K (ring_of K o.cell) + place_of K o.cell ≡ a.next = subst (λ (g : ℕ). (request_at K o.cell g).k ≡ a.next) first (ap (λ (r : Req). r.k) spot.at) in
-    free_by_age s a a.next o l spot (let p = (located K o.cell spot.inside).1 in let e = ap (cells_in K) ring' in omega arith) age
+  ring' : ring_of K o.cell ≡ a.ring
+  ring' = ap (λ (r : Req). r.ring) spot.at
+
+  some : place_of K o.cell < n
+  some = let p = (located K o.cell spot.inside).1 in let e = ap (cells_in K) ring' in omega arith
+
+  full : a.done + n ≤ k → IsFree K (events_of s.me.0.seen) (nth a.ring k) × ((e : ℕ) × (k < e + n) × IsLane s (record a { done = e }))
+  full le = let q : Req = nth a.ring a.done in let same : a.done + n ≡ k = omega arith in let number : (request_at K o.cell o.generation).k ≡ k = ap (λ (r : Req). r.k) spot.at in
+      let b = before_it K o.cell o.generation q spot.inside (sym ring') (ap (λ (i : ℕ). q.k + cells_in K i) ring' ∙ (same ∙ sym number)) in ⊎_elim
+      (λ (first : o.generation ≡ 0). (let g = b.1 in absurd (omega arith)))
+      (λ facts. (let read = facts.0 in let f = facts.1 in let e : o.generation - 1 ≡ b.0 = (let g = b.1 in omega arith) in let o' : Spot = record o { generation = b.0 } in
+      let spot' : IsSpot K a.ring a.done o' = record { inside = spot.inside; small = spot.small; number_is = spot.number_is; at = sym b.2 } in
+      free (a.done + 1) (let p = some in omega arith) (one_more s a read o' f l spot' (let p = some in omega arith) (reaped_by_age s a k o l spot age q refl same) facts.2 facts.3 facts.4 (ap (continues f) (sym e) ∙ facts.5)))) by

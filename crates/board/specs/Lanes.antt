@@ -75,6 +75,10 @@ pub record IsOver (table : TableId) (K : List ℕ) (s : Seat (Option Thing) View
 abbrev pub AreFree : List ℕ → View → ℕ → ℕ → ℕ → Type 0
 AreFree K v ring next count = (i : ℕ) → i < count → IsFree K (events_of v.seen) (nth ring (next + i))
 
+-- the cell of the ring's request k is free where all chains of those before it that had the cells are done, and then its own are, too
+abbrev pub IsFreeAfter : Lane → List ℕ → ℕ → Type 0
+IsFreeAfter a K k = (s : Seat (Option Thing) View) (d : ℕ) → IsLane s (record a { done = d }) → K ≡ s.me.0.layout.cells → k ≤ d + cells_in K a.ring → IsFree K (events_of s.me.0.seen) (nth a.ring k) × ((e : ℕ) × (k < e + cells_in K a.ring) × IsLane s (record a { done = e }))
+
 -- the last step of the call was at a claim word of the ring's own cells
 abbrev pub HasLookedAt : List ℕ → ℕ → Pass → Pass → Type 0
 HasLookedAt K ring p q = (m : Req) × (m.ring ≡ ring) × Stepped K m p q

@@ -9,7 +9,7 @@ ghost use Rattle.steps.specs.Rule.{IsSameSeat};
 ghost use Rattle.work.specs.Passes.{pass_of};
 ghost use Rattle.board.specs.declared.lane.Lane.{Lane as LaneOf};
 ghost use Rattle.board.specs.Calls.{Stepped};
-ghost use Rattle.board.specs.Lanes.{nth, AreFree, HasLookedAt, IsLane, IsOver, IsSpot, LinkedAreReaped, RefusesRoom, SameLane, Watched, WereReaped, continues};
+ghost use Rattle.board.specs.Lanes.{nth, AreFree, HasLookedAt, IsLane, IsFreeAfter, IsOver, IsSpot, LinkedAreReaped, RefusesRoom, SameLane, Watched, WereReaped, continues};
 ghost use Rattle.atomic_table.specs.declared.shared.Seat.{Seat};
 ghost use Rattle.steps.specs.declared.parcel.Thing.{Thing};
 ghost use Rattle.steps.specs.declared.view.View.{View};
@@ -185,14 +185,15 @@ fn first_unreaped(lane: &Lane, grid: &Grid, count: u64) -> Option<u64>
     None
 }
 
-/// Whether what is kept of the cell of the ring's next request says that it is free, and may have one more: its earlier requests
-/// were reaped, and the chain of the last of them ended with it. Where it doesn't say so, the cell may be free all the same.
-fn is_known_free(lane: &Lane, grid: &Grid) -> bool
+/// Whether what is kept of the cell of one of the ring's next requests says that it is free, where those of the requests before that are:
+/// its earlier requests were reaped, and the chain of the last of them ended with it. Where it doesn't say so, the cell may be free all
+/// the same. It can have one more request, too.
+fn is_known_free(lane: &Lane, grid: &Grid, k: u64) -> bool
     requires lane { (s : Seat (Option Thing) View) × IsLane s lane.now × (grid.now ≡ s.me.0.layout.cells) }
-    ensures free { result ≡ true → (s : Seat (Option Thing) View) → IsLane s lane.now → grid.now ≡ s.me.0.layout.cells → AreFree grid.now s.me.0 lane.now.ring lane.now.next 1 }
-    ensures fresh { result ≡ true → lane.now.next / cells_in grid.now lane.now.ring < 16777215 }
+    requires next { (lane.now.next ≤ k) × (k < lane.now.next + cells_in grid.now lane.now.ring) }
+    ensures free { result ≡ true → IsFreeAfter lane.now grid.now k }
+    ensures fresh { result ≡ true → k / cells_in grid.now lane.now.ring < 16777215 }
 {
-    let k = lane.next;
     let Some(spot) = grid.locate(Req { ring: lane.ring, k }) else {
         unreachable!()
     };
@@ -201,6 +202,21 @@ fn is_known_free(lane: &Lane, grid: &Grid) -> bool
         return false;
     }
     generation == 0 || !goes_on(lane.facts[spot.number], generation - 1)
+}
+
+/// Whether what is kept of the cells of the ring's next requests, so many of them, says that they are free, and may have one more each.
+fn are_known_free(lane: &Lane, grid: &Grid, count: u64) -> bool
+    requires lane { (s : Seat (Option Thing) View) × IsLane s lane.now × (grid.now ≡ s.me.0.layout.cells) }
+    requires fits { count ≤ cells_in grid.now lane.now.ring }
+    ensures free { result ≡ true → (s : Seat (Option Thing) View) → IsLane s lane.now → grid.now ≡ s.me.0.layout.cells → AreFree grid.now s.me.0 lane.now.ring lane.now.next count }
+    ensures fresh { result ≡ true → (i : ℕ) → i < count → (lane.now.next + i) / cells_in grid.now lane.now.ring < 16777215 }
+{
+    for i in 0..count {
+        if !is_known_free(lane, grid, lane.next + i) {
+            return false;
+        }
+    }
+    true
 }
 
 /// Whether there is room for the ring's next requests, so many of them: their cells are free, and have had fewer requests than
@@ -222,12 +238,12 @@ pub(crate) fn room(
     ensures fresh { IfOk result (λ _. (i : ℕ) → i < count → (lane.old.next + i) / cells_in grid.now lane.old.ring < 16777215) }
     ensures refused { IfErr result (λ e. RefusesRoom grid.now lane.old.ring lane.old.next count (pass_of seat.old) (pass_of seat.new) e) }
 {
-    if count == 1 && is_known_free(lane, grid) {
-        return Ok(());
-    }
     let cells = grid.cells_in(usize::from(lane.ring));
     if count > cells {
         return Err(SubmitError::Full);
+    }
+    if are_known_free(lane, grid, count) {
+        return Ok(());
     }
     if let Some(k) = first_unreaped(lane, grid, count) {
         look_at(words, seat, lane, grid, k);

@@ -1,7 +1,7 @@
-use Rattle.board.proofs.Common.{IsCell, IsFree, List, Req, Spot, ap, arith, cells_in, events_of, nth, request_at, subst, sym, ℕ, ◌+◌, ◌/◌, ◌<◌, ◌∙◌, ◌≡◌}
 use Rattle.std.proofs.lemmas.Bool.{not-true}
+use Rattle.board.proofs.Common.{IsCell, IsFree, IsLane, Lane, List, Req, Spot, ap, arith, cells_in, events_of, inl, inr, nth, request_at, subst, sym, ℕ, ◌+◌, ◌/◌, ◌<◌, ◌∙◌, ◌≡◌}
 use Rattle.board.proofs.LanesKept.{lane_cell}
-use Rattle.board.proofs.LaneWalks.{first_free, known_free, spot_on}
+use Rattle.board.proofs.LaneWalks.{known_free, spot_on}
 use Rattle.board.proofs.OwnCells.{same_default}
 use Rattle.board.proofs.SubmitterLooks.{generation_is}
 use Rattle.board.proofs.lane.is_known_free.Goals as goal
@@ -11,25 +11,29 @@ fresh : (K : List ℕ) (ring k : ℕ) (o : Spot) → IsCell K o.cell → request
 fresh K ring k o inside at few = subst (λ (z : ℕ). z < 16777215) (sym (ap (λ (r : Req). r.k / cells_in K r.ring) (sym at) ∙ generation_is K o.cell o.generation inside)) few
 
 pub index-requires : goal.index-requires
-index-requires c = let w = c.requires.lane in let a = c.args.lane.now in let spot = spot_on c.args.grid.now w.0.me.0.layout.cells a.ring a.next c.in-Some.spot w.2 c.in-Some.ensures.some c.in-Some.ensures.number in
-    subst (λ (z : ℕ). c.in-Some.spot.number < z) (sym a.ages.ok.0) (lane_cell w.0 a a.next c.in-Some.spot w.1 spot).0
+index-requires c = let w = c.requires.lane in let a = c.args.lane.now in let spot = spot_on c.args.grid.now w.0.me.0.layout.cells a.ring c.args.k c.in-Some.spot w.2 c.in-Some.ensures.some c.in-Some.ensures.number in
+    subst (λ (z : ℕ). c.in-Some.spot.number < z) (sym a.ages.ok.0) (lane_cell w.0 a c.args.k c.in-Some.spot w.1 spot).0
 
 pub index-requires-else-generation-eq0 : goal.index-requires-else-generation-eq0
-index-requires-else-generation-eq0 c = let w = c.requires.lane in let a = c.args.lane.now in let spot = spot_on c.args.grid.now w.0.me.0.layout.cells a.ring a.next c.in-Some.spot w.2 c.in-Some.ensures.some c.in-Some.ensures.number in
-    subst (λ (z : ℕ). c.in-Some.spot.number < z) (sym a.facts.ok.0) (lane_cell w.0 a a.next c.in-Some.spot w.1 spot).1
+index-requires-else-generation-eq0 c = let w = c.requires.lane in let a = c.args.lane.now in let spot = spot_on c.args.grid.now w.0.me.0.layout.cells a.ring c.args.k c.in-Some.spot w.2 c.in-Some.ensures.some c.in-Some.ensures.number in
+    subst (λ (z : ℕ). c.in-Some.spot.number < z) (sym a.facts.ok.0) (lane_cell w.0 a c.args.k c.in-Some.spot w.1 spot).1
 
 pub returns-then-generation-eq0-clause-free : goal.returns-then-generation-eq0-clause-free
-returns-then-generation-eq0-clause-free c = λ _ s l same i lt. let a = c.args.lane.now in let o = c.in-Some.spot in let spot = spot_on c.args.grid.now s.me.0.layout.cells a.ring a.next o same c.in-Some.ensures.some c.in-Some.ensures.number in
-    let read = c.index.ensures ∙ same_default a.ages.items o.number c.index.result.now 0 (lane_cell s a a.next o l spot).0 in let at : a.next ≡ a.next + i = omega arith in
-    subst (λ (z : List ℕ × ℕ). IsFree z.0 (events_of s.me.0.seen) (nth a.ring z.1)) (λ j. (sym same j, at j)) (first_free s a o l spot (sym read ∙ (sym c.from.ensures ∙ c.if-from-generation.false)) c.if-generation-eq0.true)
+returns-then-generation-eq0-clause-free c = λ ends s d l same le. let b = c.args.lane.now in let a : Lane = record b { done = d } in let o = c.in-Some.spot in let k = c.args.k in
+    let spot = spot_on c.args.grid.now s.me.0.layout.cells b.ring k o same c.in-Some.ensures.some c.in-Some.ensures.number in let e = ap (λ (K : List ℕ). cells_in K b.ring) same in
+    let read = c.index.ensures ∙ same_default b.ages.items o.number c.index.result.now 0 (lane_cell s a k o l spot).0 in let high = c.requires.next.1 in
+    subst (λ (K : List ℕ). IsFree K (events_of s.me.0.seen) (nth b.ring k) × ((x : ℕ) × (k < x + cells_in K b.ring) × IsLane s (record b { done = x }))) (sym same)
+    (known_free s a k o l spot c.requires.next.0 (omega arith) (omega arith) (sym read ∙ (sym c.from.ensures ∙ c.if-from-generation.false)) (inl c.if-generation-eq0.true))
 
 pub returns-then-generation-eq0-clause-fresh : goal.returns-then-generation-eq0-clause-fresh
-returns-then-generation-eq0-clause-fresh c = λ _. fresh c.args.grid.now c.args.lane.now.ring c.args.lane.now.next c.in-Some.spot c.in-Some.ensures.some.0 c.in-Some.ensures.some.1 c.if-generation-ge-LAST_GENERATION.false
+returns-then-generation-eq0-clause-fresh c = λ _. fresh c.args.grid.now c.args.lane.now.ring c.args.k c.in-Some.spot c.in-Some.ensures.some.0 c.in-Some.ensures.some.1 c.if-generation-ge-LAST_GENERATION.false
 
 pub returns-else-generation-eq0-clause-free : goal.returns-else-generation-eq0-clause-free
-returns-else-generation-eq0-clause-free c = λ ends s l same i lt. let a = c.args.lane.now in let o = c.in-Some.spot in let spot = spot_on c.args.grid.now s.me.0.layout.cells a.ring a.next o same c.in-Some.ensures.some c.in-Some.ensures.number in
-    let read = c.index.ensures ∙ same_default a.ages.items o.number c.index.result.now 0 (lane_cell s a a.next o l spot).0 in let at : a.next ≡ a.next + i = omega arith in let g = c.goes_on.ensures in
-    subst (λ (z : List ℕ × ℕ). IsFree z.0 (events_of s.me.0.seen) (nth a.ring z.1)) (λ j. (sym same j, at j)) (known_free s a o c.index-else-generation-eq0.result.now g.0 l spot (sym read ∙ (sym c.from.ensures ∙ c.if-from-generation.false)) c.index-else-generation-eq0.ensures g.1 g.2 (sym g.3 ∙ not-true c.goes_on.result ends))
+returns-else-generation-eq0-clause-free c = λ ends s d l same le. let b = c.args.lane.now in let a : Lane = record b { done = d } in let o = c.in-Some.spot in let k = c.args.k in
+    let spot = spot_on c.args.grid.now s.me.0.layout.cells b.ring k o same c.in-Some.ensures.some c.in-Some.ensures.number in let e = ap (λ (K : List ℕ). cells_in K b.ring) same in
+    let read = c.index.ensures ∙ same_default b.ages.items o.number c.index.result.now 0 (lane_cell s a k o l spot).0 in let high = c.requires.next.1 in
+    subst (λ (K : List ℕ). IsFree K (events_of s.me.0.seen) (nth b.ring k) × ((x : ℕ) × (k < x + cells_in K b.ring) × IsLane s (record b { done = x }))) (sym same)
+    (known_free s a k o l spot c.requires.next.0 (omega arith) (omega arith) (sym read ∙ (sym c.from.ensures ∙ c.if-from-generation.false)) (let g = c.goes_on.ensures in inr (c.index-else-generation-eq0.result.now, g.0, c.index-else-generation-eq0.ensures, g.1, g.2, sym g.3 ∙ not-true c.goes_on.result ends)))
 
 pub returns-else-generation-eq0-clause-fresh : goal.returns-else-generation-eq0-clause-fresh
-returns-else-generation-eq0-clause-fresh c = λ _. fresh c.args.grid.now c.args.lane.now.ring c.args.lane.now.next c.in-Some.spot c.in-Some.ensures.some.0 c.in-Some.ensures.some.1 c.if-generation-ge-LAST_GENERATION.false
+returns-else-generation-eq0-clause-fresh c = λ _. fresh c.args.grid.now c.args.lane.now.ring c.args.k c.in-Some.spot c.in-Some.ensures.some.0 c.in-Some.ensures.some.1 c.if-generation-ge-LAST_GENERATION.false

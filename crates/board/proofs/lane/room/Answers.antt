@@ -1,9 +1,9 @@
-use Rattle.board.proofs.Common.{AreFree, IsFree, Lane, Layout, List, ap, arith, before_in, cells_in, events_of, inr, joins, nth, refl, subst, sym, true, ℕ, ⊎_elim, ◌*◌, ◌+◌, ◌-◌, ◌<◌, ◌∙◌, ◌≡◌, ◌≤◌}
+use Rattle.board.proofs.Common.{IsFree, Lane, Layout, List, ap, arith, before_in, cells_in, events_of, inr, joins, nth, refl, subst, sym, true, ℕ, ⊎_elim, ◌*◌, ◌+◌, ◌-◌, ◌<◌, ◌∙◌, ◌≡◌, ◌≤◌}
 use Rattle.board.proofs.LaneWalks.{TableSeat, watched_layout, watched_before, last_generation}
 use Rattle.board.proofs.lane.room.Goals as goal
 
-pub returns-then-is_known_free-clause-free : goal.returns-then-is_known_free-clause-free
-returns-then-is_known_free-clause-free c = subst (λ (n : ℕ). AreFree c.args.grid.now c.args.seat.now.me.0 c.args.lane.now.ring c.args.lane.now.next n) (sym c.if-count-eq1.true) (c.if-is_known_free.ensures.free refl c.args.seat.now c.requires.lane c.requires.over.cells_are)
+pub returns-then-are_known_free-clause-free : goal.returns-then-are_known_free-clause-free
+returns-then-are_known_free-clause-free c = c.if-are_known_free.ensures.free refl c.args.seat.now c.requires.lane c.requires.over.cells_are
 
 pub returns-in-Some-clause-looks : goal.returns-in-Some-clause-looks
 returns-in-Some-clause-looks c = (1, omega arith, c.look_at.ensures.looks, tt)
