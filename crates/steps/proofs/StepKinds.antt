@@ -211,7 +211,7 @@ module _ (slots id : ℕ) (me : Seated) where
       let st : At = step slots (claim_at x) old new none in
       let one : (y h : ℕ) → claim_at x ≡ claim_at y → h < 16777216 → IsIdleWord h old → (x ≡ y) × (g ≡ h) = λ y h here f' w. (omega arith, (one_word tag w.0 0 g pay 0 h w.1 (omega arith) f fd (omega arith) f' w.3 (sym is ∙ w.4)).2) in
       let there : (R : At → Seated → ℕ → Req → Seated → Type 0) (m : Seated) → R st me x (request_at K x g) m → (y h : ℕ) → claim_at x ≡ claim_at y → h < 16777216 → IsIdleWord h old → R st me y (request_at K y h) m =
-          λ R m d y h here f' w. (let o = one y h here f' w in subst (λ (z : ℕ × ℕ). R st me z.0 (request_at K z.0 z.1) m) (λ i. (o.0 i, o.1 i)) d) in
+      λ R m d y h here f' w. (let o = one y h here f' w in subst (λ (z : ℕ × ℕ). R st me z.0 (request_at K z.0 z.1) m) (λ i. (o.0 i, o.1 i)) d) in
       shaped M (claim_at x) (λ n. either (eqb n old) new n) (tried_idle P Q st me) live
       (λ s r at. let n : ℕ = get_or s.words (claim_at x) 0 in exchanged n old new (λ m. Does s (claim_at x) m (tried_idle P Q st me n))
       (λ hit. told_as s (claim_at x) new (P st me x (request_at K x g)) (tried_idle P Q st me n) (λ m d last. (

@@ -9,7 +9,7 @@ use Rattle.std.specs.Box.Ownership.{box_owns}
 use Rattle.std.specs.contracts.boxed.Box.from_raw
 use Rattle.ring_c.specs.contracts.parts.Parts
 use Rattle.ring_c.specs.contracts.parts.Parts.into_box
-use Rattle.ring_c.proofs.Common.{!, B, Body, Bx, D, Goes-blank, Item, List, P, R, RattleType, Stays, T, Val, WT, WpFn, [], alloc_all, and_then, ap, args, assign, at_ret, await, block_ptr, blocks, box_in, box_out, box_ty, box_typed, by, copy, done, drop, ends_at, ent, enter, env, exec, fact, feq_i, first, fjoin, fld, flft, free_all, fsep, fsplit, ftrue, get, get_in, has_ty, heard, id⊢, join, lands_last, later, look_at, move, no, no_more, nothing, of_opd, only, pass_all, pick, place, plain, proved_at, qed, raw, refl, return, returns, rewrite, rv_opd, says, seq, sets, some, split, split3, stay_dropped, stop, sub, subst, suffices, sym, tables, token, use1, vptr, walk_of, whole, word, ‵, ◌$◌, ◌++◌, ◌∵◌, ◌∷◌, ◌≡◌, ◌⊛◌}
+use Rattle.ring_c.proofs.Common.{ !, B, Body, Bx, D, Goes-blank, Item, List, P, R, RattleType, Stays, T, Val, WT, WpFn, [], alloc_all, and_then, ap, args, assign, at_ret, await, block_ptr, blocks, box_in, box_out, box_ty, box_typed, by, copy, done, drop, ends_at, ent, enter, env, exec, fact, feq_i, first, fjoin, fld, flft, free_all, fsep, fsplit, ftrue, get, get_in, has_ty, heard, id⊢, join, lands_last, later, look_at, move, no, no_more, nothing, of_opd, only, pass_all, pick, place, plain, proved_at, qed, raw, refl, return, returns, rewrite, rv_opd, says, seq, sets, some, split, split3, stay_dropped, stop, sub, subst, suffices, sym, tables, token, use1, vptr, walk_of, whole, word, ‵, ◌$◌, ◌++◌, ◌∵◌, ◌∷◌, ◌≡◌, ◌⊛◌}
 use Rattle.ring_c.proofs.parts.Parts.into_box.Statement
 use Rattle.ring_c.proofs.parts.Parts.into_box.Code
 

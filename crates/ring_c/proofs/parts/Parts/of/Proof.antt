@@ -13,7 +13,7 @@ use Rattle.std.specs.Box.Ownership.{box_owns}
 use Rattle.std.specs.contracts.boxed.Box.into_raw_with_allocator
 use Rattle.ring_c.specs.contracts.parts.Parts
 use Rattle.ring_c.specs.contracts.parts.Parts.of
-use Rattle.ring_c.proofs.Common.{!, Args, B, Bx, D, Goes-blank, Item, List, P, Ptr, R, RattleType, RawPtr, Stays, Val, WpFn, [], a_type, agg, alloc_all, and_then, ap, await, block_ptr, box_in, box_out, box_typed, by, dcons, dnil, done, drop, ends_at, ent, enter, fact, feq_l, fjoin, fld, flft, fpick, free_all, fsep, fsplit, fst∗, ftrue, get, get_in, handle_tells, heard, id⊢, in_a_block, join, lands_as, later, look_at, move, never, no, no_more, nothing, null_ptr, of_list, of_opd, only, pass_all, pick, plain, proved_at, ptr_val, qed, raw, refl, returns, rewrite, says, sets, some, split, split3, stay_dropped, stop, sub, subst, suffices, sym, tables, token, use1, vstruct, walk_of, whole, word, τ, ‵, ◌$◌, ◌++◌, ◌∙◌, ◌∵◌, ◌∷◌, ◌≡◌, ◌⊛◌}
+use Rattle.ring_c.proofs.Common.{ !, Args, B, Bx, D, Goes-blank, Item, List, P, Ptr, R, RattleType, RawPtr, Stays, Val, WpFn, [], a_type, agg, alloc_all, and_then, ap, await, block_ptr, box_in, box_out, box_typed, by, dcons, dnil, done, drop, ends_at, ent, enter, fact, feq_l, fjoin, fld, flft, fpick, free_all, fsep, fsplit, fst∗, ftrue, get, get_in, handle_tells, heard, id⊢, in_a_block, join, lands_as, later, look_at, move, never, no, no_more, nothing, null_ptr, of_list, of_opd, only, pass_all, pick, plain, proved_at, ptr_val, qed, raw, refl, returns, rewrite, says, sets, some, split, split3, stay_dropped, stop, sub, subst, suffices, sym, tables, token, use1, vstruct, walk_of, whole, word, τ, ‵, ◌$◌, ◌++◌, ◌∙◌, ◌∵◌, ◌∷◌, ◌≡◌, ◌⊛◌}
 use Rattle.ring_c.proofs.parts.Parts.of.Statement
 use Rattle.ring_c.proofs.parts.Parts.of.Code
 

@@ -6,7 +6,7 @@ use Rattle.std.proofs.ResultValues.{and_tt}
 use Rattle.std.specs.contracts.alloc.Global
 use Rattle.ring_c.specs.contracts.slot.Slot
 use Rattle.ring_c.specs.contracts.slot.Slot.empty
-use Rattle.ring_c.proofs.Common.{!, Goes-dropped, Item, List, None, Stays, T, Val, Valss, WT, WpFn, [], agg, alloc_all, and_then, by, done, drop, emp, ends_at, ent, enter, feq_i, fjoin, fpack, free_all, fsep, fsplit, ftrue, get, handle_tells, has_ty, join, lit, look_at, move, no_more, nothing, null_ptr, of_opd, pass_all, plain, proved_at, ptr_val, qed, raw, refl, returns, says, sets, split, stay_dropped, subst, suffices, sym, tables, tcons, tnil, ty_ptr, ty_struct, vcons, vnil, vstruct, walk_of, yes, α, ‵, ◌$◌, ◌++◌, ◌∵◌, ◌∷◌, ◌⊛◌}
+use Rattle.ring_c.proofs.Common.{ !, Goes-dropped, Item, List, None, Stays, T, Val, Valss, WT, WpFn, [], agg, alloc_all, and_then, by, done, drop, emp, ends_at, ent, enter, feq_i, fjoin, fpack, free_all, fsep, fsplit, ftrue, get, handle_tells, has_ty, join, lit, look_at, move, no_more, nothing, null_ptr, of_opd, pass_all, plain, proved_at, ptr_val, qed, raw, refl, returns, says, sets, split, stay_dropped, subst, suffices, sym, tables, tcons, tnil, ty_ptr, ty_struct, vcons, vnil, vstruct, walk_of, yes, α, ‵, ◌$◌, ◌++◌, ◌∵◌, ◌∷◌, ◌⊛◌}
 use Rattle.ring_c.proofs.AsBox.{E}
 use Rattle.ring_c.proofs.slot.Slot.empty.Statement
 use Rattle.ring_c.proofs.slot.Slot.empty.Code

@@ -1,6 +1,6 @@
 -- `of_parts` moves two fields, and what they own goes with them.
 use Rattle.ring_c.specs.contracts.slot.Slot.of_parts
-use Rattle.ring_c.proofs.Common.{!, B, D, Goes-dropped, Item, List, Some, Stays, Val, WpFn, [], agg, alloc_all, and_then, box_in, box_out, box_typed, by, done, drop, emp, ends_at, ent, enter, fjoin, fld, free_all, fsep, fsplit, ftrue, get, get_in, id⊢, join, look_at, move, no_more, nothing, of_opd, pass_all, proved_at, qed, raw, refl, returns, says, sets, split, stay_dropped, stop, sub, subst, suffices, sym, tables, type_at, use1, walk_of, whole, word, yes, ‵, ◌$◌, ◌++◌, ◌∵◌, ◌∷◌, ◌⊛◌}
+use Rattle.ring_c.proofs.Common.{ !, B, D, Goes-dropped, Item, List, Some, Stays, Val, WpFn, [], agg, alloc_all, and_then, box_in, box_out, box_typed, by, done, drop, emp, ends_at, ent, enter, fjoin, fld, free_all, fsep, fsplit, ftrue, get, get_in, id⊢, join, look_at, move, no_more, nothing, of_opd, pass_all, proved_at, qed, raw, refl, returns, says, sets, split, stay_dropped, stop, sub, subst, suffices, sym, tables, type_at, use1, walk_of, whole, word, yes, ‵, ◌$◌, ◌++◌, ◌∵◌, ◌∷◌, ◌⊛◌}
 use Rattle.ring_c.proofs.AsBox.{E, FromParts}
 use Rattle.ring_c.proofs.slot.Slot.of_parts.Statement
 use Rattle.ring_c.proofs.slot.Slot.of_parts.Code
