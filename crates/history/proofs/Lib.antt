@@ -6,6 +6,8 @@ pub mod Contents
 pub mod Growth
 pub mod LaterReplies
 pub mod Opening
+pub mod PipeAnswers
+pub mod PipesLeft
 pub mod Requests
 pub mod Futures
 pub mod Swaps

@@ -95,6 +95,20 @@ module _ (caps : List ℕ) (flow_at : ℕ → Flow) where
   poll_of (write_end p) mask = cond (is_pipe caps p && not (flow_at p).write_shut) (answer_poll (write_events (slice_index caps p) (flow_at p)) mask) bad_end
   poll_of no_end mask = bad_end
 
+  -- what an operation is answered from what is in the pipes. That of a cancel hangs on other requests, and a timer has none of a worker
+  abbrev pub answer_at : Op → Answer
+  answer_at Nop = now (pos 0) []
+  answer_at Invalid = now (negsuc 21) []
+  answer_at (Read fd offset len) = read_from (end_of fd) len
+  answer_at (Write fd offset len) = write_to (end_of fd) len
+  answer_at (Splice fd_in fd len) = splice_of (end_of fd_in) (end_of fd) len
+  answer_at (Close fd) = close_of (end_of fd)
+  answer_at (PollAdd fd mask) = poll_of (end_of fd) mask
+  answer_at (AsyncCancel user_data all) = later
+  answer_at (TimeoutRemove user_data) = later
+  answer_at (Timeout ticks etime_success count) = later
+  answer_at (LinkTimeout ticks) = later
+
 -- the cancel asks for such an entry: io_uring_prep_cancel64(3) for any but a LINK_TIMEOUT, io_uring_prep_timeout_remove(3) for a TIMEOUT
 abbrev pub asks_for : Op → Entry → Bool
 asks_for (AsyncCancel user_data all) e = (e.user_data == user_data) && not (is_link_timeout e.op)
@@ -144,18 +158,13 @@ abbrev pub CancelBy : Bool → List Event → Req → Hit → ℤ → Type 0
 CancelBy true h c x res = (res ≡ pos (tally x)) × AllTried h c x
 CancelBy false h c x res = CancelAnswers h c x res
 
+-- that of an operation of a worker
 abbrev pub OpAnswers : List ℕ → List Event → Req → Op → ℤ → List ℕ → Type 0
-OpAnswers caps h r Nop res data' = now (pos 0) [] ≡ now res data'
-OpAnswers caps h r Invalid res data' = now (negsuc 21) [] ≡ now res data'
-OpAnswers caps h r (Read fd offset len) res data' = read_from caps (flow h) (end_of fd) len ≡ now res data'
-OpAnswers caps h r (Write fd offset len) res data' = write_to caps (flow h) (end_of fd) len ≡ now res data'
-OpAnswers caps h r (Splice fd_in fd len) res data' = splice_of caps (flow h) (end_of fd_in) (end_of fd) len ≡ now res data'
-OpAnswers caps h r (Close fd) res data' = close_of caps (flow h) (end_of fd) ≡ now res data'
-OpAnswers caps h r (PollAdd fd mask) res data' = poll_of caps (flow h) (end_of fd) mask ≡ now res data'
 OpAnswers caps h r (AsyncCancel user_data all) res data' = CancelBy all h r (hit h r) res × (data' ≡ [])
 OpAnswers caps h r (TimeoutRemove user_data) res data' = CancelAnswers h r (hit h r) res × (data' ≡ [])
 OpAnswers caps h r (Timeout ticks etime_success count) res data' = ⊥
 OpAnswers caps h r (LinkTimeout ticks) res data' = ⊥
+OpAnswers caps h r op res data' = answer_at caps (flow h) op ≡ now res data'
 
 -- a worker may answer r with this reply and these data
 abbrev pub Answers : List ℕ → List Event → Req → ℤ → List ℕ → Type 0

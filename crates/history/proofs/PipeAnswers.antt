@@ -1,0 +1,225 @@
+-- What an operation is answered from the pipes: it hangs on what those hold whose ends it names, is an error where one isn't there, and
+-- comes with data to a READ alone.
+use Rattle.std.specs.Prelude.{bit_and, bit_or}
+use Rattle.history.specs.Users.{is_at, uses_at}
+use Rattle.history.specs.Answers.{answer_at, free_in, most_spliced}
+use Rattle.history.proofs.Common.{Answer, AsyncCancel, Bool, Close, End, Flow, Held, Invalid, LinkTimeout, List, Nop, Op, PollAdd, Read, Splice, Timeout, TimeoutRemove, Write, [], answer_poll, answer_read, answer_splice, answer_write, ap, bad_end, close_of, cond, content, end_of, eq-eqb, eqb-true, false, held_in, inl, inr, is_pipe, later, length, min, nat_le, nat_lt, negsuc, no_end, not, now, poll_of, pos, read_end, read_events, read_from, refl, slice_index, splice_into, splice_of, sym, take, true, true≢false, write_end, write_events, write_to, ℕ, ℤ, ⊎_elim, ◌&&◌, ◌+◌, ◌-◌, ◌==◌, ◌||◌, ◌∙◌, ◌≡◌, ◌⊎◌}
+use Rattle.history.proofs.Requests.{bool_cases}
+
+or_true : (b : Bool) → (b || true) ≡ true
+or_true true = refl
+or_true false = refl
+
+one_bad : (b : Bool) → cond b bad_end (let x : Answer = bad_end in x) ≡ bad_end
+one_bad true = refl
+one_bad false = refl
+
+if_same : (b : Bool) (x y : Answer) → (b ≡ true → x ≡ y) → cond b x (let z : Answer = bad_end in z) ≡ cond b y bad_end
+if_same true x y e = e refl
+if_same false x y e = refl
+
+and_same : (b : Bool) (k z : Bool) (x y : Answer) → (b ≡ true → cond (not k) x (let w : Answer = bad_end in w) ≡ cond (not z) y bad_end) → cond (b && not k) x (let w : Answer = bad_end in w) ≡ cond (b && not z) y bad_end
+and_same true k z x y e = e refl
+and_same false k z x y e = refl
+
+-- ---- it hangs on what the pipes hold
+
+module _ (caps : List ℕ) (f g : ℕ → Flow) where
+  abbrev Agree : End → Type 0
+  Agree x = (p : ℕ) → is_pipe caps p ≡ true → is_at x p ≡ true → held_in (f p) ≡ held_in (g p)
+
+  read_same : (x : End) (len : ℕ) → Agree x → read_from caps f x len ≡ read_from caps g x len
+  read_same (read_end p) len k = if_same (is_pipe caps p) _ _ (λ b. ap (λ (v : Held). cond v.read_shut bad_end (cond (len == 0) (now (pos 0) []) (cond (nat_lt 0 (length v.bytes)) (now (pos (min len (length v.bytes))) (take len v.bytes)) (cond v.write_shut (now (pos 0) []) later)))) (k p b (eq-eqb p p refl)))
+  read_same (write_end p) len k = refl
+  read_same no_end len k = refl
+
+  write_same : (x : End) (len : ℕ) → Agree x → write_to caps f x len ≡ write_to caps g x len
+  write_same (write_end p) len k = let cap = slice_index caps p in if_same (is_pipe caps p) _ _ (λ b. ap (λ (v : Held). cond v.write_shut bad_end
+      (cond (len == 0) (now (pos 0) [])
+      (cond v.read_shut (now (negsuc 31) [])
+      (cond (nat_le len cap) (cond (nat_le len (cap - length v.bytes)) (now (pos len) []) later)
+      (cond (nat_lt 0 (cap - length v.bytes)) (now (pos (cap - length v.bytes)) []) later))))) (k p b (eq-eqb p p refl)))
+  write_same (read_end p) len k = refl
+  write_same no_end len k = refl
+
+  into_same : (p q len : ℕ) → is_pipe caps p ≡ true → Agree (read_end p) → Agree (write_end q) → splice_into caps f p q len ≡ splice_into caps g p q len
+  into_same p q len b k l = let cap = slice_index caps q in and_same (is_pipe caps q) _ _ _ _ (λ c. (λ i. (let v : Held = k p b (eq-eqb p p refl) i in let w : Held = l q c (eq-eqb q q refl) i in
+      cond (not w.write_shut) (cond (p == q) (now (negsuc 21) []) (cond (len == 0) (now (pos 0) [])
+      (cond w.read_shut (now (negsuc 31) [])
+      (cond (nat_lt 0 (min (length v.bytes) (cap - length w.bytes))) (now (pos (min len (min (length v.bytes) (cap - length w.bytes)))) [])
+      (cond ((length v.bytes == 0) && v.write_shut) (now (pos 0) []) later))))) bad_end)))
+
+  splice_same : (x z : End) (len : ℕ) → Agree x → Agree z → splice_of caps f x z len ≡ splice_of caps g x z len
+  splice_same (read_end p) (write_end q) len k l = and_same (is_pipe caps p) _ _ _ _ (λ b.
+      ap (λ (v : Held). cond (not v.read_shut) (splice_into caps f p q len) bad_end) (k p b (eq-eqb p p refl)) ∙ ap (λ (x : Answer). cond (not (g p).read_shut) x bad_end) (into_same p q len b k l))
+  splice_same (read_end p) (read_end q) len k l = refl
+  splice_same (read_end p) no_end len k l = refl
+  splice_same (write_end p) z len k l = refl
+  splice_same no_end z len k l = refl
+
+  close_same : (x : End) → Agree x → close_of caps f x ≡ close_of caps g x
+  close_same (read_end p) k = and_same (is_pipe caps p) _ _ _ _ (λ b. ap (λ (v : Held). cond (not v.read_shut) (now (pos 0) []) bad_end) (k p b (eq-eqb p p refl)))
+  close_same (write_end p) k = and_same (is_pipe caps p) _ _ _ _ (λ b. ap (λ (v : Held). cond (not v.write_shut) (now (pos 0) []) bad_end) (k p b (eq-eqb p p refl)))
+  close_same no_end k = refl
+
+  poll_same : (x : End) (mask : ℕ) → Agree x → poll_of caps f x mask ≡ poll_of caps g x mask
+  poll_same (read_end p) mask k = and_same (is_pipe caps p) _ _ _ _ (λ b. ap (λ (v : Held). cond (not v.read_shut) (answer_poll (cond (nat_lt 0 (length v.bytes)) 1 0 + cond v.write_shut 16 0) mask) bad_end) (k p b (eq-eqb p p refl)))
+  poll_same (write_end p) mask k = let cap = slice_index caps p in and_same (is_pipe caps p) _ _ _ _ (λ b. ap (λ (v : Held). cond (not v.write_shut) (answer_poll (cond (nat_lt 0 (cap - length v.bytes)) 4 0 + cond v.read_shut 8 0) mask) bad_end) (k p b (eq-eqb p p refl)))
+  poll_same no_end mask k = refl
+
+  pub answer_same : (op : Op) → ((p : ℕ) → is_pipe caps p ≡ true → uses_at op p ≡ true → held_in (f p) ≡ held_in (g p)) → answer_at caps f op ≡ answer_at caps g op
+  answer_same (Read fd offset len) k = read_same (end_of fd) len k
+  answer_same (Write fd offset len) k = write_same (end_of fd) len k
+  answer_same (Splice fd_in fd len) k = splice_same (end_of fd_in) (end_of fd) len
+      (λ p t u. k p t (ap (λ (b : Bool). b || is_at (end_of fd) p) u)) (λ p t u. k p t (ap (λ (b : Bool). is_at (end_of fd_in) p || b) u ∙ or_true (is_at (end_of fd_in) p)))
+  answer_same (Close fd) k = close_same (end_of fd) k
+  answer_same (PollAdd fd mask) k = poll_same (end_of fd) mask k
+  answer_same op k = refl
+
+-- ---- pipes that are not there
+
+module _ (caps : List ℕ) (f : ℕ → Flow) where
+  -- no pipe that is there has this end
+  abbrev Off : End → Type 0
+  Off x = (p : ℕ) → is_at x p ≡ true → is_pipe caps p ≡ false
+
+  read_off : (x : End) (len : ℕ) → Off x → read_from caps f x len ≡ bad_end
+  read_off (read_end p) len n = ap (λ (b : Bool). cond b (answer_read (f p) len) bad_end) (n p (eq-eqb p p refl))
+  read_off (write_end p) len n = refl
+  read_off no_end len n = refl
+
+  write_off : (x : End) (len : ℕ) → Off x → write_to caps f x len ≡ bad_end
+  write_off (write_end p) len n = ap (λ (b : Bool). cond b (answer_write (slice_index caps p) (f p) len) bad_end) (n p (eq-eqb p p refl))
+  write_off (read_end p) len n = refl
+  write_off no_end len n = refl
+
+  splice_off : (x z : End) (len : ℕ) → Off x ⊎ Off z → splice_of caps f x z len ≡ bad_end
+  splice_off (read_end p) (write_end q) len n = ⊎_elim
+      (λ (o : Off (read_end p)). ap (λ (b : Bool). cond (b && not (f p).read_shut) (splice_into caps f p q len) bad_end) (o p (eq-eqb p p refl)))
+      (λ (o : Off (write_end q)).
+      ap (λ (b : Bool). cond (is_pipe caps p && not (f p).read_shut) (cond (b && not (f q).write_shut) (cond (p == q) (now (negsuc 21) []) (answer_splice (slice_index caps q) (f p) (f q) len)) bad_end) bad_end) (o q (eq-eqb q q refl))
+      ∙ one_bad (is_pipe caps p && not (f p).read_shut)) n
+  splice_off (read_end p) (read_end q) len n = refl
+  splice_off (read_end p) no_end len n = refl
+  splice_off (write_end p) z len n = refl
+  splice_off no_end z len n = refl
+
+  close_off : (x : End) → Off x → close_of caps f x ≡ bad_end
+  close_off (read_end p) n = ap (λ (b : Bool). cond (b && not (f p).read_shut) (now (pos 0) []) bad_end) (n p (eq-eqb p p refl))
+  close_off (write_end p) n = ap (λ (b : Bool). cond (b && not (f p).write_shut) (now (pos 0) []) bad_end) (n p (eq-eqb p p refl))
+  close_off no_end n = refl
+
+  poll_off : (x : End) (mask : ℕ) → Off x → poll_of caps f x mask ≡ bad_end
+  poll_off (read_end p) mask n = ap (λ (b : Bool). cond (b && not (f p).read_shut) (answer_poll (read_events (f p)) mask) bad_end) (n p (eq-eqb p p refl))
+  poll_off (write_end p) mask n = ap (λ (b : Bool). cond (b && not (f p).write_shut) (answer_poll (write_events (slice_index caps p) (f p)) mask) bad_end) (n p (eq-eqb p p refl))
+  poll_off no_end mask n = refl
+
+  -- the end of a pipe that isn't there
+  here : (x : End) (n : ℕ) → is_pipe caps n ≡ false → is_at x n ≡ true → Off x
+  here (read_end m) n e u p t = ap (is_pipe caps) (sym (eqb-true m p t) ∙ eqb-true m n u) ∙ e
+  here (write_end m) n e u p t = ap (is_pipe caps) (sym (eqb-true m p t) ∙ eqb-true m n u) ∙ e
+  here no_end n e u p t = absurd (true≢false (sym t))
+
+  -- the operation names a pipe that isn't there
+  pub answer_off : (op : Op) (n : ℕ) → is_pipe caps n ≡ false → uses_at op n ≡ true → answer_at caps f op ≡ bad_end
+  answer_off (Read fd offset len) n e u = read_off (end_of fd) len (here (end_of fd) n e u)
+  answer_off (Write fd offset len) n e u = write_off (end_of fd) len (here (end_of fd) n e u)
+  answer_off (Splice fd_in fd len) n e u = splice_off (end_of fd_in) (end_of fd) len (⊎_elim
+      (λ (t : is_at (end_of fd_in) n ≡ true). inl (here (end_of fd_in) n e t))
+      (λ (t : is_at (end_of fd_in) n ≡ false). inr (here (end_of fd) n e (sym (ap (λ (b : Bool). b || is_at (end_of fd) n) t) ∙ u))) (bool_cases (is_at (end_of fd_in) n)))
+  answer_off (Close fd) n e u = close_off (end_of fd) (here (end_of fd) n e u)
+  answer_off (PollAdd fd mask) n e u = poll_off (end_of fd) mask (here (end_of fd) n e u)
+  answer_off op n e u = absurd (true≢false (sym u))
+
+  -- an operation on a pipe has a bad end
+  abbrev pub IsBad : Op → Type 0
+  IsBad Nop = Unit {0}
+  IsBad Invalid = Unit {0}
+  IsBad (AsyncCancel user_data all) = Unit {0}
+  IsBad (TimeoutRemove user_data) = Unit {0}
+  IsBad (Timeout ticks etime_success count) = Unit {0}
+  IsBad (LinkTimeout ticks) = Unit {0}
+  IsBad op = answer_at caps f op ≡ bad_end
+
+  -- it names none that is there
+  pub answer_none : (op : Op) → ((p : ℕ) → uses_at op p ≡ true → is_pipe caps p ≡ false) → IsBad op
+  answer_none (Read fd offset len) n = read_off (end_of fd) len n
+  answer_none (Write fd offset len) n = write_off (end_of fd) len n
+  answer_none (Splice fd_in fd len) n = splice_off (end_of fd_in) (end_of fd) len (inl (λ p u. n p (ap (λ (b : Bool). b || is_at (end_of fd) p) u)))
+  answer_none (Close fd) n = close_off (end_of fd) n
+  answer_none (PollAdd fd mask) n = poll_off (end_of fd) mask n
+  answer_none op n = tt
+
+-- ---- data
+
+abbrev pub HasNone : Answer → Type 0
+HasNone a = (res : ℤ) (data' : List ℕ) → a ≡ now res data' → data' ≡ []
+
+pub either : (P : Answer → Type 0) (b : Bool) (x y : Answer) → P x → P y → P (cond b x y)
+either P true x y p q = p
+either P false x y p q = q
+
+none : (r : ℤ) → HasNone (now r [])
+none r res data' w = cc
+
+nothing_yet : HasNone later
+nothing_yet res data' w = cc
+
+writes : (cap : ℕ) (w : Flow) (len : ℕ) → HasNone (answer_write cap w len)
+writes cap w len =
+    either HasNone w.write_shut bad_end _ (none (negsuc 8))
+    (either HasNone (len == 0) (now (pos 0) []) _ (none (pos 0))
+    (either HasNone w.read_shut (now (negsuc 31) []) _ (none (negsuc 31))
+    (either HasNone (nat_le len cap) _ _
+    (either HasNone (nat_le len (free_in cap w)) (now (pos len) []) later (none (pos len)) nothing_yet)
+    (either HasNone (nat_lt 0 (free_in cap w)) (now (pos (free_in cap w)) []) later (none (pos (free_in cap w))) nothing_yet))))
+
+splices : (cap : ℕ) (v w : Flow) (len : ℕ) → HasNone (answer_splice cap v w len)
+splices cap v w len =
+    either HasNone (len == 0) (now (pos 0) []) _ (none (pos 0))
+    (either HasNone w.read_shut (now (negsuc 31) []) _ (none (negsuc 31))
+    (either HasNone (nat_lt 0 (most_spliced cap v w)) (now (pos (min len (most_spliced cap v w))) []) _ (none (pos (min len (most_spliced cap v w))))
+    (either HasNone ((length (content v) == 0) && v.write_shut) (now (pos 0) []) later (none (pos 0)) nothing_yet)))
+
+polls : (events mask : ℕ) → HasNone (answer_poll events mask)
+polls events mask = let b : ℕ = bit_and events (bit_or mask 24) in either HasNone (b == 0) later (now (pos b) []) nothing_yet (none (pos b))
+
+module _ (caps : List ℕ) (f : ℕ → Flow) where
+  writes_to : (x : End) (len : ℕ) → HasNone (write_to caps f x len)
+  writes_to (write_end p) len = either HasNone (is_pipe caps p) (answer_write (slice_index caps p) (f p) len) bad_end (writes (slice_index caps p) (f p) len) (none (negsuc 8))
+  writes_to _ len = none (negsuc 8)
+
+  splices_into : (p q len : ℕ) → HasNone (splice_into caps f p q len)
+  splices_into p q len =
+      either HasNone (is_pipe caps q && not (f q).write_shut) _ bad_end
+      (either HasNone (p == q) (now (negsuc 21) []) _ (none (negsuc 21)) (splices (slice_index caps q) (f p) (f q) len))
+      (none (negsuc 8))
+
+  splices_of : (x z : End) (len : ℕ) → HasNone (splice_of caps f x z len)
+  splices_of (read_end p) (write_end q) len = either HasNone (is_pipe caps p && not (f p).read_shut) (splice_into caps f p q len) bad_end (splices_into p q len) (none (negsuc 8))
+  splices_of _ _ len = none (negsuc 8)
+
+  closes_of : (x : End) → HasNone (close_of caps f x)
+  closes_of (read_end p) = either HasNone (is_pipe caps p && not (f p).read_shut) (now (pos 0) []) bad_end (none (pos 0)) (none (negsuc 8))
+  closes_of (write_end p) = either HasNone (is_pipe caps p && not (f p).write_shut) (now (pos 0) []) bad_end (none (pos 0)) (none (negsuc 8))
+  closes_of no_end = none (negsuc 8)
+
+  polls_of : (x : End) (mask : ℕ) → HasNone (poll_of caps f x mask)
+  polls_of (read_end p) mask = either HasNone (is_pipe caps p && not (f p).read_shut) (answer_poll (read_events (f p)) mask) bad_end (polls (read_events (f p)) mask) (none (negsuc 8))
+  polls_of (write_end p) mask = either HasNone (is_pipe caps p && not (f p).write_shut) (answer_poll (write_events (slice_index caps p) (f p)) mask) bad_end (polls (write_events (slice_index caps p) (f p)) mask) (none (negsuc 8))
+  polls_of no_end mask = none (negsuc 8)
+
+  -- the answers that bring none
+  abbrev pub IsBare : Op → Type 0
+  IsBare (Read fd offset len) = Unit {0}
+  IsBare op = HasNone (answer_at caps f op)
+
+  pub answer_bare : (op : Op) → IsBare op
+  answer_bare (Read fd offset len) = tt
+  answer_bare (Write fd offset len) = writes_to (end_of fd) len
+  answer_bare (Splice fd_in fd len) = splices_of (end_of fd_in) (end_of fd) len
+  answer_bare (Close fd) = closes_of (end_of fd)
+  answer_bare (PollAdd fd mask) = polls_of (end_of fd) mask
+  answer_bare Nop = none (pos 0)
+  answer_bare Invalid = none (negsuc 21)
+  answer_bare op = nothing_yet
