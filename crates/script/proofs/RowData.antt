@@ -1,17 +1,17 @@
 -- The data of an answered request are as many as its reply says of a READ, and none of another entry.
-use Rattle.std.proofs.Common.{slice_index}
 use Rattle.std.proofs.lemmas.List.{length-take}
 use Rattle.entry.specs.declared.op.Offset.{Offset}
 use Rattle.entry.specs.declared.op.Op.{Op}
-use Rattle.entry.specs.declared.op.Op.TheVariants.{Nop, PollAdd, Timeout, TimeoutRemove, AsyncCancel, LinkTimeout, Close, Read, Write, Splice, Invalid}
+use Rattle.entry.specs.declared.op.Op.TheVariants.{Timeout, TimeoutRemove, AsyncCancel, LinkTimeout, Read, Invalid}
 use Rattle.entry.specs.Entry.{Entry}
 use Rattle.history.specs.declared.event.Event.TheVariants as event
 use Rattle.history.specs.Chains.{is_link_timeout, hosts, placed_behind, placed_from, before_in}
-use Rattle.history.specs.Pipes.{Flow, flow, content, End, no_end, read_end, write_end, end_of}
-use Rattle.history.specs.Answers.{Answer, now, later, bad_end, answer_read, answer_write, answer_splice, answer_poll, free_in, most_spliced, read_events, write_events, is_pipe, read_from, write_to, splice_into, splice_of, close_of, poll_of, OpAnswers, Answers}
+use Rattle.history.specs.Pipes.{Flow, flow, content, End, read_end, end_of}
+use Rattle.history.specs.Answers.{Answer, now, later, bad_end, answer_read, is_pipe, read_from, OpAnswers, Answers}
 use Rattle.history.proofs.Growth.{MayChange, may_change, changed, unchanged}
+use Rattle.history.proofs.PipeAnswers.{answer_bare, either}
 use Rattle.script.specs.Rows.{data_count}
-use Rattle.script.proofs.Common.{Bool, Event, Legal, List, None, Option, Phase, Req, Setup, Some, Submission, [], ap, armed, becomes, bit_and, bit_or, bool_cases, concerns, cond, data_of, false, fired, length, min, nat_le, nat_lt, negsuc, not, phase, pos, refl, replied, reply, reply_in, runs, same_true, submission, subst, sym, take, true, true≢false, waits, ℕ, ℤ, ⊎_elim, ◌&&◌, ◌==◌, ◌∙◌, ◌∷◌, ◌≡◌}
+use Rattle.script.proofs.Common.{Bool, Event, Legal, List, None, Option, Phase, Req, Setup, Some, Submission, [], ap, armed, becomes, bool_cases, concerns, cond, data_of, false, fired, length, min, nat_lt, negsuc, not, phase, pos, refl, replied, reply, reply_in, runs, same_true, submission, subst, sym, take, true, true≢false, waits, ℕ, ℤ, ⊎_elim, ◌&&◌, ◌==◌, ◌∙◌, ◌∷◌, ◌≡◌}
 
 -- ---- what answers come with
 
@@ -29,21 +29,8 @@ count (negsuc n) = 0
 abbrev AsMany : Answer → Type 0
 AsMany a = (res : ℤ) (data' : List ℕ) → a ≡ now res data' → length data' ≡ count res
 
-abbrev HasNone : Answer → Type 0
-HasNone a = (res : ℤ) (data' : List ℕ) → a ≡ now res data' → length data' ≡ 0
-
-either : (P : Answer → Type 0) (b : Bool) (x y : Answer) → P x → P y → P (cond b x y)
-either P true x y p q = p
-either P false x y p q = q
-
 many : (r : ℤ) (d : List ℕ) → length d ≡ count r → AsMany (now r d)
 many r d e res data' w = let z = parts r res d data' w in ap length (sym z.1) ∙ (e ∙ ap count z.0)
-
-none : (r : ℤ) → HasNone (now r [])
-none r res data' w = ap length (sym (parts r res [] data' w).1)
-
-nothing_yet : HasNone later
-nothing_yet res data' w = absurd (never res data' w)
 
 not_yet : AsMany later
 not_yet res data' w = absurd (never res data' w)
@@ -59,65 +46,17 @@ reads_from : (caps : List ℕ) (flow_at : ℕ → Flow) (e : End) (len : ℕ) �
 reads_from caps flow_at (read_end p) len = either AsMany (is_pipe caps p) (answer_read (flow_at p) len) bad_end (reads (flow_at p) len) (many (negsuc 8) [] refl)
 reads_from caps flow_at _ len = many (negsuc 8) [] refl
 
-writes : (cap : ℕ) (w : Flow) (len : ℕ) → HasNone (answer_write cap w len)
-writes cap w len =
-    either HasNone w.write_shut bad_end _ (none (negsuc 8))
-    (either HasNone (len == 0) (now (pos 0) []) _ (none (pos 0))
-    (either HasNone w.read_shut (now (negsuc 31) []) _ (none (negsuc 31))
-    (either HasNone (nat_le len cap) _ _
-    (either HasNone (nat_le len (free_in cap w)) (now (pos len) []) later (none (pos len)) nothing_yet)
-    (either HasNone (nat_lt 0 (free_in cap w)) (now (pos (free_in cap w)) []) later (none (pos (free_in cap w))) nothing_yet))))
-
-writes_to : (caps : List ℕ) (flow_at : ℕ → Flow) (e : End) (len : ℕ) → HasNone (write_to caps flow_at e len)
-writes_to caps flow_at (write_end p) len = either HasNone (is_pipe caps p) (answer_write (slice_index caps p) (flow_at p) len) bad_end (writes (slice_index caps p) (flow_at p) len) (none (negsuc 8))
-writes_to caps flow_at _ len = none (negsuc 8)
-
-splices : (cap : ℕ) (v w : Flow) (len : ℕ) → HasNone (answer_splice cap v w len)
-splices cap v w len =
-    either HasNone (len == 0) (now (pos 0) []) _ (none (pos 0))
-    (either HasNone w.read_shut (now (negsuc 31) []) _ (none (negsuc 31))
-    (either HasNone (nat_lt 0 (most_spliced cap v w)) (now (pos (min len (most_spliced cap v w))) []) _ (none (pos (min len (most_spliced cap v w))))
-    (either HasNone ((length (content v) == 0) && v.write_shut) (now (pos 0) []) later (none (pos 0)) nothing_yet)))
-
-splices_into : (caps : List ℕ) (flow_at : ℕ → Flow) (p q len : ℕ) → HasNone (splice_into caps flow_at p q len)
-splices_into caps flow_at p q len =
-    either HasNone (is_pipe caps q && not (flow_at q).write_shut) _ bad_end
-    (either HasNone (p == q) (now (negsuc 21) []) _ (none (negsuc 21)) (splices (slice_index caps q) (flow_at p) (flow_at q) len))
-    (none (negsuc 8))
-
-splices_of : (caps : List ℕ) (flow_at : ℕ → Flow) (x y : End) (len : ℕ) → HasNone (splice_of caps flow_at x y len)
-splices_of caps flow_at (read_end p) (write_end q) len = either HasNone (is_pipe caps p && not (flow_at p).read_shut) (splice_into caps flow_at p q len) bad_end (splices_into caps flow_at p q len) (none (negsuc 8))
-splices_of caps flow_at _ _ len = none (negsuc 8)
-
-closes : (caps : List ℕ) (flow_at : ℕ → Flow) (e : End) → HasNone (close_of caps flow_at e)
-closes caps flow_at (read_end p) = either HasNone (is_pipe caps p && not (flow_at p).read_shut) (now (pos 0) []) bad_end (none (pos 0)) (none (negsuc 8))
-closes caps flow_at (write_end p) = either HasNone (is_pipe caps p && not (flow_at p).write_shut) (now (pos 0) []) bad_end (none (pos 0)) (none (negsuc 8))
-closes caps flow_at no_end = none (negsuc 8)
-
-polls_one : (events mask : ℕ) → HasNone (answer_poll events mask)
-polls_one events mask = let b : ℕ = bit_and events (bit_or mask 24) in either HasNone (b == 0) later (now (pos b) []) nothing_yet (none (pos b))
-
-polls : (caps : List ℕ) (flow_at : ℕ → Flow) (e : End) (mask : ℕ) → HasNone (poll_of caps flow_at e mask)
-polls caps flow_at (read_end p) mask = either HasNone (is_pipe caps p && not (flow_at p).read_shut) (answer_poll (read_events (flow_at p)) mask) bad_end (polls_one (read_events (flow_at p)) mask) (none (negsuc 8))
-polls caps flow_at (write_end p) mask = either HasNone (is_pipe caps p && not (flow_at p).write_shut) (answer_poll (write_events (slice_index caps p) (flow_at p)) mask) bad_end (polls_one (write_events (slice_index caps p) (flow_at p)) mask) (none (negsuc 8))
-polls caps flow_at no_end mask = none (negsuc 8)
-
 read_count : (fd : ℤ) (offset : Offset) (len : ℕ) (res : ℤ) → count res ≡ data_count (Read fd offset len) res
 read_count fd offset len (pos n) = refl
 read_count fd offset len (negsuc n) = refl
 
 answer_long : (caps : List ℕ) (h : List Event) (r : Req) (op : Op) (res : ℤ) (data' : List ℕ) → OpAnswers caps h r op res data' → length data' ≡ data_count op res
-answer_long caps h r Nop res data' a = none (pos 0) res data' a
-answer_long caps h r Invalid res data' a = none (negsuc 21) res data' a
 answer_long caps h r (Read fd offset len) res data' a = reads_from caps (flow h) (end_of fd) len res data' a ∙ read_count fd offset len res
-answer_long caps h r (Write fd offset len) res data' a = writes_to caps (flow h) (end_of fd) len res data' a
-answer_long caps h r (Splice fd_in fd_out len) res data' a = splices_of caps (flow h) (end_of fd_in) (end_of fd_out) len res data' a
-answer_long caps h r (Close fd) res data' a = closes caps (flow h) (end_of fd) res data' a
-answer_long caps h r (PollAdd fd mask) res data' a = polls caps (flow h) (end_of fd) mask res data' a
 answer_long caps h r (AsyncCancel user_data all) res data' a = ap length a.1
 answer_long caps h r (TimeoutRemove user_data) res data' a = ap length a.1
 answer_long caps h r (Timeout ticks etime_success count) res data' a = absurd a
 answer_long caps h r (LinkTimeout ticks) res data' a = absurd a
+answer_long caps h r op res data' a = ap length (answer_bare caps (flow h) op res data' a)
 
 -- ---- the entry as it is placed, and as it was handed in
 
