@@ -1,7 +1,11 @@
 pub mod ClockLaws
 pub mod Common
 pub mod TurnLaws
+pub mod PassLaws
 pub mod DeskLaws
+pub mod DueTimers
+pub mod HeldBack
+pub mod TurnParts
 pub mod ShiftLaws
 pub mod RuntimeParts
 pub mod WaitLaws

@@ -10,9 +10,9 @@ use Rattle.ready.specs.Rule.{all_shares}
 use Rattle.ready.specs.QueueParts.{IsRoom}
 use Rattle.runtime.specs.declared.shared.Shared.{Shared}
 use Rattle.runtime.specs.declared.started.EndRoom.{EndRoom}
-use Rattle.runtime.specs.declared.started.PollThread.{PollThread}
-use Rattle.runtime.specs.declared.started.PollThread.TheVariants.{Runs, Ended}
-use Rattle.runtime.specs.declared.started.WorkThread.{WorkThread}
+use Rattle.runtime.specs.declared.promised.PollThread.{PollThread}
+use Rattle.runtime.specs.declared.promised.PollThread.TheVariants.{Runs, Ended}
+use Rattle.runtime.specs.declared.promised.WorkThread.{WorkThread}
 use Rattle.runtime.specs.declared.threads.PollSide.{PollSide}
 use Rattle.runtime.specs.declared.threads.WorkSide.{WorkSide}
 use Rattle.runtime.specs.Loops.{IsPollSide, IsWorkSide}

@@ -5,7 +5,7 @@ use Rattle.board.specs.declared.shape.Shape.{Shape}
 use Rattle.board.specs.New.{IsNew}
 use Rattle.ready.specs.Ready.{IsOf as IsOfQueue}
 use Rattle.ready.specs.Rule.{all_shares}
-use Rattle.runtime.specs.declared.startup.Parts.{Parts}
+use Rattle.runtime.specs.declared.parts.Parts.{Parts}
 use Rattle.runtime.specs.declared.crew.WorkerParts.{WorkerParts}
 
 -- the ringer of this bell and of the ring n, which has told no tail

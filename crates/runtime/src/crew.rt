@@ -11,10 +11,10 @@ ghost use Rattle.runtime.specs.StartParts.{HavePairs};
 ghost use Rattle.runtime.specs.declared.error.StartError.TheVariants.{BadShape};
 
 use crate::error::{Memory, StartError};
+use crate::promised::{Ours, WorkThread};
 use crate::serving::{Others, WorkDesk};
 use crate::shared::Shared;
 use crate::sleeping::{Caller, Listener};
-use crate::started::{Ours, WorkThread};
 use crate::threads::{WorkSide, work};
 use board::Worker;
 use controls::Turnstile;

@@ -1,5 +1,5 @@
 use Rattle.ready.specs.Ready.{IsOf as IsOfQueue}
-use Rattle.runtime.specs.declared.started.WorkThread.{WorkThread}
+use Rattle.runtime.specs.declared.promised.WorkThread.{WorkThread}
 use Rattle.runtime.proofs.Common.{All, All-pop, All-push, IsOf, List, Moves, Pass, Some, [], ap, arc_value, arith, length, length-append, rules, shares_of, subst, sum_by, sum_by_push, sym, ◌++◌, ◌∷◌, ◌≡◌}
 use Rattle.runtime.proofs.crew.start_workers.Goals as goal
 

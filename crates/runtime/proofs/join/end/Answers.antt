@@ -1,5 +1,5 @@
 use Rattle.runtime.proofs.Common.{List, Moves, Req, all_put, all_taken, ap, arith, rules, subst, times, ◌≡◌}
-use Rattle.runtime.proofs.DeskLaws.{none_there}
+use Rattle.runtime.proofs.TurnParts.{none_there}
 use Rattle.runtime.proofs.join.end.Goals as goal
 
 pub returns-clause-drained : goal.returns-clause-drained

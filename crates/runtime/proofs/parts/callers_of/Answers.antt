@@ -1,5 +1,5 @@
 use Rattle.runtime.proofs.Common.{All-pop, IsNotifierOf, Notifying, Some, [], ap, arc_value, arith, length, length-append, rules, sym, ◌∙◌, ◌∷◌}
-use Rattle.runtime.proofs.startup.callers_of.Goals as goal
+use Rattle.runtime.proofs.parts.callers_of.Goals as goal
 
 pub new-requires : goal.new-requires
 new-requires c = (All-pop (λ (n : Notifying). IsNotifierOf (arc_value c.args.count.now) n) c.loop-notifier.notifiers.items c.pop.new.self.items (Some c.in-Some.notifier) c.in-Some.ensures.items c.loop-notifier.invariant.notifiers).1 ∙ sym c.in-Ok.ensures

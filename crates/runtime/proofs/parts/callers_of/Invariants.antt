@@ -1,5 +1,5 @@
 use Rattle.runtime.proofs.Common.{All, IsNotifierOf, arc_value, length, vec_capacity, ◌+◌, ◌≡◌, ◌≤◌}
-use Rattle.runtime.proofs.startup.callers_of.Given as goal
+use Rattle.runtime.proofs.parts.callers_of.Given as goal
 
 abbrev pub invariant-loop-notifier : goal.invariant-loop-notifier
 invariant-loop-notifier l = record {

@@ -2,7 +2,7 @@ use Rattle.board.specs.New.{AreSubmitters, IsFresh}
 use Rattle.board.proofs.PassLists.{last_submitter}
 use Rattle.runtime.proofs.Common.{AreNewClients, AreRingers, IsNewClient, IsOf, IsRingerOf, Pass, Shared, Submitter, [], ap, arc_value, arith, length, length-append, reverse, rules, subst, sym, ◌+◌, ◌∙◌, ◌∷◌, ◌≡◌}
 use Rattle.runtime.proofs.RuntimeParts.{last_ringer, more_clients, same_ring}
-use Rattle.runtime.proofs.startup.clients_of.Goals as goal
+use Rattle.runtime.proofs.parts.clients_of.Goals as goal
 
 pub new-requires-clause-submitter : goal.new-requires-clause-submitter
 new-requires-clause-submitter c =

@@ -1,6 +1,6 @@
 use Rattle.board.specs.New.{AreSubmitters}
 use Rattle.runtime.proofs.Common.{AreNewClients, AreRingers, arc_value, length, reverse, vec_capacity, ◌+◌, ◌≡◌, ◌≤◌}
-use Rattle.runtime.proofs.startup.clients_of.Given as goal
+use Rattle.runtime.proofs.parts.clients_of.Given as goal
 
 abbrev pub invariant-loop-submitter : goal.invariant-loop-submitter
 invariant-loop-submitter l = record {

@@ -1,6 +1,6 @@
 use Rattle.event_count.specs.Passes.{Waiting}
 use Rattle.runtime.proofs.Common.{All-pop, IsWaiterOf, Some, [], ap, arc_value, arith, false, length, length-append, rules, sym, ◌∙◌, ◌∷◌, ◌≡◌}
-use Rattle.runtime.proofs.startup.listeners_of.Goals as goal
+use Rattle.runtime.proofs.parts.listeners_of.Goals as goal
 
 pub new-requires-clause-own : goal.new-requires-clause-own
 new-requires-clause-own c = (All-pop (λ (w : Waiting). IsWaiterOf (arc_value c.args.count.now) w × (w.entered ≡ false)) c.loop-waiter.waiters.items c.pop.new.self.items (Some c.in-Some.waiter) c.in-Some.ensures.items c.loop-waiter.invariant.waiters).1.0 ∙ sym c.in-Ok.ensures

@@ -1,5 +1,5 @@
 use Rattle.runtime.proofs.Common.{All, IsWaiterOf, arc_value, false, length, vec_capacity, ◌+◌, ◌≡◌, ◌≤◌}
-use Rattle.runtime.proofs.startup.listeners_of.Given as goal
+use Rattle.runtime.proofs.parts.listeners_of.Given as goal
 
 abbrev pub invariant-loop-waiter : goal.invariant-loop-waiter
 invariant-loop-waiter l = record {

@@ -1,6 +1,6 @@
 use Rattle.runtime.proofs.Common.{AreNumbered, List, [], ap, arith, length, length-append, rules, subst, sym, ℕ, ◌∙◌, ◌∷◌}
 use Rattle.runtime.proofs.RuntimeParts.{numbered_push}
-use Rattle.runtime.proofs.startup.posts_of.Goals as goal
+use Rattle.runtime.proofs.parts.posts_of.Goals as goal
 
 pub loop-ring-preserved : goal.loop-ring-preserved
 loop-ring-preserved c =

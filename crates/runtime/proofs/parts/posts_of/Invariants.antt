@@ -1,5 +1,5 @@
 use Rattle.runtime.proofs.Common.{AreNumbered, length, vec_capacity, ◌≡◌, ◌≤◌}
-use Rattle.runtime.proofs.startup.posts_of.Given as goal
+use Rattle.runtime.proofs.parts.posts_of.Given as goal
 
 abbrev pub invariant-loop-ring : goal.invariant-loop-ring
 invariant-loop-ring l = record {

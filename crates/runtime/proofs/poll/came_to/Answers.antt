@@ -1,5 +1,5 @@
 use Rattle.runtime.proofs.Common.{Owed, ap, ◌∙◌}
-use Rattle.runtime.proofs.DeskLaws.{no_answers}
+use Rattle.runtime.proofs.TurnParts.{no_answers}
 use Rattle.runtime.proofs.poll.came_to.Goals as goal
 
 pub returns-then-has_timers-clause-still : goal.returns-then-has_timers-clause-still

@@ -1,6 +1,8 @@
 use Rattle.runtime.proofs.Common.{AreHeldBack, Intake, IsTaken, List, Pass, Places, ap, cares_of, inl, inr, length, subst, sym, taken_in, ⊎_elim, ◌<◌, ◌∙◌, ◌≡◌}
 use Rattle.runtime.proofs.TurnLaws.{at_after, at_on, did_retry, did_ring, did_then}
-use Rattle.runtime.proofs.DeskLaws.{begins_then, held_later, held_then, pending_sooner, rung_on, rung_sooner, stopped_on, stuck_on}
+use Rattle.runtime.proofs.PassLaws.{begins_then}
+use Rattle.runtime.proofs.HeldBack.{held_later, held_then}
+use Rattle.runtime.proofs.TurnParts.{pending_sooner, rung_on, rung_sooner, stopped_on, stuck_on}
 use Rattle.runtime.proofs.poll.look_after.Goals as goal
 
 pub returns-in_err-release_waiting-clause-did : goal.returns-in_err-release_waiting-clause-did

@@ -1,6 +1,6 @@
-use Rattle.runtime.specs.declared.started.WorkThread.{WorkThread}
+use Rattle.runtime.specs.declared.promised.WorkThread.{WorkThread}
 use Rattle.runtime.proofs.Common.{All, All-pop, All-push, IsWorkSide, List, Shared, Some, WorkSide, [], ap, arc_value, arith, rules, shares_in, shares_of, subst, sum_by_push, sym, ◌++◌, ◌∷◌, ◌≡◌}
-use Rattle.runtime.proofs.started.join_workers.Goals as goal
+use Rattle.runtime.proofs.promised.join_workers.Goals as goal
 
 pub loop-thread-preserved : goal.loop-thread-preserved
 loop-thread-preserved g c =

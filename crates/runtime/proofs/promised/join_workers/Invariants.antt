@@ -1,5 +1,5 @@
 use Rattle.runtime.proofs.Common.{All, AreWorking, IsWorkSide, length, shares_in, shares_of, vec_capacity, ◌+◌, ◌≡◌, ◌≤◌}
-use Rattle.runtime.proofs.started.join_workers.Given as goal
+use Rattle.runtime.proofs.promised.join_workers.Given as goal
 
 abbrev pub invariant-loop-thread : goal.invariant-loop-thread
 invariant-loop-thread g l = record {

@@ -1,5 +1,5 @@
 use Rattle.runtime.proofs.Common.{All, All-push, IsWorkSide, List, WorkSide, [], ap, arith, length, length-append, own_in, own_share, rules, shares_in, subst, sum_by_push, sym, ◌∷◌, ◌≡◌}
-use Rattle.runtime.proofs.started.part.Goals as goal
+use Rattle.runtime.proofs.promised.part.Goals as goal
 
 pub returns-in-Some-clause-ended : goal.returns-in-Some-clause-ended
 returns-in-Some-clause-ended g c =

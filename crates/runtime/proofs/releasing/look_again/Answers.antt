@@ -2,7 +2,9 @@ use Rattle.board.specs.declared.phase.Phase.{Phase as Standing}
 use Rattle.board.specs.declared.phase.Phase.TheVariants.{Unborn, Held, Ready, Running, Done, Gone}
 use Rattle.runtime.proofs.Common.{IsDone, IsHeldBack, LooksAfter, Places, Stands, armed, cares_of, inl, inr, phase, refl, runs, seen_of, subst, sym, unborn, ⊎_elim, ◌≡◌}
 use Rattle.runtime.proofs.TurnLaws.{goes_on, rang_looked}
-use Rattle.runtime.proofs.DeskLaws.{after_on, done_waiting, once_before, once_now, waits_not, waits_on, was_unborn}
+use Rattle.runtime.proofs.PassLaws.{after_on, once_before, once_now}
+use Rattle.runtime.proofs.DeskLaws.{done_waiting, waits_on}
+use Rattle.runtime.proofs.HeldBack.{waits_not, was_unborn}
 use Rattle.runtime.proofs.releasing.look_again.Goals as goal
 
 pub returns-in-Ready-clause-went_on : goal.returns-in-Ready-clause-went_on

@@ -1,6 +1,6 @@
 use Rattle.runtime.proofs.Common.{List, LooksAfter, Req, [], arith, cares_of, inl, refl, subst, sym, ◌∙◌}
 use Rattle.runtime.proofs.TurnLaws.{at_after, did_still, did_then, room_after}
-use Rattle.runtime.proofs.DeskLaws.{next_held, none_held, passed_all, passed_some, same_places}
+use Rattle.runtime.proofs.HeldBack.{next_held, none_held, passed_all, passed_some, same_places}
 use Rattle.runtime.proofs.releasing.release_waiting.Goals as goal
 
 pub loop-n-init : goal.loop-n-init

@@ -1,5 +1,5 @@
 use Rattle.runtime.proofs.Common.{AreAt, AreHeldBack, Did, HasRoom, IfOk, IsStuck, LooksAfter, cares_of, ◌≡◌, ◌⊎◌}
-use Rattle.runtime.proofs.DeskLaws.{Passed}
+use Rattle.runtime.proofs.HeldBack.{Passed}
 use Rattle.runtime.proofs.releasing.release_waiting.Given as goal
 
 abbrev pub invariant-loop-n : goal.invariant-loop-n

@@ -1,6 +1,7 @@
 use Rattle.runtime.proofs.Common.{arith, inl, inr, refl, ⊎_elim, ◌∙◌}
 use Rattle.runtime.proofs.TurnLaws.{at_after, did_still, did_then, room_after}
-use Rattle.runtime.proofs.DeskLaws.{have_waited_then, taken_next}
+use Rattle.runtime.proofs.HeldBack.{have_waited_then}
+use Rattle.runtime.proofs.TurnParts.{taken_next}
 use Rattle.runtime.proofs.releasing.take_new.Goals as goal
 
 pub loop-ring-init : goal.loop-ring-init

@@ -1,7 +1,8 @@
 use Rattle.runtime.proofs.Common.{IsLinkedDue, LooksAfter, Option, Req, arith, cares_of, inr, subst, sym, ℕ, ◌∙◌}
 use Rattle.runtime.proofs.ClockLaws.{clock_kept}
 use Rattle.runtime.proofs.TurnLaws.{at_on, rang_moved, rang_then, room_rang}
-use Rattle.runtime.proofs.DeskLaws.{after_on, begins_then, drops_timer, once_now}
+use Rattle.runtime.proofs.PassLaws.{after_on, begins_then, once_now}
+use Rattle.runtime.proofs.DeskLaws.{drops_timer}
 use Rattle.runtime.proofs.ringing.end_due.Goals as goal
 
 pub loop-req-preserved : goal.loop-req-preserved

@@ -1,7 +1,9 @@
 use Rattle.history.specs.Chains.{previous}
 use Rattle.runtime.proofs.Common.{Fire, FireMiss, IsUnarmed, Pass, Req, Settle, [], ap, arith, refl, seen_of, subst, sym, true≢false, with_answered, ⊎_elim, ◌∙◌, ◌∷◌}
 use Rattle.runtime.proofs.TurnLaws.{goes_on, rang_answered, rang_looked, rang_then, rang_twice}
-use Rattle.runtime.proofs.DeskLaws.{not_false, not_true, linked_apart, linked_on, not_early, linked_due, target_over, unarmed_both}
+use Rattle.runtime.proofs.PassLaws.{linked_on}
+use Rattle.runtime.proofs.DueTimers.{linked_apart, not_early, linked_due, target_over, unarmed_both}
+use Rattle.runtime.proofs.HeldBack.{not_false, not_true}
 use Rattle.runtime.proofs.ringing.fire.Goals as goal
 
 pub returns-in-Took : goal.returns-in-Took

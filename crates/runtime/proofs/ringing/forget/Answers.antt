@@ -1,6 +1,8 @@
 use Rattle.runtime.proofs.Common.{LooksAfter, Option, Req, cares_of, subst, sym, ℕ}
 use Rattle.runtime.proofs.TurnLaws.{rang_still}
-use Rattle.runtime.proofs.DeskLaws.{after_on, drops_timer, no_answers}
+use Rattle.runtime.proofs.PassLaws.{after_on}
+use Rattle.runtime.proofs.DeskLaws.{drops_timer}
+use Rattle.runtime.proofs.TurnParts.{no_answers}
 use Rattle.runtime.proofs.ringing.forget.Goals as goal
 
 pub returns-then-not-has_timer-clause-went_on : goal.returns-then-not-has_timer-clause-went_on

@@ -1,6 +1,8 @@
 use Rattle.runtime.proofs.Common.{LooksAfter, Option, Req, ap, cares_of, deadline_at, subst, sym, ℕ, ◌∙◌}
 use Rattle.runtime.proofs.TurnLaws.{at_on, rang_moved, rang_then}
-use Rattle.runtime.proofs.DeskLaws.{after_on, drops_timer, fewer_dropped, no_answers}
+use Rattle.runtime.proofs.PassLaws.{after_on}
+use Rattle.runtime.proofs.DeskLaws.{drops_timer, fewer_dropped}
+use Rattle.runtime.proofs.TurnParts.{no_answers}
 use Rattle.runtime.proofs.ringing.has_timers.Goals as goal
 
 pub returns-then-is_armed-clause-went_on : goal.returns-then-is_armed-clause-went_on

@@ -1,6 +1,6 @@
 use Rattle.runtime.proofs.Common.{refl, sym, ◌∙◌}
 use Rattle.runtime.proofs.TurnLaws.{rang_looked}
-use Rattle.runtime.proofs.DeskLaws.{armed_by_look, unarmed_by_look}
+use Rattle.runtime.proofs.DueTimers.{armed_by_look, unarmed_by_look}
 use Rattle.runtime.proofs.ringing.is_armed.Goals as goal
 
 pub returns-clause-went_on : goal.returns-clause-went_on

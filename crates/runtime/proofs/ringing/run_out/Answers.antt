@@ -1,6 +1,6 @@
 use Rattle.runtime.proofs.Common.{Expire, IsUnarmed, Pass, [], refl, seen_of, subst, sym, true≢false, ◌∷◌}
 use Rattle.runtime.proofs.TurnLaws.{goes_on, rang_answered, rang_looked, rang_then}
-use Rattle.runtime.proofs.DeskLaws.{due_on, not_early}
+use Rattle.runtime.proofs.DueTimers.{due_on, not_early}
 use Rattle.runtime.proofs.ringing.run_out.Goals as goal
 
 pub returns-in-Expired : goal.returns-in-Expired

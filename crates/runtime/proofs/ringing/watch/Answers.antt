@@ -1,6 +1,8 @@
 use Rattle.runtime.proofs.Common.{Count, IsPendingTimer, IsReplied, LooksAfter, Option, Pass, Places, Req, [], ap, cares_of, deadline_at, inl, inr, refl, seen_of, subst, sym, ℕ, ◌∙◌, ◌∷◌}
 use Rattle.runtime.proofs.TurnLaws.{goes_on, rang_answered, rang_looked, rang_then}
-use Rattle.runtime.proofs.DeskLaws.{after_on, drops_timer, fewer_dropped, once_before, once_now, once_sooner, plain_or_over, replied_unarmed, unwatches, watches_on}
+use Rattle.runtime.proofs.PassLaws.{after_on, once_before, once_now, once_sooner}
+use Rattle.runtime.proofs.DeskLaws.{drops_timer, fewer_dropped, unwatches, watches_on}
+use Rattle.runtime.proofs.DueTimers.{plain_or_over, replied_unarmed}
 use Rattle.runtime.proofs.ringing.watch.Goals as goal
 
 pub returns-in-Counted-clause-rang : goal.returns-in-Counted-clause-rang

@@ -1,6 +1,6 @@
 use Rattle.runtime.proofs.Common.{List, LooksAfter, Req, [], append-nil, arith, cares_of, inl, refl, subst, sym, ◌∙◌}
 use Rattle.runtime.proofs.TurnLaws.{at_on, rang_still, rang_then, room_rang}
-use Rattle.runtime.proofs.DeskLaws.{next_pending, none_pending, passed_all, passed_some}
+use Rattle.runtime.proofs.HeldBack.{next_pending, none_pending, passed_all, passed_some}
 use Rattle.runtime.proofs.ringing.watch_replies.Goals as goal
 
 pub loop-n-init : goal.loop-n-init

@@ -1,5 +1,5 @@
 use Rattle.runtime.proofs.Common.{ArePending, HasFewerTimers, HasRoom, IsAt, LooksAfter, Rang, cares_of, ◌≡◌}
-use Rattle.runtime.proofs.DeskLaws.{Passed}
+use Rattle.runtime.proofs.HeldBack.{Passed}
 use Rattle.runtime.proofs.ringing.watch_replies.Given as goal
 
 abbrev pub invariant-loop-n : goal.invariant-loop-n
