@@ -1,7 +1,8 @@
 -- Entry lines, where no line has a fault: their labels differ, and each buffer fits its entry.
 use Rattle.entry.specs.declared.op.Op.{Op}
+use Rattle.std.proofs.lemmas.Grind.{common_steps}
 use Rattle.text.specs.Number.{number_in}
-use Rattle.script_text.proofs.Common.{BUFFER, BadBytes, Bool, Cancel, Close, ENTRIES, Entered, Entry, FD, Keyword, Kind, LENGTH, LinkTimeout, List, None, Nop, Option, OutOfRange, Poll, Raw, Read, Remove, Sentence, Some, Splice, Standing, Stated, Timeout, Write, [], actor_in, allowed_flags, and_from, and_parts, ap, argument_faults, arith, bit_and, bit_if, codes, cond, cond_both, count_of, declare_faults, declares, entered_in, entered_line, entered_with, eq-eqb, etime_bit, false, fd_in, first_of, fits_buffer, flagged, flags_in, has_all, has_etime, has_option, is_label, is_left, is_same, kind_faults, le-leb, len_in, len_of, length, length-replicate, length_push, line_buffer, line_entry, link_timeout_op, list_all, list_all-append, list_any, lt-ltb, ltb-false, map, map_push, mask_in, nat_le, nat_lt, not, not_from_false, number_faults, offset_of, option_faults, options_of, or_parts, plain, poll_op, pos, refl, replicate, splice_len_in, splice_op, standing_in, stated_in, stated_line, stated_with, sym, target_in, text_bytes, text_faults, text_len, ticks_in, timeout_count_op, true, word_at, ℕ, ◌&&◌, ◌++◌, ◌+◌, ◌==◌, ◌||◌, ◌∙◌, ◌∷◌, ◌≡◌, ◌≤◌}
+use Rattle.script_text.proofs.Common.{BUFFER, BadBytes, Bool, ENTRIES, Entered, Entry, FD, Keyword, Kind, LENGTH, List, None, Option, OutOfRange, Raw, Read, Sentence, Some, Standing, Stated, Write, [], actor_in, allowed_flags, and_from, and_parts, ap, argument_faults, arith, bit_and, bit_if, codes, cond, cond_both, declare_faults, declares, entered_in, entered_line, entered_with, eq-eqb, false, fd_in, first_of, fits_buffer, flagged, flags_in, has_option, is_label, is_left, is_same, kind_faults, le-leb, len_in, len_of, length, length-replicate, length_push, line_buffer, line_entry, list_all, list_all-append, list_any, lt-ltb, ltb-false, map, map_push, nat_le, nat_lt, not, not_from_false, number_faults, offset_of, op_of, option_faults, options_of, or_parts, plain, pos, refl, replicate, standing_in, stated_in, stated_line, stated_with, sym, text_bytes, text_faults, text_len, true, word_at, ℕ, ◌&&◌, ◌++◌, ◌+◌, ◌==◌, ◌∙◌, ◌∷◌, ◌≡◌, ◌≤◌}
 use Rattle.script_text.proofs.CleanLines.{AreClean, is_clean, number_within}
 use Rattle.script_text.proofs.NoFault.{IsClean, IsCleanIf, both_nil, clean_entry, long_entry, no_fault_if}
 use Rattle.script_text.proofs.ReadingLines.{any_map, label_stated}
@@ -25,19 +26,6 @@ fits_none o flags e =
     cond_both (bit_and flags (allowed_flags o) == flags) (record { user_data = 0; flags = flags; op = o }) (record { user_data = 0; flags = bit_and flags 12; op = Op.Invalid })
     (λ (x : Entry). fits_buffer x.op 0 ≡ true) (λ _. e) (λ _. refl)
 
-fits_poll : (mask n : ℕ) → fits_buffer (poll_op (pos n) mask) 0 ≡ true
-fits_poll mask n = cond_both (bit_and mask 29 == mask) (Op.PollAdd (pos n) mask) Op.Invalid (λ (o : Op). fits_buffer o 0 ≡ true) (λ _. refl) (λ _. refl)
-
-fits_timeout : (ticks count flags : ℕ) → fits_buffer (timeout_count_op ticks count flags) 0 ≡ true
-fits_timeout ticks count flags =
-    cond_both (nat_lt count 1024 && (nat_lt ticks 2147483648 && ((flags == 0) || (flags == 32)))) (Op.Timeout ticks (flags == 32) count) Op.Invalid (λ (o : Op). fits_buffer o 0 ≡ true) (λ _. refl) (λ _. refl)
-
-fits_link_timeout : (ticks : ℕ) → fits_buffer (link_timeout_op ticks) 0 ≡ true
-fits_link_timeout ticks = cond_both (nat_lt ticks 2147483648) (Op.LinkTimeout ticks) Op.Invalid (λ (o : Op). fits_buffer o 0 ≡ true) (λ _. refl) (λ _. refl)
-
-fits_splice : (fd_in' fd_out len : ℕ) → fits_buffer (splice_op (pos fd_in') (pos fd_out) len) 0 ≡ true
-fits_splice fd_in' fd_out len = cond_both (nat_lt len 2147483648) (Op.Splice (pos fd_in') (pos fd_out) len) Op.Invalid (λ (o : Op). fits_buffer o 0 ≡ true) (λ _. refl) (λ _. refl)
-
 fits_read : (fd len flags : ℕ) → len ≤ BUFFER → (bit_and flags 14 == flags) ≡ true → fits_buffer (flagged (plain (cond (nat_lt len 2147483648) (Op.Read (pos fd) (offset_of 0) len) Op.Invalid)) flags).op (length {A = ℕ} (replicate len 0)) ≡ true
 fits_read fd len flags le ok =
     rw (lt-ltb len 2147483648 (omega (arith, le)), ok, length-replicate {A = ℕ} len 0)
@@ -57,7 +45,6 @@ one_fault e = cc
 
 kind_fits : (p : Standing) (lines : List Stated) (u : Bool) (kind : Kind) (words : List (List ℕ)) (given : Option Entry) (number : ℕ) → IsClean p lines u (Keyword.Entry kind) words given
     → fits_buffer (line_entry lines kind words number given).op (length (line_buffer kind words (line_entry lines kind words number given))) ≡ true
-kind_fits p lines u Nop words given number c = fits_none Op.Nop (flags_in (options_of Nop words)) refl
 kind_fits p lines u Read words given number c =
     let options = options_of Read words in
     fits_read (fd_in (word_at words 2)) (len_in (word_at words 3)) (flags_in options) (number_within (number_in (word_at words 3)) 0 BUFFER (omega arith)).1
@@ -72,20 +59,9 @@ kind_fits p lines u Write words given number c =
     let is : text_len (word_at words 3) ≡ length bytes = ap (λ (b : Bool). cond b 0 (length bytes)) short in
     fits_write (fd_in (word_at words 2)) (text_len (word_at words 3)) (flags_in options) bytes is (rw is (ltb-false LENGTH (length bytes) short))
     (flag_bits (has_option (codes "drain") options) (has_option (codes "link") options) (has_option (codes "hard") options))
-kind_fits p lines u Close words given number c = fits_none (Op.Close (pos (fd_in (word_at words 2)))) (flags_in (options_of Close words)) refl
-kind_fits p lines u Poll words given number c = fits_none (poll_op (pos (fd_in (word_at words 2))) (mask_in (word_at words 3))) (flags_in (options_of Poll words)) (fits_poll (mask_in (word_at words 3)) (fd_in (word_at words 2)))
-kind_fits p lines u Timeout words given number c =
-    let count = count_of (options_of Timeout words) in
-    let bit = etime_bit (has_etime Timeout (options_of Timeout words)) in
-    fits_none (timeout_count_op (ticks_in (word_at words 2)) count bit) (flags_in (options_of Timeout words)) (fits_timeout (ticks_in (word_at words 2)) count bit)
-kind_fits p lines u LinkTimeout words given number c = fits_none (link_timeout_op (ticks_in (word_at words 2))) (flags_in (options_of LinkTimeout words)) (fits_link_timeout (ticks_in (word_at words 2)))
-kind_fits p lines u Cancel words given number c = fits_none (Op.AsyncCancel (target_in lines (word_at words 2)) (has_all Cancel (options_of Cancel words))) (flags_in (options_of Cancel words)) refl
-kind_fits p lines u Remove words given number c = fits_none (Op.TimeoutRemove (target_in lines (word_at words 2))) (flags_in (options_of Remove words)) refl
-kind_fits p lines u Splice words given number c =
-    let len = splice_len_in (word_at words 4) in
-    fits_none (splice_op (pos (fd_in (word_at words 2))) (pos (fd_in (word_at words 3))) len) (flags_in (options_of Splice words)) (fits_splice (fd_in (word_at words 2)) (fd_in (word_at words 3)) len)
 kind_fits p lines u Raw words None number c = absurd (one_fault (both_nil (declare_faults p (word_at words 1) u) (kind_faults lines Raw words None) c.own).1)
 kind_fits p lines u Raw words (Some e) number c = raw_fits e.op (no_fault_if (nat_lt BUFFER (len_of e.op)) OutOfRange (both_nil (declare_faults p (word_at words 1) u) (kind_faults lines Raw words (Some e)) c.own).1)
+kind_fits p lines u kind words given number c = fits_none (op_of lines kind words) (flags_in (options_of kind words)) (grind (arith, common_steps))
 
 -- ---- entries
 

@@ -28,28 +28,18 @@ pub fn raw_entry(alloc: Global, digits: &[u8]) -> Result<Option<Sqe>, AllocError
     Ok(Some(Sqe::of_bytes(&entry)))
 }
 
-/// How long a buffer each row has.
-macro_rules! len_of {
-    (($op:expr) $($text:literal $name:ident { $($field:ident),* } = $code:literal: $fd:tt $off:tt $addr:tt [$($len:tt)*] $word:tt $splice_fd_in:tt $flags:tt $fails:tt;)*) => {
-        match $op {
-            $(Op::$name { $($field),* } => len_column!($name $($len)*),)*
-            Op::Invalid => 0,
-        }
-    };
-}
-
-macro_rules! len_column {
-    (Splice count $len:ident) => { 0 };
-    ($name:ident count $len:ident) => { $len };
-    ($name:ident zero) => { 0 };
-    ($name:ident one) => { 0 };
+macro_rules! len_of_buffer {
+    ([no_buffer] ()) => { 0 };
+    ([reads $len:ident] ()) => { $len };
+    ([writes $len:ident] ()) => { $len };
+    ([any_buffer] ()) => { 0 };
 }
 
 /// How many bytes a READ or WRITE asks for, and 0 of another entry.
 fn len_of(op: Op) -> u32
     ensures { result ≡ len_of op }
 {
-    by_opcode!(len_of!(op))
+    by_opcode!(buffer of op => len_of_buffer!())
 }
 
 /// Notes the faults of the digits of a `raw` line.

@@ -12,33 +12,18 @@ use script::{Named, Script, Table};
 use std::alloc::{AllocError, Global};
 use text::{line_at, push_line};
 
-/// Whether an entry of each row brings data, which its line shows.
-macro_rules! is_read {
-    (($op:expr) $($text:literal $name:ident { $($field:ident),* } = $code:literal: $fd:tt $off:tt $addr:tt $len:tt $word:tt $splice_fd_in:tt $flags:tt $fails:tt;)*) => {
-        match $op {
-            $(Op::$name { $($field),* } => brings_data!($name),)*
-            Op::Invalid => false,
-        }
-    };
-}
-
+/// Whether the reply comes with data, which the line of the entry shows.
 macro_rules! brings_data {
-    (Nop) => { false };
-    (PollAdd) => { false };
-    (Timeout) => { false };
-    (TimeoutRemove) => { false };
-    (AsyncCancel) => { false };
-    (LinkTimeout) => { false };
-    (Close) => { false };
-    (Read) => { true };
-    (Write) => { false };
-    (Splice) => { false };
+    ([no_buffer] ()) => { false };
+    ([reads $len:ident] ()) => { true };
+    ([writes $len:ident] ()) => { false };
+    ([any_buffer] ()) => { false };
 }
 
 fn is_read(op: Op) -> bool
     ensures { result ≡ is_read op }
 {
-    by_opcode!(is_read!(op))
+    by_opcode!(buffer of op => brings_data!())
 }
 
 /// Writes the line of an entry at the end.
