@@ -83,21 +83,16 @@ fn any_runs(rings: &[Ring]) -> bool
     rings.iter().any(|ring| ring.any_runs())
 }
 
-macro_rules! fits_work {
-    ((pipe read $fd:ident $wanted:ident) ($len:ident)) => { $len == $wanted as usize };
-    ((pipe write $fd:ident $wanted:ident) ($len:ident)) => { $len == $wanted as usize };
-    ((pipe splice $fd_in:ident $fd_out:ident $wanted:ident) ($len:ident)) => { $len == 0 };
-    ((pipe close $fd:ident) ($len:ident)) => { $len == 0 };
-    ((pipe poll $fd:ident $mask:ident) ($len:ident)) => { $len == 0 };
-    ((plain nothing) ($len:ident)) => { $len == 0 };
-    ((plain invalid) ($len:ident)) => { true };
-    ((timer $kind:ident $ticks:ident) ($len:ident)) => { $len == 0 };
-    ((cancel $kind:ident $($field:ident)*) ($len:ident)) => { $len == 0 };
+macro_rules! fits_buffer {
+    ([no_buffer] ($len:ident)) => { $len == 0 };
+    ([reads $wanted:ident] ($len:ident)) => { $len == $wanted as usize };
+    ([writes $wanted:ident] ($len:ident)) => { $len == $wanted as usize };
+    ([any_buffer] ($len:ident)) => { true };
 }
 
 /// A buffer of so many bytes fits the operation.
 fn fits(op: Op, len: usize) -> bool
     ensures { IsTrue result ↔ FitsOp op len }
 {
-    by_opcode!(op => fits_work!(len))
+    by_opcode!(buffer of op => fits_buffer!(len))
 }
