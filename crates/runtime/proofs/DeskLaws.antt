@@ -1,5 +1,5 @@
 -- What the poller's desk looks after, from one step of a turn to the next.
-use Rattle.std.proofs.Common.{not, IfOk}
+use Rattle.std.proofs.Common.{IfOk}
 use Rattle.std.proofs.lemmas.Bool.{cases_order}
 use Rattle.entry.specs.Entry.{Entry}
 use Rattle.history.specs.Chains.{IsPlaced, is_timeout, is_timer}
@@ -14,7 +14,7 @@ use Rattle.board.specs.declared.poller.Polled.{Polled}
 use Rattle.wheel.specs.Deadlines.{armed as armed_at, dropped}
 use Rattle.runtime.specs.declared.error.Memory.{Memory}
 use Rattle.runtime.specs.declared.hands.Hands.{Hands}
-use Rattle.runtime.proofs.Common.{AllRung, AreHeldBack, ArePending, Begins, Bool, Cares, Count, Cut, Desk, Err, Event, Expire, Facts, Fire, GoesOn, HasRung, HasStopped, HaveWaited, IsCared, IsDone, IsDueTimer, IsEarly, IsHeldBack, IsLinkedDue, IsNoted, IsPendingTimer, IsPlain, IsPollers, IsReplied, IsSet, IsStopped, IsStuck, IsTaken, IsUnarmed, IsUnheld, Line, List, LooksAfter, None, NoneIsDue, Ok, Once, Option, Owed, Pass, Phase, Places, Rang, ReachesTo, Req, Result, Settle, Some, Stands, StandsPolled, Take, Waiting, WaitsOn, WasTried, WatchesOn, WentOn, [], answered_by, ap, append_assoc, arith, armed, becomes, cares_in, concerns, cond, events_of, false, freed, frees, inl, inr, is_among, is_ok, length, length-append, phase, refl, same, seen_of, setup_of, slice_index, stands_armed, submits, subst, sym, ticked, true, true≢false, unborn, waits, with_request, with_waiting, with_watched, ℕ, ⊎_elim, ◌++◌, ◌+◌, ◌-◌, ◌<◌, ◌∙◌, ◌∷◌, ◌≡◌, ◌≢◌, ◌≤◌, ◌⊎◌}
+use Rattle.runtime.proofs.Common.{AllRung, AreHeldBack, ArePending, Begins, Bool, Cares, Count, Cut, Desk, Err, Event, Expire, Facts, Fire, GoesOn, HasRung, HasStopped, HaveWaited, IsCared, IsDone, IsDueTimer, IsEarly, IsHeldBack, IsLinkedDue, IsNoted, IsPendingTimer, IsPlain, IsPollers, IsReplied, IsSet, IsStopped, IsStuck, IsTaken, IsUnarmed, IsUnheld, Line, List, LooksAfter, None, NoneIsDue, Ok, Once, Option, Owed, Pass, Phase, Places, Rang, ReachesTo, Req, Result, Settle, Some, Stands, StandsPolled, Take, Waiting, WaitsOn, WasTried, WatchesOn, WentOn, [], answered_by, ap, append_assoc, arith, armed, becomes, cares_in, concerns, cond, events_of, false, freed, frees, inl, inr, is_among, is_ok, length, length-append, phase, refl, same, seen_of, setup_of, slice_index, stands_armed, submits, subst, sym, ticked, true, true≢false, unborn, waits, with_request, with_waiting, with_watched, ℕ, ⊎_elim, ◌++◌, ◌+◌, ◌<◌, ◌∙◌, ◌∷◌, ◌≡◌, ◌≢◌, ◌≤◌, ◌⊎◌}
 use Rattle.runtime.proofs.ClockLaws.{clock_kept}
 use Rattle.runtime.proofs.TurnLaws.{among_append}
 

@@ -1,4 +1,3 @@
-use Rattle.board.specs.declared.poller.Settling.TheVariants.{TargetOpen}
 use Rattle.board.proofs.Common.{arith}
 use Rattle.board.proofs.Settlings.{armed_on, linked_on, settles_after, settles_open, unfired_on}
 use Rattle.board.proofs.Watching.{born_on, paid_add, paid_most}

@@ -1,4 +1,4 @@
-use Rattle.board.proofs.Common.{IsDueLinked, arith, clock_of, events_of, ◌<◌, ◌≤◌}
+use Rattle.board.proofs.Common.{IsDueLinked, arith, clock_of, events_of, ◌<◌}
 use Rattle.board.proofs.Pollings.{polls_due, polls_open, polls_unsettled}
 use Rattle.board.proofs.polling.poll_linked.Goals.{else-is_due-via-then-is_due+else-polling, else-is_due-via-else-is_due}
 use Rattle.board.proofs.polling.poll_linked.Goals as goal

@@ -1,4 +1,4 @@
-use Rattle.runtime.proofs.Common.{Places, ap, inl, inr, refl, sym, ⊎_elim, ◌∙◌, ◌≡◌}
+use Rattle.runtime.proofs.Common.{Places, ap, inl, refl, sym, ◌∙◌}
 use Rattle.runtime.proofs.TurnLaws.{at_after, did_ring, did_still, did_then, room_after}
 use Rattle.runtime.proofs.DeskLaws.{free_goes_on, free_unstuck, no_answers, same_places, waited_more, went_free}
 use Rattle.runtime.proofs.releasing.take_ring.Goals as goal
