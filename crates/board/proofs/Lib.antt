@@ -38,3 +38,4 @@ pub mod CountLooks
 pub mod Countings
 pub mod Settlings
 pub mod Strikes
+pub mod Pollings

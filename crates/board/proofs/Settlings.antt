@@ -81,6 +81,11 @@ settled_calm Settled r = ((refl, tt), (refl, tt))
 settled_calm TargetOpen r = (tt, tt)
 settled_calm Settling.NotArmed r = (tt, tt)
 
+-- what is no TIMEOUT is a LINK_TIMEOUT
+pub linked_of : (a : Alarm) → ((f : Bool) (n : ℕ) → a ≡ Alone f n → ⊥) → a ≡ Linked
+linked_of Linked n = refl
+linked_of (Alone f m) n = absurd (n f m refl)
+
 -- ---- a look at a timer that is armed
 
 module _ (b : Facts) (s t : TableSeat) (r : Req) (x g d : ℕ) (alarm : Alarm) (o : IsOurs b s) (a : IsAt b.layout.cells x g r) (w : Watched b s t) (stands : Stands t.me.0.seen (request_at s.me.0.layout.cells x g) (Armed d)) (knows : KnowsAlarm (events_of s.me.0.seen) r (Some alarm)) where

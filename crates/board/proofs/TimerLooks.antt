@@ -138,7 +138,7 @@ timer_paid v w (Some k) p = by_alarm k.alarm p where
   by_alarm Linked p = paid_most v w 1 2 p (omega arith)
   by_alarm (Alone f n) p = p
 
-not_both : (o : Op) → is_timeout o ≡ true → is_link_timeout o ≡ true → ⊥
+pub not_both : (o : Op) → is_timeout o ≡ true → is_link_timeout o ≡ true → ⊥
 not_both (LinkTimeout ticks) a b = true≢false (sym a)
 not_both o a b = true≢false (sym b)
 

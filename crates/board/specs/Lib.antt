@@ -11,3 +11,4 @@ pub mod PollerRows
 pub mod Seats
 pub mod PollerTimers
 pub mod TimerCalls
+pub mod Polls

@@ -226,7 +226,7 @@ pub(crate) fn arm(
 }
 
 /// Answers a TIMEOUT that is armed with this deadline, which has come.
-fn run_out(
+pub(crate) fn run_out(
     board: &Board,
     seat: &mut TableSeat,
     spot: Spot,

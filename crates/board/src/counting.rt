@@ -42,7 +42,7 @@ fn has_replied(board: &Board, seat: &mut TableSeat, req: Req) -> Option<bool>
 
 /// Whether so many later requests of its ring have replied. It looks at no more than may have been submitted while the request
 /// keeps its cell.
-fn has_counted(board: &Board, seat: &mut TableSeat, req: Req, count: u64) -> bool
+pub(crate) fn has_counted(board: &Board, seat: &mut TableSeat, req: Req, count: u64) -> bool
     requires ours { IsOurs board.now seat.old }
     requires numbered { IsNumbered board.now.layout.cells req }
     requires born { req.k < submits (events_of seat.old.me.0.seen) req.ring }
@@ -68,7 +68,13 @@ fn has_counted(board: &Board, seat: &mut TableSeat, req: Req, count: u64) -> boo
 }
 
 /// Answers a TIMEOUT that may be armed with this deadline alone, and has counted enough completions. Whether it was armed.
-fn end_counted(board: &Board, seat: &mut TableSeat, spot: Spot, req: Req, deadline: u32) -> bool
+pub(crate) fn end_counted(
+    board: &Board,
+    seat: &mut TableSeat,
+    spot: Spot,
+    req: Req,
+    deadline: u32,
+) -> bool
     requires ours { IsOurs board.now seat.old }
     requires at { IsAt board.now.layout.cells spot.cell spot.generation req }
     requires small { spot.generation < 16777216 }

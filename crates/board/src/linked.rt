@@ -53,7 +53,13 @@ fn target_spot(board: &Board, spot: Spot, req: Req) -> Spot
 }
 
 /// Answers a LINK_TIMEOUT that is armed with this deadline, and whose target has replied.
-fn end_linked(board: &Board, seat: &mut TableSeat, spot: Spot, req: Req, deadline: u32) -> Settling
+pub(crate) fn end_linked(
+    board: &Board,
+    seat: &mut TableSeat,
+    spot: Spot,
+    req: Req,
+    deadline: u32,
+) -> Settling
     requires ours { IsOurs board.now seat.old }
     requires at { IsAt board.now.layout.cells spot.cell spot.generation req }
     requires small { spot.generation < 16777216 }
@@ -93,6 +99,31 @@ fn target_replied(board: &Board, seat: &mut TableSeat, spot: Spot, req: Req) -> 
     matches!(told(word, target.generation), Phase::Done(_) | Phase::Gone)
 }
 
+/// Settles a LINK_TIMEOUT that is armed with this deadline, where its target has replied.
+pub(crate) fn settle_armed(
+    board: &Board,
+    seat: &mut TableSeat,
+    spot: Spot,
+    req: Req,
+    deadline: u32,
+) -> Settling
+    requires ours { IsOurs board.now seat.old }
+    requires at { IsAt board.now.layout.cells spot.cell spot.generation req }
+    requires small { spot.generation < 16777216 }
+    requires armed { phase (events_of seat.old.me.0.seen) req ≡ armed deadline }
+    requires born { req.k < submits (events_of seat.old.me.0.seen) req.ring }
+    requires linked { IsLinkTimeout (events_of seat.old.me.0.seen) req }
+    requires unfired { fired (events_of seat.old.me.0.seen) req ≡ false }
+    ensures seat { IsPollerSeat seat.new }
+    ensures settles { Settles board.now req (pass_of seat.old) (pass_of seat.new) result }
+    ensures steps { Paid seat.old.me.0 seat.new.me.0 0 2 }
+{
+    if !target_replied(board, seat, spot, req) {
+        return Settling::TargetOpen;
+    }
+    end_linked(board, seat, spot, req, deadline)
+}
+
 /// Answers a LINK_TIMEOUT whose target replied before it ran out. `alarm` is what is kept of the cell's timer.
 pub(crate) fn settle(
     board: &Board,
@@ -115,15 +146,12 @@ pub(crate) fn settle(
     let Alarm::Linked = alarm else {
         return Settling::NotArmed;
     };
-    if !target_replied(board, seat, spot, req) {
-        return Settling::TargetOpen;
-    }
-    end_linked(board, seat, spot, req, until)
+    settle_armed(board, seat, spot, req, until)
 }
 
 /// Ends the target of a LINK_TIMEOUT whose deadline has come, or finds it running, or with a reply.
 /// One exchange is enough: only the poller makes Ready or arms, so a word that it found idle stays until the request runs or ends.
-fn strike(board: &Board, seat: &mut TableSeat, spot: Spot, req: Req) -> Struck
+pub(crate) fn strike(board: &Board, seat: &mut TableSeat, spot: Spot, req: Req) -> Struck
     requires ours { IsOurs board.now seat.old }
     requires at { IsAt board.now.layout.cells spot.cell spot.generation req }
     requires small { spot.generation < 16777216 }
@@ -151,7 +179,7 @@ fn strike(board: &Board, seat: &mut TableSeat, spot: Spot, req: Req) -> Struck
 }
 
 /// Answers a LINK_TIMEOUT that has fired.
-fn end_fired(board: &Board, seat: &mut TableSeat, spot: Spot, req: Req, deadline: u32)
+pub(crate) fn end_fired(board: &Board, seat: &mut TableSeat, spot: Spot, req: Req, deadline: u32)
     requires ours { IsOurs board.now seat.old }
     requires at { IsAt board.now.layout.cells spot.cell spot.generation req }
     requires small { spot.generation < 16777216 }

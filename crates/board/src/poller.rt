@@ -12,12 +12,14 @@ ghost use Rattle.work.specs.Passes.{pass_of, seen_of, CanReach, Took};
 ghost use Rattle.board.specs.Calls.{Goes};
 ghost use Rattle.board.specs.PollerTimers.{IsPast};
 ghost use Rattle.board.specs.TimerCalls.{Arms, Counts, Expires, Fires, Settles};
+ghost use Rattle.board.specs.Polls.{Polls};
 ghost use Rattle.board.specs.PollerRows.{Decides, IsAt, KnowsRows, Paid, Spends};
 ghost use Rattle.board.specs.Seats.{IsPollerSeat};
 
 use crate::alarm::{self, Alarm};
 use crate::board::Board;
 use crate::error::ClockEnd;
+use crate::polling::{self, Polling};
 use crate::{counting, linked, release};
 use gates::Row;
 use history::Req;
@@ -127,6 +129,31 @@ pub enum Settling {
     /// Its target has no reply. Nothing has changed.
     TargetOpen,
     /// It isn't armed, or is a TIMEOUT. Nothing has changed.
+    NotArmed,
+}
+
+/// What became of a timer that was polled. Nothing has changed where it is `Early` or one of those after that.
+#[derive(Clone, Copy, PartialEq, Eq, Debug)]
+pub enum Polled {
+    /// A TIMEOUT's deadline has come: it was answered with -62 (ETIME) now.
+    Expired,
+    /// A TIMEOUT has counted enough completions: it was answered with 0 now.
+    Counted,
+    /// A LINK_TIMEOUT fired: its target was answered with -125 (ECANCELED) now, and it with -62 (ETIME).
+    Took,
+    /// A LINK_TIMEOUT fired while a worker runs its target, which goes on. It was answered with -62 (ETIME) now.
+    Missed,
+    /// A LINK_TIMEOUT's target had replied: it was answered with -125 (ECANCELED) now.
+    Settled,
+    /// A TIMEOUT that counts no completions, and whose deadline is after the clock's time.
+    Early,
+    /// The same of one that counts completions, of which fewer had replied before this call.
+    Fewer,
+    /// The same of a LINK_TIMEOUT, whose target has no reply.
+    TargetOpen,
+    /// A LINK_TIMEOUT's deadline has come, and its target has no reply: it is to fire, which this call might not do.
+    Due,
+    /// It isn't armed.
     NotArmed,
 }
 
@@ -242,6 +269,27 @@ impl Poller {
     {
         let alarm = self.alarms[spot.cell];
         linked::settle(board, &mut self.seat, alarm, spot, req)
+    }
+
+    /// Does what is to be done with the timer in this cell.
+    pub(crate) fn poll_timer(
+        &mut self,
+        board: &Board,
+        spot: Spot,
+        req: Req,
+        may_fire: bool,
+    ) -> Polled
+        requires ours { IsOf board.now self.old }
+        requires at { IsAt board.now.layout.cells spot.cell spot.generation req }
+        ensures polls { Polls board.now may_fire req self.old self.new result }
+        ensures steps { Paid self.old.view self.new.view 0 (cells_in board.now.layout.cells req.ring + 3) }
+    {
+        let alarm = self.alarms[spot.cell];
+        let polling = Polling {
+            clock: self.clock,
+            may_fire,
+        };
+        polling::poll(board, &mut self.seat, polling, alarm, spot, req)
     }
 
     /// Sets the clock on.

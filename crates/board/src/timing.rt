@@ -1,5 +1,5 @@
 //! What the poller does with the clock and with timers.
-ghost use Rattle.std.specs.Prelude.{◌≡◌, ◌⊎◌, ◌+◌, ◌-◌, ◌*◌, ◌≤◌, ℕ, true, [], ◌∷◌, length, IfOk, IfErr};
+ghost use Rattle.std.specs.Prelude.{◌≡◌, ◌⊎◌, ◌+◌, ◌-◌, ◌*◌, ◌≤◌, ℕ, true, false, [], ◌∷◌, length, IfOk, IfErr};
 ghost use Rattle.history.specs.declared.event.Event.TheVariants.{Tick};
 ghost use Rattle.history.specs.declared.req.Req.{Req as Request};
 ghost use Rattle.history.specs.Chains.{IsLinkTimeout, IsTarget, is_timeout, previous};
@@ -17,11 +17,12 @@ ghost use Rattle.board.specs.declared.poller.Settling.TheVariants.{Settled, Targ
 ghost use Rattle.board.specs.Calls.{FoundHeld, Goes, IsUnheld, Stepped};
 ghost use Rattle.board.specs.PollerRows.{Paid, Spends};
 ghost use Rattle.board.specs.PollerTimers.{IsPast};
-ghost use Rattle.board.specs.TimerCalls.{HasCounted, HasExpired, HasFewer, HasFired, HasSettled, IsArmed, IsArmedFor, IsEarly, IsNoneToExpire, IsNoneToSettle, IsNoTimer, IsShutTimer, IsTargetDone, IsTargetOpen, IsUnarmed, IsUncounted, WasClear, armed_by, counted_by, expired_by, fired_by, settled_by};
+ghost use Rattle.board.specs.Polls.{HasRung, polled_by};
+ghost use Rattle.board.specs.TimerCalls.{HasCounted, HasExpired, HasFewer, HasFired, HasSettled, IsArmed, IsArmedFor, IsDueLinked, IsEarly, IsNoneToExpire, IsNoneToSettle, IsNoTimer, IsShutTimer, IsTargetDone, IsTargetOpen, IsUnarmed, IsUncounted, WasClear, armed_by, counted_by, expired_by, fired_by, settled_by};
 
 use crate::board::Board;
 use crate::error::ClockEnd;
-use crate::poller::{Arming, Counting, Expiry, Firing, Poller, Settling};
+use crate::poller::{Arming, Counting, Expiry, Firing, Polled, Poller, Settling};
 use history::Req;
 
 impl Board {
@@ -124,6 +125,31 @@ impl Board {
         match self.grid.locate(req) {
             Some(spot) => poller.settle(self, spot, req),
             None => Settling::NotArmed,
+        }
+    }
+
+    /// Does what is to be done with an armed timer: what `expire`, `count`, `fire` and `settle` do. It answers a TIMEOUT whose deadline
+    /// has come or that has counted enough, and a LINK_TIMEOUT whose target has replied. It fires one whose deadline has come, where
+    /// `may_fire` says that there is room for two answers: that of its target, and its own.
+    pub fn poll_timer(&self, poller: &mut Poller, req: Req, may_fire: bool) -> Polled
+        requires { IsOf self.now poller.old }
+        ensures goes { Goes self.now poller.old (polled_by result req) poller.new }
+        ensures expired { result ≡ Polled.Expired → HasExpired (seen_of poller.new) req }
+        ensures counted { result ≡ Polled.Counted → HasCounted (seen_of poller.new) req }
+        ensures took { result ≡ Polled.Took → HasRung may_fire req poller.new }
+        ensures missed { result ≡ Polled.Missed → HasRung may_fire req poller.new }
+        ensures settled { result ≡ Polled.Settled → HasSettled (seen_of poller.new) req }
+        ensures early { result ≡ Polled.Early → IsEarly (seen_of poller.new) req × IsOfKind (seen_of poller.new) req is_timeout true × IsUncounted (seen_of poller.new) req × Stepped self.now.layout.cells req poller.old poller.new }
+        ensures fewer { result ≡ Polled.Fewer → HasFewer (seen_of poller.old) req × IsEarly (seen_of poller.old) req }
+        ensures target_open { result ≡ Polled.TargetOpen → IsTargetOpen self.now.layout.cells req poller.old poller.new × IsEarly (seen_of poller.new) req }
+        ensures due { result ≡ Polled.Due → (may_fire ≡ false) × IsTargetOpen self.now.layout.cells req poller.old poller.new × IsDueLinked (seen_of poller.new) req }
+        ensures not_armed { result ≡ Polled.NotArmed → IsUnarmed (seen_of poller.new) req × ((length self.now.layout.cells ≤ req.ring) ⊎ Stepped self.now.layout.cells req poller.old poller.new) }
+        ensures steps { Paid poller.old.view poller.new.view 0 (cells_in self.now.layout.cells req.ring + 3) }
+        ensures alone { (q : Request) → freed poller.new.view.seen q ≡ freed poller.old.view.seen q }
+    {
+        match self.grid.locate(req) {
+            Some(spot) => poller.poll_timer(self, spot, req, may_fire),
+            None => Polled::NotArmed,
         }
     }
 }

@@ -20,7 +20,7 @@ pub use Rattle.runtime.specs.Clients.{AreClients, AreNewClients, ClientFacts, Ha
 pub use Rattle.runtime.specs.Crews.{AreWorking, Crew, all_passes, own_in, own_share, ready_of, shares_in, shares_of, worker_of}
 pub use Rattle.runtime.specs.Desks.{AreHeldBack, ArePending, Cares, IsCared, IsDone, IsHeldBack, IsLinkedDue, IsNoted, IsPendingTimer, IsPlain, IsSet, LooksAfter, NoneIsDue, Once, cares_of, is_among, taken_in, with_waiting}
 pub use Rattle.runtime.specs.Loops.{IsPollSide, IsPolling, IsServing, IsWorkSide, MayOwn}
-pub use Rattle.runtime.specs.Parts.{HasFewerTimers, HasRung, HasStopped, HaveWaited, IsDueTimer, IsStuck, WaitsOn, WasTried, WatchesOn, WentOn, stands_armed, with_watched}
+pub use Rattle.runtime.specs.Parts.{HasFewerTimers, HasRung, HasStopped, HaveWaited, IsDueTimer, IsStuck, StandsPolled, WaitsOn, WasTried, WatchesOn, WentOn, stands_armed, with_watched}
 pub use Rattle.runtime.specs.PollTurns.{AllRung, AreAt, AreNew, Desk, Did, HasRoom, HasTicked, IsAt, IsPollTurn, IsPollers, IsStill, IsStopped, IsTaken, Rang, ReachesTo, cares_in, cells_in_all}
 pub use Rattle.runtime.specs.PostLocks.{AreNumbered}
 pub use Rattle.runtime.specs.Shelves.{Places, with_request}

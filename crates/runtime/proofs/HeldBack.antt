@@ -7,7 +7,7 @@ use Rattle.steps.proofs.JournalGrowth.{kind_lasts}
 use Rattle.board.specs.PollerRows.{MayArm}
 use Rattle.runtime.specs.declared.error.Memory.{Memory}
 use Rattle.runtime.specs.declared.hands.Hands.{Hands}
-use Rattle.runtime.proofs.Common.{AreHeldBack, ArePending, Begins, Bool, Err, Event, Facts, GoesOn, HaveWaited, IsHeldBack, IsPendingTimer, IsReplied, IsStuck, IsUnheld, List, Ok, Once, Pass, Phase, Places, Req, Result, WaitsOn, WasTried, WatchesOn, [], ap, append_assoc, arith, armed, false, freed, inl, inr, is_among, is_ok, length, length-append, phase, refl, seen_of, setup_of, subst, sym, true, true≢false, unborn, waits, with_request, ℕ, ⊎_elim, ◌++◌, ◌+◌, ◌-◌, ◌<◌, ◌∙◌, ◌∷◌, ◌≡◌, ◌≢◌, ◌⊎◌}
+use Rattle.runtime.proofs.Common.{AreHeldBack, ArePending, Begins, Err, Event, Facts, GoesOn, HaveWaited, IsHeldBack, IsPendingTimer, IsReplied, IsStuck, IsUnheld, List, Ok, Once, Pass, Phase, Places, Req, Result, WaitsOn, WasTried, WatchesOn, [], ap, append_assoc, arith, armed, false, freed, inl, inr, is_among, is_ok, length, length-append, phase, refl, seen_of, setup_of, subst, sym, true, true≢false, unborn, waits, with_request, ℕ, ⊎_elim, ◌++◌, ◌+◌, ◌-◌, ◌<◌, ◌∙◌, ◌∷◌, ◌≡◌, ◌≢◌, ◌⊎◌}
 use Rattle.runtime.proofs.PassLaws.{armed_on, born_on, freed_on, lasts_on, once_later, once_sooner, replied_on}
 use Rattle.runtime.proofs.DeskLaws.{among_one, among_or}
 use Rattle.runtime.proofs.DueTimers.{one_entry}
@@ -64,14 +64,6 @@ tried_waits r p q old new t i is = ⊎_elim
     (λ (e : new ≡ old). inl (subst (λ (s : Places). is_among s.items i ≡ true) e is))
     (λ z. ⊎_elim (λ w. inl w) (λ w. inr (subst (λ (i : Req). Once p q (λ h. IsHeldBack h i)) (among_one r i w) z.1)) (among_or old.items (r ∷ []) i (subst (λ (s : Places). is_among s.items i ≡ true) z.0 is)))
     t
-
-pub not_false : (b : Bool) → not b ≡ false → b ≡ true
-not_false true e = refl
-not_false false e = absurd (true≢false e)
-
-pub not_true : (b : Bool) → not b ≡ true → b ≡ false
-not_true false e = refl
-not_true true e = absurd (true≢false (sym e))
 
 -- what was tried in a later part of a call
 pub tried_later : (b : Facts) (p m : Pass) (es : List Event) → GoesOn b p es m → (r : Req) (q : Pass) (old new : Places) (x : Result (Unit {0}) Memory) → IfOk x (λ _. WasTried r m q old new) → IfOk x (λ _. WasTried r p q old new)

@@ -1,5 +1,5 @@
 -- What stays as the poller's pass goes on, and what was true at some time in between.
-use Rattle.history.specs.Chains.{IsLinkTimeout, IsPlaced, is_timeout}
+use Rattle.history.specs.Chains.{IsPlaced, is_timeout}
 use Rattle.history.specs.Legal.{Legal, Setup, IsOf as IsOfKind}
 use Rattle.history.proofs.Growth.{MayChange, may_change, changed, unchanged, replied_stays}
 use Rattle.history.proofs.Requests.{bool_cases}
@@ -85,9 +85,6 @@ module _ (b : Facts) (p q : Pass) (es : List Event) (x : GoesOn b p es q) where
 
   pub begins_on : Begins q.view.seen p.view.seen
   begins_on = (x.later, x.seen_is)
-
-  pub linked_on : (r : Req) → r.k < submits (seen_of p) r.ring → IsLinkTimeout (seen_of p) r → IsLinkTimeout (seen_of q) r
-  linked_on r born y = (y.0, lasts_on (λ h. IsPlaced h r y.0) r (placed_lasts S r y.0) born y.1, y.2)
 
 -- ---- what was true at some time in between
 

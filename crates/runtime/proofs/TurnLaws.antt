@@ -1,5 +1,7 @@
 -- Parts of a turn, one after another.
 use Rattle.history.proofs.Requests.{bool_cases, same_itself, same_true}
+use Rattle.board.specs.Polls.{polled_by}
+use Rattle.board.specs.declared.poller.Polled.{Polled}
 use Rattle.board.specs.declared.poller.Released.{Released}
 use Rattle.board.specs.declared.poller.Released.TheVariants.{Severed, Freed, Shut, Timer, NotHeld}
 use Rattle.ready.specs.Ready.{Facts as QueueFacts, IsOf as IsOfQueue}
@@ -314,3 +316,21 @@ nothing_done b q h m k o w x y none idle =
       y.ready ∙ (ap (λ (ps : List Req). record m.ready { put = m.ready.put ++ ps }) z.3 ∙ (sym (no_puts m.ready) ∙ x.same.0)),
       y.answered ∙ ((λ i. none i ++ answered_by (z.1 i)) ∙ refl),
     )
+
+-- ---- what polling a timer answered
+
+abbrev AnswersOne : Req → Polled → Type 0
+AnswersOne r x = (ticked (polled_by x r) ≡ 0) × (answered_by (polled_by x r) ≡ r ∷ [])
+
+pub answers_one : (r : Req) (x : Polled) → (x ≡ Polled.Expired) ⊎ ((x ≡ Polled.Counted) ⊎ ((x ≡ Polled.Missed) ⊎ (x ≡ Polled.Settled))) → AnswersOne r x
+answers_one r x s = ⊎_elim
+    (λ e. subst (AnswersOne r) (sym e) (refl, refl))
+    (λ s. ⊎_elim (λ e. subst (AnswersOne r) (sym e) (refl, refl)) (λ s. ⊎_elim (λ e. subst (AnswersOne r) (sym e) (refl, refl)) (λ e. subst (AnswersOne r) (sym e) (refl, refl)) s) s) s
+
+abbrev AnswersNone : Req → Polled → Type 0
+AnswersNone r x = polled_by x r ≡ []
+
+pub answers_none : (r : Req) (x : Polled) → (x ≡ Polled.Early) ⊎ ((x ≡ Polled.Fewer) ⊎ ((x ≡ Polled.TargetOpen) ⊎ ((x ≡ Polled.Due) ⊎ (x ≡ Polled.NotArmed)))) → AnswersNone r x
+answers_none r x s = ⊎_elim
+    (λ e. subst (AnswersNone r) (sym e) refl)
+    (λ s. ⊎_elim (λ e. subst (AnswersNone r) (sym e) refl) (λ s. ⊎_elim (λ e. subst (AnswersNone r) (sym e) refl) (λ s. ⊎_elim (λ e. subst (AnswersNone r) (sym e) refl) (λ e. subst (AnswersNone r) (sym e) refl) s) s) s) s

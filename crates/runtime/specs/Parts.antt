@@ -4,6 +4,8 @@ use Rattle.history.specs.declared.req.Req.{Req}
 use Rattle.work.specs.Passes.{Pass, seen_of}
 use Rattle.board.specs.declared.phase.Phase.{Phase as Standing}
 use Rattle.board.specs.declared.phase.Phase.TheVariants.{Armed}
+use Rattle.board.specs.declared.poller.Polled.{Polled}
+use Rattle.board.specs.TimerCalls.{IsEarly, IsUnarmed}
 use Rattle.outbox.specs.Outbox.{Waiting}
 use Rattle.work.specs.Board.{Facts}
 use Rattle.wheel.specs.Wheel.{deadline_at}
@@ -12,7 +14,7 @@ use Rattle.history.specs.History.{clock_of}
 use Rattle.runtime.specs.declared.lists.Lists.{Lists}
 use Rattle.runtime.specs.PollTurns.{Rang}
 use Rattle.runtime.specs.declared.hands.Hands.{Hands}
-use Rattle.runtime.specs.Desks.{Cares, IsHeldBack, IsLinkedDue, IsPendingTimer, IsNoted, NoneIsDue, Once, is_among}
+use Rattle.runtime.specs.Desks.{Cares, IsHeldBack, IsLinkedDue, IsPendingTimer, IsNoted, IsPlain, NoneIsDue, Once, is_among}
 use Rattle.runtime.specs.Shelves.{Places, with_request}
 
 -- the numbers found no place in the ready queue, or the outbox has none for one answer more
@@ -63,3 +65,11 @@ stands_armed _ = false
 -- no timer whose deadline has come is left, or the outbox has no place more, or no second one, which the LINK_TIMEOUT whose turn it was may need
 abbrev pub HasRung : Pass → Hands → Cares → Type 0
 HasRung p h c = NoneIsDue c (seen_of h.poller) ⊎ ((h.room ≡ 0) ⊎ ((h.room ≤ 1) × ((r : Req) × Once p h.poller (λ e. IsLinkedDue e r))))
+
+-- what stands of a timer that the poller polled, by the answer. Pending or early is what it was before, or is after
+abbrev pub StandsPolled : Pass → Hands → Req → Polled → Type 0
+StandsPolled p h r Polled.Early = IsEarly (seen_of h.poller) r × IsPlain (seen_of h.poller) r
+StandsPolled p h r Polled.Fewer = IsEarly (seen_of p) r × IsPendingTimer (seen_of p) r
+StandsPolled p h r Polled.TargetOpen = IsEarly (seen_of h.poller) r × IsPendingTimer (seen_of h.poller) r
+StandsPolled p h r Polled.Due = (h.room ≡ 1) × IsLinkedDue (seen_of h.poller) r × IsPendingTimer (seen_of h.poller) r
+StandsPolled p h r _ = IsUnarmed (seen_of h.poller) r

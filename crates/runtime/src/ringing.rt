@@ -5,14 +5,14 @@ ghost use Rattle.history.specs.History.{armed, phase};
 ghost use Rattle.history.specs.Chains.{previous};
 ghost use Rattle.wheel.specs.Wheel.{deadline_at};
 ghost use Rattle.work.specs.Passes.{seen_of};
-ghost use Rattle.board.specs.TimerCalls.{IsNoneToExpire, IsNoneToSettle, IsUnarmed};
-ghost use Rattle.runtime.specs.Desks.{ArePending, IsLinkedDue, IsPendingTimer, LooksAfter, cares_of};
-ghost use Rattle.runtime.specs.Parts.{HasFewerTimers, HasRung, IsDueTimer, WatchesOn, WentOn, stands_armed, with_watched};
+ghost use Rattle.board.specs.TimerCalls.{IsUnarmed};
+ghost use Rattle.runtime.specs.Desks.{ArePending, LooksAfter, cares_of};
+ghost use Rattle.runtime.specs.Parts.{HasFewerTimers, HasRung, StandsPolled, WatchesOn, WentOn, stands_armed, with_watched};
 ghost use Rattle.runtime.specs.PollTurns.{HasRoom, IsAt, Rang};
 
 use crate::hands::Hands;
 use crate::lists::Lists;
-use board::{Board, Counting, Expiry, Firing, Phase, Settling};
+use board::{Board, Phase, Polled};
 use history::Req;
 use outbox::Outbox;
 use wheel::TimerSet;
@@ -66,73 +66,26 @@ fn target_of(req: Req) -> Req
     }
 }
 
-/// Settles a timer, where its target has replied. Whether it still waits for that.
-fn settle(board: &Board, hands: &mut Hands, outbox: &mut Outbox, req: Req) -> bool
+/// Does what is to be done with an armed timer, as far as the outbox has room for what that answers, and puts it there.
+fn poll(board: &Board, hands: &mut Hands, outbox: &mut Outbox, req: Req) -> Polled
     requires own { IsAt board.now hands.old }
     requires some { 0 < hands.old.room }
     requires room { HasRoom hands.old outbox.old }
     ensures rang { Rang board.now hands.old outbox.old hands.new outbox.new }
-    ensures pending { result ≡ true → IsPendingTimer (seen_of hands.new.poller) req }
-    ensures over { result ≡ false → IsNoneToSettle (seen_of hands.new.poller) req }
+    ensures stands { StandsPolled hands.old.poller hands.new req result }
 {
-    match board.settle(&mut hands.poller, req) {
-        Settling::Settled => {
-            hands.answer(outbox, req);
-            false
-        }
-        Settling::TargetOpen => true,
-        Settling::NotArmed => false,
-    }
-}
-
-/// Fires a LINK_TIMEOUT whose deadline has come. False where the outbox has no room for its target too.
-fn fire(board: &Board, hands: &mut Hands, outbox: &mut Outbox, req: Req) -> bool
-    requires own { IsAt board.now hands.old }
-    requires some { 0 < hands.old.room }
-    requires room { HasRoom hands.old outbox.old }
-    requires due { IsDueTimer (seen_of hands.old.poller) req }
-    requires linked { IsNoneToExpire (seen_of hands.old.poller) req }
-    ensures rang { Rang board.now hands.old outbox.old hands.new outbox.new }
-    ensures over { result ≡ true → IsUnarmed (seen_of hands.new.poller) req }
-    ensures full { result ≡ false → (hands.new.room ≡ 1) × IsLinkedDue (seen_of hands.new.poller) req }
-{
-    if hands.room < 2 {
-        return !is_armed(board, hands, req);
-    }
-    match board.fire(&mut hands.poller, req) {
-        Firing::Took => {
+    let polled = board.poll_timer(&mut hands.poller, req, hands.room > 1);
+    match polled {
+        Polled::Took => {
             hands.answer(outbox, target_of(req));
             hands.answer(outbox, req);
-            true
         }
-        Firing::Missed => {
+        Polled::Expired | Polled::Counted | Polled::Missed | Polled::Settled => {
             hands.answer(outbox, req);
-            true
         }
-        Firing::TargetDone => !settle(board, hands, outbox, req),
-        Firing::Early => unreachable!(),
-        Firing::NotArmed => true,
+        Polled::Early | Polled::Fewer | Polled::TargetOpen | Polled::Due | Polled::NotArmed => {}
     }
-}
-
-/// Ends a timer whose deadline has come. False where it is a LINK_TIMEOUT and the outbox has no room for its target too.
-fn run_out(board: &Board, hands: &mut Hands, outbox: &mut Outbox, req: Req) -> bool
-    requires own { IsAt board.now hands.old }
-    requires some { 0 < hands.old.room }
-    requires room { HasRoom hands.old outbox.old }
-    requires due { IsDueTimer (seen_of hands.old.poller) req }
-    ensures rang { Rang board.now hands.old outbox.old hands.new outbox.new }
-    ensures over { result ≡ true → IsUnarmed (seen_of hands.new.poller) req }
-    ensures full { result ≡ false → (hands.new.room ≡ 1) × IsLinkedDue (seen_of hands.new.poller) req }
-{
-    match board.expire(&mut hands.poller, req) {
-        Expiry::Expired => {
-            hands.answer(outbox, req);
-            true
-        }
-        Expiry::Early => unreachable!(),
-        Expiry::NotArmed => fire(board, hands, outbox, req),
-    }
+    polled
 }
 
 /// Ends the timers whose deadlines have come, the least deadline first, as long as the outbox has room.
@@ -150,7 +103,7 @@ fn end_due(board: &Board, hands: &mut Hands, lists: &mut Lists, outbox: &mut Out
         if hands.room == 0 {
             break;
         }
-        if !run_out(board, hands, outbox, req) {
+        if let Polled::Due = poll(board, hands, outbox, req) {
             break;
         }
         lists.timers.drop_timer(req);
@@ -194,7 +147,7 @@ pub(crate) fn has_timers(board: &Board, hands: &mut Hands, lists: &mut Lists) ->
 }
 
 /// Looks after an armed timer that a reply may end: a TIMEOUT that counts replies is answered once they are enough, and a
-/// LINK_TIMEOUT once its target has replied. One that is still pending is watched on.
+/// LINK_TIMEOUT once its target has replied. One that is still pending is watched on, and one that is over is forgotten.
 fn watch(board: &Board, hands: &mut Hands, lists: &mut Lists, outbox: &mut Outbox, req: Req)
     requires own { IsAt board.now hands.old }
     requires some { 0 < hands.old.room }
@@ -207,18 +160,12 @@ fn watch(board: &Board, hands: &mut Hands, lists: &mut Lists, outbox: &mut Outbo
     ensures watched { WatchesOn req hands.old.poller hands.new.poller lists.old.watchers lists.new.watchers }
     ensures fewer { HasFewerTimers lists.old lists.new }
 {
-    match board.count(&mut hands.poller, req) {
-        Counting::Counted => {
+    match poll(board, hands, outbox, req) {
+        Polled::Early => {}
+        Polled::Fewer | Polled::TargetOpen | Polled::Due => lists.watchers.put(req),
+        _ => {
             lists.timers.drop_timer(req);
-            hands.answer(outbox, req);
         }
-        Counting::Fewer => lists.watchers.put(req),
-        Counting::NotCounted => {
-            if settle(board, hands, outbox, req) {
-                lists.watchers.put(req);
-            }
-        }
-        Counting::NotArmed => {}
     }
 }
 

@@ -1,14 +1,10 @@
-use Rattle.board.proofs.Common.{Alarm, Alone, IsKept, Layout, Linked, Req, Role, Some, Stands, [], ap, arith, armed, clock_of, counted_in, events_of, pass_of, phase, pollers, refl, request_at, setup_of, stands_for, subst, ◌<◌, ◌∙◌, ◌≡◌}
+use Rattle.board.proofs.Common.{Alarm, IsKept, Layout, Req, Role, Some, Stands, [], ap, arith, armed, clock_of, counted_in, events_of, pass_of, phase, pollers, refl, request_at, setup_of, stands_for, subst, ◌<◌, ◌∙◌, ◌≡◌}
 use Rattle.board.proofs.Expiries.{expires_after, expires_early, expires_linked, expires_unarmed}
 use Rattle.board.proofs.PassFacts.{found_word}
+use Rattle.board.proofs.Settlings.{linked_of}
 use Rattle.board.proofs.TimersHeld.{alarm_goes, clock_watched, none}
 use Rattle.board.proofs.Watching.{paid_add, paid_most, paid_one, seat_looked, watched_look}
 use Rattle.board.proofs.alarm.expire.Goals as goal
-
--- what is no TIMEOUT is a LINK_TIMEOUT
-linked_of : (a : Alarm) → ((f : _) (n : _) → a ≡ Alone f n → ⊥) → a ≡ Linked
-linked_of Linked n = refl
-linked_of (Alone f m) n = absurd (n f m refl)
 
 pub told-requires : goal.told-requires
 told-requires c = let e = c.look-word.ensures in found_word c.args.board.now (pass_of c.args.seat.now) (pass_of c.look-word.new.seat) c.args.spot.cell c.look-word.result c.requires.ours.ours e.seat.0.0 e.looks e.shown

@@ -1,5 +1,5 @@
 use Rattle.ready.specs.Ready.{IsOf as IsOfQueue}
-use Rattle.runtime.proofs.Common.{AreHeldBack, ArePending, Begins, Desk, HasRung, Intake, IsPollTurn, IsPollers, IsStill, IsStuck, IsTaken, List, Owed, Pass, Places, Req, [], ap, arith, cares_of, inl, inr, length, seen_of, subst, sym, taken_in, ℕ, ⊎_elim, ◌+◌, ◌<◌, ◌∙◌, ◌≡◌, ◌≢◌, ◌≤◌}
+use Rattle.runtime.proofs.Common.{AreHeldBack, ArePending, Begins, Desk, HasRung, Intake, IsPollTurn, IsPollers, IsStill, IsStuck, IsTaken, List, Owed, Pass, Places, Req, [], ap, arith, cares_of, inl, inr, length, seen_of, subst, sym, taken_in, ℕ, ⊎_elim, ◌+◌, ◌<◌, ◌∙◌, ◌≡◌, ◌≢◌}
 use Rattle.runtime.proofs.ClockLaws.{stays_along, still_pollers}
 use Rattle.runtime.proofs.TurnLaws.{did_retry, did_ring, did_then, nothing_done, turned}
 use Rattle.runtime.proofs.PassLaws.{after_on}

@@ -1,4 +1,4 @@
-use Rattle.runtime.proofs.Common.{Places, ap, inl, inr, refl, sym, ⊎_elim, ◌∙◌, ◌≡◌}
+use Rattle.runtime.proofs.Common.{Places, ap, inl, refl, sym, ◌∙◌}
 use Rattle.runtime.proofs.TurnLaws.{at_after, did_ring, did_still, did_then, room_after}
 use Rattle.runtime.proofs.HeldBack.{free_unstuck, same_places}
 use Rattle.runtime.proofs.TurnParts.{free_goes_on, no_answers, waited_more, went_free}

@@ -1,0 +1,185 @@
+//! What the poller does with a timer: it looks whether that is armed, and by what it keeps of it ends it, or finds why it isn't to end.
+ghost use Rattle.std.specs.Prelude.{◌≡◌, ◌+◌, ◌<◌, ◌≤◌, Bool, true, false, negsuc, Some};
+ghost use Rattle.entry.specs.Entry.{Entry, fails as fails_with};
+ghost use Rattle.history.specs.Chains.{IsLinkTimeout, IsPlaced, is_timeout};
+ghost use Rattle.history.specs.History.{armed, clock_of, fired, phase, submits};
+ghost use Rattle.history.specs.Legal.{count_of};
+ghost use Rattle.steps.specs.Cells.{cells_in};
+ghost use Rattle.steps.specs.Journal.{events_of};
+ghost use Rattle.work.specs.Passes.{pass_of};
+ghost use Rattle.board.specs.PollerRows.{IsAt, IsOurs, Paid};
+ghost use Rattle.board.specs.PollerTimers.{KnowsAlarm};
+ghost use Rattle.board.specs.Polls.{Polls};
+ghost use Rattle.board.specs.Seats.{IsPollerSeat};
+ghost use Rattle.board.specs.TimerCalls.{IsDueLinked};
+
+use crate::alarm::{Alarm, run_out};
+use crate::board::Board;
+use crate::counting::{end_counted, has_counted};
+use crate::linked::{Struck, end_fired, end_linked, settle_armed, strike};
+use crate::phase::{Phase, told};
+use crate::poller::{Expiry, Polled, Settling};
+use history::Req;
+use steps::{TableSeat, seat};
+use work::Spot;
+
+/// The clock's time, and whether a LINK_TIMEOUT may fire.
+#[derive(Clone, Copy)]
+pub(crate) struct Polling {
+    pub clock: u32,
+    pub may_fire: bool,
+}
+
+/// Answers a TIMEOUT that is armed with this deadline, if it has counted enough completions.
+fn poll_count(
+    board: &Board,
+    seat: &mut TableSeat,
+    spot: Spot,
+    req: Req,
+    deadline: u32,
+    count: u64,
+) -> Polled
+    requires ours { IsOurs board.now seat.old }
+    requires at { IsAt board.now.layout.cells spot.cell spot.generation req }
+    requires small { spot.generation < 16777216 }
+    requires armed { phase (events_of seat.old.me.0.seen) req ≡ armed deadline }
+    requires born { req.k < submits (events_of seat.old.me.0.seen) req.ring }
+    requires early { clock_of (events_of seat.old.me.0.seen) < deadline }
+    requires counts { (e : Entry) × IsPlaced (events_of seat.old.me.0.seen) req e × (count ≡ count_of e.op) × (0 < count) }
+    ensures seat { IsPollerSeat seat.new }
+    ensures polls { (may : Bool) → Polls board.now may req (pass_of seat.old) (pass_of seat.new) result }
+    ensures steps { Paid seat.old.me.0 seat.new.me.0 0 (cells_in board.now.layout.cells req.ring) }
+{
+    if !has_counted(board, seat, req, count) {
+        return Polled::Fewer;
+    }
+    if end_counted(board, seat, spot, req, deadline) {
+        Polled::Counted
+    } else {
+        Polled::NotArmed
+    }
+}
+
+/// Answers a TIMEOUT that is armed with this deadline, which has come.
+fn poll_expiry(
+    board: &Board,
+    seat: &mut TableSeat,
+    spot: Spot,
+    req: Req,
+    deadline: u32,
+    fails: bool,
+) -> Polled
+    requires ours { IsOurs board.now seat.old }
+    requires at { IsAt board.now.layout.cells spot.cell spot.generation req }
+    requires small { spot.generation < 16777216 }
+    requires armed { phase (events_of seat.old.me.0.seen) req ≡ armed deadline }
+    requires born { req.k < submits (events_of seat.old.me.0.seen) req.ring }
+    requires due { deadline ≤ clock_of (events_of seat.old.me.0.seen) }
+    requires timeout { (e : Entry) × IsPlaced (events_of seat.old.me.0.seen) req e × (is_timeout e.op ≡ true) × (fails ≡ fails_with e (negsuc 61)) }
+    ensures seat { IsPollerSeat seat.new }
+    ensures polls { (may : Bool) → Polls board.now may req (pass_of seat.old) (pass_of seat.new) result }
+    ensures steps { Paid seat.old.me.0 seat.new.me.0 0 1 }
+{
+    match run_out(board, seat, spot, req, deadline, fails) {
+        Expiry::Expired => Polled::Expired,
+        _ => Polled::NotArmed,
+    }
+}
+
+/// Fires a LINK_TIMEOUT that is armed with this deadline, which has come, or settles it where its target has replied.
+fn poll_due(board: &Board, seat: &mut TableSeat, spot: Spot, req: Req, deadline: u32) -> Polled
+    requires ours { IsOurs board.now seat.old }
+    requires at { IsAt board.now.layout.cells spot.cell spot.generation req }
+    requires small { spot.generation < 16777216 }
+    requires armed { phase (events_of seat.old.me.0.seen) req ≡ armed deadline }
+    requires due { IsDueLinked (events_of seat.old.me.0.seen) req }
+    ensures seat { IsPollerSeat seat.new }
+    ensures polls { Polls board.now true req (pass_of seat.old) (pass_of seat.new) result }
+    ensures steps { Paid seat.old.me.0 seat.new.me.0 0 3 }
+{
+    match strike(board, seat, spot, req) {
+        Struck::Over => match end_linked(board, seat, spot, req, deadline) {
+            Settling::Settled => Polled::Settled,
+            _ => Polled::NotArmed,
+        },
+        Struck::Took => {
+            end_fired(board, seat, spot, req, deadline);
+            Polled::Took
+        }
+        Struck::Missed => {
+            end_fired(board, seat, spot, req, deadline);
+            Polled::Missed
+        }
+    }
+}
+
+/// Fires a LINK_TIMEOUT that is armed with this deadline, if that has come and it may, or settles it where its target has replied.
+fn poll_linked(
+    board: &Board,
+    seat: &mut TableSeat,
+    polling: Polling,
+    spot: Spot,
+    req: Req,
+    deadline: u32,
+) -> Polled
+    requires ours { IsOurs board.now seat.old }
+    requires at { IsAt board.now.layout.cells spot.cell spot.generation req }
+    requires small { spot.generation < 16777216 }
+    requires armed { phase (events_of seat.old.me.0.seen) req ≡ armed deadline }
+    requires born { req.k < submits (events_of seat.old.me.0.seen) req.ring }
+    requires linked { IsLinkTimeout (events_of seat.old.me.0.seen) req }
+    requires unfired { fired (events_of seat.old.me.0.seen) req ≡ false }
+    requires clock { polling.clock ≡ clock_of (events_of seat.old.me.0.seen) }
+    ensures seat { IsPollerSeat seat.new }
+    ensures polls { Polls board.now polling.may_fire req (pass_of seat.old) (pass_of seat.new) result }
+    ensures steps { Paid seat.old.me.0 seat.new.me.0 0 3 }
+{
+    let is_due = deadline <= polling.clock;
+    if is_due && polling.may_fire {
+        return poll_due(board, seat, spot, req, deadline);
+    }
+    match settle_armed(board, seat, spot, req, deadline) {
+        Settling::Settled => Polled::Settled,
+        Settling::TargetOpen => {
+            if is_due {
+                Polled::Due
+            } else {
+                Polled::TargetOpen
+            }
+        }
+        Settling::NotArmed => Polled::NotArmed,
+    }
+}
+
+/// Does what is to be done with the request's timer, if that is armed. `alarm` is what is kept of the cell's timer.
+pub(crate) fn poll(
+    board: &Board,
+    seat: &mut TableSeat,
+    polling: Polling,
+    alarm: Alarm,
+    spot: Spot,
+    req: Req,
+) -> Polled
+    requires ours { IsOurs board.now seat.old }
+    requires at { IsAt board.now.layout.cells spot.cell spot.generation req }
+    requires clock { polling.clock ≡ clock_of (events_of seat.old.me.0.seen) }
+    requires knows { KnowsAlarm (events_of seat.old.me.0.seen) req (Some alarm) }
+    ensures seat { IsPollerSeat seat.new }
+    ensures polls { Polls board.now polling.may_fire req (pass_of seat.old) (pass_of seat.new) result }
+    ensures steps { Paid seat.old.me.0 seat.new.me.0 0 (cells_in board.now.layout.cells req.ring + 3) }
+{
+    let word = seat::look(&board.table.shared, seat, spot.cell);
+    let Phase::Armed(deadline) = told(word, spot.generation) else {
+        return Polled::NotArmed;
+    };
+    let Alarm::Alone(fails, count) = alarm else {
+        return poll_linked(board, seat, polling, spot, req, deadline);
+    };
+    if deadline <= polling.clock {
+        return poll_expiry(board, seat, spot, req, deadline, fails);
+    }
+    if count == 0 {
+        return Polled::Early;
+    }
+    poll_count(board, seat, spot, req, deadline, count)
+}
