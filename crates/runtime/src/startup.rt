@@ -31,6 +31,7 @@ use bell::{Bell, Ringer, Sleeper};
 use board::{Board, BoardError, Poller, RingShape, Shape, Submitter, Worker};
 use compring::CompletionRing;
 use controls::{Clock, Turnstile};
+use crossbeam_utils::CachePadded;
 use event_count::{EventCount, Notifier, Waiter};
 use outbox::Outbox;
 use ready::{ReadyPass, ReadyQueue};
@@ -269,7 +270,7 @@ fn parts_of(alloc: Global, shape: &Shape) -> Result<Parts, StartError>
         posts,
         is_over: AtomicBool::new(false),
         is_resting: AtomicBool::new(false),
-        tally: Tally::new(),
+        tally: CachePadded::new(Tally::new()),
     };
     Ok(Parts {
         shared,
