@@ -5,6 +5,7 @@ ghost use Rattle.runtime.specs.PostLocks.{AreNumbered};
 
 use crate::sleeping::Caller;
 use compring::CompletionRing;
+use crossbeam_utils::CachePadded;
 use std::marker::Model;
 use std::sync::atomic::{AtomicU64, Ordering};
 use std::sync::{Mutex, MutexGuard, Wait};
@@ -16,13 +17,13 @@ pub(crate) struct Posting {
     pub caller: Caller,
 }
 
-/// The completion ring of a ring, under its lock, and how many posts it was given, which is read without the lock. Contracts see the
-/// number of the ring.
+/// The completion ring of a ring, under its lock, and how many posts it was given, which is read without the lock, and has cache lines of
+/// its own: a client that looks for posts takes none away from who posts. Contracts see the number of the ring.
 #[derive(Drop)]
 pub(crate) struct PostLock {
     owner: u16,
     lock: Mutex<Posting>,
-    posted: AtomicU64,
+    posted: CachePadded<AtomicU64>,
 }
 
 impl Model for PostLock {
@@ -41,7 +42,7 @@ impl PostLock {
         PostLock {
             owner: ring.owner(),
             lock: Mutex::new(Posting { ring, caller }),
-            posted: AtomicU64::new(0),
+            posted: CachePadded::new(AtomicU64::new(0)),
         }
     }
 

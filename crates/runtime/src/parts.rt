@@ -24,6 +24,7 @@ use crate::sleeping::{Caller, Listener};
 use bell::{Bell, Ringer, Sleeper};
 use board::{Board, BoardError, Poller, RingShape, Shape, Submitter};
 use compring::CompletionRing;
+use crossbeam_utils::CachePadded;
 use event_count::{EventCount, Notifier, Waiter};
 use ready::{ReadyPass, ReadyQueue};
 use std::alloc::Global;
@@ -243,7 +244,7 @@ pub(crate) fn parts_of(alloc: Global, shape: &Shape) -> Result<Parts, StartError
         posts,
         is_over: AtomicBool::new(false),
         is_resting: AtomicBool::new(false),
-        tally: Tally::new(),
+        tally: CachePadded::new(Tally::new()),
     };
     Ok(Parts {
         shared,

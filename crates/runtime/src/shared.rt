@@ -2,6 +2,7 @@
 use crate::locks::PostLocks;
 use bell::Bell;
 use board::Board;
+use crossbeam_utils::CachePadded;
 use ready::ReadyQueue;
 use std::hint;
 use std::sync::atomic::{AtomicBool, AtomicU64, Ordering};
@@ -11,7 +12,8 @@ use std::sync::atomic::{AtomicBool, AtomicU64, Ordering};
 const LOOKS: u32 = 65_536;
 
 /// The board, its doorbell and its ready queue; the completion ring of each ring, each under a lock of its own; and whether the
-/// workers are to end, as the poller says once it was told to, and whether the threads end once they find nothing to do any more.
+/// workers are to end, as the poller says once it was told to, and whether the threads end once they find nothing to do any more. The
+/// poller counts in each turn, so what it counts has cache lines of its own: a client looks at what is beside it with each completion.
 #[derive(Drop)]
 pub(crate) struct Shared {
     pub board: Board,
@@ -20,7 +22,7 @@ pub(crate) struct Shared {
     pub posts: PostLocks,
     pub is_over: AtomicBool,
     pub is_resting: AtomicBool,
-    pub tally: Tally,
+    pub tally: CachePadded<Tally>,
 }
 
 /// How many numbers went to the workers, from the poller and from the pipes, and with how many of these they are done. What was answered

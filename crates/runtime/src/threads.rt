@@ -42,6 +42,11 @@ const SETTLED: u32 = 2048;
 /// How many turns the worker of the poller's thread makes at most between two turns of the poller.
 const RUNS: u32 = 64;
 
+/// From how many answered requests on that worker posts them, though requests wait that the poller may now release.
+/// With fewer it runs those first, and a chain's completions are posted together: a client that has taken one by one would have looked
+/// for the next in vain.
+const MOST_HELD: usize = 16;
+
 /// Between a turn that did nothing and the next, after so many such turns in a row, of which so many are made at once. A turn is long
 /// enough that a pause of the processor after it would only let a request wait.
 fn pause(still: u32, spins: u32) {
@@ -179,12 +184,14 @@ pub(crate) struct PollSide<C> {
 }
 
 impl WorkSide {
-    /// Work turns, until one finds nothing to do, `RUNS` of them at most. What they answered is posted. Whether the last was idle.
+    /// Work turns, until one finds nothing to do, `RUNS` of them at most. What they answered is posted, unless requests wait for some of it:
+    /// then few of them are held until the next call, where these turns answered some. Idle where the last turn was, and nothing is held.
     pub(crate) fn serve<R: Wait, G: Turnstile>(
         self,
         rt: &R,
         shared: &Shared,
         turnstile: &G,
+        some_wait: bool,
     ) -> (WorkSide, Turn)
         requires { IsWorkSide shared.now self }
         ensures own { IsWorkSide shared.now result.0 }
@@ -196,6 +203,7 @@ impl WorkSide {
             mut worker,
             mut outbox,
         } = self;
+        let held = outbox.len();
         let mut last = Turn::Moved;
         for _run in 0..RUNS {
             let (next, turn, _is_silent) = work_round(
@@ -212,8 +220,12 @@ impl WorkSide {
                 break;
             }
         }
-        post_all(rt, &shared.posts, turnstile, &mut outbox);
-        desk.tell(&shared.tally);
+        if some_wait && held < outbox.len() && outbox.len() < MOST_HELD {
+            last = Turn::Moved;
+        } else {
+            post_all(rt, &shared.posts, turnstile, &mut outbox);
+            desk.tell(&shared.tally);
+        }
         let own = WorkSide {
             desk,
             worker,
@@ -237,6 +249,7 @@ fn serve_own<R: Wait, G: Turnstile>(
     shared: &Shared,
     turnstile: &G,
     own: Option<WorkSide>,
+    some_wait: bool,
 ) -> (Option<WorkSide>, Turn)
     requires { MayOwn shared.now own }
     ensures own { MayOwn shared.now result.0 }
@@ -245,7 +258,7 @@ fn serve_own<R: Wait, G: Turnstile>(
 {
     match own {
         Some(own) => {
-            let (own, turn) = own.serve(rt, shared, turnstile);
+            let (own, turn) = own.serve(rt, shared, turnstile, some_wait);
             (Some(own), turn)
         }
         None => (None, Turn::Idle),
@@ -288,8 +301,10 @@ pub(crate) fn poll<R: Wait, G: Turnstile, C: Clock>(
         shared.tally.turn();
         let puts = desk.puts();
         call_for(&mut caller, puts.wrapping_sub(called));
+        let is_over = desk.is_over();
         if served == Turn::Moved || puts != called {
-            (own, served) = serve_own(rt, shared, turnstile, own);
+            let some_wait = desk.some_wait() && !is_over;
+            (own, served) = serve_own(rt, shared, turnstile, own, some_wait);
         }
         called = puts;
         let has_moved = desk.has_moved() || served == Turn::Moved;
@@ -298,7 +313,6 @@ pub(crate) fn poll<R: Wait, G: Turnstile, C: Clock>(
         } else {
             still.saturating_add(1)
         };
-        let is_over = desk.is_over();
         if is_over && (SETTLED <= still || !shared.is_resting.load(Ordering::SeqCst)) {
             shared.is_over.store(true, Ordering::SeqCst);
             caller.call_all();
