@@ -9,7 +9,7 @@ use Rattle.work.specs.declared.run.Parked.{Parked as Reason}
 use Rattle.work.specs.declared.run.Parked.TheVariants.{NotReady, PipeBusy}
 use Rattle.work.specs.declared.run.Ran.{Ran}
 use Rattle.work.specs.declared.run.Ran.TheVariants.{Replied, Parked}
-use Rattle.work.proofs.Common.{AsyncCancel, Begin, Begins, Bool, Busy, Cause, Close, Did, EndsBy, Entry, Event, Extends, FewSteps, FoundOut, HasStepped, HasWoken, Invalid, IsPlaced, IsReaped, IsReason, IsRun, IsStep, IsTrue, IsUnderway, LaidDown, Legal, Line, LinkTimeout, List, Looks, None, NoneOf, Nop, NotesSay, Op, Option, Parcel, Park, Pass, PollAdd, Read, ReadNotes, Reply, Req, Role, Running, RunsIt, Saw, Setup, Some, Splice, Step, StepsAt, StepsBy, TableId, Timeout, TimeoutRemove, Took, View, WakesAt, Wanted, Write, [], ap, append_assoc, arith, bool_cases, cells_in, claim_at, cond, event_of, events_of, facts_at, false, fits_facts, inl, inr, lasts, length-append, lent, ne_eqb, noted, notes_read, op_run, own_of, owns, packed_facts, phase, placed_lasts, refl, replied, run_as, runs, same_itself, seeing, seen_of, setup_of, steps_at, still_runs, submission, submitted_in, subst, sym, true, unborn, user_at, wanted_in, was_shut, ℕ, ℤ, ⊎_elim, ◌*◌, ◌++◌, ◌+◌, ◌==◌, ◌∙◌, ◌∷◌, ◌≡◌, ◌⊎◌}
+use Rattle.work.proofs.Common.{Begin, Begins, Bool, Busy, Cause, Did, EndsBy, Entry, Event, Extends, FewSteps, FoundOut, HasStepped, HasWoken, IsPlaced, IsReaped, IsReason, IsRun, IsStep, IsTrue, IsUnderway, LaidDown, Legal, Line, LinkTimeout, List, Looks, None, NoneOf, Nop, NotesSay, Op, Option, Parcel, Park, Pass, ReadNotes, Reply, Req, Role, Running, RunsIt, Saw, Setup, Some, Step, StepsAt, StepsBy, TableId, Took, View, WakesAt, Wanted, [], ap, append_assoc, arith, bool_cases, cells_in, claim_at, cond, event_of, events_of, facts_at, false, fits_facts, inl, inr, lasts, length-append, lent, ne_eqb, noted, notes_read, op_run, own_of, owns, packed_facts, phase, placed_lasts, refl, replied, run_as, runs, same_itself, seeing, seen_of, setup_of, steps_at, still_runs, submission, submitted_in, subst, sym, true, unborn, user_at, wanted_in, was_shut, ℕ, ℤ, ⊎_elim, ◌*◌, ◌++◌, ◌+◌, ◌==◌, ◌∙◌, ◌∷◌, ◌≡◌, ◌⊎◌}
 use Rattle.work.proofs.CancelSearch.{steps_both}
 use Rattle.work.proofs.RunsKept.{begins_both, runs_placed, took_both}
 
@@ -52,29 +52,11 @@ placed_looked table v w x g r p pipes k l e is = let S : Setup = setup_of v.layo
 
 pub is_nop : (op : Op) → row_number (op_run op) ≡ 0 → op ≡ Nop
 is_nop Nop e = refl
-is_nop (PollAdd fd mask) e = absurd (omega arith)
-is_nop (Timeout ticks etime_success count) e = absurd (omega arith)
-is_nop (TimeoutRemove u) e = absurd (omega arith)
-is_nop (AsyncCancel u all) e = absurd (omega arith)
-is_nop (LinkTimeout ticks) e = absurd (omega arith)
-is_nop (Close fd) e = absurd (omega arith)
-is_nop (Read fd offset len) e = absurd (omega arith)
-is_nop (Write fd offset len) e = absurd (omega arith)
-is_nop (Splice fd_in fd_out len) e = absurd (omega arith)
-is_nop Invalid e = absurd (omega arith)
+is_nop op e = absurd (omega arith)
 
 pub reads_one : (op : Op) → ¬ (row_number (op_run op) ≡ 0) → notes_read op ≡ 1
 reads_one Nop n = absurd (n refl)
-reads_one (PollAdd fd mask) n = refl
-reads_one (Timeout ticks etime_success count) n = refl
-reads_one (TimeoutRemove u) n = refl
-reads_one (AsyncCancel u all) n = refl
-reads_one (LinkTimeout ticks) n = refl
-reads_one (Close fd) n = refl
-reads_one (Read fd offset len) n = refl
-reads_one (Write fd offset len) n = refl
-reads_one (Splice fd_in fd_out len) n = refl
-reads_one Invalid n = refl
+reads_one op n = refl
 
 -- as it is placed it is read as it was handed in
 pub reads_run : (op : Op) → notes_read (op_run op) ≡ notes_read op

@@ -6,7 +6,7 @@ use Rattle.history.specs.Users.{uses_at}
 use Rattle.steps.proofs.CancelOnce.{IsEarly, unhit as not_hit}
 use Rattle.steps.proofs.Submissions.{fits_is}
 use Rattle.work.specs.declared.run.Ran.{Ran}
-use Rattle.work.proofs.Common.{AreFew, AreMade, AreNamed, AsyncCancel, Begin, Begins, Bool, Busy, Close, Conduit, Did, DidReply, EndsBy, Entry, Event, Extends, Facts, FitsOp, Flow, FoundOut, Full, HasBoth, HasRooms, Hold, Idle, Invalid, IsCell, IsGridOf, IsOf, IsParcel, IsPipe, IsPlaced, IsSamePipe, IsStep, JoinsPipes, Layout, Leaving, Legal, Line, LinkTimeout, List, Lists, Looks, MayReply, MissedPipe, None, NoneOf, Nop, Op, OpAnswers, Option, Orderly, Parcel, Pass, PipeIs, Piped, PollAdd, Read, Reply, Req, Role, Running, RunsIt, Seated, Setup, Some, Splice, Step, StepsAt, StepsBy, Submission, TableId, Thing, Timeout, TimeoutRemove, Took, UsesBoth, UsesNone, UsesOne, View, WaitedPipe, Wanted, Write, [], ap, append_assoc, arith, before_in, bool_cases, cases_eq, claim_at, cond, contents, eq-eqb, event_of, events_of, false, flow, flows, flows_as, hit, holder, hosts, is_link_timeout, is_pipe, is_plain, is_timer, lasts, layout_after, leaves, leaves_one, length, length-append, ltb-true, not, nothing, offered, only_joined, op_run, over, own_of, owns, parcel_after, parts_after, pipe_at, placed_behind, placed_from, placed_lasts, refl, request_at, rest, role_after, run_as, same_hit, setup_of, share_of, slice_index, slot_at, submission, submission_lasts, submitted_in, subst, suc, sym, total, true, true≢false, turned, uses_joined, wanted_in, was_shut, ℕ, ℤ, ⊎_elim, ◌&&◌, ◌++◌, ◌+◌, ◌<◌, ◌∙◌, ◌∷◌, ◌≡◌, ◌≤◌}
+use Rattle.work.proofs.Common.{AreFew, AreMade, AreNamed, AsyncCancel, Begin, Begins, Bool, Busy, Conduit, Did, DidReply, EndsBy, Entry, Event, Extends, Facts, FitsOp, Flow, FoundOut, Full, HasBoth, HasRooms, Hold, Idle, Invalid, IsCell, IsGridOf, IsOf, IsParcel, IsPipe, IsPlaced, IsSamePipe, IsStep, JoinsPipes, Layout, Leaving, Legal, Line, LinkTimeout, List, Lists, Looks, MayReply, MissedPipe, None, NoneOf, Op, OpAnswers, Option, Orderly, Parcel, Pass, PipeIs, Piped, Reply, Req, Role, Running, RunsIt, Seated, Setup, Some, Step, StepsAt, StepsBy, Submission, TableId, Thing, Timeout, TimeoutRemove, Took, UsesBoth, UsesNone, UsesOne, View, WaitedPipe, Wanted, [], ap, append_assoc, arith, before_in, bool_cases, cases_eq, claim_at, cond, contents, eq-eqb, event_of, events_of, false, flow, flows, flows_as, hit, holder, hosts, is_link_timeout, is_pipe, is_plain, is_timer, lasts, layout_after, leaves, leaves_one, length, length-append, ltb-true, not, nothing, offered, only_joined, op_run, over, own_of, owns, parcel_after, parts_after, pipe_at, placed_behind, placed_from, placed_lasts, refl, request_at, rest, role_after, run_as, same_hit, setup_of, share_of, slice_index, slot_at, submission, submission_lasts, submitted_in, subst, suc, sym, total, true, true≢false, turned, uses_joined, wanted_in, was_shut, ℕ, ℤ, ⊎_elim, ◌&&◌, ◌++◌, ◌+◌, ◌<◌, ◌∙◌, ◌∷◌, ◌≡◌, ◌≤◌}
 use Rattle.work.proofs.OwnEvents.{own_append, silent_line}
 use Rattle.work.proofs.PassesKept.{extended_of}
 
@@ -285,17 +285,11 @@ room_on table K v w lists grid same spare = subst (λ (L : List ℕ). HasRooms L
 -- ---- which pipe an operation names
 
 pub plain_run : (op : Op) → is_timer op ≡ false → wanted_in op ≡ None → is_plain op ≡ true
-plain_run Nop t w = refl
-plain_run (Read fd offset len) t w = refl
-plain_run (Write fd offset len) t w = refl
-plain_run (Close fd) t w = refl
-plain_run (PollAdd fd mask) t w = refl
-plain_run (Splice fd_in fd_out len) t w = refl
-plain_run Invalid t w = refl
 plain_run (Timeout ticks etime_success count) t w = absurd (true≢false t)
 plain_run (LinkTimeout ticks) t w = absurd (true≢false t)
 plain_run (AsyncCancel u all) t w = absurd (let z = w in cc)
 plain_run (TimeoutRemove u) t w = absurd (let z = w in cc)
+plain_run op t w = refl
 
 -- a cancel names none
 pub wanted_bare : (op : Op) (u : Wanted) (n : ℕ) → wanted_in op ≡ Some u → UsesNone op n
