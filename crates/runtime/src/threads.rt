@@ -1,5 +1,5 @@
 //! What the threads of a runtime do: that of the poller, and those of the workers.
-ghost use Rattle.std.specs.Prelude.{◌≡◌, ◌≢◌, ◌↔◌, ◌⊎◌, ◌+◌, ◌≤◌, ◌==◌, [], IfSome, IsTrue, length};
+ghost use Rattle.std.specs.Prelude.{◌≡◌, ◌≢◌, ◌↔◌, ◌⊎◌, ◌+◌, ◌≤◌, ◌==◌, false, [], IfSome, IsTrue, length};
 ghost use Rattle.work.specs.Passes.{seen_of};
 ghost use Rattle.bell.specs.BellPasses.{HasLoaded};
 ghost use Rattle.board.specs.ShapeLimits.{widest};
@@ -197,6 +197,7 @@ impl WorkSide {
         ensures own { IsWorkSide shared.now result.0 }
         ensures share { result.0.desk.ready.share ≡ self.desk.ready.share }
         ensures idle { result.1 ≡ Turn.Idle → result.0.desk.kept ≡ [] }
+        ensures posted { (result.1 ≡ Turn.Idle) ⊎ (some_wait ≡ false) → result.0.outbox.answered ≡ [] }
     {
         let WorkSide {
             mut desk,
@@ -255,6 +256,7 @@ fn serve_own<R: Wait, G: Turnstile>(
     ensures own { MayOwn shared.now result.0 }
     ensures same { (own_in result.0 ≡ own_in own) × (own_share result.0 ≡ own_share own) }
     ensures idle { result.1 ≡ Turn.Idle → IfSome result.0 (λ w. w.desk.kept ≡ []) }
+    ensures posted { (result.1 ≡ Turn.Idle) ⊎ (some_wait ≡ false) → IfSome result.0 (λ w. w.outbox.answered ≡ []) }
 {
     match own {
         Some(own) => {
