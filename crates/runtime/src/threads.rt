@@ -43,8 +43,7 @@ const SETTLED: u32 = 2048;
 const RUNS: u32 = 64;
 
 /// From how many answered requests on that worker posts them, though requests wait that the poller may now release.
-/// With fewer it runs those first, and a chain's completions are posted together: a client that has taken one by one would have looked
-/// for the next in vain.
+/// With fewer it runs those first, so that a chain's completions are posted together.
 const MOST_HELD: usize = 16;
 
 /// Between a turn that did nothing and the next, after so many such turns in a row, of which so many are made at once. A turn is long
