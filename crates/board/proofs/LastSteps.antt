@@ -2,7 +2,7 @@
 use Rattle.std.specs.Option.{is_some}
 use Rattle.gates.specs.Shows.{nth}
 use Rattle.history.specs.Legal.{IsOf as IsOfKind}
-use Rattle.board.proofs.Common.{AsyncCancel, Bool, Close, Decides, Did, Entry, Event, Extends, Facts, Freed, Invalid, IsAt, IsClear, IsLinkTimeout, IsOurs, IsPlaced, IsReplied, IsStep, IsTarget, IsTargetOf, Layout, Legal, Line, LinkTimeout, List, MayArm, None, Nop, NotHeld, Op, Open, Option, Park, PollAdd, Read, Released, Req, Role, Seat, Setup, Sever, Severed, Shown, Some, Splice, Submission, Tag, Thing, Timeout, TimeoutRemove, View, Watched, Write, [], ap, arith, before_in, bool_cases, by_sever, claim_at, cond, eq-eqb, events_of, extended_of, fails, fails_op, false, freed, gate_of, is_link_timeout, is_link_timeout_in, is_timeout, is_timer, lasts, length, negsuc, not, own_none, own_of, owns, pass_of, phase, placed_behind, placed_from, pollers, previous, refl, replied, request_at, same_itself, setup_of, severed_lasts, stands_for, submission, submission_some, submits, subst, sym, true, true≢false, word_of, ℕ, ⊎_elim, ◌&&◌, ◌++◌, ◌<◌, ◌==◌, ◌||◌, ◌∙◌, ◌∷◌, ◌≡◌, ◌≢◌}
+use Rattle.board.proofs.Common.{Bool, Decides, Did, Entry, Event, Extends, Facts, Freed, Invalid, IsAt, IsClear, IsLinkTimeout, IsOurs, IsPlaced, IsReplied, IsStep, IsTarget, IsTargetOf, Layout, Legal, Line, List, MayArm, None, NotHeld, Op, Open, Option, Park, Released, Req, Role, Seat, Setup, Sever, Severed, Shown, Some, Submission, Tag, Thing, Timeout, View, Watched, [], ap, arith, before_in, bool_cases, by_sever, claim_at, cond, eq-eqb, events_of, extended_of, fails, fails_op, false, freed, gate_of, is_link_timeout, is_link_timeout_in, is_timeout, is_timer, lasts, length, negsuc, not, own_none, own_of, owns, pass_of, phase, placed_behind, placed_from, pollers, previous, refl, replied, request_at, same_itself, setup_of, severed_lasts, stands_for, submission, submission_some, submits, subst, sym, true, true≢false, word_of, ℕ, ⊎_elim, ◌&&◌, ◌++◌, ◌<◌, ◌==◌, ◌||◌, ◌∙◌, ◌∷◌, ◌≡◌, ◌≢◌}
 use Rattle.board.proofs.GoesLaws.{goes_freed}
 use Rattle.board.proofs.PassFacts.{freed_may, freed_more, same_freed}
 use Rattle.board.proofs.Standings.{unheld}
@@ -15,18 +15,9 @@ TableSeat = Seat (Option Thing) View
 
 -- -125 is a failure of all entries but a LINK_TIMEOUT
 canceled : (op : Op) → fails_op op (negsuc 124) ≡ not (is_link_timeout op)
-canceled (LinkTimeout ticks) = refl
 canceled (Timeout ticks true count) = refl
 canceled (Timeout ticks false count) = refl
-canceled (Read fd offset len) = refl
-canceled (Write fd offset len) = refl
-canceled (Splice fd_in fd_out len) = refl
-canceled Nop = refl
-canceled (PollAdd fd mask) = refl
-canceled (TimeoutRemove user_data) = refl
-canceled (AsyncCancel user_data all) = refl
-canceled (Close fd) = refl
-canceled Invalid = refl
+canceled op = refl
 
 -- a LINK_TIMEOUT that nothing stands before is Invalid
 alone : (e : Entry) → is_link_timeout (placed_behind None e).op ≡ false

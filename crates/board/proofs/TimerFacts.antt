@@ -1,6 +1,6 @@
 -- What the facts of a request that has no reply tell of it, if it is a timer.
 use Rattle.claim.specs.Facts.{Facts}
-use Rattle.board.proofs.Common.{AsyncCancel, Bool, Cause, Close, Entry, Invalid, IsPlaced, IsReplied, IsTrue, Layout, Legal, Line, LinkTimeout, List, Nop, NotesTell, Op, Orderly, PollAdd, Read, Req, Some, Splice, Timeout, TimeoutRemove, Write, ap, arith, before_in, bool_cases, born_once, etime_in, events_of, facts_at, facts_of, fails_op, false, fits_facts, is_link_timeout, is_timeout, is_timer, lent, lent_out, negsuc, not, noted, packed_facts, parts_of, parts_small, phase, placed_behind, placed_from, reaped_replied, refl, replied, request_at, row_number, row_small, same_facts, setup_of, submission_some, submits, subst, sym, ticks_in, ticks_of, true, unborn, ℕ, ⊎_elim, ◌<◌, ◌∙◌, ◌≡◌, ◌≢◌, ◌≤◌}
+use Rattle.board.proofs.Common.{Bool, Cause, Entry, IsPlaced, IsReplied, IsTrue, Layout, Legal, Line, LinkTimeout, List, NotesTell, Op, Orderly, Req, Some, Timeout, ap, arith, before_in, bool_cases, born_once, etime_in, events_of, facts_at, facts_of, fails_op, false, fits_facts, is_link_timeout, is_timeout, is_timer, lent, lent_out, negsuc, not, noted, packed_facts, parts_of, parts_small, phase, placed_behind, placed_from, reaped_replied, refl, replied, request_at, row_number, row_small, same_facts, setup_of, submission_some, submits, subst, sym, ticks_in, ticks_of, true, unborn, ℕ, ⊎_elim, ◌<◌, ◌∙◌, ◌≡◌, ◌≢◌, ◌≤◌}
 
 -- ---- rows of the table
 
@@ -8,42 +8,16 @@ use Rattle.board.proofs.Common.{AsyncCancel, Bool, Cause, Close, Entry, Invalid,
 pub timeout_row : (o : Op) → row_number o ≡ 2 → (is_timeout o ≡ true) × (ticks_of o ≡ Some (ticks_in o)) × (not (etime_in o) ≡ fails_op o (negsuc 61))
 timeout_row (Timeout ticks true count) e = (refl, refl, refl)
 timeout_row (Timeout ticks false count) e = (refl, refl, refl)
-timeout_row Nop e = absurd (omega arith)
-timeout_row (PollAdd fd mask) e = absurd (omega arith)
-timeout_row (TimeoutRemove user_data) e = absurd (omega arith)
-timeout_row (AsyncCancel user_data all) e = absurd (omega arith)
-timeout_row (LinkTimeout ticks) e = absurd (omega arith)
-timeout_row (Close fd) e = absurd (omega arith)
-timeout_row (Read fd offset len) e = absurd (omega arith)
-timeout_row (Write fd offset len) e = absurd (omega arith)
-timeout_row (Splice fd_in fd_out len) e = absurd (omega arith)
-timeout_row Invalid e = absurd (omega arith)
+timeout_row op e = absurd (omega arith)
 
 pub link_row : (o : Op) → row_number o ≡ 5 → (is_link_timeout o ≡ true) × (ticks_of o ≡ Some (ticks_in o))
 link_row (LinkTimeout ticks) e = (refl, refl)
-link_row (Timeout ticks etime_success count) e = absurd (omega arith)
-link_row Nop e = absurd (omega arith)
-link_row (PollAdd fd mask) e = absurd (omega arith)
-link_row (TimeoutRemove user_data) e = absurd (omega arith)
-link_row (AsyncCancel user_data all) e = absurd (omega arith)
-link_row (Close fd) e = absurd (omega arith)
-link_row (Read fd offset len) e = absurd (omega arith)
-link_row (Write fd offset len) e = absurd (omega arith)
-link_row (Splice fd_in fd_out len) e = absurd (omega arith)
-link_row Invalid e = absurd (omega arith)
+link_row op e = absurd (omega arith)
 
 pub other_row : (o : Op) → row_number o ≢ 2 → row_number o ≢ 5 → is_timer o ≡ false
 other_row (Timeout ticks etime_success count) n m = absurd (n refl)
 other_row (LinkTimeout ticks) n m = absurd (m refl)
-other_row Nop n m = refl
-other_row (PollAdd fd mask) n m = refl
-other_row (TimeoutRemove user_data) n m = refl
-other_row (AsyncCancel user_data all) n m = refl
-other_row (Close fd) n m = refl
-other_row (Read fd offset len) n m = refl
-other_row (Write fd offset len) n m = refl
-other_row (Splice fd_in fd_out len) n m = refl
-other_row Invalid n m = refl
+other_row op n m = refl
 
 -- ---- the word
 

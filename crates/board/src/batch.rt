@@ -5,16 +5,11 @@ ghost use Rattle.board.specs.Batches.{AreFit};
 
 use entry::{Sqe, by_opcode};
 
-macro_rules! fits_work {
-    ((plain nothing) ($length:ident)) => { $length == 0 };
-    ((plain invalid) ($length:ident)) => { true };
-    ((pipe read $fd:ident $len:ident) ($length:ident)) => { $length == $len as usize };
-    ((pipe write $fd:ident $len:ident) ($length:ident)) => { $length == $len as usize };
-    ((pipe close $fd:ident) ($length:ident)) => { $length == 0 };
-    ((pipe poll $fd:ident $mask:ident) ($length:ident)) => { $length == 0 };
-    ((pipe splice $fd_in:ident $fd_out:ident $len:ident) ($length:ident)) => { $length == 0 };
-    ((timer $kind:ident $ticks:ident) ($length:ident)) => { $length == 0 };
-    ((cancel $kind:ident $($field:ident)*) ($length:ident)) => { $length == 0 };
+macro_rules! fits_buffer {
+    ([no_buffer] ($length:ident)) => { $length == 0 };
+    ([reads $len:ident] ($length:ident)) => { $length == $len as usize };
+    ([writes $len:ident] ($length:ident)) => { $length == $len as usize };
+    ([any_buffer] ($length:ident)) => { true };
 }
 
 /// Whether a buffer of this length goes with the entry.
@@ -22,7 +17,7 @@ pub(crate) fn fits_length(sqe: &Sqe, length: usize) -> bool
     ensures { IsTrue result ↔ FitsOp sqe.now.op length }
 {
     let op = sqe.op();
-    by_opcode!(op => fits_work!(length))
+    by_opcode!(buffer of op => fits_buffer!(length))
 }
 
 /// Whether the buffer of each entry has the length that the entry asks for.
