@@ -8,15 +8,11 @@ use crate::code::Code;
 use entry::{Sqe, by_opcode};
 use std::alloc::Global;
 
-macro_rules! length_of_work {
-    ((plain $kind:ident) ()) => { 0 };
-    ((pipe read $fd:ident $len:ident) ()) => { $len as usize };
-    ((pipe write $fd:ident $len:ident) ()) => { $len as usize };
-    ((pipe close $fd:ident) ()) => { 0 };
-    ((pipe poll $fd:ident $mask:ident) ()) => { 0 };
-    ((pipe splice $fd_in:ident $fd_out:ident $len:ident) ()) => { 0 };
-    ((timer $kind:ident $ticks:ident) ()) => { 0 };
-    ((cancel $kind:ident $($field:ident)*) ()) => { 0 };
+macro_rules! length_of_buffer {
+    ([no_buffer] ()) => { 0 };
+    ([reads $len:ident] ()) => { $len as usize };
+    ([writes $len:ident] ()) => { $len as usize };
+    ([any_buffer] ()) => { 0 };
 }
 
 /// How long the buffer of an entry is.
@@ -24,7 +20,7 @@ pub(crate) fn length_of(sqe: &Sqe) -> usize
     ensures { FitsOp sqe.now.op result }
 {
     let op = sqe.op();
-    by_opcode!(op => length_of_work!())
+    by_opcode!(buffer of op => length_of_buffer!())
 }
 
 /// The entry that 64 of the bytes say. They are read where they lie, and the entry is in place: each copy of one takes about as long as a step on the board.
