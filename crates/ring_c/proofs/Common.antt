@@ -3,7 +3,7 @@ pub use Rattle.board.specs.Calls.{Finds, Goes, next_of}
 pub use Rattle.board.specs.ShapeLimits.{counts}
 pub use Rattle.board.specs.declared.completion.Completion.{Completion}
 pub use Rattle.history.specs.Legal.{Fits, FitsOp}
-pub use Rattle.history.specs.declared.event.Event.TheVariants.{Arm, Count, Expire, Fire, FireMiss, Settle, Sever, Submit}
+pub use Rattle.history.specs.declared.event.Event.TheVariants.{Arm, Fire, Settle, Sever, Submit}
 pub use Rattle.history.specs.declared.req.Req.{Req}
 pub use Rattle.ring_c.specs.ClientCalls.{AreRead, AreSaid, ReapsAt, Shows, Submits, buffers_of}
 pub use Rattle.ring_c.specs.Sides.{ClientFacts, DeskFacts}

@@ -4,6 +4,8 @@ use Rattle.history.specs.History.{same}
 use Rattle.history.proofs.Requests.{bool_cases, same_itself, same_true}
 use Rattle.steps.specs.declared.line.Line.{Line}
 use Rattle.steps.specs.Journal.{freed}
+use Rattle.board.specs.Polls.{polled_by}
+use Rattle.board.specs.declared.poller.Polled.{Polled}
 use Rattle.board.specs.declared.poller.Released.{Released}
 use Rattle.board.specs.declared.poller.Released.TheVariants.{Freed}
 use Rattle.board.proofs.GoesLaws.{own_both}
@@ -168,3 +170,21 @@ turned_looked b p m q o u x goes alone = turned_then b p m q o u u x (turned_sil
 -- a part of the turn follows events that answer nothing
 pub turned_silent_then : (b : Facts) (p m q : Pass) (o u : Told) → Goes b p [] m → ((r : Req) → freed m.view.seen r ≡ freed p.view.seen r) → Turned b m o q u → Turned b p o q u
 turned_silent_then b p m q o u goes alone x = turned_then b p m q o o u (turned_silent b p m o o [] refl goes alone refl) x
+
+-- ---- what polling a timer answered
+
+abbrev AnswersOne : Req → Polled → Type 0
+AnswersOne r x = answered_by (polled_by x r) ≡ r ∷ []
+
+pub answers_one : (r : Req) (x : Polled) → (x ≡ Polled.Expired) ⊎ ((x ≡ Polled.Counted) ⊎ ((x ≡ Polled.Missed) ⊎ (x ≡ Polled.Settled))) → AnswersOne r x
+answers_one r x s = ⊎_elim
+    (λ e. subst (AnswersOne r) (sym e) refl)
+    (λ s. ⊎_elim (λ e. subst (AnswersOne r) (sym e) refl) (λ s. ⊎_elim (λ e. subst (AnswersOne r) (sym e) refl) (λ e. subst (AnswersOne r) (sym e) refl) s) s) s
+
+abbrev AnswersNone : Req → Polled → Type 0
+AnswersNone r x = answered_by (polled_by x r) ≡ []
+
+pub answers_none : (r : Req) (x : Polled) → (x ≡ Polled.Early) ⊎ ((x ≡ Polled.Fewer) ⊎ ((x ≡ Polled.TargetOpen) ⊎ ((x ≡ Polled.Due) ⊎ (x ≡ Polled.NotArmed)))) → AnswersNone r x
+answers_none r x s = ⊎_elim
+    (λ e. subst (AnswersNone r) (sym e) refl)
+    (λ s. ⊎_elim (λ e. subst (AnswersNone r) (sym e) refl) (λ s. ⊎_elim (λ e. subst (AnswersNone r) (sym e) refl) (λ s. ⊎_elim (λ e. subst (AnswersNone r) (sym e) refl) (λ e. subst (AnswersNone r) (sym e) refl) s) s) s) s

@@ -4,7 +4,7 @@ ghost use Rattle.work.specs.Board.{IsOf};
 ghost use Rattle.ring_c.specs.Turns.{HasRoom, Turned};
 
 use crate::out::Out;
-use board::{Arming, Board, Counting, Expiry, Firing, Phase, Poller, Released, Settling};
+use board::{Arming, Board, Phase, Polled, Poller, Released};
 use history::Req;
 
 /// How many new requests of a ring a turn takes up at most.
@@ -13,47 +13,14 @@ const MOST_NEW: u64 = 1024;
 /// How many rings a board has at most.
 const MAX_RINGS: u16 = 16;
 
-/// Ends an armed timer, if it is time: a TIMEOUT whose deadline has come, or by what follows. Whether it is done with.
+/// Ends an armed timer, if it is time. Whether it is done with.
 fn ring(board: &Board, poller: &mut Poller, out: &mut Out, req: Req) -> bool
     requires own { IsOf board.now poller.old }
     requires room { HasRoom out.old }
     ensures { Turned board.now poller.old out.old poller.new out.new }
 {
-    match board.expire(poller, req) {
-        Expiry::Expired => {
-            out.put_answered(req);
-            true
-        }
-        Expiry::Early => count(board, poller, out, req),
-        Expiry::NotArmed => count(board, poller, out, req),
-    }
-}
-
-/// Answers a TIMEOUT that has counted enough completions, or goes on with what follows. Whether the timer is done with.
-fn count(board: &Board, poller: &mut Poller, out: &mut Out, req: Req) -> bool
-    requires own { IsOf board.now poller.old }
-    requires room { HasRoom out.old }
-    ensures { Turned board.now poller.old out.old poller.new out.new }
-{
-    match board.count(poller, req) {
-        Counting::Counted => {
-            out.put_answered(req);
-            true
-        }
-        Counting::Fewer => fire(board, poller, out, req),
-        Counting::NotCounted => fire(board, poller, out, req),
-        Counting::NotArmed => fire(board, poller, out, req),
-    }
-}
-
-/// Fires a LINK_TIMEOUT, if its deadline has come, or goes on with what follows. Whether the timer is done with.
-fn fire(board: &Board, poller: &mut Poller, out: &mut Out, req: Req) -> bool
-    requires own { IsOf board.now poller.old }
-    requires room { HasRoom out.old }
-    ensures { Turned board.now poller.old out.old poller.new out.new }
-{
-    match board.fire(poller, req) {
-        Firing::Took => {
+    match board.poll_timer(poller, req, true) {
+        Polled::Took => {
             let Req { ring, k } = req;
             out.put_answered(Req {
                 ring,
@@ -62,29 +29,12 @@ fn fire(board: &Board, poller: &mut Poller, out: &mut Out, req: Req) -> bool
             out.put_answered(req);
             true
         }
-        Firing::Missed => {
+        Polled::Expired | Polled::Counted | Polled::Missed | Polled::Settled => {
             out.put_answered(req);
             true
         }
-        Firing::TargetDone => settle(board, poller, out, req),
-        Firing::Early => settle(board, poller, out, req),
-        Firing::NotArmed => settle(board, poller, out, req),
-    }
-}
-
-/// Settles a LINK_TIMEOUT, if its target has replied. Whether it is done with.
-fn settle(board: &Board, poller: &mut Poller, out: &mut Out, req: Req) -> bool
-    requires own { IsOf board.now poller.old }
-    requires room { HasRoom out.old }
-    ensures { Turned board.now poller.old out.old poller.new out.new }
-{
-    match board.settle(poller, req) {
-        Settling::Settled => {
-            out.put_answered(req);
-            true
-        }
-        Settling::TargetOpen => false,
-        Settling::NotArmed => false,
+        Polled::Early | Polled::Fewer | Polled::TargetOpen | Polled::Due | Polled::NotArmed =>
+            false,
     }
 }
 
