@@ -5,13 +5,13 @@ pub use Rattle.board.specs.Calls.{Goes, IsUnheld, Stands, next_of}
 pub use Rattle.board.specs.Refusals.{RefusesBatch, RefusesReap}
 pub use Rattle.board.specs.Reports.{AreOf, IsReport}
 pub use Rattle.board.specs.ShapeLimits.{counts, widest}
-pub use Rattle.board.specs.TimerCalls.{IsEarly, IsUnarmed, armed_by}
+pub use Rattle.board.specs.TimerCalls.{HasFewer, IsEarly, IsNoneToExpire, IsNoneToSettle, IsTargetDone, IsUnarmed, IsUncounted, armed_by}
 pub use Rattle.board.specs.declared.completion.Completion.{Completion}
 pub use Rattle.event_count.specs.Passes.{HasNoticed, IsNotifierOf, IsWaiterOf, Notifying}
 pub use Rattle.history.specs.History.{IsReplied, Phase, armed, becomes, clock_of, concerns, phase, runs, same, submits, unborn, waits}
 pub use Rattle.history.specs.Ticked.{counts_tick, ticked}
 pub use Rattle.history.specs.declared.event.Event.{Event}
-pub use Rattle.history.specs.declared.event.Event.TheVariants.{Arm, Count, Cut, Expire, Fire, Reap, Settle, Sever, Take, Tick}
+pub use Rattle.history.specs.declared.event.Event.TheVariants.{Arm, Count, Cut, Expire, Fire, FireMiss, Reap, Settle, Sever, Take, Tick}
 pub use Rattle.history.specs.declared.req.Req.{Req}
 pub use Rattle.outbox.specs.Outbox.{Waiting, with_answered}
 pub use Rattle.ready.specs.Ready.{AreAll, Moves, all_put, all_taken, times}
