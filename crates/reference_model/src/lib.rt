@@ -9,10 +9,18 @@ mod alphabet;
 #[cfg(test)]
 mod answers;
 #[cfg(test)]
+mod cancel_tests;
+#[cfg(test)]
 mod comparison;
 #[cfg(test)]
 mod list;
 #[cfg(test)]
+mod pipe_tests;
+#[cfg(test)]
+mod pipes;
+#[cfg(test)]
 mod plan;
 #[cfg(test)]
 mod tests;
+#[cfg(test)]
+mod timer_tests;

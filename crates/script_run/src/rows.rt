@@ -98,20 +98,16 @@ fn row_of(
     Ok(Some((res, data)))
 }
 
-macro_rules! data_work {
-    ((pipe read $fd:ident $len:ident) ($res:ident)) => { usize::try_from($res).unwrap_or(0) };
-    ((pipe write $fd:ident $len:ident) ($res:ident)) => { 0 };
-    ((pipe close $fd:ident) ($res:ident)) => { 0 };
-    ((pipe poll $fd:ident $mask:ident) ($res:ident)) => { 0 };
-    ((pipe splice $fd_in:ident $fd_out:ident $len:ident) ($res:ident)) => { 0 };
-    ((plain $kind:ident) ($res:ident)) => { 0 };
-    ((timer $kind:ident $ticks:ident) ($res:ident)) => { 0 };
-    ((cancel $kind:ident $($field:ident)*) ($res:ident)) => { 0 };
+macro_rules! data_of_buffer {
+    ([no_buffer] ($res:ident)) => { 0 };
+    ([reads $len:ident] ($res:ident)) => { usize::try_from($res).unwrap_or(0) };
+    ([writes $len:ident] ($res:ident)) => { 0 };
+    ([any_buffer] ($res:ident)) => { 0 };
 }
 
 /// How many bytes of data belong to the reply: as many as it says of a READ, and none of another entry.
 fn data_count(op: Op, res: i32) -> usize
     ensures { result ≡ data_count op res }
 {
-    by_opcode!(op => data_work!(res))
+    by_opcode!(buffer of op => data_of_buffer!(res))
 }

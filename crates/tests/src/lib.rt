@@ -3,6 +3,8 @@
 #![tactic(auto)]
 
 #[cfg(test)]
+mod batches;
+#[cfg(test)]
 mod completion_ring;
 #[cfg(test)]
 mod doorbell;
@@ -10,6 +12,8 @@ mod doorbell;
 mod outboxes;
 #[cfg(test)]
 mod pair;
+#[cfg(test)]
+mod passes;
 #[cfg(test)]
 mod ready_queue;
 #[cfg(test)]

@@ -1,7 +1,7 @@
 //! A runtime of two rings on real threads, with both of its clients in one thread.
 ghost use Rattle.std.specs.Prelude.{◌≡◌, [], IfOk};
 
-use crate::stage::{Entry, batch_of};
+use crate::batches::{Entry, batch_of};
 use board::{Completion, Report, RingShape, Shape};
 use controls::{Clock, Turnstile};
 use history::Req;

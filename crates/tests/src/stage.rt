@@ -1,58 +1,26 @@
 //! A board with its poller's and one worker's desks, for turns in one thread.
-ghost use Rattle.std.specs.Prelude.{◌≡◌, ◌<◌, All, None, Some, IfOk, IfSome};
+ghost use Rattle.std.specs.Prelude.{◌≡◌, ◌<◌, None, Some, IfSome};
 ghost use Rattle.bell.specs.BellPasses.{IsRingerOf, IsSleeperOf};
 ghost use Rattle.ready.specs.Ready;
 ghost use Rattle.work.specs.Board.{IsOf};
 
-use bell::{Bell, Ringer, Sleeper};
-use board::{Board, Phase, Poller, RingShape, Shape, Submitter, Worker};
+use crate::batches::{Entry, batch_of};
+use crate::passes::{
+    Caller, bell_of, board_of, callers_of, last_pass, queue_of, reap_by, shape_of, submit_by,
+    worker_of,
+};
+use bell::Bell;
+use board::{Board, Phase, Worker};
 use compring::CompletionRing;
 use controls::{Clock, NoClock, Open};
-use entry::Sqe;
 use history::Req;
 use outbox::{Outbox, deliver};
-use prep::{with_flags, with_user_data};
-use ready::{ReadyPass, ReadyQueue};
+use ready::ReadyQueue;
 use runtime::{PollDesk, Turn, WorkDesk, poll_turn, work_turn};
-use std::alloc::{AllocError, Global};
+use std::alloc::Global;
 use std::marker::Model;
 use std::sync::Wait;
 use std::test::Fail;
-
-/// The bytes of the one pipe.
-const CAPACITY: u32 = 16;
-
-/// An entry with its flags, its user_data, and its buffer: so many bytes, from `first` on, each greater by one than the one before.
-#[derive(Clone, Copy)]
-pub(crate) struct Entry {
-    pub sqe: Sqe,
-    pub flags: u8,
-    pub user_data: u64,
-    pub bytes: u8,
-    pub first: u8,
-}
-
-/// The buffer of an entry.
-fn buffer_of(alloc: Global, entry: &Entry) -> Result<Vec<u8>, AllocError> {
-    let mut buffer = Vec::new(alloc);
-    for n in 0..entry.bytes {
-        buffer.push(entry.first.saturating_add(n))?;
-    }
-    Ok(buffer)
-}
-
-/// The entries with their buffers.
-pub(crate) fn batch_of(
-    alloc: Global,
-    entries: &[Entry],
-) -> Result<Vec<(Sqe, Vec<u8>)>, AllocError> {
-    let mut batch = Vec::new(alloc);
-    for entry in entries {
-        let sqe = with_user_data(with_flags(entry.sqe, entry.flags), entry.user_data);
-        batch.push((sqe, buffer_of(alloc, entry)?))?;
-    }
-    Ok(batch)
-}
 
 /// A clock that goes on to this tick, once.
 #[derive(Drop)]
@@ -145,144 +113,6 @@ fn letter_of(word: &str) -> (u8, u32) {
     (letter, number)
 }
 
-/// One who submits to a ring and takes completions: the passes, and the tail that was published last.
-#[derive(Drop)]
-struct Caller {
-    submitter: Submitter,
-    ringer: Ringer,
-    tail: u64,
-}
-
-/// A new board and its passes.
-fn board_of(
-    alloc: Global,
-    shape: &Shape,
-) -> Result<(Board, Poller, Vec<Submitter>, Vec<Worker>), Fail>
-    ensures poller { IfOk result (λ t. IsOf t.0 t.1) }
-    ensures submitters { IfOk result (λ t. All (λ p. IsOf t.0 p) t.2.items) }
-    ensures workers { IfOk result (λ t. All (λ p. IsOf t.0 p) t.3.items) }
-{
-    Ok(Board::new(alloc, shape)?)
-}
-
-/// A new bell and its passes.
-fn bell_of(alloc: Global, rings: u16) -> Result<(Bell, Vec<Ringer>, Sleeper), Fail>
-    ensures rings { IfOk result (λ t. t.0.rings ≡ rings) }
-    ensures sleeper { IfOk result (λ t. IsSleeperOf t.0 t.2) }
-    ensures ringers { IfOk result (λ t. All (λ r. IsRingerOf t.0 r × (r.tail ≡ 0)) t.1.items) }
-{
-    Ok(Bell::new(alloc, rings)?)
-}
-
-/// A new ready queue and its passes, one for the poller and one for the worker.
-fn queue_of(alloc: Global, places: u32) -> Result<(ReadyQueue, Vec<ReadyPass>), Fail>
-    requires { 0 < places }
-    ensures { IfOk result (λ t. All (λ p. Ready.IsOf t.0 p) t.1.items) }
-{
-    Ok(ReadyQueue::new(alloc, places, 2)?)
-}
-
-/// The last pass of the queue that is left.
-fn last_pass(queue: &ReadyQueue, passes: &mut Vec<ReadyPass>) -> Option<ReadyPass>
-    requires { All (λ p. Ready.IsOf queue.now p) passes.old.items }
-    ensures rest { All (λ p. Ready.IsOf queue.now p) passes.new.items }
-    ensures pass { IfSome result (λ p. Ready.IsOf queue.now p) }
-{
-    let _ = queue;
-    passes.pop()
-}
-
-/// One of the workers.
-fn worker_of(board: &Board, mut workers: Vec<Worker>) -> Option<Worker>
-    requires { All (λ p. IsOf board.now p) workers.items }
-    ensures { IfSome result (λ p. IsOf board.now p) }
-{
-    let _ = board;
-    workers.pop()
-}
-
-/// The passes of the last ring that are left.
-fn last_caller(
-    board: &Board,
-    bell: &Bell,
-    submitters: &mut Vec<Submitter>,
-    ringers: &mut Vec<Ringer>,
-) -> Option<Caller>
-    requires submitters { All (λ p. IsOf board.now p) submitters.old.items }
-    requires ringers { All (λ r. IsRingerOf bell.now r × (r.tail ≡ 0)) ringers.old.items }
-    ensures submitters { All (λ p. IsOf board.now p) submitters.new.items }
-    ensures ringers { All (λ r. IsRingerOf bell.now r × (r.tail ≡ 0)) ringers.new.items }
-    ensures submitter { IfSome result (λ c. IsOf board.now c.submitter) }
-    ensures ringer { IfSome result (λ c. IsRingerOf bell.now c.ringer × (c.ringer.tail ≡ c.tail)) }
-{
-    let _ = board;
-    let _ = bell;
-    let (Some(submitter), Some(ringer)) = (submitters.pop(), ringers.pop()) else {
-        return None;
-    };
-    Some(Caller {
-        submitter,
-        ringer,
-        tail: 0,
-    })
-}
-
-/// The passes of both rings, or of the one that there is.
-fn callers_of(
-    board: &Board,
-    bell: &Bell,
-    mut submitters: Vec<Submitter>,
-    mut ringers: Vec<Ringer>,
-) -> Option<(Caller, Option<Caller>)>
-    requires submitters { All (λ p. IsOf board.now p) submitters.items }
-    requires ringers { All (λ r. IsRingerOf bell.now r × (r.tail ≡ 0)) ringers.items }
-    ensures submitter { IfSome result (λ t. IsOf board.now t.0.submitter) }
-    ensures ringer { IfSome result (λ t. IsRingerOf bell.now t.0.ringer × (t.0.ringer.tail ≡ t.0.tail)) }
-    ensures one { IfSome result (λ t. IfSome t.1 (λ c. IsOf board.now c.submitter × IsRingerOf bell.now c.ringer × (c.ringer.tail ≡ c.tail))) }
-{
-    let Some(last) = last_caller(board, bell, &mut submitters, &mut ringers) else {
-        return None;
-    };
-    match last_caller(board, bell, &mut submitters, &mut ringers) {
-        Some(zero) => Some((zero, Some(last))),
-        None => Some((last, None)),
-    }
-}
-
-/// Submits the batch, and publishes the tail.
-fn submit_by(
-    board: &Board,
-    bell: &Bell,
-    caller: &mut Caller,
-    batch: Vec<(Sqe, Vec<u8>)>,
-) -> Result<Req, Fail>
-    requires submitter { IsOf board.now caller.old.submitter }
-    requires ringer { IsRingerOf bell.now caller.old.ringer × (caller.old.ringer.tail ≡ caller.old.tail) }
-    ensures submitter { IsOf board.now caller.new.submitter }
-    ensures ringer { IsRingerOf bell.now caller.new.ringer × (caller.new.ringer.tail ≡ caller.new.tail) }
-{
-    let count = batch.len() as u64;
-    let first = caller.submitter.next_request();
-    if board.submit_batch(&mut caller.submitter, batch).is_err() {
-        return Err(Fail::new("the batch was refused"));
-    }
-    let tail = caller.tail.saturating_add(count);
-    let wake = bell.publish(&mut caller.ringer, tail);
-    caller.tail = tail;
-    bell.ring(wake);
-    Ok(first)
-}
-
-/// Takes the request's completion: its result, and its buffer.
-fn reap_by(board: &Board, caller: &mut Caller, req: Req) -> Result<(i32, Vec<u8>), Fail>
-    requires submitter { IsOf board.now caller.old.submitter }
-    ensures submitter { IsOf board.now caller.new.submitter }
-    ensures same { (caller.new.ringer ≡ caller.old.ringer) × (caller.new.tail ≡ caller.old.tail) }
-{
-    let completion = board.reap(&mut caller.submitter, req)?;
-    Ok((completion.cqe.res, completion.buffer))
-}
-
 /// The requests of the outbox, in order, as they are posted.
 fn posts_of(alloc: Global, mut outbox: Outbox) -> Result<Vec<Req>, Fail> {
     let mut requests = Vec::new(alloc);
@@ -324,24 +154,6 @@ impl Model for Stage {
     ghost view = { λ s. s.board };
 
     ghost invariant = { λ s. IsOf s.board s.desk.poller × IsSleeperOf s.bell s.desk.sleeper × (s.desk.rings ≡ s.bell.rings) × Ready.IsOf s.queue s.desk.ready × Ready.IsOf s.queue s.work.ready × IfSome s.worker (λ w. IsOf s.board w) × IsOf s.board s.zero.submitter × IsRingerOf s.bell s.zero.ringer × (s.zero.ringer.tail ≡ s.zero.tail) × IfSome s.one (λ c. IsOf s.board c.submitter × IsRingerOf s.bell c.ringer × (c.ringer.tail ≡ c.tail)) };
-}
-
-/// The shape of a board with one pipe, one worker, and a ring of so many cells for each of `cells`.
-fn shape_of(alloc: Global, cells: &[u32]) -> Result<Shape, AllocError> {
-    let mut rings = Vec::new(alloc);
-    for count in cells {
-        rings.push(RingShape {
-            cells: *count,
-            posts: None,
-        })?;
-    }
-    let mut pipes = Vec::new(alloc);
-    pipes.push(CAPACITY)?;
-    Ok(Shape {
-        rings,
-        pipes,
-        workers: 1,
-    })
 }
 
 impl Stage {

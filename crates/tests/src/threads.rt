@@ -1,6 +1,6 @@
 //! Runtimes on real threads: what their clients take, and what their reports tell.
+use crate::batches::Entry;
 use crate::pair::Pair;
-use crate::stage::Entry;
 use controls::{Hold, Holds, NoClock, Open, Point};
 use entry::Sqe;
 use history::Req;

@@ -1,5 +1,6 @@
 //! Turns one after another in one thread: what each comes to, and when there is nothing to do.
-use crate::stage::{Entry, play};
+use crate::batches::Entry;
+use crate::stage::play;
 use entry::Sqe;
 use prep::{
     cancel, cancel_all, close, link_timeout, nop, read, timeout, timeout_count, timeout_remove,

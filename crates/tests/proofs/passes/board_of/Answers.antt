@@ -1,5 +1,5 @@
 use Rattle.board.proofs.PassLists.{submitters_of, workers_of}
-use Rattle.tests.proofs.stage.board_of.Goals as goal
+use Rattle.tests.proofs.passes.board_of.Goals as goal
 
 pub returns-clause-submitters : goal.returns-clause-submitters
 returns-clause-submitters c = submitters_of _ 0 _ c.in_ok-new.ensures.new.submitters_are.1
