@@ -160,11 +160,6 @@ impl PollDesk {
         self.hands.moved
     }
 
-    /// Whether requests that it has taken up wait to be released.
-    pub(crate) fn some_wait(&self) -> bool {
-        self.lists.waiting.len() > 0
-    }
-
     /// Whether the poller was told to end: by a tail of ring 0 that no ring comes to.
     pub fn is_over(&self) -> bool
         requires { 0 < length self.now.sleeper.tails }

@@ -29,7 +29,7 @@ fn serve_all<R: Wait>(rt: &R, shared: &Shared, mut workers: Vec<WorkSide>) -> (V
     let Some(worker) = workers.pop() else {
         return (workers, Turn::Idle);
     };
-    let (worker, turn) = worker.serve(rt, shared, &Open, false);
+    let (worker, turn) = worker.serve(rt, shared, &Open);
     let (mut workers, others) = serve_all(rt, shared, workers);
     workers.push_reserved(worker);
     (workers, both(turn, others))

@@ -1,5 +1,5 @@
 //! What the threads of a runtime do: that of the poller, and those of the workers.
-ghost use Rattle.std.specs.Prelude.{◌≡◌, ◌≢◌, ◌↔◌, ◌⊎◌, ◌+◌, ◌≤◌, ◌==◌, false, [], IfSome, IsTrue, length};
+ghost use Rattle.std.specs.Prelude.{◌≡◌, ◌≢◌, ◌↔◌, ◌⊎◌, ◌+◌, ◌≤◌, ◌==◌, [], IfSome, IsTrue, length};
 ghost use Rattle.work.specs.Passes.{seen_of};
 ghost use Rattle.bell.specs.BellPasses.{HasLoaded};
 ghost use Rattle.board.specs.ShapeLimits.{widest};
@@ -41,10 +41,6 @@ const SETTLED: u32 = 2048;
 
 /// How many turns the worker of the poller's thread makes at most between two turns of the poller.
 const RUNS: u32 = 64;
-
-/// From how many answered requests on that worker posts them, though requests wait that the poller may now release.
-/// With fewer it runs those first, so that a chain's completions are posted together.
-const MOST_HELD: usize = 16;
 
 /// Between a turn that did nothing and the next, after so many such turns in a row, of which so many are made at once. A turn is long
 /// enough that a pause of the processor after it would only let a request wait.
@@ -183,27 +179,24 @@ pub(crate) struct PollSide<C> {
 }
 
 impl WorkSide {
-    /// Work turns, until one finds nothing to do, `RUNS` of them at most. What they answered is posted, unless requests wait for some of it:
-    /// then few of them are held until the next call, where these turns answered some. Idle where the last turn was, and nothing is held.
+    /// Work turns, until one finds nothing to do, `RUNS` of them at most. What they answered is posted. Whether the last was idle.
     pub(crate) fn serve<R: Wait, G: Turnstile>(
         self,
         rt: &R,
         shared: &Shared,
         turnstile: &G,
-        some_wait: bool,
     ) -> (WorkSide, Turn)
         requires { IsWorkSide shared.now self }
         ensures own { IsWorkSide shared.now result.0 }
         ensures share { result.0.desk.ready.share ≡ self.desk.ready.share }
         ensures idle { result.1 ≡ Turn.Idle → result.0.desk.kept ≡ [] }
-        ensures posted { (result.1 ≡ Turn.Idle) ⊎ (some_wait ≡ false) → result.0.outbox.answered ≡ [] }
+        ensures posted { result.0.outbox.answered ≡ [] }
     {
         let WorkSide {
             mut desk,
             mut worker,
             mut outbox,
         } = self;
-        let held = outbox.len();
         let mut last = Turn::Moved;
         for _run in 0..RUNS {
             let (next, turn, _is_silent) = work_round(
@@ -220,12 +213,8 @@ impl WorkSide {
                 break;
             }
         }
-        if some_wait && held < outbox.len() && outbox.len() < MOST_HELD {
-            last = Turn::Moved;
-        } else {
-            post_all(rt, &shared.posts, turnstile, &mut outbox);
-            desk.tell(&shared.tally);
-        }
+        post_all(rt, &shared.posts, turnstile, &mut outbox);
+        desk.tell(&shared.tally);
         let own = WorkSide {
             desk,
             worker,
@@ -249,17 +238,16 @@ fn serve_own<R: Wait, G: Turnstile>(
     shared: &Shared,
     turnstile: &G,
     own: Option<WorkSide>,
-    some_wait: bool,
 ) -> (Option<WorkSide>, Turn)
     requires { MayOwn shared.now own }
     ensures own { MayOwn shared.now result.0 }
     ensures same { (own_in result.0 ≡ own_in own) × (own_share result.0 ≡ own_share own) }
     ensures idle { result.1 ≡ Turn.Idle → IfSome result.0 (λ w. w.desk.kept ≡ []) }
-    ensures posted { (result.1 ≡ Turn.Idle) ⊎ (some_wait ≡ false) → IfSome result.0 (λ w. w.outbox.answered ≡ []) }
+    ensures posted { IfSome result.0 (λ w. w.outbox.answered ≡ []) }
 {
     match own {
         Some(own) => {
-            let (own, turn) = own.serve(rt, shared, turnstile, some_wait);
+            let (own, turn) = own.serve(rt, shared, turnstile);
             (Some(own), turn)
         }
         None => (None, Turn::Idle),
@@ -302,10 +290,8 @@ pub(crate) fn poll<R: Wait, G: Turnstile, C: Clock>(
         shared.tally.turn();
         let puts = desk.puts();
         call_for(&mut caller, puts.wrapping_sub(called));
-        let is_over = desk.is_over();
         if served == Turn::Moved || puts != called {
-            let some_wait = desk.some_wait() && !is_over;
-            (own, served) = serve_own(rt, shared, turnstile, own, some_wait);
+            (own, served) = serve_own(rt, shared, turnstile, own);
         }
         called = puts;
         let has_moved = desk.has_moved() || served == Turn::Moved;
@@ -314,6 +300,7 @@ pub(crate) fn poll<R: Wait, G: Turnstile, C: Clock>(
         } else {
             still.saturating_add(1)
         };
+        let is_over = desk.is_over();
         if is_over && (SETTLED <= still || !shared.is_resting.load(Ordering::SeqCst)) {
             shared.is_over.store(true, Ordering::SeqCst);
             caller.call_all();
@@ -347,6 +334,7 @@ pub(crate) fn work<R: Wait, G: Turnstile>(
     requires { IsWorkSide shared.now side }
     ensures side { IsWorkSide shared.now result }
     ensures share { result.desk.ready.share ≡ side.desk.ready.share }
+    ensures posted { result.outbox.answered ≡ [] }
 {
     let WorkSide {
         mut desk,
