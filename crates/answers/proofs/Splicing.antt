@@ -1,14 +1,13 @@
 -- What a SPLICE replies is what the definitions tell, and what it does to the pipes in hand is what its reply does to those of the history.
-use Rattle.history.specs.Answers as told
 use Rattle.history.specs.State.{Held}
 use Rattle.history.proofs.Contents.{reads_held, writes_held, flows_held}
-use Rattle.pipe.specs.PipeAnswers as piped
-use Rattle.pipe.specs.PipeAnswers.{moved, OnIdle, after_read, after_write, most_spliced}
-use Rattle.answers.proofs.Common.{Answer, Bool, Conduit, Does, DoesBoth, End, Event, Fail, Flow, IsPipe, IsSound, List, Now, Op, Ready, RepliesBoth, Req, Some, Splice, UsesBoth, UsesOne, Wait, [], ap, are_of_one, bad_end, below, cond, contents, drop, end_of, eq-eqb, eqb-true, false, flow, given_at, gives, inl, inr, is_at, is_pipe, length, lt-ltb, nat_lt, ne_eqb, negsuc, no_end, not, now, offered, or_cases, pos, read_end, reads, refl, reply_of, size, slice_index, splice_into, splice_of, subst, sym, take, takes, true, true≢false, write_end, writes, ℕ, ℤ, ⊎_elim, ◌&&◌, ◌++◌, ◌+◌, ◌<◌, ◌==◌, ◌||◌, ◌∙◌, ◌≡◌, ◌≢◌, ◌⊎◌}
+use Rattle.level.specs.Replies.{moved, splice_reply}
+use Rattle.pipe.specs.Pipe.{level_of}
+use Rattle.pipe.specs.Moves.{OnIdle, after_read, after_write}
+use Rattle.answers.proofs.Common.{Answer, Bool, Conduit, Does, DoesBoth, End, Event, Flow, IsPipe, IsSound, List, None, Op, Option, RepliesBoth, Req, Some, Splice, UsesBoth, UsesOne, [], ap, are_of_one, bad_end, bare, cond, contents, drop, end_of, eq-eqb, eqb-true, false, flow, given_at, gives, inl, inr, is_at, is_pipe, length, level_at, lt-ltb, ne_eqb, negsuc, no_end, not, now, offered, or_cases, read_end, reads, refl, size, slice_index, splice_into, splice_of, sym, take, takes, true, true≢false, write_end, writes, ℕ, ℤ, ⊎_elim, ◌&&◌, ◌++◌, ◌+◌, ◌<◌, ◌==◌, ◌||◌, ◌∙◌, ◌≡◌, ◌≢◌, ◌⊎◌}
 use Rattle.answers.proofs.Absent.{not_there}
-use Rattle.answers.proofs.Linking.{said, none, splice_said}
 use Rattle.answers.proofs.Naming.{not_at, or_right}
-use Rattle.answers.proofs.Operating.{held_of, same, stays, IsError, Errs, errs_if, bad, errs_nothing, silent, bare}
+use Rattle.answers.proofs.Operating.{held_of, same, stays, level_said, splice_nothing, silent, bare_does}
 
 -- ---- which ends they are
 
@@ -44,7 +43,7 @@ either false x = refl
 module _ (caps : List ℕ) (f : ℕ → Flow) (s t : ℕ) (c d : Conduit) (s_there : s < length caps) (t_there : t < length caps) (source : IsPipe (slice_index caps s) c (f s)) (target : IsPipe (slice_index caps t) d (f t)) (len : ℕ) where
   -- the answer of a SPLICE between two open ends
   abbrev between : Answer
-  between = cond (s == t) (now (negsuc 21) []) (told.answer_splice (slice_index caps t) (f s) (f t) len)
+  between = cond (s == t) (now (negsuc 21) []) (bare (splice_reply (level_at caps f s) (level_at caps f t) len))
 
   ends_open : splice_of caps f (read_end s) (write_end t) len ≡ cond (gives (read_end s) c && takes (write_end t) d) between bad_end
   ends_open =
@@ -60,11 +59,11 @@ module _ (caps : List ℕ) (f : ℕ → Flow) (s t : ℕ) (c d : Conduit) (s_the
       (λ (e : x ≡ write_end s). rw e refl) (at_end x s a)
 
   -- of two pipes
-  open_said : (x z : End) → is_at x s ≡ true → is_at z t ≡ true → s ≢ t → gives x c ≡ true → takes z d ≡ true → splice_of caps f x z len ≡ said (piped.answer_splice c d len) []
+  open_said : (x z : End) → is_at x s ≡ true → is_at z t ≡ true → s ≢ t → gives x c ≡ true → takes z d ≡ true → splice_of caps f x z len ≡ bare (splice_reply (level_of c) (level_of d) len)
   open_said x z a b apart g k = ends_said x z a b
       ∙ (λ i. cond (g i && k i) between bad_end)
-      ∙ ap (λ (i : Bool). cond i (now (negsuc 21) []) (told.answer_splice (slice_index caps t) (f s) (f t) len)) (ne_eqb s t apart)
-      ∙ splice_said (slice_index caps s) (slice_index caps t) c d (f s) (f t) source target len
+      ∙ ap (λ (i : Bool). cond i (now (negsuc 21) []) (bare (splice_reply (level_at caps f s) (level_at caps f t) len))) (ne_eqb s t apart)
+      ∙ (λ i. bare (splice_reply ((level_said (slice_index caps s) c (f s) source) i) ((level_said (slice_index caps t) d (f t) target) i) len))
 
   -- where an end is no open one of its side
   shut_said : (x z : End) → is_at x s ≡ true → is_at z t ≡ true → (gives x c && takes z d) ≡ false → splice_of caps f x z len ≡ bad_end
@@ -72,11 +71,11 @@ module _ (caps : List ℕ) (f : ℕ → Flow) (s t : ℕ) (c d : Conduit) (s_the
 
 -- ---- what the reply makes of the pipes
 
-moved_out : (n s t : ℕ) (bytes : List ℕ) (v : Held) → s ≢ t → reads_held (read_end s) (pos n) s (writes_held (write_end t) bytes (pos n) s v) ≡ record v { bytes = drop n v.bytes }
-moved_out n s t bytes v apart = rw (same s, ne_eqb t s (λ e. apart (sym e))) refl
+moved_out : (res : ℤ) (s t : ℕ) (bytes : List ℕ) (v : Held) → s ≢ t → reads_held (read_end s) res s (writes_held (write_end t) bytes res s v) ≡ record v { bytes = drop (size res) v.bytes }
+moved_out res s t bytes v apart = rw (same s, ne_eqb t s (λ e. apart (sym e))) refl
 
-moved_in : (n s t : ℕ) (bytes : List ℕ) (v : Held) → s ≢ t → reads_held (read_end s) (pos n) t (writes_held (write_end t) bytes (pos n) t v) ≡ record v { bytes = v.bytes ++ take n bytes }
-moved_in n s t bytes v apart = rw (ne_eqb s t apart, same t) refl
+moved_in : (res : ℤ) (s t : ℕ) (bytes : List ℕ) (v : Held) → s ≢ t → reads_held (read_end s) res t (writes_held (write_end t) bytes res t v) ≡ record v { bytes = v.bytes ++ take (size res) bytes }
+moved_in res s t bytes v apart = rw (ne_eqb s t apart, same t) refl
 
 reads_past : (x : End) (res : ℤ) (p : ℕ) (w : Flow) → is_at x p ≡ false → reads x res p w ≡ w
 reads_past (read_end y) res p w e = ap (λ (b : Bool). cond b (record w { out = w.out + size res }) w) e
@@ -87,9 +86,6 @@ writes_past : (x : End) (bytes : List ℕ) (res : ℤ) (p : ℕ) (w : Flow) → 
 writes_past (write_end y) bytes res p w e = ap (λ (b : Bool). cond b (record w { into = w.into ++ take (size res) bytes }) w) e
 writes_past (read_end y) bytes res p w e = refl
 writes_past no_end bytes res p w e = refl
-
-splice_errs : (c d : Conduit) (len : ℕ) → Errs (piped.answer_splice c d len)
-splice_errs c d len = errs_if (len == 0) _ _ tt (errs_if d.read_shut _ _ (inr (inl refl)) (errs_if (nat_lt 0 (most_spliced c d)) _ _ tt (errs_if ((length c.content == 0) && c.write_shut) _ _ tt tt)))
 
 -- ---- with both pipes in hand
 
@@ -118,25 +114,20 @@ module _ (caps : List ℕ) (h : List Event) (r : Req) (s t : ℕ) (fd_in fd_out 
     second : end_of fd_out ≡ write_end t
     second = write_end_is (end_of fd_out) t d u.joins.1 k
 
-    link : (a : Ready ℕ) → a ≡ piped.answer_splice c d len → splice_of caps (flow h) (end_of fd_in) (end_of fd_out) len ≡ said a []
-    link a e = open_said caps (flow h) s t c d u.source_there u.target_there source target len (end_of fd_in) (end_of fd_out) u.joins.0 u.joins.1 u.apart g k ∙ ap (λ (z : Ready ℕ). said z []) (sym e)
+    link : (a : Option ℤ) → a ≡ splice_reply (level_of c) (level_of d) len → splice_of caps (flow h) (end_of fd_in) (end_of fd_out) len ≡ bare a
+    link a e = open_said caps (flow h) s t c d u.source_there u.target_there source target len (end_of fd_in) (end_of fd_out) u.joins.0 u.joins.1 u.apart g k ∙ ap bare (sym e)
 
     bytes_are : (bytes : List ℕ) → bytes_in bytes ≡ c.content
     bytes_are bytes = ap (λ (x : End). given_at x (contents h)) first ∙ sym source.content_is
 
-    does : (a : Ready ℕ) → splice_of caps (flow h) (end_of fd_in) (end_of fd_out) len ≡ said a [] → Errs a → c' ≡ after_read (moved a) c → d' ≡ after_write (moved a) c.content d → OnIdle a ((c' ≡ c) × (d' ≡ d)) → DoesBoth caps h r op s t (reply_of a) c c' d d'
-    does (Now n) tells errs out into o = replies (pos n) c' d' (tells ∙ ap (now (pos n)) (none n)) (ap (λ (z : Conduit). z.cap) out) (ap (λ (z : Conduit). z.cap) into)
-        (λ bytes. ap held_of out ∙ sym ((λ i. reads_held (first i) (pos n) s (writes_held (second i) (bytes_in bytes) (pos n) s (held_of c))) ∙ moved_out n s t (bytes_in bytes) (held_of c) u.apart))
-        (λ bytes. ap held_of into ∙ sym ((λ i. reads_held (first i) (pos n) t (writes_held (second i) ((bytes_are bytes) i) (pos n) t (held_of d))) ∙ moved_in n s t c.content (held_of d) u.apart))
-    does Wait tells errs out into o = record { none = λ res data' w. silent _ [] res data' tells w; source_is = o.0; target_is = o.1 }
-    does (Fail errno) tells errs out into o = replies (below errno) c' d' tells (ap (λ (z : Conduit). z.cap) o.0) (ap (λ (z : Conduit). z.cap) o.1)
-        (λ bytes. ap held_of o.0 ∙ sym (errs_nothing op (bytes_in bytes) errno s (held_of c) errs)) (λ bytes. ap held_of o.1 ∙ sym (errs_nothing op (bytes_in bytes) errno t (held_of d) errs))
+    does : (a : Option ℤ) → splice_of caps (flow h) (end_of fd_in) (end_of fd_out) len ≡ bare a → c' ≡ after_read (moved a) c → d' ≡ after_write (moved a) c.content d → OnIdle a ((c' ≡ c) × (d' ≡ d)) → DoesBoth caps h r op s t a c c' d d'
+    does (Some res) tells out into o = replies res c' d' tells (ap (λ (z : Conduit). z.cap) out) (ap (λ (z : Conduit). z.cap) into)
+        (λ bytes. ap held_of out ∙ sym ((λ i. reads_held (first i) res s (writes_held (second i) (bytes_in bytes) res s (held_of c))) ∙ moved_out res s t (bytes_in bytes) (held_of c) u.apart))
+        (λ bytes. ap held_of into ∙ sym ((λ i. reads_held (first i) res t (writes_held (second i) ((bytes_are bytes) i) res t (held_of d))) ∙ moved_in res s t c.content (held_of d) u.apart))
+    does None tells out into o = record { none = λ res data' w. silent _ res data' tells w; source_is = o.0; target_is = o.1 }
 
-    pub both_does : (a : Ready ℕ) → a ≡ piped.answer_splice c d len → c' ≡ after_read (moved a) c → d' ≡ after_write (moved a) c.content d → OnIdle a ((c' ≡ c) × (d' ≡ d)) → DoesBoth caps h r op s t (reply_of a) c c' d d'
-    both_does a e out into o = does a (link a e) (subst (λ (z : Ready ℕ). Errs z) (sym e) (splice_errs c d len)) out into o
-
-pub splice_error : (c d : Conduit) (len : ℕ) (errno : ℤ) → Fail errno ≡ piped.answer_splice c d len → IsError errno
-splice_error c d len errno e = subst (λ (z : Ready ℕ). Errs z) (sym e) (splice_errs c d len)
+    pub both_does : (a : Option ℤ) → a ≡ splice_reply (level_of c) (level_of d) len → c' ≡ after_read (moved a) c → d' ≡ after_write (moved a) c.content d → OnIdle a ((c' ≡ c) × (d' ≡ d)) → DoesBoth caps h r op s t a c c' d d'
+    both_does a e out into o = does a (link a e) out into o
 
 -- ---- with one pipe in hand
 
@@ -161,15 +152,15 @@ module _ (caps : List ℕ) (h : List Event) (r : Req) (p : ℕ) (fd_in fd_out : 
   abbrev alone : Op
   alone = Splice fd_in fd_out len
 
-  answered : (res : ℤ) (errno : ℤ) → IsError errno → below errno ≡ res → splice_of caps (flow h) (end_of fd_in) (end_of fd_out) len ≡ now res [] → Does caps h r alone p (Some res) c c bytes bytes
-  answered res errno errs is link = subst (λ (z : ℤ). Does caps h r alone p (Some z) c c bytes bytes) is
-      (bare caps h r p fd_in c bytes u.there source ok alone (splice_of caps (flow h) (end_of fd_in) (end_of fd_out) len) (λ res d z. z) (λ res d z. z) c (Fail errno) (link ∙ ap (λ (z : ℤ). now z []) (sym is)) errs refl (λ n e. absurd cc) refl)
+  failed : (n : ℕ) → splice_of caps (flow h) (end_of fd_in) (end_of fd_out) len ≡ now (negsuc n) [] → Does caps h r alone p (Some (negsuc n)) c c bytes bytes
+  failed n link = bare_does caps h r p fd_in c bytes u.there source ok alone (splice_of caps (flow h) (end_of fd_in) (end_of fd_out) len) (λ res d z. z) (λ res d z. z) c (Some (negsuc n)) link refl
+      (λ res e. (let z : negsuc n ≡ res = cc in rw (← z) (sym (splice_nothing fd_in fd_out len (offered alone (contents h) bytes) n p (held_of c))))) refl
 
   -- a pipe that only one of the ends is of: the other is none of the board's
   off_board : (a b : ℕ) → (a == b) ≡ false → ((a == p) || (b == p)) ≡ true → ((q : ℕ) → q < length caps → q ≢ p → ((a == q) || (b == q)) ≡ false) → splice_of caps (flow h) (read_end a) (write_end b) len ≡ bad_end
   off_board a b ne used off = ⊎_elim
       (λ (l : (a == p) ≡ true). (let none' = not_there caps b (λ lt. true≢false (sym (or_right (a == b) (b == b) (same b)) ∙ off b lt (λ e. apart (eqb-true a p l ∙ sym e)))) in
-      ap (λ (i : Bool). cond (is_pipe caps a && not (flow h a).read_shut) (cond (i && not (flow h b).write_shut) (cond (a == b) (now (negsuc 21) []) (told.answer_splice (slice_index caps b) (flow h a) (flow h b) len)) bad_end) bad_end) none' ∙ either (is_pipe caps a && not (flow h a).read_shut) bad_end))
+      ap (λ (i : Bool). cond (is_pipe caps a && not (flow h a).read_shut) (cond (i && not (flow h b).write_shut) (cond (a == b) (now (negsuc 21) []) (bare (splice_reply (level_at caps (flow h) a) (level_at caps (flow h) b) len))) bad_end) bad_end) none' ∙ either (is_pipe caps a && not (flow h a).read_shut) bad_end))
       (λ (l : (b == p) ≡ true). (let none' = not_there caps a (λ lt. true≢false (sym (ap (λ (i : Bool). i || (b == a)) (same a)) ∙ off a lt (λ e. apart (e ∙ sym (eqb-true b p l))))) in
       ap (λ (i : Bool). cond (i && not (flow h a).read_shut) (splice_into caps (flow h) a b len) bad_end) none'))
       (or_cases (a == p) (b == p) used) where
@@ -184,11 +175,11 @@ module _ (caps : List ℕ) (h : List Event) (r : Req) (p : ℕ) (fd_in fd_out : 
   apart_said no_end z ne used off = refl
 
   pub alone_apart : are_of_one (end_of fd_in) (end_of fd_out) ≡ false → Does caps h r alone p (Some (negsuc 8)) c c bytes bytes
-  alone_apart ne = answered (negsuc 8) (pos 9) bad refl (apart_said (end_of fd_in) (end_of fd_out) ne u.used u.alone)
+  alone_apart ne = failed 8 (apart_said (end_of fd_in) (end_of fd_out) ne u.used u.alone)
 
   module _ (one : are_of_one (end_of fd_in) (end_of fd_out) ≡ true) where
     at_both : (is_at (end_of fd_in) p ≡ true) × (is_at (end_of fd_out) p ≡ true)
     at_both = one_of_both (end_of fd_in) (end_of fd_out) p one u.used
 
     pub alone_refused : (gives (end_of fd_in) c && takes (end_of fd_out) c) ≡ false → Does caps h r alone p (Some (negsuc 8)) c c bytes bytes
-    alone_refused n = answered (negsuc 8) (pos 9) bad refl (shut_said caps (flow h) p p c c u.there u.there source source len (end_of fd_in) (end_of fd_out) at_both.0 at_both.1 n)
+    alone_refused n = failed 8 (shut_said caps (flow h) p p c c u.there u.there source source len (end_of fd_in) (end_of fd_out) at_both.0 at_both.1 n)

@@ -2,8 +2,8 @@
 use Rattle.std.specs.Prelude.{◌≡◌, ◌≢◌, ℕ, ◌<◌, ◌==◌, Bool, true, false, not, Option, Some, None}
 use Rattle.entry.specs.declared.op.Op.{Op}
 use Rattle.entry.specs.declared.op.Op.TheVariants.{Splice}
-use Rattle.pipe.specs.declared.ends.End.{End as Side}
-use Rattle.pipe.specs.declared.ends.End.TheVariants.{Read as ReadSide, Write as WriteSide}
+use Rattle.level.specs.declared.ends.End.{End as Side}
+use Rattle.level.specs.declared.ends.End.TheVariants.{Read as ReadSide, Write as WriteSide}
 use Rattle.pipe.specs.Pipe.{Conduit}
 use Rattle.history.specs.Pipes.{End, no_end, read_end, write_end, end_of}
 use Rattle.history.specs.Users.{is_at, uses_at}

@@ -5,7 +5,7 @@ ghost use Rattle.history.specs.Users.{is_at, uses_at};
 ghost use Rattle.answers.specs.NamedEnds.{pipe_with, IsAmong, are_of_one, JoinsPipes, AreNamed, IsSide};
 
 use entry::{Op, by_opcode};
-use pipe::End;
+use level::End;
 
 /// The pipes of a board that an operation is answered from.
 #[derive(Clone, Copy)]

@@ -10,8 +10,9 @@ ghost use Rattle.answers.specs.Answered.{Answered};
 use crate::named::side_of;
 use crate::splice::splice_alone;
 use entry::{Op, by_opcode};
-use pipe::errno::EBADF;
-use pipe::{End, Pipe, Ready};
+use level::End;
+use level::errno::EBADF;
+use pipe::Pipe;
 
 macro_rules! answer_by_row {
     (($op:expr, $pipe:expr, $buffer:expr) $($text:literal $name:ident { $($field:ident),* } = $code:literal: $fd:tt $off:tt $addr:tt $len:tt $word:tt $splice_fd_in:tt $flags:tt $fails:tt;)*) => {
@@ -53,11 +54,7 @@ fn read(fd: i32, len: u32, pipe: &mut Pipe, buffer: &mut [u8]) -> Option<i32>
 {
     match side_of(fd) {
         End::Write => Some(-EBADF),
-        End::Read => match pipe.read_into(buffer) {
-            Ready::Now(n) => Some(n as i32),
-            Ready::Wait => None,
-            Ready::Fail(errno) => Some(-errno),
-        },
+        End::Read => pipe.read_into(buffer),
     }
 }
 
@@ -68,11 +65,7 @@ fn write(fd: i32, len: u32, pipe: &mut Pipe, buffer: &[u8]) -> Option<i32>
 {
     match side_of(fd) {
         End::Read => Some(-EBADF),
-        End::Write => match pipe.write_from(buffer) {
-            Ready::Now(n) => Some(n as i32),
-            Ready::Wait => None,
-            Ready::Fail(errno) => Some(-errno),
-        },
+        End::Write => pipe.write_from(buffer),
     }
 }
 
@@ -81,11 +74,7 @@ fn close(fd: i32, pipe: &mut Pipe, buffer: &[u8]) -> Option<i32>
     ensures { Answered (Op.Close fd) result pipe.old pipe.new buffer.now buffer.now }
 {
     let _ = buffer;
-    match pipe.close_end(side_of(fd)) {
-        Ready::Now(()) => Some(0),
-        Ready::Wait => None,
-        Ready::Fail(errno) => Some(-errno),
-    }
+    pipe.close_end(side_of(fd))
 }
 
 fn poll(fd: i32, mask: u32, pipe: &Pipe, buffer: &[u8]) -> Option<i32>
@@ -93,9 +82,5 @@ fn poll(fd: i32, mask: u32, pipe: &Pipe, buffer: &[u8]) -> Option<i32>
     ensures { Answered (Op.PollAdd fd mask) result pipe.now pipe.now buffer.now buffer.now }
 {
     let _ = buffer;
-    match pipe.poll_mask(side_of(fd), mask) {
-        Ready::Now(events) => Some(events as i32),
-        Ready::Wait => None,
-        Ready::Fail(errno) => Some(-errno),
-    }
+    pipe.poll_mask(side_of(fd), mask)
 }

@@ -7,7 +7,7 @@ ghost use Rattle.answers.specs.NamedEnds.{UsesNone};
 ghost use Rattle.answers.specs.Answered.{is_plain, reply_without};
 
 use entry::{Op, by_opcode};
-use pipe::errno::EBADF;
+use level::errno::EBADF;
 
 macro_rules! plain {
     ((plain nothing) ()) => { 0 };

@@ -7,8 +7,9 @@ ghost use Rattle.answers.specs.Answered.{Answered, AnsweredBoth};
 use crate::named::are_of_one;
 use crate::plain::EINVAL;
 use entry::{Op, by_opcode};
-use pipe::errno::EBADF;
-use pipe::{End, Pipe, Ready};
+use level::End;
+use level::errno::EBADF;
+use pipe::Pipe;
 
 macro_rules! spliced {
     ((pipe splice $fd_in:ident $fd_out:ident $len:ident) ($op:ident, $source:ident, $target:ident)) => { splice($op, $fd_in, $fd_out, $len, $source, $target) };
@@ -42,11 +43,7 @@ fn splice(
     if !gives(fd_in, source) || !takes(fd_out, target) {
         return Some(-EBADF);
     }
-    match source.splice_to(target, len) {
-        Ready::Now(n) => Some(n as i32),
-        Ready::Wait => None,
-        Ready::Fail(errno) => Some(-errno),
-    }
+    source.splice_to(target, len)
 }
 
 /// Answers a SPLICE that has the one pipe of the board that it names in hand. Where it names another one, that isn't there;

@@ -1,7 +1,8 @@
 //! Pipes.
 use crate::told::{Digits, Slip, Told, debugged, said};
 use crate::words::Words;
-use pipe::{End, Pipe, PipeError};
+use level::End;
+use pipe::{Pipe, PipeError};
 use std::alloc::Global;
 use std::mem;
 

@@ -2,7 +2,7 @@
 pub use Rattle.entry.specs.Entry.{Entry}
 pub use Rattle.entry.specs.declared.op.Op.{Op}
 pub use Rattle.entry.specs.declared.op.Op.TheVariants.{AsyncCancel, Close, Invalid, LinkTimeout, Nop, PollAdd, Read, Splice, Timeout, TimeoutRemove, Write}
-pub use Rattle.history.specs.Answers.{AimsAt, AllTried, Answer, Answers, CancelAnswers, CancelBy, IsFirst, Matches, MayHit, NoneLeft, OpAnswers, answer_poll, answer_read, answer_splice, answer_write, bad_end, close_of, free_in, is_all, is_pipe, later, now, poll_of, read_events, read_from, splice_into, splice_of, write_events, write_to}
+pub use Rattle.history.specs.Answers.{AimsAt, AllTried, Answer, Answers, CancelAnswers, CancelBy, IsFirst, Matches, MayHit, NoneLeft, OpAnswers, at_end, bad_end, bare, is_all, is_pipe, later, level_at, now, read_from, splice_into, splice_of, with_front, write_to}
 pub use Rattle.history.specs.Chains.{IsBefore, IsChainBefore, IsChainDone, IsChained, IsClear, IsPlaced, IsTarget, Open, Severed, before_in, gate_of, is_link_timeout_in, is_timeout, is_timer, joins, placed, placed_from, previous}
 pub use Rattle.history.specs.History.{Cause, Hit, IsIdle, IsPending, IsReplied, Phase, Submission, adds_to, after_reap, answers, armed, becomes, clock_of, concerns, data_in, data_of, fired, fires, hands_in, has_missed, hit, hits, is_replied, later_replies, missed, nothing, phase, reaped, replied, replies_from, reply, reply_in, runs, same, shuts, submission, submits, tally, ticks, took, unborn, waits, was_shut}
 pub use Rattle.history.specs.Legal.{Allowed, IsDue, IsOf, Legal, MayCome, Setup, count_of}

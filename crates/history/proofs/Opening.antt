@@ -1,5 +1,5 @@
 -- What is severed stays severed, what is open stays open, a chain that has replied was handed in whole, and what runs is open.
-use Rattle.history.proofs.Common.{Arm, Begin, Bool, Cause, Count, Cut, Event, Expire, Fire, FireMiss, IsBefore, IsChainBefore, IsChainDone, IsChained, IsClear, IsReplied, Legal, List, MayCome, Miss, None, Open, Park, Phase, Reap, Reply, Req, Settle, Setup, Sever, Severed, Shut, Some, Submit, Take, Tick, [], after_reap, ap, arith, becomes, before_in, cases_lt, concerns, cond, false, gate_of, inl, inr, is_link_timeout_in, joins, phase, placed, placed_from, previous, reaped, refl, replied, runs, submission, submits, subst, sym, true, true≢false, unborn, waits, ℕ, ℤ, ⊎_elim, ◌-◌, ◌<◌, ◌==◌, ◌∙◌, ◌∷◌, ◌≡◌, ◌≤◌}
+use Rattle.history.proofs.Common.{Begin, Bool, Cause, Event, FireMiss, IsBefore, IsChainBefore, IsChainDone, IsChained, IsClear, IsReplied, Legal, List, MayCome, Miss, None, Open, Phase, Reap, Req, Setup, Severed, Shut, Some, Tick, [], after_reap, ap, arith, becomes, before_in, cases_lt, concerns, cond, false, gate_of, inl, inr, is_link_timeout_in, joins, phase, placed, placed_from, previous, reaped, refl, replied, runs, submission, submits, subst, sym, true, true≢false, unborn, waits, ℕ, ℤ, ⊎_elim, ◌-◌, ◌<◌, ◌==◌, ◌∙◌, ◌∷◌, ◌≡◌, ◌≤◌}
 use Rattle.history.proofs.Requests.{bool_cases, same_true}
 use Rattle.history.proofs.Growth.{at_request, counted, unchanged, changed, submission_stays, reply_of_replied, reply_stays, replied_stays}
 

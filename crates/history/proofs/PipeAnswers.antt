@@ -1,9 +1,14 @@
 -- What an operation is answered from the pipes: it hangs on what those hold whose ends it names, is an error where one isn't there, and
 -- comes with data to a READ alone.
-use Rattle.std.specs.Prelude.{bit_and, bit_or}
+use Rattle.std.proofs.lemmas.List.{length-take-le}
+use Rattle.level.proofs.Moved.{read_few}
 use Rattle.history.specs.Users.{is_at, uses_at}
-use Rattle.history.specs.Answers.{answer_at, free_in, most_spliced}
-use Rattle.history.proofs.Common.{Answer, AsyncCancel, Bool, Close, End, Flow, Held, Invalid, LinkTimeout, List, Nop, Op, PollAdd, Read, Splice, Timeout, TimeoutRemove, Write, [], answer_poll, answer_read, answer_splice, answer_write, ap, bad_end, close_of, cond, content, end_of, eq-eqb, eqb-true, false, held_in, inl, inr, is_pipe, later, length, min, nat_le, nat_lt, negsuc, no_end, not, now, poll_of, pos, read_end, read_events, read_from, refl, slice_index, splice_into, splice_of, sym, take, true, true≢false, write_end, write_events, write_to, ℕ, ℤ, ⊎_elim, ◌&&◌, ◌+◌, ◌-◌, ◌==◌, ◌||◌, ◌∙◌, ◌≡◌, ◌⊎◌}
+use Rattle.history.specs.Answers.{answer_at}
+use Rattle.level.specs.declared.ends.End.{End as Side}
+use Rattle.level.specs.declared.ends.End.TheVariants.{Read as ReadSide, Write as WriteSide}
+use Rattle.level.specs.declared.level.Level.{Level}
+use Rattle.level.specs.Replies.{close_reply, moved, poll_reply, read_reply, splice_reply, write_reply}
+use Rattle.history.proofs.Common.{Answer, AsyncCancel, Bool, Close, End, Flow, Held, Invalid, LinkTimeout, List, Nop, Op, PollAdd, Read, Splice, Timeout, TimeoutRemove, Write, [], ap, at_end, bad_end, bare, cond, content, end_of, eq-eqb, eqb-true, false, held_in, inl, inr, is_pipe, later, length, level_at, negsuc, no_end, None, not, now, Option, pos, read_end, read_from, refl, size, slice_index, Some, splice_into, splice_of, sym, take, true, true≢false, with_front, write_end, write_to, ℕ, ℤ, ⊎_elim, ◌&&◌, ◌==◌, ◌||◌, ◌∙◌, ◌≡◌, ◌≤◌, ◌⊎◌}
 use Rattle.history.proofs.Requests.{bool_cases}
 
 or_true : (b : Bool) → (b || true) ≡ true
@@ -24,30 +29,26 @@ and_same false k z x y e = refl
 
 -- ---- it hangs on what the pipes hold
 
+abbrev level_held : ℕ → Held → Level
+level_held cap v = record { capacity = cap; count = length v.bytes; read_shut = v.read_shut; write_shut = v.write_shut }
+
 module _ (caps : List ℕ) (f g : ℕ → Flow) where
   abbrev Agree : End → Type 0
   Agree x = (p : ℕ) → is_pipe caps p ≡ true → is_at x p ≡ true → held_in (f p) ≡ held_in (g p)
 
   read_same : (x : End) (len : ℕ) → Agree x → read_from caps f x len ≡ read_from caps g x len
-  read_same (read_end p) len k = if_same (is_pipe caps p) _ _ (λ b. ap (λ (v : Held). cond v.read_shut bad_end (cond (len == 0) (now (pos 0) []) (cond (nat_lt 0 (length v.bytes)) (now (pos (min len (length v.bytes))) (take len v.bytes)) (cond v.write_shut (now (pos 0) []) later)))) (k p b (eq-eqb p p refl)))
+  read_same (read_end p) len k = if_same (is_pipe caps p) _ _ (λ b. ap (λ (v : Held). with_front v.bytes (read_reply (level_held (slice_index caps p) v) len)) (k p b (eq-eqb p p refl)))
   read_same (write_end p) len k = refl
   read_same no_end len k = refl
 
   write_same : (x : End) (len : ℕ) → Agree x → write_to caps f x len ≡ write_to caps g x len
-  write_same (write_end p) len k = let cap = slice_index caps p in if_same (is_pipe caps p) _ _ (λ b. ap (λ (v : Held). cond v.write_shut bad_end
-      (cond (len == 0) (now (pos 0) [])
-      (cond v.read_shut (now (negsuc 31) [])
-      (cond (nat_le len cap) (cond (nat_le len (cap - length v.bytes)) (now (pos len) []) later)
-      (cond (nat_lt 0 (cap - length v.bytes)) (now (pos (cap - length v.bytes)) []) later))))) (k p b (eq-eqb p p refl)))
+  write_same (write_end p) len k = if_same (is_pipe caps p) _ _ (λ b. ap (λ (v : Held). bare (write_reply (level_held (slice_index caps p) v) len)) (k p b (eq-eqb p p refl)))
   write_same (read_end p) len k = refl
   write_same no_end len k = refl
 
   into_same : (p q len : ℕ) → is_pipe caps p ≡ true → Agree (read_end p) → Agree (write_end q) → splice_into caps f p q len ≡ splice_into caps g p q len
-  into_same p q len b k l = let cap = slice_index caps q in and_same (is_pipe caps q) _ _ _ _ (λ c. (λ i. (let v : Held = k p b (eq-eqb p p refl) i in let w : Held = l q c (eq-eqb q q refl) i in
-      cond (not w.write_shut) (cond (p == q) (now (negsuc 21) []) (cond (len == 0) (now (pos 0) [])
-      (cond w.read_shut (now (negsuc 31) [])
-      (cond (nat_lt 0 (min (length v.bytes) (cap - length w.bytes))) (now (pos (min len (min (length v.bytes) (cap - length w.bytes)))) [])
-      (cond ((length v.bytes == 0) && v.write_shut) (now (pos 0) []) later))))) bad_end)))
+  into_same p q len b k l = and_same (is_pipe caps q) _ _ _ _ (λ c. (λ i. (let v : Held = k p b (eq-eqb p p refl) i in let w : Held = l q c (eq-eqb q q refl) i in
+      cond (not w.write_shut) (cond (p == q) (now (negsuc 21) []) (bare (splice_reply (level_held (slice_index caps p) v) (level_held (slice_index caps q) w) len))) bad_end)))
 
   splice_same : (x z : End) (len : ℕ) → Agree x → Agree z → splice_of caps f x z len ≡ splice_of caps g x z len
   splice_same (read_end p) (write_end q) len k l = and_same (is_pipe caps p) _ _ _ _ (λ b.
@@ -57,23 +58,18 @@ module _ (caps : List ℕ) (f g : ℕ → Flow) where
   splice_same (write_end p) z len k l = refl
   splice_same no_end z len k l = refl
 
-  close_same : (x : End) → Agree x → close_of caps f x ≡ close_of caps g x
-  close_same (read_end p) k = and_same (is_pipe caps p) _ _ _ _ (λ b. ap (λ (v : Held). cond (not v.read_shut) (now (pos 0) []) bad_end) (k p b (eq-eqb p p refl)))
-  close_same (write_end p) k = and_same (is_pipe caps p) _ _ _ _ (λ b. ap (λ (v : Held). cond (not v.write_shut) (now (pos 0) []) bad_end) (k p b (eq-eqb p p refl)))
-  close_same no_end k = refl
-
-  poll_same : (x : End) (mask : ℕ) → Agree x → poll_of caps f x mask ≡ poll_of caps g x mask
-  poll_same (read_end p) mask k = and_same (is_pipe caps p) _ _ _ _ (λ b. ap (λ (v : Held). cond (not v.read_shut) (answer_poll (cond (nat_lt 0 (length v.bytes)) 1 0 + cond v.write_shut 16 0) mask) bad_end) (k p b (eq-eqb p p refl)))
-  poll_same (write_end p) mask k = let cap = slice_index caps p in and_same (is_pipe caps p) _ _ _ _ (λ b. ap (λ (v : Held). cond (not v.write_shut) (answer_poll (cond (nat_lt 0 (cap - length v.bytes)) 4 0 + cond v.read_shut 8 0) mask) bad_end) (k p b (eq-eqb p p refl)))
-  poll_same no_end mask k = refl
+  end_same : (reply : Level → Side → Option ℤ) (x : End) → Agree x → at_end caps f reply x ≡ at_end caps g reply x
+  end_same reply (read_end p) k = if_same (is_pipe caps p) _ _ (λ b. ap (λ (v : Held). bare (reply (level_held (slice_index caps p) v) ReadSide)) (k p b (eq-eqb p p refl)))
+  end_same reply (write_end p) k = if_same (is_pipe caps p) _ _ (λ b. ap (λ (v : Held). bare (reply (level_held (slice_index caps p) v) WriteSide)) (k p b (eq-eqb p p refl)))
+  end_same reply no_end k = refl
 
   pub answer_same : (op : Op) → ((p : ℕ) → is_pipe caps p ≡ true → uses_at op p ≡ true → held_in (f p) ≡ held_in (g p)) → answer_at caps f op ≡ answer_at caps g op
   answer_same (Read fd offset len) k = read_same (end_of fd) len k
   answer_same (Write fd offset len) k = write_same (end_of fd) len k
   answer_same (Splice fd_in fd len) k = splice_same (end_of fd_in) (end_of fd) len
       (λ p t u. k p t (ap (λ (b : Bool). b || is_at (end_of fd) p) u)) (λ p t u. k p t (ap (λ (b : Bool). is_at (end_of fd_in) p || b) u ∙ or_true (is_at (end_of fd_in) p)))
-  answer_same (Close fd) k = close_same (end_of fd) k
-  answer_same (PollAdd fd mask) k = poll_same (end_of fd) mask k
+  answer_same (Close fd) k = end_same close_reply (end_of fd) k
+  answer_same (PollAdd fd mask) k = end_same (λ l side. poll_reply l side mask) (end_of fd) k
   answer_same op k = refl
 
 -- ---- pipes that are not there
@@ -84,12 +80,12 @@ module _ (caps : List ℕ) (f : ℕ → Flow) where
   Off x = (p : ℕ) → is_at x p ≡ true → is_pipe caps p ≡ false
 
   read_off : (x : End) (len : ℕ) → Off x → read_from caps f x len ≡ bad_end
-  read_off (read_end p) len n = ap (λ (b : Bool). cond b (answer_read (f p) len) bad_end) (n p (eq-eqb p p refl))
+  read_off (read_end p) len n = ap (λ (b : Bool). cond b (with_front (content (f p)) (read_reply (level_at caps f p) len)) bad_end) (n p (eq-eqb p p refl))
   read_off (write_end p) len n = refl
   read_off no_end len n = refl
 
   write_off : (x : End) (len : ℕ) → Off x → write_to caps f x len ≡ bad_end
-  write_off (write_end p) len n = ap (λ (b : Bool). cond b (answer_write (slice_index caps p) (f p) len) bad_end) (n p (eq-eqb p p refl))
+  write_off (write_end p) len n = ap (λ (b : Bool). cond b (bare (write_reply (level_at caps f p) len)) bad_end) (n p (eq-eqb p p refl))
   write_off (read_end p) len n = refl
   write_off no_end len n = refl
 
@@ -97,22 +93,17 @@ module _ (caps : List ℕ) (f : ℕ → Flow) where
   splice_off (read_end p) (write_end q) len n = ⊎_elim
       (λ (o : Off (read_end p)). ap (λ (b : Bool). cond (b && not (f p).read_shut) (splice_into caps f p q len) bad_end) (o p (eq-eqb p p refl)))
       (λ (o : Off (write_end q)).
-      ap (λ (b : Bool). cond (is_pipe caps p && not (f p).read_shut) (cond (b && not (f q).write_shut) (cond (p == q) (now (negsuc 21) []) (answer_splice (slice_index caps q) (f p) (f q) len)) bad_end) bad_end) (o q (eq-eqb q q refl))
+      ap (λ (b : Bool). cond (is_pipe caps p && not (f p).read_shut) (cond (b && not (f q).write_shut) (cond (p == q) (now (negsuc 21) []) (bare (splice_reply (level_at caps f p) (level_at caps f q) len))) bad_end) bad_end) (o q (eq-eqb q q refl))
       ∙ one_bad (is_pipe caps p && not (f p).read_shut)) n
   splice_off (read_end p) (read_end q) len n = refl
   splice_off (read_end p) no_end len n = refl
   splice_off (write_end p) z len n = refl
   splice_off no_end z len n = refl
 
-  close_off : (x : End) → Off x → close_of caps f x ≡ bad_end
-  close_off (read_end p) n = ap (λ (b : Bool). cond (b && not (f p).read_shut) (now (pos 0) []) bad_end) (n p (eq-eqb p p refl))
-  close_off (write_end p) n = ap (λ (b : Bool). cond (b && not (f p).write_shut) (now (pos 0) []) bad_end) (n p (eq-eqb p p refl))
-  close_off no_end n = refl
-
-  poll_off : (x : End) (mask : ℕ) → Off x → poll_of caps f x mask ≡ bad_end
-  poll_off (read_end p) mask n = ap (λ (b : Bool). cond (b && not (f p).read_shut) (answer_poll (read_events (f p)) mask) bad_end) (n p (eq-eqb p p refl))
-  poll_off (write_end p) mask n = ap (λ (b : Bool). cond (b && not (f p).write_shut) (answer_poll (write_events (slice_index caps p) (f p)) mask) bad_end) (n p (eq-eqb p p refl))
-  poll_off no_end mask n = refl
+  end_off : (reply : Level → Side → Option ℤ) (x : End) → Off x → at_end caps f reply x ≡ bad_end
+  end_off reply (read_end p) n = ap (λ (b : Bool). cond b (bare (reply (level_at caps f p) ReadSide)) bad_end) (n p (eq-eqb p p refl))
+  end_off reply (write_end p) n = ap (λ (b : Bool). cond b (bare (reply (level_at caps f p) WriteSide)) bad_end) (n p (eq-eqb p p refl))
+  end_off reply no_end n = refl
 
   -- the end of a pipe that isn't there
   here : (x : End) (n : ℕ) → is_pipe caps n ≡ false → is_at x n ≡ true → Off x
@@ -127,8 +118,8 @@ module _ (caps : List ℕ) (f : ℕ → Flow) where
   answer_off (Splice fd_in fd len) n e u = splice_off (end_of fd_in) (end_of fd) len (⊎_elim
       (λ (t : is_at (end_of fd_in) n ≡ true). inl (here (end_of fd_in) n e t))
       (λ (t : is_at (end_of fd_in) n ≡ false). inr (here (end_of fd) n e (sym (ap (λ (b : Bool). b || is_at (end_of fd) n) t) ∙ u))) (bool_cases (is_at (end_of fd_in) n)))
-  answer_off (Close fd) n e u = close_off (end_of fd) (here (end_of fd) n e u)
-  answer_off (PollAdd fd mask) n e u = poll_off (end_of fd) mask (here (end_of fd) n e u)
+  answer_off (Close fd) n e u = end_off close_reply (end_of fd) (here (end_of fd) n e u)
+  answer_off (PollAdd fd mask) n e u = end_off (λ l side. poll_reply l side mask) (end_of fd) (here (end_of fd) n e u)
   answer_off op n e u = absurd (true≢false (sym u))
 
   -- an operation on a pipe has a bad end
@@ -146,8 +137,8 @@ module _ (caps : List ℕ) (f : ℕ → Flow) where
   answer_none (Read fd offset len) n = read_off (end_of fd) len n
   answer_none (Write fd offset len) n = write_off (end_of fd) len n
   answer_none (Splice fd_in fd len) n = splice_off (end_of fd_in) (end_of fd) len (inl (λ p u. n p (ap (λ (b : Bool). b || is_at (end_of fd) p) u)))
-  answer_none (Close fd) n = close_off (end_of fd) n
-  answer_none (PollAdd fd mask) n = poll_off (end_of fd) mask n
+  answer_none (Close fd) n = end_off close_reply (end_of fd) n
+  answer_none (PollAdd fd mask) n = end_off (λ l side. poll_reply l side mask) (end_of fd) n
   answer_none op n = tt
 
 -- ---- data
@@ -165,49 +156,29 @@ none r res data' w = cc
 nothing_yet : HasNone later
 nothing_yet res data' w = cc
 
-writes : (cap : ℕ) (w : Flow) (len : ℕ) → HasNone (answer_write cap w len)
-writes cap w len =
-    either HasNone w.write_shut bad_end _ (none (negsuc 8))
-    (either HasNone (len == 0) (now (pos 0) []) _ (none (pos 0))
-    (either HasNone w.read_shut (now (negsuc 31) []) _ (none (negsuc 31))
-    (either HasNone (nat_le len cap) _ _
-    (either HasNone (nat_le len (free_in cap w)) (now (pos len) []) later (none (pos len)) nothing_yet)
-    (either HasNone (nat_lt 0 (free_in cap w)) (now (pos (free_in cap w)) []) later (none (pos (free_in cap w))) nothing_yet))))
-
-splices : (cap : ℕ) (v w : Flow) (len : ℕ) → HasNone (answer_splice cap v w len)
-splices cap v w len =
-    either HasNone (len == 0) (now (pos 0) []) _ (none (pos 0))
-    (either HasNone w.read_shut (now (negsuc 31) []) _ (none (negsuc 31))
-    (either HasNone (nat_lt 0 (most_spliced cap v w)) (now (pos (min len (most_spliced cap v w))) []) _ (none (pos (min len (most_spliced cap v w))))
-    (either HasNone ((length (content v) == 0) && v.write_shut) (now (pos 0) []) later (none (pos 0)) nothing_yet)))
-
-polls : (events mask : ℕ) → HasNone (answer_poll events mask)
-polls events mask = let b : ℕ = bit_and events (bit_or mask 24) in either HasNone (b == 0) later (now (pos b) []) nothing_yet (none (pos b))
+bares : (a : Option ℤ) → HasNone (bare a)
+bares None = nothing_yet
+bares (Some res) = none res
 
 module _ (caps : List ℕ) (f : ℕ → Flow) where
   writes_to : (x : End) (len : ℕ) → HasNone (write_to caps f x len)
-  writes_to (write_end p) len = either HasNone (is_pipe caps p) (answer_write (slice_index caps p) (f p) len) bad_end (writes (slice_index caps p) (f p) len) (none (negsuc 8))
+  writes_to (write_end p) len = either HasNone (is_pipe caps p) (bare (write_reply (level_at caps f p) len)) bad_end (bares (write_reply (level_at caps f p) len)) (none (negsuc 8))
   writes_to _ len = none (negsuc 8)
 
   splices_into : (p q len : ℕ) → HasNone (splice_into caps f p q len)
   splices_into p q len =
       either HasNone (is_pipe caps q && not (f q).write_shut) _ bad_end
-      (either HasNone (p == q) (now (negsuc 21) []) _ (none (negsuc 21)) (splices (slice_index caps q) (f p) (f q) len))
+      (either HasNone (p == q) (now (negsuc 21) []) _ (none (negsuc 21)) (bares (splice_reply (level_at caps f p) (level_at caps f q) len)))
       (none (negsuc 8))
 
   splices_of : (x z : End) (len : ℕ) → HasNone (splice_of caps f x z len)
   splices_of (read_end p) (write_end q) len = either HasNone (is_pipe caps p && not (f p).read_shut) (splice_into caps f p q len) bad_end (splices_into p q len) (none (negsuc 8))
   splices_of _ _ len = none (negsuc 8)
 
-  closes_of : (x : End) → HasNone (close_of caps f x)
-  closes_of (read_end p) = either HasNone (is_pipe caps p && not (f p).read_shut) (now (pos 0) []) bad_end (none (pos 0)) (none (negsuc 8))
-  closes_of (write_end p) = either HasNone (is_pipe caps p && not (f p).write_shut) (now (pos 0) []) bad_end (none (pos 0)) (none (negsuc 8))
-  closes_of no_end = none (negsuc 8)
-
-  polls_of : (x : End) (mask : ℕ) → HasNone (poll_of caps f x mask)
-  polls_of (read_end p) mask = either HasNone (is_pipe caps p && not (f p).read_shut) (answer_poll (read_events (f p)) mask) bad_end (polls (read_events (f p)) mask) (none (negsuc 8))
-  polls_of (write_end p) mask = either HasNone (is_pipe caps p && not (f p).write_shut) (answer_poll (write_events (slice_index caps p) (f p)) mask) bad_end (polls (write_events (slice_index caps p) (f p)) mask) (none (negsuc 8))
-  polls_of no_end mask = none (negsuc 8)
+  ends : (reply : Level → Side → Option ℤ) (x : End) → HasNone (at_end caps f reply x)
+  ends reply (read_end p) = either HasNone (is_pipe caps p) (bare (reply (level_at caps f p) ReadSide)) bad_end (bares (reply (level_at caps f p) ReadSide)) (none (negsuc 8))
+  ends reply (write_end p) = either HasNone (is_pipe caps p) (bare (reply (level_at caps f p) WriteSide)) bad_end (bares (reply (level_at caps f p) WriteSide)) (none (negsuc 8))
+  ends reply no_end = none (negsuc 8)
 
   -- the answers that bring none
   abbrev pub IsBare : Op → Type 0
@@ -218,8 +189,23 @@ module _ (caps : List ℕ) (f : ℕ → Flow) where
   answer_bare (Read fd offset len) = tt
   answer_bare (Write fd offset len) = writes_to (end_of fd) len
   answer_bare (Splice fd_in fd len) = splices_of (end_of fd_in) (end_of fd) len
-  answer_bare (Close fd) = closes_of (end_of fd)
-  answer_bare (PollAdd fd mask) = polls_of (end_of fd) mask
+  answer_bare (Close fd) = ends close_reply (end_of fd)
+  answer_bare (PollAdd fd mask) = ends (λ l side. poll_reply l side mask) (end_of fd)
   answer_bare Nop = none (pos 0)
   answer_bare Invalid = none (negsuc 21)
   answer_bare op = nothing_yet
+
+-- a READ's data are as many bytes as its reply says
+abbrev AsMany : Answer → Type 0
+AsMany a = (res : ℤ) (data' : List ℕ) → a ≡ now res data' → length data' ≡ size res
+
+as_many : (r : ℤ) (d : List ℕ) → length d ≡ size r → AsMany (now r d)
+as_many r d e res data' w = let z : (r ≡ res) × (d ≡ data') = (cc, cc) in ap length (sym z.1) ∙ e ∙ ap size z.0
+
+fronts : (bytes : List ℕ) (a : Option ℤ) → moved a ≤ length bytes → AsMany (with_front bytes a)
+fronts bytes None le = λ res data' w. cc
+fronts bytes (Some r) le = as_many r (take (size r) bytes) (length-take-le (size r) bytes le)
+
+pub read_long : (caps : List ℕ) (f : ℕ → Flow) (x : End) (len : ℕ) (res : ℤ) (data' : List ℕ) → read_from caps f x len ≡ now res data' → length data' ≡ size res
+read_long caps f (read_end p) len = either AsMany (is_pipe caps p) (with_front (content (f p)) (read_reply (level_at caps f p) len)) bad_end (fronts (content (f p)) (read_reply (level_at caps f p) len) (read_few (level_at caps f p) len)) (as_many (negsuc 8) [] refl)
+read_long caps f _ len = as_many (negsuc 8) [] refl

@@ -1,5 +1,5 @@
 -- No data came with a request that was not answered.
-use Rattle.history.proofs.Common.{Arm, Begin, Count, Cut, Event, Expire, Fire, FireMiss, IsReplied, Legal, List, Miss, Park, Reap, Reply, Req, Settle, Setup, Sever, Shut, Submit, Take, Tick, [], answers, ap, cond, data_in, data_of, false, phase, refl, sym, true, true≢false, ⊎_elim, ◌∙◌, ◌∷◌, ◌≡◌}
+use Rattle.history.proofs.Common.{Count, Cut, Event, Expire, Fire, IsReplied, Legal, List, Reply, Req, Settle, Setup, Sever, Take, [], answers, ap, cond, data_in, data_of, false, phase, refl, sym, true, true≢false, ⊎_elim, ◌∙◌, ◌∷◌, ◌≡◌}
 use Rattle.history.proofs.Requests.{bool_cases}
 use Rattle.history.proofs.Growth.{replied_stays}
 

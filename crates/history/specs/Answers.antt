@@ -1,8 +1,12 @@
 -- The table of answers: what each operation replies, and when it has no answer yet.
-use Rattle.std.specs.Prelude.{◌≡◌, ◌⊎◌, ℕ, ◌+◌, ◌-◌, ◌<◌, ◌==◌, ◌&&◌, not, nat_lt, nat_le, min, take, length, slice_index, bit_and, bit_or, Bool, true, false, cond, ℤ, pos, negsuc, List, []}
+use Rattle.std.specs.Prelude.{◌≡◌, ◌⊎◌, ℕ, ◌<◌, ◌==◌, ◌&&◌, not, nat_lt, take, length, slice_index, Bool, true, false, cond, ℤ, pos, negsuc, List, [], Option, Some, None}
 use Rattle.entry.specs.declared.op.Op.{Op}
 use Rattle.entry.specs.declared.op.Op.TheVariants.{Nop, PollAdd, Timeout, TimeoutRemove, AsyncCancel, LinkTimeout, Close, Read, Write, Splice, Invalid}
 use Rattle.entry.specs.Entry.{Entry}
+use Rattle.level.specs.declared.ends.End.{End as Side}
+use Rattle.level.specs.declared.ends.End.TheVariants.{Read as ReadSide, Write as WriteSide}
+use Rattle.level.specs.declared.level.Level.{Level}
+use Rattle.level.specs.Replies.{size, read_reply, write_reply, splice_reply, close_reply, poll_reply}
 use Rattle.history.specs.declared.req.Req.{Req}
 use Rattle.history.specs.declared.event.Event.{Event}
 use Rattle.history.specs.History.{Hit, nothing, took, missed, hit, tally, has_missed, phase, IsReplied}
@@ -18,82 +22,59 @@ pub data Answer : Type 0 where
 abbrev pub bad_end : Answer
 bad_end = now (negsuc 8) []
 
--- read(2) and pipe(7): what is there, at most len bytes; 0 at the end of the file; a pipe that is empty and open to writers gives no answer
-abbrev pub answer_read : Flow → ℕ → Answer
-answer_read w len =
-    cond w.read_shut bad_end
-    (cond (len == 0) (now (pos 0) [])
-    (cond (nat_lt 0 (length (content w))) (now (pos (min len (length (content w)))) (take len (content w)))
-    (cond w.write_shut (now (pos 0) []) later)))
+-- what the replies of a pipe are decided by: cap is its capacity
+abbrev pub level_of : ℕ → Flow → Level
+level_of cap w = record { capacity = cap; count = length (content w); read_shut = w.read_shut; write_shut = w.write_shut }
 
--- the bytes that still go in
-abbrev pub free_in : ℕ → Flow → ℕ
-free_in cap w = cap - length (content w)
+-- a reply without data
+abbrev pub bare : Option ℤ → Answer
+bare None = later
+bare (Some res) = now res []
 
--- write(2) and pipe(7), with EPIPE (-32) where nobody can read. At most the capacity goes in whole or waits; more goes in once and in part (this profile)
-abbrev pub answer_write : ℕ → Flow → ℕ → Answer
-answer_write cap w len =
-    cond w.write_shut bad_end
-    (cond (len == 0) (now (pos 0) [])
-    (cond w.read_shut (now (negsuc 31) [])
-    (cond (nat_le len cap) (cond (nat_le len (free_in cap w)) (now (pos len) []) later)
-    (cond (nat_lt 0 (free_in cap w)) (now (pos (free_in cap w)) []) later))))
-
--- the most bytes that go over: those in the source, as far as there is room in the target
-abbrev pub most_spliced : ℕ → Flow → Flow → ℕ
-most_spliced cap source target = min (length (content source)) (free_in cap target)
-
--- splice(2), with EPIPE (-32) where nobody can read what goes in; 0 at the end of the file; an empty source that is open to writers, or a full target, gives no answer. The order of the cases is this profile
-abbrev pub answer_splice : ℕ → Flow → Flow → ℕ → Answer
-answer_splice cap source target len =
-    cond (len == 0) (now (pos 0) [])
-    (cond target.read_shut (now (negsuc 31) [])
-    (cond (nat_lt 0 (most_spliced cap source target)) (now (pos (min len (most_spliced cap source target))) [])
-    (cond ((length (content source) == 0) && source.write_shut) (now (pos 0) []) later)))
-
--- the events of a read end: POLLIN (1) where there are bytes, POLLHUP (16) where nobody writes (poll(2))
-abbrev pub read_events : Flow → ℕ
-read_events w = cond (nat_lt 0 (length (content w))) 1 0 + cond w.write_shut 16 0
-
--- the events of a write end: POLLOUT (4) where there is room for a byte, POLLERR (8) where nobody reads (poll(2))
-abbrev pub write_events : ℕ → Flow → ℕ
-write_events cap w = cond (nat_lt 0 (free_in cap w)) 4 0 + cond w.read_shut 8 0
-
--- those that were asked for, and POLLERR and POLLHUP in any case (poll(2)); none is no answer
-abbrev pub answer_poll : ℕ → ℕ → Answer
-answer_poll events mask = let b : ℕ = bit_and events (bit_or mask 24) in cond (b == 0) later (now (pos b) [])
+-- a reply with as many of these bytes as its data as it says
+abbrev pub with_front : List ℕ → Option ℤ → Answer
+with_front bytes None = later
+with_front bytes (Some res) = now res (take (size res) bytes)
 
 -- the pipe is there: caps are the capacities
 abbrev pub is_pipe : List ℕ → ℕ → Bool
 is_pipe caps p = nat_lt p (length caps)
 
 module _ (caps : List ℕ) (flow_at : ℕ → Flow) where
+  abbrev pub level_at : ℕ → Level
+  level_at p = level_of (slice_index caps p) (flow_at p)
+
+  -- read(2)
   abbrev pub read_from : End → ℕ → Answer
-  read_from (read_end p) len = cond (is_pipe caps p) (answer_read (flow_at p) len) bad_end
+  read_from (read_end p) len = cond (is_pipe caps p) (with_front (content (flow_at p)) (read_reply (level_at p) len)) bad_end
   read_from _ len = bad_end
 
+  -- write(2)
   abbrev pub write_to : End → ℕ → Answer
-  write_to (write_end p) len = cond (is_pipe caps p) (answer_write (slice_index caps p) (flow_at p) len) bad_end
+  write_to (write_end p) len = cond (is_pipe caps p) (bare (write_reply (level_at p) len)) bad_end
   write_to _ len = bad_end
 
   -- from the pipe p: -22 where both ends are of one pipe (splice(2), EINVAL)
   abbrev pub splice_into : ℕ → ℕ → ℕ → Answer
-  splice_into p q len = cond (is_pipe caps q && not (flow_at q).write_shut) (cond (p == q) (now (negsuc 21) []) (answer_splice (slice_index caps q) (flow_at p) (flow_at q) len)) bad_end
+  splice_into p q len = cond (is_pipe caps q && not (flow_at q).write_shut) (cond (p == q) (now (negsuc 21) []) (bare (splice_reply (level_at p) (level_at q) len))) bad_end
 
   abbrev pub splice_of : End → End → ℕ → Answer
   splice_of (read_end p) (write_end q) len = cond (is_pipe caps p && not (flow_at p).read_shut) (splice_into p q len) bad_end
   splice_of _ _ len = bad_end
 
-  -- close(2): 0 the first time
-  abbrev pub close_of : End → Answer
-  close_of (read_end p) = cond (is_pipe caps p && not (flow_at p).read_shut) (now (pos 0) []) bad_end
-  close_of (write_end p) = cond (is_pipe caps p && not (flow_at p).write_shut) (now (pos 0) []) bad_end
-  close_of no_end = bad_end
+  -- an answer at an end of a pipe
+  abbrev pub at_end : (Level → Side → Option ℤ) → End → Answer
+  at_end reply (read_end p) = cond (is_pipe caps p) (bare (reply (level_at p) ReadSide)) bad_end
+  at_end reply (write_end p) = cond (is_pipe caps p) (bare (reply (level_at p) WriteSide)) bad_end
+  at_end reply no_end = bad_end
 
+  -- close(2)
+  abbrev pub close_of : End → Answer
+  close_of x = at_end close_reply x
+
+  -- poll(2)
   abbrev pub poll_of : End → ℕ → Answer
-  poll_of (read_end p) mask = cond (is_pipe caps p && not (flow_at p).read_shut) (answer_poll (read_events (flow_at p)) mask) bad_end
-  poll_of (write_end p) mask = cond (is_pipe caps p && not (flow_at p).write_shut) (answer_poll (write_events (slice_index caps p) (flow_at p)) mask) bad_end
-  poll_of no_end mask = bad_end
+  poll_of x mask = at_end (λ l side. poll_reply l side mask) x
 
   -- what an operation is answered from what is in the pipes. That of a cancel hangs on other requests, and a timer has none of a worker
   abbrev pub answer_at : Op → Answer

@@ -3,6 +3,7 @@ use Rattle.std.specs.Prelude.{ℕ, ◌+◌, ◌/◌, ◌%◌, ◌==◌, ◌&&◌
 use Rattle.entry.specs.declared.op.Op.{Op}
 use Rattle.entry.specs.declared.op.Op.TheVariants.{Close, Read, Write, Splice}
 use Rattle.entry.specs.Entry.{Entry}
+pub use Rattle.level.specs.Replies.{size}
 use Rattle.history.specs.declared.event.Event.{Event}
 use Rattle.history.specs.declared.event.Event.TheVariants.{Reply}
 use Rattle.history.specs.History.{Submission, submission}
@@ -31,11 +32,6 @@ pub data End : Type 0 where
 abbrev pub end_of : ℤ → End
 end_of (pos n) = cond (n % 2 == 0) (read_end (n / 2)) (write_end (n / 2))
 end_of (negsuc n) = no_end
-
--- the bytes that a reply tells, 0 for an error
-abbrev pub size : ℤ → ℕ
-size (pos n) = n
-size (negsuc n) = 0
 
 abbrev pub is_zero : ℤ → Bool
 is_zero (pos n) = n == 0

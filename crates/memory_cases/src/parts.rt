@@ -10,7 +10,7 @@ use gates::Row;
 use history::Req;
 use model::Object;
 use outbox::{Outbox, deliver};
-use pipe::{Pipe, Ready};
+use pipe::Pipe;
 use ready::{ReadyPass, ReadyQueue, Ungathered};
 use std::alloc::Global;
 use std::sync::Wait;
@@ -45,7 +45,7 @@ const NEW: &[New] = &[
 /// How many of these bytes the pipe takes.
 fn taken(mut pipe: Pipe) -> u64 {
     match pipe.write_from(b"twenty bytes of text") {
-        Ready::Now(count) => count as u64,
+        Some(count) if count > 0 => u64::from(count.unsigned_abs()),
         _ => 0,
     }
 }

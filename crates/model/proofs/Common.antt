@@ -4,7 +4,7 @@ pub use Rattle.entry.specs.declared.op.Op.{Op}
 pub use Rattle.entry.specs.declared.op.Op.TheVariants.{AsyncCancel, Close, Invalid, LinkTimeout, PollAdd, Read, Splice, Timeout, TimeoutRemove, Write}
 pub use Rattle.history.proofs.Catches.{answers_one, missed_in, one_answer, one_answers, tally_in, uncaught}
 pub use Rattle.history.proofs.Requests.{and_left, and_right, bool_cases, not_true}
-pub use Rattle.history.specs.Answers.{AimsAt, AllTried, Answer, CancelAnswers, CancelBy, IsFirst, Matches, MayHit, NoneLeft, OpAnswers, answer_poll, answer_read, answer_splice, answer_write, asks_for, bad_end, close_of, is_all, is_pipe, later, now, poll_of, read_events, read_from, splice_into, splice_of, write_events, write_to}
+pub use Rattle.history.specs.Answers.{AimsAt, AllTried, Answer, CancelAnswers, CancelBy, IsFirst, Matches, MayHit, NoneLeft, OpAnswers, asks_for, bad_end, is_all, is_pipe, later, now, read_from, splice_into, splice_of, write_to}
 pub use Rattle.history.specs.Chains.{IsBefore, IsClear, IsTarget, Open, Severed, gate_of, hosts, is_link_timeout, is_link_timeout_in, is_timeout, is_timer, joins, placed, placed_behind, placed_from, previous, severs}
 pub use Rattle.history.specs.History.{Cause, Hit, IsIdle, IsPending, IsReplied, Phase, Submission, adds_to, after_reap, armed, by_settle, clock_of, data_of, fired, has_missed, hit, nothing, phase, replied, reply, reply_in, runs, same, submission, submits, took, waits, was_shut}
 pub use Rattle.history.specs.Legal.{Fits, IsDue, Legal, MayCome, Setup, count_of, shut_for, ticks_of}

@@ -1,20 +1,24 @@
 //! What each operation comes to: the table of answers.
-ghost use Rattle.std.specs.Prelude.{◌≡◌, ◌<◌, true, Some, slice_get};
+ghost use Rattle.std.specs.Prelude.{◌≡◌, ◌<◌, true, ℤ, Option, Some, slice_get, MatchOption};
 ghost use Rattle.entry.specs.Table.{fits_op};
-ghost use Rattle.history.specs.Answers.{read_from, write_to, close_of, poll_of};
+ghost use Rattle.history.specs.Answers.{read_from, write_to, close_of, poll_of, at_end, bad_end, bare};
+ghost use Rattle.level.specs.declared.level.Level.{Level};
+ghost use Rattle.level.specs.declared.ends.End.{End};
 ghost use Rattle.model.specs.Content.{caps_of, flow_in};
 ghost use Rattle.model.specs.Ends.{end_as};
 ghost use Rattle.model.specs.Ready.{answer_as};
 ghost use Rattle.model.specs.Answers.{op_answer, answer_in};
 
 use crate::ends::{NamedEnd, named_end};
-use crate::errno::{BAD_END, INVALID};
+use crate::errno::INVALID;
 use crate::pipe::Pipe;
 use crate::ready::Ready;
 use crate::request::{Request, Stage};
 use crate::ring::Ring;
 use crate::splice::splice_at;
 use entry::{Op, by_opcode};
+use level::errno::EBADF;
+use level::{End, Level};
 
 macro_rules! work_now {
     ((plain nothing) $args:tt) => { Ready::Now(0) };
@@ -61,10 +65,10 @@ fn read_at(pipes: &[Pipe], end: NamedEnd, len: u32) -> Ready
 {
     match end {
         NamedEnd::Read(p) => match pipes.get(p) {
-            Some(pipe) => pipe.read(p, len),
-            None => Ready::Now(BAD_END),
+            Some(pipe) => Ready::front(p, pipe.level().read(u64::from(len))),
+            None => Ready::Now(-EBADF),
         },
-        NamedEnd::Write(_) | NamedEnd::Nothing => Ready::Now(BAD_END),
+        NamedEnd::Write(_) | NamedEnd::Nothing => Ready::Now(-EBADF),
     }
 }
 
@@ -75,42 +79,39 @@ fn write_at(pipes: &[Pipe], end: NamedEnd, len: u32) -> Ready
 {
     match end {
         NamedEnd::Write(p) => match pipes.get(p) {
-            Some(pipe) => pipe.write(len),
-            None => Ready::Now(BAD_END),
+            Some(pipe) => Ready::bare(pipe.level().write(u64::from(len))),
+            None => Ready::Now(-EBADF),
         },
-        NamedEnd::Read(_) | NamedEnd::Nothing => Ready::Now(BAD_END),
+        NamedEnd::Read(_) | NamedEnd::Nothing => Ready::Now(-EBADF),
     }
 }
 
 fn close_at(pipes: &[Pipe], end: NamedEnd) -> Ready
     ensures { answer_as pipes.now result ≡ close_of (caps_of pipes.now) (flow_in pipes.now) (end_as end) }
 {
-    match end {
-        NamedEnd::Read(p) => match pipes.get(p) {
-            Some(pipe) => pipe.close_read(),
-            None => Ready::Now(BAD_END),
-        },
-        NamedEnd::Write(p) => match pipes.get(p) {
-            Some(pipe) => pipe.close_write(),
-            None => Ready::Now(BAD_END),
-        },
-        NamedEnd::Nothing => Ready::Now(BAD_END),
+    match level_at(pipes, end) {
+        Some((level, side)) => Ready::bare(level.close(side)),
+        None => Ready::Now(-EBADF),
     }
 }
 
-#[tactic(auto, using(crate::proofs::PipeEnds::pipe_there, crate::proofs::PipeEnds::poll_read_there, crate::proofs::PipeEnds::poll_write_there))]
 fn poll_at(pipes: &[Pipe], end: NamedEnd, mask: u32) -> Ready
     ensures { answer_as pipes.now result ≡ poll_of (caps_of pipes.now) (flow_in pipes.now) (end_as end) mask }
 {
+    match level_at(pipes, end) {
+        Some((level, side)) => Ready::bare(level.poll(side, mask)),
+        None => Ready::Now(-EBADF),
+    }
+}
+
+/// The level of the pipe of an end, and which end it is.
+#[tactic(auto, using(crate::proofs::PipeEnds::pipe_there, crate::proofs::PipeEnds::read_end_there, crate::proofs::PipeEnds::write_end_there))]
+fn level_at(pipes: &[Pipe], end: NamedEnd) -> Option<(Level, End)>
+    ensures { (reply : Level → End → Option ℤ) → MatchOption result (at_end (caps_of pipes.now) (flow_in pipes.now) reply (end_as end) ≡ bad_end) (λ x. at_end (caps_of pipes.now) (flow_in pipes.now) reply (end_as end) ≡ bare (reply x.0 x.1)) }
+{
     match end {
-        NamedEnd::Read(p) => match pipes.get(p) {
-            Some(pipe) => pipe.poll_read(mask),
-            None => Ready::Now(BAD_END),
-        },
-        NamedEnd::Write(p) => match pipes.get(p) {
-            Some(pipe) => pipe.poll_write(mask),
-            None => Ready::Now(BAD_END),
-        },
-        NamedEnd::Nothing => Ready::Now(BAD_END),
+        NamedEnd::Read(p) => Some((pipes.get(p)?.level(), End::Read)),
+        NamedEnd::Write(p) => Some((pipes.get(p)?.level(), End::Write)),
+        NamedEnd::Nothing => None,
     }
 }

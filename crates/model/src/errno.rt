@@ -3,14 +3,8 @@
 /// ENOENT: a cancel has no target left.
 pub const NOT_FOUND: i32 = -2;
 
-/// EBADF: no end of a pipe, or a closed one.
-pub const BAD_END: i32 = -9;
-
 /// EINVAL: the entry is none of the profile's.
 pub const INVALID: i32 = -22;
-
-/// EPIPE: nobody can read what is written.
-pub const BROKEN_PIPE: i32 = -32;
 
 /// ETIME: a timer ran out.
 pub const TIMED_OUT: i32 = -62;

@@ -1,7 +1,8 @@
 //! What an operation comes to, and the reply that follows.
-ghost use Rattle.std.specs.Prelude.{◌≡◌, ◌↔◌, take, IsTrue, IfOk, OnErr, MatchOption};
+ghost use Rattle.std.specs.Prelude.{◌≡◌, ◌↔◌, take, List, IsTrue, IfOk, OnErr, MatchOption};
 ghost use Rattle.history.specs.Pipes.{size};
-ghost use Rattle.history.specs.Answers.{now, later};
+ghost use Rattle.history.specs.Answers.{now, later, bare, with_front};
+ghost use Rattle.model.specs.Content.{Content, bytes_at};
 ghost use Rattle.model.specs.Ready.{answer_as, answer_of, IsNow};
 
 use crate::pipe::{Pipe, bytes_at};
@@ -11,15 +12,35 @@ use std::alloc::{AllocError, Global};
 /// What an operation comes to now.
 #[derive(Clone, Copy)]
 pub enum Ready {
-    /// A number with no data, or a failure, below 0.
+    /// A reply without data.
     Now(i32),
-    /// So many bytes at the front of this pipe, which are the data.
+    /// The same, with as many bytes at the front of this pipe as data as it says.
     Front(usize, i32),
     /// No reply yet.
     Wait,
 }
 
 impl Ready {
+    /// A reply without data.
+    pub fn bare(reply: Option<i32>) -> Ready
+        ensures { (ps : List Content) → answer_as ps result ≡ bare reply }
+    {
+        match reply {
+            Some(res) => Ready::Now(res),
+            None => Ready::Wait,
+        }
+    }
+
+    /// A reply whose data are the first bytes of this pipe.
+    pub fn front(pipe: usize, reply: Option<i32>) -> Ready
+        ensures { (ps : List Content) → answer_as ps result ≡ with_front (bytes_at ps pipe) reply }
+    {
+        match reply {
+            Some(res) => Ready::Front(pipe, res),
+            None => Ready::Wait,
+        }
+    }
+
     /// Its reply, with the data.
     fn reply(self, pipes: &[Pipe]) -> Option<(i32, &[u8])>
         ensures { MatchOption result (answer_as pipes.now self ≡ later) (λ r. answer_as pipes.now self ≡ now r.0 r.1.now) }

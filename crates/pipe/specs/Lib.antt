@@ -1,3 +1,3 @@
-pub mod PipeAnswers
 pub mod Inside
+pub mod Moves
 pub mod Pipe

@@ -1,5 +1,6 @@
 -- What contracts see of a pipe: its capacity in bytes, the bytes in it (the oldest first), and which of its ends are closed (pipe(7)).
 use Rattle.std.specs.Prelude.{ℕ, ◌≤◌, Bool, List, length}
+use Rattle.level.specs.declared.level.Level.{Level}
 
 pub record Conduit : Type 0 where
   pub cap : ℕ
@@ -12,3 +13,7 @@ pub record IsConduit (c : Conduit) : Type 0 where
   pub least : 1 ≤ c.cap
   pub most : c.cap ≤ 65536
   pub fits : length c.content ≤ c.cap
+
+-- what its replies are decided by
+abbrev pub level_of : Conduit → Level
+level_of c = record { capacity = c.cap; count = length c.content; read_shut = c.read_shut; write_shut = c.write_shut }

@@ -1,15 +1,13 @@
 //! The pipe.
-ghost use Rattle.std.specs.Prelude.{◌≡◌, ◌<◌, ◌≤◌, ◌+◌, ◌↔◌, ◌⊎◌, ◌++◌, length, take, drop, nat_lt, nat_le, if◌then◌else◌, IfOk, IsErrOf};
+ghost use Rattle.std.specs.Prelude.{◌≡◌, ◌<◌, ◌≤◌, ◌+◌, ◌↔◌, ◌⊎◌, ◌++◌, length, take, drop, IfOk, IsErrOf};
 ghost use Rattle.circular_buffer.specs.Buffer.{buffer};
-ghost use Rattle.pipe.specs.Pipe.{IsConduit};
-ghost use Rattle.pipe.specs.PipeAnswers.{new_conduit, answer_read, answer_write, answer_splice, answer_close, answer_poll, is_shut, events_at, free_in, moved, IfNow, OnIdle, after_read, after_write, after_close};
+ghost use Rattle.level.specs.Replies.{close_reply, is_shut, moved, poll_reply, read_reply, size, splice_reply, write_reply};
+ghost use Rattle.pipe.specs.Pipe.{IsConduit, level_of};
+ghost use Rattle.pipe.specs.Moves.{new_conduit, OnIdle, after_read, after_write, after_close};
 
-use crate::ends::End;
-use crate::errno::{EBADF, EPIPE};
 use crate::error::PipeError;
-use crate::poll::{ALWAYS, POLLERR, POLLHUP, POLLIN, POLLOUT};
-use crate::ready::Ready;
 use circular_buffer::HeapCircularBuffer;
+use level::{End, Level};
 use limits::CAPACITY;
 use std::alloc::Global;
 use std::marker::Model;
@@ -52,151 +50,102 @@ impl Pipe {
         })
     }
 
-    /// Takes the oldest bytes out, as many as `buffer` holds, and puts them at its front (read(2)).
-    /// `Now(0)` for a buffer that isn't empty is the end of the file.
-    pub fn read_into(&mut self, buffer: &mut [u8]) -> Ready<usize>
-        ensures answer { result ≡ answer_read self.old (length buffer.old) }
+    /// Takes the oldest bytes out, as many as `buffer` holds, and puts them at its front (read(2)). As for each call: the reply is
+    /// a number of bytes, or that of an error below 0; None, where there is none now, and nothing has changed.
+    pub fn read_into(&mut self, buffer: &mut [u8]) -> Option<i32>
+        ensures reply { result ≡ read_reply (level_of self.old) (length buffer.old) }
         ensures data { buffer.new ≡ take (moved result) self.old.content ++ drop (moved result) buffer.old }
         ensures left { self.new ≡ after_read (moved result) self.old }
         ensures unchanged { OnIdle result ((self.new ≡ self.old) × (buffer.new ≡ buffer.old)) }
-        ensures count { IfNow result (λ n. n ≤ 65536) }
+        ensures count { moved result ≤ 65536 }
         ensures limits { IsConduit self.new }
     {
-        if self.read_shut {
-            Ready::Fail(EBADF)
-        } else if buffer.is_empty() {
-            Ready::Now(0)
-        } else if !self.bytes.is_empty() {
-            Ready::Now(self.bytes.read_into(buffer))
-        } else if self.write_shut {
-            Ready::Now(0)
-        } else {
-            Ready::Wait
-        }
+        let reply = self.level().read(buffer.len() as u64);
+        self.bytes.read_into(&mut buffer[..moved(reply)]);
+        reply
     }
 
     /// Puts bytes in after those that are there (write(2)). At most the capacity goes in whole or not at all, more
     /// than that as far as there is room.
-    pub fn write_from(&mut self, bytes: &[u8]) -> Ready<usize>
-        ensures answer { result ≡ answer_write self.old (length bytes.now) }
+    pub fn write_from(&mut self, bytes: &[u8]) -> Option<i32>
+        ensures reply { result ≡ write_reply (level_of self.old) (length bytes.now) }
         ensures gone_in { self.new ≡ after_write (moved result) bytes.now self.old }
         ensures unchanged { OnIdle result (self.new ≡ self.old) }
-        ensures count { IfNow result (λ n. n ≤ 65536) }
+        ensures count { moved result ≤ 65536 }
         ensures limits { IsConduit self.new }
     {
-        if self.write_shut {
-            Ready::Fail(EBADF)
-        } else if bytes.is_empty() {
-            Ready::Now(0)
-        } else if self.read_shut {
-            Ready::Fail(EPIPE)
-        } else if self.takes(bytes.len()) {
-            Ready::Now(self.bytes.fill_from_slice(bytes))
-        } else {
-            Ready::Wait
-        }
+        let reply = self.level().write(bytes.len() as u64);
+        self.bytes.fill_from_slice(&bytes[..moved(reply)]);
+        reply
     }
 
-    /// Moves the oldest bytes into another pipe, behind those that are there: as many as are here and as it has room for, at
-    /// most `len` (splice(2)). `Now(0)` for a `len` above 0 is the end of the file. Whether this pipe is open to readers and
-    /// the other to writers isn't looked at.
-    pub fn splice_to(&mut self, target: &mut Pipe, len: u32) -> Ready<usize>
-        ensures answer { result ≡ answer_splice self.old target.old len }
+    /// Moves the oldest bytes into another pipe, after those that are there: as many as are here and as it has room for, at
+    /// most `len` (splice(2)). Whether this pipe is open to readers and the other to writers isn't looked at.
+    pub fn splice_to(&mut self, target: &mut Pipe, len: u32) -> Option<i32>
+        ensures reply { result ≡ splice_reply (level_of self.old) (level_of target.old) len }
         ensures left { self.new ≡ after_read (moved result) self.old }
         ensures gone_in { target.new ≡ after_write (moved result) self.old.content target.old }
         ensures unchanged { OnIdle result ((self.new ≡ self.old) × (target.new ≡ target.old)) }
-        ensures count { IfNow result (λ n. n ≤ 65536) }
+        ensures count { moved result ≤ 65536 }
         ensures limits { IsConduit self.new × IsConduit target.new }
     {
-        let most = self.bytes.len().min(target.free());
-        if len == 0 {
-            Ready::Now(0)
-        } else if target.read_shut {
-            Ready::Fail(EPIPE)
-        } else if most > 0 {
-            let count = most.min(len as usize);
-            move_bytes(&mut self.bytes, &mut target.bytes, count);
-            Ready::Now(count)
-        } else if self.bytes.is_empty() && self.write_shut {
-            Ready::Now(0)
-        } else {
-            Ready::Wait
-        }
+        let reply = self.level().splice(target.level(), u64::from(len));
+        move_bytes(&mut self.bytes, &mut target.bytes, moved(reply));
+        reply
     }
 
-    /// Closes an end (close(2)). An end is closed once.
-    pub fn close_end(&mut self, end: End) -> Ready<()>
-        ensures answer { result ≡ answer_close self.old end }
+    /// Closes an end (close(2)). An end is closed once, which is answered with 0.
+    pub fn close_end(&mut self, end: End) -> Option<i32>
+        ensures reply { result ≡ close_reply (level_of self.old) end }
         ensures closed { self.new ≡ after_close end self.old }
         ensures unchanged { OnIdle result (self.new ≡ self.old) }
         ensures limits { IsConduit self.new }
     {
-        if self.is_shut(end) {
-            return Ready::Fail(EBADF);
-        }
+        let reply = self.level().close(end);
         match end {
             End::Read => self.read_shut = true,
             End::Write => self.write_shut = true,
         }
-        Ready::Now(())
+        reply
     }
 
     /// The events of an end that are in `mask`, and `POLLERR` and `POLLHUP` in any case (poll(2)).
-    pub fn poll_mask(&self, end: End, mask: u32) -> Ready<u32>
-        ensures answer { result ≡ answer_poll self.now end mask }
-        ensures bits { IfNow result (λ events. (0 < events) × (events < 32)) }
+    pub fn poll_mask(&self, end: End, mask: u32) -> Option<i32>
+        ensures reply { result ≡ poll_reply (level_of self.now) end mask }
         ensures limits { IsConduit self.now }
     {
-        let events = self.events(end) & (mask | ALWAYS);
-        if self.is_shut(end) {
-            Ready::Fail(EBADF)
-        } else if events == 0 {
-            Ready::Wait
-        } else {
-            Ready::Now(events)
-        }
+        self.level().poll(end, mask)
     }
 
     /// Whether an end is closed.
     pub fn is_shut(&self, end: End) -> bool
-        ensures answer { result ≡ is_shut end self.now }
+        ensures closed { result ≡ is_shut end (level_of self.now) }
         ensures limits { IsConduit self.now }
     {
-        match end {
-            End::Read => self.read_shut,
-            End::Write => self.write_shut,
-        }
+        self.level().is_shut(end)
     }
 
-    /// How many more bytes go in.
-    fn free(&self) -> usize
-        ensures { result ≡ free_in self.now }
+    /// What its replies are decided by.
+    pub fn level(&self) -> Level
+        ensures is { result ≡ level_of self.now }
+        ensures limits { IsConduit self.now }
     {
-        self.bytes.capacity() - self.bytes.len()
-    }
-
-    /// Whether a write of so many bytes goes in now: whole where the pipe is large enough, else in part.
-    fn takes(&self, len: usize) -> bool
-        ensures { result ≡ (if nat_le len self.now.cap then nat_le len (free_in self.now) else nat_lt 0 (free_in self.now)) }
-    {
-        let free = self.free();
-        if len <= self.bytes.capacity() {
-            len <= free
-        } else {
-            free > 0
+        Level {
+            capacity: self.bytes.capacity() as u64,
+            count: self.bytes.len() as u64,
+            read_shut: self.read_shut,
+            write_shut: self.write_shut,
         }
     }
+}
 
-    /// The events of an end.
-    fn events(&self, end: End) -> u32
-        ensures { result ≡ events_at end self.now }
-    {
-        match end {
-            End::Read => bits_if(!self.bytes.is_empty(), POLLIN)
-                | bits_if(self.write_shut, POLLHUP),
-            End::Write => bits_if(!self.bytes.is_full(), POLLOUT)
-                | bits_if(self.read_shut, POLLERR),
-        }
+/// How many bytes go over by a reply.
+fn moved(reply: Option<i32>) -> usize
+    ensures { result ≡ moved reply }
+{
+    match reply {
+        Some(res) if res > 0 => res.unsigned_abs() as usize,
+        _ => 0,
     }
 }
 
@@ -212,10 +161,4 @@ fn move_bytes(from: &mut HeapCircularBuffer<u8>, to: &mut HeapCircularBuffer<u8>
     to.fill_from_slice(&front[..in_front]);
     to.fill_from_slice(&back[..count - in_front]);
     from.truncate_front(from.len() - count);
-}
-
-fn bits_if(holds: bool, bits: u32) -> u32
-    ensures { result ≡ (if holds then bits else 0) }
-{
-    if holds { bits } else { 0 }
 }

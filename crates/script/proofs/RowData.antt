@@ -6,52 +6,21 @@ use Rattle.entry.specs.declared.op.Op.TheVariants.{Timeout, TimeoutRemove, Async
 use Rattle.entry.specs.Entry.{Entry}
 use Rattle.history.specs.declared.event.Event.TheVariants as event
 use Rattle.history.specs.Chains.{is_link_timeout, hosts, placed_behind, placed_from, before_in}
-use Rattle.history.specs.Pipes.{Flow, flow, content, End, read_end, end_of}
-use Rattle.history.specs.Answers.{Answer, now, later, bad_end, answer_read, is_pipe, read_from, OpAnswers, Answers}
+use Rattle.history.specs.Pipes.{flow, size, end_of}
+use Rattle.history.specs.Answers.{OpAnswers, Answers}
 use Rattle.history.proofs.Growth.{MayChange, may_change, changed, unchanged}
-use Rattle.history.proofs.PipeAnswers.{answer_bare, either}
+use Rattle.history.proofs.PipeAnswers.{answer_bare, read_long}
 use Rattle.script.specs.Rows.{data_count}
 use Rattle.script.proofs.Common.{Bool, Event, Legal, List, None, Option, Phase, Req, Setup, Some, Submission, [], ap, armed, becomes, bool_cases, concerns, cond, data_of, false, fired, length, min, nat_lt, negsuc, not, phase, pos, refl, replied, reply, reply_in, runs, same_true, submission, subst, sym, take, true, true≢false, waits, ℕ, ℤ, ⊎_elim, ◌&&◌, ◌==◌, ◌∙◌, ◌∷◌, ◌≡◌}
 
 -- ---- what answers come with
 
-parts : (a b : ℤ) (x y : List ℕ) → now a x ≡ now b y → (a ≡ b) × (x ≡ y)
-parts a b x y e = (cc, cc)
-
-never : (a : ℤ) (x : List ℕ) → later ≡ now a x → ⊥
-never a x e = cc
-
-abbrev count : ℤ → ℕ
-count (pos n) = n
-count (negsuc n) = 0
-
--- the data are as many as the reply says
-abbrev AsMany : Answer → Type 0
-AsMany a = (res : ℤ) (data' : List ℕ) → a ≡ now res data' → length data' ≡ count res
-
-many : (r : ℤ) (d : List ℕ) → length d ≡ count r → AsMany (now r d)
-many r d e res data' w = let z = parts r res d data' w in ap length (sym z.1) ∙ (e ∙ ap count z.0)
-
-not_yet : AsMany later
-not_yet res data' w = absurd (never res data' w)
-
-reads : (w : Flow) (len : ℕ) → AsMany (answer_read w len)
-reads w len =
-    either AsMany w.read_shut bad_end _ (many (negsuc 8) [] refl)
-    (either AsMany (len == 0) (now (pos 0) []) _ (many (pos 0) [] refl)
-    (either AsMany (nat_lt 0 (length (content w))) (now (pos (min len (length (content w)))) (take len (content w))) _ (many (pos (min len (length (content w)))) (take len (content w)) (length-take len (content w)))
-    (either AsMany w.write_shut (now (pos 0) []) later (many (pos 0) [] refl) not_yet)))
-
-reads_from : (caps : List ℕ) (flow_at : ℕ → Flow) (e : End) (len : ℕ) → AsMany (read_from caps flow_at e len)
-reads_from caps flow_at (read_end p) len = either AsMany (is_pipe caps p) (answer_read (flow_at p) len) bad_end (reads (flow_at p) len) (many (negsuc 8) [] refl)
-reads_from caps flow_at _ len = many (negsuc 8) [] refl
-
-read_count : (fd : ℤ) (offset : Offset) (len : ℕ) (res : ℤ) → count res ≡ data_count (Read fd offset len) res
+read_count : (fd : ℤ) (offset : Offset) (len : ℕ) (res : ℤ) → size res ≡ data_count (Read fd offset len) res
 read_count fd offset len (pos n) = refl
 read_count fd offset len (negsuc n) = refl
 
 answer_long : (caps : List ℕ) (h : List Event) (r : Req) (op : Op) (res : ℤ) (data' : List ℕ) → OpAnswers caps h r op res data' → length data' ≡ data_count op res
-answer_long caps h r (Read fd offset len) res data' a = reads_from caps (flow h) (end_of fd) len res data' a ∙ read_count fd offset len res
+answer_long caps h r (Read fd offset len) res data' a = read_long caps (flow h) (end_of fd) len res data' a ∙ read_count fd offset len res
 answer_long caps h r (AsyncCancel user_data all) res data' a = ap length a.1
 answer_long caps h r (TimeoutRemove user_data) res data' a = ap length a.1
 answer_long caps h r (Timeout ticks etime_success count) res data' a = absurd a

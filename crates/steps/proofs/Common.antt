@@ -10,7 +10,7 @@ pub use Rattle.entry.specs.declared.op.Op.TheVariants.{AsyncCancel, Close, Inval
 pub use Rattle.history.proofs.Growth.{MayChange, born_once, changed, counted, may_change, replied_stays, reply_of_replied, submission_none, submission_some, submission_stays, unborn_yet, unchanged}
 pub use Rattle.history.proofs.Opening.{done_stays, open_stays, placed_stays, severed_stays}
 pub use Rattle.history.proofs.Requests.{and_left, bool_cases, same_false, same_itself, same_true}
-pub use Rattle.history.specs.Answers.{AimsAt, Answer, CancelAnswers, CancelBy, IsFirst, Matches, MayHit, NoneLeft, OpAnswers, answer_poll, answer_read, answer_splice, answer_write, asks_for, bad_end, close_of, is_all, is_pipe, now, poll_of, read_events, read_from, splice_of, write_events, write_to}
+pub use Rattle.history.specs.Answers.{AimsAt, Answer, CancelAnswers, CancelBy, IsFirst, Matches, MayHit, NoneLeft, OpAnswers, asks_for, bad_end, is_all, is_pipe, now}
 pub use Rattle.history.specs.Chains.{IsBefore, IsChainDone, IsLinkTimeout, IsPlaced, IsTarget, Open, Severed, before_in, hosts, is_link_timeout, is_timeout, is_timer, placed, placed_behind, placed_from, previous}
 pub use Rattle.history.specs.History.{Cause, Hit, IsIdle, IsReplied, Phase, Submission, adds_to, after_reap, answers, armed, becomes, by_count, by_cut, by_expire, by_fire, by_reply, by_settle, by_sever, by_take, clock_of, concerns, data_in, data_of, fired, has_missed, hit, later_replies, missed, nothing, phase, reaped, replied, reply_in, runs, same, shuts, submission, submits, ticks, took, unborn, waits, was_shut}
 pub use Rattle.history.specs.Legal.{Fits, IsOf, Legal, MayCome, Setup, count_of, shut_for, ticks_of}
