@@ -155,12 +155,12 @@ fn note_own<'a>(
     labels: &Labels<'a>,
     unsubmitted: bool,
     keyword: Keyword,
-    words: &[&'a [u8]],
-    given: Option<Sqe>,
+    line: &Line<'a>,
 )
     ensures stays { KeepsFault faults.old.least faults.new.least }
-    ensures is_first { faults.new.least ≡ with_faults faults.old.least (own_faults (standing parts.now) (all_stated labels.now.lines.items) unsubmitted keyword (texts words.now) given) }
+    ensures is_first { faults.new.least ≡ with_faults faults.old.least (own_faults (standing parts.now) (all_stated labels.now.lines.items) unsubmitted keyword (texts line.now.words.items) line.now.given) }
 {
+    let words = &line.words;
     let word = word_at(words, 1);
     match keyword {
         Keyword::Pipe => {
@@ -183,7 +183,7 @@ fn note_own<'a>(
         Keyword::Tick => faults.number(word, parts.time, TICK),
         Keyword::Entry(kind) => {
             note_declared(faults, parts, word, unsubmitted);
-            note_kind(faults, labels, kind, words, given);
+            note_kind(faults, labels, kind, words, line.given);
         }
     }
 }
@@ -196,18 +196,18 @@ fn note_keyword<'a>(
     labels: &Labels<'a>,
     unsubmitted: bool,
     keyword: Keyword,
-    words: &[&'a [u8]],
-    given: Option<Sqe>,
+    line: &Line<'a>,
 )
     ensures stays { KeepsFault faults.old.least faults.new.least }
-    ensures is_first { faults.new.least ≡ with_faults faults.old.least (keyword_faults (standing parts.now) (all_stated labels.now.lines.items) unsubmitted keyword (texts words.now) given) }
+    ensures is_first { faults.new.least ≡ with_faults faults.old.least (keyword_faults (standing parts.now) (all_stated labels.now.lines.items) unsubmitted keyword (texts line.now.words.items) line.now.given) }
 {
+    let words = &line.words;
     let is_short = is_short(keyword, words);
     faults.note_if(!in_place(parts, labels, keyword, words), Fault::OutOfPlace);
     faults.note_if(is_short, Fault::MissingArgument);
     faults.note_if(is_over(keyword, words), Fault::ExtraArgument);
     if !is_short {
-        note_own(faults, parts, labels, unsubmitted, keyword, words, given);
+        note_own(faults, parts, labels, unsubmitted, keyword, line);
     }
 }
 
@@ -217,18 +217,17 @@ fn note_words<'a>(
     parts: &Parts,
     labels: &Labels<'a>,
     unsubmitted: bool,
-    words: &[&'a [u8]],
-    given: Option<Sqe>,
+    line: &Line<'a>,
 )
     ensures stays { KeepsFault faults.old.least faults.new.least }
-    ensures is_first { faults.new.least ≡ with_faults faults.old.least (word_faults (standing parts.now) (all_stated labels.now.lines.items) unsubmitted (texts words.now) given) }
+    ensures is_first { faults.new.least ≡ with_faults faults.old.least (word_faults (standing parts.now) (all_stated labels.now.lines.items) unsubmitted (texts line.now.words.items) line.now.given) }
 {
-    if words.is_empty() {
+    if line.words.is_empty() {
         return;
     }
-    match Keyword::of(word_at(words, 0)) {
+    match Keyword::of(word_at(&line.words, 0)) {
         None => faults.note(Fault::UnknownWord),
-        Some(keyword) => note_keyword(faults, parts, labels, unsubmitted, keyword, words, given),
+        Some(keyword) => note_keyword(faults, parts, labels, unsubmitted, keyword, line),
     }
 }
 
@@ -247,14 +246,7 @@ fn note_line<'a>(
     faults.note_if(!is_plain(line.text), Fault::NotAscii);
     faults.note_if(number == 1 && !outline.has_ring, Fault::OutOfPlace);
     let unsubmitted = outline.is_unsubmitted(parts.actor, number);
-    note_words(
-        faults,
-        parts,
-        &outline.labels,
-        unsubmitted,
-        &line.words,
-        line.given,
-    );
+    note_words(faults, parts, &outline.labels, unsubmitted, line);
 }
 
 /// The first of the faults of the line of a number in the list of faults, where it has any.
