@@ -2,7 +2,7 @@
 use Rattle.board.specs.declared.poller.Arming.{Arming}
 use Rattle.board.specs.declared.poller.Arming.TheVariants.{Armed, NotHeld}
 use Rattle.board.specs.TimerCalls.{Keeps}
-use Rattle.board.proofs.Common.{Alarm, Arm, Arms, Facts, Goes, IsAt, IsCell, IsKept, IsOf, IsReaped, KnowsAlarm, KnowsTimers, List, NotTimer, Option, Pass, Phase, Req, Seat, Shut, Some, Thing, View, [], ap, arith, armed, dite, earlier_gone, false, fired, get_or, get_set_other, get_set_same, length, length-set, other_cell, phase, pollers, refl, request_at, same, same_itself, seen_of, set, setup_of, slice_get, stands_for, subst, suc, sym, true, zero, ℕ, ℕ_discrete, ◌<◌, ◌∙◌, ◌∷◌, ◌≡◌}
+use Rattle.board.proofs.Common.{Alarm, Arm, Arms, Facts, Goes, IsAt, IsCell, IsKept, IsOf, IsReaped, KnowsAlarm, KnowsTimers, Layout, List, NotTimer, Option, Pass, Phase, Req, Seat, Shut, Some, Thing, View, [], ap, arith, armed, dite, earlier_gone, events_of, false, fired, get_or, get_set_other, get_set_same, length, length-set, other_cell, pass_of, phase, pollers, refl, request_at, same, same_itself, seen_of, set, setup_of, slice_get, stands_for, subst, suc, sym, total, true, zero, ℕ, ℕ_discrete, ◌<◌, ◌∙◌, ◌∷◌, ◌≡◌}
 use Rattle.board.proofs.TimersHeld.{alarm_goes, clock_goes, timers_goes}
 
 abbrev TableSeat : Type 0
@@ -29,6 +29,19 @@ reaped_armed p d is r = subst IsReaped is r
 
 one_armed : (b : Facts) (q : Pass) (x g h d e : ℕ) → IsOf b q → IsCell b.layout.cells x → phase (seen_of q) (request_at b.layout.cells x g) ≡ armed d → phase (seen_of q) (request_at b.layout.cells x h) ≡ armed e → ¬ (g < h)
 one_armed b q x g h d e o inside is is' lt = reaped_armed (phase (seen_of q) (request_at b.layout.cells x g)) d is (earlier_gone b.layout (setup_of b.layout) x inside q.view.seen o.legal o.orderly h g lt (λ u. (let z = sym is' ∙ u in cc))).0
+
+-- ---- what is kept of the request's cell
+
+module _ (b : Facts) (s : TableSeat) (p : Pass) (view : pass_of s ≡ p) (o : IsOf b p) (clock : ℕ) (alarms : List Alarm) (m : KnowsTimers s.me.0.layout.cells (events_of s.me.0.seen) clock alarms) (x g : ℕ) (r : Req) (a : IsAt b.layout.cells x g r) where
+  one_layout : s.me.0.layout ≡ b.layout
+  one_layout = ap (λ (z : Pass). z.view.layout) view ∙ o.layout_is
+
+  pub kept_there : x < length alarms
+  kept_there = let cells : total s.me.0.layout.cells ≡ total b.layout.cells = ap (λ (L : Layout). total L.cells) one_layout in let many = m.many in let inside = a.inside.0 in omega arith
+
+  pub kept_known : (k : Alarm) → k ≡ get_or alarms x k → KnowsAlarm (events_of s.me.0.seen) r (Some k)
+  kept_known k e = let at : request_at s.me.0.layout.cells x g ≡ r = ap (λ (L : Layout). request_at L.cells x g) one_layout ∙ a.at in
+      subst (λ (q : Req). KnowsAlarm (events_of s.me.0.seen) q (Some k)) at (subst (KnowsAlarm (events_of s.me.0.seen) (request_at s.me.0.layout.cells x g)) (found_at alarms x k kept_there e) (m.each x g (subst (λ (L : Layout). x < total L.cells) (sym one_layout) a.inside.0)))
 
 -- ---- the timers
 

@@ -5,13 +5,13 @@ pub use Rattle.board.specs.Batches.{AreFit, Entries, IsReady, is_empty, steps_fo
 pub use Rattle.board.specs.Calls.{EndsWith, FoundHeld, Goes, HasLooked, IsHeld, IsPresent, IsUnheld, IsWord, KeepsFreed, LastAt, MayStart, Stands, Stepped, next_of}
 pub use Rattle.board.specs.Lanes.{AreFree, HasLookedAt, IsLane, IsOver, IsSpot, KnowsChains, LinkedAreReaped, RefusesRoom, SameLane, WereReaped, continues, nth}
 pub use Rattle.board.specs.New.{AreSubmitters, AreWorkers, IsCutting, IsFresh}
-pub use Rattle.board.specs.PollerRows.{Advances, Decided, Decides, Found, FoundPending, Gated, HasOutcome, IsAt, IsBlocked, IsNextLook, IsNumbered, IsOurs, IsShutOut, IsUnended, KnowsRow, KnowsRows, MayArm, Notes, Paid, Spends, StepsTo, TellsOutcome, WasHeld, Watched, Watches, costs_of, is_plain, looks_of, owed, owed_back, severed_by, spared_by, steps_elsewhere}
+pub use Rattle.board.specs.PollerRows.{Advances, Decided, Decides, Found, FoundPending, Gated, HasOutcome, IsAt, IsBlocked, IsNextLook, IsNumbered, IsOurs, IsShutOut, IsSubmitted, IsUnended, KnowsRow, KnowsRows, MayArm, Notes, Paid, Spends, StepsTo, TellsOutcome, WasHeld, Watched, Watches, costs_of, is_plain, looks_of, owed, owed_back, severed_by, spared_by, steps_elsewhere}
 pub use Rattle.board.specs.PollerTimers.{IsAlarm, IsKept, IsTimerAs, KnowsAlarm, KnowsTimers, looks_at, looks_for_count}
 pub use Rattle.board.specs.Remains.{AreEarlier, AreLines, AreTaken, Closing, IsCutOrNot, IsEmptied, IsLeft, IsLine, IsLineOf, IsReplyOf, Reports, Rests, data_left, full_slots, hearing_all, told_by}
 pub use Rattle.board.specs.Reports.{AllTell, AreLater, AreOf, BeginsWith, IsListed, IsReport, IsSeen, Ordered, SawOwnLines, Tells, ended}
 pub use Rattle.board.specs.Seats.{IsNextCell, IsPollerSeat, IsSubmitterSeat, KnowsCell, KnowsCells}
 pub use Rattle.board.specs.ShapeLimits.{are_capacities, are_rings, counts, is_ring, is_shape, widest}
-pub use Rattle.board.specs.TimerCalls.{ArmTells, Arms, Counts, DidStrike, EndsFired, Expires, ExpiryTells, Fires, HasFewer, IsArmed, IsBarred, IsDueLinked, IsEarly, IsNoTimer, IsShutTimer, IsTargetOpen, IsUncounted, Settles, SettlingTells, TellsReply, armed_by, counted_by, expired_by, fired_by, settled_by, struck_by}
+pub use Rattle.board.specs.TimerCalls.{ArmTells, Arms, CountingTells, Counts, DidStrike, EndsFired, Expires, ExpiryTells, FailsAs, Fires, FiresDue, HasFewer, IsArmed, IsArmedAt, IsBarred, IsCounting, IsDueLinked, IsEarly, IsHeldTimer, IsNoTimer, IsShutTimer, IsTargetOpen, IsUnarmed, IsUncounted, IsUnfired, Settles, SettlingTells, TellsDeadline, TellsReply, armed_by, counted_by, expired_by, fired_by, settled_by, struck_by}
 pub use Rattle.board.specs.declared.alarm.Alarm.{Alarm}
 pub use Rattle.board.specs.declared.alarm.Alarm.TheVariants.{Alone, Linked}
 pub use Rattle.board.specs.declared.completion.Completion.{Completion}

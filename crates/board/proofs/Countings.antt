@@ -3,9 +3,9 @@ use Rattle.history.proofs.LaterReplies.{replied_true, true_replied, replies_grow
 use Rattle.board.specs.declared.phase.Phase.{Phase as Standing}
 use Rattle.board.specs.declared.poller.Counting.{Counting}
 use Rattle.board.specs.declared.poller.Counting.TheVariants.{Counted, Fewer, NotCounted}
-use Rattle.board.proofs.Common.{Alone, Armed, Bool, Count, Counts, Did, Done, Entry, Event, Extends, Facts, Gone, HasFewer, Held, IsAt, IsKept, IsOf, IsOurs, IsPlaced, IsReplied, IsStep, IsUncounted, KnowsAlarm, Layout, Line, Linked, List, None, Op, Option, Paid, Phase, Ready, Req, Role, Running, Seat, Shown, Some, Spends, Stands, StepsTo, Tag, TellsReply, Thing, Timeout, Unborn, View, Watched, [], ap, arith, armed, bool_byte, born_once, by_count, cells_in, claim_at, cond, count_of, counted_by, counted_in, earlier_gone, events_of, false, is_link_timeout, is_replied, later_replies, pass_of, phase, place_of, placed_lasts, pollers, pos, refl, replied, replies_from, request_at, ring_of, runs, same_itself, setup_of, stands_for, submits, subst, suc, suc-mul, sym, true, true≢false, unborn, waits, word_of, ℕ, ℤ, ◌*◌, ◌+◌, ◌-◌, ◌<◌, ◌∙◌, ◌∷◌, ◌≡◌, ◌≢◌, ◌≤◌, ◌⊎◌}
+use Rattle.board.proofs.Common.{Alarm, Alone, Armed, Bool, Count, CountingTells, Counts, Did, Done, Entry, Event, Extends, Facts, Gone, HasFewer, Held, IsArmedAt, IsAt, IsCounting, IsKept, IsOf, IsOurs, IsPlaced, IsReplied, IsStep, IsUncounted, KnowsAlarm, Layout, Line, Linked, List, None, Op, Option, Paid, Phase, Ready, Req, Role, Running, Seat, Shown, Some, Spends, Stands, StepsTo, Tag, TellsReply, Thing, Timeout, Unborn, View, Watched, [], ap, arith, armed, bool_byte, born_once, by_count, cells_in, claim_at, cond, count_of, counted_by, counted_in, earlier_gone, events_of, false, is_link_timeout, is_replied, later_replies, pass_of, phase, place_of, placed_lasts, pollers, pos, refl, replied, replies_from, request_at, ring_of, runs, same_itself, setup_of, stands_for, submits, subst, suc, suc-mul, sym, true, true≢false, unborn, waits, word_of, ℕ, ℤ, ◌*◌, ◌+◌, ◌-◌, ◌<◌, ◌∙◌, ◌∷◌, ◌≡◌, ◌≢◌, ◌≤◌, ◌⊎◌}
 use Rattle.board.proofs.AlarmsSet.{reaped_armed}
-use Rattle.board.proofs.Expiries.{armed_word, stepped_by, unarmed}
+use Rattle.board.proofs.Expiries.{armed_word, stepped_by}
 use Rattle.board.proofs.GoesLaws.{goes_then}
 use Rattle.board.proofs.Settlings.{replied_by}
 use Rattle.board.proofs.TimersHeld.{armed_before, freed_one, goes_one, none}
@@ -169,17 +169,6 @@ module _ (b : Facts) (s t : TableSeat) (r : Req) (x g : ℕ) (o : IsOurs b s) (a
     others = w.freed_is;
   }
 
-  -- ---- a look
-
-  module _ (w : Watched b s t) (n : ℕ) (step : IsStep (claim_at x) n s.me.0 t.me.0) (shown : Shown s.me.0.layout.cells t.me.0.seen x n) where
-    -- it isn't armed
-    pub counts_unarmed : (y : Standing) → ((d : ℕ) → y ≡ Armed d → ⊥) → Stands t.me.0.seen (request_at s.me.0.layout.cells x g) y → Counts b r (pass_of s) (pass_of t) Counting.NotArmed
-    counts_unarmed y ne k = record { goes = w.goes; tells = (unarmed b s t r x g o a w n step shown r y ne (subst (λ (q : Req). Stands t.me.0.seen q y) at_is k), stepped_by b s t r x g o a n step shown); others = w.freed_is }
-
-    -- it counts nothing
-    pub counts_none : IsUncounted (events_of t.me.0.seen) r → Counts b r (pass_of s) (pass_of t) NotCounted
-    counts_none k = record { goes = w.goes; tells = (k, stepped_by b s t r x g o a n step shown); others = w.freed_is }
-
 -- ---- what is kept of a timer tells its count
 
 no_count : (o : Op) → is_link_timeout o ≡ true → count_of o ≡ 0
@@ -193,39 +182,42 @@ pub uncounted_alone : (h : List Event) (r : Req) (d n : ℕ) (f : Bool) → phas
 uncounted_alone h r d n f is k none' = ((d, is), (k.0, k.1, sym k.2.2 ∙ none'))
 
 -- while the poller looks at the others
-module _ (b : Facts) (s t : TableSeat) (r : Req) (d n : ℕ) (f : Bool) (o : IsOurs b s) (w : Watched b s t) (some' : ¬ (n ≡ 0)) where
-  before : (e : ℕ) → phase (events_of t.me.0.seen) r ≡ armed e → phase (events_of s.me.0.seen) r ≡ armed e
-  before e is = armed_before b (pass_of s) (pass_of t) [] w.goes (ap (λ (z : Role). stands_for z pollers) o.seat.role) none tt r e refl is
-
+module _ (b : Facts) (s t : TableSeat) (r : Req) (x g d n : ℕ) (a : IsArmedAt b s x g r d) (k : IsCounting (events_of s.me.0.seen) r n) (w : Watched b s t) where
   -- fewer had replied already before the first look
-  pub fewer_before : KnowsAlarm (events_of s.me.0.seen) r (Some (Alone f n)) → phase (events_of t.me.0.seen) r ≡ armed d → later_replies (events_of t.me.0.seen) r < n → HasFewer (events_of s.me.0.seen) r
-  fewer_before knows is lt = let was = before d is in let k = (knows d was).0 in let le = later_grows b s t r w in let e = k.2.2 in record {
-    is_armed = (d, was);
-    entry = k.0;
-    as_placed = k.1;
-    counts = omega arith;
-    fewer = omega (arith, le, lt, e);
-  }
+  pub counts_fewer : later_replies (events_of s.me.0.seen) r < n → Counts b r (pass_of s) (pass_of t) Fewer
+  counts_fewer lt = let is = k.2 in let some' = k.3 in record { goes = w.goes; tells = record { is_armed = (d, a.armed_is); entry = k.0; as_placed = k.1; counts = omega (arith, is, some'); fewer = omega (arith, is, lt) }; others = w.freed_is }
 
   -- it is armed with no other deadline later
-  pub one_deadline : phase (events_of s.me.0.seen) r ≡ armed d → (e : ℕ) → phase (events_of t.me.0.seen) r ≡ armed e → e ≡ d
-  one_deadline was e is = let z : armed e ≡ armed d = sym (before e is) ∙ was in cc
+  pub one_deadline : (e : ℕ) → phase (events_of t.me.0.seen) r ≡ armed e → e ≡ d
+  one_deadline e is = let before = armed_before b (pass_of s) (pass_of t) [] w.goes (ap (λ (z : Role). stands_for z pollers) a.ours.seat.role) none tt r e refl is in let z : armed e ≡ armed d = sym before ∙ a.armed_is in cc
 
   -- and there are enough later
-  pub enough_on : r.k < submits (events_of s.me.0.seen) r.ring → IsKept (events_of s.me.0.seen) r (Some (Alone f n)) → n ≤ later_replies (events_of t.me.0.seen) r
-      → (e : Entry) × IsPlaced (events_of t.me.0.seen) r e × (0 < count_of e.op) × (count_of e.op ≤ later_replies (events_of t.me.0.seen) r)
-  enough_on born k le = let e = k.2.2 in (k.0, lasts_on b s t w (λ h. IsPlaced h r k.0) r (placed_lasts (setup_of b.layout) r k.0) born k.1, omega arith, omega (arith, le, e))
+  pub enough_on : n ≤ later_replies (events_of t.me.0.seen) r → (e : Entry) × IsPlaced (events_of t.me.0.seen) r e × (0 < count_of e.op) × (count_of e.op ≤ later_replies (events_of t.me.0.seen) r)
+  enough_on le = let is = k.2 in let some' = k.3 in (k.0, lasts_on b s t w (λ h. IsPlaced h r k.0) r (placed_lasts (setup_of b.layout) r k.0) a.born k.1, omega (arith, is, some'), omega (arith, is, le))
 
--- fewer had replied before
-pub counts_fewer : (b : Facts) (r : Req) (s t : TableSeat) → Watched b s t → HasFewer (events_of s.me.0.seen) r → Counts b r (pass_of s) (pass_of t) Fewer
-counts_fewer b r s t w k = record { goes = w.goes; tells = k; others = w.freed_is }
+-- a look before it
+module _ (b : Facts) (r : Req) (s t : TableSeat) (n m : ℕ) (alarm : Alarm) (o : IsOurs b s) (knows : KnowsAlarm (events_of s.me.0.seen) r (Some alarm)) (w : Watched b s t) (p : Paid s.me.0 t.me.0 n m) where
+  pub was_armed : (d : ℕ) → phase (events_of t.me.0.seen) r ≡ armed d → phase (events_of s.me.0.seen) r ≡ armed d
+  was_armed d is = armed_before b (pass_of s) (pass_of t) [] w.goes (ap (λ (z : Role). stands_for z pollers) o.seat.role) none tt r d refl is
 
--- looks before it
-pub counts_after : (b : Facts) (r : Req) (s t u : TableSeat) (n m : ℕ) → Watched b s t → Paid s.me.0 t.me.0 n m → Counts b r (pass_of t) (pass_of u) Counted → Counts b r (pass_of s) (pass_of u) Counted
-counts_after b r s t u n m w p k = record { goes = goes_then b (pass_of s) (pass_of t) (pass_of u) (Count r ∷ []) w.goes k.goes; tells = k.tells; others = λ i. k.others i ∙ w.freed_is i }
+  -- fewer had replied before
+  pub fewer_sooner : HasFewer (events_of t.me.0.seen) r → HasFewer (events_of s.me.0.seen) r
+  fewer_sooner f =
+      let S = setup_of b.layout in let was = was_armed f.is_armed.0 f.is_armed.1 in let k = (knows f.is_armed.0 was).0 in
+      let born = counted_in S s.me.0.seen r (armed f.is_armed.0) o.ours.legal was (λ u. cc) in
+      let still : IsPlaced (events_of t.me.0.seen) r k.0 = lasts_on b s t w (λ h. IsPlaced h r k.0) r (placed_lasts S r k.0) born k.1 in
+      let one : f.entry ≡ k.0 = (let z = sym f.as_placed ∙ still in cc) in let counts = ap (λ (e : Entry). count_of e.op) one in
+      let some' = f.counts in let few = f.fewer in let le = later_grows b s t r w in
+      record { is_armed = (f.is_armed.0, was); entry = k.0; as_placed = k.1; counts = omega (arith, counts, some'); fewer = omega (arith, counts, few, le) }
 
-pub unarmed_after : (b : Facts) (r : Req) (s t u : TableSeat) (n m : ℕ) → Watched b s t → Paid s.me.0 t.me.0 n m → Counts b r (pass_of t) (pass_of u) Counting.NotArmed → Counts b r (pass_of s) (pass_of u) Counting.NotArmed
-unarmed_after b r s t u n m w p k = record { goes = goes_then b (pass_of s) (pass_of t) (pass_of u) [] w.goes k.goes; tells = (k.tells.0, stepped_after b.layout.cells r s t u b n m p k.tells.1); others = λ i. k.others i ∙ w.freed_is i }
+  tells_after : (u : TableSeat) (x : Counting) → CountingTells b r (pass_of t) (pass_of u) x → CountingTells b r (pass_of s) (pass_of u) x
+  tells_after u Counted k = k
+  tells_after u Fewer k = fewer_sooner k
+  tells_after u NotCounted k = (k.0, stepped_after b.layout.cells r s t u b n m p k.1)
+  tells_after u Counting.NotArmed k = (k.0, stepped_after b.layout.cells r s t u b n m p k.1)
+
+  pub counts_after : (u : TableSeat) (x : Counting) → Counts b r (pass_of t) (pass_of u) x → Counts b r (pass_of s) (pass_of u) x
+  counts_after u x k = record { goes = goes_then b (pass_of s) (pass_of t) (pass_of u) (counted_by x r) w.goes k.goes; tells = tells_after u x k.tells; others = λ i. k.others i ∙ w.freed_is i }
 
 -- it arms and fires no timer, and leaves the clock
 pub counted_calm : (x : Counting) (r : Req) → AllPass (is_calm none) (counted_by x r) × AllPass is_still (counted_by x r)

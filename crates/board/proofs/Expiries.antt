@@ -1,9 +1,8 @@
 -- What the poller's look at a timer, and its step that lets one run out, tell it.
-use Rattle.history.specs.Legal.{IsOf as IsOfKind}
 use Rattle.board.specs.declared.phase.Phase.{Phase as Standing}
 use Rattle.board.specs.declared.poller.Expiry.{Expiry}
 use Rattle.board.specs.declared.poller.Expiry.TheVariants.{Expired, Early, NotArmed}
-use Rattle.board.proofs.Common.{Armed, CellOk, Did, Done, Expire, Expires, ExpiryTells, Extends, Facts, Gone, Held, Home, IsAt, IsKept, IsOurs, IsStep, Layout, Line, Linked, List, Option, Paid, Ready, Req, Role, Running, Says, Seat, Shown, Some, Stands, Stepped, Tag, Thing, Unborn, View, Watched, [], ap, arith, armed, by_expire, claim_at, clock_of, cond, events_of, expired_by, inl, inr, is_timeout, negsuc, pass_of, phase, pollers, refl, replied, request_at, same_itself, stands_for, subst, sym, true, word_of, ℕ, ◌<◌, ◌∙◌, ◌∷◌, ◌≡◌, ◌≢◌}
+use Rattle.board.proofs.Common.{Armed, CellOk, Did, Done, Expire, Expires, ExpiryTells, Extends, Facts, Gone, Held, Home, IsAt, IsOurs, IsStep, IsUnarmed, Layout, Line, List, Option, Paid, Ready, Req, Role, Running, Says, Seat, Shown, Stands, Stepped, Tag, Thing, Unborn, View, Watched, [], ap, arith, armed, by_expire, claim_at, cond, events_of, expired_by, inl, negsuc, pass_of, phase, pollers, refl, replied, request_at, same_itself, stands_for, subst, sym, true, word_of, ℕ, ◌<◌, ◌∙◌, ◌∷◌, ◌≡◌, ◌≢◌}
 use Rattle.board.proofs.GoesLaws.{goes_then}
 use Rattle.board.proofs.PassFacts.{stepped_once}
 use Rattle.board.proofs.TimersHeld.{armed_before, freed_one, goes_one, none}
@@ -59,32 +58,17 @@ module _ (b : Facts) (s t : TableSeat) (r : Req) (x g : ℕ) (o : IsOurs b s) (a
   pub expires_missed : (d : ℕ) → phase (events_of s.me.0.seen) r ≡ armed d → Watched b s t → (n : ℕ) × IsStep (claim_at x) n s.me.0 t.me.0 × Shown s.me.0.layout.cells t.me.0.seen x n × (n ≢ word_of Tag.Armed 0 g d) → Expires b r (pass_of s) (pass_of t) NotArmed
   expires_missed d was w f = record { goes = w.goes; tells = (inl (no_more_armed d was w f), stepped_by f.0 f.1 f.2); others = w.freed_is }
 
-  -- ---- a look
+-- ---- a look
 
-  module _ (w : Watched b s t) (n : ℕ) (step : IsStep (claim_at x) n s.me.0 t.me.0) (shown : Shown s.me.0.layout.cells t.me.0.seen x n) where
-    looked : Stepped b.layout.cells r (pass_of s) (pass_of t)
-    looked = stepped_by n step shown
-
-    -- it isn't armed
-    pub unarmed : (q : Req) (y : Standing) → ((d : ℕ) → y ≡ Armed d → ⊥) → Stands t.me.0.seen q y → (d : ℕ) → phase (events_of t.me.0.seen) q ≢ armed d
-    unarmed q Unborn ne k d is = let z = sym k ∙ is in cc
-    unarmed q Held ne k d is = let z = sym k.0 ∙ is in cc
-    unarmed q Ready ne k d is = let z = sym k.0 ∙ is in cc
-    unarmed q Running ne k d is = let z = sym k ∙ is in cc
-    unarmed q (Armed e) ne k d is = ne e refl
-    unarmed q (Done res) ne k d is = let z = sym k.1 ∙ is in cc
-    unarmed q Gone ne k d is = let z = sym k.2 ∙ is in cc
-
-    pub expires_unarmed : (y : Standing) → ((d : ℕ) → y ≡ Armed d → ⊥) → Stands t.me.0.seen (request_at s.me.0.layout.cells x g) y → Expires b r (pass_of s) (pass_of t) NotArmed
-    expires_unarmed y ne k = record { goes = w.goes; tells = (inl (unarmed r y ne (subst (λ (q : Req). Stands t.me.0.seen q y) at_is k)), looked); others = w.freed_is }
-
-    -- it is a LINK_TIMEOUT
-    pub expires_linked : IsKept (events_of t.me.0.seen) r (Some Linked) → Expires b r (pass_of s) (pass_of t) NotArmed
-    expires_linked k = record { goes = w.goes; tells = (inr (k.0, k.1, k.2), looked); others = w.freed_is }
-
-    -- its deadline is to come
-    pub expires_early : (d : ℕ) → phase (events_of t.me.0.seen) r ≡ armed d → clock_of (events_of t.me.0.seen) < d → IsOfKind (events_of t.me.0.seen) r is_timeout true → Expires b r (pass_of s) (pass_of t) Early
-    expires_early d is lt kind = record { goes = w.goes; tells = ((d, is, lt), kind, looked); others = w.freed_is }
+-- it isn't armed
+pub unarmed : (t : TableSeat) (q : Req) (y : Standing) → ((d : ℕ) → y ≡ Armed d → ⊥) → Stands t.me.0.seen q y → IsUnarmed (events_of t.me.0.seen) q
+unarmed t q Unborn ne k d is = let z = sym k ∙ is in cc
+unarmed t q Held ne k d is = let z = sym k.0 ∙ is in cc
+unarmed t q Ready ne k d is = let z = sym k.0 ∙ is in cc
+unarmed t q Running ne k d is = let z = sym k ∙ is in cc
+unarmed t q (Armed e) ne k d is = ne e refl
+unarmed t q (Done res) ne k d is = let z = sym k.1 ∙ is in cc
+unarmed t q Gone ne k d is = let z = sym k.2 ∙ is in cc
 
 -- a look before it
 pub expires_after : (b : Facts) (r : Req) (s t u : TableSeat) (n m : ℕ) (x : Expiry) → Watched b s t → Paid s.me.0 t.me.0 n m → Expires b r (pass_of t) (pass_of u) x → Expires b r (pass_of s) (pass_of u) x

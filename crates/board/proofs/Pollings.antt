@@ -1,13 +1,12 @@
 -- What the poller's call on a timer comes to, by what its parts do.
 use Rattle.history.specs.Legal.{IsOf as IsOfKind}
 use Rattle.board.specs.Polls.{PollTells, Polls, polled_by}
-use Rattle.board.specs.declared.poller.Counting.{Counting}
 use Rattle.board.specs.declared.poller.Expiry.{Expiry}
 use Rattle.board.specs.declared.poller.Firing.{Firing}
 use Rattle.board.specs.declared.poller.Polled.{Polled}
 use Rattle.board.specs.declared.poller.Settling.{Settling}
-use Rattle.board.proofs.Common.{Alarm, Bool, Counts, Entry, Event, Expires, Facts, Fires, HasFewer, IsDueLinked, IsEarly, IsLinkTimeout, IsOf, IsOurs, IsPlaced, IsPollerSeat, IsReplied, IsTarget, IsTargetOpen, IsUncounted, KnowsAlarm, KnowsTimers, List, Option, Paid, Pass, Req, Role, Seat, Settles, Some, Thing, View, Watched, [], ap, arith, armed, clock_of, count_of, counted_in, events_of, false, is_link_timeout, is_timeout, kind_lasts, pass_of, phase, placed_lasts, pollers, previous, refl, seen_of, setup_of, stands_for, submits, subst, sym, true, ℕ, ⊎_elim, ◌-◌, ◌<◌, ◌∙◌, ◌≡◌, ◌≤◌}
-use Rattle.board.proofs.Countings.{later_grows}
+use Rattle.board.proofs.Common.{Alarm, Bool, Entry, Event, Expires, Facts, IsDueLinked, IsEarly, IsLinkTimeout, IsOf, IsOurs, IsPollerSeat, IsReplied, IsTarget, IsTargetOpen, KnowsAlarm, KnowsTimers, List, Option, Paid, Req, Role, Seat, Settles, Some, Thing, View, Watched, [], ap, arith, armed, clock_of, events_of, false, is_link_timeout, is_timeout, kind_lasts, pass_of, phase, pollers, previous, refl, setup_of, stands_for, submits, subst, sym, true, ℕ, ⊎_elim, ◌-◌, ◌<◌, ◌∙◌, ◌≡◌, ◌≤◌}
+use Rattle.board.proofs.Countings.{fewer_sooner, was_armed}
 use Rattle.board.proofs.GoesLaws.{goes_then}
 use Rattle.board.proofs.Settlings.{linked_on}
 use Rattle.board.proofs.Strikes.{due_on, timers_fired}
@@ -24,30 +23,6 @@ apart : (h : List Event) (r : Req) → IsLinkTimeout h r → IsOfKind h r is_tim
 apart h r x y = let one : y.0 ≡ x.0 = (let z = sym y.1 ∙ x.1 in cc) in not_both y.0.op y.2 (ap (λ (e : Entry). is_link_timeout e.op) one ∙ x.2)
 
 -- ---- what its parts do
-
-module _ (b : Facts) (r : Req) (p q : Pass) (may : Bool) where
-  -- a look found that it isn't armed
-  pub polls_none : Counts b r p q Counting.NotArmed → Polls b may r p q Polled.NotArmed
-  polls_none k = record { goes = k.goes; tells = k.tells; others = k.others }
-
-  -- or that its deadline is to come, and it counts nothing
-  pub polls_early : Expires b r p q Expiry.Early → IsUncounted (seen_of q) r → Polls b may r p q Polled.Early
-  polls_early k un = record { goes = k.goes; tells = (k.tells.0, k.tells.1, un, k.tells.2); others = k.others }
-
-  pub polls_expired : (x : Expiry) → x ≡ Expiry.Expired → Expires b r p q x → Polls b may r p q Polled.Expired
-  polls_expired x is y = let k = subst (Expires b r p q) is y in record { goes = k.goes; tells = k.tells; others = k.others }
-
-  pub polls_counted : Counts b r p q Counting.Counted → Polls b may r p q Polled.Counted
-  polls_counted k = record { goes = k.goes; tells = k.tells; others = k.others }
-
-  pub polls_settled : (x : Settling) → x ≡ Settling.Settled → Settles b r p q x → Polls b may r p q Polled.Settled
-  polls_settled x is y = let k = subst (Settles b r p q) is y in record { goes = k.goes; tells = k.tells; others = k.others }
-
-pub polls_took : (b : Facts) (r : Req) (p q : Pass) → Fires b r p q Firing.Took → Polls b true r p q Polled.Took
-polls_took b r p q k = record { goes = k.goes; tells = (refl, k.tells.0, k.tells.1); others = k.others }
-
-pub polls_missed : (b : Facts) (r : Req) (p q : Pass) → Fires b r p q Firing.Missed → Polls b true r p q Polled.Missed
-polls_missed b r p q k = record { goes = k.goes; tells = (refl, k.tells.0, k.tells.1); others = k.others }
 
 module _ (b : Facts) (r : Req) (s t : TableSeat) (d : ℕ) (o : IsOurs b s) (seat : IsPollerSeat t) (is : phase (events_of s.me.0.seen) r ≡ armed d) (born : r.k < submits (events_of s.me.0.seen) r.ring) where
   mine : stands_for s.me.0.role pollers ≡ true
@@ -115,26 +90,8 @@ settled_not b r s t seat over Settling.NotArmed n k = refl
 -- ---- a look before it
 
 module _ (b : Facts) (r : Req) (s t : TableSeat) (n m : ℕ) (alarm : Alarm) (o : IsOurs b s) (knows : KnowsAlarm (events_of s.me.0.seen) r (Some alarm)) (w : Watched b s t) (p : Paid s.me.0 t.me.0 n m) where
-  was_armed : (d : ℕ) → phase (events_of t.me.0.seen) r ≡ armed d → phase (events_of s.me.0.seen) r ≡ armed d
-  was_armed d is = armed_before b (pass_of s) (pass_of t) [] w.goes (ap (λ (z : Role). stands_for z pollers) o.seat.role) none tt r d refl is
-
   early_sooner : IsEarly (events_of t.me.0.seen) r → IsEarly (events_of s.me.0.seen) r
-  early_sooner e = let clock = clock_watched b s t o.seat w in let lt = e.2 in (e.0, was_armed e.0 e.1, omega (arith, clock, lt))
-
-  -- fewer had replied before
-  fewer_sooner : HasFewer (events_of t.me.0.seen) r → HasFewer (events_of s.me.0.seen) r
-  fewer_sooner f =
-      let S = setup_of b.layout in let was = was_armed f.is_armed.0 f.is_armed.1 in let k = (knows f.is_armed.0 was).0 in
-      let born = counted_in S s.me.0.seen r (armed f.is_armed.0) o.ours.legal was (λ u. cc) in
-      let still : IsPlaced (events_of t.me.0.seen) r k.0 = lasts_on b s t w (λ h. IsPlaced h r k.0) r (placed_lasts S r k.0) born k.1 in
-      let one : f.entry ≡ k.0 = (let z = sym f.as_placed ∙ still in cc) in let counts = ap (λ (e : Entry). count_of e.op) one in
-      let some' = f.counts in let few = f.fewer in let le = later_grows b s t r w in record {
-        is_armed = (f.is_armed.0, was);
-        entry = k.0;
-        as_placed = k.1;
-        counts = omega (arith, counts, some');
-        fewer = omega (arith, counts, few, le);
-      }
+  early_sooner e = let clock = clock_watched b s t o.seat w in let lt = e.2 in (e.0, was_armed b r s t n m alarm o knows w p e.0 e.1, omega (arith, clock, lt))
 
   open_after : (u : TableSeat) → IsTargetOpen b.layout.cells r (pass_of t) (pass_of u) → IsTargetOpen b.layout.cells r (pass_of s) (pass_of u)
   open_after u k = (k.0, k.1, k.2, stepped_after b.layout.cells k.0 s t u b n m p k.3)
@@ -146,7 +103,7 @@ module _ (b : Facts) (r : Req) (s t : TableSeat) (n m : ℕ) (alarm : Alarm) (o 
   tells_after u may Polled.Missed k = k
   tells_after u may Polled.Settled k = k
   tells_after u may Polled.Early k = (k.0, k.1, k.2, stepped_after b.layout.cells r s t u b n m p k.3)
-  tells_after u may Polled.Fewer k = (fewer_sooner k.0, early_sooner k.1)
+  tells_after u may Polled.Fewer k = (fewer_sooner b r s t n m alarm o knows w p k.0, early_sooner k.1)
   tells_after u may Polled.TargetOpen k = (open_after u k.0, k.1)
   tells_after u may Polled.Due k = (k.0, open_after u k.1, k.2)
   tells_after u may Polled.NotArmed k = (k.0, stepped_after b.layout.cells r s t u b n m p k.1)

@@ -9,11 +9,12 @@ use Rattle.gates.specs.EntryRows.{Stands}
 use Rattle.gates.specs.Shows.{nth}
 use Rattle.steps.proofs.CellNumbers.{ring_in}
 use Rattle.gates.proofs.Trailing.{trailed}
-use Rattle.board.proofs.Common.{AreFacts, ArePlain, Bool, Entry, Event, Facts, Goes, HasOutcome, IsAt, IsBoard, IsCell, IsChainDone, IsLinkTimeout, IsNumbered, IsOfChain, IsOurs, IsOutcome, IsPlainAt, IsReplied, Kept, KnowsRow, Legal, Line, List, Notes, Option, Park, Pass, Req, Role, Seat, Setup, Slot, Some, TellsFacts, Thing, Trails, TrailsAt, View, Waits, Watched, Watches, [], added, ap, arith, before_in, bool_cases, born_once, cases_lt, cell_says, cells_in, cond, counted, counts_at, drains, drop, earlier_gone, events_of, false, first_cell, get_there, inl, inr, is_link_timeout, is_pending, is_plain, length, links, links_hard, links_soft, located, located_is, lost_replied, met_trails, mul-le-mul_right, not, of_chain_done, one_some, owed, pass_of, passes, phase, place_of, placed_behind, placed_from, plain_later, pollers, refl, request_at, ring_of, same_false, setup_of, slice_get, slot_with, stand_in, stand_in_trails, stand_ins, stands_for, submits, submits_grow, submitted_in, subst, suc, suc-mul, sym, test_at, trails_later, trails_more, trails_replied, trails_stand_ins, traits_of, true, true≢false, unborn, waiting, waiting_in, waits, was_shut, with_reply, zero, ℕ, ⊎_elim, ◌%◌, ◌&&◌, ◌*◌, ◌++◌, ◌+◌, ◌-◌, ◌/◌, ◌<◌, ◌||◌, ◌∙◌, ◌∷◌, ◌≡◌, ◌≤◌}
+use Rattle.board.proofs.Common.{AreFacts, ArePlain, Bool, Entry, Event, Facts, Goes, HasOutcome, IsAt, IsBoard, IsCell, IsChainDone, IsLinkTimeout, IsNumbered, IsOfChain, IsOurs, IsOutcome, IsSubmitted, IsPlainAt, IsReplied, Kept, KnowsRow, Legal, Line, List, Notes, Option, Park, Pass, Req, Role, Seat, Setup, Slot, Some, TellsFacts, Thing, Trails, TrailsAt, View, Waits, Watched, Watches, [], added, ap, arith, before_in, bool_cases, born_once, cases_lt, cell_says, cells_in, cond, counted, counts_at, drains, drop, earlier_gone, events_of, false, first_cell, get_there, inl, inr, is_link_timeout, is_pending, is_plain, length, links, links_hard, links_soft, located, located_is, lost_replied, met_trails, mul-le-mul_right, not, of_chain_done, one_some, owed, pass_of, passes, phase, place_of, placed_behind, placed_from, plain_later, pollers, refl, request_at, ring_of, same_false, setup_of, slice_get, slot_with, stand_in, stand_in_trails, stand_ins, stands_for, submits, submits_grow, submitted_in, subst, suc, suc-mul, sym, test_at, trails_later, trails_more, trails_replied, trails_stand_ins, traits_of, true, true≢false, unborn, waiting, waiting_in, waits, was_shut, with_reply, zero, ℕ, ⊎_elim, ◌%◌, ◌&&◌, ◌*◌, ◌++◌, ◌+◌, ◌-◌, ◌/◌, ◌<◌, ◌||◌, ◌∙◌, ◌∷◌, ◌≡◌, ◌≤◌}
 use Rattle.board.proofs.GoesLaws.{events_before}
 use Rattle.board.proofs.PutBack.{waits_back, trails_back, parked_later, outcome_put}
 use Rattle.board.proofs.TimersKept.{link_was, link_still}
 use Rattle.board.proofs.FactsWords.{placed_links}
+use Rattle.board.proofs.Watching.{born_on, still_ours}
 
 abbrev TableSeat : Type 0
 TableSeat = Seat (Option Thing) View
@@ -235,3 +236,10 @@ numbered_at K x g q a f = subst (IsNumbered K) a.at record {
 
 pub held_born : (b : Facts) (s : TableSeat) (q : Req) → IsOurs b s → phase (events_of s.me.0.seen) q ≡ waits → q.k < submits (events_of s.me.0.seen) q.ring
 held_born b s q o is = counted (setup_of b.layout) (events_of s.me.0.seen) q o.ours.legal (λ u. (let z = sym is ∙ u in cc))
+
+pub held_here : (b : Facts) (s : TableSeat) (x g : ℕ) (q : Req) → IsOurs b s → IsAt b.layout.cells x g q → g < 16777216 → phase (events_of s.me.0.seen) q ≡ waits → IsSubmitted b s x g q
+held_here b s x g q o a f is = record { ours = o; at = a; small = f; numbered = numbered_at b.layout.cells x g q a f; born = held_born b s q o is }
+
+-- and later
+pub submitted_on : (b : Facts) (s t : TableSeat) (x g : ℕ) (q : Req) → Watched b s t → IsSubmitted b s x g q → IsSubmitted b t x g q
+submitted_on b s t x g q w h = record { ours = still_ours b s t w; at = h.at; small = h.small; numbered = h.numbered; born = born_on b s t q.ring q.k w h.born }

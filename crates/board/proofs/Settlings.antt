@@ -2,12 +2,12 @@
 use Rattle.board.specs.declared.phase.Phase.{Phase as Standing}
 use Rattle.board.specs.declared.poller.Settling.{Settling}
 use Rattle.board.specs.declared.poller.Settling.TheVariants.{Settled, TargetOpen}
-use Rattle.board.proofs.Common.{Alarm, Alone, Armed, Bool, Did, Done, Entry, Event, Extends, Facts, Goes, Gone, Invalid, IsArmed, IsAt, IsKept, IsLinkTimeout, IsOurs, IsPlaced, IsReplied, IsStep, IsTarget, IsTargetOpen, KnowsAlarm, Layout, Legal, Line, Linked, List, None, Option, Paid, Pass, Req, Role, Seat, Settle, Settles, SettlingTells, Shown, Some, Stands, Submission, Tag, Thing, View, Watched, [], ap, arith, armed, bool_cases, by_settle, claim_at, cond, counted_in, eq-eqb, events_of, false, fired, hosts, inl, inr, is_link_timeout, is_timeout, lasts, negsuc, not, pass_of, phase, placed_from, placed_lasts, pollers, previous, refl, replied, request_at, same_fired, same_itself, seen_of, settled_by, setup_of, stands_for, submission, submits, submits_grow, subst, suc, sym, true, true≢false, was_shut, word_of, ℕ, ℤ, ⊎_elim, ◌&&◌, ◌++◌, ◌-◌, ◌<◌, ◌==◌, ◌∙◌, ◌∷◌, ◌≡◌, ◌≢◌, ◌⊎◌}
-use Rattle.board.proofs.Expiries.{no_more_armed, stepped_by, unarmed}
+use Rattle.board.proofs.Common.{Alarm, Alone, Armed, Bool, Did, Done, Entry, Event, Extends, Facts, Goes, Gone, Invalid, IsArmed, IsAt, IsArmedAt, IsKept, IsLinkTimeout, IsOurs, IsPlaced, IsReplied, IsStep, IsTarget, IsTargetOpen, IsUnfired, Layout, Legal, Line, Linked, List, None, Option, Paid, Pass, Req, Role, Seat, Settle, Settles, SettlingTells, Shown, Some, Stands, Submission, Tag, TellsDeadline, Thing, View, Watched, [], ap, arith, armed, bool_cases, by_settle, claim_at, cond, counted_in, eq-eqb, events_of, false, fired, hosts, inl, is_link_timeout, is_timeout, lasts, negsuc, not, pass_of, phase, placed_from, placed_lasts, pollers, previous, refl, replied, request_at, same_fired, same_itself, seen_of, settled_by, setup_of, stands_for, submission, submits, submits_grow, subst, suc, sym, true, true≢false, was_shut, word_of, ℕ, ℤ, ⊎_elim, ◌&&◌, ◌++◌, ◌-◌, ◌<◌, ◌==◌, ◌∙◌, ◌∷◌, ◌≡◌, ◌≢◌, ◌⊎◌}
+use Rattle.board.proofs.Expiries.{no_more_armed, stepped_by}
 use Rattle.board.proofs.GoesLaws.{goes_then}
 use Rattle.board.proofs.TimersHeld.{freed_one, goes_one, none}
 use Rattle.board.proofs.TimersKept.{AllPass, is_calm, is_still, link_still}
-use Rattle.board.proofs.Watching.{stepped_after}
+use Rattle.board.proofs.Watching.{born_on, stepped_after, still_ours}
 use Rattle.board.proofs.TimersHeld.{alarm_goes, fired_after}
 use Rattle.history.specs.Legal.{IsOf as IsOfKind}
 
@@ -52,17 +52,6 @@ module _ (b : Facts) (s t : TableSeat) (r : Req) (x g : ℕ) (o : IsOurs b s) (a
   pub settles_missed : (d : ℕ) → phase (events_of s.me.0.seen) r ≡ armed d → Watched b s t → (n : ℕ) × IsStep (claim_at x) n s.me.0 t.me.0 × Shown s.me.0.layout.cells t.me.0.seen x n × (n ≢ word_of Tag.Armed 0 g d) → Settles b r (pass_of s) (pass_of t) Settling.NotArmed
   settles_missed d was w f = record { goes = w.goes; tells = (inl (no_more_armed b s t r x g o a d was w f), stepped_by b s t r x g o a f.0 f.1 f.2); others = w.freed_is }
 
-  -- ---- a look
-
-  module _ (w : Watched b s t) (n : ℕ) (step : IsStep (claim_at x) n s.me.0 t.me.0) (shown : Shown s.me.0.layout.cells t.me.0.seen x n) where
-    -- it isn't armed
-    pub settles_unarmed : (y : Standing) → ((d : ℕ) → y ≡ Armed d → ⊥) → Stands t.me.0.seen (request_at s.me.0.layout.cells x g) y → Settles b r (pass_of s) (pass_of t) Settling.NotArmed
-    settles_unarmed y ne k = record { goes = w.goes; tells = (inl (unarmed b s t r x g o a w n step shown r y ne (subst (λ (q : Req). Stands t.me.0.seen q y) at_is k)), stepped_by b s t r x g o a n step shown); others = w.freed_is }
-
-    -- it is a TIMEOUT
-    pub settles_alone : IsOfKind (events_of t.me.0.seen) r is_timeout true → Settles b r (pass_of s) (pass_of t) Settling.NotArmed
-    settles_alone k = record { goes = w.goes; tells = (inr k, stepped_by b s t r x g o a n step shown); others = w.freed_is }
-
 -- its target has no reply
 pub settles_open : (b : Facts) (r : Req) (s t : TableSeat) → Watched b s t → IsTargetOpen b.layout.cells r (pass_of s) (pass_of t) → IsArmed (events_of t.me.0.seen) r → Settles b r (pass_of s) (pass_of t) TargetOpen
 settles_open b r s t w k is = record { goes = w.goes; tells = (k, is); others = w.freed_is }
@@ -88,28 +77,27 @@ linked_of (Alone f m) n = absurd (n f m refl)
 
 -- ---- a look at a timer that is armed
 
-module _ (b : Facts) (s t : TableSeat) (r : Req) (x g d : ℕ) (alarm : Alarm) (o : IsOurs b s) (a : IsAt b.layout.cells x g r) (w : Watched b s t) (stands : Stands t.me.0.seen (request_at s.me.0.layout.cells x g) (Armed d)) (knows : KnowsAlarm (events_of s.me.0.seen) r (Some alarm)) where
-  pub found_phase : phase (events_of t.me.0.seen) r ≡ armed d
-  found_phase = subst (λ (q : Req). phase (events_of t.me.0.seen) q ≡ armed d) (at_is b s t r x g o a) stands
+pub tells_deadline : (b : Facts) (s t : TableSeat) (r : Req) (x g d : ℕ) → IsOurs b s → IsAt b.layout.cells x g r → Watched b s t → g < 16777216 → Stands t.me.0.seen (request_at s.me.0.layout.cells x g) (Armed d) → TellsDeadline b s t x g r (Some d)
+tells_deadline b s t r x g d o a w small stands =
+    let is : phase (events_of t.me.0.seen) r ≡ armed d = subst (λ (q : Req). phase (events_of t.me.0.seen) q ≡ armed d) (at_is b s t r x g o a) stands in (
+      record { ours = still_ours b s t w; at = a; small = small; armed_is = is; born = counted_in (setup_of b.layout) t.me.0.seen r (armed d) w.goes.kept.legal is (λ u. cc) },
+      λ alarm knows. alarm_goes b (pass_of s) (pass_of t) [] w.goes (mine b s t r x g o a) none tt r (Some alarm) refl knows d is,
+    )
 
-  pub found_born : r.k < submits (events_of t.me.0.seen) r.ring
-  found_born = counted_in (setup_of b.layout) t.me.0.seen r (armed d) w.goes.kept.legal found_phase (λ u. cc)
+-- what is kept of it tells which it is
+module _ (h : List Event) (r : Req) (alarm : Alarm) (k : IsKept h r (Some alarm) × (fired h r ≡ false)) where
+  pub kept_as : (a : Alarm) → alarm ≡ a → IsKept h r (Some a)
+  kept_as a is = subst (λ (z : Alarm). IsKept h r (Some z)) is k.0
 
-  pub found_kept : IsKept (events_of t.me.0.seen) r (Some alarm) × (fired (events_of t.me.0.seen) r ≡ false)
-  found_kept = alarm_goes b (pass_of s) (pass_of t) [] w.goes (mine b s t r x g o a) none tt r (Some alarm) refl knows d found_phase
+  pub kept_link : alarm ≡ Linked → IsUnfired h r
+  kept_link is = let l = kept_as Linked is in ((l.0, l.1, l.2), k.1)
 
-  pub found_unfired : fired (events_of t.me.0.seen) r ≡ false
-  found_unfired = found_kept.1
+  alone_of : (a : Alarm) → IsKept h r (Some a) → (a ≡ Linked → ⊥) → IsOfKind h r is_timeout true
+  alone_of Linked l n = absurd (n refl)
+  alone_of (Alone f m) l n = (l.0, l.1, l.2.0)
 
-  pub found_linked : alarm ≡ Linked → IsLinkTimeout (events_of t.me.0.seen) r
-  found_linked is = let k : IsKept (events_of t.me.0.seen) r (Some Linked) = subst (λ (z : Alarm). IsKept (events_of t.me.0.seen) r (Some z)) is found_kept.0 in (k.0, k.1, k.2)
-
-  alone_of : (z : Alarm) → IsKept (events_of t.me.0.seen) r (Some z) → (z ≡ Linked → ⊥) → IsOfKind (events_of t.me.0.seen) r is_timeout true
-  alone_of Linked k n = absurd (n refl)
-  alone_of (Alone f m) k n = (k.0, k.1, k.2.0)
-
-  pub found_alone : (alarm ≡ Linked → ⊥) → IsOfKind (events_of t.me.0.seen) r is_timeout true
-  found_alone n = alone_of alarm found_kept.0 n
+  pub kept_alone : (alarm ≡ Linked → ⊥) → IsOfKind h r is_timeout true
+  kept_alone n = alone_of alarm k.0 n
 
 -- ---- the target, which is the request before it
 
@@ -135,6 +123,10 @@ armed_on b s t r d w link is = let S = setup_of b.layout in let j : List Line = 
 
 pub unfired_on : (b : Facts) (s t : TableSeat) (r : Req) → Watched b s t → fired (events_of s.me.0.seen) r ≡ false → fired (events_of t.me.0.seen) r ≡ false
 unfired_on b s t r w is = fired_after b (pass_of s) (pass_of t) [] w.goes (ap (λ (z : Role). stands_for z pollers) (sym w.goes.role_is ∙ w.seat.role)) none tt r refl ∙ is
+
+-- so it does with its cell
+pub armed_at_on : (b : Facts) (s t : TableSeat) (r : Req) (x g d : ℕ) → Watched b s t → IsUnfired (events_of s.me.0.seen) r → IsArmedAt b s x g r d → IsArmedAt b t x g r d
+armed_at_on b s t r x g d w link a = record { ours = still_ours b s t w; at = a.at; small = a.small; armed_is = armed_on b s t r d w link.0 a.armed_is; born = born_on b s t r.ring r.k w a.born }
 
 -- it is Done or Gone
 pub replied_by : (j : List Line) (q : Req) (y : Standing) → Stands j q y → ((res : ℤ) × (y ≡ Done res)) ⊎ (y ≡ Gone) → IsReplied (phase (events_of j) q)

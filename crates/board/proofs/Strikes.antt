@@ -1,12 +1,12 @@
 -- What the poller's exchange at the target of a LINK_TIMEOUT whose deadline has come tells it.
 use Rattle.std.proofs.Math.Bool.{and-false}
 use Rattle.steps.specs.Plays.{IsIdleWord, is_idle, next_of}
+use Rattle.board.specs.TimerCalls.{StrikeTells}
 use Rattle.board.specs.declared.linked.Struck.{Struck}
 use Rattle.board.specs.declared.linked.Struck.TheVariants.{Took, Missed, Over}
 use Rattle.board.specs.declared.poller.Firing.{Firing}
 use Rattle.board.specs.declared.poller.Firing.TheVariants.{TargetDone}
-use Rattle.board.specs.declared.poller.Settling.{Settling}
-use Rattle.board.proofs.Common.{Ages, Alarm, Bool, Did, DidStrike, EndsFired, Entry, Event, Extends, Facts, Fire, FireMiss, Fires, Goes, Invalid, IsAt, IsDueLinked, IsEarly, IsLinkTimeout, IsOf, IsOurs, IsPlaced, IsPollerSeat, IsReplied, IsStep, IsTarget, KnowsAlarm, KnowsTimers, Layout, Legal, Line, List, None, Option, Pass, Req, Role, Says, Seat, Settle, Settles, Setup, Shown, Some, Stepped, Submission, Tag, Thing, View, Watched, [], ap, arith, armed, becomes, before_in, bool_cases, born_once, by_settle, canceled_fails, claim_at, clock_of, cond, events_of, fails, false, fired, fired_by, freed, held_before, held_no_more, hosts, is_link_timeout, lasts, legal_tail, links, live_tail, negsuc, not, own_none, owns, pass_of, phase, placed_from, placed_lasts, pollers, previous, refl, replied, request_at, ring_of, same, same_fired, same_itself, same_true, says_of, setup_of, slice_get, stands_for, struck_by, submission, submits, subst, suc, sym, true, true≢false, unborn, was_shut, word_of, ℕ, ⊎_elim, ◌&&◌, ◌++◌, ◌-◌, ◌<◌, ◌∙◌, ◌∷◌, ◌≡◌, ◌≢◌, ◌≤◌, ◌⊎◌}
+use Rattle.board.proofs.Common.{Ages, Alarm, Bool, Did, DidStrike, EndsFired, Entry, Event, Extends, Facts, Fire, FireMiss, Fires, FiresDue, Goes, Invalid, IsArmedAt, IsAt, IsDueLinked, IsLinkTimeout, IsOf, IsOurs, IsPlaced, IsPollerSeat, IsReplied, IsStep, IsTarget, KnowsAlarm, KnowsTimers, Layout, Legal, Line, List, None, Option, Req, Role, Says, Seat, Settle, Setup, Shown, Some, Submission, Tag, Thing, View, Watched, [], ap, arith, armed, becomes, before_in, bool_cases, born_once, by_settle, canceled_fails, claim_at, clock_of, cond, events_of, fails, false, fired, fired_by, freed, held_before, held_no_more, hosts, is_link_timeout, lasts, legal_tail, links, live_tail, negsuc, not, own_none, owns, pass_of, phase, placed_from, placed_lasts, pollers, previous, refl, replied, request_at, ring_of, same, same_fired, same_itself, same_true, says_of, setup_of, slice_get, stands_for, struck_by, submission, submits, subst, suc, sym, true, true≢false, unborn, was_shut, word_of, ℕ, ⊎_elim, ◌&&◌, ◌++◌, ◌-◌, ◌<◌, ◌∙◌, ◌∷◌, ◌≡◌, ◌≢◌, ◌≤◌, ◌⊎◌}
 use Rattle.board.proofs.Expiries.{no_more_armed}
 use Rattle.board.proofs.GoesLaws.{goes_more, goes_then}
 use Rattle.board.proofs.Settlings.{at_is as timer_at, mine as timer_mine, armed_on, born_goes, hosted, link_first, link_later, linked_goes, linked_on, target_is, unfired_on}
@@ -211,41 +211,32 @@ due_on b s t r w due = record {
   due = (let clock = clock_goes b (pass_of s) (pass_of t) [] w.goes (ap (λ (z : Role). stands_for z pollers) (sym w.goes.role_is ∙ w.seat.role)) tt in let le = due.due in omega arith);
 }
 
-module _ (b : Facts) (r : Req) where
-  -- it isn't armed, or is a TIMEOUT
-  pub fires_none : (p q : Pass) → Settles b r p q Settling.NotArmed → Fires b r p q Firing.NotArmed
-  fires_none p q k = record { goes = k.goes; tells = k.tells; others = k.others }
+-- the target didn't reply before
+pub strikes_fired : (h : List Event) (r : Req) (y : Struck) → (y ≡ Over → ⊥) → StrikeTells h r y → fired h r ≡ true
+strikes_fired h r Over n k = absurd (n refl)
+strikes_fired h r Took n k = k
+strikes_fired h r Missed n k = k
 
-  module _ (s t : TableSeat) (w : Watched b s t) where
-    -- its deadline is to come
-    pub fires_early : IsEarly (events_of t.me.0.seen) r → IsLinkTimeout (events_of t.me.0.seen) r → Stepped b.layout.cells r (pass_of s) (pass_of t) → Fires b r (pass_of s) (pass_of t) Firing.Early
-    fires_early is link step = record { goes = w.goes; tells = (is, link, step); others = w.freed_is }
+module _ (b : Facts) (r : Req) (s t : TableSeat) (x g d : ℕ) (a : IsArmedAt b s x g r d) where
+  -- the timer is armed still
+  pub armed_still : (y : Struck) → IsPollerSeat t → DidStrike b r (pass_of s) (pass_of t) y → IsArmedAt b t x g r d
+  armed_still y seat k = record { ours = record { ours = k.goes.kept; seat = seat }; at = a.at; small = a.small; armed_is = k.still d a.armed_is; born = born_goes b (pass_of s) (pass_of t) (struck_by y r) k.goes r a.born }
 
-    -- a look before it struck
-    pub fires_over : (u : TableSeat) → IsPollerSeat u → IsDueLinked (events_of t.me.0.seen) r → DidStrike b r (pass_of t) (pass_of u) Over → Fires b r (pass_of s) (pass_of u) TargetDone
-    fires_over u seat due k = let v : Watched b t u = record { seat = seat; goes = k.goes; freed_is = k.others } in record {
-      goes = goes_then b (pass_of s) (pass_of t) (pass_of u) [] w.goes k.goes;
-      tells = (due_on b t u r v due, target_is (events_of u.me.0.seen) r k.linked, k.tells);
-      others = λ i. k.others i ∙ w.freed_is i;
-    }
+  pub fires_over : IsPollerSeat t → IsDueLinked (events_of s.me.0.seen) r → DidStrike b r (pass_of s) (pass_of t) Over → FiresDue b s t x g r d Over
+  fires_over seat due k = let w : Watched b s t = record { seat = seat; goes = k.goes; freed_is = k.others } in (
+    armed_still Over seat k,
+    record { goes = k.goes; tells = (due_on b s t r w due, target_is (events_of t.me.0.seen) r k.linked, k.tells); others = k.others },
+  )
 
-    module _ (u v : TableSeat) (born : r.k < submits (events_of t.me.0.seen) r.ring) where
-      fired_target : (x : Struck) → DidStrike b r (pass_of t) (pass_of u) x → EndsFired b r (pass_of u) (pass_of v) → IsTarget (events_of v.me.0.seen) r (previous r)
-      fired_target x k m = target_is (events_of v.me.0.seen) r (linked_goes b (pass_of u) (pass_of v) (Settle r ∷ []) m.goes r (born_goes b (pass_of t) (pass_of u) (struck_by x r) k.goes r born) k.linked)
+  module _ (u : TableSeat) where
+    fired_target : (y : Struck) → DidStrike b r (pass_of s) (pass_of t) y → EndsFired b r (pass_of t) (pass_of u) → IsTarget (events_of u.me.0.seen) r (previous r)
+    fired_target y k m = target_is (events_of u.me.0.seen) r (linked_goes b (pass_of t) (pass_of u) (Settle r ∷ []) m.goes r (born_goes b (pass_of s) (pass_of t) (struck_by y r) k.goes r a.born) k.linked)
 
-      pub fires_took : DidStrike b r (pass_of t) (pass_of u) Took → EndsFired b r (pass_of u) (pass_of v) → Fires b r (pass_of s) (pass_of v) Firing.Took
-      fires_took k m = record {
-        goes = goes_more b (pass_of s) (pass_of u) (pass_of v) (Settle r) (Fire r (previous r) ∷ []) [] (goes_then b (pass_of s) (pass_of t) (pass_of u) (Fire r (previous r) ∷ []) w.goes k.goes) m.goes;
-        tells = (m.tells, fired_target Took k m);
-        others = λ i. m.others i ∙ (k.others i ∙ w.freed_is i);
-      }
-
-      pub fires_missed : DidStrike b r (pass_of t) (pass_of u) Missed → EndsFired b r (pass_of u) (pass_of v) → Fires b r (pass_of s) (pass_of v) Firing.Missed
-      fires_missed k m = record {
-        goes = goes_more b (pass_of s) (pass_of u) (pass_of v) (Settle r) (FireMiss r (previous r) ∷ []) [] (goes_then b (pass_of s) (pass_of t) (pass_of u) (FireMiss r (previous r) ∷ []) w.goes k.goes) m.goes;
-        tells = (m.tells, fired_target Missed k m);
-        others = λ i. m.others i ∙ (k.others i ∙ w.freed_is i);
-      }
+    -- and is answered
+    pub fires_due : (y : Struck) → (y ≡ Over → ⊥) → DidStrike b r (pass_of s) (pass_of t) y → EndsFired b r (pass_of t) (pass_of u) → FiresDue b s u x g r d y
+    fires_due Over n k m = absurd (n refl)
+    fires_due Took n k m = record { goes = goes_more b (pass_of s) (pass_of t) (pass_of u) (Settle r) (Fire r (previous r) ∷ []) [] k.goes m.goes; tells = (m.tells, fired_target Took k m); others = λ i. m.others i ∙ k.others i }
+    fires_due Missed n k m = record { goes = goes_more b (pass_of s) (pass_of t) (pass_of u) (Settle r) (FireMiss r (previous r) ∷ []) [] k.goes m.goes; tells = (m.tells, fired_target Missed k m); others = λ i. m.others i ∙ k.others i }
 
 -- ---- what the poller keeps
 

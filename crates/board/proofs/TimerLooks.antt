@@ -5,12 +5,12 @@ use Rattle.steps.proofs.CountsRead.{count_told}
 use Rattle.board.specs.declared.alarm.Timer.{Timer}
 use Rattle.board.specs.declared.poller.Arming.{Arming}
 use Rattle.board.specs.declared.poller.Arming.TheVariants.{Armed, NotHeld}
-use Rattle.board.proofs.Common.{Alarm, Alone, Arm, ArmTells, Arms, Decides, Did, Entry, Event, Extends, Facts, IsAlarm, IsAt, IsBarred, IsHeld, IsKept, IsLinkTimeout, IsNoTimer, IsOurs, IsPlaced, IsReplied, IsSameSeat, IsShutTimer, IsStep, IsTimerAs, IsTrue, Layout, Legal, Line, LinkTimeout, Linked, List, Looks, None, NotTimer, NotesTell, Op, Option, Orderly, Paid, Pass, Released, Req, Role, Seat, Setup, Severed, Shut, Some, Stepped, Tag, Thing, View, Watched, [], ap, arith, armed, claim_at, clock_of, cond, count_at, count_of, events_of, facts_at, false, fired, fits_facts, is_link_timeout, is_timeout, is_timer, kind_lasts, lasts, looks_at, looks_for_count, noted, packed_facts, pass_of, phase, placed_lasts, pollers, reaped_replied, refl, request_at, same_itself, setup_of, stands_for, submits, subst, sym, ticks_of, true, true≢false, word_of, ℕ, ◌++◌, ◌+◌, ◌<◌, ◌||◌, ◌∙◌, ◌∷◌, ◌≡◌}
+use Rattle.board.proofs.Common.{Alarm, Alone, Arm, ArmTells, Arms, Decides, Did, Entry, Event, Extends, Facts, IsAlarm, IsAt, IsBarred, IsHeld, IsKept, IsLinkTimeout, IsOurs, IsPlaced, IsReplied, IsSameSeat, IsStep, IsTimerAs, IsTrue, Layout, Legal, Line, LinkTimeout, Linked, List, Looks, None, NotTimer, NotesTell, Op, Option, Orderly, Paid, Pass, Released, Req, Role, Seat, Setup, Severed, Shut, Some, Stepped, Tag, Thing, View, Watched, [], ap, arith, armed, claim_at, clock_of, cond, count_at, count_of, events_of, facts_at, false, fired, fits_facts, is_link_timeout, is_timeout, is_timer, kind_lasts, lasts, looks_at, looks_for_count, noted, packed_facts, pass_of, phase, placed_lasts, pollers, reaped_replied, refl, request_at, same_itself, setup_of, stands_for, submits, subst, sym, ticks_of, true, true≢false, word_of, ℕ, ◌++◌, ◌+◌, ◌<◌, ◌||◌, ◌∙◌, ◌∷◌, ◌≡◌, ◌≤◌}
 use Rattle.board.proofs.GoesLaws.{goes_then}
 use Rattle.board.proofs.TimersHeld.{goes_one, freed_one}
 use Rattle.board.proofs.TimersKept.{unfired_yet, timer_is as link_is}
 use Rattle.board.proofs.TimerFacts.{TellsAll, alive_facts}
-use Rattle.board.proofs.Watching.{watched_look, born_on, lasts_on, stepped_after, found_after, shut_after, held_after, held_before, was_held, watched_then, paid_most}
+use Rattle.board.proofs.Watching.{watched_look, born_on, lasts_on, stepped_after, found_after, shut_after, held_after, held_before, was_held}
 
 abbrev TableSeat : Type 0
 TableSeat = Seat (Option Thing) View
@@ -104,22 +104,14 @@ as_timer h r k is = (is.0, is.1, by_alarm is.0 k.alarm is.4) where
   by_alarm e Linked i = link_is e.op i
   by_alarm e (Alone f n) i = ap (λ b. b || is_link_timeout e.op) i.0
 
--- answers that change nothing
-pub arms_shut : (b : Facts) (r : Req) (s t : TableSeat) → Watched b s t → IsShutTimer b.layout.cells r (pass_of s) (pass_of t) → Arms b r (pass_of s) (pass_of t) Shut
-arms_shut b r s t w k = record { goes = w.goes; tells = k; others = w.freed_is }
-
-pub arms_other : (b : Facts) (r : Req) (s t : TableSeat) → Watched b s t → IsNoTimer t.me.0.seen r → Stepped b.layout.cells r (pass_of s) (pass_of t) → Arms b r (pass_of s) (pass_of t) NotTimer
-arms_other b r s t w k f = record { goes = w.goes; tells = (k, f); others = w.freed_is }
-
 -- the request was found Held, and then it was found to be severed, or shut out
-module _ (b : Facts) (r : Req) (s t u v : TableSeat) (n m n' m' : ℕ) (w : Watched b s t) (p : Paid s.me.0 t.me.0 n m) (y : Watched b t u) (q : Paid t.me.0 u.me.0 0 1) (held : IsHeld u.me.0.seen r) (step : Stepped b.layout.cells r (pass_of t) (pass_of u)) (z : Watched b u v) (q' : Paid u.me.0 v.me.0 n' m') where
-  pub arms_barred : IsBarred b.layout.cells r (pass_of u) (pass_of v) → IsOfKind (events_of v.me.0.seen) r is_timer true → Arms b r (pass_of s) (pass_of v) Shut
-  arms_barred i k = arms_after b r s t v n m Shut w p (arms_shut b r t v (watched_then b t u v y z) record {
-    barred = barred_after b r t u v 0 1 q i;
-    timer = k;
-    held = held_before b r t u v n' m' (was_held b.layout.cells r t u (y.goes.later, y.goes.seen_is) step held) z q';
-    unfreed = z.freed_is r ∙ held.1;
-  })
+module _ (b : Facts) (r : Req) (s t u : TableSeat) (n m n' m' : ℕ) (w : Watched b s t) (p : Paid s.me.0 t.me.0 n m) (held : IsHeld t.me.0.seen r) (step : Stepped b.layout.cells r (pass_of s) (pass_of t)) (z : Watched b t u) (q : Paid t.me.0 u.me.0 n' m') where
+  pub arms_barred : IsBarred b.layout.cells r (pass_of t) (pass_of u) → IsOfKind (events_of u.me.0.seen) r is_timer true → Arms b r (pass_of s) (pass_of u) Shut
+  arms_barred i k = record {
+    goes = goes_then b (pass_of s) (pass_of t) (pass_of u) [] w.goes z.goes;
+    tells = record { barred = barred_after b r s t u n m p i; timer = k; held = held_before b r s t u n' m' (was_held b.layout.cells r s t (w.goes.later, w.goes.seen_is) step held) z q; unfreed = z.freed_is r ∙ held.1 };
+    others = λ j. z.freed_is j ∙ w.freed_is j;
+  }
 
 -- ---- the count of a TIMEOUT
 
@@ -131,12 +123,12 @@ count_read b s t r x g o a looks tells alive e placed timed =
     (λ gone. alive (subst (λ (q : Req). IsReplied (phase (events_of t.me.0.seen) q)) at (reaped_replied (phase (events_of t.me.0.seen) (request_at L.cells x g)) gone)))
 
 -- the looks that tell which timer it is
-pub timer_paid : (v w : View) (k : Option Timer) → Paid v w 0 (looks_at k) → Paid v w 0 2
-timer_paid v w None p = paid_most v w 1 2 p (omega arith)
-timer_paid v w (Some k) p = by_alarm k.alarm p where
-  by_alarm : (a : Alarm) → Paid v w 0 (1 + looks_for_count a) → Paid v w 0 2
-  by_alarm Linked p = paid_most v w 1 2 p (omega arith)
-  by_alarm (Alone f n) p = p
+pub looks_few : (k : Option Timer) → looks_at k ≤ 2
+looks_few None = omega arith
+looks_few (Some k) = by_alarm k.alarm where
+  by_alarm : (a : Alarm) → 1 + looks_for_count a ≤ 2
+  by_alarm Linked = omega arith
+  by_alarm (Alone f n) = omega arith
 
 pub not_both : (o : Op) → is_timeout o ≡ true → is_link_timeout o ≡ true → ⊥
 not_both (LinkTimeout ticks) a b = true≢false (sym a)

@@ -9,7 +9,7 @@ use Rattle.gates.specs.Slots.{Slot}
 use Rattle.history.specs.declared.req.Req.{Req}
 use Rattle.history.specs.declared.event.Event.{Event}
 use Rattle.history.specs.declared.event.Event.TheVariants.{Park, Sever}
-use Rattle.history.specs.History.{phase, waits, replied, by_sever, reply, same, IsReplied}
+use Rattle.history.specs.History.{phase, submits, waits, replied, by_sever, reply, same, IsReplied}
 use Rattle.history.specs.Chains.{IsPlaced, IsChainDone, IsBefore, IsChainBefore, IsLinkTimeout, Severed, Open, is_timer}
 use Rattle.history.specs.Legal.{IsOf as IsOfKind}
 use Rattle.steps.specs.declared.line.Line.{Line}
@@ -68,6 +68,14 @@ pub record IsAt (K : List ℕ) (cell generation : ℕ) (q : Req) : Type 0 where
 pub record IsOurs (b : Facts) (s : Seat (Option Thing) View) : Type 0 where
   pub ours : IsOf b (pass_of s)
   pub seat : IsPollerSeat s
+
+-- the poller's seat, and a request that has this cell and was submitted
+pub record IsSubmitted (b : Facts) (s : Seat (Option Thing) View) (cell generation : ℕ) (q : Req) : Type 0 where
+  pub ours : IsOurs b s
+  pub at : IsAt b.layout.cells cell generation q
+  pub small : generation < 16777216
+  pub numbered : IsNumbered b.layout.cells q
+  pub born : q.k < submits (events_of s.me.0.seen) q.ring
 
 -- the poller's seat looked, any number of times
 pub record Watched (b : Facts) (s t : Seat (Option Thing) View) : Type 0 where

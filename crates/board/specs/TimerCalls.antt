@@ -1,6 +1,7 @@
 -- What the poller's calls on timers make of its pass, and what their answers say.
 use Rattle.std.specs.Prelude.{◌≡◌, ◌≢◌, ◌⊎◌, ℕ, ◌+◌, ◌<◌, ◌≤◌, pos, negsuc, Bool, true, false, List, [], ◌∷◌, Option, Some, None}
-use Rattle.entry.specs.Entry.{Entry}
+use Rattle.atomic_table.specs.declared.shared.Seat.{Seat}
+use Rattle.entry.specs.Entry.{Entry, fails}
 use Rattle.history.specs.declared.req.Req.{Req}
 use Rattle.history.specs.declared.event.Event.{Event}
 use Rattle.history.specs.declared.event.Event.TheVariants.{Arm, Expire, Count, Fire, FireMiss, Settle}
@@ -8,14 +9,17 @@ use Rattle.history.specs.History.{phase, unborn, armed, replied, by_expire, by_c
 use Rattle.history.specs.Chains.{IsLinkTimeout, IsPlaced, IsTarget, Severed, is_timeout, is_timer, previous}
 use Rattle.history.specs.Legal.{ticks_of, count_of, IsOf as IsOfKind}
 use Rattle.steps.specs.declared.line.Line.{Line}
+use Rattle.steps.specs.declared.parcel.Thing.{Thing}
+use Rattle.steps.specs.declared.view.View.{View}
 use Rattle.steps.specs.Journal.{events_of, freed}
 use Rattle.steps.specs.Rule.{Begins}
 use Rattle.work.specs.Board.{Facts}
-use Rattle.work.specs.Passes.{Pass, seen_of}
+use Rattle.work.specs.Passes.{Pass, pass_of, seen_of}
 use Rattle.board.specs.Calls.{Goes, Stepped, FoundHeld, IsHeld, IsUnheld}
-use Rattle.board.specs.PollerRows.{IsShutOut, WasHeld}
-use Rattle.board.specs.PollerTimers.{IsKept}
+use Rattle.board.specs.PollerRows.{IsAt, IsOurs, IsShutOut, Paid, WasHeld}
+use Rattle.board.specs.PollerTimers.{IsKept, IsTimerAs, KnowsAlarm, looks_at}
 use Rattle.board.specs.declared.alarm.Alarm.{Alarm}
+use Rattle.board.specs.declared.alarm.Timer.{Timer}
 use Rattle.board.specs.declared.poller.Expiry.{Expiry}
 use Rattle.board.specs.declared.poller.Expiry.TheVariants.{Expired, Early, NotArmed}
 use Rattle.board.specs.declared.poller.Counting.{Counting}
@@ -57,6 +61,15 @@ pub record IsShutTimer (K : List ℕ) (r : Req) (p q : Pass) : Type 0 where
   pub held : WasHeld K r p q
   pub unfreed : freed q.view.seen r ≡ false
 
+-- the request waits for the poller, as the last step of the call found, and is this timer
+pub record IsHeldTimer (b : Facts) (s t : Seat (Option Thing) View) (generation : ℕ) (r : Req) (k : Timer) : Type 0 where
+  pub small : generation < 16777216
+  pub born : r.k < submits (events_of t.me.0.seen) r.ring
+  pub held : IsHeld t.me.0.seen r
+  pub timer : IsTimerAs (events_of t.me.0.seen) r (Some k)
+  pub found : Stepped b.layout.cells r (pass_of s) (pass_of t)
+  pub steps : Paid s.me.0 t.me.0 0 (looks_at (Some k) + 1)
+
 -- what an arming says of the request, by its answer
 abbrev pub ArmTells : Facts → Req → Pass → Pass → Arming → Type 0
 ArmTells b r p q (Armed d) = IsArmedFor (seen_of q) r d × WasClear r p q × FoundHeld b.layout.cells r p q
@@ -74,6 +87,39 @@ pub record Arms (b : Facts) (r : Req) (p q : Pass) (x : Arming) : Type 0 where
 abbrev pub Keeps : List Event → Req → Alarm → Alarm → Arming → Type 0
 Keeps h r old new (Armed d) = IsKept h r (Some new) × (fired h r ≡ false)
 Keeps h r old new _ = new ≡ old
+
+-- why the request wasn't armed, and nothing changed
+pub record Refuses (b : Facts) (s t : Seat (Option Thing) View) (r : Req) (x : Arming) : Type 0 where
+  pub arms : Arms b r (pass_of s) (pass_of t) x
+  pub keeps : (a : Alarm) → Keeps (events_of t.me.0.seen) r a a x
+  pub steps : Paid s.me.0 t.me.0 0 3
+
+-- ---- a look at a timer that may be armed
+
+-- it isn't armed
+abbrev pub IsUnarmed : List Event → Req → Type 0
+IsUnarmed h r = (d : ℕ) → phase h r ≢ armed d
+
+-- the poller's seat, and the request that has this cell: it is armed with this deadline
+pub record IsArmedAt (b : Facts) (s : Seat (Option Thing) View) (cell generation : ℕ) (r : Req) (deadline : ℕ) : Type 0 where
+  pub ours : IsOurs b s
+  pub at : IsAt b.layout.cells cell generation r
+  pub small : generation < 16777216
+  pub armed_is : phase (events_of s.me.0.seen) r ≡ armed deadline
+  pub born : r.k < submits (events_of s.me.0.seen) r.ring
+
+-- a LINK_TIMEOUT that hasn't fired
+abbrev pub IsUnfired : List Event → Req → Type 0
+IsUnfired h r = IsLinkTimeout h r × (fired h r ≡ false)
+
+-- a TIMEOUT whose running out is a failure of it, or not
+abbrev pub FailsAs : List Event → Req → Bool → Type 0
+FailsAs h r f = (e : Entry) × IsPlaced h r e × (is_timeout e.op ≡ true) × (f ≡ fails e (negsuc 61))
+
+-- the deadline that a look found, which took the seat from s to t, and what was kept of the timer is right of it
+abbrev pub TellsDeadline : Facts → Seat (Option Thing) View → Seat (Option Thing) View → ℕ → ℕ → Req → Option ℕ → Type 0
+TellsDeadline b s t x g r None = IsUnarmed (events_of t.me.0.seen) r
+TellsDeadline b s t x g r (Some d) = IsArmedAt b t x g r d × ((a : Alarm) → KnowsAlarm (events_of s.me.0.seen) r (Some a) → IsKept (events_of t.me.0.seen) r (Some a) × (fired (events_of t.me.0.seen) r ≡ false))
 
 -- ---- an expiry
 
@@ -127,13 +173,13 @@ pub record HasFewer (h : List Event) (r : Req) : Type 0 where
   pub counts : 0 < count_of entry.op
   pub fewer : later_replies h r < count_of entry.op
 
+-- it counts so many completions, which are some
+abbrev pub IsCounting : List Event → Req → ℕ → Type 0
+IsCounting h r n = (e : Entry) × IsPlaced h r e × (n ≡ count_of e.op) × (0 < n)
+
 -- it is armed, and counts no completions
 abbrev pub IsUncounted : List Event → Req → Type 0
 IsUncounted h r = IsArmed h r × ((e : Entry) × IsPlaced h r e × (count_of e.op ≡ 0))
-
--- it isn't armed
-abbrev pub IsUnarmed : List Event → Req → Type 0
-IsUnarmed h r = (d : ℕ) → phase h r ≢ armed d
 
 -- what a count says of the request, by its answer
 abbrev pub CountingTells : Facts → Req → Pass → Pass → Counting → Type 0
@@ -239,6 +285,12 @@ pub record DidStrike (b : Facts) (r : Req) (p q : Pass) (x : Struck) : Type 0 wh
   pub others : (i : Req) → freed q.view.seen i ≡ freed p.view.seen i
   pub linked : IsLinkTimeout (seen_of q) r
   pub still : (d : ℕ) → phase (seen_of p) r ≡ armed d → phase (seen_of q) r ≡ armed d
+
+-- what became of the pass that struck the target of r, and answered r if it struck
+abbrev pub FiresDue : Facts → Seat (Option Thing) View → Seat (Option Thing) View → ℕ → ℕ → Req → ℕ → Struck → Type 0
+FiresDue b s t x g r d Over = IsArmedAt b t x g r d × Fires b r (pass_of s) (pass_of t) TargetDone
+FiresDue b s t x g r d Struck.Took = Fires b r (pass_of s) (pass_of t) Took
+FiresDue b s t x g r d Struck.Missed = Fires b r (pass_of s) (pass_of t) Missed
 
 -- what became of the pass that answered r, which has fired
 pub record EndsFired (b : Facts) (r : Req) (p q : Pass) : Type 0 where

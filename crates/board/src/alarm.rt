@@ -1,16 +1,15 @@
 //! What the poller finds out of timers, what it keeps of those that it armed, and how it arms one.
-ghost use Rattle.std.specs.Prelude.{◌≡◌, ◌+◌, ◌*◌, ◌<◌, ◌≤◌, true, false, negsuc, Some};
-ghost use Rattle.entry.specs.Entry.{Entry, fails as fails_with};
+ghost use Rattle.std.specs.Prelude.{◌≡◌, ◌+◌, ◌*◌, ◌<◌, ◌≤◌, true, false, Some, IfOk, IfErr};
 ghost use Rattle.gates.specs.EntryRows.{added, waiting};
-ghost use Rattle.history.specs.declared.req.Req.{Req as Request};
-ghost use Rattle.history.specs.Chains.{IsPlaced, Open, Severed, is_timeout};
-ghost use Rattle.history.specs.History.{IsReplied, armed, clock_of, phase, submits};
+ghost use Rattle.history.specs.Chains.{Open, Severed};
+ghost use Rattle.history.specs.History.{IsReplied, clock_of, phase, submits};
 ghost use Rattle.steps.specs.Journal.{events_of};
 ghost use Rattle.work.specs.Passes.{pass_of};
+ghost use Rattle.board.specs.Calls.{Stepped};
 ghost use Rattle.board.specs.declared.poller.Released.TheVariants.{NotHeld};
-ghost use Rattle.board.specs.PollerRows.{Decides, IsAt, IsOurs, KnowsRow, Paid, Watched, owed};
+ghost use Rattle.board.specs.PollerRows.{IsSubmitted, Decides, IsAt, IsOurs, KnowsRow, Paid, StepsTo, Watched, owed};
 ghost use Rattle.board.specs.PollerTimers.{IsTimerAs, KnowsAlarm, looks_at};
-ghost use Rattle.board.specs.TimerCalls.{Arms, Expires, Keeps};
+ghost use Rattle.board.specs.TimerCalls.{Arms, Expires, FailsAs, IsArmedAt, IsHeldTimer, Keeps, Refuses, TellsDeadline};
 ghost use Rattle.board.specs.Seats.{IsPollerSeat};
 
 use crate::board::Board;
@@ -73,6 +72,26 @@ fn timer_in(board: &Board, seat: &mut TableSeat, spot: Spot, req: Req) -> Option
     None
 }
 
+/// Which timer the request is, if it waits for the poller. Else what its arming comes to.
+#[inline(always)]
+fn held_timer(board: &Board, seat: &mut TableSeat, spot: Spot, req: Req) -> Result<Timer, Arming>
+    requires ours { IsOurs board.now seat.old }
+    requires at { IsAt board.now.layout.cells spot.cell spot.generation req }
+    requires born { req.k < submits (events_of seat.old.me.0.seen) req.ring }
+    ensures watched { Watched board.now seat.old seat.new }
+    ensures held { IfOk result (λ t. IsHeldTimer board.now seat.old seat.new spot.generation req t) }
+    ensures refused { IfErr result (λ x. Refuses board.now seat.old seat.new req x) }
+{
+    let found = timer_in(board, seat, spot, req);
+    if !is_held(board, seat, spot, req) {
+        return Err(Arming::NotHeld);
+    }
+    let Some(timer) = found else {
+        return Err(Arming::NotTimer);
+    };
+    Ok(timer)
+}
+
 /// Arms the timer, which may start, and keeps what is needed of it.
 fn set_alarm(
     board: &Board,
@@ -83,10 +102,7 @@ fn set_alarm(
     req: Req,
     timer: Timer,
 ) -> Arming
-    requires ours { IsOurs board.now seat.old }
-    requires at { IsAt board.now.layout.cells spot.cell spot.generation req }
-    requires small { spot.generation < 16777216 }
-    requires born { req.k < submits (events_of seat.old.me.0.seen) req.ring }
+    requires here { IsSubmitted board.now seat.old spot.cell spot.generation req }
     requires open { (Severed (events_of seat.old.me.0.seen) req → ⊥) × Open (events_of seat.old.me.0.seen) req }
     requires timer { IsTimerAs (events_of seat.old.me.0.seen) req (Some timer) }
     requires clock { (clock ≡ clock_of (events_of seat.old.me.0.seen)) × (clock ≤ 2147483647) }
@@ -147,19 +163,15 @@ fn arm_known(
     ensures knows { KnowsRow board.now.layout.cells seat.new.me.0.seen req.ring row.new }
     ensures steps { Paid seat.old.me.0 seat.new.me.0 0 (3 * waiting row.old + 4) }
 {
-    let found = timer_in(board, seat, spot, req);
-    if !is_held(board, seat, spot, req) {
-        return Arming::NotHeld;
-    }
-    let Some(timer) = found else {
-        return Arming::NotTimer;
-    };
-    match gate(board, seat, row, spot, req) {
-        Gating::Open => set_alarm(board, seat, clock, alarm, spot, req, timer),
-        Gating::Linked => set_alarm(board, seat, clock, alarm, spot, req, timer),
-        Gating::Severed => Arming::Shut,
-        Gating::Shut => Arming::Shut,
-        Gating::Lost => Arming::NotHeld,
+    match held_timer(board, seat, spot, req) {
+        Err(arming) => arming,
+        Ok(timer) => match gate(board, seat, row, spot, req) {
+            Gating::Open => set_alarm(board, seat, clock, alarm, spot, req, timer),
+            Gating::Linked => set_alarm(board, seat, clock, alarm, spot, req, timer),
+            Gating::Severed => Arming::Shut,
+            Gating::Shut => Arming::Shut,
+            Gating::Lost => Arming::NotHeld,
+        },
     }
 }
 
@@ -184,14 +196,10 @@ fn arm_plain(
     ensures steps { Paid seat.old.me.0 seat.new.me.0 0 4 }
 {
     let _ = row;
-    let found = timer_in(board, seat, spot, req);
-    if !is_held(board, seat, spot, req) {
-        return Arming::NotHeld;
+    match held_timer(board, seat, spot, req) {
+        Err(arming) => arming,
+        Ok(timer) => set_alarm(board, seat, clock, alarm, spot, req, timer),
     }
-    let Some(timer) = found else {
-        return Arming::NotTimer;
-    };
-    set_alarm(board, seat, clock, alarm, spot, req, timer)
 }
 
 /// Arms the request: by itself, if it is known as plain. Else it takes in what the row lacks, looks which timer it is and whether
@@ -225,6 +233,24 @@ pub(crate) fn arm(
     }
 }
 
+/// Looks whether the request's timer is armed. Its deadline, if so.
+#[inline(always)]
+pub(crate) fn deadline_of(board: &Board, seat: &mut TableSeat, spot: Spot, req: Req) -> Option<u32>
+    requires ours { IsOurs board.now seat.old }
+    requires at { IsAt board.now.layout.cells spot.cell spot.generation req }
+    ensures watched { Watched board.now seat.old seat.new }
+    ensures told { TellsDeadline board.now seat.old seat.new spot.cell spot.generation req result }
+    ensures found { Stepped board.now.layout.cells req (pass_of seat.old) (pass_of seat.new) }
+    ensures step { StepsTo board.now.layout.cells req seat.old.me.0 seat.new.me.0 }
+{
+    let _ = req;
+    let word = seat::look(&board.table.shared, seat, spot.cell);
+    match told(word, spot.generation) {
+        Phase::Armed(deadline) => Some(deadline),
+        _ => None,
+    }
+}
+
 /// Answers a TIMEOUT that is armed with this deadline, which has come.
 pub(crate) fn run_out(
     board: &Board,
@@ -234,13 +260,9 @@ pub(crate) fn run_out(
     deadline: u32,
     fails: bool,
 ) -> Expiry
-    requires ours { IsOurs board.now seat.old }
-    requires at { IsAt board.now.layout.cells spot.cell spot.generation req }
-    requires small { spot.generation < 16777216 }
-    requires armed { phase (events_of seat.old.me.0.seen) req ≡ armed deadline }
-    requires born { req.k < submits (events_of seat.old.me.0.seen) req.ring }
+    requires armed { IsArmedAt board.now seat.old spot.cell spot.generation req deadline }
     requires due { deadline ≤ clock_of (events_of seat.old.me.0.seen) }
-    requires timeout { (e : Entry) × IsPlaced (events_of seat.old.me.0.seen) req e × (is_timeout e.op ≡ true) × (fails ≡ fails_with e (negsuc 61)) }
+    requires timeout { FailsAs (events_of seat.old.me.0.seen) req fails }
     ensures seat { IsPollerSeat seat.new }
     ensures expires { Expires board.now req (pass_of seat.old) (pass_of seat.new) result }
     ensures steps { Paid seat.old.me.0 seat.new.me.0 0 1 }
@@ -272,8 +294,7 @@ pub(crate) fn expire(
     ensures expires { Expires board.now req (pass_of seat.old) (pass_of seat.new) result }
     ensures steps { Paid seat.old.me.0 seat.new.me.0 0 2 }
 {
-    let word = seat::look(&board.table.shared, seat, spot.cell);
-    let Phase::Armed(deadline) = told(word, spot.generation) else {
+    let Some(deadline) = deadline_of(board, seat, spot, req) else {
         return Expiry::NotArmed;
     };
     let Alarm::Alone(fails, _) = alarm else {

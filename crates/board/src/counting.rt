@@ -1,5 +1,5 @@
 //! How the poller answers a TIMEOUT that counts completions: it looks which later requests of its ring have replied.
-ghost use Rattle.std.specs.Prelude.{◌≡◌, ℕ, ◌+◌, ◌-◌, ◌<◌, ◌≤◌, true, false, Some, length};
+ghost use Rattle.std.specs.Prelude.{◌≡◌, ◌≢◌, ℕ, ◌+◌, ◌-◌, ◌<◌, ◌≤◌, true, false, Some, length};
 ghost use Rattle.entry.specs.Entry.{Entry};
 ghost use Rattle.history.specs.Chains.{IsPlaced};
 ghost use Rattle.history.specs.History.{armed, later_replies, phase, submits};
@@ -7,13 +7,13 @@ ghost use Rattle.history.specs.Legal.{count_of};
 ghost use Rattle.steps.specs.Cells.{cells_in};
 ghost use Rattle.steps.specs.Journal.{events_of};
 ghost use Rattle.work.specs.Passes.{pass_of};
-ghost use Rattle.board.specs.declared.poller.Counting.TheVariants.{Counted};
+ghost use Rattle.board.specs.declared.poller.Counting.TheVariants.{Counted, NotCounted};
 ghost use Rattle.board.specs.PollerRows.{IsAt, IsNumbered, IsOurs, Paid, Spends, StepsTo, Watched};
 ghost use Rattle.board.specs.PollerTimers.{KnowsAlarm};
 ghost use Rattle.board.specs.Seats.{IsPollerSeat};
-ghost use Rattle.board.specs.TimerCalls.{Counts, TellsReply};
+ghost use Rattle.board.specs.TimerCalls.{Counts, IsArmedAt, IsCounting, TellsReply};
 
-use crate::alarm::Alarm;
+use crate::alarm::{Alarm, deadline_of};
 use crate::board::Board;
 use crate::phase::{Phase, told};
 use crate::poller::Counting;
@@ -42,7 +42,7 @@ fn has_replied(board: &Board, seat: &mut TableSeat, req: Req) -> Option<bool>
 
 /// Whether so many later requests of its ring have replied. It looks at no more than may have been submitted while the request
 /// keeps its cell.
-pub(crate) fn has_counted(board: &Board, seat: &mut TableSeat, req: Req, count: u64) -> bool
+fn has_counted(board: &Board, seat: &mut TableSeat, req: Req, count: u64) -> bool
     requires ours { IsOurs board.now seat.old }
     requires numbered { IsNumbered board.now.layout.cells req }
     requires born { req.k < submits (events_of seat.old.me.0.seen) req.ring }
@@ -68,13 +68,7 @@ pub(crate) fn has_counted(board: &Board, seat: &mut TableSeat, req: Req, count: 
 }
 
 /// Answers a TIMEOUT that may be armed with this deadline alone, and has counted enough completions. Whether it was armed.
-pub(crate) fn end_counted(
-    board: &Board,
-    seat: &mut TableSeat,
-    spot: Spot,
-    req: Req,
-    deadline: u32,
-) -> bool
+fn end_counted(board: &Board, seat: &mut TableSeat, spot: Spot, req: Req, deadline: u32) -> bool
     requires ours { IsOurs board.now seat.old }
     requires at { IsAt board.now.layout.cells spot.cell spot.generation req }
     requires small { spot.generation < 16777216 }
@@ -90,6 +84,34 @@ pub(crate) fn end_counted(
     let _ = req;
     let words = &board.table.shared;
     timers::count(words, seat, spot.cell, spot.generation as u32, deadline)
+}
+
+/// Answers a TIMEOUT that is armed with this deadline, if it has counted enough completions.
+#[inline(always)]
+pub(crate) fn count_armed(
+    board: &Board,
+    seat: &mut TableSeat,
+    spot: Spot,
+    req: Req,
+    deadline: u32,
+    count: u64,
+) -> Counting
+    requires armed { IsArmedAt board.now seat.old spot.cell spot.generation req deadline }
+    requires counts { IsCounting (events_of seat.old.me.0.seen) req count }
+    ensures seat { IsPollerSeat seat.new }
+    ensures counts { Counts board.now req (pass_of seat.old) (pass_of seat.new) result }
+    ensures counting { result ≢ NotCounted }
+    ensures steps { Paid seat.old.me.0 seat.new.me.0 0 (cells_in board.now.layout.cells req.ring) }
+    ensures looks { Spends board.now.layout.cells req seat.old.me.0 seat.new.me.0 1 (cells_in board.now.layout.cells req.ring - 1) }
+{
+    if !has_counted(board, seat, req, count) {
+        return Counting::Fewer;
+    }
+    if end_counted(board, seat, spot, req, deadline) {
+        Counting::Counted
+    } else {
+        Counting::NotArmed
+    }
 }
 
 /// Answers the request, if it is a TIMEOUT that is armed and has counted enough completions. `alarm` is what is kept of the
@@ -109,8 +131,7 @@ pub(crate) fn count(
     ensures steps { Paid seat.old.me.0 seat.new.me.0 0 (cells_in board.now.layout.cells req.ring + 1) }
     ensures looks { Spends board.now.layout.cells req seat.old.me.0 seat.new.me.0 2 (cells_in board.now.layout.cells req.ring - 1) }
 {
-    let word = seat::look(&board.table.shared, seat, spot.cell);
-    let Phase::Armed(deadline) = told(word, spot.generation) else {
+    let Some(deadline) = deadline_of(board, seat, spot, req) else {
         return Counting::NotArmed;
     };
     let Alarm::Alone(_, count) = alarm else {
@@ -119,12 +140,5 @@ pub(crate) fn count(
     if count == 0 {
         return Counting::NotCounted;
     }
-    if !has_counted(board, seat, req, count) {
-        return Counting::Fewer;
-    }
-    if end_counted(board, seat, spot, req, deadline) {
-        Counting::Counted
-    } else {
-        Counting::NotArmed
-    }
+    count_armed(board, seat, spot, req, deadline, count)
 }

@@ -2,9 +2,8 @@
 ghost use Rattle.std.specs.Prelude.{◌<◌, List};
 ghost use Rattle.gates.specs.EntryRows.{Stands, Waits};
 ghost use Rattle.gates.specs.Slots.{Slot};
-ghost use Rattle.history.specs.History.{submits, waits};
-ghost use Rattle.steps.specs.Journal.{events_of};
-ghost use Rattle.board.specs.PollerRows.{Watches, IsNumbered, IsAt, IsOurs, Passes, IsNextLook, Advances, Gates};
+ghost use Rattle.history.specs.History.{waits};
+ghost use Rattle.board.specs.PollerRows.{IsSubmitted, Watches, Passes, IsNextLook, Advances, Gates};
 ghost use Rattle.gates.specs.Shows.{nth};
 
 use crate::board::Board;
@@ -62,10 +61,7 @@ fn pass(
     req: Req,
     first: u64,
 ) -> Passing
-    requires ours { IsOurs board.now seat.old }
-    requires at { IsAt board.now.layout.cells spot.cell spot.generation req }
-    requires numbered { IsNumbered board.now.layout.cells req }
-    requires born { req.k < submits (events_of seat.old.me.0.seen) req.ring }
+    requires here { IsSubmitted board.now seat.old spot.cell spot.generation req }
     requires watches { Watches board.now.layout.cells seat.old.me.0.seen req row.old }
     requires earlier { first < req.k }
     requires waits { (xs : List Slot) → Stands xs row.old → Waits xs row.old first }
@@ -113,10 +109,7 @@ fn advance(
     req: Req,
     looked: bool,
 ) -> Round
-    requires ours { IsOurs board.now seat.old }
-    requires at { IsAt board.now.layout.cells spot.cell spot.generation req }
-    requires numbered { IsNumbered board.now.layout.cells req }
-    requires born { req.k < submits (events_of seat.old.me.0.seen) req.ring }
+    requires here { IsSubmitted board.now seat.old spot.cell spot.generation req }
     requires watches { Watches board.now.layout.cells seat.old.me.0.seen req row.old }
     ensures { Advances board.now req looked seat.old seat.new row.old row.new result }
 {
@@ -141,10 +134,7 @@ pub(crate) fn gate(
     spot: Spot,
     req: Req,
 ) -> Gating
-    requires ours { IsOurs board.now seat.old }
-    requires at { IsAt board.now.layout.cells spot.cell spot.generation req }
-    requires numbered { IsNumbered board.now.layout.cells req }
-    requires born { req.k < submits (events_of seat.old.me.0.seen) req.ring }
+    requires here { IsSubmitted board.now seat.old spot.cell spot.generation req }
     requires watches { Watches board.now.layout.cells seat.old.me.0.seen req row.old }
     ensures { Gates board.now req seat.old seat.new row.old row.new result }
 {

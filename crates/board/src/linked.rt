@@ -8,12 +8,13 @@ ghost use Rattle.history.specs.Legal.{Legal};
 ghost use Rattle.steps.specs.Cells.{setup_of};
 ghost use Rattle.steps.specs.Journal.{events_of};
 ghost use Rattle.work.specs.Passes.{pass_of};
+ghost use Rattle.board.specs.declared.linked.Struck.TheVariants.{Over};
 ghost use Rattle.board.specs.PollerRows.{IsAt, IsOurs, Paid, Watched};
 ghost use Rattle.board.specs.PollerTimers.{KnowsAlarm};
 ghost use Rattle.board.specs.Seats.{IsPollerSeat};
-ghost use Rattle.board.specs.TimerCalls.{DidStrike, EndsFired, Fires, IsDueLinked, IsTargetOpen, Settles};
+ghost use Rattle.board.specs.TimerCalls.{DidStrike, EndsFired, Fires, FiresDue, IsArmedAt, IsDueLinked, IsTargetOpen, IsUnfired, Settles};
 
-use crate::alarm::Alarm;
+use crate::alarm::{Alarm, deadline_of};
 use crate::board::Board;
 use crate::phase::{Phase, told};
 use crate::poller::{Firing, Settling};
@@ -60,13 +61,8 @@ pub(crate) fn end_linked(
     req: Req,
     deadline: u32,
 ) -> Settling
-    requires ours { IsOurs board.now seat.old }
-    requires at { IsAt board.now.layout.cells spot.cell spot.generation req }
-    requires small { spot.generation < 16777216 }
-    requires armed { phase (events_of seat.old.me.0.seen) req ≡ armed deadline }
-    requires born { req.k < submits (events_of seat.old.me.0.seen) req.ring }
-    requires linked { IsLinkTimeout (events_of seat.old.me.0.seen) req }
-    requires unfired { fired (events_of seat.old.me.0.seen) req ≡ false }
+    requires armed { IsArmedAt board.now seat.old spot.cell spot.generation req deadline }
+    requires unfired { IsUnfired (events_of seat.old.me.0.seen) req }
     requires target { (t : Request) × IsTarget (events_of seat.old.me.0.seen) req t × IsReplied (phase (events_of seat.old.me.0.seen) t) }
     ensures seat { IsPollerSeat seat.new }
     ensures settles { Settles board.now req (pass_of seat.old) (pass_of seat.new) result }
@@ -107,13 +103,8 @@ pub(crate) fn settle_armed(
     req: Req,
     deadline: u32,
 ) -> Settling
-    requires ours { IsOurs board.now seat.old }
-    requires at { IsAt board.now.layout.cells spot.cell spot.generation req }
-    requires small { spot.generation < 16777216 }
-    requires armed { phase (events_of seat.old.me.0.seen) req ≡ armed deadline }
-    requires born { req.k < submits (events_of seat.old.me.0.seen) req.ring }
-    requires linked { IsLinkTimeout (events_of seat.old.me.0.seen) req }
-    requires unfired { fired (events_of seat.old.me.0.seen) req ≡ false }
+    requires armed { IsArmedAt board.now seat.old spot.cell spot.generation req deadline }
+    requires unfired { IsUnfired (events_of seat.old.me.0.seen) req }
     ensures seat { IsPollerSeat seat.new }
     ensures settles { Settles board.now req (pass_of seat.old) (pass_of seat.new) result }
     ensures steps { Paid seat.old.me.0 seat.new.me.0 0 2 }
@@ -139,8 +130,7 @@ pub(crate) fn settle(
     ensures settles { Settles board.now req (pass_of seat.old) (pass_of seat.new) result }
     ensures steps { Paid seat.old.me.0 seat.new.me.0 0 3 }
 {
-    let word = seat::look(&board.table.shared, seat, spot.cell);
-    let Phase::Armed(until) = told(word, spot.generation) else {
+    let Some(until) = deadline_of(board, seat, spot, req) else {
         return Settling::NotArmed;
     };
     let Alarm::Linked = alarm else {
@@ -180,11 +170,7 @@ pub(crate) fn strike(board: &Board, seat: &mut TableSeat, spot: Spot, req: Req) 
 
 /// Answers a LINK_TIMEOUT that has fired.
 pub(crate) fn end_fired(board: &Board, seat: &mut TableSeat, spot: Spot, req: Req, deadline: u32)
-    requires ours { IsOurs board.now seat.old }
-    requires at { IsAt board.now.layout.cells spot.cell spot.generation req }
-    requires small { spot.generation < 16777216 }
-    requires armed { phase (events_of seat.old.me.0.seen) req ≡ armed deadline }
-    requires born { req.k < submits (events_of seat.old.me.0.seen) req.ring }
+    requires armed { IsArmedAt board.now seat.old spot.cell spot.generation req deadline }
     requires linked { IsLinkTimeout (events_of seat.old.me.0.seen) req }
     requires fired { fired (events_of seat.old.me.0.seen) req ≡ true }
     ensures seat { IsPollerSeat seat.new }
@@ -195,6 +181,32 @@ pub(crate) fn end_fired(board: &Board, seat: &mut TableSeat, spot: Spot, req: Re
     let words = &board.table.shared;
     let generation = spot.generation as u32;
     timers::settle(words, seat, spot.cell, generation, deadline, true);
+}
+
+/// Fires a LINK_TIMEOUT that is armed with this deadline, which has come, and answers it, unless its target has replied.
+#[inline(always)]
+pub(crate) fn fire_due(
+    board: &Board,
+    seat: &mut TableSeat,
+    spot: Spot,
+    req: Req,
+    deadline: u32,
+) -> Struck
+    requires armed { IsArmedAt board.now seat.old spot.cell spot.generation req deadline }
+    requires due { IsDueLinked (events_of seat.old.me.0.seen) req }
+    ensures seat { IsPollerSeat seat.new }
+    ensures fires { FiresDue board.now seat.old seat.new spot.cell spot.generation req deadline result }
+    ensures over { result ≡ Over → Paid seat.old.me.0 seat.new.me.0 0 2 }
+    ensures steps { Paid seat.old.me.0 seat.new.me.0 0 3 }
+{
+    let struck = strike(board, seat, spot, req);
+    match struck {
+        Struck::Over => struck,
+        _ => {
+            end_fired(board, seat, spot, req, deadline);
+            struck
+        }
+    }
 }
 
 /// Fires a LINK_TIMEOUT that is armed, whose deadline has come and whose target hasn't replied, and answers it. `alarm` is what
@@ -215,8 +227,7 @@ pub(crate) fn fire(
     ensures fires { Fires board.now req (pass_of seat.old) (pass_of seat.new) result }
     ensures steps { Paid seat.old.me.0 seat.new.me.0 0 4 }
 {
-    let word = seat::look(&board.table.shared, seat, spot.cell);
-    let Phase::Armed(deadline) = told(word, spot.generation) else {
+    let Some(deadline) = deadline_of(board, seat, spot, req) else {
         return Firing::NotArmed;
     };
     let Alarm::Linked = alarm else {
@@ -225,15 +236,9 @@ pub(crate) fn fire(
     if clock < deadline {
         return Firing::Early;
     }
-    match strike(board, seat, spot, req) {
+    match fire_due(board, seat, spot, req, deadline) {
         Struck::Over => Firing::TargetDone,
-        Struck::Took => {
-            end_fired(board, seat, spot, req, deadline);
-            Firing::Took
-        }
-        Struck::Missed => {
-            end_fired(board, seat, spot, req, deadline);
-            Firing::Missed
-        }
+        Struck::Took => Firing::Took,
+        Struck::Missed => Firing::Missed,
     }
 }

@@ -1,9 +1,6 @@
 //! What the poller does with a timer: it looks whether that is armed, and by what it keeps of it ends it, or finds why it isn't to end.
-ghost use Rattle.std.specs.Prelude.{◌≡◌, ◌+◌, ◌<◌, ◌≤◌, Bool, true, false, negsuc, Some};
-ghost use Rattle.entry.specs.Entry.{Entry, fails as fails_with};
-ghost use Rattle.history.specs.Chains.{IsLinkTimeout, IsPlaced, is_timeout};
-ghost use Rattle.history.specs.History.{armed, clock_of, fired, phase, submits};
-ghost use Rattle.history.specs.Legal.{count_of};
+ghost use Rattle.std.specs.Prelude.{◌≡◌, ◌+◌, ◌<◌, ◌≤◌, Bool, true, Some};
+ghost use Rattle.history.specs.History.{clock_of};
 ghost use Rattle.steps.specs.Cells.{cells_in};
 ghost use Rattle.steps.specs.Journal.{events_of};
 ghost use Rattle.work.specs.Passes.{pass_of};
@@ -11,16 +8,15 @@ ghost use Rattle.board.specs.PollerRows.{IsAt, IsOurs, Paid};
 ghost use Rattle.board.specs.PollerTimers.{KnowsAlarm};
 ghost use Rattle.board.specs.Polls.{Polls};
 ghost use Rattle.board.specs.Seats.{IsPollerSeat};
-ghost use Rattle.board.specs.TimerCalls.{IsDueLinked};
+ghost use Rattle.board.specs.TimerCalls.{FailsAs, IsArmedAt, IsCounting, IsDueLinked, IsUnfired};
 
-use crate::alarm::{Alarm, run_out};
+use crate::alarm::{Alarm, deadline_of, run_out};
 use crate::board::Board;
-use crate::counting::{end_counted, has_counted};
-use crate::linked::{Struck, end_fired, end_linked, settle_armed, strike};
-use crate::phase::{Phase, told};
-use crate::poller::{Expiry, Polled, Settling};
+use crate::counting::count_armed;
+use crate::linked::{Struck, end_linked, fire_due, settle_armed};
+use crate::poller::{Counting, Expiry, Polled, Settling};
 use history::Req;
-use steps::{TableSeat, seat};
+use steps::TableSeat;
 use work::Spot;
 
 /// The clock's time, and whether a LINK_TIMEOUT may fire.
@@ -39,24 +35,18 @@ fn poll_count(
     deadline: u32,
     count: u64,
 ) -> Polled
-    requires ours { IsOurs board.now seat.old }
-    requires at { IsAt board.now.layout.cells spot.cell spot.generation req }
-    requires small { spot.generation < 16777216 }
-    requires armed { phase (events_of seat.old.me.0.seen) req ≡ armed deadline }
-    requires born { req.k < submits (events_of seat.old.me.0.seen) req.ring }
+    requires armed { IsArmedAt board.now seat.old spot.cell spot.generation req deadline }
     requires early { clock_of (events_of seat.old.me.0.seen) < deadline }
-    requires counts { (e : Entry) × IsPlaced (events_of seat.old.me.0.seen) req e × (count ≡ count_of e.op) × (0 < count) }
+    requires counts { IsCounting (events_of seat.old.me.0.seen) req count }
     ensures seat { IsPollerSeat seat.new }
     ensures polls { (may : Bool) → Polls board.now may req (pass_of seat.old) (pass_of seat.new) result }
     ensures steps { Paid seat.old.me.0 seat.new.me.0 0 (cells_in board.now.layout.cells req.ring) }
 {
-    if !has_counted(board, seat, req, count) {
-        return Polled::Fewer;
-    }
-    if end_counted(board, seat, spot, req, deadline) {
-        Polled::Counted
-    } else {
-        Polled::NotArmed
+    match count_armed(board, seat, spot, req, deadline, count) {
+        Counting::Counted => Polled::Counted,
+        Counting::Fewer => Polled::Fewer,
+        Counting::NotArmed => Polled::NotArmed,
+        Counting::NotCounted => unreachable!(),
     }
 }
 
@@ -69,13 +59,9 @@ fn poll_expiry(
     deadline: u32,
     fails: bool,
 ) -> Polled
-    requires ours { IsOurs board.now seat.old }
-    requires at { IsAt board.now.layout.cells spot.cell spot.generation req }
-    requires small { spot.generation < 16777216 }
-    requires armed { phase (events_of seat.old.me.0.seen) req ≡ armed deadline }
-    requires born { req.k < submits (events_of seat.old.me.0.seen) req.ring }
+    requires armed { IsArmedAt board.now seat.old spot.cell spot.generation req deadline }
     requires due { deadline ≤ clock_of (events_of seat.old.me.0.seen) }
-    requires timeout { (e : Entry) × IsPlaced (events_of seat.old.me.0.seen) req e × (is_timeout e.op ≡ true) × (fails ≡ fails_with e (negsuc 61)) }
+    requires timeout { FailsAs (events_of seat.old.me.0.seen) req fails }
     ensures seat { IsPollerSeat seat.new }
     ensures polls { (may : Bool) → Polls board.now may req (pass_of seat.old) (pass_of seat.new) result }
     ensures steps { Paid seat.old.me.0 seat.new.me.0 0 1 }
@@ -88,28 +74,19 @@ fn poll_expiry(
 
 /// Fires a LINK_TIMEOUT that is armed with this deadline, which has come, or settles it where its target has replied.
 fn poll_due(board: &Board, seat: &mut TableSeat, spot: Spot, req: Req, deadline: u32) -> Polled
-    requires ours { IsOurs board.now seat.old }
-    requires at { IsAt board.now.layout.cells spot.cell spot.generation req }
-    requires small { spot.generation < 16777216 }
-    requires armed { phase (events_of seat.old.me.0.seen) req ≡ armed deadline }
+    requires armed { IsArmedAt board.now seat.old spot.cell spot.generation req deadline }
     requires due { IsDueLinked (events_of seat.old.me.0.seen) req }
     ensures seat { IsPollerSeat seat.new }
     ensures polls { Polls board.now true req (pass_of seat.old) (pass_of seat.new) result }
     ensures steps { Paid seat.old.me.0 seat.new.me.0 0 3 }
 {
-    match strike(board, seat, spot, req) {
+    match fire_due(board, seat, spot, req, deadline) {
         Struck::Over => match end_linked(board, seat, spot, req, deadline) {
             Settling::Settled => Polled::Settled,
             _ => Polled::NotArmed,
         },
-        Struck::Took => {
-            end_fired(board, seat, spot, req, deadline);
-            Polled::Took
-        }
-        Struck::Missed => {
-            end_fired(board, seat, spot, req, deadline);
-            Polled::Missed
-        }
+        Struck::Took => Polled::Took,
+        Struck::Missed => Polled::Missed,
     }
 }
 
@@ -122,13 +99,8 @@ fn poll_linked(
     req: Req,
     deadline: u32,
 ) -> Polled
-    requires ours { IsOurs board.now seat.old }
-    requires at { IsAt board.now.layout.cells spot.cell spot.generation req }
-    requires small { spot.generation < 16777216 }
-    requires armed { phase (events_of seat.old.me.0.seen) req ≡ armed deadline }
-    requires born { req.k < submits (events_of seat.old.me.0.seen) req.ring }
-    requires linked { IsLinkTimeout (events_of seat.old.me.0.seen) req }
-    requires unfired { fired (events_of seat.old.me.0.seen) req ≡ false }
+    requires armed { IsArmedAt board.now seat.old spot.cell spot.generation req deadline }
+    requires unfired { IsUnfired (events_of seat.old.me.0.seen) req }
     requires clock { polling.clock ≡ clock_of (events_of seat.old.me.0.seen) }
     ensures seat { IsPollerSeat seat.new }
     ensures polls { Polls board.now polling.may_fire req (pass_of seat.old) (pass_of seat.new) result }
@@ -168,8 +140,7 @@ pub(crate) fn poll(
     ensures polls { Polls board.now polling.may_fire req (pass_of seat.old) (pass_of seat.new) result }
     ensures steps { Paid seat.old.me.0 seat.new.me.0 0 (cells_in board.now.layout.cells req.ring + 3) }
 {
-    let word = seat::look(&board.table.shared, seat, spot.cell);
-    let Phase::Armed(deadline) = told(word, spot.generation) else {
+    let Some(deadline) = deadline_of(board, seat, spot, req) else {
         return Polled::NotArmed;
     };
     let Alarm::Alone(fails, count) = alarm else {

@@ -7,7 +7,7 @@ ghost use Rattle.work.specs.Board.{IsOf};
 ghost use Rattle.work.specs.Passes.{seen_of, pass_of};
 ghost use Rattle.board.specs.declared.poller.Released.TheVariants.{Severed, Freed, Shut, Timer, NotHeld};
 ghost use Rattle.board.specs.Calls.{Goes, FoundHeld, IsUnheld, MayStart, Stepped};
-ghost use Rattle.board.specs.PollerRows.{IsCanceled, IsShutOut, MayArm, Paid, severed_by, KnowsRow, Watches, IsNumbered, IsAt, IsOurs, Watched, owed, Decides};
+ghost use Rattle.board.specs.PollerRows.{IsSubmitted, IsCanceled, IsShutOut, MayArm, Paid, severed_by, KnowsRow, Watches, IsAt, IsOurs, Watched, owed, Decides};
 ghost use Rattle.gates.specs.EntryRows.{added, waiting};
 ghost use Rattle.history.specs.Chains.{IsLinkTimeout, Open, Severed as IsSevered, is_timeout};
 ghost use Rattle.history.specs.Legal.{IsOf as IsOfKind};
@@ -27,10 +27,7 @@ use work::Spot;
 /// Whether a worker is to run the request, which is no LINK_TIMEOUT: its facts tell whether it is a TIMEOUT. They don't any more
 /// once it has replied.
 fn is_worked(board: &Board, seat: &mut TableSeat, spot: Spot, req: Req) -> bool
-    requires ours { IsOurs board.now seat.old }
-    requires at { IsAt board.now.layout.cells spot.cell spot.generation req }
-    requires small { spot.generation < 16777216 }
-    requires born { req.k < submits (events_of seat.old.me.0.seen) req.ring }
+    requires here { IsSubmitted board.now seat.old spot.cell spot.generation req }
     ensures watched { Watched board.now seat.old seat.new }
     ensures worked { result ≡ true → IsOfKind (events_of seat.new.me.0.seen) req is_timeout false }
     ensures timer { result ≡ false → IsOfKind (events_of seat.new.me.0.seen) req is_timeout true ⊎ IsReplied (phase (events_of seat.new.me.0.seen) req) }
@@ -44,10 +41,7 @@ fn is_worked(board: &Board, seat: &mut TableSeat, spot: Spot, req: Req) -> bool
 
 /// Moves the request, which is open and no LINK_TIMEOUT, to the workers, unless it is a TIMEOUT that still waits.
 fn hand_on(board: &Board, seat: &mut TableSeat, spot: Spot, req: Req, worked: bool) -> Released
-    requires ours { IsOurs board.now seat.old }
-    requires at { IsAt board.now.layout.cells spot.cell spot.generation req }
-    requires small { spot.generation < 16777216 }
-    requires born { req.k < submits (events_of seat.old.me.0.seen) req.ring }
+    requires here { IsSubmitted board.now seat.old spot.cell spot.generation req }
     requires open { Open (events_of seat.old.me.0.seen) req }
     requires unlinked { IsLinkTimeout (events_of seat.old.me.0.seen) req → ⊥ }
     requires worked { worked ≡ true → IsOfKind (events_of seat.old.me.0.seen) req is_timeout false }
@@ -73,10 +67,7 @@ fn hand_on(board: &Board, seat: &mut TableSeat, spot: Spot, req: Req, worked: bo
 /// Moves the request, which is open, to the workers, unless it is a timer: a linked one, which has a target, or a TIMEOUT that
 /// still waits.
 fn free(board: &Board, seat: &mut TableSeat, row: &Row, spot: Spot, req: Req) -> Released
-    requires ours { IsOurs board.now seat.old }
-    requires at { IsAt board.now.layout.cells spot.cell spot.generation req }
-    requires small { spot.generation < 16777216 }
-    requires born { req.k < submits (events_of seat.old.me.0.seen) req.ring }
+    requires here { IsSubmitted board.now seat.old spot.cell spot.generation req }
     requires watches { Watches board.now.layout.cells seat.old.me.0.seen req row.now }
     requires open { (IsSevered (events_of seat.old.me.0.seen) req → ⊥) × Open (events_of seat.old.me.0.seen) req }
     ensures seat { IsPollerSeat seat.new }
@@ -92,10 +83,7 @@ fn free(board: &Board, seat: &mut TableSeat, row: &Row, spot: Spot, req: Req) ->
 
 /// Answers the request, of which an earlier member of its chain failed.
 fn sever(board: &Board, seat: &mut TableSeat, row: &Row, spot: Spot, req: Req) -> Released
-    requires ours { IsOurs board.now seat.old }
-    requires at { IsAt board.now.layout.cells spot.cell spot.generation req }
-    requires small { spot.generation < 16777216 }
-    requires born { req.k < submits (events_of seat.old.me.0.seen) req.ring }
+    requires here { IsSubmitted board.now seat.old spot.cell spot.generation req }
     requires watches { Watches board.now.layout.cells seat.old.me.0.seen req row.now }
     requires severed { IsSevered (events_of seat.old.me.0.seen) req }
     ensures seat { IsPollerSeat seat.new }
@@ -113,11 +101,7 @@ fn sever(board: &Board, seat: &mut TableSeat, row: &Row, spot: Spot, req: Req) -
 
 /// Releases the request, which the row has.
 fn decide(board: &Board, seat: &mut TableSeat, row: &mut Row, spot: Spot, req: Req) -> Released
-    requires ours { IsOurs board.now seat.old }
-    requires at { IsAt board.now.layout.cells spot.cell spot.generation req }
-    requires small { spot.generation < 16777216 }
-    requires numbered { IsNumbered board.now.layout.cells req }
-    requires born { req.k < submits (events_of seat.old.me.0.seen) req.ring }
+    requires here { IsSubmitted board.now seat.old spot.cell spot.generation req }
     requires watches { Watches board.now.layout.cells seat.old.me.0.seen req row.old }
     ensures seat { IsPollerSeat seat.new }
     ensures decides { Decides board.now req (pass_of seat.old) (pass_of seat.new) result }
@@ -135,10 +119,7 @@ fn decide(board: &Board, seat: &mut TableSeat, row: &mut Row, spot: Spot, req: R
 
 /// Takes in what the row lacks up to the request. Whether that still waits.
 fn follow(board: &Board, seat: &mut TableSeat, row: &mut Row, spot: Spot, req: Req) -> bool
-    requires ours { IsOurs board.now seat.old }
-    requires at { IsAt board.now.layout.cells spot.cell spot.generation req }
-    requires numbered { IsNumbered board.now.layout.cells req }
-    requires born { req.k < submits (events_of seat.old.me.0.seen) req.ring }
+    requires here { IsSubmitted board.now seat.old spot.cell spot.generation req }
     requires knows { KnowsRow board.now.layout.cells seat.old.me.0.seen req.ring row.old }
     ensures watched { Watched board.now seat.old seat.new }
     ensures knows { KnowsRow board.now.layout.cells seat.new.me.0.seen req.ring row.new }
@@ -160,10 +141,7 @@ fn release_plain(
     spot: Spot,
     req: Req,
 ) -> Option<Released>
-    requires ours { IsOurs board.now seat.old }
-    requires at { IsAt board.now.layout.cells spot.cell spot.generation req }
-    requires small { spot.generation < 16777216 }
-    requires born { req.k < submits (events_of seat.old.me.0.seen) req.ring }
+    requires here { IsSubmitted board.now seat.old spot.cell spot.generation req }
     requires knows { KnowsRow board.now.layout.cells seat.old.me.0.seen req.ring row.old }
     requires plain { req.k ≤ row.old.plain }
     ensures seat { IsPollerSeat seat.new }
@@ -192,11 +170,7 @@ fn release_by_row(
     spot: Spot,
     req: Req,
 ) -> Released
-    requires ours { IsOurs board.now seat.old }
-    requires at { IsAt board.now.layout.cells spot.cell spot.generation req }
-    requires small { spot.generation < 16777216 }
-    requires numbered { IsNumbered board.now.layout.cells req }
-    requires born { req.k < submits (events_of seat.old.me.0.seen) req.ring }
+    requires here { IsSubmitted board.now seat.old spot.cell spot.generation req }
     requires knows { KnowsRow board.now.layout.cells seat.old.me.0.seen req.ring row.old }
     ensures seat { IsPollerSeat seat.new }
     ensures decides { Decides board.now req (pass_of seat.old) (pass_of seat.new) result }
@@ -217,11 +191,7 @@ fn release_next(
     spot: Spot,
     req: Req,
 ) -> Released
-    requires ours { IsOurs board.now seat.old }
-    requires at { IsAt board.now.layout.cells spot.cell spot.generation req }
-    requires small { spot.generation < 16777216 }
-    requires numbered { IsNumbered board.now.layout.cells req }
-    requires born { req.k < submits (events_of seat.old.me.0.seen) req.ring }
+    requires here { IsSubmitted board.now seat.old spot.cell spot.generation req }
     requires knows { KnowsRow board.now.layout.cells seat.old.me.0.seen req.ring row.old }
     requires plain { req.k ≤ row.old.plain }
     ensures seat { IsPollerSeat seat.new }

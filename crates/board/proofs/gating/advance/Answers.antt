@@ -16,7 +16,7 @@ Next = ℕ × Round
 
 pub returns-in-Severed : goal.returns-in-Severed
 returns-in-Severed c = let b = c.args.board.now in let q = c.args.req in let s = c.args.seat.now in let h = events_of s.me.0.seen in let k = c.requires.watches in
-    (severed_found c.args.looked (watched_none b s c.requires.ours, k, is_severed q h (c.in-Severed.ensures.trailed (Park q ∷ h) q.ring k.knows.slots k.knows.stands k.parked (alive_back h q.ring q.k))), paid_none s.me.0 0, watches_waits b.layout.cells s.me.0.seen q c.args.row.now k) where
+    (severed_found c.args.looked (watched_none b s c.requires.here.ours, k, is_severed q h (c.in-Severed.ensures.trailed (Park q ∷ h) q.ring k.knows.slots k.knows.stands k.parked (alive_back h q.ring q.k))), paid_none s.me.0 0, watches_waits b.layout.cells s.me.0.seen q c.args.row.now k) where
       severed_found : (looked : Bool) → Gated c.args.board.now c.args.req c.args.seat.now c.args.seat.now c.args.row.now Gating.Severed → Found c.args.board.now c.args.req looked c.args.seat.now c.args.seat.now c.args.row.now Gating.Severed
       severed_found true g = g
       severed_found false g = g
@@ -24,7 +24,7 @@ returns-in-Severed c = let b = c.args.board.now in let q = c.args.req in let s =
 pub returns-in-Open : goal.returns-in-Open
 returns-in-Open c = let b = c.args.board.now in let q = c.args.req in let s = c.args.seat.now in let h = events_of s.me.0.seen in let k = c.requires.watches in
     let a = c.in-Open.ensures.trailed (Park q ∷ h) q.ring k.knows.slots k.knows.stands k.parked (alive_back h q.ring q.k) in
-    (open_found c.args.looked (watched_none b s c.requires.ours, k, (λ v. a.0 (is_severed_back q h v)), open_was q h a.1), paid_none s.me.0 0, watches_waits b.layout.cells s.me.0.seen q c.args.row.now k) where
+    (open_found c.args.looked (watched_none b s c.requires.here.ours, k, (λ v. a.0 (is_severed_back q h v)), open_was q h a.1), paid_none s.me.0 0, watches_waits b.layout.cells s.me.0.seen q c.args.row.now k) where
       open_found : (looked : Bool) → Gated c.args.board.now c.args.req c.args.seat.now c.args.seat.now c.args.row.now Gating.Open → Found c.args.board.now c.args.req looked c.args.seat.now c.args.seat.now c.args.row.now Gating.Open
       open_found true g = g
       open_found false g = g

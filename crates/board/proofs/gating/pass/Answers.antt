@@ -6,14 +6,14 @@ use Rattle.board.proofs.gating.pass.Goals as goal
 
 pub returns-in-Pending : goal.returns-in-Pending
 returns-in-Pending c = let e = c.look_for_reply.ensures in let s = c.args.seat.now in let t = c.look_for_reply.new.seat in let b = c.args.board.now in
-    (e.watched, watches_on b s t e.watched b.layout.cells c.args.req c.args.row.now c.requires.born c.requires.watches, refl, c.in-Pending.ensures.told, c.in-Pending.ensures.steps)
+    (e.watched, watches_on b s t e.watched b.layout.cells c.args.req c.args.row.now c.requires.here.born c.requires.watches, refl, c.in-Pending.ensures.told, c.in-Pending.ensures.steps)
 
 pub returns-in-Replied : goal.returns-in-Replied
 returns-in-Replied c =
     let e = c.look_for_reply.ensures in let s = c.args.seat.now in let t = c.look_for_reply.new.seat in let b = c.args.board.now in let q = c.args.req in let row = c.args.row.now in let row' = c.replied.new.self in let r = c.requires in let p = c.replied.ensures in
     let n = r.watches.knows in let less = p.fewer n.slots n.stands (r.waits n.slots n.stands).pending in let w : ℕ = waiting row in let w' : ℕ = waiting row' in (
       e.watched,
-      watches_replied b.layout.cells t.me.0.seen q c.args.first row row' c.in-Replied.fails (watches_on b s t e.watched b.layout.cells q row r.born r.watches) r.earlier r.waits c.in-Replied.ensures.told p.replied p.size p.plain p.lost p.count,
+      watches_replied b.layout.cells t.me.0.seen q c.args.first row row' c.in-Replied.fails (watches_on b s t e.watched b.layout.cells q row r.here.born r.watches) r.earlier r.waits c.in-Replied.ensures.told p.replied p.size p.plain p.lost p.count,
       less,
       paid_with s.me.0 t.me.0 2 0 (3 * w) (3 * w') c.in-Replied.ensures.steps (3 * w') (omega arith) (omega arith),
     )

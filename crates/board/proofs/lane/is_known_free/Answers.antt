@@ -18,22 +18,14 @@ pub index-requires-else-generation-eq0 : goal.index-requires-else-generation-eq0
 index-requires-else-generation-eq0 c = let w = c.requires.lane in let a = c.args.lane.now in let spot = spot_on c.args.grid.now w.0.me.0.layout.cells a.ring c.args.k c.in-Some.spot w.2 c.in-Some.ensures.some c.in-Some.ensures.number in
     subst (λ (z : ℕ). c.in-Some.spot.number < z) (sym a.facts.ok.0) (lane_cell w.0 a c.args.k c.in-Some.spot w.1 spot).1
 
-pub returns-then-generation-eq0-clause-free : goal.returns-then-generation-eq0-clause-free
-returns-then-generation-eq0-clause-free c = λ ends s d l same le. let b = c.args.lane.now in let a : Lane = record b { done = d } in let o = c.in-Some.spot in let k = c.args.k in
-    let spot = spot_on c.args.grid.now s.me.0.layout.cells b.ring k o same c.in-Some.ensures.some c.in-Some.ensures.number in let e = ap (λ (K : List ℕ). cells_in K b.ring) same in
-    let read = c.index.ensures ∙ same_default b.ages.items o.number c.index.result.now 0 (lane_cell s a k o l spot).0 in let high = c.requires.next.1 in
-    subst (λ (K : List ℕ). IsFree K (events_of s.me.0.seen) (nth b.ring k) × ((x : ℕ) × (k < x + cells_in K b.ring) × IsLane s (record b { done = x }))) (sym same)
-    (known_free s a k o l spot c.requires.next.0 (omega arith) (omega arith) (sym read ∙ (sym c.from.ensures ∙ c.if-from-generation.false)) (inl c.if-generation-eq0.true))
+pub returns-then-generation-eq0 : goal.returns-then-generation-eq0
+returns-then-generation-eq0 c = record {
+  free = λ ends s d l same le. let b = c.args.lane.now in let a : Lane = record b { done = d } in let o = c.in-Some.spot in let k = c.args.k in let spot = spot_on c.args.grid.now s.me.0.layout.cells b.ring k o same c.in-Some.ensures.some c.in-Some.ensures.number in let e = ap (λ (K : List ℕ). cells_in K b.ring) same in let read = c.index.ensures ∙ same_default b.ages.items o.number c.index.result.now 0 (lane_cell s a k o l spot).0 in let high = c.requires.next.1 in subst (λ (K : List ℕ). IsFree K (events_of s.me.0.seen) (nth b.ring k) × ((x : ℕ) × (k < x + cells_in K b.ring) × IsLane s (record b { done = x }))) (sym same) (known_free s a k o l spot c.requires.next.0 (omega arith) (omega arith) (sym read ∙ (sym c.from.ensures ∙ c.if-from-generation.false)) (inl c.if-generation-eq0.true));
+  fresh = λ _. fresh c.args.grid.now c.args.lane.now.ring c.args.k c.in-Some.spot c.in-Some.ensures.some.0 c.in-Some.ensures.some.1 c.if-generation-ge-LAST_GENERATION.false;
+}
 
-pub returns-then-generation-eq0-clause-fresh : goal.returns-then-generation-eq0-clause-fresh
-returns-then-generation-eq0-clause-fresh c = λ _. fresh c.args.grid.now c.args.lane.now.ring c.args.k c.in-Some.spot c.in-Some.ensures.some.0 c.in-Some.ensures.some.1 c.if-generation-ge-LAST_GENERATION.false
-
-pub returns-else-generation-eq0-clause-free : goal.returns-else-generation-eq0-clause-free
-returns-else-generation-eq0-clause-free c = λ ends s d l same le. let b = c.args.lane.now in let a : Lane = record b { done = d } in let o = c.in-Some.spot in let k = c.args.k in
-    let spot = spot_on c.args.grid.now s.me.0.layout.cells b.ring k o same c.in-Some.ensures.some c.in-Some.ensures.number in let e = ap (λ (K : List ℕ). cells_in K b.ring) same in
-    let read = c.index.ensures ∙ same_default b.ages.items o.number c.index.result.now 0 (lane_cell s a k o l spot).0 in let high = c.requires.next.1 in
-    subst (λ (K : List ℕ). IsFree K (events_of s.me.0.seen) (nth b.ring k) × ((x : ℕ) × (k < x + cells_in K b.ring) × IsLane s (record b { done = x }))) (sym same)
-    (known_free s a k o l spot c.requires.next.0 (omega arith) (omega arith) (sym read ∙ (sym c.from.ensures ∙ c.if-from-generation.false)) (let g = c.goes_on.ensures in inr (c.index-else-generation-eq0.result.now, g.0, c.index-else-generation-eq0.ensures, g.1, g.2, sym g.3 ∙ not-true c.goes_on.result ends)))
-
-pub returns-else-generation-eq0-clause-fresh : goal.returns-else-generation-eq0-clause-fresh
-returns-else-generation-eq0-clause-fresh c = λ _. fresh c.args.grid.now c.args.lane.now.ring c.args.k c.in-Some.spot c.in-Some.ensures.some.0 c.in-Some.ensures.some.1 c.if-generation-ge-LAST_GENERATION.false
+pub returns-else-generation-eq0 : goal.returns-else-generation-eq0
+returns-else-generation-eq0 c = record {
+  free = λ ends s d l same le. let b = c.args.lane.now in let a : Lane = record b { done = d } in let o = c.in-Some.spot in let k = c.args.k in let spot = spot_on c.args.grid.now s.me.0.layout.cells b.ring k o same c.in-Some.ensures.some c.in-Some.ensures.number in let e = ap (λ (K : List ℕ). cells_in K b.ring) same in let read = c.index.ensures ∙ same_default b.ages.items o.number c.index.result.now 0 (lane_cell s a k o l spot).0 in let high = c.requires.next.1 in subst (λ (K : List ℕ). IsFree K (events_of s.me.0.seen) (nth b.ring k) × ((x : ℕ) × (k < x + cells_in K b.ring) × IsLane s (record b { done = x }))) (sym same) (known_free s a k o l spot c.requires.next.0 (omega arith) (omega arith) (sym read ∙ (sym c.from.ensures ∙ c.if-from-generation.false)) (let g = c.goes_on.ensures in inr (c.index-else-generation-eq0.result.now, g.0, c.index-else-generation-eq0.ensures, g.1, g.2, sym g.3 ∙ not-true c.goes_on.result ends)));
+  fresh = λ _. fresh c.args.grid.now c.args.lane.now.ring c.args.k c.in-Some.spot c.in-Some.ensures.some.0 c.in-Some.ensures.some.1 c.if-generation-ge-LAST_GENERATION.false;
+}

@@ -5,14 +5,8 @@ use Rattle.board.proofs.lane.pass_chains.Goals as goal
 pub loop-lane-init : goal.loop-lane-init
 loop-lane-init c = pass_start c.args.seat.now c.args.lane.now c.args.end c.requires.lane
 
-pub pass_chain-requires-clause-lane : goal.pass_chain-requires-clause-lane
-pass_chain-requires-clause-lane c = c.loop-lane.invariant.lane
-
-pub pass_chain-requires-clause-over : goal.pass_chain-requires-clause-over
-pass_chain-requires-clause-over c = let p = c.loop-lane.invariant in over_on _ c.args.grid.now c.args.seat.now c.loop-lane.seat c.requires.over p.same.0 p.layout
-
-pub pass_chain-requires-clause-left : goal.pass_chain-requires-clause-left
-pass_chain-requires-clause-left c = let next : c.loop-lane.lane.next ≡ c.args.lane.now.next = ap (λ (z : Lane). z.next) c.loop-lane.invariant.kept in let e = c.requires.end in let t = c.loop-lane-test.true in omega arith
+pub pass_chain-requires : goal.pass_chain-requires
+pass_chain-requires c = record { lane = c.loop-lane.invariant.lane; over = let p = c.loop-lane.invariant in over_on _ c.args.grid.now c.args.seat.now c.loop-lane.seat c.requires.over p.same.0 p.layout; left = let next : c.loop-lane.lane.next ≡ c.args.lane.now.next = ap (λ (z : Lane). z.next) c.loop-lane.invariant.kept in let e = c.requires.end in let t = c.loop-lane-test.true in omega arith }
 
 pub returns-then-not-pass_chain-clause-seat : goal.returns-then-not-pass_chain-clause-seat
 returns-then-not-pass_chain-clause-seat c = let p = c.loop-lane.invariant in let s = c.if-not-pass_chain.ensures.seat in ((s.0.0 ∙ p.same.0.0, s.0.1 ∙ p.same.0.1), s.1 ∙ p.same.1)

@@ -16,27 +16,19 @@ has_failed-requires c = let e = c.look-word.ensures in found_word c.args.board.n
 pub facts_in-requires-clause-born : goal.facts_in-requires-clause-born
 facts_in-requires-clause-born c = let e = c.look-word.ensures in born_on c.args.board.now c.args.seat.now c.look-word.new.seat c.args.req.ring c.args.req.k (watched_look c.args.board.now c.args.seat.now c.look-word.new.seat c.requires.ours e.seat e.looks) c.requires.born
 
-pub returns-in-Done-clause-watched : goal.returns-in-Done-clause-watched
-returns-in-Done-clause-watched c = let e = c.look-word.ensures in watched_look c.args.board.now c.args.seat.now c.look-word.new.seat c.requires.ours e.seat e.looks
+pub returns-in-Done : goal.returns-in-Done
+returns-in-Done c = record {
+  watched = let e = c.look-word.ensures in watched_look c.args.board.now c.args.seat.now c.look-word.new.seat c.requires.ours e.seat e.looks;
+  told = let at = spot_of c.args.board.now (pass_of c.args.seat.now) c.board.inside.grid c.in-Some.spot.cell c.in-Some.spot.generation c.args.req c.requires.ours.ours (sym (ap (λ (z : Facts). z.layout.cells) c.board.view_is)) c.in-Some.ensures.some.1 in let stands = subst (λ (r : Req). Stands c.look-word.new.seat.me.0.seen r c.told.result) at (c.told.ensures.stands c.args.seat.now.me.0.layout.cells c.look-word.new.seat.me.0.seen c.in-Some.spot.cell c.look-word.ensures.shown) in let d = subst (λ (z : Standing). Stands c.look-word.new.seat.me.0.seen c.args.req z) c.in-Done.is stands in done_outcome c.args.seat.now.me.0.layout.cells c.look-word.new.seat.me.0.seen c.in-Some.spot.cell c.look-word.result c.in-Some.spot.generation c.args.req d.0 c.in-Done.field-0 c.has_failed.result c.look-word.ensures.shown at d.1 c.has_failed.ensures;
+  steps = let v = c.args.seat.now.me.0 in let w = c.look-word.new.seat.me.0 in paid_with v w 1 0 2 0 (paid_one _ _ v w c.look-word.ensures.step) 1 (omega arith) (omega arith);
+}
 
-pub returns-in-Done-clause-steps : goal.returns-in-Done-clause-steps
-returns-in-Done-clause-steps c = let v = c.args.seat.now.me.0 in let w = c.look-word.new.seat.me.0 in paid_with v w 1 0 2 0 (paid_one _ _ v w c.look-word.ensures.step) 1 (omega arith) (omega arith)
-
-pub returns-in-Done-clause-told : goal.returns-in-Done-clause-told
-returns-in-Done-clause-told c = let at = spot_of c.args.board.now (pass_of c.args.seat.now) c.board.inside.grid c.in-Some.spot.cell c.in-Some.spot.generation c.args.req c.requires.ours.ours (sym (ap (λ (z : Facts). z.layout.cells) c.board.view_is)) c.in-Some.ensures.some.1 in let stands = subst (λ (r : Req). Stands c.look-word.new.seat.me.0.seen r c.told.result) at (c.told.ensures.stands c.args.seat.now.me.0.layout.cells c.look-word.new.seat.me.0.seen c.in-Some.spot.cell c.look-word.ensures.shown) in let d = subst (λ (z : Standing). Stands c.look-word.new.seat.me.0.seen c.args.req z) c.in-Done.is stands in
-    done_outcome c.args.seat.now.me.0.layout.cells c.look-word.new.seat.me.0.seen c.in-Some.spot.cell c.look-word.result c.in-Some.spot.generation c.args.req d.0 c.in-Done.field-0 c.has_failed.result c.look-word.ensures.shown at d.1 c.has_failed.ensures
-
-pub returns-in-Some-facts_in-clause-watched : goal.returns-in-Some-facts_in-clause-watched
-returns-in-Some-facts_in-clause-watched c = watched_then c.args.board.now c.args.seat.now c.look-word.new.seat c.facts_in.new.seat (watched_look c.args.board.now c.args.seat.now c.look-word.new.seat c.requires.ours c.look-word.ensures.seat c.look-word.ensures.looks) c.facts_in.ensures.watched
-
-pub returns-in-Some-facts_in-clause-told : goal.returns-in-Some-facts_in-clause-told
-returns-in-Some-facts_in-clause-told c = let at = spot_of c.args.board.now (pass_of c.args.seat.now) c.board.inside.grid c.in-Some.spot.cell c.in-Some.spot.generation c.args.req c.requires.ours.ours (sym (ap (λ (z : Facts). z.layout.cells) c.board.view_is)) c.in-Some.ensures.some.1 in let stands = subst (λ (r : Req). Stands c.look-word.new.seat.me.0.seen r c.told.result) at (c.told.ensures.stands c.args.seat.now.me.0.layout.cells c.look-word.new.seat.me.0.seen c.in-Some.spot.cell c.look-word.ensures.shown) in
-    let d = subst (λ (z : Standing). Stands c.look-word.new.seat.me.0.seen c.args.req z) c.in-Gone.is stands in let h = events_of c.facts_in.new.seat.me.0.seen in
-    let gone = reaped_on c.args.board.now c.look-word.new.seat c.facts_in.new.seat c.args.req c.facts_in.ensures.watched (subst IsReaped (sym d.2) tt) in
-    subst (λ (z : FactsParts). HasOutcome h c.args.req (z.payload == 1)) (sym c.facts.view_is) (left_outcome h c.args.req c.in-Some-facts_in.facts gone c.in-Some-facts_in.ensures.told)
-
-pub returns-in-Some-facts_in-clause-steps : goal.returns-in-Some-facts_in-clause-steps
-returns-in-Some-facts_in-clause-steps c = let v = c.args.seat.now.me.0 in let w = c.look-word.new.seat.me.0 in paid_then v w c.facts_in.new.seat.me.0 2 1 1 0 0 (paid_first _ _ v w c.look-word.ensures.step) c.facts_in.ensures.steps refl
+pub returns-in-Some-facts_in : goal.returns-in-Some-facts_in
+returns-in-Some-facts_in c = record {
+  watched = watched_then c.args.board.now c.args.seat.now c.look-word.new.seat c.facts_in.new.seat (watched_look c.args.board.now c.args.seat.now c.look-word.new.seat c.requires.ours c.look-word.ensures.seat c.look-word.ensures.looks) c.facts_in.ensures.watched;
+  told = let at = spot_of c.args.board.now (pass_of c.args.seat.now) c.board.inside.grid c.in-Some.spot.cell c.in-Some.spot.generation c.args.req c.requires.ours.ours (sym (ap (λ (z : Facts). z.layout.cells) c.board.view_is)) c.in-Some.ensures.some.1 in let stands = subst (λ (r : Req). Stands c.look-word.new.seat.me.0.seen r c.told.result) at (c.told.ensures.stands c.args.seat.now.me.0.layout.cells c.look-word.new.seat.me.0.seen c.in-Some.spot.cell c.look-word.ensures.shown) in let d = subst (λ (z : Standing). Stands c.look-word.new.seat.me.0.seen c.args.req z) c.in-Gone.is stands in let h = events_of c.facts_in.new.seat.me.0.seen in let gone = reaped_on c.args.board.now c.look-word.new.seat c.facts_in.new.seat c.args.req c.facts_in.ensures.watched (subst IsReaped (sym d.2) tt) in subst (λ (z : FactsParts). HasOutcome h c.args.req (z.payload == 1)) (sym c.facts.view_is) (left_outcome h c.args.req c.in-Some-facts_in.facts gone c.in-Some-facts_in.ensures.told);
+  steps = let v = c.args.seat.now.me.0 in let w = c.look-word.new.seat.me.0 in paid_then v w c.facts_in.new.seat.me.0 2 1 1 0 0 (paid_first _ _ v w c.look-word.ensures.step) c.facts_in.ensures.steps refl;
+}
 
 pub returns-in-None-clause-watched : goal.returns-in-None-clause-watched
 returns-in-None-clause-watched c = watched_then c.args.board.now c.args.seat.now c.look-word.new.seat c.facts_in.new.seat (watched_look c.args.board.now c.args.seat.now c.look-word.new.seat c.requires.ours c.look-word.ensures.seat c.look-word.ensures.looks) c.facts_in.ensures.watched

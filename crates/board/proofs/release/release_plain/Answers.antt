@@ -1,8 +1,8 @@
 use Rattle.entry.specs.Entry.{is_link_timeout}
 use Rattle.gates.proofs.PlainLaws.{plain_open}
 use Rattle.board.proofs.Common.{Entry, IsBoard, added, ap, arith, events_of, one_some, pass_of, severed_by, subst, sym, true≢false, waiting, ◌∙◌}
-use Rattle.board.proofs.RowLaws.{knows_on, knows_goes, knows_noted, numbered_at, small_number}
-use Rattle.board.proofs.Watching.{born_on, decides_after, paid_with, paid_on}
+use Rattle.board.proofs.RowLaws.{submitted_on, knows_on, knows_goes, knows_noted, small_number}
+use Rattle.board.proofs.Watching.{decides_after, paid_with, paid_on}
 use Rattle.board.proofs.release.release_plain.Goals as goal
 
 pub returns-in_default-clause-knows : goal.returns-in_default-clause-knows
@@ -21,8 +21,8 @@ returns-then-not-note_plain-clause-same c = let n = c.note_plain.ensures (events
 pub returns-then-not-note_plain-clause-steps : goal.returns-then-not-note_plain-clause-steps
 returns-then-not-note_plain-clause-steps c = paid_with c.args.seat.now.me.0 c.facts_in.new.seat.me.0 1 0 2 0 c.facts_in.ensures.steps 0 (omega arith) (omega arith)
 
-pub hand_on-requires-clause-born : goal.hand_on-requires-clause-born
-hand_on-requires-clause-born c = born_on c.args.board.now c.args.seat.now c.facts_in.new.seat c.args.req.ring c.args.req.k c.facts_in.ensures.watched c.requires.born
+pub hand_on-requires-clause-here : goal.hand_on-requires-clause-here
+hand_on-requires-clause-here c = submitted_on c.args.board.now c.args.seat.now c.facts_in.new.seat c.args.spot.cell c.args.spot.generation c.args.req c.facts_in.ensures.watched c.requires.here
 
 pub hand_on-requires-clause-open : goal.hand_on-requires-clause-open
 hand_on-requires-clause-open c =
@@ -49,4 +49,4 @@ pub returns-clause-steps : goal.returns-clause-steps
 returns-clause-steps c = let s = c.args.seat.now.me.0 in let t = c.facts_in.new.seat.me.0 in paid_on s t c.hand_on.new.seat.me.0 2 1 0 (paid_with s t 1 0 2 1 c.facts_in.ensures.steps 1 (omega arith) (omega arith)) c.hand_on.ensures.steps
 
 pub note_plain-requires : goal.note_plain-requires
-note_plain-requires c = let n = small_number c.args.board.now c.args.req (subst IsBoard c.board.view_is c.board.invariant.0) (numbered_at c.args.board.now.layout.cells c.args.spot.cell c.args.spot.generation c.args.req c.requires.at c.requires.small) in omega arith
+note_plain-requires c = let n = small_number c.args.board.now c.args.req (subst IsBoard c.board.view_is c.board.invariant.0) c.requires.here.numbered in omega arith
