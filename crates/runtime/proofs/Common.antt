@@ -5,23 +5,23 @@ pub use Rattle.board.specs.Calls.{Goes, IsUnheld, Stands, next_of}
 pub use Rattle.board.specs.Refusals.{RefusesBatch, RefusesReap}
 pub use Rattle.board.specs.Reports.{AreOf, IsReport}
 pub use Rattle.board.specs.ShapeLimits.{counts, widest}
-pub use Rattle.board.specs.TimerCalls.{HasFewer, IsEarly, IsNoneToExpire, IsNoneToSettle, IsTargetDone, IsUnarmed, IsUncounted, armed_by}
+pub use Rattle.board.specs.TimerCalls.{IsEarly, IsUnarmed, armed_by}
 pub use Rattle.board.specs.declared.completion.Completion.{Completion}
 pub use Rattle.event_count.specs.Passes.{HasNoticed, IsNotifierOf, IsWaiterOf, Notifying}
 pub use Rattle.history.specs.History.{IsReplied, Phase, armed, becomes, clock_of, concerns, phase, runs, same, submits, unborn, waits}
 pub use Rattle.history.specs.Ticked.{counts_tick, ticked}
 pub use Rattle.history.specs.declared.event.Event.{Event}
-pub use Rattle.history.specs.declared.event.Event.TheVariants.{Arm, Count, Cut, Expire, Fire, FireMiss, Reap, Settle, Sever, Take, Tick}
+pub use Rattle.history.specs.declared.event.Event.TheVariants.{Arm, Count, Cut, Expire, Fire, Reap, Settle, Sever, Take, Tick}
 pub use Rattle.history.specs.declared.req.Req.{Req}
 pub use Rattle.outbox.specs.Outbox.{Waiting, with_answered}
 pub use Rattle.ready.specs.Ready.{AreAll, Moves, all_put, all_taken, times}
 pub use Rattle.runtime.specs.Backlogs.{HasNext, Owed}
 pub use Rattle.runtime.specs.Clients.{AreClients, AreNewClients, ClientFacts, HasAwaited, HasTaken, IsNewClient, WasRefused, submitter_of, without_tail}
-pub use Rattle.runtime.specs.Crews.{AreWorking, Crew, all_passes, own_in, own_share, ready_of, shares_in, shares_of, worker_of}
+pub use Rattle.runtime.specs.Crews.{AreWorking, Crew, HasShares, all_passes, own_in, own_share, ready_of, shares_in, shares_of, worker_of}
 pub use Rattle.runtime.specs.Desks.{AreHeldBack, ArePending, Cares, IsCared, IsDone, IsHeldBack, IsLinkedDue, IsNoted, IsPendingTimer, IsPlain, IsSet, LooksAfter, NoneIsDue, Once, cares_of, is_among, taken_in, with_waiting}
-pub use Rattle.runtime.specs.Loops.{IsPollSide, IsPolling, IsServing, IsWorkSide, MayOwn}
-pub use Rattle.runtime.specs.Parts.{HasFewerTimers, HasRung, HasStopped, HaveWaited, IsDueTimer, IsStuck, StandsPolled, WaitsOn, WasTried, WatchesOn, WentOn, stands_armed, with_watched}
-pub use Rattle.runtime.specs.PollTurns.{AllRung, AreAt, AreNew, Desk, Did, HasRoom, HasTicked, IsAt, IsPollTurn, IsPollers, IsStill, IsStopped, IsTaken, Rang, ReachesTo, cares_in, cells_in_all}
+pub use Rattle.runtime.specs.Loops.{IsPollSide, IsPolling, IsServing, IsWorkSide}
+pub use Rattle.runtime.specs.Parts.{HasFewerTimers, HasRung, HasStopped, HaveWaited, IsDueTimer, IsStuck, RangOn, StandsPolled, WaitsOn, WasTried, WatchesOn, WentOn, stands_armed, with_watched}
+pub use Rattle.runtime.specs.PollTurns.{AllRung, AreNew, Desk, Did, HasTicked, IsAt, IsPollTurn, IsPollers, IsStill, IsStopped, IsTaken, MayRelease, MayRing, Rang, ReachesTo, cares_in, cells_in_all}
 pub use Rattle.runtime.specs.PostLocks.{AreNumbered}
 pub use Rattle.runtime.specs.Shelves.{Places, with_request}
 pub use Rattle.runtime.specs.StartParts.{AreRingers, IsNewRinger}

@@ -6,7 +6,7 @@ use Rattle.board.specs.declared.poller.Released.{Released}
 use Rattle.board.specs.declared.poller.Released.TheVariants.{Severed, Freed, Shut, Timer, NotHeld}
 use Rattle.ready.specs.Ready.{Facts as QueueFacts, IsOf as IsOfQueue}
 use Rattle.runtime.specs.declared.hands.Hands.{Hands}
-use Rattle.runtime.proofs.Common.{AreAt, AreNew, Bool, Did, Event, Facts, Goes, GoesOn, HandedOver, HasRoom, HasTicked, Intake, IsAt, IsOf, IsPollTurn, Line, List, Moves, Owed, Pass, Rang, Req, Sleeping, Waiting, [], answered_by, answered_one, ap, append-nil, append_assoc, arith, cond, false, freed, inl, is_among, length, length-append, own_both, own_of, refl, same, subst, sym, ticked, true, true≢false, with_answered, ℕ, ⊎_elim, ◌++◌, ◌+◌, ◌∙◌, ◌∷◌, ◌≡◌, ◌≢◌, ◌⊎◌}
+use Rattle.runtime.proofs.Common.{AreNew, Bool, Cares, Did, Event, Facts, Goes, GoesOn, HandedOver, HasTicked, Intake, IsAt, IsOf, IsPollTurn, Line, List, LooksAfter, MayRelease, MayRing, Moves, Owed, Pass, Rang, Req, Sleeping, Waiting, [], answered_by, answered_one, ap, append-nil, append_assoc, arith, cond, false, freed, inl, is_among, length, length-append, own_both, own_of, refl, same, subst, sym, ticked, true, true≢false, with_answered, ℕ, ⊎_elim, ◌++◌, ◌+◌, ◌∙◌, ◌∷◌, ◌≡◌, ◌≢◌, ◌⊎◌}
 use Rattle.runtime.proofs.ClockLaws.{none_then, still_pollers, ticks_then}
 
 pub goes_on : (b : Facts) (p q : Pass) (es : List Event) → Goes b p es q → GoesOn b p es q
@@ -179,14 +179,15 @@ did_retry b q h k o of x same room quiet' = record {
 pub at_on : (b : Facts) (h k : Hands) (o w : Waiting) → IsAt b h → Rang b h o k w → IsAt b k
 at_on b h k o w a x = (x.goes.kept, still_pollers b h.poller k.poller x.events x.goes a.1)
 
-pub at_after : (b : Facts) (q : QueueFacts) (h k : Hands) (o w : Waiting) → AreAt b q h → Did b q h o k w → AreAt b q k
-at_after b q h k o w a x = ((x.goes.kept, still_pollers b h.poller k.poller x.events x.goes a.0.1), ap (λ (m : Moves). m.queue) x.ready ∙ a.1)
+pub may_ring : (b : Facts) (h k : Hands) (o w : Waiting) (c d : Cares) → MayRing b h c o → Rang b h o k w → LooksAfter d k.poller.view.seen → MayRing b k d w
+may_ring b h k o w c d a x cared = let r = a.room in let e = x.room in let p = x.places in record { own = at_on b h k o w a.own x; room = omega (arith, r, e, p); cared = cared }
 
-pub room_after : (b : Facts) (q : QueueFacts) (h k : Hands) (o w : Waiting) → HasRoom h o → Did b q h o k w → HasRoom k w
-room_after b q h k o w a x = let e = x.room in let p = x.places in omega (arith, a, e, p)
-
-pub room_rang : (b : Facts) (h k : Hands) (o w : Waiting) → HasRoom h o → Rang b h o k w → HasRoom k w
-room_rang b h k o w a x = let e = x.room in let p = x.places in omega (arith, a, e, p)
+pub may_release : (b : Facts) (q : QueueFacts) (h k : Hands) (o w : Waiting) (c d : Cares) → MayRelease b q h c o → Did b q h o k w → LooksAfter d k.poller.view.seen → MayRelease b q k d w
+may_release b q h k o w c d a x cared = let r = a.room in let e = x.room in let p = x.places in record {
+  own = ((x.goes.kept, still_pollers b h.poller k.poller x.events x.goes a.own.0.1), ap (λ (m : Moves). m.queue) x.ready ∙ a.own.1);
+  room = omega (arith, r, e, p);
+  cared = cared;
+}
 
 -- the poller went on by these events, and one request was put into the outbox
 pub rang_answered : (b : Facts) (h k : Hands) (p : Pass) (o w : Waiting) (es : List Event) (r : Req) → ticked es ≡ 0 → answered_by es ≡ r ∷ [] → Goes b h.poller es p → ((q : Req) → freed p.view.seen q ≡ freed h.poller.view.seen q)

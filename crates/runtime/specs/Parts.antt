@@ -14,7 +14,7 @@ use Rattle.history.specs.History.{clock_of}
 use Rattle.runtime.specs.declared.lists.Lists.{Lists}
 use Rattle.runtime.specs.PollTurns.{Rang}
 use Rattle.runtime.specs.declared.hands.Hands.{Hands}
-use Rattle.runtime.specs.Desks.{Cares, IsHeldBack, IsLinkedDue, IsPendingTimer, IsNoted, IsPlain, NoneIsDue, Once, is_among}
+use Rattle.runtime.specs.Desks.{Cares, IsHeldBack, IsLinkedDue, IsPendingTimer, IsNoted, IsPlain, LooksAfter, NoneIsDue, Once, cares_of, is_among}
 use Rattle.runtime.specs.Shelves.{Places, with_request}
 
 -- the numbers found no place in the ready queue, or the outbox has none for one answer more
@@ -40,6 +40,12 @@ HaveWaited p q old new = (r : Req) → is_among new r ≡ true → (is_among old
 -- the poller went on, and answered nothing
 abbrev pub WentOn : Facts → Hands → Hands → Type 0
 WentOn b old new = (o : Waiting) → Rang b old o new o
+
+-- and it looks after all that it did before, with the same requests that wait
+pub record RangOn (b : Facts) (h : Hands) (before : Lists) (o : Waiting) (k : Hands) (after : Lists) (w : Waiting) : Type 0 where
+  pub rang : Rang b h o k w
+  pub cared : LooksAfter (cares_of after) k.poller.view.seen
+  pub same : (after.rings ≡ before.rings) × (after.waiting ≡ before.waiting)
 
 -- the list of those that are watched is as it was, or the timer is watched on, since it was pending
 abbrev pub WatchesOn : Req → Pass → Pass → Places → Places → Type 0

@@ -16,7 +16,7 @@ use Rattle.runtime.specs.declared.hands.Hands.{Hands}
 use Rattle.runtime.specs.Turns.{GoesOn, answered_by}
 use Rattle.wheel.specs.Wheel.{deadline_at}
 use Rattle.runtime.specs.declared.lists.Intake.{Intake}
-use Rattle.runtime.specs.Desks.{Cares, AreHeldBack, ArePending, IsDone, IsLinkedDue, NoneIsDue, Once, is_among, taken_in}
+use Rattle.runtime.specs.Desks.{Cares, AreHeldBack, ArePending, IsDone, IsLinkedDue, LooksAfter, NoneIsDue, Once, is_among, taken_in}
 
 -- the poller's desk: its passes, the numbers that found no place in the ready queue, and how many cells and rings its board has. It looks after the requests of each ring that were taken up, those that wait for another, those timers that are watched since a reply may end them, and the deadlines
 pub record Desk : Type 0 where
@@ -54,6 +54,18 @@ AreAt b q h = IsAt b h × IsOfQueue q h.ready
 -- the outbox has room for what may still be answered in this turn
 abbrev pub HasRoom : Hands → Waiting → Type 0
 HasRoom h o = length o.answered + h.room ≤ o.places
+
+-- with these and such room it may answer timers, and looks after all that was taken up
+pub record MayRing (b : Facts) (h : Hands) (c : Cares) (o : Waiting) : Type 0 where
+  pub own : IsAt b h
+  pub room : HasRoom h o
+  pub cared : LooksAfter c h.poller.view.seen
+
+-- and release requests
+pub record MayRelease (b : Facts) (q : QueueFacts) (h : Hands) (c : Cares) (o : Waiting) : Type 0 where
+  pub own : AreAt b q h
+  pub room : HasRoom h o
+  pub cared : LooksAfter c h.poller.view.seen
 
 -- a part of a poll turn: what the poller's events answered is in the outbox, each once and in order, and each request that it moved to Ready was put into the ready queue, or is kept, in order. The clock was not set
 pub record Did (b : Facts) (q : QueueFacts) (old : Hands) (before : Waiting) (new : Hands) (after : Waiting) : Type 0 where

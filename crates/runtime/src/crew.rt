@@ -13,7 +13,7 @@ ghost use Rattle.runtime.specs.declared.error.StartError.TheVariants.{BadShape};
 use crate::error::{Memory, StartError};
 use crate::promised::{Ours, WorkThread};
 use crate::serving::{Others, WorkDesk};
-use crate::shared::Shared;
+use crate::shared::{Shared, Stage};
 use crate::sleeping::{Caller, Listener};
 use crate::threads::{WorkSide, work};
 use board::Worker;
@@ -53,39 +53,37 @@ fn start_worker<
     R: Threads + Wait + Copy + Send + 'static,
     G: Turnstile + Send + Sync + Drop + 'static,
 >(
-    rt: R,
     alloc: Global,
-    shared: &Arc<Shared>,
+    stage: &Stage<R, G>,
     worker: Worker,
     desk: WorkDesk,
     listener: Listener,
-    turnstile: Arc<G>,
 ) -> Result<WorkThread, StartError>
-    requires { IsServing (arc_value shared.now) desk worker }
-    ensures thread { IfOk result (λ t. (arc_value t.handle.promise.0.value ≡ arc_value shared.now) × (t.handle.promise.1.value.share ≡ desk.ready.share)) }
+    requires { IsServing (arc_value stage.now.shared) desk worker }
+    ensures thread { IfOk result (λ t. (arc_value t.handle.promise.0.value ≡ arc_value stage.now.shared) × (t.handle.promise.1.value.share ≡ desk.ready.share)) }
     ensures refused { IfErr result (λ e. e ≢ BadShape) }
 {
-    let Ok(theirs) = Arc::try_clone(shared) else {
-        drop((worker, desk, listener, turnstile));
+    let Ok(theirs) = stage.share() else {
+        drop((worker, desk, listener));
         return Err(StartError::Memory);
     };
-    let Ok(outbox) = outbox_of(alloc, shared) else {
-        drop((worker, desk, listener, turnstile, theirs));
+    let Ok(outbox) = outbox_of(alloc, &stage.shared) else {
+        drop((worker, desk, listener, theirs));
         return Err(StartError::Memory);
     };
-    let promise = Ours(Snapshot::of(shared), Snapshot::of(desk.ready()));
+    let promise = Ours(Snapshot::of(&stage.shared), Snapshot::of(desk.ready()));
     let side = WorkSide {
         desk,
         worker,
         outbox,
     };
     match thread::spawn_with(
-        &rt,
+        &stage.rt,
         promise,
         move || -> WorkSide
-            requires { IsWorkSide (arc_value theirs) side }
-            ensures { IsWorkSide (arc_value theirs) result × (result.desk.ready.share ≡ side.desk.ready.share) }
-        { work(&rt, &theirs, &*turnstile, side, listener) },
+            requires { IsWorkSide (arc_value theirs.shared) side }
+            ensures { IsWorkSide (arc_value theirs.shared) result × (result.desk.ready.share ≡ side.desk.ready.share) }
+        { work(theirs.context(), side, listener) },
     ) {
         Ok(handle) => Ok(WorkThread { handle }),
         Err(refused) => {
@@ -100,32 +98,27 @@ fn start_beside<
     R: Threads + Wait + Copy + Send + 'static,
     G: Turnstile + Send + Sync + Drop + 'static,
 >(
-    rt: R,
     alloc: Global,
-    shared: &Arc<Shared>,
+    stage: &Stage<R, G>,
     worker: Worker,
     ready: ReadyPass,
     listener: Listener,
     caller: Caller,
-    turnstile: &Arc<G>,
 ) -> Result<WorkThread, StartError>
-    requires worker { IsOf (arc_value shared.now).board worker }
-    requires ready { IsOfQueue (arc_value shared.now).queue ready }
-    ensures thread { IfOk result (λ t. (arc_value t.handle.promise.0.value ≡ arc_value shared.now) × (t.handle.promise.1.value.share ≡ ready.share)) }
+    requires worker { IsOf (arc_value stage.now.shared).board worker }
+    requires ready { IsOfQueue (arc_value stage.now.shared).queue ready }
+    ensures thread { IfOk result (λ t. (arc_value t.handle.promise.0.value ≡ arc_value stage.now.shared) × (t.handle.promise.1.value.share ≡ ready.share)) }
     ensures refused { IfErr result (λ e. e ≢ BadShape) }
 {
-    let (Ok(points), Ok(theirs)) = (Arc::try_clone(turnstile), Arc::try_clone(shared)) else {
+    let Ok(shared) = Arc::try_clone(&stage.shared) else {
         drop((worker, ready, listener, caller));
         return Err(StartError::Memory);
     };
-    let others = Others {
-        caller,
-        shared: theirs,
-    };
-    match WorkDesk::beside(alloc, &shared.board, ready, Some(others)) {
-        Ok(desk) => start_worker(rt, alloc, shared, worker, desk, listener, points),
+    let others = Others { caller, shared };
+    match WorkDesk::beside(alloc, &stage.shared.board, ready, Some(others)) {
+        Ok(desk) => start_worker(alloc, stage, worker, desk, listener),
         Err(refused) => {
-            drop((refused, worker, listener, points));
+            drop((refused, worker, listener));
             Err(StartError::Memory)
         }
     }
@@ -136,18 +129,16 @@ pub(crate) fn start_workers<
     R: Threads + Wait + Copy + Send + 'static,
     G: Turnstile + Send + Sync + Drop + 'static,
 >(
-    rt: R,
     alloc: Global,
-    shared: &Arc<Shared>,
+    stage: &Stage<R, G>,
     parts: WorkerParts,
-    turnstile: &Arc<G>,
     threads: &mut Vec<WorkThread>,
 ) -> Result<(), StartError>
-    requires workers { All (λ p. IsOf (arc_value shared.now).board p) parts.workers.items }
-    requires passes { All (λ p. IsOfQueue (arc_value shared.now).queue p) parts.passes.items }
+    requires workers { All (λ p. IsOf (arc_value stage.now.shared).board p) parts.workers.items }
+    requires passes { All (λ p. IsOfQueue (arc_value stage.now.shared).queue p) parts.passes.items }
     requires count { HavePairs parts }
     requires room { (threads.old.items ≡ []) × (length parts.workers.items ≤ vec_capacity threads.old) }
-    ensures threads { AreWorking (arc_value shared.now) threads.new.items }
+    ensures threads { AreWorking (arc_value stage.now.shared) threads.new.items }
     ensures count { IfOk result (λ _. length threads.new.items ≡ length parts.workers.items) }
     ensures shares { IfOk result (λ _. shares_of threads.new.items ≡ sum_by (λ p. p.share) parts.passes.items) }
     ensures refused { IfErr result (λ e. e ≢ BadShape) }
@@ -165,9 +156,7 @@ pub(crate) fn start_workers<
         let (Some(listener), Some(caller)) = (listeners.pop(), callers.pop()) else {
             unreachable!()
         };
-        match start_beside(
-            rt, alloc, shared, worker, ready, listener, caller, turnstile,
-        ) {
+        match start_beside(alloc, stage, worker, ready, listener, caller) {
             Ok(thread) => threads.push_reserved(thread),
             Err(error) => {
                 drop((workers, passes, listeners, callers));

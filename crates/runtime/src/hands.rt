@@ -7,7 +7,7 @@ ghost use Rattle.runtime.specs.Parts.{IsStuck};
 ghost use Rattle.runtime.specs.Turns.{HandedOver};
 
 use crate::backlog::Backlog;
-use board::Poller;
+use board::{Board, Poller};
 use history::Req;
 use outbox::Outbox;
 use ready::span::MOST;
@@ -24,6 +24,15 @@ pub(crate) struct Hands {
     pub workers: u32,
     pub room: usize,
     pub moved: bool,
+}
+
+/// The way that requests take from the board into the ready queue, and how many of them go to a worker together at most.
+#[derive_where(Clone, Copy)]
+pub(crate) struct Route<'a, R> {
+    pub rt: &'a R,
+    pub board: &'a Board,
+    pub queue: &'a ReadyQueue,
+    pub limit: u8,
 }
 
 /// How many of so many requests go to a worker together. Each worker gets its part, and two parts where there are enough.
@@ -60,14 +69,20 @@ impl Hands {
         self.moved = true;
     }
 
-    /// Hands a request over to the ready queue: with the next ones, up to `limit` of them, or at the end of the turn at the latest.
-    pub fn hand_over<R: Wait>(&mut self, rt: &R, queue: &ReadyQueue, req: Req, limit: u8)
-        requires own { IsOfQueue queue.now self.old.ready }
+    /// Hands a request over to the ready queue: with the next ones, up to the limit, or at the end of the turn at the latest.
+    pub fn hand_over<R: Wait>(&mut self, route: Route<'_, R>, req: Req)
+        requires own { IsOfQueue route.queue.now self.old.ready }
         requires free { self.old.kept.is_full ≡ false }
         ensures handed { HandedOver self.old.ready (self.old.kept.numbers ++ req ∷ []) self.new.ready self.new.kept.numbers }
         ensures same { (self.new.poller ≡ self.old.poller) × (self.new.room ≡ self.old.room) }
         ensures moved { self.new.moved ≡ true }
     {
+        let Route {
+            rt,
+            queue,
+            limit,
+            ..
+        } = route;
         self.moved = true;
         self.kept.add(rt, queue, &mut self.ready, req, limit);
     }

@@ -10,7 +10,7 @@ ghost use Rattle.event_count.specs.Passes.{IsNotifierOf, IsWaiterOf};
 ghost use Rattle.board.specs.New.{AreSubmitters};
 ghost use Rattle.board.specs.ShapeLimits.{is_shape};
 ghost use Rattle.runtime.specs.Clients.{AreNewClients};
-ghost use Rattle.runtime.specs.StartParts.{AreRingers, IsParts};
+ghost use Rattle.runtime.specs.StartParts.{AreRingers, HavePairs, IsParts};
 ghost use Rattle.runtime.specs.declared.error.StartError.TheVariants.{BadShape};
 
 use crate::client::Client;
@@ -19,17 +19,15 @@ use crate::error::{Memory, StartError};
 use crate::held::Held;
 use crate::locks::{PostLock, PostLocks};
 use crate::poll::places_of;
-use crate::shared::{Shared, Tally};
+use crate::shared::Shared;
 use crate::sleeping::{Caller, Listener};
 use bell::{Bell, Ringer, Sleeper};
-use board::{Board, BoardError, Poller, RingShape, Shape, Submitter};
+use board::{Board, BoardError, Poller, RingShape, Shape, Submitter, Worker};
 use compring::CompletionRing;
-use crossbeam_utils::CachePadded;
 use event_count::{EventCount, Notifier, Waiter};
 use ready::{ReadyPass, ReadyQueue};
 use std::alloc::Global;
 use std::sync::Arc;
-use std::sync::atomic::AtomicBool;
 
 /// What the threads of a new runtime share, and all passes that go with it.
 #[derive(Drop)]
@@ -126,16 +124,30 @@ fn event_count_of(
     Ok((listeners, callers))
 }
 
-/// The event count of the workers: their listeners, the poller's caller, and one for each worker.
-fn crew_of(alloc: Global, workers: u16) -> Result<(Vec<Listener>, Caller, Vec<Caller>), Memory>
-    requires { workers < 65535 }
-    ensures { IfOk result (λ t. (length t.0.items ≡ workers) × (length t.2.items ≡ workers)) }
+/// The passes of the workers, with those of their event count, and the poller's caller.
+fn crew_of(
+    alloc: Global,
+    workers: Vec<Worker>,
+    passes: Vec<ReadyPass>,
+) -> Result<(WorkerParts, Caller), Memory>
+    requires { (length workers.items < 65535) × (length passes.items ≡ length workers.items) }
+    ensures { IfOk result (λ t. HavePairs t.0 × (t.0.workers ≡ workers) × (t.0.passes ≡ passes)) }
 {
-    let (listeners, mut callers) = event_count_of(alloc, workers, workers + 1)?;
+    let count = workers.len() as u16;
+    let Ok((listeners, mut callers)) = event_count_of(alloc, count, count + 1) else {
+        drop((workers, passes));
+        return Err(Memory);
+    };
     let Some(caller) = callers.pop() else {
         unreachable!()
     };
-    Ok((listeners, caller, callers))
+    let parts = WorkerParts {
+        workers,
+        passes,
+        listeners,
+        callers,
+    };
+    Ok((parts, caller))
 }
 
 /// An event count of one listener, and one who calls it.
@@ -231,23 +243,13 @@ pub(crate) fn parts_of(alloc: Global, shape: &Shape) -> Result<Parts, StartError
         drop((queue, ready, passes));
         return Err(StartError::Memory);
     };
-    let Ok((idle, caller, callers)) = crew_of(alloc, shape.workers as u16) else {
-        drop((board, poller, submitters, workers, bell, ringers, sleeper));
-        drop((queue, ready, passes));
-        drop((posts, listeners));
+    let Ok((workers, caller)) = crew_of(alloc, workers, passes) else {
+        drop((board, poller, submitters, bell, ringers, sleeper));
+        drop((queue, ready, posts, listeners));
         return Err(StartError::Memory);
     };
-    let shared = Shared {
-        board,
-        bell,
-        queue,
-        posts,
-        is_over: AtomicBool::new(false),
-        is_resting: AtomicBool::new(false),
-        tally: CachePadded::new(Tally::new()),
-    };
     Ok(Parts {
-        shared,
+        shared: Shared::new(board, bell, queue, posts),
         poller: PollerParts {
             poller,
             sleeper,
@@ -259,12 +261,7 @@ pub(crate) fn parts_of(alloc: Global, shape: &Shape) -> Result<Parts, StartError
             ringers,
             listeners,
         },
-        workers: WorkerParts {
-            workers,
-            passes,
-            listeners: idle,
-            callers,
-        },
+        workers,
     })
 }
 

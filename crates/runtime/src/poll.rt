@@ -11,12 +11,12 @@ ghost use Rattle.ready.specs.Ready.{IsOf as IsOfQueue};
 ghost use Rattle.board.specs.Calls.{Goes};
 ghost use Rattle.controls.specs.Clocks.{Asked};
 ghost use Rattle.runtime.specs.Desks.{AreHeldBack, ArePending, LooksAfter, cares_of, taken_in};
-ghost use Rattle.runtime.specs.PollTurns.{AllCounted, AllDone, AllRung, AllTaken, AllTried, AreAt, Did, HasRoom, HasTicked, IsAt, IsPollTurn, IsStill, IsPollers, IsNewDesk, IsTaken, cares_in, cells_in_all};
+ghost use Rattle.runtime.specs.PollTurns.{AllCounted, AllDone, AllRung, AllTaken, AllTried, Did, HasTicked, IsAt, IsPollTurn, IsStill, IsPollers, IsNewDesk, IsTaken, cares_in, cells_in_all, MayRelease};
 ghost use Rattle.runtime.specs.Parts.{HasFewerTimers, HasRung, HasStopped, IsStuck, WentOn};
 
 use crate::backlog::Backlog;
 use crate::error::Memory;
-use crate::hands::Hands;
+use crate::hands::{Hands, Route};
 use crate::lists::{Intake, Lists};
 use crate::releasing::{END, release_waiting, take_new};
 use crate::ringing::{has_timers, ring_due, watch_replies};
@@ -26,6 +26,7 @@ use board::{Board, Phase, Poller, RingShape, Shape};
 use controls::Clock;
 use history::Req;
 use outbox::Outbox;
+use ready::span::MOST;
 use ready::{ReadyPass, ReadyQueue};
 use std::alloc::{AllocError, Global};
 use std::marker::Model;
@@ -214,19 +215,15 @@ fn ask_clock<C: Clock>(board: &Board, hands: &mut Hands, clock: &mut C)
 
 /// The requests that wait and those that are new, and the timers, in a turn after the tails were read and the clock was asked.
 fn look_after<R: Wait>(
-    rt: &R,
-    board: &Board,
-    queue: &ReadyQueue,
+    route: Route<'_, R>,
     sleeper: &Sleeper,
     hands: &mut Hands,
     lists: &mut Lists,
     outbox: &mut Outbox,
 ) -> Result<(), Memory>
-    requires own { AreAt board.now queue.now hands.old }
-    requires room { HasRoom hands.old outbox.old }
+    requires may { MayRelease route.board.now route.queue.now hands.old (cares_of lists.old) outbox.old }
     requires rings { (length lists.old.rings.items ≡ length sleeper.now.tails) × (length lists.old.rings.items ≤ 16) }
-    requires cared { LooksAfter (cares_of lists.old) hands.old.poller.view.seen }
-    ensures did { Did board.now queue.now hands.old outbox.old hands.new outbox.new }
+    ensures did { Did route.entry.board.now route.entry.queue.now hands.old outbox.old hands.new outbox.new }
     ensures cared { LooksAfter (cares_of lists.new) hands.new.poller.view.seen }
     ensures rings { length lists.new.rings.items ≡ length lists.old.rings.items }
     ensures places { lists.new.waiting.places ≡ lists.old.waiting.places }
@@ -235,11 +232,11 @@ fn look_after<R: Wait>(
     ensures rung { IfOk result (λ _. HasRung hands.old.poller hands.new (cares_of lists.new)) }
     ensures counted { IfOk result (λ _. ArePending hands.old.poller hands.new.poller lists.new.watchers.items ⊎ (hands.new.room ≡ 0)) }
 {
-    hands.retry(rt, queue);
-    release_waiting(rt, board, queue, hands, lists, outbox)?;
-    take_new(rt, board, queue, sleeper, hands, lists, outbox)?;
-    ring_due(board, hands, lists, outbox);
-    watch_replies(board, hands, lists, outbox);
+    hands.retry(route.rt, route.queue);
+    release_waiting(route, hands, lists, outbox)?;
+    take_new(route, sleeper, hands, lists, outbox)?;
+    ring_due(route.board, hands, lists, outbox);
+    watch_replies(route.board, hands, lists, outbox);
     Ok(())
 }
 
@@ -302,16 +299,14 @@ pub fn poll_turn<R: Wait, C: Clock>(
     desk.hands.room = desk.places;
     desk.hands.moved = false;
     ask_clock(board, &mut desk.hands, clock);
-    let sleeper = &desk.sleeper;
-    look_after(
+    let route = Route {
         rt,
         board,
         queue,
-        sleeper,
-        &mut desk.hands,
-        &mut desk.lists,
-        outbox,
-    )?;
+        limit: MOST,
+    };
+    let sleeper = &desk.sleeper;
+    look_after(route, sleeper, &mut desk.hands, &mut desk.lists, outbox)?;
     desk.hands.retry_rest(rt, queue);
     let turn = came_to(board, &mut desk.hands, &mut desk.lists);
     Ok(turn)

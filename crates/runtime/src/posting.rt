@@ -2,6 +2,7 @@
 ghost use Rattle.std.specs.Prelude.{◌≡◌, []};
 
 use crate::locks::PostLocks;
+use crate::shared::Context;
 use controls::{Point, Turnstile};
 use outbox::{Outbox, deliver_all};
 use std::sync::Wait;
@@ -34,21 +35,16 @@ fn post_ring<R: Wait>(rt: &R, posts: &PostLocks, outbox: &mut Outbox, ring: u16)
 /// Posts all answered requests, each to the completion ring of its own ring, and takes the lock of a ring once for all that are its own.
 /// A post for which no memory is found is tried again, until it is: the ring has room again once its client takes, and a request
 /// that was answered and never posted would be found by no one.
-pub(crate) fn post_all<R: Wait, G: Turnstile>(
-    rt: &R,
-    posts: &PostLocks,
-    turnstile: &G,
-    outbox: &mut Outbox,
-)
+pub(crate) fn post_all<R: Wait, G: Turnstile>(context: Context<'_, R, G>, outbox: &mut Outbox)
     ensures empty { outbox.new.answered ≡ [] }
     ensures places { outbox.new.places ≡ outbox.old.places }
 {
-    pass_all(turnstile, outbox);
-    for _ in rt.forever() {
+    pass_all(context.turnstile, outbox);
+    for _ in context.rt.forever() {
         let Some(req) = outbox.first() else {
             return;
         };
-        if post_ring(rt, posts, outbox, req.ring) {
+        if post_ring(context.rt, &context.shared.posts, outbox, req.ring) {
             continue;
         }
         thread::yield_now();

@@ -5,11 +5,11 @@ ghost use Rattle.board.specs.Calls.{IsUnheld};
 ghost use Rattle.board.specs.PollerRows.{MayArm};
 ghost use Rattle.work.specs.Passes.{seen_of};
 ghost use Rattle.runtime.specs.Desks.{AreHeldBack, LooksAfter, cares_of, taken_in, with_waiting};
-ghost use Rattle.runtime.specs.PollTurns.{AreAt, IsAt, HasRoom, Did, IsTaken, ReachesTo};
+ghost use Rattle.runtime.specs.PollTurns.{IsAt, Did, IsTaken, ReachesTo, MayRelease};
 ghost use Rattle.runtime.specs.Parts.{IsStuck, HasStopped, WaitsOn, WasTried, WentOn, HaveWaited};
 
 use crate::error::Memory;
-use crate::hands::{Hands, limit_of};
+use crate::hands::{Hands, Route, limit_of};
 use crate::lists::Lists;
 use crate::ringing::forget;
 use bell::Sleeper;
@@ -17,7 +17,6 @@ use bell::bell::MAX_RINGS;
 use board::{Arming, Board, Phase, Released};
 use history::Req;
 use outbox::Outbox;
-use ready::ReadyQueue;
 use std::sync::Wait;
 
 /// Looks where a request stands that doesn't wait for the poller. It is done with, or is looked after as the timer that it is; one
@@ -71,56 +70,46 @@ fn arm(board: &Board, hands: &mut Hands, lists: &mut Lists, req: Req) -> Result<
     }
 }
 
-/// Releases a request: it is moved to the workers, up to `limit` of them together, answered, armed, or waits on.
+/// Releases a request: it is moved to the workers, answered, armed, or waits on.
 fn release<R: Wait>(
-    rt: &R,
-    board: &Board,
-    queue: &ReadyQueue,
+    route: Route<'_, R>,
     hands: &mut Hands,
     lists: &mut Lists,
     outbox: &mut Outbox,
     req: Req,
-    limit: u8,
 ) -> Result<(), Memory>
-    requires own { AreAt board.now queue.now hands.old }
+    requires may { MayRelease route.board.now route.queue.now hands.old (with_waiting req (cares_of lists.old)) outbox.old }
     requires free { (hands.old.kept.is_full ≡ false) × (0 < hands.old.room) }
-    requires room { HasRoom hands.old outbox.old }
     requires waiting { length lists.old.waiting.items < lists.old.waiting.places }
-    requires cared { LooksAfter (with_waiting req (cares_of lists.old)) hands.old.poller.view.seen }
-    ensures did { Did board.now queue.now hands.old outbox.old hands.new outbox.new }
+    ensures did { Did route.entry.board.now route.entry.queue.now hands.old outbox.old hands.new outbox.new }
     ensures cared { LooksAfter (cares_of lists.new) hands.new.poller.view.seen }
     ensures rings { lists.new.rings ≡ lists.old.rings }
     ensures waits { WaitsOn req lists.old.waiting lists.new.waiting }
     ensures tried { IfOk result (λ _. WasTried req hands.old.poller hands.new.poller lists.old.waiting lists.new.waiting) }
 {
-    match board.release(&mut hands.poller, req) {
+    match route.board.release(&mut hands.poller, req) {
         Released::Severed => hands.answer(outbox, req),
-        Released::Freed => hands.hand_over(rt, queue, req, limit),
+        Released::Freed => hands.hand_over(route, req),
         Released::Shut => lists.waiting.put(req),
-        Released::Timer => return arm(board, hands, lists, req),
-        Released::NotHeld => return look_again(board, hands, lists, req),
+        Released::Timer => return arm(route.board, hands, lists, req),
+        Released::NotHeld => return look_again(route.board, hands, lists, req),
     }
     Ok(())
 }
 
 /// Releases a request that waits, where the numbers find their places and memory was found so far. Else it waits on.
 fn release_next<R: Wait>(
-    rt: &R,
-    board: &Board,
-    queue: &ReadyQueue,
+    route: Route<'_, R>,
     hands: &mut Hands,
     lists: &mut Lists,
     outbox: &mut Outbox,
     req: Req,
-    limit: u8,
     outcome: Result<(), Memory>,
 ) -> Result<(), Memory>
-    requires own { AreAt board.now queue.now hands.old }
-    requires room { HasRoom hands.old outbox.old }
+    requires may { MayRelease route.board.now route.queue.now hands.old (with_waiting req (cares_of lists.old)) outbox.old }
     requires waiting { length lists.old.waiting.items < lists.old.waiting.places }
-    requires cared { LooksAfter (with_waiting req (cares_of lists.old)) hands.old.poller.view.seen }
     ensures outcome { is_ok result ≡ true → is_ok outcome ≡ true }
-    ensures did { Did board.now queue.now hands.old outbox.old hands.new outbox.new }
+    ensures did { Did route.entry.board.now route.entry.queue.now hands.old outbox.old hands.new outbox.new }
     ensures cared { LooksAfter (cares_of lists.new) hands.new.poller.view.seen }
     ensures rings { lists.new.rings ≡ lists.old.rings }
     ensures waits { WaitsOn req lists.old.waiting lists.new.waiting }
@@ -128,7 +117,7 @@ fn release_next<R: Wait>(
     ensures stuck { IsStuck hands.old → IsStuck hands.new }
 {
     if outcome.is_ok() && hands.is_free() {
-        return release(rt, board, queue, hands, lists, outbox, req, limit);
+        return release(route, hands, lists, outbox, req);
     }
     lists.waiting.put(req);
     outcome
@@ -137,29 +126,26 @@ fn release_next<R: Wait>(
 /// Goes over the requests that wait for another, in order, as long as the numbers find their places. After `Memory` those that it
 /// didn't come to wait on, in their order.
 pub(crate) fn release_waiting<R: Wait>(
-    rt: &R,
-    board: &Board,
-    queue: &ReadyQueue,
+    route: Route<'_, R>,
     hands: &mut Hands,
     lists: &mut Lists,
     outbox: &mut Outbox,
 ) -> Result<(), Memory>
-    requires own { AreAt board.now queue.now hands.old }
-    requires room { HasRoom hands.old outbox.old }
-    requires cared { LooksAfter (cares_of lists.old) hands.old.poller.view.seen }
-    ensures did { Did board.now queue.now hands.old outbox.old hands.new outbox.new }
+    requires may { MayRelease route.board.now route.queue.now hands.old (cares_of lists.old) outbox.old }
+    ensures did { Did route.entry.board.now route.entry.queue.now hands.old outbox.old hands.new outbox.new }
     ensures cared { LooksAfter (cares_of lists.new) hands.new.poller.view.seen }
     ensures rings { lists.new.rings ≡ lists.old.rings }
     ensures places { lists.new.waiting.places ≡ lists.old.waiting.places }
     ensures tried { IfOk result (λ _. AreHeldBack hands.old.poller hands.new.poller lists.new.waiting.items ⊎ IsStuck hands.new) }
 {
     let limit = limit_of(lists.waiting.len() as u64, hands.workers);
+    let limited = Route { limit, ..route };
     let mut outcome = Ok(());
     for _n in 0..lists.waiting.len() {
         let Some(req) = lists.waiting.take() else {
             unreachable!();
         };
-        outcome = release_next(rt, board, queue, hands, lists, outbox, req, limit, outcome);
+        outcome = release_next(limited, hands, lists, outbox, req, outcome);
     }
     outcome
 }
@@ -214,20 +200,16 @@ fn submitted_by(tail: u64) -> u64
 /// Takes up the ring's new requests, in order, up to the tail, as long as the numbers find their places and there is a
 /// place for one.
 fn take_ring<R: Wait>(
-    rt: &R,
-    board: &Board,
-    queue: &ReadyQueue,
+    route: Route<'_, R>,
     hands: &mut Hands,
     lists: &mut Lists,
     outbox: &mut Outbox,
     ring: u16,
     tail: u64,
 ) -> Result<(), Memory>
-    requires own { AreAt board.now queue.now hands.old }
-    requires room { HasRoom hands.old outbox.old }
+    requires may { MayRelease route.board.now route.queue.now hands.old (cares_of lists.old) outbox.old }
     requires ring { ring < length lists.old.rings.items }
-    requires cared { LooksAfter (cares_of lists.old) hands.old.poller.view.seen }
-    ensures did { Did board.now queue.now hands.old outbox.old hands.new outbox.new }
+    ensures did { Did route.entry.board.now route.entry.queue.now hands.old outbox.old hands.new outbox.new }
     ensures cared { LooksAfter (cares_of lists.new) hands.new.poller.view.seen }
     ensures rings { length lists.new.rings.items ≡ length lists.old.rings.items }
     ensures places { lists.new.waiting.places ≡ lists.old.waiting.places }
@@ -240,31 +222,28 @@ fn take_ring<R: Wait>(
     let tail = submitted_by(tail);
     let taken = lists.taken(ring);
     let limit = limit_of(tail.saturating_sub(taken), hands.workers);
+    let limited = Route { limit, ..route };
     for k in taken..tail {
         if !hands.is_free() || lists.waiting.is_full() {
             break;
         }
-        let req = take_up(board, hands, lists, ring, k);
-        release(rt, board, queue, hands, lists, outbox, req, limit)?;
+        let req = take_up(route.board, hands, lists, ring, k);
+        release(limited, hands, lists, outbox, req)?;
     }
     Ok(())
 }
 
 /// Takes up the new requests of all rings.
 pub(crate) fn take_new<R: Wait>(
-    rt: &R,
-    board: &Board,
-    queue: &ReadyQueue,
+    route: Route<'_, R>,
     sleeper: &Sleeper,
     hands: &mut Hands,
     lists: &mut Lists,
     outbox: &mut Outbox,
 ) -> Result<(), Memory>
-    requires own { AreAt board.now queue.now hands.old }
-    requires room { HasRoom hands.old outbox.old }
+    requires may { MayRelease route.board.now route.queue.now hands.old (cares_of lists.old) outbox.old }
     requires rings { (length lists.old.rings.items ≡ length sleeper.now.tails) × (length lists.old.rings.items ≤ 16) }
-    requires cared { LooksAfter (cares_of lists.old) hands.old.poller.view.seen }
-    ensures did { Did board.now queue.now hands.old outbox.old hands.new outbox.new }
+    ensures did { Did route.entry.board.now route.entry.queue.now hands.old outbox.old hands.new outbox.new }
     ensures cared { LooksAfter (cares_of lists.new) hands.new.poller.view.seen }
     ensures rings { length lists.new.rings.items ≡ length lists.old.rings.items }
     ensures places { lists.new.waiting.places ≡ lists.old.waiting.places }
@@ -277,7 +256,7 @@ pub(crate) fn take_new<R: Wait>(
             break;
         }
         let tail = sleeper.tail(ring);
-        take_ring(rt, board, queue, hands, lists, outbox, ring, tail)?;
+        take_ring(route, hands, lists, outbox, ring, tail)?;
     }
     Ok(())
 }

@@ -7,8 +7,8 @@ ghost use Rattle.wheel.specs.Wheel.{deadline_at};
 ghost use Rattle.work.specs.Passes.{seen_of};
 ghost use Rattle.board.specs.TimerCalls.{IsUnarmed};
 ghost use Rattle.runtime.specs.Desks.{ArePending, LooksAfter, cares_of};
-ghost use Rattle.runtime.specs.Parts.{HasFewerTimers, HasRung, StandsPolled, WatchesOn, WentOn, stands_armed, with_watched};
-ghost use Rattle.runtime.specs.PollTurns.{HasRoom, IsAt, Rang};
+ghost use Rattle.runtime.specs.Parts.{HasFewerTimers, HasRung, StandsPolled, WatchesOn, WentOn, stands_armed, with_watched, RangOn};
+ghost use Rattle.runtime.specs.PollTurns.{HasRoom, IsAt, Rang, MayRing};
 
 use crate::hands::Hands;
 use crate::lists::Lists;
@@ -90,12 +90,8 @@ fn poll(board: &Board, hands: &mut Hands, outbox: &mut Outbox, req: Req) -> Poll
 
 /// Ends the timers whose deadlines have come, the least deadline first, as long as the outbox has room.
 fn end_due(board: &Board, hands: &mut Hands, lists: &mut Lists, outbox: &mut Outbox)
-    requires own { IsAt board.now hands.old }
-    requires room { HasRoom hands.old outbox.old }
-    requires cared { LooksAfter (cares_of lists.old) hands.old.poller.view.seen }
-    ensures rang { Rang board.now hands.old outbox.old hands.new outbox.new }
-    ensures cared { LooksAfter (cares_of lists.new) hands.new.poller.view.seen }
-    ensures same { (lists.new.rings ≡ lists.old.rings) × (lists.new.waiting ≡ lists.old.waiting) }
+    requires may { MayRing board.now hands.old (cares_of lists.old) outbox.old }
+    ensures on { RangOn board.now hands.old lists.old outbox.old hands.new lists.new outbox.new }
     ensures rung { HasRung hands.old.poller hands.new (cares_of lists.new) }
 {
     let now = hands.poller.clock();
@@ -114,12 +110,8 @@ fn end_due(board: &Board, hands: &mut Hands, lists: &mut Lists, outbox: &mut Out
 /// Ends the timers whose deadlines have come, the least deadline first, as long as the outbox has room. Those that stay are looked at
 /// again once one is due.
 pub(crate) fn ring_due(board: &Board, hands: &mut Hands, lists: &mut Lists, outbox: &mut Outbox)
-    requires own { IsAt board.now hands.old }
-    requires room { HasRoom hands.old outbox.old }
-    requires cared { LooksAfter (cares_of lists.old) hands.old.poller.view.seen }
-    ensures rang { Rang board.now hands.old outbox.old hands.new outbox.new }
-    ensures cared { LooksAfter (cares_of lists.new) hands.new.poller.view.seen }
-    ensures same { (lists.new.rings ≡ lists.old.rings) × (lists.new.waiting ≡ lists.old.waiting) }
+    requires may { MayRing board.now hands.old (cares_of lists.old) outbox.old }
+    ensures on { RangOn board.now hands.old lists.old outbox.old hands.new lists.new outbox.new }
     ensures rung { HasRung hands.old.poller hands.new (cares_of lists.new) }
 {
     end_due(board, hands, lists, outbox);
@@ -149,14 +141,10 @@ pub(crate) fn has_timers(board: &Board, hands: &mut Hands, lists: &mut Lists) ->
 /// Looks after an armed timer that a reply may end: a TIMEOUT that counts replies is answered once they are enough, and a
 /// LINK_TIMEOUT once its target has replied. One that is still pending is watched on, and one that is over is forgotten.
 fn watch(board: &Board, hands: &mut Hands, lists: &mut Lists, outbox: &mut Outbox, req: Req)
-    requires own { IsAt board.now hands.old }
+    requires may { MayRing board.now hands.old (with_watched req (cares_of lists.old)) outbox.old }
     requires some { 0 < hands.old.room }
-    requires room { HasRoom hands.old outbox.old }
     requires watchers { length lists.old.watchers.items < lists.old.watchers.places }
-    requires cared { LooksAfter (with_watched req (cares_of lists.old)) hands.old.poller.view.seen }
-    ensures rang { Rang board.now hands.old outbox.old hands.new outbox.new }
-    ensures cared { LooksAfter (cares_of lists.new) hands.new.poller.view.seen }
-    ensures same { (lists.new.rings ≡ lists.old.rings) × (lists.new.waiting ≡ lists.old.waiting) }
+    ensures on { RangOn board.now hands.old lists.old outbox.old hands.new lists.new outbox.new }
     ensures watched { WatchesOn req hands.old.poller hands.new.poller lists.old.watchers lists.new.watchers }
     ensures fewer { HasFewerTimers lists.old lists.new }
 {
@@ -177,12 +165,8 @@ pub(crate) fn watch_replies(
     lists: &mut Lists,
     outbox: &mut Outbox,
 )
-    requires own { IsAt board.now hands.old }
-    requires room { HasRoom hands.old outbox.old }
-    requires cared { LooksAfter (cares_of lists.old) hands.old.poller.view.seen }
-    ensures rang { Rang board.now hands.old outbox.old hands.new outbox.new }
-    ensures cared { LooksAfter (cares_of lists.new) hands.new.poller.view.seen }
-    ensures same { (lists.new.rings ≡ lists.old.rings) × (lists.new.waiting ≡ lists.old.waiting) }
+    requires may { MayRing board.now hands.old (cares_of lists.old) outbox.old }
+    ensures on { RangOn board.now hands.old lists.old outbox.old hands.new lists.new outbox.new }
     ensures counted { ArePending hands.old.poller hands.new.poller lists.new.watchers.items ⊎ (hands.new.room ≡ 0) }
     ensures fewer { HasFewerTimers lists.old lists.new }
 {

@@ -1,10 +1,15 @@
 //! What the poller, the workers and the clients of a runtime share.
+ghost use Rattle.std.specs.Prelude.{◌≡◌, IfOk};
+ghost use Rattle.std.specs.Arc.{arc_value};
+
+use crate::error::Memory;
 use crate::locks::PostLocks;
 use bell::Bell;
 use board::Board;
 use crossbeam_utils::CachePadded;
 use ready::ReadyQueue;
 use std::hint;
+use std::sync::Arc;
 use std::sync::atomic::{AtomicBool, AtomicU64, Ordering};
 
 /// How many looks find out whether the workers have something to do. They take some milliseconds, as long as a turn of a poller with
@@ -23,6 +28,70 @@ pub(crate) struct Shared {
     pub is_over: AtomicBool,
     pub is_resting: AtomicBool,
     pub tally: CachePadded<Tally>,
+}
+
+impl Shared {
+    /// What the threads of a runtime share before they start.
+    pub fn new(board: Board, bell: Bell, queue: ReadyQueue, posts: PostLocks) -> Shared
+        ensures { (result.board ≡ board) × (result.bell ≡ bell) × (result.queue ≡ queue) × (result.posts ≡ posts) }
+    {
+        Shared {
+            board,
+            bell,
+            queue,
+            posts,
+            is_over: AtomicBool::new(false),
+            is_resting: AtomicBool::new(false),
+            tally: CachePadded::new(Tally::new()),
+        }
+    }
+}
+
+/// What a thread makes its turns with: the permission to wait, what all threads share, and the turnstile.
+#[derive_where(Clone, Copy)]
+pub(crate) struct Context<'a, R, G> {
+    pub rt: &'a R,
+    pub shared: &'a Shared,
+    pub turnstile: &'a G,
+}
+
+/// What each thread of a runtime is started with: the permissions, what all threads share, and the turnstile.
+#[derive(Drop)]
+pub(crate) struct Stage<R, G> {
+    pub rt: R,
+    pub shared: Arc<Shared>,
+    pub turnstile: Arc<G>,
+}
+
+impl<R: Copy, G: Drop> Stage<R, G> {
+    /// The same for one thread more.
+    pub fn share(&self) -> Result<Stage<R, G>, Memory>
+        ensures { IfOk result (λ t. arc_value t.shared ≡ arc_value self.now.shared) }
+    {
+        let (Ok(shared), Ok(turnstile)) = (
+            Arc::try_clone(&self.shared),
+            Arc::try_clone(&self.turnstile),
+        ) else {
+            return Err(Memory);
+        };
+        let rt = self.rt;
+        Ok(Stage {
+            rt,
+            shared,
+            turnstile,
+        })
+    }
+
+    /// What its thread makes its turns with.
+    pub fn context(&self) -> Context<'_, R, G>
+        ensures { result.shared.now ≡ arc_value self.now.shared }
+    {
+        Context {
+            rt: &self.rt,
+            shared: &*self.shared,
+            turnstile: &*self.turnstile,
+        }
+    }
 }
 
 /// How many numbers went to the workers, from the poller and from the pipes, and with how many of these they are done. What was answered

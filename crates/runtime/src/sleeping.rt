@@ -11,7 +11,7 @@ ghost use Rattle.runtime.specs.WorkTurns.{FoundNone, IsWorkTurn};
 use crate::held::Held;
 use crate::locks::PostLocks;
 use crate::serving::{WorkDesk, work_turn};
-use crate::shared::Shared;
+use crate::shared::Context;
 use crate::turn::Turn;
 use board::Worker;
 use controls::Turnstile;
@@ -161,23 +161,26 @@ impl Caller {
 
 /// One more turn of a worker that has read the count. Where it found nothing to do the worker may sleep.
 fn look_again<R: Wait, G: Turnstile>(
-    rt: &R,
-    shared: &Shared,
+    context: Context<'_, R, G>,
     desk: &mut WorkDesk,
     worker: Worker,
-    turnstile: &G,
     outbox: &mut Outbox,
     entered: Entered,
 ) -> (Worker, Result<Drowsy, Listener>)
-    requires desk { IsServing shared.now desk.old worker }
-    requires places { length outbox.old.answered + widest shared.now.board.layout.cells ≤ outbox.old.places }
-    ensures desk { IsServing shared.now desk.new result.0 }
-    ensures turned { IsWorkTurn shared.now.board desk.old desk.new worker result.0 outbox.old outbox.new }
+    requires desk { IsServing context.shared.now desk.old worker }
+    requires places { length outbox.old.answered + widest context.shared.now.board.layout.cells ≤ outbox.old.places }
+    ensures desk { IsServing context.entry.shared.now desk.new result.0 }
+    ensures turned { IsWorkTurn context.entry.shared.now.board desk.old desk.new worker result.0 outbox.old outbox.new }
     ensures idle { IfOk result.1 (λ d. (d.entered ≡ entered) × (FoundNone desk.old desk.new × (outbox.new ≡ outbox.old) × (result.0 ≡ worker))) }
     ensures left { IfErr result.1 (λ l. HasLeft entered l) }
     ensures places { outbox.new.places ≡ outbox.old.places }
     ensures share { desk.new.ready.share ≡ desk.old.ready.share }
 {
+    let Context {
+        rt,
+        shared,
+        turnstile,
+    } = context;
     let (worker, turn) = work_turn(
         rt,
         &shared.board,
@@ -195,27 +198,26 @@ fn look_again<R: Wait, G: Turnstile>(
 
 /// A worker that has nothing to do sleeps until there is notice, unless one more turn finds something, or the workers are told to end.
 pub(crate) fn doze<R: Wait, G: Turnstile>(
-    rt: &R,
-    shared: &Shared,
+    context: Context<'_, R, G>,
     desk: &mut WorkDesk,
     worker: Worker,
-    turnstile: &G,
     outbox: &mut Outbox,
     listener: Listener,
 ) -> (Worker, Listener)
-    requires desk { IsServing shared.now desk.old worker }
-    requires places { length outbox.old.answered + widest shared.now.board.layout.cells ≤ outbox.old.places }
-    ensures desk { IsServing shared.now desk.new result.0 }
-    ensures turned { IsWorkTurn shared.now.board desk.old desk.new worker result.0 outbox.old outbox.new }
+    requires desk { IsServing context.shared.now desk.old worker }
+    requires places { length outbox.old.answered + widest context.shared.now.board.layout.cells ≤ outbox.old.places }
+    ensures desk { IsServing context.entry.shared.now desk.new result.0 }
+    ensures turned { IsWorkTurn context.entry.shared.now.board desk.old desk.new worker result.0 outbox.old outbox.new }
     ensures places { outbox.new.places ≡ outbox.old.places }
     ensures share { desk.new.ready.share ≡ desk.old.ready.share }
 {
     let entered = listener.enter();
-    let (worker, looked) = look_again(rt, shared, desk, worker, turnstile, outbox, entered);
+    let (worker, looked) = look_again(context, desk, worker, outbox, entered);
+    let is_over = &context.shared.is_over;
     match looked {
         Err(listener) => (worker, listener),
-        Ok(drowsy) if shared.is_over.load(Ordering::SeqCst) => (worker, drowsy.entered.leave()),
-        Ok(drowsy) => (worker, drowsy.sleep(rt)),
+        Ok(drowsy) if is_over.load(Ordering::SeqCst) => (worker, drowsy.entered.leave()),
+        Ok(drowsy) => (worker, drowsy.sleep(context.rt)),
     }
 }
 

@@ -23,7 +23,7 @@ use crate::parts::{Parts, PollerParts, clients_of, parts_of};
 use crate::poll::PollDesk;
 use crate::promised::{Polls, WorkThread};
 use crate::rooms::{Rooms, rooms_of};
-use crate::shared::Shared;
+use crate::shared::{Shared, Stage};
 use crate::started::{Runtime, tell_end};
 use crate::threads::{PollSide, WorkSide, poll};
 use board::Shape;
@@ -35,11 +35,11 @@ use std::sync::{Arc, Wait};
 use std::thread;
 use std::thread::{PromisedHandle, Threads};
 
-/// What is shared by all threads, and by the clients.
+/// How the poller goes: by which clock, and after how many idle turns in a row it sleeps.
 #[derive(Drop)]
-struct Stage<G> {
-    shared: Arc<Shared>,
-    turnstile: Arc<G>,
+struct Pace<C> {
+    clock: C,
+    idle: u32,
 }
 
 /// What the poller's thread is to have: its desk, with an outbox for its turns, its clock, and the worker that it serves itself.
@@ -97,28 +97,27 @@ fn spawn_poller<
     G: Turnstile + Send + Sync + Drop + 'static,
     C: Clock + Send + Drop + 'static,
 >(
-    rt: R,
-    theirs: Arc<Shared>,
-    turnstile: Arc<G>,
+    theirs: Stage<R, G>,
     idle: u32,
     side: PollSide<C>,
 ) -> Result<PromisedHandle<PollSide<C>, Polls>, StartError>
-    requires { IsPollSide C.follows (arc_value theirs) side }
-    ensures thread { IfOk result (λ h. (arc_value h.promise.0.value ≡ arc_value theirs) × (h.promise.1.value.share ≡ side.desk.ready.share) × (h.promise.2.value ≡ side.own)) }
+    requires { IsPollSide C.follows (arc_value theirs.shared) side }
+    ensures thread { IfOk result (λ h. (arc_value h.promise.0.value ≡ arc_value theirs.shared) × (h.promise.1.value.share ≡ side.desk.ready.share) × (h.promise.2.value ≡ side.own)) }
     ensures refused { IfErr result (λ e. e ≢ BadShape) }
 {
     let promise = Polls(
-        Snapshot::of(&theirs),
+        Snapshot::of(&theirs.shared),
         Snapshot::of(side.desk.ready()),
         Snapshot::of(&side.own),
     );
+    let rt = theirs.rt;
     match thread::spawn_with(
         &rt,
         promise,
         move || -> PollSide<C>
-            requires { IsPollSide C.follows (arc_value theirs) side }
-            ensures { IsPollSide C.follows (arc_value theirs) result × HasShares side.desk.ready.share side.own result }
-        { poll(&rt, &theirs, &*turnstile, idle, side) },
+            requires { IsPollSide C.follows (arc_value theirs.shared) side }
+            ensures { IsPollSide C.follows (arc_value theirs.shared) result × HasShares side.desk.ready.share side.own result }
+        { poll(theirs.context(), idle, side) },
     ) {
         Ok(handle) => Ok(handle),
         Err(refused) => {
@@ -134,12 +133,10 @@ fn start_poller<
     G: Turnstile + Send + Sync + Drop + 'static,
     C: Clock + Send + Drop + 'static,
 >(
-    rt: R,
     alloc: Global,
+    stage: &Stage<R, G>,
     shape: &Shape,
-    idle: u32,
-    stage: &Stage<G>,
-    clock: C,
+    pace: Pace<C>,
     parts: PollerParts,
     own: Option<WorkSide>,
 ) -> Result<PromisedHandle<PollSide<C>, Polls>, StartError>
@@ -147,23 +144,20 @@ fn start_poller<
     requires rings { (0 < length shape.now.rings.items) × ((arc_value stage.now.shared).bell.rings ≡ length shape.now.rings.items) }
     requires sleeper { IsSleeperOf (arc_value stage.now.shared).bell parts.sleeper }
     requires ready { IsOfQueue (arc_value stage.now.shared).queue parts.ready }
-    requires clock { C.follows clock (seen_of parts.poller) }
+    requires clock { C.follows pace.clock (seen_of parts.poller) }
     requires worker { MayOwn (arc_value stage.now.shared) own }
     ensures thread { IfOk result (λ h. (arc_value h.promise.0.value ≡ arc_value stage.now.shared) × (h.promise.1.value.share ≡ parts.ready.share) × (h.promise.2.value ≡ own)) }
     ensures refused { IfErr result (λ e. e ≢ BadShape) }
 {
+    let Pace { clock, idle } = pace;
     let Ok(side) = side_of(alloc, shape, parts, clock, own) else {
         return Err(StartError::Memory);
     };
-    let Ok(theirs) = Arc::try_clone(&stage.shared) else {
+    let Ok(theirs) = stage.share() else {
         drop(side);
         return Err(StartError::Memory);
     };
-    let Ok(points) = Arc::try_clone(&stage.turnstile) else {
-        drop((side, theirs));
-        return Err(StartError::Memory);
-    };
-    spawn_poller(rt, theirs, points, idle, side)
+    spawn_poller(theirs, idle, side)
 }
 
 /// Stops the threads that were started, and waits for them.
@@ -182,13 +176,22 @@ fn abandon<R: Threads, C: Clock + Drop>(
 }
 
 /// Shares what the threads of a new runtime share, and its turnstile.
-fn stage_of<G: Drop>(alloc: Global, shared: Shared, turnstile: G) -> Result<Stage<G>, Memory>
+fn stage_of<R: Copy, G: Drop>(
+    rt: R,
+    alloc: Global,
+    shared: Shared,
+    turnstile: G,
+) -> Result<Stage<R, G>, Memory>
     ensures { IfOk result (λ t. arc_value t.shared ≡ shared) }
 {
     let (Ok(shared), Ok(turnstile)) = (Arc::new(alloc, shared), Arc::new(alloc, turnstile)) else {
         return Err(Memory);
     };
-    Ok(Stage { shared, turnstile })
+    Ok(Stage {
+        rt,
+        shared,
+        turnstile,
+    })
 }
 
 /// Starts the threads of the workers, beside that of the poller. Where one can't be started, it ends those that were.
@@ -197,9 +200,8 @@ fn start_others<
     G: Turnstile + Send + Sync + Drop + 'static,
     C: Clock + Drop,
 >(
-    rt: R,
     alloc: Global,
-    stage: Stage<G>,
+    stage: Stage<R, G>,
     poller: PromisedHandle<PollSide<C>, Polls>,
     parts: WorkerParts,
     rooms: Rooms,
@@ -221,20 +223,20 @@ fn start_others<
     ensures own { IfOk result (λ t. AreClients t.0.board t.1.items) }
     ensures refused { IfErr result (λ e. e ≢ BadShape) }
 {
-    let Stage { shared, turnstile } = stage;
     let Rooms {
         mut threads,
         ended,
         end,
     } = rooms;
-    match start_workers(rt, alloc, &shared, parts, &turnstile, &mut threads) {
+    match start_workers(alloc, &stage, parts, &mut threads) {
         Ok(()) => {
             let rings = clients.len();
+            let Stage { shared, .. } = stage;
             let runtime = Runtime::new(shared, rings, poller, threads, ended, end);
             Ok((runtime, clients))
         }
         Err(error) => {
-            abandon(&rt, &mut clients, poller, threads);
+            abandon(&stage.rt, &mut clients, poller, threads);
             Err(error)
         }
     }
@@ -249,13 +251,12 @@ fn start_threads<
     rt: R,
     alloc: Global,
     shape: &Shape,
-    idle: u32,
     turnstile: G,
-    clock: C,
+    pace: Pace<C>,
     parts: Parts,
 ) -> Result<(Runtime<C>, Vec<Client>), StartError>
     requires parts { IsParts shape.now parts }
-    requires clock { C.follows clock [] }
+    requires clock { C.follows pace.clock [] }
     ensures started { IfOk result (λ t. IsStarted shape.now t.0.board t.1.items) }
     ensures threads { IfOk result (λ t. t.0.threads ≡ threads_for shape.now.workers) }
     ensures own { IfOk result (λ t. AreClients t.0.board t.1.items) }
@@ -268,23 +269,23 @@ fn start_threads<
         mut workers,
     } = parts;
     let Ok(rooms) = rooms_of(alloc, &shared.queue, &workers.workers) else {
-        drop((shared, poller, clients, workers, turnstile, clock));
+        drop((shared, poller, clients, workers, turnstile, pace));
         return Err(StartError::Memory);
     };
     let Ok(own) = own_of(alloc, &shared, &mut workers) else {
-        drop((shared, poller, clients, workers, turnstile, clock, rooms));
+        drop((shared, poller, clients, workers, turnstile, pace, rooms));
         return Err(StartError::Memory);
     };
-    let Ok(stage) = stage_of(alloc, shared, turnstile) else {
-        drop((poller, clients, workers, clock, rooms, own));
+    let Ok(stage) = stage_of(rt, alloc, shared, turnstile) else {
+        drop((poller, clients, workers, pace, rooms, own));
         return Err(StartError::Memory);
     };
     let Ok(clients) = clients_of(alloc, &stage.shared, clients) else {
-        drop((stage, poller, workers, clock, rooms, own));
+        drop((stage, poller, workers, pace, rooms, own));
         return Err(StartError::Memory);
     };
-    match start_poller(rt, alloc, shape, idle, &stage, clock, poller, own) {
-        Ok(poller) => start_others(rt, alloc, stage, poller, workers, rooms, clients),
+    match start_poller(alloc, &stage, shape, pace, poller, own) {
+        Ok(poller) => start_others(alloc, stage, poller, workers, rooms, clients),
         Err(error) => {
             drop((stage, workers, rooms, clients));
             Err(error)
@@ -319,7 +320,7 @@ pub fn start<
     ensures refused { is_shape shape.now ≡ false → result ≡ Err BadShape }
 {
     match parts_of(alloc, shape) {
-        Ok(parts) => start_threads(rt, alloc, shape, idle, turnstile, clock, parts),
+        Ok(parts) => start_threads(rt, alloc, shape, turnstile, Pace { clock, idle }, parts),
         Err(error) => Err(error),
     }
 }

@@ -1,18 +1,17 @@
 //! What the threads of a runtime do: that of the poller, and those of the workers.
-ghost use Rattle.std.specs.Prelude.{◌≡◌, ◌≢◌, ◌↔◌, ◌⊎◌, ◌+◌, ◌≤◌, ◌==◌, [], IfSome, IsTrue, length};
-ghost use Rattle.work.specs.Passes.{seen_of};
+ghost use Rattle.std.specs.Prelude.{◌≡◌, ◌≢◌, ◌↔◌, ◌⊎◌, ◌+◌, ◌≤◌, ◌==◌, [], true, IfSome, IsTrue, length};
 ghost use Rattle.bell.specs.BellPasses.{HasLoaded};
 ghost use Rattle.board.specs.ShapeLimits.{widest};
 ghost use Rattle.outbox.specs.Outbox.{Waiting};
 ghost use Rattle.runtime.specs.Crews.{HasShares, own_in, own_share};
-ghost use Rattle.runtime.specs.Loops.{IsPollSide, IsPolling, IsServing, IsWorkSide, MayOwn};
-ghost use Rattle.runtime.specs.PollTurns.{IsPollTurn};
+ghost use Rattle.runtime.specs.Loops.{IsPollSide, IsServing, IsWorkSide, MayOwn};
+ghost use Rattle.runtime.specs.PollTurns.{IsAtRest, IsPollTurn};
 ghost use Rattle.runtime.specs.WorkTurns.{IsWorkTurn};
 
 use crate::poll::{PollDesk, poll_turn, rest};
 use crate::posting::post_all;
 use crate::serving::{WorkDesk, work_turn};
-use crate::shared::Shared;
+use crate::shared::Context;
 use crate::sleeping::{Caller, Listener, doze};
 use crate::turn::Turn;
 use board::Worker;
@@ -83,38 +82,30 @@ pub(crate) fn both(one: Turn, other: Turn) -> Turn
     }
 }
 
-/// One turn of the poller. What it answered is posted. A turn that found no memory isn't idle.
-fn poll_round<R: Wait, G: Turnstile, C: Clock>(
-    rt: &R,
-    shared: &Shared,
-    desk: &mut PollDesk,
-    clock: &mut C,
-    turnstile: &G,
-    outbox: &mut Outbox,
-) -> Turn
-    requires desk { IsPolling shared.now desk.old }
-    requires outbox { (outbox.old.answered ≡ []) × (desk.old.places ≤ outbox.old.places) }
-    ensures desk { IsPolling shared.now desk.new }
-    ensures turned { (o : Waiting) × IsPollTurn shared.now.board shared.now.queue desk.old desk.new o }
-    ensures read { HasLoaded desk.old.sleeper desk.new.sleeper }
-    ensures follows { C.follows clock.old (seen_of desk.old.poller) → C.follows clock.new (seen_of desk.new.poller) }
-    ensures outbox { (outbox.new.answered ≡ []) × (desk.new.places ≤ outbox.new.places) }
-    ensures share { desk.new.ready.share ≡ desk.old.ready.share }
+/// One turn of the poller. What it answered is posted. None where it found no memory.
+pub(crate) fn poll_round<R: Wait, G: Turnstile, C: Clock>(
+    context: Context<'_, R, G>,
+    side: &mut PollSide<C>,
+) -> Option<Turn>
+    requires { IsPollSide C.follows context.shared.now side.old }
+    ensures side { IsPollSide C.follows context.entry.shared.now side.new }
+    ensures same { (side.new.own ≡ side.old.own) × (side.new.desk.ready.share ≡ side.old.desk.ready.share) }
+    ensures turned { (o : Waiting) × IsPollTurn context.entry.shared.now.board context.entry.shared.now.queue side.old.desk side.new.desk o }
+    ensures read { HasLoaded side.old.desk.sleeper side.new.desk.sleeper }
+    ensures rest { IfSome result (λ turn. turn ≢ Turn.Moved → IsAtRest context.entry.shared.now.board context.entry.shared.now.queue side.old.desk side.new.desk) }
 {
+    let Context { rt, shared, .. } = context;
     let turn = poll_turn(
         rt,
         &shared.board,
         &shared.bell,
         &shared.queue,
-        desk,
-        clock,
-        outbox,
+        &mut side.desk,
+        &mut side.clock,
+        &mut side.outbox,
     );
-    post_all(rt, &shared.posts, turnstile, outbox);
-    match turn {
-        Ok(turn) => turn,
-        Err(_) => Turn::Moved,
-    }
+    post_all(context, &mut side.outbox);
+    turn.ok()
 }
 
 /// Wakes a worker for each put into the ready queue, while one may sleep.
@@ -127,23 +118,26 @@ fn call_for(caller: &mut Caller, puts: u32) {
 /// One turn of a worker. What it answered stays in the outbox while that has room for another turn. What it came to, and
 /// whether it answered nothing.
 fn work_round<R: Wait, G: Turnstile>(
-    rt: &R,
-    shared: &Shared,
+    context: Context<'_, R, G>,
     desk: &mut WorkDesk,
     worker: Worker,
-    turnstile: &G,
     outbox: &mut Outbox,
 ) -> (Worker, Turn, bool)
-    requires desk { IsServing shared.now desk.old worker }
-    requires places { widest shared.now.board.layout.cells ≤ outbox.old.places }
-    ensures desk { IsServing shared.now desk.new result.0 }
-    ensures turned { (o : Waiting) × ((o ≡ outbox.old) ⊎ (o ≡ record outbox.old { answered = [] })) × IsWorkTurn shared.now.board desk.old desk.new worker result.0 o outbox.new × (result.2 ≡ (length outbox.new.answered == length o.answered)) }
+    requires desk { IsServing context.shared.now desk.old worker }
+    requires places { widest context.shared.now.board.layout.cells ≤ outbox.old.places }
+    ensures desk { IsServing context.entry.shared.now desk.new result.0 }
+    ensures turned { (o : Waiting) × ((o ≡ outbox.old) ⊎ (o ≡ record outbox.old { answered = [] })) × IsWorkTurn context.entry.shared.now.board desk.old desk.new worker result.0 o outbox.new × (result.2 ≡ (length outbox.new.answered == length o.answered)) }
     ensures idle { result.1 ≡ Turn.Idle → desk.new.kept ≡ [] }
     ensures places { outbox.new.places ≡ outbox.old.places }
     ensures share { desk.new.ready.share ≡ desk.old.ready.share }
 {
+    let Context {
+        rt,
+        shared,
+        turnstile,
+    } = context;
     if outbox.room() < shared.board.widest() as usize {
-        post_all(rt, &shared.posts, turnstile, outbox);
+        post_all(context, outbox);
     }
     let before = outbox.len();
     let (worker, turn) = work_turn(
@@ -180,14 +174,9 @@ pub(crate) struct PollSide<C> {
 
 impl WorkSide {
     /// Work turns, until one finds nothing to do, `RUNS` of them at most. What they answered is posted. Whether the last was idle.
-    pub(crate) fn serve<R: Wait, G: Turnstile>(
-        self,
-        rt: &R,
-        shared: &Shared,
-        turnstile: &G,
-    ) -> (WorkSide, Turn)
-        requires { IsWorkSide shared.now self }
-        ensures own { IsWorkSide shared.now result.0 }
+    pub(crate) fn serve<R: Wait, G: Turnstile>(self, context: Context<'_, R, G>) -> (WorkSide, Turn)
+        requires { IsWorkSide context.shared.now self }
+        ensures own { IsWorkSide context.entry.shared.now result.0 }
         ensures share { result.0.desk.ready.share ≡ self.desk.ready.share }
         ensures idle { result.1 ≡ Turn.Idle → result.0.desk.kept ≡ [] }
         ensures posted { result.0.outbox.answered ≡ [] }
@@ -199,22 +188,15 @@ impl WorkSide {
         } = self;
         let mut last = Turn::Moved;
         for _run in 0..RUNS {
-            let (next, turn, _is_silent) = work_round(
-                rt,
-                shared,
-                &mut desk,
-                worker,
-                turnstile,
-                &mut outbox,
-            );
+            let (next, turn, _is_silent) = work_round(context, &mut desk, worker, &mut outbox);
             worker = next;
             last = turn;
             if turn == Turn::Idle {
                 break;
             }
         }
-        post_all(rt, &shared.posts, turnstile, &mut outbox);
-        desk.tell(&shared.tally);
+        post_all(context, &mut outbox);
+        desk.tell(&context.shared.tally);
         let own = WorkSide {
             desk,
             worker,
@@ -232,49 +214,42 @@ impl WorkSide {
     }
 }
 
-/// Serves the worker of the poller's thread, where it has one. Whether there was nothing to do.
+/// Serves the worker of the poller's thread, where it has one that is called. Whether there was nothing to do.
 fn serve_own<R: Wait, G: Turnstile>(
-    rt: &R,
-    shared: &Shared,
-    turnstile: &G,
-    own: Option<WorkSide>,
-) -> (Option<WorkSide>, Turn)
-    requires { MayOwn shared.now own }
-    ensures own { MayOwn shared.now result.0 }
-    ensures same { (own_in result.0 ≡ own_in own) × (own_share result.0 ≡ own_share own) }
-    ensures idle { result.1 ≡ Turn.Idle → IfSome result.0 (λ w. w.desk.kept ≡ []) }
-    ensures posted { IfSome result.0 (λ w. w.outbox.answered ≡ []) }
+    context: Context<'_, R, G>,
+    is_called: bool,
+    own: &mut Option<WorkSide>,
+) -> Turn
+    requires { MayOwn context.shared.now own.old }
+    ensures own { MayOwn context.entry.shared.now own.new }
+    ensures same { (own_in own.new ≡ own_in own.old) × (own_share own.new ≡ own_share own.old) }
+    ensures idle { is_called ≡ true → result ≡ Turn.Idle → IfSome own.new (λ w. w.desk.kept ≡ []) }
+    ensures posted { is_called ≡ true → IfSome own.new (λ w. w.outbox.answered ≡ []) }
 {
-    match own {
-        Some(own) => {
-            let (own, turn) = own.serve(rt, shared, turnstile);
-            (Some(own), turn)
-        }
-        None => (None, Turn::Idle),
+    if !is_called {
+        return Turn::Idle;
     }
+    let Some(worker) = own.take() else {
+        return Turn::Idle;
+    };
+    let (worker, turn) = worker.serve(context);
+    *own = Some(worker);
+    turn
 }
 
 /// The thread of the poller. It ends once it is told to: at once, or, where the runtime is to come to rest, after `SETTLED` turns in a
 /// row that did nothing. After `idle` idle turns in a row it sleeps until it is rung, unless its clock asks for something. It gives back
 /// what it was given, and the clock has gone along with what the poller has seen.
 pub(crate) fn poll<R: Wait, G: Turnstile, C: Clock>(
-    rt: &R,
-    shared: &Shared,
-    turnstile: &G,
+    context: Context<'_, R, G>,
     idle: u32,
-    side: PollSide<C>,
+    mut side: PollSide<C>,
 ) -> PollSide<C>
-    requires { IsPollSide C.follows shared.now side }
-    ensures side { IsPollSide C.follows shared.now result }
+    requires { IsPollSide C.follows context.shared.now side }
+    ensures side { IsPollSide C.follows context.entry.shared.now result }
     ensures shares { HasShares side.desk.ready.share side.own result }
 {
-    let PollSide {
-        mut desk,
-        mut clock,
-        mut outbox,
-        mut caller,
-        mut own,
-    } = side;
+    let Context { rt, shared, .. } = context;
     let mut idling = Idling {
         most: idle.max(1),
         count: 0,
@@ -283,37 +258,30 @@ pub(crate) fn poll<R: Wait, G: Turnstile, C: Clock>(
     let mut served = Turn::Moved;
     for _ in rt.forever() {
         shared.tally.turn();
-        let turn = poll_round(rt, shared, &mut desk, &mut clock, turnstile, &mut outbox);
-        let handed = desk.handed();
+        let turn = poll_round(context, &mut side).unwrap_or(Turn::Moved);
+        let handed = side.desk.handed();
         shared.tally.give(u64::from(handed.wrapping_sub(given)));
         given = handed;
         shared.tally.turn();
-        let puts = desk.puts();
-        call_for(&mut caller, puts.wrapping_sub(called));
-        if served == Turn::Moved || puts != called {
-            (own, served) = serve_own(rt, shared, turnstile, own);
-        }
+        let puts = side.desk.puts();
+        call_for(&mut side.caller, puts.wrapping_sub(called));
+        let is_called = served == Turn::Moved || puts != called;
+        served = serve_own(context, is_called, &mut side.own);
         called = puts;
-        let has_moved = desk.has_moved() || served == Turn::Moved;
+        let has_moved = side.desk.has_moved() || served == Turn::Moved;
         still = if has_moved {
             0
         } else {
             still.saturating_add(1)
         };
-        let is_over = desk.is_over();
+        let is_over = side.desk.is_over();
         if is_over && (SETTLED <= still || !shared.is_resting.load(Ordering::SeqCst)) {
             shared.is_over.store(true, Ordering::SeqCst);
-            caller.call_all();
-            return PollSide {
-                desk,
-                clock,
-                outbox,
-                caller,
-                own,
-            };
+            side.caller.call_all();
+            return side;
         }
-        if idling.note(both(turn, served)) && clock.ask().is_none() && !is_over {
-            rest(rt, &shared.bell, &mut desk);
+        if idling.note(both(turn, served)) && side.clock.ask().is_none() && !is_over {
+            rest(rt, &shared.bell, &mut side.desk);
         } else if !has_moved {
             pause(if is_over { 0 } else { still }, SPINS);
         }
@@ -325,14 +293,12 @@ pub(crate) fn poll<R: Wait, G: Turnstile, C: Clock>(
 /// another turn. It ends once the workers are told to: after a turn that answers nothing, or, where the runtime is to come to rest, after
 /// one that finds nothing to do, or after many that answer nothing, since no memory is found, say. It gives back what it was given.
 pub(crate) fn work<R: Wait, G: Turnstile>(
-    rt: &R,
-    shared: &Shared,
-    turnstile: &G,
+    context: Context<'_, R, G>,
     side: WorkSide,
     mut listener: Listener,
 ) -> WorkSide
-    requires { IsWorkSide shared.now side }
-    ensures side { IsWorkSide shared.now result }
+    requires { IsWorkSide context.shared.now side }
+    ensures side { IsWorkSide context.entry.shared.now result }
     ensures share { result.desk.ready.share ≡ side.desk.ready.share }
     ensures posted { result.outbox.answered ≡ [] }
 {
@@ -341,22 +307,16 @@ pub(crate) fn work<R: Wait, G: Turnstile>(
         mut worker,
         mut outbox,
     } = side;
+    let Context { rt, shared, .. } = context;
     let mut silent = 0u32;
     for _ in rt.forever() {
-        let (next, turn, is_silent) = work_round(
-            rt,
-            shared,
-            &mut desk,
-            worker,
-            turnstile,
-            &mut outbox,
-        );
+        let (next, turn, is_silent) = work_round(context, &mut desk, worker, &mut outbox);
         worker = next;
         if !is_silent {
             silent = 0;
             continue;
         }
-        post_all(rt, &shared.posts, turnstile, &mut outbox);
+        post_all(context, &mut outbox);
         desk.tell(&shared.tally);
         let is_done = turn == Turn::Idle || AWAKE <= silent;
         if shared.is_over.load(Ordering::SeqCst)
@@ -373,15 +333,7 @@ pub(crate) fn work<R: Wait, G: Turnstile>(
             pause(silent, WORK_SPINS);
             silent += 1;
         } else {
-            (worker, listener) = doze(
-                rt,
-                shared,
-                &mut desk,
-                worker,
-                turnstile,
-                &mut outbox,
-                listener,
-            );
+            (worker, listener) = doze(context, &mut desk, worker, &mut outbox, listener);
         }
     }
     unreachable!()

@@ -5,17 +5,17 @@ use Rattle.runtime.proofs.crew.start_workers.Goals as goal
 
 pub start_beside-requires-clause-worker : goal.start_beside-requires-clause-worker
 start_beside-requires-clause-worker g c κs within =
-    let s = arc_value c.args.shared.now in
+    let s = arc_value c.args.stage.now.shared in
     (All-pop (λ (p : Pass). IsOf s.board p) c.loop-worker.workers.items c.pop.new.self.items (Some c.in-Some.worker) c.in-Some.ensures.items c.loop-worker.invariant.workers).1
 
 pub start_beside-requires-clause-ready : goal.start_beside-requires-clause-ready
 start_beside-requires-clause-ready g c κs within =
-    let s = arc_value c.args.shared.now in
+    let s = arc_value c.args.stage.now.shared in
     (All-pop (λ (p : Moves). IsOfQueue s.queue p) c.loop-worker.passes.items c.pop-in-Some.new.self.items (Some c.in-Some-pop.ready) c.in-Some-pop.ensures.items c.loop-worker.invariant.passes).1
 
 pub loop-worker-preserved : goal.loop-worker-preserved
 loop-worker-preserved g c =
-    let s = arc_value c.args.shared.now in
+    let s = arc_value c.args.stage.now.shared in
     let i = c.loop-worker.invariant in
     let workers_left : c.loop-worker.workers.items ≡ c.pop.new.self.items ++ c.in-Some.worker ∷ [] = search rules in
     let passes_left : c.loop-worker.passes.items ≡ c.pop-in-Some.new.self.items ++ c.in-Some-pop.ready ∷ [] = search rules in

@@ -1,5 +1,5 @@
 use Rattle.runtime.proofs.Common.{AreHeldBack, Intake, IsTaken, List, Pass, Places, ap, cares_of, inl, inr, length, subst, sym, taken_in, ⊎_elim, ◌<◌, ◌∙◌, ◌≡◌}
-use Rattle.runtime.proofs.TurnLaws.{at_after, at_on, did_retry, did_ring, did_then}
+use Rattle.runtime.proofs.TurnLaws.{at_on, did_retry, did_ring, did_then, may_release}
 use Rattle.runtime.proofs.PassLaws.{begins_then}
 use Rattle.runtime.proofs.HeldBack.{held_later, held_then}
 use Rattle.runtime.proofs.TurnParts.{pending_sooner, rung_on, rung_sooner, stopped_on, stuck_on}
@@ -7,36 +7,36 @@ use Rattle.runtime.proofs.poll.look_after.Goals as goal
 
 pub returns-in_err-release_waiting-clause-did : goal.returns-in_err-release_waiting-clause-did
 returns-in_err-release_waiting-clause-did g c =
-    let first = did_retry c.args.board.now c.args.queue.now c.args.hands.now c.retry.new.self c.args.outbox.now c.requires.own.0.0 c.retry.ensures.handed c.retry.ensures.same.0 c.retry.ensures.same.1 c.retry.ensures.quiet in
+    let first = did_retry c.args.route.board.now c.args.route.queue.now c.args.hands.now c.retry.new.self c.args.outbox.now c.requires.may.own.0.0 c.retry.ensures.handed c.retry.ensures.same.0 c.retry.ensures.same.1 c.retry.ensures.quiet in
     did_then _ _ _ _ _ _ c.args.outbox.now _ first c.release_waiting.ensures.did
 
 pub returns-in_err-take_new-clause-did : goal.returns-in_err-take_new-clause-did
 returns-in_err-take_new-clause-did g c =
-    let first = did_retry c.args.board.now c.args.queue.now c.args.hands.now c.retry.new.self c.args.outbox.now c.requires.own.0.0 c.retry.ensures.handed c.retry.ensures.same.0 c.retry.ensures.same.1 c.retry.ensures.quiet in
+    let first = did_retry c.args.route.board.now c.args.route.queue.now c.args.hands.now c.retry.new.self c.args.outbox.now c.requires.may.own.0.0 c.retry.ensures.handed c.retry.ensures.same.0 c.retry.ensures.same.1 c.retry.ensures.quiet in
     did_then _ _ _ _ _ _ c.release_waiting.new.outbox _ (did_then _ _ _ _ _ _ c.args.outbox.now _ first c.release_waiting.ensures.did) c.take_new.ensures.did
 
 pub returns-clause-did : goal.returns-clause-did
 returns-clause-did g c =
-    let first = did_retry c.args.board.now c.args.queue.now c.args.hands.now c.retry.new.self c.args.outbox.now c.requires.own.0.0 c.retry.ensures.handed c.retry.ensures.same.0 c.retry.ensures.same.1 c.retry.ensures.quiet in
+    let first = did_retry c.args.route.board.now c.args.route.queue.now c.args.hands.now c.retry.new.self c.args.outbox.now c.requires.may.own.0.0 c.retry.ensures.handed c.retry.ensures.same.0 c.retry.ensures.same.1 c.retry.ensures.quiet in
     let taken = did_then _ _ _ _ _ _ c.release_waiting.new.outbox _ (did_then _ _ _ _ _ _ c.args.outbox.now _ first c.release_waiting.ensures.did) c.take_new.ensures.did in
-    let rung = did_then _ _ _ _ _ _ c.take_new.new.outbox _ taken (did_ring _ _ _ _ _ _ c.ring_due.ensures.rang) in
-    did_then _ _ _ _ _ _ c.ring_due.new.outbox _ rung (did_ring _ _ _ _ _ _ c.watch_replies.ensures.rang)
+    let rung = did_then _ _ _ _ _ _ c.take_new.new.outbox _ taken (did_ring _ _ _ _ _ _ c.ring_due.ensures.on.rang) in
+    did_then _ _ _ _ _ _ c.ring_due.new.outbox _ rung (did_ring _ _ _ _ _ _ c.watch_replies.ensures.on.rang)
 
 pub returns-clause-taken : goal.returns-clause-taken
 returns-clause-taken g c =
-    let d = c.ring_due.ensures.rang in let e = c.watch_replies.ensures.rang in
-    let items : c.watch_replies.new.lists.rings.items ≡ c.take_new.new.lists.rings.items = ap (λ v. v.items) (c.watch_replies.ensures.same.0 ∙ c.ring_due.ensures.same.0) in
+    let d = c.ring_due.ensures.on.rang in let e = c.watch_replies.ensures.on.rang in
+    let items : c.watch_replies.new.lists.rings.items ≡ c.take_new.new.lists.rings.items = ap (λ v. v.items) (c.watch_replies.ensures.on.same.0 ∙ c.ring_due.ensures.on.same.0) in
     let before : c.release_waiting.new.lists.rings.items ≡ c.args.lists.now.rings.items = ap (λ v. v.items) c.release_waiting.ensures.rings in
     ⊎_elim
     (λ t. inl (λ i lt. subst (λ (xs : List Intake). IsTaken c.args.sleeper.now.tails (taken_in xs) i) (sym items) (t i (subst (λ (xs : List Intake). i < length xs) (sym before) lt))))
-    (λ s. inr (stopped_on _ _ _ _ _ _ _ e c.watch_replies.ensures.same.1 (stopped_on _ _ _ _ _ _ _ d c.ring_due.ensures.same.1 s)))
+    (λ s. inr (stopped_on _ _ _ _ _ _ _ e c.watch_replies.ensures.on.same.1 (stopped_on _ _ _ _ _ _ _ d c.ring_due.ensures.on.same.1 s)))
     c.in_ok-take_new.ensures.taken
 
 pub returns-clause-tried : goal.returns-clause-tried
 returns-clause-tried g c =
-    let a = c.release_waiting.ensures.did.goes in let b = c.take_new.ensures.did.goes in let d = c.ring_due.ensures.rang in let e = c.watch_replies.ensures.rang in
+    let a = c.release_waiting.ensures.did.goes in let b = c.take_new.ensures.did.goes in let d = c.ring_due.ensures.on.rang in let e = c.watch_replies.ensures.on.rang in
     let p = c.args.hands.now.poller in
-    let same_waiting = c.watch_replies.ensures.same.1 ∙ c.ring_due.ensures.same.1 in
+    let same_waiting = c.watch_replies.ensures.on.same.1 ∙ c.ring_due.ensures.on.same.1 in
     ⊎_elim
     (λ held.
     let all : AreHeldBack c.retry.new.self.poller c.take_new.new.hands.poller c.take_new.new.lists.waiting.items = held_then c.retry.new.self.poller c.release_waiting.new.hands.poller c.take_new.new.hands.poller c.release_waiting.new.lists.waiting.items c.take_new.new.lists.waiting.items (a.later, a.seen_is) (b.later, b.seen_is) held c.in_ok-take_new.ensures.waited in
@@ -47,15 +47,15 @@ returns-clause-tried g c =
 
 pub returns-clause-rung : goal.returns-clause-rung
 returns-clause-rung g c =
-    let first = did_retry c.args.board.now c.args.queue.now c.args.hands.now c.retry.new.self c.args.outbox.now c.requires.own.0.0 c.retry.ensures.handed c.retry.ensures.same.0 c.retry.ensures.same.1 c.retry.ensures.quiet in
+    let first = did_retry c.args.route.board.now c.args.route.queue.now c.args.hands.now c.retry.new.self c.args.outbox.now c.requires.may.own.0.0 c.retry.ensures.handed c.retry.ensures.same.0 c.retry.ensures.same.1 c.retry.ensures.quiet in
     let taken = did_then _ _ _ _ _ _ c.release_waiting.new.outbox _ (did_then _ _ _ _ _ _ c.args.outbox.now _ first c.release_waiting.ensures.did) c.take_new.ensures.did in
-    let at = at_on _ _ _ _ _ (at_after _ _ _ _ _ _ c.requires.own taken).0 c.ring_due.ensures.rang in
+    let at = at_on _ _ _ _ _ (may_release _ _ _ _ _ _ _ _ c.requires.may taken c.take_new.ensures.cared).own.0 c.ring_due.ensures.on.rang in
     rung_sooner c.args.hands.now.poller c.take_new.new.hands.poller c.watch_replies.new.hands (cares_of c.watch_replies.new.lists) (taken.goes.later, taken.goes.seen_is)
-    (rung_on _ c.take_new.new.hands.poller c.ring_due.new.hands c.watch_replies.new.hands _ _ (cares_of c.ring_due.new.lists) (cares_of c.watch_replies.new.lists) at.1 c.watch_replies.ensures.fewer c.watch_replies.ensures.rang c.ring_due.ensures.rung)
+    (rung_on _ c.take_new.new.hands.poller c.ring_due.new.hands c.watch_replies.new.hands _ _ (cares_of c.ring_due.new.lists) (cares_of c.watch_replies.new.lists) at.1 c.watch_replies.ensures.fewer c.watch_replies.ensures.on.rang c.ring_due.ensures.rung)
 
 pub returns-clause-counted : goal.returns-clause-counted
 returns-clause-counted g c =
-    let first = did_retry c.args.board.now c.args.queue.now c.args.hands.now c.retry.new.self c.args.outbox.now c.requires.own.0.0 c.retry.ensures.handed c.retry.ensures.same.0 c.retry.ensures.same.1 c.retry.ensures.quiet in
+    let first = did_retry c.args.route.board.now c.args.route.queue.now c.args.hands.now c.retry.new.self c.args.outbox.now c.requires.may.own.0.0 c.retry.ensures.handed c.retry.ensures.same.0 c.retry.ensures.same.1 c.retry.ensures.quiet in
     let taken = did_then _ _ _ _ _ _ c.release_waiting.new.outbox _ (did_then _ _ _ _ _ _ c.args.outbox.now _ first c.release_waiting.ensures.did) c.take_new.ensures.did in
-    let rung = did_then _ _ _ _ _ _ c.take_new.new.outbox _ taken (did_ring _ _ _ _ _ _ c.ring_due.ensures.rang) in
+    let rung = did_then _ _ _ _ _ _ c.take_new.new.outbox _ taken (did_ring _ _ _ _ _ _ c.ring_due.ensures.on.rang) in
     ⊎_elim (λ p. inl (pending_sooner c.args.hands.now.poller c.ring_due.new.hands.poller c.watch_replies.new.hands.poller c.watch_replies.new.lists.watchers.items (rung.goes.later, rung.goes.seen_is) p)) (λ full. inr full) c.watch_replies.ensures.counted

@@ -1,5 +1,5 @@
 use Rattle.ready.specs.Ready.{IsOf as IsOfQueue}
-use Rattle.runtime.proofs.Common.{AreHeldBack, ArePending, Begins, Desk, HasRung, Intake, IsPollTurn, IsPollers, IsStill, IsStuck, IsTaken, List, Owed, Pass, Places, Req, [], ap, arith, cares_of, inl, inr, length, seen_of, subst, sym, taken_in, ℕ, ⊎_elim, ◌+◌, ◌<◌, ◌∙◌, ◌≡◌, ◌≢◌}
+use Rattle.runtime.proofs.Common.{AreHeldBack, ArePending, Begins, Desk, HasRung, Intake, IsPollTurn, IsPollers, IsStill, IsStuck, IsTaken, List, Owed, Pass, Places, Req, [], ap, arith, cares_of, inl, inr, length, rules, seen_of, subst, sym, taken_in, ℕ, ⊎_elim, ◌+◌, ◌<◌, ◌∙◌, ◌≡◌, ◌≢◌}
 use Rattle.runtime.proofs.ClockLaws.{stays_along, still_pollers}
 use Rattle.runtime.proofs.TurnLaws.{did_retry, did_ring, did_then, nothing_done, turned}
 use Rattle.runtime.proofs.PassLaws.{after_on}
@@ -15,8 +15,8 @@ look_after-requires-clause-rings g c =
     let few = c.collect.ensures.few in
     (rings ∙ (sym c.requires.sleeper.0.1 ∙ (sym tails ∙ sym c.collect.ensures.risen.0)), omega (arith, rings, few))
 
-pub look_after-requires-clause-cared : goal.look_after-requires-clause-cared
-look_after-requires-clause-cared g c = after_on _ _ _ _ c.ask_clock.ensures.ticked.goes (cares_of c.desk.inside.lists) c.desk.invariant.0
+pub look_after-requires-clause-may : goal.look_after-requires-clause-may
+look_after-requires-clause-may g c = record { own = search rules; room = search rules; cared = after_on _ _ _ _ c.ask_clock.ensures.ticked.goes (cares_of c.desk.inside.lists) c.desk.invariant.0 }
 
 pub returns-in_err-look_after-clause-turned : goal.returns-in_err-look_after-clause-turned
 returns-in_err-look_after-clause-turned g c =

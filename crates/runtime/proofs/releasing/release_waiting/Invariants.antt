@@ -1,13 +1,11 @@
-use Rattle.runtime.proofs.Common.{AreAt, AreHeldBack, Did, HasRoom, IfOk, IsStuck, LooksAfter, cares_of, ◌≡◌, ◌⊎◌}
+use Rattle.runtime.proofs.Common.{AreHeldBack, Did, IfOk, IsStuck, MayRelease, cares_of, ◌≡◌, ◌⊎◌}
 use Rattle.runtime.proofs.HeldBack.{Passed}
 use Rattle.runtime.proofs.releasing.release_waiting.Given as goal
 
 abbrev pub invariant-loop-n : goal.invariant-loop-n
 invariant-loop-n g l = record {
-  did : Did l.board l.queue l.fn.hands l.fn.outbox l.hands l.outbox;
-  at : AreAt l.board l.queue l.hands;
-  room : HasRoom l.hands l.outbox;
-  cared : LooksAfter (cares_of l.lists) l.hands.poller.view.seen;
+  did : Did l.route.board.now l.route.queue.now l.fn.hands l.fn.outbox l.hands l.outbox;
+  may : MayRelease l.route.board.now l.route.queue.now l.hands (cares_of l.lists) l.outbox;
   rings : l.lists.rings ≡ l.fn.lists.rings;
   places : l.lists.waiting.places ≡ l.fn.lists.waiting.places;
   passed : Passed l.lists.waiting.items l._n l._n-end (λ done. IfOk l.outcome (λ _. AreHeldBack l.fn.hands.poller l.hands.poller done ⊎ IsStuck l.hands));

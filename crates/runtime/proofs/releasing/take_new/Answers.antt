@@ -1,15 +1,13 @@
 use Rattle.runtime.proofs.Common.{arith, inl, inr, refl, ⊎_elim, ◌∙◌}
-use Rattle.runtime.proofs.TurnLaws.{at_after, did_still, did_then, room_after}
+use Rattle.runtime.proofs.TurnLaws.{did_still, did_then, may_release}
 use Rattle.runtime.proofs.HeldBack.{have_waited_then}
 use Rattle.runtime.proofs.TurnParts.{taken_next}
 use Rattle.runtime.proofs.releasing.take_new.Goals as goal
 
 pub loop-ring-init : goal.loop-ring-init
 loop-ring-init g c = record {
-  did = did_still _ _ _ _ c.requires.own.0.0;
-  at = c.requires.own;
-  room = c.requires.room;
-  cared = c.requires.cared;
+  did = did_still _ _ _ _ c.requires.may.own.0.0;
+  may = c.requires.may;
   rings = refl;
   places = refl;
   waited = λ r is. inl is;
@@ -26,9 +24,7 @@ loop-ring-preserved g c =
     let all = did_then _ _ _ _ _ _ c.loop-ring.outbox _ i.did e.did in
     record {
       did = all;
-      at = at_after _ _ _ _ _ _ c.requires.own all;
-      room = room_after _ _ _ _ _ _ c.requires.room all;
-      cared = e.cared;
+      may = may_release _ _ _ _ _ _ _ _ c.requires.may all e.cared;
       rings = e.rings ∙ i.rings;
       places = e.places ∙ i.places;
       waited = have_waited_then c.args.hands.now.poller c.loop-ring.hands.poller c.take_ring.new.hands.poller c.args.lists.now.waiting.items c.loop-ring.lists.waiting.items c.take_ring.new.lists.waiting.items (i.did.goes.later, i.did.goes.seen_is) (e.did.goes.later, e.did.goes.seen_is) i.waited c.in_ok-take_ring.ensures.waited;

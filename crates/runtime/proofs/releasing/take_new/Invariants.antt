@@ -1,12 +1,10 @@
-use Rattle.runtime.proofs.Common.{AreAt, Did, HasRoom, HasStopped, HaveWaited, IsStuck, IsTaken, LooksAfter, cares_of, length, taken_in, ℕ, ◌<◌, ◌≡◌, ◌⊎◌}
+use Rattle.runtime.proofs.Common.{Did, HasStopped, HaveWaited, IsStuck, IsTaken, MayRelease, cares_of, length, taken_in, ℕ, ◌<◌, ◌≡◌, ◌⊎◌}
 use Rattle.runtime.proofs.releasing.take_new.Given as goal
 
 abbrev pub invariant-loop-ring : goal.invariant-loop-ring
 invariant-loop-ring g l = record {
-  did : Did l.board l.queue l.fn.hands l.fn.outbox l.hands l.outbox;
-  at : AreAt l.board l.queue l.hands;
-  room : HasRoom l.hands l.outbox;
-  cared : LooksAfter (cares_of l.lists) l.hands.poller.view.seen;
+  did : Did l.route.board.now l.route.queue.now l.fn.hands l.fn.outbox l.hands l.outbox;
+  may : MayRelease l.route.board.now l.route.queue.now l.hands (cares_of l.lists) l.outbox;
   rings : length l.lists.rings.items ≡ length l.fn.lists.rings.items;
   places : l.lists.waiting.places ≡ l.fn.lists.waiting.places;
   waited : HaveWaited l.fn.hands.poller l.hands.poller l.fn.lists.waiting.items l.lists.waiting.items;

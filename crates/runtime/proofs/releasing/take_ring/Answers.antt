@@ -1,15 +1,13 @@
 use Rattle.runtime.proofs.Common.{Places, ap, inl, refl, sym, ◌∙◌}
-use Rattle.runtime.proofs.TurnLaws.{at_after, did_ring, did_still, did_then, room_after}
+use Rattle.runtime.proofs.TurnLaws.{did_ring, did_still, did_then, may_release}
 use Rattle.runtime.proofs.HeldBack.{free_unstuck, same_places}
 use Rattle.runtime.proofs.TurnParts.{free_goes_on, no_answers, waited_more, went_free}
 use Rattle.runtime.proofs.releasing.take_ring.Goals as goal
 
 pub loop-k-init : goal.loop-k-init
 loop-k-init g c = record {
-  did = did_still _ _ _ _ c.requires.own.0.0;
-  at = c.requires.own;
-  room = c.requires.room;
-  cared = c.requires.cared;
+  did = did_still _ _ _ _ c.requires.may.own.0.0;
+  may = c.requires.may;
   rings = refl;
   there = c.requires.ring;
   places = refl;
@@ -20,14 +18,11 @@ loop-k-init g c = record {
   stopped = λ s. s;
 }
 
-pub release-requires-clause-own : goal.release-requires-clause-own
-release-requires-clause-own g c = at_after _ c.args.queue.now _ _ c.loop-k.outbox c.loop-k.outbox c.loop-k.invariant.at (did_ring _ _ _ _ _ _ (c.take_up-req.ensures.went_on c.loop-k.outbox))
+pub release-requires-clause-may : goal.release-requires-clause-may
+release-requires-clause-may g c = may_release _ c.args.route.queue.now _ _ c.loop-k.outbox c.loop-k.outbox _ _ c.loop-k.invariant.may (did_ring _ _ _ _ _ _ (c.take_up-req.ensures.went_on c.loop-k.outbox)) c.take_up-req.ensures.cared
 
 pub release-requires-clause-free : goal.release-requires-clause-free
 release-requires-clause-free g c = went_free _ _ _ c.take_up-req.ensures.went_on (c.is_free.ensures.kept c.if-not-is_free.false, c.is_free.ensures.room c.if-not-is_free.false)
-
-pub release-requires-clause-room : goal.release-requires-clause-room
-release-requires-clause-room g c = room_after _ c.args.queue.now _ _ c.loop-k.outbox c.loop-k.outbox c.loop-k.invariant.room (did_ring _ _ _ _ _ _ (c.take_up-req.ensures.went_on c.loop-k.outbox))
 
 pub returns-in_err-release-clause-did : goal.returns-in_err-release-clause-did
 returns-in_err-release-clause-did g c = did_then _ _ _ _ _ _ c.loop-k.outbox _ (did_then _ _ _ _ _ _ c.loop-k.outbox _ c.loop-k.invariant.did (did_ring _ _ _ _ _ _ (c.take_up-req.ensures.went_on c.loop-k.outbox))) c.release.ensures.did
@@ -35,14 +30,12 @@ returns-in_err-release-clause-did g c = did_then _ _ _ _ _ _ c.loop-k.outbox _ (
 pub loop-k-preserved : goal.loop-k-preserved
 loop-k-preserved g c =
     let i = c.loop-k.invariant in let t = c.take_up-req.ensures in let e = c.release.ensures in
-    let took = did_ring _ c.args.queue.now _ _ _ _ (t.went_on c.loop-k.outbox) in
+    let took = did_ring _ c.args.route.queue.now _ _ _ _ (t.went_on c.loop-k.outbox) in
     let all = did_then _ _ _ _ _ _ c.loop-k.outbox _ (did_then _ _ _ _ _ _ c.loop-k.outbox _ i.did took) e.did in
     let kept = c.is_free.ensures.kept c.if-not-is_free.false in let some = c.is_free.ensures.room c.if-not-is_free.false in
     record {
       did = all;
-      at = at_after _ _ _ _ _ _ c.requires.own all;
-      room = room_after _ _ _ _ _ _ c.requires.room all;
-      cared = e.cared;
+      may = may_release _ _ _ _ _ _ _ _ c.requires.may all e.cared;
       rings = ap (λ z. Rattle.std.proofs.Common.length z.items) e.rings ∙ (t.rings ∙ i.rings);
       there = i.there;
       places = same_places c.take_up-req.result _ _ e.waits ∙ (ap (λ (s : Places). s.places) t.waiting ∙ i.places);

@@ -2,7 +2,7 @@ use Rattle.runtime.proofs.Common.{All, All-pop, All-push, IsWorkSide, List, Some
 use Rattle.runtime.proofs.settling.+serve_all.Goals as goal
 
 pub serve-worker-requires : goal.serve-worker-requires
-serve-worker-requires g t c = (All-pop (λ (w : WorkSide). IsWorkSide c.args.shared.now w) c.args.workers.items c.pop.new.self.items (Some c.in-Some.worker) c.in-Some.ensures.items c.requires.workers).1
+serve-worker-requires g t c = (All-pop (λ (w : WorkSide). IsWorkSide c.args.context.shared.now w) c.args.workers.items c.pop.new.self.items (Some c.in-Some.worker) c.in-Some.ensures.items c.requires.workers).1
 
 pub serve_all-workers-requires : goal.serve_all-workers-requires
 serve_all-workers-requires g t c κs within =
@@ -12,7 +12,7 @@ serve_all-workers-requires g t c κs within =
       (
         within,
         (
-          (All-pop (λ (w : WorkSide). IsWorkSide c.args.shared.now w) c.args.workers.items c.pop.new.self.items (Some c.in-Some.worker) c.in-Some.ensures.items c.requires.workers).0,
+          (All-pop (λ (w : WorkSide). IsWorkSide c.args.context.shared.now w) c.args.workers.items c.pop.new.self.items (Some c.in-Some.worker) c.in-Some.ensures.items c.requires.workers).0,
           search rules,
         ),
       ),
@@ -20,7 +20,7 @@ serve_all-workers-requires g t c κs within =
 
 pub returns-clause-workers : goal.returns-clause-workers
 returns-clause-workers g t c =
-    let s = c.args.shared.now in
+    let s = c.args.context.shared.now in
     let fewer = ap (λ (z : List WorkSide). length z) c.in-Some.ensures.items in
     let one = length-append c.pop.new.self.items (c.in-Some.worker ∷ []) in
     let more = ap (λ (z : List WorkSide). length z) c.push_reserved.ensures.items in

@@ -4,8 +4,8 @@ use Rattle.runtime.proofs.threads.WorkSide.serve.Given as goal
 
 abbrev pub invariant-loop-run : goal.invariant-loop-run
 invariant-loop-run g l = record {
-  desk : IsServing l.shared l.desk l.worker;
-  places : widest l.shared.board.layout.cells ≤ l.outbox.places;
+  desk : IsServing l.context.shared.now l.desk l.worker;
+  places : widest l.context.shared.now.board.layout.cells ≤ l.outbox.places;
   idle : l.last ≡ Idle → l.desk.kept ≡ [];
   share : l.desk.ready.share ≡ l.fn.self.desk.ready.share;
 }
