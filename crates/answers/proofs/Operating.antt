@@ -1,4 +1,4 @@
--- What READ, WRITE, CLOSE and POLL_ADD reply is what the definitions tell, and what they do to the pipe in hand is what their replies do to the
+-- What READ, WRITE, CLOSE and POLL_ADD reply is what the definitions tell, and what they do to the held pipe is what their replies do to the
 -- pipe of the history.
 use Rattle.std.proofs.lemmas.List.{length-take-le}
 use Rattle.entry.specs.declared.op.Offset.{Offset}
@@ -19,11 +19,11 @@ held_of c = record { bytes = c.content; read_shut = c.read_shut; write_shut = c.
 pub same : (p : ℕ) → (p == p) ≡ true
 same p = eq-eqb p p refl
 
--- a pipe in hand has the level of the history's
+-- a held pipe has the level of the history's
 pub level_said : (cap : ℕ) (c : Conduit) (w : Flow) → IsPipe cap c w → told.level_of cap w ≡ level_of c
 level_said cap c w s = rw (← s.content_is, ← s.read_is, ← s.write_is, ← s.cap_is) refl
 
--- what a reply makes of the pipe in hand it makes of the history's
+-- what a reply makes of the held pipe it makes of the history's
 pub stays : (cap : ℕ) (op : Op) (bytes : List ℕ) (res : ℤ) (p : ℕ) (c new : Conduit) (w : Flow) → IsPipe cap c w → IsSound w → new.cap ≡ c.cap → held_of new ≡ flows_held op bytes res p (held_of c) → IsPipe cap new (flows op bytes res p w)
 stays cap op bytes res p c new w s ok k e =
     let was : held_of c ≡ held_in w = cc in

@@ -1,4 +1,4 @@
--- What a SPLICE replies is what the definitions tell, and what it does to the pipes in hand is what its reply does to those of the history.
+-- What a SPLICE replies is what the definitions tell, and what it does to the held pipes is what its reply does to those of the history.
 use Rattle.history.specs.State.{Held}
 use Rattle.history.proofs.Contents.{reads_held, writes_held, flows_held}
 use Rattle.level.specs.Replies.{moved, splice_reply}
@@ -87,7 +87,7 @@ writes_past (write_end y) bytes res p w e = ap (λ (b : Bool). cond b (record w 
 writes_past (read_end y) bytes res p w e = refl
 writes_past no_end bytes res p w e = refl
 
--- ---- with both pipes in hand
+-- ---- with both held pipes
 
 module _ (caps : List ℕ) (h : List Event) (r : Req) (s t : ℕ) (fd_in fd_out : ℤ) (len : ℕ) (c d : Conduit) (u : UsesBoth (Splice fd_in fd_out len) (length caps) s t)
     (source : IsPipe (slice_index caps s) c (flow h s)) (s_ok : IsSound (flow h s)) (target : IsPipe (slice_index caps t) d (flow h t)) (t_ok : IsSound (flow h t)) where
@@ -129,7 +129,7 @@ module _ (caps : List ℕ) (h : List Event) (r : Req) (s t : ℕ) (fd_in fd_out 
     pub both_does : (a : Option ℤ) → a ≡ splice_reply (level_of c) (level_of d) len → c' ≡ after_read (moved a) c → d' ≡ after_write (moved a) c.content d → OnIdle a ((c' ≡ c) × (d' ≡ d)) → DoesBoth caps h r op s t a c c' d d'
     both_does a e out into o = does a (link a e) out into o
 
--- ---- with one pipe in hand
+-- ---- with one held pipe
 
 one_of_both : (x z : End) (p : ℕ) → are_of_one x z ≡ true → (is_at x p || is_at z p) ≡ true → (is_at x p ≡ true) × (is_at z p ≡ true)
 one_of_both x z p = by x z where

@@ -1,4 +1,4 @@
--- What an operation did to the pipes in hand and to its buffer, by the definitions of the history.
+-- What an operation did to the held pipes and to its buffer, by the definitions of the history.
 use Rattle.std.specs.Prelude.{◌≡◌, ◌≢◌, ℕ, ◌≤◌, ◌++◌, drop, length, slice_index, Bool, true, false, ℤ, pos, negsuc, List, [], Option, Some, None}
 use Rattle.entry.specs.declared.op.Op.{Op}
 use Rattle.entry.specs.declared.op.Op.TheVariants.{Nop, AsyncCancel, TimeoutRemove, Timeout, LinkTimeout, Invalid}
@@ -9,7 +9,7 @@ use Rattle.history.specs.Pipes.{Flow, contents, flow, offered, flows, content}
 use Rattle.pipe.specs.Pipe.{Conduit}
 use Rattle.answers.specs.NamedEnds.{UsesOne, UsesBoth}
 
--- the pipe in hand is the one of the history
+-- the held pipe is the one of the history
 pub record IsPipe (cap : ℕ) (c : Conduit) (w : Flow) : Type 0 where
   pub cap_is : c.cap ≡ cap
   pub content_is : c.content ≡ content w
@@ -76,11 +76,11 @@ module _ (caps : List ℕ) (h : List Event) (r : Req) (op : Op) where
   DoesBoth s t (Some res) source source' target target' = RepliesBoth s t res source' target'
   DoesBoth s t None source source' target target' = WaitsBoth source source' target target'
 
--- whatever the history, where the pipe in hand is the one pipe of the board that the operation is answered from
+-- whatever the history, where the held pipe is the one pipe of the board that the operation is answered from
 abbrev pub Answered : Op → Option ℤ → Conduit → Conduit → List ℕ → List ℕ → Type 0
 Answered op result old new bytes after = (caps : List ℕ) (h : List Event) (r : Req) (p : ℕ) → UsesOne op (length caps) p → IsPipe (slice_index caps p) old (flow h p) → IsSound (flow h p) → Does caps h r op p result old new bytes after
 
--- the same of two pipes in hand
+-- the same of two held pipes
 abbrev pub AnsweredBoth : Op → Option ℤ → Conduit → Conduit → Conduit → Conduit → Type 0
 AnsweredBoth op result source source' target target' = (caps : List ℕ) (h : List Event) (r : Req) (s t : ℕ) → UsesBoth op (length caps) s t → IsPipe (slice_index caps s) source (flow h s) → IsSound (flow h s)
     → IsPipe (slice_index caps t) target (flow h t) → IsSound (flow h t) → DoesBoth caps h r op s t result source source' target target'

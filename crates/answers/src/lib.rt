@@ -1,5 +1,5 @@
-//! What an operation answers that asks for no other request: with its pipe in hand, with both of its pipes, or without a
-//! pipe. The answers of pipes in hand are those of the definitions over the history; that is shown here, in one place.
+//! What an operation answers that asks for no other request: with its held pipe, with both of its pipes, or without a
+//! pipe. The answers of held pipes are those of the definitions over the history; that is shown here, in one place.
 #![tactic(auto)]
 
 pub mod named;

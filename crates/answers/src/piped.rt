@@ -1,4 +1,4 @@
-//! Operations on a pipe in hand.
+//! Operations on a held pipe.
 ghost use Rattle.std.specs.Prelude.{◌≡◌, ℕ, true, length};
 ghost use Rattle.entry.specs.declared.op.Offset.{Offset};
 ghost use Rattle.history.specs.Legal.{FitsOp};

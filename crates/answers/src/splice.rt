@@ -1,4 +1,4 @@
-//! SPLICE, with both of its pipes in hand or with one.
+//! SPLICE, with both of its pipes or with one.
 ghost use Rattle.std.specs.Prelude.{◌≡◌, ℕ};
 ghost use Rattle.history.specs.Pipes.{end_of};
 ghost use Rattle.answers.specs.NamedEnds.{JoinsPipes, gives, takes};

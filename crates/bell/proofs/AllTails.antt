@@ -17,7 +17,7 @@ pub record IsReading (v0 : View) (old : List ℕ) (k : ℕ) (v : View) (tails : 
   pub loads : v.loads ≡ loads_of k tails ++ v0.loads
   pub differs : changed ≡ true → (r : ℕ) × (r < k) × (slice_index tails r ≢ slice_index old r)
 
--- the loads hang on the tails that were read
+-- the loads depend on the tails that were read
 loads_same : (k : ℕ) (a b : List ℕ) → ((q : ℕ) → q < k → slice_index a q ≡ slice_index b q) → loads_of k a ≡ loads_of k b
 loads_same zero a b e = refl
 loads_same (suc k) a b e =

@@ -226,7 +226,7 @@ module _ (s : Setup) (K : List ℕ) (j : List Line) (claims : List ℕ) (rests :
       old_one : (d m k : ℕ) → k < d * m → (d + 1) * m < submits (events_of j) i → ¬ (k + m < submits (events_of j) i) → ⊥
       old_one d m k lt f out = let e : (d + 1) * m ≡ d * m + m = omega arith in out (omega arith)
 
-  -- the ring's report begins with the first that can be left, and ends behind the last one
+  -- the ring's report begins with the first that can be left, and ends after the last one
   pub ring_opens : (slots : List (Option Thing)) (lines : Lines) (space : ℕ) → Reports s K j claims slots lines space (record { ring = i; k = 0 }) → Reports s K j claims slots lines space (record { ring = i; k = (a - 2) * cells_in K i })
   ring_opens slots lines space so = record {
     rests = so.rests;

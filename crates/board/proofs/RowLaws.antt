@@ -141,7 +141,7 @@ way_done b s i n p o some born le chain =
     let alive : ¬ (phase (events_of j) (request_at K x (suc g)) ≡ unborn) = subst (λ (q : Req). ¬ (phase (events_of j) q ≡ unborn)) (sym next) (born_once S (events_of j) (nth i n) o.ours.legal born) in
     of_chain_done (events_of j) i p m (subst (λ (q : Req). IsChainDone (events_of j) q) first (earlier_gone b.layout S x inside j o.ours.legal o.ours.orderly (suc g) g (omega arith) alive).1) chain
 
--- a row that began anew behind the requests whose cells were used again
+-- a row that began anew after the requests whose cells were used again
 pub knows_restarted : (b : Facts) (s : TableSeat) (q : Req) (r r' : Kept) → IsOurs b s → 0 < cells_in b.layout.cells q.ring → q.k < submits (events_of s.me.0.seen) q.ring → cells_in b.layout.cells q.ring ≤ q.k
     → KnowsRow b.layout.cells s.me.0.seen q.ring r → Stands (stand_ins (q.k - cells_in b.layout.cells q.ring + 1)) r' → r'.size ≡ r.size → r'.plain ≡ r.plain → KnowsRow b.layout.cells s.me.0.seen q.ring r'
 knows_restarted b s q r r' o some born le k stands size plain = let c : ℕ = cells_in b.layout.cells q.ring in let h : List Event = events_of s.me.0.seen in let i : ℕ = q.ring in record {

@@ -1,4 +1,4 @@
-//! Boards, each with the calls of the lines behind its own.
+//! Boards, each with the calls of the lines after its own.
 ghost use Rattle.std.specs.Prelude.{◌≡◌, All, IfOk, IfErr, IfSome};
 ghost use Rattle.work.specs.Board.{IsOf};
 ghost use Rattle.cases.specs.Cast.{AreIn, IsCast, IsTroop};
@@ -240,7 +240,7 @@ fn first_line(lines: &str) -> (&str, &str) {
     lines.split_once('\n').unwrap_or((lines, ""))
 }
 
-/// Goes on with a board after its first `finish`: each part begins with what stands behind that word.
+/// Goes on with a board after its first `finish`: each part begins with what stands after that word.
 fn play_on<R: AllocGlobal + Print>(
     judge: &mut Judge<'_, R>,
     board: Board,

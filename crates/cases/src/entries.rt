@@ -132,7 +132,7 @@ fn plain_entry(words: &mut Words<'_>) -> Result<(Sqe, Vec<u8>), AllocError>
     }
 }
 
-/// The entry that at most 64 bytes say, with bytes 0 behind them.
+/// The entry that at most 64 bytes say, with bytes 0 after them.
 fn raw_entry(words: &mut Words<'_>) -> Result<Sqe, AllocError>
     ensures kept { IsTrue words.old.is_bad → IsTrue words.new.is_bad }
 {

@@ -24,7 +24,7 @@ impl<R: AllocGlobal + Print> Judge<'_, R> {
         self.rt.alloc()
     }
 
-    /// Compares what is told of a line, which has this before it, with what stands behind its ` => `, or `ok`, and prints the line where it is another.
+    /// Compares what is told of a line, which has this before it, with what stands after its ` => `, or `ok`, and prints the line where it is another.
     pub fn hear(&mut self, lead: &str, line: &str, told: Told) -> io::Result<()> {
         let told = match told {
             Ok(told) => told,

@@ -13,7 +13,7 @@ pub struct Pipes {
     pub other: Option<Pipe>,
 }
 
-/// What is told of a new pipe, which is kept for the lines behind it, of the two pipes, or of a call of the last one.
+/// What is told of a new pipe, which is kept for the lines after it, of the two pipes, or of a call of the last one.
 pub fn told(pipes: &mut Pipes, kind: &str, words: &mut Words<'_>) -> Told {
     let alloc = words.alloc;
     match kind {

@@ -7,7 +7,7 @@ use claim::{Cause, ClaimWord, GENERATIONS, Tag, pack, unpack};
 use entry::{Cqe, Offset, Op, Row, Sqe, SqeFlags, fails};
 use std::alloc::{AllocError, Global};
 
-/// What is told of a value by the words behind its kind.
+/// What is told of a value by the words after its kind.
 pub fn told(kind: &str, words: &mut Words<'_>) -> Told {
     let alloc = words.alloc;
     match kind {

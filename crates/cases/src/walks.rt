@@ -11,7 +11,7 @@ use std::alloc::{AllocError, Global};
 /// The most pipes of a ring.
 const PIPES: u32 = 16;
 
-/// The rings of the last line `rings`, as far as the lines behind it have come.
+/// The rings of the last line `rings`, as far as the lines after it have come.
 #[derive(Drop)]
 pub struct Walk {
     object: Object,
@@ -26,7 +26,7 @@ impl From<Memory> for Slip {
 }
 
 impl Walk {
-    /// So many rings, and a pipe for each capacity behind them.
+    /// So many rings, and a pipe for each capacity after them.
     pub fn new(words: &mut Words<'_>) -> Result<Walk, Slip> {
         let (alloc, rings) = (words.alloc, words.number());
         let mut capacities = Vec::new(alloc);
@@ -228,7 +228,7 @@ impl Walk {
         }
     }
 
-    /// The words of the state, behind those of the line.
+    /// The words of the state, after those of the line.
     fn state(&self, words: &mut Words<'_>) -> Told {
         let alloc = words.alloc;
         let mut state = Packing::new(Vec::new(alloc));

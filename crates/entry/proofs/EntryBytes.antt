@@ -34,7 +34,7 @@ layout-written r flags user_data fd off addr len word user all e1 e2 e3 e4 e5 e6
     e7 ∙ ap (put 44 4 (little_bytes 4 (cast_unsigned w32 r.splice_fd_in))) (e6 ∙ ap (put 32 8 (little_bytes 8 user_data)) (e5 ∙ ap (put 28 4 (little_bytes 4 r.word)) (e4
     ∙ ap (put 24 4 (little_bytes 4 r.len)) (e3 ∙ ap (put 16 8 (little_bytes 8 r.addr)) (e2 ∙ ap (put 8 8 (little_bytes 8 r.off)) e1)))))
 
--- a field, and what stands behind it
+-- a field, and what stands after it
 pub front : (at n x : ℕ) (bytes tail : List ℕ) → at + n ≤ length bytes → IsBytes bytes → number_at at n bytes ≡ x → tail ≡ drop (at + n) bytes
     → little_bytes n x ++ tail ≡ drop at bytes
 unfolding number_at

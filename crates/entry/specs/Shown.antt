@@ -29,7 +29,7 @@ op_text (Write fd offset len) = codes "WRITE fd " ++ (signed_decimal fd ++ (offs
 op_text (Splice fd_in fd_out len) = codes "SPLICE fd-in " ++ (signed_decimal fd_in ++ (codes " fd-out " ++ (signed_decimal fd_out ++ (codes " len " ++ decimal len))))
 op_text Invalid = codes "INVALID"
 
--- a word for each flag that is set, each behind a space
+-- a word for each flag that is set, each after a space
 abbrev pub flags_text : ℕ → List ℕ
 flags_text flags =
     (if bit_and flags 2 == 2 then codes " drain" else [])

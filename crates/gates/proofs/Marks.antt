@@ -49,7 +49,7 @@ module _ (xs : List Slot) where
   abbrev pub Bars : ℕ → ℕ → Type 0
   Bars k m = (m < k) × (P m ≡ true) × (Join m k ⊎ (Drains m ⊎ Drains k))
 
-  -- a hosted entry stands behind one that joins it
+  -- a hosted entry stands after one that joins it
   pub hosted_joined : (k : ℕ) → k ≤ length xs → (behind xs k).hosted ≡ true → (0 < k) × (J (k - 1) ≡ true)
   hosted_joined zero le e = absurd (true≢false (sym e))
   hosted_joined (suc k) le e =

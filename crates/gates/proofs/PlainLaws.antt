@@ -1,4 +1,4 @@
--- A plain request behind plain ones is open, whoever has replied.
+-- A plain request after plain ones is open, whoever has replied.
 use Rattle.gates.proofs.Common.{ArePlain, Bool, Entry, Event, IsBefore, IsChainBefore, IsClear, IsPlaced, IsPlainAt, List, Open, Option, Req, Severed, Some, ap, arith, cond, drains, false, gate_of, is_link_timeout_in, joins, nth, previous, submission, subst, sym, true, true≢false, ℕ, ◌-◌, ◌<◌, ◌∙◌, ◌≡◌}
 use Rattle.gates.proofs.Lists.{one_some}
 

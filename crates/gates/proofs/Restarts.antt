@@ -1,4 +1,4 @@
--- A row that begins anew behind requests that stand-ins serve for.
+-- A row that begins anew after requests that stand-ins serve for.
 use Rattle.gates.proofs.Common.{IsChainStart, Some, Stands, [], ap, arith, behind, drop-replicate, inl, is_pending, length-replicate, next_in, none-some, refl, replicate, slice_get, stand_in, stand_ins, starting, suc, test_at, zero, ℕ, ◌+◌, ◌-◌, ◌<◌, ◌∙◌, ◌≡◌, ◌≤◌}
 
 pub stand_in_at : (n m : ℕ) → m < n → slice_get (stand_ins n) m ≡ Some stand_in

@@ -147,7 +147,7 @@ module _ (h : List Event) (i : ℕ) where
       by_reply None u = absurd (true≢false (sym (ap is_unanswered u) ∙ is))
       by_reply (Some f) u = outcome_replied (nth i m) f (r.outcome f u)
 
-    -- a LINK_TIMEOUT that is placed as such stands behind one that hosts it, in the list too
+    -- a LINK_TIMEOUT that is placed as such stands after one that hosts it, in the list too
     hosted_here : (k : ℕ) (s : Slot) → slice_get xs k ≡ Some s → k ≤ length xs → Live h i k → TrailedAt h (nth i k) s → s.traits.link_timeout ≡ true → (behind xs k).hosted ≡ true
     hosted_here k s e le live r is = by_number k refl le where
       x : Submission

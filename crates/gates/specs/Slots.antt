@@ -29,7 +29,7 @@ slot_of c = record { traits = c.traits; last = c.last; reply = c.reply }
 abbrev pub joins_of : Slot → Bool
 joins_of s = (s.traits.links_soft || s.traits.links_hard) && not s.last
 
--- a LINK_TIMEOUT may stand directly behind it (io_uring_prep_link_timeout(3))
+-- a LINK_TIMEOUT may stand directly after it (io_uring_prep_link_timeout(3))
 abbrev pub hosts_of : Slot → Bool
 hosts_of s = joins_of s && not s.traits.link_timeout
 

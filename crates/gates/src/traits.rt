@@ -13,7 +13,7 @@ macro_rules! is_invalid_entry {
     ((cancel $kind:ident $($field:ident)*) ()) => { false };
 }
 
-/// What chains, drains and link timeouts hang on: what the entry is, and its flags (IOSQE_IO_DRAIN, IOSQE_IO_LINK and
+/// What chains, drains and link timeouts depend on: what the entry is, and its flags (IOSQE_IO_DRAIN, IOSQE_IO_LINK and
 /// IOSQE_IO_HARDLINK of io_uring_enter(2)).
 /// So much fits into the word that a submitter notes of a request: a poller that has this word alone can feed a row.
 #[derive(Clone, Copy)]

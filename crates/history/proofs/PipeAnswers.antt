@@ -1,4 +1,4 @@
--- What an operation is answered from the pipes: it hangs on what those hold whose ends it names, is an error where one isn't there, and
+-- What an operation is answered from the pipes: it depends on what those hold whose ends it names, is an error where one isn't there, and
 -- comes with data to a READ alone.
 use Rattle.std.proofs.lemmas.List.{length-take-le}
 use Rattle.level.proofs.Moved.{read_few}
@@ -27,7 +27,7 @@ and_same : (b : Bool) (k z : Bool) (x y : Answer) → (b ≡ true → cond (not 
 and_same true k z x y e = e refl
 and_same false k z x y e = refl
 
--- ---- it hangs on what the pipes hold
+-- ---- it depends on what the pipes hold
 
 abbrev level_held : ℕ → Held → Level
 level_held cap v = record { capacity = cap; count = length v.bytes; read_shut = v.read_shut; write_shut = v.write_shut }

@@ -76,7 +76,7 @@ module _ (caps : List ℕ) (flow_at : ℕ → Flow) where
   abbrev pub poll_of : End → ℕ → Answer
   poll_of x mask = at_end (λ l side. poll_reply l side mask) x
 
-  -- what an operation is answered from what is in the pipes. That of a cancel hangs on other requests, and a timer has none of a worker
+  -- what an operation is answered from what is in the pipes. That of a cancel depends on other requests, and a timer has none of a worker
   abbrev pub answer_at : Op → Answer
   answer_at Nop = now (pos 0) []
   answer_at Invalid = now (negsuc 21) []

@@ -25,12 +25,12 @@ abbrev pub joins : Option Submission → Bool
 joins None = false
 joins (Some s) = links s.entry && not s.last
 
--- a LINK_TIMEOUT may stand directly behind it (io_uring_prep_link_timeout(3))
+-- a LINK_TIMEOUT may stand directly after it (io_uring_prep_link_timeout(3))
 abbrev pub hosts : Option Submission → Bool
 hosts None = false
 hosts (Some s) = (links s.entry && not s.last) && not (is_link_timeout s.entry.op)
 
--- a LINK_TIMEOUT that begins a chain, or stands directly behind another, is placed as Invalid (this profile)
+-- a LINK_TIMEOUT that begins a chain, or stands directly after another, is placed as Invalid (this profile)
 abbrev pub placed_behind : Option Submission → Entry → Entry
 placed_behind before e = cond (is_link_timeout e.op && not (hosts before)) (record e { op = Invalid }) e
 
@@ -76,7 +76,7 @@ IsLinkTimeout h l = (e : Entry) × IsPlaced h l e × (is_link_timeout e.op ≡ t
 abbrev pub IsTarget : List Event → Req → Req → Type 0
 IsTarget h l t = IsLinkTimeout h l × (t.ring ≡ l.ring) × (suc t.k ≡ l.k)
 
--- this reply ends the rest of the chain: it fails, behind a soft link or an Invalid entry (this profile, after io_uring_enter(2))
+-- this reply ends the rest of the chain: it fails, after a soft link or an Invalid entry (this profile, after io_uring_enter(2))
 abbrev pub severs : Entry → ℤ → Bool
 severs e res = fails e res && (not (links_hard e) || is_invalid e.op)
 

@@ -9,7 +9,7 @@ const MARK: usize = 77_777;
 /// More bytes than a call tells of what it gave.
 const ROOM: usize = 1024;
 
-/// What is told behind the reason for which a call was refused: all was as before, and it was made again.
+/// What is told after the reason for which a call was refused: all was as before, and it was made again.
 pub(crate) const AGAIN: &str = ", all as before; again";
 
 /// Something wasn't as before, or it was refused again.
@@ -35,12 +35,12 @@ impl Shown {
         let _ = self.text.push_str(text);
     }
 
-    /// Adds a number behind its words.
+    /// Adds a number after its words.
     pub fn count(&mut self, words: &str, number: u64) {
         let _ = write!(self.text, "{words}{number}");
     }
 
-    /// Adds a number behind its words, where there is one. Whether there is.
+    /// Adds a number after its words, where there is one. Whether there is.
     pub fn count_if(&mut self, words: &str, number: Option<u64>) -> bool {
         if let Some(number) = number {
             self.count(words, number);

@@ -3,7 +3,7 @@ use Rattle.std.proofs.Common.{◌≡◌, ℕ, zero, suc, ◌+◌, ◌-◌, ◌�
 use Rattle.std.proofs.lemmas.List.{take_all, take_min}
 use Rattle.circular_buffer.specs.Buffer.{Buffer, buffer}
 
--- the first n of two lists, one behind the other
+-- the first n of two lists, one after the other
 take-append : (n : ℕ) (xs ys : List ℕ) → take n (xs ++ ys) ≡ take n xs ++ take (n - length xs) ys
 take-append zero xs ys = let none : 0 - length xs ≡ 0 = omega arith in rw none refl
 take-append (suc n) [] ys = let all : suc n - 0 ≡ suc n = omega arith in rw all refl

@@ -149,7 +149,7 @@ fn moved(reply: Option<i32>) -> usize
     }
 }
 
-/// Moves the first bytes into another buffer, behind those that are there.
+/// Moves the first bytes into another buffer, after those that are there.
 fn move_bytes(from: &mut HeapCircularBuffer<u8>, to: &mut HeapCircularBuffer<u8>, count: usize)
     requires here { count ≤ length from.old.items }
     requires room { length to.old.items + count ≤ to.old.capacity }

@@ -42,7 +42,7 @@ fn cancels(rt: HostRuntime) -> Result<(), Fail> {
     compares(&rt, rt.alloc(), PLAN, 21_398_394, 1_571_556)
 }
 
-/// A cancel of all its matches, behind other cancels.
+/// A cancel of all its matches, after other cancels.
 #[test]
 fn cancels_of_all(rt: HostRuntime) -> Result<(), Fail> {
     const LINES: &[Line] = &[

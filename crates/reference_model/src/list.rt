@@ -117,7 +117,7 @@ impl<'a> List<'a> {
         }
     }
 
-    /// A LINK_TIMEOUT in a wrong place: it begins its chain, or stands directly behind another of its chain.
+    /// A LINK_TIMEOUT in a wrong place: it begins its chain, or stands directly after another of its chain.
     fn is_misplaced(self, r: Req) -> bool {
         if !self.is_handed_as_link_timeout(r) {
             return false;

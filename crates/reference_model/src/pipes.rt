@@ -109,7 +109,7 @@ impl<'a> List<'a> {
     }
 
     /// The byte at this place of all that went into the pipe. The event that put it there is looked for from the last one
-    /// back: a WRITE has it in its buffer; behind a SPLICE it was at a place of another pipe before.
+    /// back: a WRITE has it in its buffer; after a SPLICE it was at a place of another pipe before.
     fn byte(self, pipe: usize, place: usize) -> Option<u8> {
         let mut p = pipe;
         let mut place = place;

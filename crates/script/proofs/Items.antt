@@ -1,4 +1,4 @@
--- A list at one of its places: what is there and behind it, and what is up to it.
+-- A list at one of its places: what is there and after it, and what is up to it.
 use Rattle.script.proofs.Common.{List, [], add-one, ap, drop, drop-cons, get_or, length, suc, sym, take, take-suc, ℕ, ◌++◌, ◌+◌, ◌<◌, ◌∙◌, ◌∷◌, ◌≡◌}
 
 pub rest_at : {X : Type 0} → (xs : List X) (i : ℕ) (x : X) → i < length xs → x ≡ get_or xs i x → drop i xs ≡ x ∷ drop (i + 1) xs

@@ -39,7 +39,7 @@ impl Progress {
         self.left.load(Ordering::SeqCst) == 0
     }
 
-    /// How many lines are behind it: carried out, or given up.
+    /// How many lines are done: carried out, or given up.
     pub fn behind(&self) -> u64 {
         self.lines.saturating_sub(self.left.load(Ordering::SeqCst))
     }

@@ -24,7 +24,7 @@ abbrev pub ring_named : Option ℕ → ℕ → Actor
 ring_named None rings = Actor.Stranger
 ring_named (Some n) rings = if nat_lt n rings then Actor.Ring n else Actor.Stranger
 
--- whom the word behind `on` names: the clock, a declared ring, or nobody
+-- whom the word after `on` names: the clock, a declared ring, or nobody
 abbrev pub named_actor : List ℕ → ℕ → Actor
 named_actor word rings = if is_same word (codes "clock") then Actor.Clock else ring_named (number_in word) rings
 

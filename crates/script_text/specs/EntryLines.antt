@@ -102,11 +102,11 @@ ticks_in word = long_or (number_in word)
 
 -- ---- the line
 
--- the words behind the arguments
+-- the words after the arguments
 abbrev pub options_of : Kind → List (List ℕ) → List (List ℕ)
 options_of kind words = drop (1 + arguments_of kind) words
 
--- the faults of the arguments behind the label
+-- the faults of the arguments after the label
 abbrev pub argument_faults : List Stated → Kind → List (List ℕ) → List Fault
 argument_faults lines Nop words = []
 argument_faults lines Read words = number_faults (word_at words 2) 0 FD ++ number_faults (word_at words 3) 0 BUFFER

@@ -36,11 +36,11 @@ label_of c r = label_among c.entries.items (slice_get c.acts.items r.ring) r.k
 
 -- ---- lines
 
--- a word, and one more behind it
+-- a word, and one more after it
 abbrev pub short_line : List ℕ → List ℕ → List ℕ
 short_line word first = word ++ (codes " " ++ (first ++ codes "\n"))
 
--- a word, and two more behind it
+-- a word, and two more after it
 abbrev pub long_line : List ℕ → List ℕ → List ℕ → List ℕ
 long_line word first second = word ++ (codes " " ++ (first ++ (codes " " ++ (second ++ codes "\n"))))
 

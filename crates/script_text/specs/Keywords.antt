@@ -36,7 +36,7 @@ keyword_of word =
     if is_same word (codes "armed") then Some Armed else
     entry_of_kind (kind_of word)
 
--- how many words stand behind the first of an entry line, options left out
+-- how many words stand after the first of an entry line, options left out
 abbrev pub arguments_of : Kind → ℕ
 arguments_of Nop = 1
 arguments_of Read = 3
@@ -50,7 +50,7 @@ arguments_of Remove = 2
 arguments_of Splice = 4
 arguments_of Raw = 2
 
--- how many words have to stand behind the first
+-- how many words have to stand after the first
 abbrev pub least_words : Keyword → ℕ
 least_words Submit = 0
 least_words (Entry kind) = arguments_of kind

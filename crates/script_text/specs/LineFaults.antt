@@ -88,7 +88,7 @@ kind_faults lines kind words given = if is_raw kind then raw_faults given else e
 abbrev pub posts_faults : List (List ℕ) → List Fault
 posts_faults words = if nat_lt 2 (length words) then number_faults (word_at words 2) 1 POSTS else []
 
--- the faults of the words behind the first
+-- the faults of the words after the first
 abbrev pub own_faults : Standing → List Stated → Bool → Keyword → List (List ℕ) → Option Entry → List Fault
 own_faults p lines unsubmitted Pipe words given = number_faults (word_at words 1) 1 CAPACITY ++ fault_if (nat_le PIPES p.pipes) OutOfRange
 own_faults p lines unsubmitted Ring words given =

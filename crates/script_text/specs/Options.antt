@@ -13,7 +13,7 @@ use Rattle.script_text.specs.TextWords.{is_same}
 abbrev pub is_user_data : List ℕ → Bool
 is_user_data word = starts_with nat_eq word (codes "ud=")
 
--- the number that stands behind `ud=`
+-- the number that stands after `ud=`
 abbrev pub user_data_in : List ℕ → Option ℕ
 user_data_in word = number_in (drop 3 word)
 
@@ -25,7 +25,7 @@ is_some (Some n) = true
 abbrev pub is_count : List ℕ → Bool
 is_count word = starts_with nat_eq word (codes "count=")
 
--- the number that stands behind `count=`
+-- the number that stands after `count=`
 abbrev pub count_in : List ℕ → Option ℕ
 count_in word = number_in (drop 6 word)
 

@@ -49,7 +49,7 @@ pub fn write_table(alloc: Global, script: &Script, table: &Table) -> Result<Vec<
     Ok(out)
 }
 
-/// The line of an entry at the front of the bytes: its reply, its data and what is behind it.
+/// The line of an entry at the front of the bytes: its reply, its data and what is after it.
 fn entry_line<'a>(
     alloc: Global,
     entry: &Named,

@@ -1,4 +1,4 @@
--- A pipe that a worker has stays with it, and nobody else changes what is in it. A reply hangs on the pipe that its entry names, and changes no other.
+-- A pipe that a worker has stays with it, and nobody else changes what is in it. A reply depends on the pipe that its entry names, and changes no other.
 use Rattle.history.specs.Answers.{answer_at}
 use Rattle.history.specs.State.{held_in}
 use Rattle.history.proofs.PipeAnswers.{answer_off, answer_same}
@@ -10,7 +10,7 @@ use Rattle.steps.proofs.Roles.{idle_hands}
 pub untouched_flow : (h : List Event) (q : Req) (res : ℤ) (p : ℕ) (w : Flow) → uses_at_in (placed h q) p ≡ false → flows_as (placed h q) (submission h q) (contents h) res p w ≡ w
 untouched_flow h q res p w t = untouched (placed h q) (submission h q) (contents h) res p w t
 
--- ---- what a reply hangs on
+-- ---- what a reply depends on
 
 module _ (caps : List ℕ) (h : List Event) (r : Req) where
   -- an answer stays where the pipes that the entry names are as they were, and that of a cancel does

@@ -78,7 +78,7 @@ lies (Free r n laid) j p rs = cond (n == p) (lays laid r rs) rs
 lies (Did (Reply r res data')) j p rs = cond (is_holder (holder j p) r) [] rs
 lies _ j p rs = rs
 
--- the requests that lie with the pipe p, the one that was laid down last at the end: who replies with the pipe in hand takes all of them along
+-- the requests that lie with the pipe p, the one that was laid down last at the end: who replies with the held pipe takes all of them along
 abbrev pub lying : List Line → ℕ → List Req
 lying [] p = []
 lying (l ∷ j) p = lies l j p (lying j p)

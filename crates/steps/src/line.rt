@@ -6,7 +6,7 @@ use history::{Event, Req};
 pub enum Laid {
     /// None: those that lie there stay.
     NoRequest,
-    /// Its own, behind those that lie there.
+    /// Its own, after those that lie there.
     Behind,
     /// Its own alone: there was no place, and all that lay there went out with the worker.
     Alone,

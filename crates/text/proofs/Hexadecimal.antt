@@ -30,12 +30,12 @@ unread_reads digits error (Ok o) h (inl memory) = absurd (h.1 memory)
 unread_reads digits error (Ok o) h (inr refused) =
     (rw h.0 tt, λ bytes are e. let back = read_back digits bytes are e in absurd cc)
 
--- the data behind a line's reply, where there are any
+-- the data after a line's reply, where there are any
 pub data_text-some : (bytes : List ℕ) → (length bytes ≡ 0 → ⊥) → data_text bytes ≡ 32 ∷ encode_lower bytes
 data_text-some [] some = absurd (some refl)
 data_text-some (b ∷ bs) some = refl
 
--- behind the space stand the digits, and then the rest
+-- after the space stand the digits, and then the rest
 pub data_behind : (whole after bytes rest : List ℕ) (count : ℕ) → (count ≡ 0 → ⊥) → length bytes ≡ count
     → whole ≡ 32 ∷ after → whole ≡ data_text bytes ++ rest → after ≡ encode_lower bytes ++ rest
 data_behind whole after bytes rest count some len e f =

@@ -2,7 +2,7 @@
 use Rattle.std.proofs.lemmas.List.{append_cancel_left}
 use Rattle.text.proofs.Common.{List, ap, append_assoc, data_text, line_text, signed_decimal, sym, ℕ, ℤ, ◌++◌, ◌∙◌, ◌∷◌, ◌≡◌}
 
--- what stands behind the label and its space
+-- what stands after the label and its space
 abbrev pub behind_label : ℤ → List ℕ → List ℕ → List ℕ
 behind_label reply bytes rest = signed_decimal reply ++ (data_text bytes ++ (10 ∷ rest))
 

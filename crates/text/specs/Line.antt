@@ -4,7 +4,7 @@ use Rattle.std.specs.Int.{w32}
 use Rattle.std.specs.Fmt.{signed_decimal}
 use Rattle.hex.specs.Hex.{encode_lower, IsBytes}
 
--- how many bytes of data a line shows: as many as the reply says behind a READ, and none behind another entry
+-- how many bytes of data a line shows: as many as the reply says after a READ, and none after another entry
 abbrev pub shown_count : Bool → ℤ → ℕ
 shown_count true (pos n) = n
 shown_count true (negsuc n) = 0
@@ -19,7 +19,7 @@ data_text (b ∷ bs) = 32 ∷ encode_lower (b ∷ bs)
 abbrev pub line_text : List ℕ → ℤ → List ℕ → List ℕ
 line_text label reply bytes = label ++ (32 ∷ (signed_decimal reply ++ (data_text bytes ++ (10 ∷ []))))
 
--- what a line can show of an entry: a reply of 32 bits, and as many bytes as belong behind it
+-- what a line can show of an entry: a reply of 32 bits, and as many bytes as belong after it
 pub record IsLine (reads : Bool) (reply : ℤ) (bytes : List ℕ) : Type 0 where
   pub reply_fits : FitsSigned w32 reply
   pub are_bytes : IsBytes bytes

@@ -10,7 +10,7 @@ use crate::number::reply_of;
 use itoa::Buffer;
 use std::alloc::{AllocError, Global};
 
-/// How many bytes of data a line shows: as many as the reply says behind a READ, and none behind another entry.
+/// How many bytes of data a line shows: as many as the reply says after a READ, and none after another entry.
 pub fn shown_count(reads: bool, reply: i32) -> usize
     ensures { result ≡ shown_count reads reply }
 {
@@ -53,7 +53,7 @@ pub fn push_line(
     Ok(())
 }
 
-/// What stands behind the front, where the bytes begin with it.
+/// What stands after the front, where the bytes begin with it.
 fn behind<'a>(bytes: &'a [u8], front: &[u8]) -> Option<&'a [u8]>
     ensures { MatchOption result ((rest : List ℕ) → bytes.now ≡ front.now ++ rest → ⊥) (λ x. bytes.now ≡ front.now ++ x.now) }
 {
@@ -74,7 +74,7 @@ fn word_at(bytes: &[u8]) -> (&[u8], &[u8])
     bytes.split_at(bytes.len())
 }
 
-/// The reply that stands at the front, up to a space or a line feed, and what is behind it.
+/// The reply that stands at the front, up to a space or a line feed, and what is after it.
 fn reply_at(bytes: &[u8]) -> Option<(i32, &[u8])>
     ensures found { IfSome result (λ x. FitsSigned w32 x.0 × (bytes.now ≡ signed_decimal x.0 ++ x.1.now)) }
     ensures only { (reply : ℤ) (rest : List ℕ) → FitsSigned w32 reply → IsCut rest → bytes.now ≡ signed_decimal reply ++ rest
@@ -85,7 +85,7 @@ fn reply_at(bytes: &[u8]) -> Option<(i32, &[u8])>
     Some((reply, rest))
 }
 
-/// The data of so many bytes at the front, with the space before them, and what is behind them.
+/// The data of so many bytes at the front, with the space before them, and what is after them.
 fn data_at(
     alloc: Global,
     count: usize,
@@ -112,7 +112,7 @@ fn data_at(
     Ok(Some((shown, rest)))
 }
 
-/// The line of an entry at the front: its reply, its data and what is behind it. None where no line of that entry stands
+/// The line of an entry at the front: its reply, its data and what is after it. None where no line of that entry stands
 /// there.
 pub fn line_at<'a>(
     alloc: Global,

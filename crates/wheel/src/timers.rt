@@ -26,7 +26,7 @@ type Deadlines = HashMap<(u16, u64), u32>;
 pub struct Timers {
     slots: Slots,
     deadlines: Deadlines,
-    /// No deadline is below this one. It may stay behind until `catch_up`.
+    /// No deadline is below this one. It may be too early until `catch_up`.
     soonest: u32,
 }
 

@@ -26,7 +26,7 @@ past_max j ring a b p q k lt = ⊎_elim
     (λ (t : nat_lt k a ≡ true). p k (ltb-true k a t))
     (λ (t : nat_lt k a ≡ false). q k (let ge = ltb-false k a t in let m : k < max a b = lt in omega arith)) (bool_cases (nat_lt k a))
 
--- ---- with the search behind it
+-- ---- after the search
 
 pub fewer_less : (v w : View) (c : Req) (n all more : ℕ) → all ≤ more → FewerSteps v w c n all → FewerSteps v w c n more
 fewer_less v w c n all more le f = record { steps = f.steps; is = f.is; few = f.few; own = f.own; most = (let z = f.most in omega arith) }

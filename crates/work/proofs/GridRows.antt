@@ -59,7 +59,7 @@ spot_says rows i k row K is g s =
     let end = rows_end 0 rows g in
     (subst (λ (M : List ℕ). IsCell M (row.first + p)) is inside, subst (λ (M : List ℕ). request_at M (row.first + p) (k / row.cells) ≡ record { ring = i; k = k }) is at, omega arith, subst (λ (M : List ℕ). p ≡ place_of M (row.first + p)) is (subst (λ (z : ℕ). p ≡ place_of C z) first (sym c.2)))
 
--- the rows so far, with one more behind them
+-- the rows so far, with one more after them
 pub cells_more : (rows : List Row) (r : Row) → cells_of (rows ++ r ∷ []) ≡ cells_of rows ++ r.cells ∷ []
 cells_more [] r = refl
 cells_more (q ∷ rows) r = ap (λ (xs : List ℕ). q.cells ∷ xs) (cells_more rows r)

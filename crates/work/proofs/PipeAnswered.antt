@@ -1,4 +1,4 @@
--- What the answer of a run with one pipe in hand comes to: it lays its request down there, or it may reply.
+-- What the answer of a run with one held pipe comes to: it lays its request down there, or it may reply.
 use Rattle.std.proofs.Common.{vec_capacity}
 use Rattle.history.proofs.Contents.{sound}
 use Rattle.work.proofs.Common.{Answered, Conduit, Does, Entry, Full, HasPipeAfter, HasPipeLaid, IsHoldingSeat, IsPipe, IsPlaced, Laid, List, Lists, MayLay, MayReply, None, Op, OpAnswers, Option, Parcel, Piped, Req, Seated, Settled, Some, TableId, Unanswered, UsesOne, View, WaitedPipe, WorkerSeat, [], ap, events_of, false, flow, is_pipe, lays, length, lt-ltb, refl, request_at, setup_of, slice_index, slot_at, subst, sym, total, true, ℕ, ℤ, ◌<◌, ◌∙◌, ◌∷◌, ◌≡◌}

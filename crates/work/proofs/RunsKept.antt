@@ -327,7 +327,7 @@ has_both caps j op r s t joins first second n lt u = ⊎_elim
     (λ (e : n ≡ s). subst (λ (z : ℕ). holder j z ≡ Some r) (sym e) first)
     (λ (e : n ≡ t). subst (λ (z : ℕ). holder j z ≡ Some r) (sym e) second) (only_joined op s t n joins u)
 
--- the pipe in hand, with those that lie there
+-- the held pipe, with those that lie there
 pub piped_in : (L : Layout) (n : ℕ) (c : WaitedPipe) (w : Flow) (rs : List Req) → IsPipe (slice_index L.caps n) c.pipe w → (c.lying.items ≡ rs) × (vec_capacity c.lying ≡ total L.cells) → PipeIs L n (Some (Piped c)) (w, rs)
 piped_in L n c w rs is lies = (is.cap_is, is.content_is, is.read_is, is.write_is, lies.0, lies.1)
 
@@ -354,13 +354,13 @@ module _ (table : TableId) (me : Seated) (x g : ℕ) (r : Req) (p : Parcel) (pip
   pub plain_may : (res : ℤ) → me.1 ≡ (slot_at x, Some (Full p)) ∷ rest me.1 → UsesNone (op_run p.sqe.op) (length me.0.layout.caps) → OpAnswers me.0.layout.caps (events_of me.0.seen) r (op_run p.sqe.op) res [] → MayReply me x q (run_as p.sqe) res []
   plain_may res out past answers = may_by p (run_as p.sqe) res [] (runs_placed table me.0 me.0 x g r p pipes k) out refl refl refl answers (λ n there u. absurd (true≢false (sym u ∙ past n (is_below me.0.layout.caps n there))))
 
-  -- a request that has its pipes in hand, of which the pipe n is one
+  -- a request that has its held pipes, of which the pipe n is one
   pub pipe_may : (c : Parcel) (n : ℕ) (res : ℤ) (data' : List ℕ) → me.1 ≡ (slot_at x, Some (Full c)) ∷ rest me.1 → c.sqe ≡ p.sqe → c.last ≡ p.last → c.buffer.items ≡ over data' p.buffer.items
       → OpAnswers me.0.layout.caps (events_of me.0.seen) r p.sqe.op res data' → uses_at p.sqe.op n ≡ true → HasEach me.0.layout.caps me.0.seen p.sqe.op r → MayReply me x q p.sqe res data'
   pipe_may c n res data' out sqe last items answers used has = may_by c p.sqe res data' (subst (λ (e : Entry). IsPlaced (events_of me.0.seen) r e) (run_piped p.sqe n used) (runs_placed table me.0 me.0 x g r p pipes k)) out sqe last items answers
       (λ m there u. has m (is_below me.0.layout.caps m there) u)
 
-  -- the pipe in hand is what the reply makes of it
+  -- the held pipe is what the reply makes of it
   pub pipe_after : (n : ℕ) (c : WaitedPipe) (res : ℤ) → HasEmpty me.0.layout c → IsPipe (slice_index me.0.layout.caps n) c.pipe (flows p.sqe.op (offered p.sqe.op (contents (events_of me.0.seen)) p.buffer.items) res n (flow (events_of me.0.seen) n)) → PipeIs me.0.layout n (Some (Piped c)) (flows_as (Some p.sqe) (submission (events_of me.0.seen) q) (contents (events_of me.0.seen)) res n (flow (events_of me.0.seen) n), [])
   pipe_after n c res none is =
       let given : submission (events_of me.0.seen) q ≡ Some (record { entry = p.sqe; bytes = p.buffer.items; last = p.last }) = subst (λ (z : Req). submission (events_of me.0.seen) z ≡ Some (record { entry = p.sqe; bytes = p.buffer.items; last = p.last })) (sym k.req_is) (k.parcel.1 ∙ (λ i. Some (record { entry = p.sqe; bytes = sym k.parcel.2 i; last = p.last }))) in

@@ -70,7 +70,7 @@ Hand = List (ℕ × Option Thing)
 pub in_front : (m : Hand) (a : ℕ × Option Thing) (l : Hand) → m ≡ a ∷ l → m ≡ a ∷ rest m
 in_front m a l is = is ∙ ap (λ (cs : Hand). a ∷ rest cs) (sym is)
 
--- with a pipe in hand the parcel's slot is brought to the front
+-- with a held pipe the parcel's slot is brought to the front
 pub parcel_first : (old a : Seated) (n s : ℕ) (x z : Option Thing) → old.1 ≡ (n, z) ∷ (s, x) ∷ [] → a ≡ (old.0, turned old.1) → a.1 ≡ (s, x) ∷ rest a.1
 parcel_first old a n s x z out is = in_front a.1 (s, x) ((n, z) ∷ []) (ap (λ (k : Seated). k.1) is ∙ ap turned out)
 

@@ -159,17 +159,17 @@ pub record IsTask (table : TableId) (K : List ℕ) (s : Seat (Option Thing) View
   pub spare : HasRooms K lists
   pub marked : AreMarked lists.marks s.me.0.seen
 
--- the same, with no pipe in hand
+-- the same, with no held pipe
 pub record IsBusySeat (table : TableId) (K : List ℕ) (s : Seat (Option Thing) View) (x g : ℕ) (r : Req) (p : Parcel) (pipes : ℕ) (lists : Lists) : Type 0 where
   pub task : IsTask table K s x g r p pipes lists
   pub out : s.me.1 ≡ (slot_at x, Some (Full p)) ∷ []
   pub bare : (n : ℕ) → holder s.me.0.seen n ≢ Some r
 
--- those lie with the pipe in hand that do by what was seen, and there is a place for each cell
+-- those lie with the held pipe that do by what was seen, and there is a place for each cell
 abbrev pub LiesAs : List ℕ → View → ℕ → WaitedPipe → Type 0
 LiesAs K v n c = (c.lying.items ≡ lying v.seen n) × (vec_capacity c.lying ≡ total K)
 
--- the same with a pipe in hand that the entry is answered from, as what was seen tells, and no other
+-- the same with a held pipe that the entry is answered from, as what was seen tells, and no other
 pub record IsHoldingSeat (table : TableId) (K : List ℕ) (s : Seat (Option Thing) View) (x g : ℕ) (r : Req) (p : Parcel) (pipes n : ℕ) (c : WaitedPipe) (lists : Lists) : Type 0 where
   pub task : IsTask table K s x g r p pipes lists
   pub out : s.me.1 ≡ (n, None) ∷ (slot_at x, Some (Full p)) ∷ []
@@ -185,7 +185,7 @@ pub record Holding : Type 0 where
   pub req : Req
   pub pipe : ℕ
 
--- the same with both pipes in hand that the entry joins, and no other
+-- the same with both held pipes that the entry joins, and no other
 pub record IsJoiningSeat (table : TableId) (K : List ℕ) (s : Seat (Option Thing) View) (x g : ℕ) (r : Req) (p : Parcel) (pipes a b : ℕ) (c d : WaitedPipe) (lists : Lists) : Type 0 where
   pub task : IsTask table K s x g r p pipes lists
   pub out : s.me.1 ≡ (b, None) ∷ (a, None) ∷ (slot_at x, Some (Full p)) ∷ []
@@ -197,7 +197,7 @@ pub record IsJoiningSeat (table : TableId) (K : List ℕ) (s : Seat (Option Thin
   pub target_lies : LiesAs K s.me.0 b d
   pub idle : AreIdle lists
 
--- a worker that runs a request and has both of its pipes in hand, as contracts see it
+-- a worker that runs a request and has both of its pipes, as contracts see it
 pub record Joining : Type 0 where
   pub pass : Pass
   pub req : Req

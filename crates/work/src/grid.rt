@@ -21,7 +21,7 @@ pub struct Row {
     cells: u64,
 }
 
-/// The cells of all rings, one ring's behind the other's. Contracts see how many cells each ring has.
+/// The cells of all rings, one ring's after the other's. Contracts see how many cells each ring has.
 #[derive(Drop)]
 pub struct Grid {
     rows: Vec<Row>,

@@ -1,4 +1,4 @@
-//! A worker that runs a SPLICE and has both of its pipes in hand.
+//! A worker that runs a SPLICE and has both of its pipes.
 ghost use Rattle.std.specs.Prelude.{◌≡◌, ℕ, ◌++◌, [], List, Some, None, length, IfOk, IfErr};
 ghost use Rattle.entry.specs.Entry.{Entry};
 ghost use Rattle.history.specs.declared.event.Event.TheVariants.{Reply};

@@ -6,7 +6,7 @@ use Rattle.work.proofs.PipesWaited.{laid_down, took_along}
 use Rattle.work.proofs.TaskKept.{its_own, parcel_first, pipe_in, task_lists, task_on, task_parcel, turned_on}
 use Rattle.work.proofs.holding.Holding.answer.Goals as goal
 
--- the pipe in hand is the one that the entry is answered from
+-- the held pipe is the one that the entry is answered from
 abbrev Named : Holding → Type 0
 Named h = (e : Entry) → IsPlaced (seen_of h.pass) h.req e → UsesOne e.op (length h.pass.view.layout.caps) h.pipe
 

@@ -7,7 +7,7 @@ use Rattle.work.proofs.holding.Holding.hold.Goals as goal
 same_pipe : (a b : WaitedPipe) → ◌≡◌ {A = Option Thing} (Some (Piped a)) (Some (Piped b)) → a ≡ b
 same_pipe a b e = cc
 
--- the pipe in hand and this one are those that the entry joins
+-- the held pipe and this one are those that the entry joins
 abbrev Named : ℕ → Holding → Type 0
 Named t h = (e : Entry) → IsPlaced (seen_of h.pass) h.req e → UsesBoth e.op (length h.pass.view.layout.caps) h.pipe t
 
