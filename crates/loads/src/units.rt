@@ -66,6 +66,19 @@ impl Units {
         }
     }
 
+    /// Adds the entries of the next unit. That of a NOP is made here, with no more work than its client has.
+    fn add_unit(&mut self, batch: &mut Batch) -> Result<(), AllocError> {
+        if self.setup.kind == Kind::Nop {
+            let entry = with_user_data(nop(), self.next.wrapping_mul(2));
+            batch.push((entry, Vec::new(self.alloc)))?;
+            self.open = self.open.saturating_add(1);
+            return Ok(());
+        }
+        let (first, second) = self.entries();
+        self.add(batch, first, 0)?;
+        self.add(batch, second, 1)
+    }
+
     /// Adds the first (0) or second (1) entry of the next unit, if it has one. Its user_data tells its place, and which it is.
     fn add(&mut self, batch: &mut Batch, sqe: Option<Sqe>, which: u64) -> Result<(), AllocError> {
         let Some(sqe) = sqe else {
@@ -123,14 +136,13 @@ impl Load for Units {
             return Ok((batch, 0));
         }
         let is_single = self.setup.kind == Kind::Nop || self.setup.kind == Kind::Byte;
-        let in_flight = self.open.div_ceil(if is_single { 1 } else { 2 });
+        let entries = if is_single { 1 } else { 2 };
+        let in_flight = self.open.div_ceil(entries);
         let room = u64::from(self.setup.depth).saturating_sub(in_flight);
         let room = room.min(self.end.saturating_sub(self.next));
-        let mut batch = Vec::with_capacity(self.alloc, 2 * room.min(1_024) as usize)?;
+        let mut batch = Vec::with_capacity(self.alloc, (entries * room.min(1_024)) as usize)?;
         for _unit in 0..room {
-            let (first, second) = self.entries();
-            self.add(&mut batch, first, 0)?;
-            self.add(&mut batch, second, 1)?;
+            self.add_unit(&mut batch)?;
             self.next = self.next.saturating_add(1);
         }
         let is_echo = self.setup.kind == Kind::Echo;
