@@ -9,8 +9,7 @@ use Rattle.level.proofs.Moved.{read_few}
 use Rattle.history.specs.Answers as told
 use Rattle.history.specs.State.{Held, held_in}
 use Rattle.history.proofs.Contents.{reads_held, writes_held, closes_held, flows_held, flows_hold}
-use Rattle.pipe.specs.Pipe.{level_of}
-use Rattle.pipe.specs.Moves.{OnIdle, after_read, after_write, after_close}
+use Rattle.pipe.specs.{level_of, OnIdle, after_read, after_write, after_close}
 use Rattle.answers.proofs.Common.{Answer, Bool, Conduit, Does, End, Event, Flow, IsPipe, IsSide, IsSound, List, None, Op, OpAnswers, Option, Req, Some, [], ap, append-nil, bare, close_of, cond, contents, drop, end_of, eq-eqb, eqb-true, false, flow, flows, is_at, is_pipe, later, length, level_at, lt-ltb, negsuc, no_end, now, offered, poll_of, pos, read_end, read_from, refl, size, slice_index, subst, sym, take, true, with_front, write_end, write_to, ℕ, ℤ, ◌++◌, ◌<◌, ◌==◌, ◌∙◌, ◌≡◌, ◌≤◌}
 
 abbrev pub held_of : Conduit → Held

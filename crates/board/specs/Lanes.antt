@@ -5,14 +5,10 @@ use Rattle.atomic_table.specs.declared.shared.Seat.{Seat}
 use Rattle.claim.specs.Facts.{Facts}
 use Rattle.history.specs.declared.req.Req.{Req}
 use Rattle.history.specs.declared.event.Event.{Event}
-use Rattle.history.specs.History.{phase, submits}
-use Rattle.history.specs.Chains.{IsChainDone, before_in, hosts, joins}
+use Rattle.history.specs.{phase, submits, IsChainDone, before_in, hosts, joins}
 use Rattle.steps.specs.declared.parcel.Thing.{Thing}
 use Rattle.steps.specs.declared.view.View.{View}
-use Rattle.steps.specs.Fairness.{Orderly, IsFree, IsReaped}
-use Rattle.steps.specs.Journal.{events_of}
-use Rattle.steps.specs.Cells.{IsCell, cells_in, place_of, request_at, total, words_of}
-use Rattle.steps.specs.Rule.{Looks, IsStep}
+use Rattle.steps.specs.{Orderly, IsFree, IsReaped, events_of, IsCell, cells_in, place_of, request_at, total, words_of, Looks, IsStep}
 use Rattle.work.specs.declared.grid.Spot.{Spot}
 use Rattle.board.specs.declared.lane.Lane.{Lane}
 use Rattle.work.specs.Passes.{Pass, seen_of}

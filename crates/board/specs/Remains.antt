@@ -14,12 +14,8 @@ use Rattle.steps.specs.declared.parcel.Thing.TheVariants.{Full}
 use Rattle.steps.specs.declared.view.Heard.{Heard}
 use Rattle.steps.specs.declared.view.Role.TheVariants.{Poller}
 use Rattle.steps.specs.declared.view.View.{View}
-use Rattle.steps.specs.Journal.{events_of}
-use Rattle.steps.specs.Cells.{IsCell, request_at, total, claim_at, slot_at, over, IsParcel}
-use Rattle.steps.specs.Rule.{Shown, Ended}
-use Rattle.work.specs.Board.{Facts, IsBoard, IsOf}
-use Rattle.work.specs.Grid.{AreCells}
-use Rattle.work.specs.Passes.{Pass}
+use Rattle.steps.specs.{events_of, IsCell, request_at, total, claim_at, slot_at, over, IsParcel, Shown, Ended}
+use Rattle.work.specs.{Facts, IsBoard, IsOf, AreCells, Pass}
 use Rattle.board.specs.declared.completion.Completion.{Completion}
 use Rattle.board.specs.declared.phase.Phase.{Phase as Standing}
 use Rattle.board.specs.declared.phase.Phase.TheVariants.{Done}

@@ -1,16 +1,12 @@
 //! What the poller finds out of timers, what it keeps of those that it armed, and how it arms one.
 ghost use Rattle.std.specs.Prelude.{◌≡◌, ◌+◌, ◌*◌, ◌<◌, ◌≤◌, true, false, Some, IfOk, IfErr};
 ghost use Rattle.gates.specs.EntryRows.{added, waiting};
-ghost use Rattle.history.specs.Chains.{Open, Severed};
-ghost use Rattle.history.specs.History.{IsReplied, clock_of, phase, submits};
+ghost use Rattle.history.specs.{Open, Severed, IsReplied, clock_of, phase, submits};
 ghost use Rattle.steps.specs.Journal.{events_of};
 ghost use Rattle.work.specs.Passes.{pass_of};
-ghost use Rattle.board.specs.Calls.{Stepped};
+ghost use Rattle.board.specs.{Stepped, IsTimerAs, KnowsAlarm, looks_at, Arms, Expires, FailsAs, IsArmedAt, IsHeldTimer, Keeps, Refuses, TellsDeadline, IsPollerSeat};
 ghost use Rattle.board.specs.declared.poller.Released.TheVariants.{NotHeld};
 ghost use Rattle.board.specs.PollerRows.{IsSubmitted, Decides, IsAt, IsOurs, KnowsRow, Paid, StepsTo, Watched, owed};
-ghost use Rattle.board.specs.PollerTimers.{IsTimerAs, KnowsAlarm, looks_at};
-ghost use Rattle.board.specs.TimerCalls.{Arms, Expires, FailsAs, IsArmedAt, IsHeldTimer, Keeps, Refuses, TellsDeadline};
-ghost use Rattle.board.specs.Seats.{IsPollerSeat};
 
 use crate::board::Board;
 use crate::gating::{Gating, gate};

@@ -7,8 +7,7 @@ ghost use Rattle.steps.specs.declared.view.View.{View};
 ghost use Rattle.steps.specs.Cells.{total};
 ghost use Rattle.work.specs.Board.{Facts, IsOf};
 ghost use Rattle.board.specs.declared.error.FinishError.TheVariants.{Missing};
-ghost use Rattle.board.specs.Remains.{hearing_all, Closing};
-ghost use Rattle.board.specs.Reports.{AreOf, IsReport};
+ghost use Rattle.board.specs.{hearing_all, Closing, AreOf, IsReport};
 
 use crate::board::Board;
 use crate::completion::{Completion, Report};

@@ -1,11 +1,8 @@
 //! What a submitter keeps of its ring, and whether the cells of the next requests are free.
 ghost use Rattle.std.specs.Prelude.{◌≡◌, ◌≢◌, ◌⊎◌, ℕ, ◌+◌, ◌*◌, ◌%◌, ◌<◌, ◌≤◌, ◌/◌, true, List, Option, Some, IfOk, IfErr, IfSome, IfNone, IsTrue, length, slice_set as set};
 ghost use Rattle.claim.specs.Facts.{Facts as FactsOf, fits_facts, packed_facts};
-ghost use Rattle.history.specs.History.{phase, IsReplied};
-ghost use Rattle.history.specs.Chains.{IsChainDone, before_in, hosts, joins};
-ghost use Rattle.steps.specs.Fairness.{IsFree, IsReaped};
-ghost use Rattle.steps.specs.Journal.{events_of};
-ghost use Rattle.steps.specs.Rule.{IsSameSeat};
+ghost use Rattle.history.specs.{phase, IsReplied, IsChainDone, before_in, hosts, joins};
+ghost use Rattle.steps.specs.{IsFree, IsReaped, events_of, IsSameSeat, cells_in};
 ghost use Rattle.work.specs.Passes.{pass_of};
 ghost use Rattle.board.specs.declared.lane.Lane.{Lane as LaneOf};
 ghost use Rattle.board.specs.Calls.{Stepped};
@@ -13,7 +10,6 @@ ghost use Rattle.board.specs.Lanes.{nth, AreFree, HasLookedAt, IsLane, IsFreeAft
 ghost use Rattle.atomic_table.specs.declared.shared.Seat.{Seat};
 ghost use Rattle.steps.specs.declared.parcel.Thing.{Thing};
 ghost use Rattle.steps.specs.declared.view.View.{View};
-ghost use Rattle.steps.specs.Cells.{cells_in};
 
 use crate::error::SubmitError;
 use crate::phase::{Phase, told};

@@ -6,8 +6,7 @@ ghost use Rattle.history.specs.Legal.{Setup};
 ghost use Rattle.steps.specs.declared.line.Line.{Line};
 ghost use Rattle.steps.specs.declared.parcel.Parcel.{Parcel};
 ghost use Rattle.steps.specs.declared.parcel.Thing.TheVariants.{Full};
-ghost use Rattle.steps.specs.Cells.{Ages};
-ghost use Rattle.steps.specs.Rule.{Shown};
+ghost use Rattle.steps.specs.{Ages, Shown};
 ghost use Rattle.board.specs.Calls.{IsWord, IsPresent};
 ghost use Rattle.board.specs.Remains.{Reports, IsReplyOf};
 

@@ -3,20 +3,15 @@ ghost use Rattle.std.specs.Prelude.{◌≡◌, ℕ, ◌+◌, ◌*◌, ◌/◌, �
 ghost use Rattle.claim.specs.declared.tag.Tag.TheVariants.{Done};
 ghost use Rattle.history.specs.declared.req.Req.{Req};
 ghost use Rattle.history.specs.declared.event.Event.TheVariants.{Submit, Reap};
-ghost use Rattle.history.specs.History.{Cause, data_of, submits};
-ghost use Rattle.history.specs.Legal.{Fits as FitsEntry};
+ghost use Rattle.history.specs.{Cause, data_of, submits, Fits as FitsEntry};
 ghost use Rattle.steps.specs.declared.line.Line.TheVariants.{Did, Lent};
 ghost use Rattle.steps.specs.declared.parcel.Parcel.{Parcel};
 ghost use Rattle.steps.specs.declared.view.Role.{Role};
 ghost use Rattle.steps.specs.declared.view.Role.TheVariants.{Lending};
-ghost use Rattle.steps.specs.Fairness.{IsFree};
-ghost use Rattle.steps.specs.Cells.{claim_at, ring_of, place_of, request_at, cells_in, total, facts_at, word_of, cause_bits, IsParcel, words_of};
-ghost use Rattle.steps.specs.Notes.{notes_of, words_in};
-ghost use Rattle.steps.specs.Rule.{Looks, Shown, IsStep, IsTwoSteps, AreSteps, ExtendsTwice, ExtendsNoted, IsDone};
+ghost use Rattle.steps.specs.{IsFree, claim_at, ring_of, place_of, request_at, cells_in, total, facts_at, word_of, cause_bits, IsParcel, words_of, notes_of, words_in, Looks, Shown, IsStep, IsTwoSteps, AreSteps, ExtendsTwice, ExtendsNoted, IsDone};
 ghost use Rattle.work.specs.Passes.{pass_of, seen_of, CanReach};
-ghost use Rattle.board.specs.Calls.{next_of};
+ghost use Rattle.board.specs.{next_of, IsSubmitterSeat, IsNextCell};
 ghost use Rattle.board.specs.Lanes.{AreFree, LinkedAreReaped, RefusesRoom, Watched};
-ghost use Rattle.board.specs.Seats.{IsSubmitterSeat, IsNextCell};
 
 use crate::error::SubmitError;
 use crate::lane::{self, Lane};

@@ -1,7 +1,5 @@
 -- The words of other modules that the proofs of this crate use.
-pub use Rattle.commands.specs.Printed.{AppendsSome, AreAll, HasBegun, HasPrinted, IsHistoryFor, IsHistoryOfText, IsOutcomesText, IsQuiet, IsRunText, Prints, PrintsOf, Reads, counted_text, tables_text}
-pub use Rattle.commands.specs.Status.{Ends, Explains, IsFaultOf, IsOfHistory, IsOfRun, IsOfSearch, IsStuckOf, of_run, of_script}
-pub use Rattle.commands.specs.Told.{CountsFor, CountsIf, CountsOf, HasCounted, HasCounts, HasTold, IsPlain, PutsCounts, number_line, text_of}
+pub use Rattle.commands.specs.{AppendsSome, AreAll, HasBegun, HasPrinted, IsHistoryFor, IsHistoryOfText, IsOutcomesText, IsQuiet, IsRunText, Prints, PrintsOf, Reads, counted_text, tables_text, Ends, Explains, IsFaultOf, IsOfHistory, IsOfRun, IsOfSearch, IsStuckOf, of_run, of_script, CountsFor, CountsIf, CountsOf, HasCounted, HasCounts, HasTold, IsPlain, PutsCounts, number_line, text_of}
 pub use Rattle.commands.specs.declared.job.Job.{Job}
 pub use Rattle.commands.specs.declared.job.Job.TheVariants.{History, Outcomes, Run}
 pub use Rattle.commands.specs.declared.problem.Problem.TheVariants.{Input, Line, Output, Stuck, TooManyStates}

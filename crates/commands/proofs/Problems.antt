@@ -5,8 +5,7 @@ use Rattle.commands.specs.declared.problem.Problem.{Problem}
 use Rattle.commands.proofs.Common.{AreAll, Bool, Ends, Explains, HasCounted, HasTold, History, IfErr, IfErr-weaker, Input, IsFaultOf, IsOfHistory, IsOfRun, IsOfSearch, IsStuckOf, Job, Line, List, None, Option, Outcomes, Output, Reads, Result, Run, Script, Stuck, TooManyStates, inl, inr, of_run, of_script, subst, sym, true, ℕ, ◌≡◌}
 use Rattle.commands.proofs.Printing.{forget_begun, forget_reads}
 use Rattle.script_run.specs.declared.fault.RunFault.{RunFault}
-use Rattle.script_run.specs.Faults.{IfStuckOn}
-use Rattle.script_run.specs.Stuck.{IsStuck}
+use Rattle.script_run.specs.{IfStuckOn, IsStuck}
 use Rattle.std.specs.String.{string_bytes}
 
 pub script_explains : (job : Job) (s t : Option (List ℕ)) (bytes : List ℕ) (e : ScriptFault) (p : Problem) → AreAll s bytes

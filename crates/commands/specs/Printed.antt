@@ -3,14 +3,10 @@ use Rattle.std.specs.Prelude.{◌≡◌, ◌≤◌, ◌↔◌, ◌⊎◌, ℕ, �
 use Rattle.std.specs.Io.KnownBytes.{Appends}
 use Rattle.history.specs.declared.event.Event.{Event}
 use Rattle.script.specs.declared.script.Script.{Script}
-use Rattle.script_text.specs.HistoryText.{history_text}
-use Rattle.script_text.specs.Scripts.{SaysScript}
-use Rattle.script_text.specs.TableText.{IsTableText, table_text}
-use Rattle.explore.specs.Courses.{Among}
+use Rattle.script_text.specs.{history_text, SaysScript, IsTableText, table_text}
+use Rattle.explore.specs.{Among, IsHistoryOf}
 use Rattle.script.specs.declared.table.Table.{Table}
-use Rattle.script.specs.Rows.{AreInOrder, rows_of}
-use Rattle.script.specs.Tables.{IsTableOf}
-use Rattle.explore.specs.EventLogs.{IsHistoryOf}
+use Rattle.script.specs.{AreInOrder, rows_of, IsTableOf}
 use Rattle.script_run.specs.RunRows.{HasRun}
 use Rattle.commands.specs.declared.job.Job.{Job}
 use Rattle.commands.specs.declared.job.Job.TheVariants.{Run, Outcomes, History}

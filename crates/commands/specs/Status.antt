@@ -4,8 +4,7 @@ use Rattle.std.specs.Io.KnownBytes.{Keeps}
 use Rattle.std.specs.String.{string_bytes}
 use Rattle.limits.specs.declared.TheConstants.{STATES}
 use Rattle.script.specs.declared.script.Script.{Script}
-use Rattle.script_text.specs.Scripts.{HasFirstFault}
-use Rattle.script_text.specs.TableText.{IsBadLine}
+use Rattle.script_text.specs.{HasFirstFault, IsBadLine}
 use Rattle.script_text.specs.declared.fault.Fault.{Fault}
 use Rattle.script_text.specs.declared.fault.Fault.TheVariants.{BadTable}
 use Rattle.script_text.specs.declared.fault.ScriptFault.{ScriptFault}

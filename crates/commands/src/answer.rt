@@ -5,10 +5,8 @@ ghost use Rattle.script.specs.Rows.{rows_of};
 ghost use Rattle.script_text.specs.declared.fault.ScriptFault.{ScriptFault};
 ghost use Rattle.explore.specs.Search.{HasStates};
 ghost use Rattle.commands.specs.declared.problem.Problem.{Problem};
-ghost use Rattle.commands.specs.Printed.{counted_text, AppendsSome, HasBegun, HasPrinted, IsHistoryOfText, IsOutcomesText, IsQuiet, IsRunText, Prints};
-ghost use Rattle.commands.specs.Status.{Ends, Explains, IsFaultOf, IsOfHistory, IsOfMemory, IsOfRun, IsOfSearch, IsRun};
+ghost use Rattle.commands.specs.{counted_text, AppendsSome, HasBegun, HasPrinted, IsHistoryOfText, IsOutcomesText, IsQuiet, IsRunText, Prints, Ends, Explains, IsFaultOf, IsOfHistory, IsOfMemory, IsOfRun, IsOfSearch, IsRun, CountsFor, CountsIf, HasCounted, HasTold, IsPlain};
 ghost use Rattle.commands.specs.declared.told.Stats.{Stats};
-ghost use Rattle.commands.specs.Told.{CountsFor, CountsIf, HasCounted, HasTold, IsPlain};
 
 use crate::job::Job;
 use crate::problem::Problem;

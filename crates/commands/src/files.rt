@@ -1,10 +1,7 @@
 //! An invocation carried out over the files that it names.
 ghost use Rattle.std.specs.Prelude.{◌≡◌, ◌≢◌, ◌≤◌, ◌⊎◌, ℕ, List, Option, None};
 ghost use Rattle.std.specs.Io.KnownBytes.{Keeps};
-ghost use Rattle.commands.specs.Opened.{IsScriptAt, IsTableAt};
-ghost use Rattle.commands.specs.Printed.{HasBegun, HasPrinted, IsQuiet};
-ghost use Rattle.commands.specs.Status.{IsRun};
-ghost use Rattle.commands.specs.Told.{HasCounted, HasTold};
+ghost use Rattle.commands.specs.{IsScriptAt, IsTableAt, HasBegun, HasPrinted, IsQuiet, IsRun, HasCounted, HasTold};
 
 use crate::answer::perform;
 use crate::inputs::Inputs;

@@ -1,7 +1,6 @@
 -- The words of other modules that the proofs of this crate use.
 pub use Rattle.commands.specs.Printed.{AppendsSome, AreAll, Reads}
-pub use Rattle.queries.specs.Answers.{AreRuns, AreVerdicts, IsLookText, IsRunsText, PrintsOf, none_text, runs_text, verdicts_status}
-pub use Rattle.queries.specs.Given.{AreRead, Known, given_of}
+pub use Rattle.queries.specs.{AreRuns, AreVerdicts, IsLookText, IsRunsText, PrintsOf, none_text, runs_text, verdicts_status, AreRead, Known, given_of}
 pub use Rattle.script.specs.Rows.{rows_of}
 pub use Rattle.script.specs.declared.script.Script.{Script}
 pub use Rattle.std.proofs.Common.{Bool, List, [], add-one, ap, append_assoc, arith, drop, false, get_or, inl, inr, length, length-append, map, refl, reverse, subst, suc, sym, true, true≢false, vec_len, zero, ℕ, ℤ, ◌++◌, ◌+◌, ◌<◌, ◌↔◌, ◌∙◌, ◌∷◌, ◌≡◌, ◌≤◌, ◌⊎◌}

@@ -2,10 +2,9 @@
 use Rattle.std.specs.Borrow.{Bor}
 use Rattle.std.specs.Global.{Vec}
 use Rattle.script.specs.Tables.{IsTableOf}
-use Rattle.script_text.specs.TableText.{IsTableText}
+use Rattle.script_text.specs.{IsTableText, IsToldOfText, SaysScript}
 use Rattle.explore.specs.Courses.{Among}
-use Rattle.checks.specs.TableFiles.{IsTablesText}
-use Rattle.checks.specs.Verdicts.{AreAmong, IsVerdict}
+use Rattle.checks.specs.{IsTablesText, AreAmong, IsVerdict}
 use Rattle.command_line.specs.declared.job.Look.{Look}
 use Rattle.commands.specs.declared.problem.Problem.{Problem}
 use Rattle.commands.specs.declared.problem.Problem.TheVariants.{Input, Output, Line, Memory}
@@ -14,11 +13,9 @@ use Rattle.command_line.specs.declared.job.Job.TheVariants.{Run, Outcomes, Histo
 use Rattle.commands.specs.Status.{of_script}
 use Rattle.commands.proofs.Printing.{reads_of}
 use Rattle.script.specs.declared.table.Table.{Table}
-use Rattle.script_text.specs.Scripts.{IsToldOfText, SaysScript}
 use Rattle.script_text.specs.declared.fault.ScriptFault.{ScriptFault}
 use Rattle.queries.specs.declared.answer.Reply.{Reply}
-use Rattle.queries.specs.Ends.{CountsFor, EndsBy, IsAnswer}
-use Rattle.queries.specs.Reasons.{Explains, IsOfBytes, IsOfFile, IsOfFiles, IsOfLimit, IsOfQuery, IsOfTable}
+use Rattle.queries.specs.{CountsFor, EndsBy, IsAnswer, Explains, IsOfBytes, IsOfFile, IsOfFiles, IsOfLimit, IsOfQuery, IsOfTable}
 use Rattle.queries.proofs.Common.{AreAll, AreRead, AreRuns, Bool, Err, IfErr, IfErr-weaker, IfOk, IfOk-weaker, IsLookText, IsRunsText, IsTrue, Keeps, Known, List, Ok, Option, PrintsOf, Result, Script, Some, [], ap, arith, drop, get_or, given_of, inl, inr, length, map, none_text, refl, rows_of, runs_text, subst, sym, unwrap_or, ℕ, ℤ, ◌↔◌, ◌∙◌, ◌∷◌, ◌≡◌, ◌≤◌, ◌⊎◌}
 
 pub of_files : (c : Script) (given : List (List ℕ × List ℕ)) (x : List ℕ × List ℕ) (p : Problem) → Among x given → IsOfFile c x.1 p → IsOfFiles c given p

@@ -4,20 +4,13 @@ use Rattle.std.specs.List.{AllByRecursion, list_all}
 use Rattle.history.specs.declared.event.Event.{Event}
 use Rattle.script.specs.declared.script.Script.{Script}
 use Rattle.script.specs.declared.table.Table.{Table}
-use Rattle.script.specs.Rows.{AreInOrder, rows_of}
-use Rattle.script.specs.Tables.{IsTableOf}
-use Rattle.script_text.specs.HistoryText.{history_text}
-use Rattle.script_text.specs.TableText.{table_text, IsTableText}
-use Rattle.explore.specs.Courses.{Among}
-use Rattle.explore.specs.EventLogs.{IsHistoryOf}
+use Rattle.script.specs.{AreInOrder, rows_of, IsTableOf}
+use Rattle.script_text.specs.{history_text, table_text, IsTableText}
+use Rattle.explore.specs.{Among, IsHistoryOf}
 use Rattle.script_run.specs.RunRows.{HasRun}
 use Rattle.serde_json.specs.Data.{null}
-use Rattle.pictures.specs.Json.{explained_data, history_data, json_text, listed, table_data, tables_data, tallied_data, verdict_data}
-use Rattle.pictures.specs.Pictures.{lanes_text}
-use Rattle.pictures.specs.Diagrams.{mermaid_text}
-use Rattle.pictures.specs.Texts.{explained_text, tally_text, verdict_lines}
-use Rattle.checks.specs.Tallies.{tally_of}
-use Rattle.checks.specs.Verdicts.{IsVerdict}
+use Rattle.pictures.specs.{explained_data, history_data, json_text, listed, table_data, tables_data, tallied_data, verdict_data, lanes_text, mermaid_text, explained_text, tally_text, verdict_lines}
+use Rattle.checks.specs.{tally_of, IsVerdict}
 use Rattle.commands.specs.Printed.{counted_text}
 use Rattle.command_line.specs.declared.job.Job.{Job}
 use Rattle.command_line.specs.declared.job.Job.TheVariants.{Run, Outcomes, History, Check}

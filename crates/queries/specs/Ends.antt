@@ -3,9 +3,7 @@ use Rattle.std.specs.Prelude.{◌≡◌, ◌⊎◌, ℕ, true, List, Option, Som
 use Rattle.std.specs.Io.KnownBytes.{Appends, Keeps}
 use Rattle.script.specs.declared.script.Script.{Script}
 use Rattle.explore.specs.Search.{HasStates}
-use Rattle.commands.specs.Printed.{AppendsSome, Reads}
-use Rattle.commands.specs.Status.{status_of}
-use Rattle.commands.specs.Told.{line_of, PutsCounts}
+use Rattle.commands.specs.{AppendsSome, Reads, status_of, line_of, PutsCounts}
 use Rattle.commands.specs.declared.told.Stats.{Stats}
 use Rattle.commands.specs.declared.problem.Problem.{Problem}
 use Rattle.commands.specs.declared.problem.Problem.TheVariants.{Output}

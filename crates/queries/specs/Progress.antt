@@ -3,8 +3,7 @@ use Rattle.std.specs.Prelude.{◌⊎◌, ℕ, zero, suc, Bool, true, false, List
 use Rattle.std.specs.Io.KnownBytes.{Keeps}
 use Rattle.script.specs.declared.script.Script.{Script}
 use Rattle.explore.specs.Search.{HasStates}
-use Rattle.commands.specs.Printed.{AppendsSome, Reads}
-use Rattle.commands.specs.Told.{states_line}
+use Rattle.commands.specs.{AppendsSome, Reads, states_line}
 use Rattle.command_line.specs.declared.job.Job.{Job}
 use Rattle.command_line.specs.declared.job.Job.TheVariants.{Run, Outcomes, History, Check}
 

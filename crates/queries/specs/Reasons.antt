@@ -3,11 +3,9 @@ use Rattle.std.specs.Prelude.{◌⊎◌, ℕ, List, Option}
 use Rattle.script.specs.declared.script.Script.{Script}
 use Rattle.script_text.specs.TableText.{IsTableFault}
 use Rattle.script_text.specs.declared.fault.ScriptFault.{ScriptFault}
-use Rattle.explore.specs.Courses.{Among}
-use Rattle.explore.specs.Search.{HasMore}
+use Rattle.explore.specs.{Among, HasMore}
 use Rattle.checks.specs.TableFiles.{IsTablesFault}
-use Rattle.commands.specs.Printed.{Reads}
-use Rattle.commands.specs.Status.{IsOfRun, IsScriptFault}
+use Rattle.commands.specs.{Reads, IsOfRun, IsScriptFault}
 use Rattle.commands.specs.declared.problem.Problem.{Problem}
 use Rattle.commands.specs.declared.problem.Problem.TheVariants.{Input, Line, TooManyStates}
 use Rattle.command_line.specs.declared.job.Job.{Job}

@@ -1,10 +1,7 @@
 -- How a query over files ends.
 use Rattle.std.specs.Prelude.{◌≡◌, ◌⊎◌, ℕ, List, [], ◌∷◌, Option}
 use Rattle.std.specs.Io.KnownBytes.{Keeps}
-use Rattle.commands.specs.Opened.{IsScriptAt}
-use Rattle.commands.specs.Printed.{AppendsSome}
-use Rattle.commands.specs.Told.{line_of}
-use Rattle.commands.specs.Status.{status_of}
+use Rattle.commands.specs.{IsScriptAt, AppendsSome, line_of, status_of}
 use Rattle.commands.specs.declared.problem.Problem.{Problem}
 use Rattle.commands.specs.declared.problem.Problem.TheVariants.{Input}
 use Rattle.command_line.specs.declared.job.Job.{Job}

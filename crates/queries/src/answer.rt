@@ -3,10 +3,7 @@ ghost use Rattle.std.specs.Prelude.{◌≡◌, ◌≤◌, map, None, IfErr, IfOk
 ghost use Rattle.explore.specs.Noted.{Noted};
 ghost use Rattle.explore.specs.Search.{HasStates};
 ghost use Rattle.queries.specs.Ends.{CountsFor, Ends, EndsBy, HasAnswered, IsAnswer};
-ghost use Rattle.queries.specs.Given.{given_of};
-ghost use Rattle.queries.specs.Answers.{PrintsOf};
-ghost use Rattle.queries.specs.Progress.{is_observed, Says, SaysFor, SaysOf};
-ghost use Rattle.queries.specs.Reasons.{Explains, IsOfQuery};
+ghost use Rattle.queries.specs.{given_of, PrintsOf, is_observed, Says, SaysFor, SaysOf, Explains, IsOfQuery};
 
 use crate::checking::check_text;
 use crate::given::read_each;

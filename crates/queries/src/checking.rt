@@ -1,16 +1,12 @@
 //! Tables, checked.
 ghost use Rattle.std.specs.Prelude.{◌≡◌, ◌↔◌, ◌⊎◌, ℕ, ℤ, List, map, IfErr, IfOk};
-ghost use Rattle.script.specs.Rows.{rows_of};
-ghost use Rattle.script.specs.Tables.{IsTableOf};
-ghost use Rattle.explore.specs.Courses.{Among};
+ghost use Rattle.script.specs.{rows_of, IsTableOf};
+ghost use Rattle.explore.specs.{Among, HasStates};
 ghost use Rattle.explore.specs.Noted.{Noted};
-ghost use Rattle.explore.specs.Search.{HasStates};
 ghost use Rattle.commands.specs.Status.{IsOfMemory};
 ghost use Rattle.checks.specs.Verdicts.{IsVerdict};
 ghost use Rattle.pictures.specs.Shown.{verdict_of};
-ghost use Rattle.queries.specs.Given.{given_of};
-ghost use Rattle.queries.specs.Answers.{verdicts_status, verdicts_text, AreVerdicts, IsCheckText};
-ghost use Rattle.queries.specs.Reasons.{IsOfFile, IsOfFiles, IsOfLimit};
+ghost use Rattle.queries.specs.{given_of, verdicts_status, verdicts_text, AreVerdicts, IsCheckText, IsOfFile, IsOfFiles, IsOfLimit};
 
 use checks::{are_listed, read_tables};
 use commands::Problem;

@@ -4,8 +4,7 @@ ghost use Rattle.script.specs.Rows.{rows_of};
 ghost use Rattle.explore.specs.Noted.{Noted};
 ghost use Rattle.explore.specs.Search.{HasStates};
 ghost use Rattle.checks.specs.Verdicts.{AreTablesOf};
-ghost use Rattle.queries.specs.Answers.{IsListText, IsTablesText};
-ghost use Rattle.queries.specs.Reasons.{IsOfLimit};
+ghost use Rattle.queries.specs.{IsListText, IsTablesText, IsOfLimit};
 
 use checks::explain;
 use commands::{Problem, Stats, nanos_since};

@@ -3,9 +3,7 @@ ghost use Rattle.std.specs.Prelude.{◌≡◌, ◌⊎◌, map, IfErr, IfOk};
 ghost use Rattle.explore.specs.Noted.{Noted};
 ghost use Rattle.explore.specs.Search.{HasStates};
 ghost use Rattle.commands.specs.Status.{IsOfMemory};
-ghost use Rattle.queries.specs.Given.{given_of};
-ghost use Rattle.queries.specs.Answers.{look_text, none_text, IsLookFor, IsLookText};
-ghost use Rattle.queries.specs.Reasons.{IsOfBytes, IsOfLimit, IsOfTable};
+ghost use Rattle.queries.specs.{given_of, look_text, none_text, IsLookFor, IsLookText, IsOfBytes, IsOfLimit, IsOfTable};
 
 use command_line::Look;
 use commands::Problem;

@@ -1,7 +1,6 @@
 //! How far a search is, told on standard error.
 ghost use Rattle.std.specs.Prelude.{◌≡◌};
-ghost use Rattle.commands.specs.Printed.{AppendsSome};
-ghost use Rattle.commands.specs.Told.{states_line};
+ghost use Rattle.commands.specs.{AppendsSome, states_line};
 ghost use Rattle.queries.specs.Progress.{is_observed};
 
 use command_line::Job;

@@ -6,8 +6,7 @@ use Rattle.history.specs.declared.event.Event.TheVariants.{Reply, Take, Expire, 
 use Rattle.history.specs.History.{same}
 use Rattle.steps.specs.declared.line.Line.{Line}
 use Rattle.steps.specs.Journal.{freed}
-use Rattle.work.specs.Board.{Facts, IsOf}
-use Rattle.work.specs.Passes.{Pass, own_of}
+use Rattle.work.specs.{Facts, IsOf, Pass, own_of}
 
 -- the requests that are to be run and those that were answered, and how many there may be of each
 pub record Told : Type 0 where

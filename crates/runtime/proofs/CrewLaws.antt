@@ -1,6 +1,5 @@
 -- The passes of the workers that came back, as lists.
-use Rattle.ready.specs.Ready.{IsOf as IsOfQueue}
-use Rattle.ready.specs.Rule.{all_shares}
+use Rattle.ready.specs.{IsOf as IsOfQueue, all_shares}
 use Rattle.runtime.proofs.Common.{All, All-push, AreAll, AreOf, Desk, IsWorkSide, List, Moves, Shared, WorkSide, [], all_passes, ap, arith, length, length-append, length-map, map, ready_of, refl, shares_in, suc, sum_by, sum_by-cons, sum_by_push, sym, worker_of, zero, ℕ, ◌+◌, ◌∙◌, ◌∷◌, ◌≡◌}
 
 pub workers_own : (s : Shared) (ws : List WorkSide) → All (λ w. IsWorkSide s w) ws → AreOf s.board (map worker_of ws)

@@ -4,12 +4,9 @@ use Rattle.std.specs.List.{slice_index_or}
 use Rattle.entry.specs.Entry.{Entry}
 use Rattle.history.specs.declared.req.Req.{Req}
 use Rattle.history.specs.declared.event.Event.{Event}
-use Rattle.history.specs.History.{same, phase, waits, armed, clock_of, IsReplied}
-use Rattle.history.specs.Chains.{IsLinkTimeout, IsPlaced, IsTarget, Open, Severed, is_timeout}
-use Rattle.history.specs.Legal.{count_of, IsOf as IsOfKind}
+use Rattle.history.specs.{same, phase, waits, armed, clock_of, IsReplied, IsLinkTimeout, IsPlaced, IsTarget, Open, Severed, is_timeout, count_of, IsOf as IsOfKind}
 use Rattle.steps.specs.declared.line.Line.{Line}
-use Rattle.steps.specs.Journal.{events_of, freed}
-use Rattle.steps.specs.Rule.{Begins}
+use Rattle.steps.specs.{events_of, freed, Begins}
 use Rattle.work.specs.Passes.{Pass}
 use Rattle.board.specs.TimerCalls.{HasFewer}
 use Rattle.wheel.specs.Wheel.{deadline_at}

@@ -7,8 +7,7 @@ use Rattle.board.specs.declared.shape.RingShape.{RingShape}
 use Rattle.steps.specs.declared.view.Role.TheVariants.{Poller}
 use Rattle.steps.specs.declared.line.Line.{Line}
 use Rattle.steps.specs.Journal.{freed}
-use Rattle.work.specs.Board.{Facts, IsOf}
-use Rattle.work.specs.Passes.{Pass, seen_of}
+use Rattle.work.specs.{Facts, IsOf, Pass, seen_of}
 use Rattle.ready.specs.Ready.{Facts as QueueFacts, Moves, IsOf as IsOfQueue}
 use Rattle.bell.specs.BellPasses.{Sleeping}
 use Rattle.outbox.specs.Outbox.{Waiting}

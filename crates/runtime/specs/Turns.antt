@@ -5,8 +5,7 @@ use Rattle.history.specs.declared.event.Event.{Event}
 use Rattle.history.specs.declared.event.Event.TheVariants.{Reply, Take, Expire, Count, Fire, Settle, Sever, Cut}
 use Rattle.steps.specs.declared.line.Line.{Line}
 use Rattle.ready.specs.Ready.{Moves}
-use Rattle.work.specs.Board.{Facts, IsOf}
-use Rattle.work.specs.Passes.{Pass, own_of}
+use Rattle.work.specs.{Facts, IsOf, Pass, own_of}
 
 -- the request that an event answers
 abbrev pub answered_one : Event → List Req

@@ -1,8 +1,7 @@
 //! The numbers of requests that the poller has moved to Ready, on their way into the ready queue.
 ghost use Rattle.std.specs.Prelude.{◌≡◌, ◌≢◌, [], ◌∷◌, ◌++◌, true, false};
 ghost use Rattle.ready.specs.Ready.{IsOf as IsOfQueue};
-ghost use Rattle.runtime.specs.Turns.{HandedOver};
-ghost use Rattle.runtime.specs.Backlogs.{no_numbers};
+ghost use Rattle.runtime.specs.{HandedOver, no_numbers};
 
 use history::Req;
 use ready::{ReadyPass, ReadyQueue, Span};

@@ -2,9 +2,7 @@
 ghost use Rattle.std.specs.Prelude.{◌≡◌, ◌≢◌, ◌<◌, ◌+◌, ◌++◌, ◌∷◌, [], true, false};
 ghost use Rattle.outbox.specs.Outbox.{with_answered};
 ghost use Rattle.ready.specs.Ready.{IsOf as IsOfQueue};
-ghost use Rattle.runtime.specs.PollTurns.{HasRoom};
-ghost use Rattle.runtime.specs.Parts.{IsStuck};
-ghost use Rattle.runtime.specs.Turns.{HandedOver};
+ghost use Rattle.runtime.specs.{HasRoom, IsStuck, HandedOver};
 
 use crate::backlog::Backlog;
 use board::{Board, Poller};

@@ -5,13 +5,11 @@ ghost use Rattle.steps.specs.declared.line.Line.{Line};
 ghost use Rattle.steps.specs.Journal.{freed};
 ghost use Rattle.wheel.specs.Wheel.{deadline_at};
 ghost use Rattle.bell.specs.BellPasses.{HasLoaded, HaveRisen, IsSleeperOf};
-ghost use Rattle.work.specs.Board.{IsOf};
-ghost use Rattle.work.specs.Passes.{seen_of};
+ghost use Rattle.work.specs.{IsOf, seen_of};
 ghost use Rattle.ready.specs.Ready.{IsOf as IsOfQueue};
 ghost use Rattle.board.specs.Calls.{Goes};
 ghost use Rattle.controls.specs.Clocks.{Asked};
-ghost use Rattle.runtime.specs.Desks.{AreHeldBack, ArePending, LooksAfter, cares_of, taken_in};
-ghost use Rattle.runtime.specs.PollTurns.{AllCounted, AllDone, AllRung, AllTaken, AllTried, Did, HasTicked, IsAt, IsPollTurn, IsStill, IsPollers, IsNewDesk, IsTaken, cares_in, cells_in_all, MayRelease};
+ghost use Rattle.runtime.specs.{AreHeldBack, ArePending, LooksAfter, cares_of, taken_in, AllCounted, AllDone, AllRung, AllTaken, AllTried, Did, HasTicked, IsAt, IsPollTurn, IsStill, IsPollers, IsNewDesk, IsTaken, cares_in, cells_in_all, MayRelease};
 ghost use Rattle.runtime.specs.Parts.{HasFewerTimers, HasRung, HasStopped, IsStuck, WentOn};
 
 use crate::backlog::Backlog;

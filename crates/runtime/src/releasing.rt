@@ -1,11 +1,9 @@
 //! The poller releases requests: those that wait for another, and those that are new.
 ghost use Rattle.std.specs.Prelude.{◌≡◌, ◌≢◌, ◌⊎◌, ◌+◌, ◌<◌, ◌≤◌, ℕ, false, true, length, slice_index, IfOk};
 ghost use Rattle.std.specs.Result.{is_ok};
-ghost use Rattle.board.specs.Calls.{IsUnheld};
-ghost use Rattle.board.specs.PollerRows.{MayArm};
+ghost use Rattle.board.specs.{IsUnheld, MayArm};
 ghost use Rattle.work.specs.Passes.{seen_of};
-ghost use Rattle.runtime.specs.Desks.{AreHeldBack, LooksAfter, cares_of, taken_in, with_waiting};
-ghost use Rattle.runtime.specs.PollTurns.{IsAt, Did, IsTaken, ReachesTo, MayRelease};
+ghost use Rattle.runtime.specs.{AreHeldBack, LooksAfter, cares_of, taken_in, with_waiting, IsAt, Did, IsTaken, ReachesTo, MayRelease};
 ghost use Rattle.runtime.specs.Parts.{IsStuck, HasStopped, WaitsOn, WasTried, WentOn, HaveWaited};
 
 use crate::error::Memory;

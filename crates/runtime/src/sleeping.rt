@@ -5,8 +5,7 @@ ghost use Rattle.board.specs.ShapeLimits.{widest};
 ghost use Rattle.event_count.specs.Passes.{HasEntered, HasLeft, HasNoticed, HasWoken, IsNotifierOf, IsWaiterOf};
 ghost use Rattle.std.specs.Arc.{arc_value};
 ghost use Rattle.history.specs.declared.req.Req.{Req};
-ghost use Rattle.runtime.specs.Loops.{IsServing};
-ghost use Rattle.runtime.specs.WorkTurns.{FoundNone, IsWorkTurn};
+ghost use Rattle.runtime.specs.{IsServing, FoundNone, IsWorkTurn};
 
 use crate::held::Held;
 use crate::locks::PostLocks;

@@ -3,10 +3,7 @@ ghost use Rattle.std.specs.Prelude.{◌≡◌, ◌≢◌, ◌↔◌, ◌⊎◌, 
 ghost use Rattle.bell.specs.BellPasses.{HasLoaded};
 ghost use Rattle.board.specs.ShapeLimits.{widest};
 ghost use Rattle.outbox.specs.Outbox.{Waiting};
-ghost use Rattle.runtime.specs.Crews.{HasShares, own_in, own_share};
-ghost use Rattle.runtime.specs.Loops.{IsPollSide, IsServing, IsWorkSide, MayOwn};
-ghost use Rattle.runtime.specs.PollTurns.{IsAtRest, IsPollTurn};
-ghost use Rattle.runtime.specs.WorkTurns.{IsWorkTurn};
+ghost use Rattle.runtime.specs.{HasShares, own_in, own_share, IsPollSide, IsServing, IsWorkSide, MayOwn, IsAtRest, IsPollTurn, IsWorkTurn};
 
 use crate::poll::{PollDesk, poll_turn, rest};
 use crate::posting::post_all;

@@ -5,8 +5,7 @@ use native.Mathlib.Decide.{ℕ_discrete}
 use Rattle.steps.specs.Cells.{setup_of}
 use Rattle.board.specs.declared.phase.Phase.{Phase}
 use Rattle.board.specs.declared.phase.Phase.TheVariants.{Done, Gone}
-use Rattle.board.specs.Batches.{Entries, submits_of}
-use Rattle.board.specs.Calls.{Goes, Stands, next_of}
+use Rattle.board.specs.{Entries, submits_of, Goes, Stands, next_of}
 use Rattle.script.specs.Homes.{home}
 use Rattle.script_run.specs.declared.lines.Halt.{Halt}
 use Rattle.script_run.proofs.Common.{Act, AreEntries, AreTaken, Carries, Completion, Event, Facts, Hand, HandAt, HandedIn, HasCarried, IfStuck, IsCarried, IsCompletion, IsFor, IsInVain, IsLowest, IsReplied, IsStuckLine, IsThrough, Legal, Line, List, None, Option, Pass, RanOut, Req, Role, Script, Some, Stayed, Submitter, TriedInVain, Vec, Went, [], add-one, ap, arith, drop, events_of, front_at, get_or, has_reply, holds_for, is_done, is_replied, length, line_done, line_handed, nat_lt, own_of, phase, reaped, refl, replied, rest_at, seen_by, seen_of, slice_get, slice_get_read, submits, subst, suc, sym, take, take-append-drop, take-length, true, true≢false, zero, ℕ, ⊎_elim, ◌++◌, ◌+◌, ◌<◌, ◌∙◌, ◌∷◌, ◌≡◌, ◌≤◌, ◌⊎◌}

@@ -1,7 +1,6 @@
 //! The entry lines of a script in order, found by their labels.
 ghost use Rattle.std.specs.Prelude.{◌≡◌, ◌++◌, [], ◌∷◌, OnErr, OnOk};
-ghost use Rattle.script_text.specs.EntryLines.{all_stated, found_stated, line_of, place_of};
-ghost use Rattle.script_text.specs.Labels.{Adds, IsIndexOf};
+ghost use Rattle.script_text.specs.{all_stated, found_stated, line_of, place_of, Adds, IsIndexOf};
 
 use crate::declared_line::Declared;
 use std::alloc::{AllocError, Global};

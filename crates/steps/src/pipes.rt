@@ -9,11 +9,7 @@ ghost use Rattle.history.specs.declared.req.Req.{Req};
 ghost use Rattle.steps.specs.declared.line.Line.TheVariants.{Did, Hold, Free};
 ghost use Rattle.steps.specs.declared.view.Role.TheVariants.{Idle, Busy, Leaving, Parting};
 ghost use Rattle.steps.specs.declared.view.View.{View};
-ghost use Rattle.steps.specs.Fairness.{HasWaited, MayLay};
-ghost use Rattle.steps.specs.Journal.{events_of, holder};
-ghost use Rattle.steps.specs.Cells.{request_at, claim_at, pipe_at, word_of};
-ghost use Rattle.steps.specs.Rule.{Looks, Extends, IsStep, IsTwoSteps, IsThreeSteps, Fits, IsSameSeat, leaves, leaves_one};
-ghost use Rattle.steps.specs.Plays.{HasAlone, HasBoth, HasPipe, HasPipeLaid, HasPipeAfter, HasPipesAfter, IsSamePipe, MayReply, FitsPipe};
+ghost use Rattle.steps.specs.{HasWaited, MayLay, events_of, holder, request_at, claim_at, pipe_at, word_of, Looks, Extends, IsStep, IsTwoSteps, IsThreeSteps, Fits, IsSameSeat, leaves, leaves_one, HasAlone, HasBoth, HasPipe, HasPipeLaid, HasPipeAfter, HasPipesAfter, IsSamePipe, MayReply, FitsPipe};
 
 use crate::layout::{claim_word, pipe_word};
 use crate::line::Laid;

@@ -4,15 +4,10 @@ ghost use Rattle.atomic_table.specs.Table.{rest};
 ghost use Rattle.claim.specs.declared.tag.Tag.TheVariants.{Held, Ready, Running};
 ghost use Rattle.entry.specs.Entry.{Entry, fails as fails_with};
 ghost use Rattle.history.specs.declared.event.Event.TheVariants.{Begin, Park, Reply, Sever};
-ghost use Rattle.history.specs.Chains.{IsPlaced, Severed};
-ghost use Rattle.history.specs.History.{hit, nothing, submits};
+ghost use Rattle.history.specs.{IsPlaced, Severed, hit, nothing, submits};
 ghost use Rattle.steps.specs.declared.line.Line.TheVariants.{Did, Freed};
 ghost use Rattle.steps.specs.declared.view.Role.TheVariants.{Poller, Idle, Busy, Spent};
-ghost use Rattle.steps.specs.Journal.{events_of, noted, holder};
-ghost use Rattle.steps.specs.Fairness.{FactsTell, NotesTell};
-ghost use Rattle.steps.specs.Cells.{ring_of, request_at, claim_at, note_at, word_of, MayBegin};
-ghost use Rattle.steps.specs.Rule.{Looks, Extends, Shown, IsStep, Fits, IsSameSeat};
-ghost use Rattle.steps.specs.Plays.{Hands, MayReply};
+ghost use Rattle.steps.specs.{events_of, noted, holder, FactsTell, NotesTell, ring_of, request_at, claim_at, note_at, word_of, MayBegin, Looks, Extends, Shown, IsStep, Fits, IsSameSeat, Hands, MayReply};
 
 use crate::layout::{claim_word, note_word};
 use crate::table::{TableSeat, Words};

@@ -1,8 +1,7 @@
 -- What the single steps of a run come to: which events the pass went on by, how many steps it took, and whose pass it stays.
 use Rattle.std.proofs.Common.{vec_capacity}
 use Rattle.answers.specs.declared.named.NamedPipes.{NamedPipes}
-use Rattle.history.specs.Legal.{IsOf as IsOfKind}
-use Rattle.history.specs.Users.{uses_at}
+use Rattle.history.specs.{IsOf as IsOfKind, uses_at}
 use Rattle.steps.proofs.CancelOnce.{IsEarly, unhit as not_hit}
 use Rattle.steps.proofs.Submissions.{fits_is}
 use Rattle.work.specs.declared.run.Ran.{Ran}

@@ -3,16 +3,13 @@ ghost use Rattle.std.specs.Prelude.{◌≡◌, ℕ, ◌<◌, ◌*◌, true, [], 
 ghost use Rattle.entry.specs.Entry.{Entry};
 ghost use Rattle.history.specs.declared.event.Event.{Event};
 ghost use Rattle.history.specs.declared.event.Event.TheVariants.{Park, Reply};
-ghost use Rattle.history.specs.Chains.{IsPlaced};
-ghost use Rattle.history.specs.Users.{uses_at};
+ghost use Rattle.history.specs.{IsPlaced, uses_at};
 ghost use Rattle.answers.specs.declared.named.NamedPipes.TheVariants.{One};
 ghost use Rattle.answers.specs.NamedEnds.{UsesNone, UsesOne};
 ghost use Rattle.steps.specs.declared.line.Line.TheVariants.{Did, Hold};
 ghost use Rattle.steps.specs.declared.view.Role.{Role};
 ghost use Rattle.steps.specs.declared.view.Role.TheVariants.{Idle};
-ghost use Rattle.steps.specs.Cells.{cells_in, pipe_at};
-ghost use Rattle.steps.specs.Rule.{Looks, Extends, IsStep};
-ghost use Rattle.steps.specs.Sleepers.{NoneSleeps};
+ghost use Rattle.steps.specs.{cells_in, pipe_at, Looks, Extends, IsStep, NoneSleeps};
 ghost use Rattle.work.specs.Board.{Facts, IsOf};
 
 use crate::cancel::{Wanted, wanted_of};
@@ -48,9 +45,7 @@ impl<'a> Model for Answering<'a> {
 }
 
 impl<'a> Answering<'a> {
-    ghost use Rattle.work.specs.Passes.{Took, seen_of};
-    ghost use Rattle.work.specs.Searches.{FewSteps, wanted_in};
-    ghost use Rattle.work.specs.WorkerRuns.{AreFew, AreHits, EndsBy, HasWoken, StepsAt, StepsBy, IsRun, MissedPipe, WakesAt, taken_in};
+    ghost use Rattle.work.specs.{Took, seen_of, FewSteps, wanted_in, AreFew, AreHits, EndsBy, HasWoken, StepsAt, StepsBy, IsRun, MissedPipe, WakesAt, taken_in};
 
     /// Puts the request back to Ready, after a run that took nothing.
     pub(crate) fn give_up(self) -> Worker

@@ -6,9 +6,7 @@ ghost use Rattle.history.specs.Chains.{IsPlaced};
 ghost use Rattle.steps.specs.declared.line.Line.TheVariants.{Did};
 ghost use Rattle.steps.specs.declared.view.Role.{Role};
 ghost use Rattle.steps.specs.declared.view.Role.TheVariants.{Idle};
-ghost use Rattle.steps.specs.Cells.{cells_in};
-ghost use Rattle.steps.specs.Rule.{Looks, Extends};
-ghost use Rattle.steps.specs.Sleepers.{NoneSleeps};
+ghost use Rattle.steps.specs.{cells_in, Looks, Extends, NoneSleeps};
 ghost use Rattle.work.specs.Board.{Facts, IsOf};
 
 use crate::answering::Answering;
@@ -38,9 +36,7 @@ impl<'a> Model for Busy<'a> {
 }
 
 impl<'a> Busy<'a> {
-    ghost use Rattle.work.specs.Passes.{Took, notes_read, seen_of};
-    ghost use Rattle.work.specs.Searches.{ReadNotes};
-    ghost use Rattle.work.specs.WorkerRuns.{HasStepped, HasWoken, IsRun};
+    ghost use Rattle.work.specs.{Took, notes_read, seen_of, ReadNotes, HasStepped, HasWoken, IsRun};
 
     /// Puts the request back to Ready. The lists of what its last run took, and took along, stay.
     pub fn park(self) -> Worker

@@ -3,17 +3,11 @@ ghost use Rattle.std.specs.Prelude.{◌≡◌, ◌≢◌, ◌⊎◌, ℕ, ◌<�
 ghost use Rattle.claim.specs.declared.tag.Tag.TheVariants.{Held, Ready, Running};
 ghost use Rattle.entry.specs.declared.op.Op.{Op as OpOf};
 ghost use Rattle.history.specs.declared.req.Req.{Req as Request};
-ghost use Rattle.history.specs.Answers.{Matches};
-ghost use Rattle.history.specs.History.{IsReplied, hit, nothing, phase, unborn};
-ghost use Rattle.steps.specs.Cells.{IsCell, cells_in, request_at, word_of};
-ghost use Rattle.steps.specs.Journal.{events_of};
-ghost use Rattle.steps.specs.Notes.{row_number};
+ghost use Rattle.history.specs.{Matches, IsReplied, hit, nothing, phase, unborn};
+ghost use Rattle.steps.specs.{IsCell, cells_in, request_at, word_of, events_of, row_number, IsIdleWord, IsSameSeat, Looks, Shown};
 ghost use Rattle.steps.specs.declared.line.Line.{Line};
-ghost use Rattle.steps.specs.Plays.{IsIdleWord};
-ghost use Rattle.steps.specs.Rule.{IsSameSeat, Looks, Shown};
 ghost use Rattle.work.specs.declared.cancel.Wanted.{Wanted as WantedOf};
-ghost use Rattle.work.specs.Passes.{IsGridOf};
-ghost use Rattle.work.specs.Searches.{Cancels, DidSearch, DidTake, DidTry, FewSteps, IsEarlier, IsFirst, IsMeant, MayAim, StepsIn, is_kind, target_in, wanted_in};
+ghost use Rattle.work.specs.{IsGridOf, Cancels, DidSearch, DidTake, DidTry, FewSteps, IsEarlier, IsFirst, IsMeant, MayAim, StepsIn, is_kind, target_in, wanted_in};
 
 use crate::grid::Grid;
 use claim::unpack_facts;

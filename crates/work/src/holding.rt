@@ -9,8 +9,7 @@ ghost use Rattle.steps.specs.declared.line.Line.TheVariants.{Did, Free};
 ghost use Rattle.steps.specs.declared.view.Role.{Role};
 ghost use Rattle.steps.specs.declared.view.Role.TheVariants.{Leaving};
 ghost use Rattle.steps.specs.declared.view.View.{View};
-ghost use Rattle.steps.specs.Cells.{claim_at, pipe_at};
-ghost use Rattle.steps.specs.Rule.{Extends, IsStep, IsTwoSteps, leaves};
+ghost use Rattle.steps.specs.{claim_at, pipe_at, Extends, IsStep, IsTwoSteps, leaves};
 
 use crate::answering::Answering;
 use crate::lists::{Lists, settle};
@@ -42,8 +41,7 @@ impl<'a> Model for Holding<'a> {
 }
 
 impl<'a> Holding<'a> {
-    ghost use Rattle.work.specs.Passes.{seen_of};
-    ghost use Rattle.work.specs.WorkerRuns.{LaidDown, TookAlong, Unanswered};
+    ghost use Rattle.work.specs.{seen_of, LaidDown, TookAlong, Unanswered};
 
     /// Answers the request by its pipe, and gives the pipe back, from which it takes along all that lie there; or gives it back as it
     /// was and lays the request down there, where there is no answer now.

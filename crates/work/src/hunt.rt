@@ -2,13 +2,9 @@
 ghost use Rattle.std.specs.Prelude.{◌≡◌, ℕ, ◌<◌, ◌≤◌, ◌*◌, ◌-◌, [], List, length, vec_capacity};
 ghost use Rattle.history.specs.declared.req.Req.{Req as Request};
 ghost use Rattle.history.specs.History.{hit, nothing};
-ghost use Rattle.steps.specs.Cells.{IsCell, cells_in, request_at};
-ghost use Rattle.steps.specs.Journal.{events_of};
-ghost use Rattle.steps.specs.Rule.{IsSameSeat};
+ghost use Rattle.steps.specs.{IsCell, cells_in, request_at, events_of, IsSameSeat};
 ghost use Rattle.work.specs.declared.cancel.Searched.TheVariants.{Ended};
-ghost use Rattle.work.specs.Passes.{AreMarked, IsGridOf, IsSpare};
-ghost use Rattle.work.specs.Searches.{Cancels, FewSteps, FewerSteps, IsFirst};
-ghost use Rattle.work.specs.WorkerRuns.{DidHunt, Told};
+ghost use Rattle.work.specs.{AreMarked, IsGridOf, IsSpare, Cancels, FewSteps, FewerSteps, IsFirst, DidHunt, Told};
 
 use crate::advance::advance;
 use crate::cancel::{Searched, Wanted, search};

@@ -12,10 +12,7 @@ ghost use Rattle.steps.specs.declared.line.Line.TheVariants.{Did, Hold, Free};
 ghost use Rattle.steps.specs.declared.view.Role.{Role};
 ghost use Rattle.steps.specs.declared.view.Role.TheVariants.{Leaving};
 ghost use Rattle.steps.specs.declared.view.View.{View};
-ghost use Rattle.steps.specs.Cells.{pipe_at};
-ghost use Rattle.steps.specs.Journal.{lying};
-ghost use Rattle.steps.specs.Rule.{Looks, Extends, IsStep, IsThreeSteps, leaves, leaves_one};
-ghost use Rattle.steps.specs.Plays.{HasBoth};
+ghost use Rattle.steps.specs.{pipe_at, lying, Looks, Extends, IsStep, IsThreeSteps, leaves, leaves_one, HasBoth};
 ghost use Rattle.work.specs.Board.{Facts, IsOf};
 
 use crate::answering::Answering;
@@ -53,8 +50,7 @@ impl<'a> Model for Joining<'a> {
 }
 
 impl<'a> Holding<'a> {
-    ghost use Rattle.work.specs.Passes.{seen_of};
-    ghost use Rattle.work.specs.WorkerRuns.{MissedPipe};
+    ghost use Rattle.work.specs.{seen_of, MissedPipe};
 
     /// Takes the target of a SPLICE, whose source it has; or gives the source back, where another worker has the target.
     fn hold(self, target: usize) -> Result<Joining<'a>, Answering<'a>>
@@ -99,8 +95,7 @@ impl<'a> Holding<'a> {
 }
 
 impl<'a> Joining<'a> {
-    ghost use Rattle.work.specs.Passes.{IsLaidOnce, seen_of};
-    ghost use Rattle.work.specs.WorkerRuns.{LaidAtBoth, TookAlong, Unanswered};
+    ghost use Rattle.work.specs.{IsLaidOnce, seen_of, LaidAtBoth, TookAlong, Unanswered};
 
     /// Answers the request by its pipes, and gives them back, from which it takes along all that lie there; or gives them back as
     /// they were and lays the request down at each where it does not lie already, where there is no answer now.
@@ -171,8 +166,7 @@ impl<'a> Joining<'a> {
 }
 
 impl<'a> Answering<'a> {
-    ghost use Rattle.work.specs.Passes.{seen_of};
-    ghost use Rattle.work.specs.WorkerRuns.{StepsAt, IsRun, WakesAt};
+    ghost use Rattle.work.specs.{seen_of, StepsAt, IsRun, WakesAt};
 
     /// Answers the request, which is answered from two pipes of the board, or puts it back to Ready.
     pub(crate) fn run_between(self, source: usize, target: usize) -> (Worker, Ran)

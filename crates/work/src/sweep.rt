@@ -1,12 +1,8 @@
 //! The sweep of a cancel of all its matches over the earlier requests of its ring.
 ghost use Rattle.std.specs.Prelude.{◌≡◌, ℕ, ◌<◌, ◌≤◌, ◌*◌, ◌-◌, ◌++◌, [], ◌∷◌, true, List, length, vec_capacity};
 ghost use Rattle.history.specs.History.{hit, nothing};
-ghost use Rattle.steps.specs.Cells.{IsCell, cells_in, request_at};
-ghost use Rattle.steps.specs.Journal.{events_of};
-ghost use Rattle.steps.specs.Rule.{IsSameSeat};
-ghost use Rattle.work.specs.Passes.{IsGridOf, IsSpare};
-ghost use Rattle.work.specs.Searches.{Cancels, FewSteps, IsFirst};
-ghost use Rattle.work.specs.WorkerRuns.{DidSweep};
+ghost use Rattle.steps.specs.{IsCell, cells_in, request_at, events_of, IsSameSeat};
+ghost use Rattle.work.specs.{IsGridOf, IsSpare, Cancels, FewSteps, IsFirst, DidSweep};
 
 use crate::cancel::{Tried, Wanted, earlier, try_one};
 use crate::grid::Grid;

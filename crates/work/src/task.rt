@@ -7,10 +7,8 @@ ghost use Rattle.history.specs.declared.req.Req.{Req as Request};
 ghost use Rattle.history.specs.Legal.{FitsOp};
 ghost use Rattle.steps.specs.declared.parcel.Parcel.{Parcel};
 ghost use Rattle.steps.specs.declared.parcel.Thing.TheVariants.{Full};
-ghost use Rattle.steps.specs.Cells.{slot_at};
-ghost use Rattle.steps.specs.Rule.{IsSameSeat, Looks};
-ghost use Rattle.work.specs.Passes.{IsUnderway, RunsIt, notes_read};
-ghost use Rattle.work.specs.Searches.{ReadNotes};
+ghost use Rattle.steps.specs.{slot_at, IsSameSeat, Looks};
+ghost use Rattle.work.specs.{IsUnderway, RunsIt, notes_read, ReadNotes};
 
 use crate::grid::Grid;
 use answers::answer_with;
