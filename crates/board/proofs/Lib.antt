@@ -39,3 +39,4 @@ pub mod Countings
 pub mod Settlings
 pub mod Strikes
 pub mod Pollings
+pub mod EventsTogether

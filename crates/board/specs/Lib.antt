@@ -11,12 +11,14 @@ pub mod PollerRows
 pub mod Seats
 pub mod PollerTimers
 pub mod TimerCalls
+pub mod PassEvents
 pub mod Polls
 pub use Rattle.board.specs.Batches.{AreFit, Entries, IsReady, is_empty, steps_for, steps_in, submits_of}
 pub use Rattle.board.specs.Calls.{EndsWith, Finds, FoundHeld, Goes, HasLooked, IsHeld, IsPresent, IsUnheld, IsWord, KeepsFreed, LastAt, MayStart, Stands, Stepped, next_of}
 pub use Rattle.board.specs.Headline.{HasOnce, IsCompletion}
 pub use Rattle.board.specs.Lanes.{AreFree, HasLookedAt, IsLane, IsOver, IsSpot, KnowsChains, LinkedAreReaped, RefusesRoom, SameLane, WereReaped, continues, nth}
 pub use Rattle.board.specs.New.{AreSubmitters, AreWorkers, IsCutting, IsFresh, IsNew}
+pub use Rattle.board.specs.PassEvents.{AreNew, GoesOn, answered_by, answered_one, is_among}
 pub use Rattle.board.specs.PollerRows.{Decides, IsAt, IsOurs, KnowsRows, MayArm, Paid, Spends}
 pub use Rattle.board.specs.PollerTimers.{IsPast, IsTimerAs, KnowsAlarm, KnowsTimers, looks_at}
 pub use Rattle.board.specs.Polls.{HasRung, polled_by}

@@ -1,10 +1,11 @@
 -- The words of other modules that the proofs of this crate use.
+pub use Rattle.board.specs.PassEvents.{AreNew, GoesOn, answered_by, answered_one, is_among}
 pub use Rattle.board.specs.{Finds, Goes, next_of, counts}
 pub use Rattle.board.specs.declared.completion.Completion.{Completion}
 pub use Rattle.history.specs.Legal.{Fits, FitsOp}
 pub use Rattle.history.specs.declared.event.Event.TheVariants.{Arm, Fire, Settle, Sever, Submit}
 pub use Rattle.history.specs.declared.req.Req.{Req}
-pub use Rattle.ring_c.specs.{AreRead, AreSaid, ReapsAt, Shows, Submits, buffers_of, ClientFacts, DeskFacts, AreNew, GoesOn, IsTurn, Told, Turned, answered_by, answered_one, is_among}
+pub use Rattle.ring_c.specs.{AreRead, AreSaid, ReapsAt, Shows, Submits, buffers_of, ClientFacts, DeskFacts, IsTurn, Told, Turned}
 pub use Rattle.ring_c.specs.declared.code.Code.{Code}
 pub use Rattle.ring_c.specs.declared.code.Code.TheVariants.{Closed, Foreign, InUse}
 pub use Rattle.ring_c.specs.declared.inside.Inside.{Inside}

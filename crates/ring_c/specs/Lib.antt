@@ -20,4 +20,4 @@ pub use Rattle.ring_c.specs.Numbers.{number_for}
 pub use Rattle.ring_c.specs.Reports.{GivesLineBytes, TellsLine}
 pub use Rattle.ring_c.specs.Results.{counted_as, line_as, looked_as, polled_as, reaped_as}
 pub use Rattle.ring_c.specs.Sides.{ClientFacts, DeskFacts, IsIn, pass_in}
-pub use Rattle.ring_c.specs.Turns.{AreNew, GoesOn, HasRoom, IsTurn, Told, Turned, answered_by, answered_one, is_among}
+pub use Rattle.ring_c.specs.Turns.{HasRoom, IsTurn, Told, Turned}

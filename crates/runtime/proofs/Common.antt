@@ -1,6 +1,7 @@
 -- The words of other modules that the proofs of this crate use.
 pub use Rattle.bell.specs.BellPasses.{IsNew, IsRingerOf, Ringing, Sleeping, new_ringing}
 pub use Rattle.board.proofs.GoesLaws.{events_before, goes_then, own_both}
+pub use Rattle.board.specs.PassEvents.{AreNew, GoesOn, answered_by, answered_one, is_among}
 pub use Rattle.board.specs.{Goes, IsUnheld, Stands, next_of, RefusesBatch, RefusesReap, AreOf, IsReport, counts, widest, IsEarly, IsUnarmed, armed_by}
 pub use Rattle.board.specs.declared.completion.Completion.{Completion}
 pub use Rattle.event_count.specs.Passes.{HasNoticed, IsNotifierOf, IsWaiterOf, Notifying}
@@ -10,9 +11,9 @@ pub use Rattle.history.specs.declared.event.Event.TheVariants.{Arm, Count, Cut, 
 pub use Rattle.history.specs.declared.req.Req.{Req}
 pub use Rattle.outbox.specs.Outbox.{Waiting, with_answered}
 pub use Rattle.ready.specs.Ready.{AreAll, Moves, all_put, all_taken, times}
-pub use Rattle.runtime.specs.{HasNext, Owed, AreClients, AreNewClients, ClientFacts, HasAwaited, HasTaken, IsNewClient, WasRefused, submitter_of, without_tail, AreWorking, Crew, HasShares, all_passes, own_in, own_share, ready_of, shares_in, shares_of, worker_of, AreHeldBack, ArePending, Cares, IsCared, IsDone, IsHeldBack, IsLinkedDue, IsNoted, IsPendingTimer, IsPlain, IsSet, LooksAfter, NoneIsDue, Once, cares_of, is_among, taken_in, with_waiting, IsPollSide, IsPolling, IsServing, IsWorkSide, AreNumbered, Places, with_request, AreRingers, IsNewRinger, GoesOn, HandedOver, answered_by, answered_one, kept_in, IsWorkTurn, PutsBack, Shifts, Worked, answered_in, ended_in}
+pub use Rattle.runtime.specs.{HasNext, Owed, AreClients, AreNewClients, ClientFacts, HasAwaited, HasTaken, IsNewClient, WasRefused, submitter_of, without_tail, AreWorking, Crew, HasShares, all_passes, own_in, own_share, ready_of, shares_in, shares_of, worker_of, AreHeldBack, ArePending, Cares, IsCared, IsDone, IsHeldBack, IsLinkedDue, IsNoted, IsPendingTimer, IsPlain, IsSet, LooksAfter, NoneIsDue, Once, cares_of, taken_in, with_waiting, IsPollSide, IsPolling, IsServing, IsWorkSide, AreNumbered, Places, with_request, AreRingers, IsNewRinger, HandedOver, kept_in, IsWorkTurn, PutsBack, Shifts, Worked, answered_in, ended_in}
 pub use Rattle.runtime.specs.Parts.{HasFewerTimers, HasRung, HasStopped, HaveWaited, IsDueTimer, IsStuck, RangOn, StandsPolled, WaitsOn, WasTried, WatchesOn, WentOn, stands_armed, with_watched}
-pub use Rattle.runtime.specs.PollTurns.{AllRung, AreNew, Desk, Did, HasTicked, IsAt, IsPollTurn, IsPollers, IsStill, IsStopped, IsTaken, MayRelease, MayRing, Rang, ReachesTo, cares_in, cells_in_all}
+pub use Rattle.runtime.specs.PollTurns.{AllRung, Desk, Did, HasTicked, IsAt, IsPollTurn, IsPollers, IsStill, IsStopped, IsTaken, MayRelease, MayRing, Rang, ReachesTo, cares_in, cells_in_all}
 pub use Rattle.runtime.specs.declared.lists.Intake.{Intake}
 pub use Rattle.runtime.specs.declared.shared.Shared.{Shared}
 pub use Rattle.runtime.specs.declared.threads.WorkSide.{WorkSide}

@@ -13,7 +13,8 @@ use Rattle.history.specs.History.{clock_of}
 use Rattle.runtime.specs.declared.lists.Lists.{Lists}
 use Rattle.runtime.specs.PollTurns.{Rang}
 use Rattle.runtime.specs.declared.hands.Hands.{Hands}
-use Rattle.runtime.specs.Desks.{Cares, IsHeldBack, IsLinkedDue, IsPendingTimer, IsNoted, IsPlain, LooksAfter, NoneIsDue, Once, cares_of, is_among}
+use Rattle.board.specs.PassEvents.{is_among}
+use Rattle.runtime.specs.Desks.{Cares, IsHeldBack, IsLinkedDue, IsPendingTimer, IsNoted, IsPlain, LooksAfter, NoneIsDue, Once, cares_of}
 use Rattle.runtime.specs.Shelves.{Places, with_request}
 
 -- the numbers found no place in the ready queue, or the outbox has none for one answer more
