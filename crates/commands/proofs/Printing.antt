@@ -43,12 +43,6 @@ forget_unprinted job s t a b told (inr (is, begun)) = inr (is, forget_begun job 
 
 -- ---- the text of the tables that a search found
 
-pub outcomes_listed : {E : Type 0} (c : Script) (r : Result (Vec ℕ) E) (tables : List Table)
-    → ((rows : List (ℤ × List ℕ)) → IsTableOf c rows ↔ Among rows (map rows_of tables)) → AreInOrder (map rows_of tables)
-    → IfOk r (λ text. text.items ≡ counted_text c (map rows_of tables)) → IfOk r (λ text. IsOutcomesText c text.items)
-outcomes_listed c (Ok text) tables all order is = record { tables = map rows_of tables; all = all; order = order; text_is = is }
-outcomes_listed c (Err e) tables all order is = tt
-
 -- ---- the answer to a job
 
 -- the same bytes, as a slice

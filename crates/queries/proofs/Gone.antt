@@ -46,22 +46,6 @@ verdicts_all c given i made le so_far =
 
 -- ---- the status of verdicts
 
-status_step : (x : List ℕ × Bool) (xs : List (List ℕ × Bool)) → x.1 ≡ true → verdicts_status (x ∷ xs) ≡ verdicts_status xs
-status_step x xs is = ap (λ (b : Bool). (let r : ℕ = if b && list_all (λ v. v.1) xs then 0 else 3 in r)) is
-
-status_no : (x : List ℕ × Bool) (xs : List (List ℕ × Bool)) → x.1 ≡ false → verdicts_status (x ∷ xs) ≡ 3
-status_no x xs is = ap (λ (b : Bool). (let r : ℕ = if b && list_all (λ v. v.1) xs then 0 else 3 in r)) is
-
-pub status_further : (xs : List (Bor (List ℕ) × Bool)) (i : ℕ) (x : Bor (List ℕ) × Bool) → i < length xs → x ≡ get_or xs i x → x.1 ≡ true
-    → verdicts_status (map verdict_of (drop i xs)) ≡ verdicts_status (map verdict_of xs) → verdicts_status (map verdict_of (drop (i + 1) xs)) ≡ verdicts_status (map verdict_of xs)
-status_further xs i x lt is on so_far =
-    sym (status_step (verdict_of x) (map verdict_of (drop (i + 1) xs)) on) ∙ (ap (λ (l : List (Bor (List ℕ) × Bool)). verdicts_status (map verdict_of l)) (sym (rest_at xs i x lt is)) ∙ so_far)
-
-pub status_three : (xs : List (Bor (List ℕ) × Bool)) (i : ℕ) (x : Bor (List ℕ) × Bool) → i < length xs → x ≡ get_or xs i x → x.1 ≡ false
-    → verdicts_status (map verdict_of (drop i xs)) ≡ verdicts_status (map verdict_of xs) → 3 ≡ verdicts_status (map verdict_of xs)
-status_three xs i x lt is off so_far =
-    sym (status_no (verdict_of x) (map verdict_of (drop (i + 1) xs)) off) ∙ (ap (λ (l : List (Bor (List ℕ) × Bool)). verdicts_status (map verdict_of l)) (sym (rest_at xs i x lt is)) ∙ so_far)
-
 -- ---- readers
 
 read_more : (ks : List Known) (gs : List (List ℕ × List ℕ)) (k : Known) (g : List ℕ × List ℕ) → AreRead ks gs → AreRead (k ∷ []) (g ∷ []) → AreRead (ks ++ k ∷ []) (gs ++ g ∷ [])

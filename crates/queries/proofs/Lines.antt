@@ -21,14 +21,6 @@ pub says_all : {O N : Type 0} (notes : O → ℕ → O → Type 0) (name : O →
     → (a b : O) → Noted notes (HasStates c) a b → (name b ≡ name a) × Says c (contents a) (contents b)
 says_all notes name contents c tells a b noted = let all = says_by notes name contents c tells noted.0 a b noted.1 in (all.0, (noted.0, all.1))
 
-pub says_none : (b : Bool) (c : Script) (x : Option (List ℕ)) → b ≡ false → SaysFor b c x x
-says_none true c x off = absurd (true≢false off)
-says_none false c x off = Keeps-refl x
-
-pub says_if : (b : Bool) (c : Script) (x y : Option (List ℕ)) → b ≡ true → Says c x y → SaysFor b c x y
-says_if true c x y on lines = lines
-says_if false c x y on lines = absurd (true≢false (sym on))
-
 pub unsaid : (b : Bool) (s x : Option (List ℕ)) → SaysOf b s x x
 unsaid true s x = inr (Keeps-refl x)
 unsaid false s x = Keeps-refl x

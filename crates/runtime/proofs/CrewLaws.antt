@@ -20,6 +20,3 @@ shares_are (w ∷ ws) = sum_by-cons (λ (p : Moves). p.share) (ready_of w) (map 
 
 pub passes_all : (d : Desk) (ws : List WorkSide) → d.ready.share + shares_in ws ≡ all_shares → AreAll (all_passes d ws)
 passes_all d ws all = omega (arith, all, shares_are ws, sum_by_push (λ (p : Moves). p.share) (map ready_of ws) d.ready)
-
-pub passes_long : (d : Desk) (ws : List WorkSide) → length (all_passes d ws) ≡ length ws + 1
-passes_long d ws = omega (arith, length-append (map ready_of ws) (d.ready ∷ []), length-map ws ready_of)

@@ -58,18 +58,6 @@ went_took b old new x board ring taken halt g is = record {
   halt = halt;
 }
 
--- it took one for which there was no place
-pub went_lost : (b : Facts) (old new : Hand) (x : Completion) → new.client.board ≡ old.client.board → new.client.ring ≡ old.client.ring → new.taken.items ≡ old.taken.items → new.halt ≡ old.halt
-    → Goes b old.client.submitter (Event.Reap x.req ∷ []) new.client.submitter → Went old new
-went_lost b old new x board ring taken halt g = record {
-  stayed = record {
-    board = board;
-    ring = ring;
-    role = g.role_is;
-    taken = λ k. subst (AreTaken (seen_by new)) (sym taken) (taken_on b old.client.submitter new.client.submitter (Event.Reap x.req ∷ []) old.taken.items g k);
-  };
-  at = at_on b old new (Event.Reap x.req ∷ []) ring g refl;
-  halt = halt;
 }
 
 pub went_still : (old new : Hand) → new.client ≡ old.client → new.taken.items ≡ old.taken.items → new.halt ≡ old.halt → Went old new

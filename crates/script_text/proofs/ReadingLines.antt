@@ -116,24 +116,6 @@ rings_more : (k : Option Keyword) (words : List (List ℕ)) (rings : List (ℕ �
 rings_more (Some Ring) words rings = simp length-append (omega arith)
 rings_more _ words rings = omega arith
 
-pub few_rings_above : (above : List Sentence) → length (rings_in above) ≤ length above
-few_rings_above [] = omega arith
-few_rings_above (s ∷ above) = let a = rings_more (first_of s) s.words (rings_in above) in let b = few_rings_above above in omega (arith, a, b)
-
-rings_as : (k : Option Keyword) (words : List (List ℕ)) (rings : List (ℕ × Option ℕ)) (n : ℕ) → n ≡ length rings → more_with k n ≡ length (rings_with k words rings)
-rings_as (Some Ring) words rings n e = simp length-append (omega arith)
-rings_as _ words rings n e = e
-
-pub outlines_more : (above : List Sentence) (s : Sentence) (n : ℕ) (old new : Outline) → Outlines above old → n ≡ length above + 1 → Notes s n old new → Outlines (s ∷ above) new
-outlines_more above s n old new out number t = record {
-  stated = rw (← out.stated) t.stated;
-  submits = λ ring lt. t.submits ring lt ∙ ap Some (
-      ap (λ (a : Actor). last_submit_with (first_of s) (is_same_actor (Actor.Ring ring) a) n (last_of (slice_get old.last_submits ring))) out.actor
-      ∙ (ap (λ (m : ℕ). last_submit_with (first_of s) (is_of (Actor.Ring ring) above) m (last_of (slice_get old.last_submits ring))) number
-      ∙ ap (λ (o : Option ℕ). last_submit_with (first_of s) (is_of (Actor.Ring ring) above) (length above + 1) (last_of o)) (out.submits ring lt)));
-  rings = t.rings ∙ rings_as (first_of s) s.words (rings_in above) old.rings out.rings;
-  has_ring = rw (← out.has_ring) t.has_ring;
-  actor = rw (← out.rings, ← out.actor) t.actor;
 }
 
 -- ---- what a line without a fault has

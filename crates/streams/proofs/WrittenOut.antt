@@ -7,11 +7,6 @@ use Rattle.std.specs.Io.KnownBytes.{Appends, Keeps}
 use Rattle.streams.specs.Streams.{AppendsBeginning}
 use lib.Seq.{take-append_seam}
 
--- n more have gone out
-pub split_further : (all done rest : List ℕ) (n : ℕ) → all ≡ done ++ rest → all ≡ (done ++ take n rest) ++ take (length rest - n) (drop n rest)
-split_further all done rest n split =
-    split ∙ ap (λ l. done ++ l) (sym (take-append-drop n rest)) ∙ sym (append_assoc done (take n rest) (drop n rest)) ∙ ap (λ l. (done ++ take n rest) ++ l) (sym (take_rest rest n))
-
 -- a fault comes while something is left, and adds nothing
 pub AppendsBeginning-at_fault : (a b c : Option (List ℕ)) (all done rest : List ℕ) → all ≡ done ++ rest → 0 < length rest → Appends a b done → Keeps b c → AppendsBeginning a c all
 AppendsBeginning-at_fault a b c all done rest split left gone kept =

@@ -290,12 +290,6 @@ plain_run (AsyncCancel u all) t w = absurd (let z = w in cc)
 plain_run (TimeoutRemove u) t w = absurd (let z = w in cc)
 plain_run op t w = refl
 
--- a cancel names none
-pub wanted_bare : (op : Op) (u : Wanted) (n : ℕ) → wanted_in op ≡ Some u → UsesNone op n
-wanted_bare (AsyncCancel u all) w n is = λ q lt. refl
-wanted_bare (TimeoutRemove u) w n is = λ q lt. refl
-wanted_bare op w n is = absurd (let z = is in cc)
-
 -- what is placed is a cancel where what was handed in is one, and names no pipe then
 pub wanted_run : (op : Op) → wanted_in (op_run op) ≡ wanted_in op
 wanted_run (LinkTimeout ticks) = refl
