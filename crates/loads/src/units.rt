@@ -66,7 +66,7 @@ impl Units {
         }
     }
 
-    /// Adds the entries of the next unit. That of a NOP is made here, with no more work than its client has.
+    /// Adds the entries of the next unit. A NOP needs no buffer, so it is added at once.
     fn add_unit(&mut self, batch: &mut Batch) -> Result<(), AllocError> {
         if self.setup.kind == Kind::Nop {
             let entry = with_user_data(nop(), self.next.wrapping_mul(2));
