@@ -3,9 +3,7 @@ pub use Rattle.answers.specs.Answered.{Answered, Does, DoesBoth, IsPipe, IsSound
 pub use Rattle.answers.specs.NamedEnds.{IsSide, JoinsPipes, UsesBoth, UsesNone, UsesOne, are_of_one, gives, takes}
 pub use Rattle.entry.specs.declared.op.Op.{Op}
 pub use Rattle.entry.specs.declared.op.Op.TheVariants.{AsyncCancel, Close, Invalid, LinkTimeout, Nop, PollAdd, Read, Splice, Timeout, TimeoutRemove, Write}
-pub use Rattle.history.specs.Answers.{Answer, OpAnswers, bad_end, bare, close_of, is_pipe, later, level_at, now, poll_of, read_from, splice_into, splice_of, with_front, write_to}
-pub use Rattle.history.specs.Pipes.{End, Flow, contents, end_of, flow, flows, given_at, no_end, offered, read_end, reads, size, write_end, writes}
-pub use Rattle.history.specs.Users.{is_at, uses_at}
+pub use Rattle.history.specs.{Answer, OpAnswers, bad_end, bare, close_of, is_pipe, later, level_at, now, poll_of, read_from, splice_into, splice_of, with_front, write_to, End, Flow, contents, end_of, flow, flows, given_at, no_end, offered, read_end, reads, size, write_end, writes, is_at, uses_at}
 pub use Rattle.history.specs.declared.event.Event.{Event}
 pub use Rattle.history.specs.declared.req.Req.{Req}
 pub use Rattle.pipe.specs.Pipe.{Conduit}

@@ -9,8 +9,7 @@ use Rattle.level.proofs.Moved.{read_few}
 use Rattle.history.specs.Answers as told
 use Rattle.history.specs.State.{Held, held_in}
 use Rattle.history.proofs.Contents.{reads_held, writes_held, closes_held, flows_held, flows_hold}
-use Rattle.pipe.specs.Pipe.{level_of}
-use Rattle.pipe.specs.Moves.{OnIdle, after_read, after_write, after_close}
+use Rattle.pipe.specs.{level_of, OnIdle, after_read, after_write, after_close}
 use Rattle.answers.proofs.Common.{Answer, Bool, Conduit, Does, End, Event, Flow, IsPipe, IsSide, IsSound, List, None, Op, OpAnswers, Option, Req, Some, [], ap, append-nil, bare, close_of, cond, contents, drop, end_of, eq-eqb, eqb-true, false, flow, flows, is_at, is_pipe, later, length, level_at, lt-ltb, negsuc, no_end, now, offered, poll_of, pos, read_end, read_from, refl, size, slice_index, subst, sym, take, true, with_front, write_end, write_to, ℕ, ℤ, ◌++◌, ◌<◌, ◌==◌, ◌∙◌, ◌≡◌, ◌≤◌}
 
 abbrev pub held_of : Conduit → Held
@@ -47,20 +46,6 @@ splice_nothing fd_in fd_out len bytes n p v = reads_nothing (end_of fd_in) n p (
 -- the definitions give no answer where the pipe waits
 pub silent : (x : Answer) (res : ℤ) (data' : List ℕ) → x ≡ later → ¬ (x ≡ now res data')
 silent x res data' e f = cc
-
--- a close takes its end alone
-closes_read : (c new : Conduit) (res : ℤ) (p : ℕ) (b : Bool) → c.read_shut ≡ b → cond b not_open (Some (pos 0)) ≡ Some res → new ≡ after_close ReadSide c → held_of new ≡ closes_held (read_end p) res p (held_of c)
-closes_read c new res p true s e k = let z : negsuc 8 ≡ res = cc in rw (← z, same p) (ap held_of k ∙ (λ i. (let v : Held = record { bytes = c.content; read_shut = (sym s) i; write_shut = c.write_shut } in v)))
-closes_read c new res p false s e k = let z : pos 0 ≡ res = cc in rw (← z, same p) (ap held_of k)
-
-closes_write : (c new : Conduit) (res : ℤ) (p : ℕ) (b : Bool) → c.write_shut ≡ b → cond b not_open (Some (pos 0)) ≡ Some res → new ≡ after_close WriteSide c → held_of new ≡ closes_held (write_end p) res p (held_of c)
-closes_write c new res p true s e k = let z : negsuc 8 ≡ res = cc in rw (← z, same p) (ap held_of k ∙ (λ i. (let v : Held = record { bytes = c.content; read_shut = c.read_shut; write_shut = (sym s) i } in v)))
-closes_write c new res p false s e k = let z : pos 0 ≡ res = cc in rw (← z, same p) (ap held_of k)
-
-still : (c : Conduit) (a : Option ℤ) → OnIdle a (c ≡ c)
-still c (Some (pos n)) = tt
-still c (Some (negsuc n)) = refl
-still c None = refl
 
 module _ (caps : List ℕ) (h : List Event) (r : Req) (p : ℕ) (fd : ℤ) (c : Conduit) (bytes : List ℕ) (there : p < length caps) (s : IsPipe (slice_index caps p) c (flow h p)) (ok : IsSound (flow h p)) where
   is_there : is_pipe caps p ≡ true
@@ -105,22 +90,6 @@ module _ (caps : List ℕ) (h : List Event) (r : Req) (p : ℕ) (fd : ℤ) (c : 
         (ap (λ (z : Conduit). z.cap) k)
         (λ n is. rw (end, same p) (rw (k, is) refl))
         o
-
-  module _ (end : end_of fd ≡ read_end p) (a : Option ℤ) where
-    pub read_closed : (new : Conduit) → a ≡ close_reply (level_of c) ReadSide → new ≡ after_close ReadSide c → OnIdle a (new ≡ c) → Does caps h r (OpClose fd) p a c new bytes bytes
-    read_closed new e k o = bare_does (OpClose fd) (close_of caps (flow h) (end_of fd)) (λ res d z. z) (λ res d z. z) new a (rw (end, is_there) (rw (level_is, ← e) refl)) (ap (λ (z : Conduit). z.cap) k)
-        (λ res is. rw end (closes_read c new res p c.read_shut refl (sym e ∙ is) k)) o
-
-    pub read_polled : (mask : ℕ) → a ≡ poll_reply (level_of c) ReadSide mask → Does caps h r (OpPoll fd mask) p a c c bytes bytes
-    read_polled mask e = bare_does (OpPoll fd mask) (poll_of caps (flow h) (end_of fd) mask) (λ res d z. z) (λ res d z. z) c a (rw (end, is_there) ((λ i. bare (poll_reply (level_is i) ReadSide mask)) ∙ ap bare (sym e))) refl (λ res is. refl) (still c a)
-
-  module _ (end : end_of fd ≡ write_end p) (a : Option ℤ) where
-    pub write_closed : (new : Conduit) → a ≡ close_reply (level_of c) WriteSide → new ≡ after_close WriteSide c → OnIdle a (new ≡ c) → Does caps h r (OpClose fd) p a c new bytes bytes
-    write_closed new e k o = bare_does (OpClose fd) (close_of caps (flow h) (end_of fd)) (λ res d z. z) (λ res d z. z) new a (rw (end, is_there) (rw (level_is, ← e) refl)) (ap (λ (z : Conduit). z.cap) k)
-        (λ res is. rw end (closes_write c new res p c.write_shut refl (sym e ∙ is) k)) o
-
-    pub write_polled : (mask : ℕ) → a ≡ poll_reply (level_of c) WriteSide mask → Does caps h r (OpPoll fd mask) p a c c bytes bytes
-    write_polled mask e = bare_does (OpPoll fd mask) (poll_of caps (flow h) (end_of fd) mask) (λ res d z. z) (λ res d z. z) c a (rw (end, is_there) ((λ i. bare (poll_reply (level_is i) WriteSide mask)) ∙ ap bare (sym e))) refl (λ res is. refl) (still c a)
 
 -- which end of the pipe it is
 pub side_read : (x : End) (p : ℕ) → IsSide ReadSide x → is_at x p ≡ true → x ≡ read_end p

@@ -2,8 +2,7 @@
 use Rattle.history.specs.State.{Held}
 use Rattle.history.proofs.Contents.{reads_held, writes_held, flows_held}
 use Rattle.level.specs.Replies.{moved, splice_reply}
-use Rattle.pipe.specs.Pipe.{level_of}
-use Rattle.pipe.specs.Moves.{OnIdle, after_read, after_write}
+use Rattle.pipe.specs.{level_of, OnIdle, after_read, after_write}
 use Rattle.answers.proofs.Common.{Answer, Bool, Conduit, Does, DoesBoth, End, Event, Flow, IsPipe, IsSound, List, None, Op, Option, RepliesBoth, Req, Some, Splice, UsesBoth, UsesOne, [], ap, are_of_one, bad_end, bare, cond, contents, drop, end_of, eq-eqb, eqb-true, false, flow, given_at, gives, inl, inr, is_at, is_pipe, length, level_at, lt-ltb, ne_eqb, negsuc, no_end, not, now, offered, or_cases, read_end, reads, refl, size, slice_index, splice_into, splice_of, sym, take, takes, true, true≢false, write_end, writes, ℕ, ℤ, ⊎_elim, ◌&&◌, ◌++◌, ◌+◌, ◌<◌, ◌==◌, ◌||◌, ◌∙◌, ◌≡◌, ◌≢◌, ◌⊎◌}
 use Rattle.answers.proofs.Absent.{not_there}
 use Rattle.answers.proofs.Naming.{not_at, or_right}

@@ -4,8 +4,7 @@ use Rattle.entry.specs.declared.op.Op.{Op}
 use Rattle.entry.specs.declared.op.Op.TheVariants.{Nop, AsyncCancel, TimeoutRemove, Timeout, LinkTimeout, Invalid}
 use Rattle.history.specs.declared.event.Event.{Event}
 use Rattle.history.specs.declared.req.Req.{Req}
-use Rattle.history.specs.Answers.{OpAnswers}
-use Rattle.history.specs.Pipes.{Flow, contents, flow, offered, flows, content}
+use Rattle.history.specs.{OpAnswers, Flow, contents, flow, offered, flows, content}
 use Rattle.pipe.specs.Pipe.{Conduit}
 use Rattle.answers.specs.NamedEnds.{UsesOne, UsesBoth}
 

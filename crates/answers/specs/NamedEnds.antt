@@ -5,8 +5,7 @@ use Rattle.entry.specs.declared.op.Op.TheVariants.{Splice}
 use Rattle.level.specs.declared.ends.End.{End as Side}
 use Rattle.level.specs.declared.ends.End.TheVariants.{Read as ReadSide, Write as WriteSide}
 use Rattle.pipe.specs.Pipe.{Conduit}
-use Rattle.history.specs.Pipes.{End, no_end, read_end, write_end, end_of}
-use Rattle.history.specs.Users.{is_at, uses_at}
+use Rattle.history.specs.{End, no_end, read_end, write_end, end_of, is_at, uses_at}
 use Rattle.answers.specs.declared.named.NamedPipes.{NamedPipes}
 use Rattle.answers.specs.declared.named.NamedPipes.TheVariants.{Nothing, One, Both}
 

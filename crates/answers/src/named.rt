@@ -1,7 +1,6 @@
 //! The pipes of a board that an operation is answered from, and the ends that it names.
 ghost use Rattle.std.specs.Prelude.{◌≡◌, ℕ, ◌<◌, ◌||◌, true};
-ghost use Rattle.history.specs.Pipes.{end_of};
-ghost use Rattle.history.specs.Users.{is_at, uses_at};
+ghost use Rattle.history.specs.{end_of, is_at, uses_at};
 ghost use Rattle.answers.specs.NamedEnds.{pipe_with, IsAmong, are_of_one, JoinsPipes, AreNamed, IsSide};
 
 use entry::{Op, by_opcode};

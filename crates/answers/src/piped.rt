@@ -1,9 +1,7 @@
 //! Operations on a held pipe.
 ghost use Rattle.std.specs.Prelude.{◌≡◌, ℕ, true, length};
 ghost use Rattle.entry.specs.declared.op.Offset.{Offset};
-ghost use Rattle.history.specs.Legal.{FitsOp};
-ghost use Rattle.history.specs.Pipes.{end_of};
-ghost use Rattle.history.specs.Users.{is_at};
+ghost use Rattle.history.specs.{FitsOp, end_of, is_at};
 ghost use Rattle.answers.specs.NamedEnds.{UsesSome};
 ghost use Rattle.answers.specs.Answered.{Answered};
 

@@ -3,8 +3,7 @@ ghost use Rattle.std.specs.Prelude.{◌≡◌, true, length, [], List, ℕ};
 ghost use Rattle.history.specs.declared.event.Event.{Event};
 ghost use Rattle.history.specs.declared.req.Req.{Req};
 ghost use Rattle.history.specs.Answers.{OpAnswers};
-ghost use Rattle.answers.specs.NamedEnds.{UsesNone};
-ghost use Rattle.answers.specs.Answered.{is_plain, reply_without};
+ghost use Rattle.answers.specs.{UsesNone, is_plain, reply_without};
 
 use entry::{Op, by_opcode};
 use level::errno::EBADF;

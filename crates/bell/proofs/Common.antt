@@ -1,7 +1,6 @@
 -- The words of other modules that the proofs of this crate use.
 pub use Rattle.atomic_table.proofs.Lists.{at_last, at_longer, at_set, set_again, set_else}
-pub use Rattle.bell.specs.BellPasses.{HasRead, HasReadOne, HaveRisen, Ringing, Sleeping, loads_of, new_ringing}
-pub use Rattle.bell.specs.Rule.{IsBetween, IsHeeded, IsRung, IsSound, IsTold, Ruled, new_ringer, opening_view, with_ringer}
+pub use Rattle.bell.specs.{HasRead, HasReadOne, HaveRisen, Ringing, Sleeping, loads_of, new_ringing, IsBetween, IsHeeded, IsRung, IsSound, IsTold, Ruled, new_ringer, opening_view, with_ringer}
 pub use Rattle.bell.specs.declared.view.Role.TheVariants.{Ringer, Sleeper}
 pub use Rattle.bell.specs.declared.view.View.{View}
 pub use Rattle.std.proofs.Common.{Bool, List, [], ap, arith, cond, eq-eqb, eqb-true, false, get_or-set_other, get_or-set_same, inl, inr, length, length-append, length-set, refl, replicate, rules, set, slice_index, slice_set, subst, suc, sym, true, true≢false, zero, ℕ, ⊎_elim, ◌++◌, ◌+◌, ◌<◌, ◌==◌, ◌∙◌, ◌∷◌, ◌≡◌, ◌≢◌, ◌≤◌, ◌⊎◌}

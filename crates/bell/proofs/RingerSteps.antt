@@ -2,8 +2,7 @@
 use Rattle.atomic_table.specs.Table.{State, step, Me, keeps, Allows}
 use Rattle.bell.specs.declared.view.Change.{Change}
 use Rattle.bell.specs.declared.view.Change.TheVariants.{Found}
-use Rattle.bell.specs.Wakes.{bit, cleared, stands, AreChanges, IsSince, SawFinds}
-use Rattle.bell.specs.Plays.{storing, stored, looking, looked}
+use Rattle.bell.specs.{bit, cleared, stands, AreChanges, IsSince, SawFinds, storing, stored, looking, looked}
 use Rattle.bell.proofs.Common.{Bool, IsBetween, IsHeeded, IsRung, IsTold, List, Ringer, Ruled, Sleeper, View, [], ap, arith, at_set, cond, dite, eqb-true, false, get_elem?, get_or-set_other, get_or-set_same, inl, inr, length, length-set, none, refl, set, set_else, slice_index, slice_set, some, some-injective, some-ne-none, subst, suc, sym, true, true≢false, zero, ℕ, ℕ_discrete, ⊎_elim, ◌+◌, ◌<◌, ◌==◌, ◌∙◌, ◌∷◌, ◌≡◌, ◌≢◌, ◌≤◌, ◌⊎◌}
 
 pub same_ring : (r q : ℕ) → Ringer r ≡ Ringer q → r ≡ q

@@ -3,8 +3,7 @@ use lib.Seq.{set-get_or}
 use Rattle.atomic_table.specs.Table.{State, step, Me, keeps, Allows, Splits, opening}
 use Rattle.bell.specs.declared.view.Change.{Change}
 use Rattle.bell.specs.declared.view.Change.TheVariants.{Asked, Found, TookBack}
-use Rattle.bell.specs.Wakes.{bit, stands, taken_back, AreChanges, IsSince, SawFinds}
-use Rattle.bell.specs.Plays.{arming, armed, reading, read, waking, took_back, asked}
+use Rattle.bell.specs.{bit, stands, taken_back, AreChanges, IsSince, SawFinds, arming, armed, reading, read, waking, took_back, asked}
 use Rattle.bell.proofs.Common.{Bool, IsBetween, IsHeeded, IsRung, IsSound, IsTold, List, Ringer, Ruled, Sleeper, View, [], ap, arith, at_longer, at_set, cond, dite, eqb-true, false, get_elem?, get_or-replicate, get_or-set_other, get_or-set_same, inl, inr, length, length-replicate, length-set, new_ringer, none, opening_view, refl, replicate, set, set_again, slice_index, slice_set, some, some-injective, some-ne-none, subst, suc, sym, true, true≢false, with_ringer, zero, ℕ, ℕ_discrete, ⊎_elim, ◌++◌, ◌+◌, ◌<◌, ◌==◌, ◌∙◌, ◌∷◌, ◌≡◌, ◌≢◌, ◌≤◌, ◌⊎◌}
 use Rattle.bell.proofs.RingerSteps.{at_now, between_stays, rung_stays, apart_stays, bit_false, one_bit, saw_itself}
 

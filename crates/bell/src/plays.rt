@@ -1,6 +1,5 @@
 //! What each kind of step tells its seat.
-ghost use Rattle.bell.specs.Plays.{stored, looked, armed, read, took_back, asked};
-ghost use Rattle.bell.specs.Rule.{with_ringer, new_ringer};
+ghost use Rattle.bell.specs.{stored, looked, armed, read, took_back, asked, with_ringer, new_ringer};
 
 use crate::view::View;
 use atomic_table::{Play, Split};

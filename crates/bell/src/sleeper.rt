@@ -1,7 +1,6 @@
 //! The one who dozes where no ring has anything new, and is woken.
 ghost use Rattle.std.specs.Prelude.{◌≡◌, ◌≢◌, ◌+◌, ◌≤◌, ◌<◌, true, false, length, slice_index};
-ghost use Rattle.bell.specs.BellPasses.{IsSleeperSeat, IsBell, HasAsked, HasGivenUp, HasReadOne, HasRead, HasLoaded, HasTakenBack, HasWoken, HaveRisen, WasFound};
-ghost use Rattle.bell.specs.Plays.{reading};
+ghost use Rattle.bell.specs.{IsSleeperSeat, IsBell, HasAsked, HasGivenUp, HasReadOne, HasRead, HasLoaded, HasTakenBack, HasWoken, HaveRisen, WasFound, reading};
 ghost use Rattle.bell.specs.declared.view.Role.{Role};
 
 use crate::plays::{AskBit, LoadTail, SetBit, TakeBack};

@@ -8,7 +8,7 @@ use Rattle.board.specs.declared.error.SubmitError.{SubmitError}
 use Rattle.board.specs.declared.error.SubmitError.TheVariants.{Full, Spent}
 use Rattle.board.proofs.Common.{AreFit, AreSteps, Bool, Did, EndsWith, Entries, Entry, Event, ExtendsAfter, ExtendsNoted, Facts, Goes, IsFree, IsReady, Lending, Line, List, None, Pass, RefusesRoom, Req, Some, Submit, Submitter, Took, View, [], ap, append_assoc, arith, before_in, cells_in, claim_at, cond, count_notes, count_of, drop, eq-eqb, events_of, facts_at, false, get_or, is_empty, is_timeout, length, ne_eqb, notes_of, nth, own_of, refl, same_submits, seen_of, steps_for, steps_in, submits, submits_after, submits_of, submitter_can, subst, suc, sym, took_both, true, zero, ℕ, ◌++◌, ◌+◌, ◌/◌, ◌<◌, ◌==◌, ◌∙◌, ◌∷◌, ◌≡◌, ◌≤◌}
 use Rattle.board.proofs.GoesLaws.{goes_still, events_before, own_both}
-use Rattle.board.proofs.LanesKept.{just_before}
+use Rattle.board.proofs.QueuesKept.{just_before}
 use Rattle.board.proofs.SubmitterSeats.{lends_it}
 use Rattle.board.proofs.SubmitterLooks.{free_then}
 

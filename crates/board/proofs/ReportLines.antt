@@ -7,7 +7,7 @@ use Rattle.steps.proofs.StepKinds.{same_parcel}
 use Rattle.board.proofs.Common.{Ages, AreEarlier, AreLater, AreLines, Armed, Bool, Cause, Completion, Done, Event, Full, Gone, Held, IsCell, IsCutOrNot, IsLeft, IsLine, IsLineOf, IsListed, IsParcel, IsPresent, IsReplyOf, Line, List, None, Option, Ordered, Phase, Ready, Reports, Req, Rests, Running, Setup, Some, Stands, Thing, Unborn, [], ap, arith, born_once, cell_says, cells_in, counted, counts_at, data_left, dite, events_of, first_cell, full_slots, get_elem?, inl, inr, length, length-append, located_is, phase, place_of, reaped, refl, replied, request_at, ring_of, runs, set, some, some-injective, submits, subst, suc, sym, unborn, zero, ℕ, ℕ_discrete, ℤ, ⊎_elim, ◌%◌, ◌*◌, ◌++◌, ◌+◌, ◌-◌, ◌/◌, ◌<◌, ◌∙◌, ◌∷◌, ◌≡◌, ◌≤◌, ◌⊎◌}
 use Rattle.board.proofs.Standings.{nat_order}
 use Rattle.board.specs.declared.phase.Phase.{Phase as Standing}
-use Rattle.board.specs.Remains.{IsKept}
+use Rattle.board.specs.LastCells.{IsKept}
 use Rattle.board.specs.Reports.{IsBefore}
 
 abbrev Lines : Type 0

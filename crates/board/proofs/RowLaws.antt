@@ -5,8 +5,7 @@ use Rattle.std.specs.declared.result.Result.{Result}
 use Rattle.std.specs.declared.result.Result.TheVariants.{Ok, Err}
 use Rattle.claim.specs.Facts.{Facts as FactsParts}
 use Rattle.gates.specs.declared.traits.Traits.{Traits}
-use Rattle.gates.specs.EntryRows.{Stands}
-use Rattle.gates.specs.Shows.{nth}
+use Rattle.gates.specs.{Stands, nth}
 use Rattle.steps.proofs.CellNumbers.{ring_in}
 use Rattle.gates.proofs.Trailing.{trailed}
 use Rattle.board.proofs.Common.{AreFacts, ArePlain, Bool, Entry, Event, Facts, Goes, HasOutcome, IsAt, IsBoard, IsCell, IsChainDone, IsLinkTimeout, IsNumbered, IsOfChain, IsOurs, IsOutcome, IsSubmitted, IsPlainAt, IsReplied, Kept, KnowsRow, Legal, Line, List, Notes, Option, Park, Pass, Req, Role, Seat, Setup, Slot, Some, TellsFacts, Thing, Trails, TrailsAt, View, Waits, Watched, Watches, [], added, ap, arith, before_in, bool_cases, born_once, cases_lt, cell_says, cells_in, cond, counted, counts_at, drains, drop, earlier_gone, events_of, false, first_cell, get_there, inl, inr, is_link_timeout, is_pending, is_plain, length, links, links_hard, links_soft, located, located_is, lost_replied, met_trails, mul-le-mul_right, not, of_chain_done, one_some, owed, pass_of, passes, phase, place_of, placed_behind, placed_from, plain_later, pollers, refl, request_at, ring_of, same_false, setup_of, slice_get, slot_with, stand_in, stand_in_trails, stand_ins, stands_for, submits, submits_grow, submitted_in, subst, suc, suc-mul, sym, test_at, trails_later, trails_more, trails_replied, trails_stand_ins, traits_of, true, true≢false, unborn, waiting, waiting_in, waits, was_shut, with_reply, zero, ℕ, ⊎_elim, ◌%◌, ◌&&◌, ◌*◌, ◌++◌, ◌+◌, ◌-◌, ◌/◌, ◌<◌, ◌||◌, ◌∙◌, ◌∷◌, ◌≡◌, ◌≤◌}

@@ -2,7 +2,7 @@
 use Rattle.std.proofs.lemmas.Nat.{div-mul-add}
 use Rattle.board.specs.declared.error.SubmitError.{SubmitError}
 use Rattle.board.specs.declared.error.SubmitError.TheVariants.{Full, Spent}
-use Rattle.board.specs.Lanes.{Watched}
+use Rattle.board.specs.Queues.{Watched}
 use Rattle.board.specs.Refusals.{RefusesEntry}
 use Rattle.board.proofs.Common.{Entry, Event, Facts, Fits, Goes, IsCell, IsFree, IsOf, Legal, Line, List, Pass, RefusesRoom, Req, [], arith, bool_cases, cells_in, events_of, free_later, located, ltb-false, ltb-true, mul-le-mul_right, nat_lt, nth, place_of, refl, request_at, ring_of, seen_of, setup_of, subst, suc, suc-mul, sym, zero, ℕ, ⊎_elim, ◌*◌, ◌+◌, ◌/◌, ◌<◌, ◌≡◌, ◌≤◌}
 use Rattle.board.proofs.GoesLaws.{goes_same, goes_looked, goes_then}

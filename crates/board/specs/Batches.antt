@@ -4,15 +4,11 @@ use Rattle.std.specs.Global.{Vec}
 use Rattle.entry.specs.Entry.{Entry}
 use Rattle.history.specs.declared.event.Event.{Event}
 use Rattle.history.specs.declared.event.Event.TheVariants.{Submit}
-use Rattle.history.specs.History.{submits}
-use Rattle.history.specs.Chains.{is_timeout}
-use Rattle.history.specs.Legal.{Fits}
+use Rattle.history.specs.{submits, is_timeout, Fits}
 use Rattle.steps.specs.declared.view.Role.TheVariants.{Submitter}
-use Rattle.steps.specs.Cells.{cells_in}
-use Rattle.steps.specs.Fairness.{IsFree}
-use Rattle.work.specs.Board.{Facts, IsOf}
-use Rattle.work.specs.Passes.{Pass, seen_of}
-use Rattle.board.specs.Lanes.{nth}
+use Rattle.steps.specs.{cells_in, IsFree}
+use Rattle.work.specs.{Facts, IsOf, Pass, seen_of}
+use Rattle.board.specs.Queues.{nth}
 
 abbrev pub Entries : Type 0
 Entries = List (Entry × Vec ℕ)

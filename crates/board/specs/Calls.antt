@@ -4,19 +4,14 @@ use Rattle.claim.specs.Claim.{Claim, fits, packed}
 use Rattle.claim.specs.declared.tag.Tag.{Tag}
 use Rattle.history.specs.declared.req.Req.{Req}
 use Rattle.history.specs.declared.event.Event.{Event}
-use Rattle.history.specs.History.{Cause, phase, unborn, waits, runs, armed, replied, reaped, submits, IsReplied}
-use Rattle.history.specs.Chains.{Open, is_timer}
-use Rattle.history.specs.Legal.{IsOf as IsOfKind}
+use Rattle.history.specs.{Cause, phase, unborn, waits, runs, armed, replied, reaped, submits, IsReplied, Open, is_timer, IsOf as IsOfKind}
 use Rattle.steps.specs.declared.line.Line.{Line}
 use Rattle.steps.specs.declared.view.Role.TheVariants.{Poller}
 use Rattle.steps.specs.declared.view.Step.{Step}
-use Rattle.steps.specs.Journal.{events_of, freed}
-use Rattle.steps.specs.Cells.{IsCell, request_at, claim_at, word_of}
-use Rattle.steps.specs.Rule.{Shown}
-use Rattle.work.specs.Board.{Facts, IsOf}
+use Rattle.steps.specs.{events_of, freed, IsCell, request_at, claim_at, word_of, Shown}
+use Rattle.work.specs.{Facts, IsOf, Pass, seen_of, own_of}
 use Rattle.board.specs.declared.phase.Phase.{Phase as Standing}
 use Rattle.board.specs.declared.phase.Phase.TheVariants.{Unborn, Held, Ready, Running, Armed, Done, Gone}
-use Rattle.work.specs.Passes.{Pass, seen_of, own_of}
 
 abbrev pub EndsWith : List Event → List Event → Type 0
 EndsWith [] h = Unit {0}

@@ -9,8 +9,7 @@ use Rattle.board.specs.declared.shape.Shape.{Shape}
 use Rattle.board.specs.ShapeLimits.{counts}
 use Rattle.steps.specs.declared.view.Role.{Role}
 use Rattle.steps.specs.declared.view.Role.TheVariants.{Poller, Submitter, Idle}
-use Rattle.work.specs.Board.{Facts, IsOf}
-use Rattle.work.specs.Passes.{Pass}
+use Rattle.work.specs.{Facts, IsOf, Pass}
 
 -- a pass that has seen nothing yet
 abbrev pub IsFresh : Facts → Role → Pass → Type 0

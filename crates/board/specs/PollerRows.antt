@@ -3,26 +3,17 @@ use Rattle.std.specs.Prelude.{◌≡◌, ◌⊎◌, ℕ, suc, ◌==◌, ◌||◌
 use Rattle.atomic_table.specs.declared.shared.Seat.{Seat}
 use Rattle.claim.specs.Facts.{Facts as FactsParts}
 use Rattle.entry.specs.Entry.{Entry, fails, drains, links_soft, links_hard, is_link_timeout}
-use Rattle.gates.specs.EntryRows.{Kept, Stands, HasCell, added, waiting}
-use Rattle.gates.specs.Shows.{Trails, ArePlain, IsPlainAt, HaveGoneOn}
-use Rattle.gates.specs.Slots.{Slot}
+use Rattle.gates.specs.{Kept, Stands, HasCell, added, waiting, Trails, ArePlain, IsPlainAt, HaveGoneOn, Slot}
 use Rattle.history.specs.declared.req.Req.{Req}
 use Rattle.history.specs.declared.event.Event.{Event}
 use Rattle.history.specs.declared.event.Event.TheVariants.{Park, Sever}
-use Rattle.history.specs.History.{phase, submits, waits, replied, by_sever, reply, same, IsReplied}
-use Rattle.history.specs.Chains.{IsPlaced, IsChainDone, IsBefore, IsChainBefore, IsLinkTimeout, Severed, Open, is_timer}
-use Rattle.history.specs.Legal.{IsOf as IsOfKind}
+use Rattle.history.specs.{phase, submits, waits, replied, by_sever, reply, same, IsReplied, IsPlaced, IsChainDone, IsBefore, IsChainBefore, IsLinkTimeout, Severed, Open, is_timer, IsOf as IsOfKind}
 use Rattle.steps.specs.declared.line.Line.{Line}
 use Rattle.steps.specs.declared.parcel.Thing.{Thing}
 use Rattle.steps.specs.declared.view.Step.{Step}
 use Rattle.steps.specs.declared.view.View.{View}
-use Rattle.steps.specs.FactsTold.{TellsFacts}
-use Rattle.steps.specs.Journal.{events_of, freed}
-use Rattle.steps.specs.Cells.{IsCell, cells_in, request_at, claim_at}
-use Rattle.steps.specs.Rule.{Begins, IsStep, Shown}
-use Rattle.work.specs.Board.{Facts, IsOf}
-use Rattle.work.specs.Passes.{Pass, pass_of, seen_of}
-use Rattle.work.specs.Searches.{steps_at}
+use Rattle.steps.specs.{TellsFacts, events_of, freed, IsCell, cells_in, request_at, claim_at, Begins, IsStep, Shown}
+use Rattle.work.specs.{Facts, IsOf, Pass, pass_of, seen_of, steps_at}
 use Rattle.board.specs.Calls.{Goes, Stepped, FoundHeld, IsHeld, IsUnheld, MayStart}
 use Rattle.board.specs.Seats.{IsPollerSeat}
 use Rattle.board.specs.declared.looks.Outcome.{Outcome}

@@ -3,9 +3,7 @@ use Rattle.std.specs.Prelude.{◌≡◌, ℕ, ◌+◌, ◌≤◌, ◌<◌, ◌�
 use Rattle.entry.specs.Entry.{Entry, fails}
 use Rattle.history.specs.declared.req.Req.{Req}
 use Rattle.history.specs.declared.event.Event.{Event}
-use Rattle.history.specs.History.{phase, armed, fired, clock_of}
-use Rattle.history.specs.Chains.{IsPlaced, is_timer, is_timeout, is_link_timeout}
-use Rattle.history.specs.Legal.{ticks_of, count_of, IsOf as IsOfKind}
+use Rattle.history.specs.{phase, armed, fired, clock_of, IsPlaced, is_timer, is_timeout, is_link_timeout, ticks_of, count_of, IsOf as IsOfKind}
 use Rattle.steps.specs.Cells.{IsCell, request_at, total}
 use Rattle.board.specs.declared.alarm.Alarm.{Alarm}
 use Rattle.board.specs.declared.alarm.Timer.{Timer}

@@ -3,11 +3,9 @@ use Rattle.std.specs.Prelude.{◌≡◌, Bool, true, false, List, [], ◌∷◌}
 use Rattle.history.specs.declared.req.Req.{Req}
 use Rattle.history.specs.declared.event.Event.{Event}
 use Rattle.history.specs.declared.event.Event.TheVariants.{Expire, Count, Fire, FireMiss, Settle}
-use Rattle.history.specs.Chains.{IsTarget, is_timeout, previous}
-use Rattle.history.specs.Legal.{IsOf as IsOfKind}
+use Rattle.history.specs.{IsTarget, is_timeout, previous, IsOf as IsOfKind}
 use Rattle.steps.specs.Journal.{freed}
-use Rattle.work.specs.Board.{Facts}
-use Rattle.work.specs.Passes.{Pass, seen_of}
+use Rattle.work.specs.{Facts, Pass, seen_of}
 use Rattle.board.specs.Calls.{Goes, Stepped}
 use Rattle.board.specs.TimerCalls.{HasCounted, HasExpired, HasFewer, HasFired, HasSettled, IsDueLinked, IsEarly, IsTargetOpen, IsUnarmed, IsUncounted}
 use Rattle.board.specs.declared.poller.Polled.{Polled}

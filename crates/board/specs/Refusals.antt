@@ -2,19 +2,16 @@
 use Rattle.std.specs.Prelude.{◌≡◌, ℕ, ◌/◌, ◌≤◌, ◌⊎◌, List, length}
 use Rattle.entry.specs.Entry.{Entry}
 use Rattle.history.specs.declared.req.Req.{Req}
-use Rattle.history.specs.History.{phase, IsReplied}
-use Rattle.history.specs.Legal.{Fits}
-use Rattle.steps.specs.Cells.{cells_in}
-use Rattle.steps.specs.Fairness.{IsFree, IsReaped}
+use Rattle.history.specs.{phase, IsReplied, Fits}
+use Rattle.steps.specs.{cells_in, IsFree, IsReaped}
 use Rattle.board.specs.Batches.{Entries, AreFit}
 use Rattle.board.specs.Calls.{Stepped}
-use Rattle.board.specs.Lanes.{HasLookedAt, RefusesRoom}
+use Rattle.board.specs.Queues.{HasLookedAt, RefusesRoom}
 use Rattle.board.specs.declared.error.SubmitError.{SubmitError}
 use Rattle.board.specs.declared.error.SubmitError.TheVariants.{Full, BufferLength, Spent}
 use Rattle.board.specs.declared.error.ReapError.{ReapError}
 use Rattle.board.specs.declared.error.ReapError.TheVariants.{NotYet, Gone, Foreign}
-use Rattle.work.specs.Board.{Facts}
-use Rattle.work.specs.Passes.{Pass, seen_of}
+use Rattle.work.specs.{Facts, Pass, seen_of}
 
 -- why the entry e with these bytes is not submitted as r, by the pass p that became q
 abbrev pub RefusesEntry : Facts → Entry → List ℕ → Req → Pass → Pass → SubmitError → Type 0

@@ -6,13 +6,9 @@ use Rattle.history.specs.declared.event.Event.TheVariants.{Shut, Cut}
 use Rattle.history.specs.History.{by_cut, replied, phase, submits}
 use Rattle.history.specs.Legal.{Legal}
 use Rattle.steps.specs.declared.line.Line.{Line}
-use Rattle.steps.specs.Journal.{events_of}
-use Rattle.steps.specs.Cells.{setup_of}
-use Rattle.steps.specs.Rule.{Begins, Saw}
-use Rattle.work.specs.Board.{Facts, IsOf}
-use Rattle.work.specs.Passes.{Pass, seen_of}
+use Rattle.steps.specs.{events_of, setup_of, Begins, Saw, IsReaped}
+use Rattle.work.specs.{Facts, IsOf, Pass, seen_of}
 use Rattle.board.specs.declared.completion.Completion.{Completion}
-use Rattle.steps.specs.Fairness.{IsReaped}
 use Rattle.board.specs.Headline.{IsCompletion}
 
 abbrev pub AreOf : Facts → List Pass → Type 0

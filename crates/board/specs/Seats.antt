@@ -9,9 +9,7 @@ use Rattle.steps.specs.declared.parcel.Thing.{Thing}
 use Rattle.steps.specs.declared.view.Role.TheVariants.{Poller, Submitter}
 use Rattle.steps.specs.declared.view.View.{View}
 use Rattle.work.specs.Passes.{Pass, seen_of}
-use Rattle.steps.specs.Fairness.{IsReaped}
-use Rattle.steps.specs.Journal.{events_of, lent, noted}
-use Rattle.steps.specs.Cells.{setup_of, IsCell, ring_of, place_of, cells_in, request_at, facts_at}
+use Rattle.steps.specs.{IsReaped, events_of, lent, noted, setup_of, IsCell, ring_of, place_of, cells_in, request_at, facts_at}
 
 pub record IsPollerSeat (s : Seat (Option Thing) View) : Type 0 where
   pub role : s.me.0.role ≡ Poller (length s.me.0.layout.cells)

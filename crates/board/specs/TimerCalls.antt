@@ -5,16 +5,12 @@ use Rattle.entry.specs.Entry.{Entry, fails}
 use Rattle.history.specs.declared.req.Req.{Req}
 use Rattle.history.specs.declared.event.Event.{Event}
 use Rattle.history.specs.declared.event.Event.TheVariants.{Arm, Expire, Count, Fire, FireMiss, Settle}
-use Rattle.history.specs.History.{phase, unborn, armed, replied, by_expire, by_count, by_settle, fired, clock_of, submits, later_replies, is_replied, IsReplied}
-use Rattle.history.specs.Chains.{IsLinkTimeout, IsPlaced, IsTarget, Severed, is_timeout, is_timer, previous}
-use Rattle.history.specs.Legal.{ticks_of, count_of, IsOf as IsOfKind}
+use Rattle.history.specs.{phase, unborn, armed, replied, by_expire, by_count, by_settle, fired, clock_of, submits, later_replies, is_replied, IsReplied, IsLinkTimeout, IsPlaced, IsTarget, Severed, is_timeout, is_timer, previous, ticks_of, count_of, IsOf as IsOfKind}
 use Rattle.steps.specs.declared.line.Line.{Line}
 use Rattle.steps.specs.declared.parcel.Thing.{Thing}
 use Rattle.steps.specs.declared.view.View.{View}
-use Rattle.steps.specs.Journal.{events_of, freed}
-use Rattle.steps.specs.Rule.{Begins}
-use Rattle.work.specs.Board.{Facts}
-use Rattle.work.specs.Passes.{Pass, pass_of, seen_of}
+use Rattle.steps.specs.{events_of, freed, Begins}
+use Rattle.work.specs.{Facts, Pass, pass_of, seen_of}
 use Rattle.board.specs.Calls.{Goes, Stepped, FoundHeld, IsHeld, IsUnheld}
 use Rattle.board.specs.PollerRows.{IsAt, IsOurs, IsShutOut, Paid, WasHeld}
 use Rattle.board.specs.PollerTimers.{IsKept, IsTimerAs, KnowsAlarm, looks_at}

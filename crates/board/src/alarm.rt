@@ -1,16 +1,12 @@
 //! What the poller finds out of timers, what it keeps of those that it armed, and how it arms one.
 ghost use Rattle.std.specs.Prelude.{◌≡◌, ◌+◌, ◌*◌, ◌<◌, ◌≤◌, true, false, Some, IfOk, IfErr};
 ghost use Rattle.gates.specs.EntryRows.{added, waiting};
-ghost use Rattle.history.specs.Chains.{Open, Severed};
-ghost use Rattle.history.specs.History.{IsReplied, clock_of, phase, submits};
+ghost use Rattle.history.specs.{Open, Severed, IsReplied, clock_of, phase, submits};
 ghost use Rattle.steps.specs.Journal.{events_of};
 ghost use Rattle.work.specs.Passes.{pass_of};
-ghost use Rattle.board.specs.Calls.{Stepped};
+ghost use Rattle.board.specs.{Stepped, IsTimerAs, KnowsAlarm, looks_at, Arms, Expires, FailsAs, IsArmedAt, IsHeldTimer, Keeps, Refuses, TellsDeadline, IsPollerSeat};
 ghost use Rattle.board.specs.declared.poller.Released.TheVariants.{NotHeld};
 ghost use Rattle.board.specs.PollerRows.{IsSubmitted, Decides, IsAt, IsOurs, KnowsRow, Paid, StepsTo, Watched, owed};
-ghost use Rattle.board.specs.PollerTimers.{IsTimerAs, KnowsAlarm, looks_at};
-ghost use Rattle.board.specs.TimerCalls.{Arms, Expires, FailsAs, IsArmedAt, IsHeldTimer, Keeps, Refuses, TellsDeadline};
-ghost use Rattle.board.specs.Seats.{IsPollerSeat};
 
 use crate::board::Board;
 use crate::gating::{Gating, gate};
@@ -41,6 +37,13 @@ pub(crate) enum Alarm {
 pub(crate) struct Timer {
     pub ticks: u32,
     pub alarm: Alarm,
+}
+
+/// A request, and where it lies.
+#[derive(Clone, Copy)]
+pub(crate) struct Place {
+    pub spot: Spot,
+    pub req: Req,
 }
 
 /// Which timer the request is, if any, by the facts and the count in its cell. They are right where it has no reply.
@@ -98,21 +101,21 @@ fn set_alarm(
     seat: &mut TableSeat,
     clock: u32,
     alarm: &mut Alarm,
-    spot: Spot,
-    req: Req,
+    place: Place,
     timer: Timer,
 ) -> Arming
-    requires here { IsSubmitted board.now seat.old spot.cell spot.generation req }
-    requires open { (Severed (events_of seat.old.me.0.seen) req → ⊥) × Open (events_of seat.old.me.0.seen) req }
-    requires timer { IsTimerAs (events_of seat.old.me.0.seen) req (Some timer) }
+    requires here { IsSubmitted board.now seat.old place.spot.cell place.spot.generation place.req }
+    requires open { (Severed (events_of seat.old.me.0.seen) place.req → ⊥) × Open (events_of seat.old.me.0.seen) place.req }
+    requires timer { IsTimerAs (events_of seat.old.me.0.seen) place.req (Some timer) }
     requires clock { (clock ≡ clock_of (events_of seat.old.me.0.seen)) × (clock ≤ 2147483647) }
     ensures seat { IsPollerSeat seat.new }
-    ensures arms { Arms board.now req (pass_of seat.old) (pass_of seat.new) result }
-    ensures keeps { Keeps (events_of seat.new.me.0.seen) req alarm.old alarm.new result }
+    ensures arms { Arms board.now place.req (pass_of seat.old) (pass_of seat.new) result }
+    ensures keeps { Keeps (events_of seat.new.me.0.seen) place.req alarm.old alarm.new result }
     ensures steps { Paid seat.old.me.0 seat.new.me.0 0 1 }
 {
     let deadline = clock + timer.ticks;
     let words = &board.table.shared;
+    let spot = place.spot;
     if timers::arm(words, seat, spot.cell, spot.generation as u32, deadline) {
         *alarm = timer.alarm;
         Arming::Armed(deadline)
@@ -149,25 +152,25 @@ fn arm_known(
     row: &mut Row,
     clock: u32,
     alarm: &mut Alarm,
-    spot: Spot,
-    req: Req,
+    place: Place,
 ) -> Arming
     requires ours { IsOurs board.now seat.old }
-    requires at { IsAt board.now.layout.cells spot.cell spot.generation req }
-    requires knows { KnowsRow board.now.layout.cells seat.old.me.0.seen req.ring row.old }
-    requires has { req.k < added row.old }
+    requires at { IsAt board.now.layout.cells place.spot.cell place.spot.generation place.req }
+    requires knows { KnowsRow board.now.layout.cells seat.old.me.0.seen place.req.ring row.old }
+    requires has { place.req.k < added row.old }
     requires clock { (clock ≡ clock_of (events_of seat.old.me.0.seen)) × (clock ≤ 2147483647) }
     ensures seat { IsPollerSeat seat.new }
-    ensures arms { Arms board.now req (pass_of seat.old) (pass_of seat.new) result }
-    ensures keeps { Keeps (events_of seat.new.me.0.seen) req alarm.old alarm.new result }
-    ensures knows { KnowsRow board.now.layout.cells seat.new.me.0.seen req.ring row.new }
+    ensures arms { Arms board.now place.req (pass_of seat.old) (pass_of seat.new) result }
+    ensures keeps { Keeps (events_of seat.new.me.0.seen) place.req alarm.old alarm.new result }
+    ensures knows { KnowsRow board.now.layout.cells seat.new.me.0.seen place.req.ring row.new }
     ensures steps { Paid seat.old.me.0 seat.new.me.0 0 (3 * waiting row.old + 4) }
 {
+    let Place { spot, req } = place;
     match held_timer(board, seat, spot, req) {
         Err(arming) => arming,
         Ok(timer) => match gate(board, seat, row, spot, req) {
-            Gating::Open => set_alarm(board, seat, clock, alarm, spot, req, timer),
-            Gating::Linked => set_alarm(board, seat, clock, alarm, spot, req, timer),
+            Gating::Open => set_alarm(board, seat, clock, alarm, place, timer),
+            Gating::Linked => set_alarm(board, seat, clock, alarm, place, timer),
             Gating::Severed => Arming::Shut,
             Gating::Shut => Arming::Shut,
             Gating::Lost => Arming::NotHeld,
@@ -182,23 +185,22 @@ fn arm_plain(
     row: &Row,
     clock: u32,
     alarm: &mut Alarm,
-    spot: Spot,
-    req: Req,
+    place: Place,
 ) -> Arming
     requires ours { IsOurs board.now seat.old }
-    requires at { IsAt board.now.layout.cells spot.cell spot.generation req }
-    requires knows { KnowsRow board.now.layout.cells seat.old.me.0.seen req.ring row.now }
-    requires plain { req.k < row.now.plain }
+    requires at { IsAt board.now.layout.cells place.spot.cell place.spot.generation place.req }
+    requires knows { KnowsRow board.now.layout.cells seat.old.me.0.seen place.req.ring row.now }
+    requires plain { place.req.k < row.now.plain }
     requires clock { (clock ≡ clock_of (events_of seat.old.me.0.seen)) × (clock ≤ 2147483647) }
     ensures seat { IsPollerSeat seat.new }
-    ensures arms { Arms board.now req (pass_of seat.old) (pass_of seat.new) result }
-    ensures keeps { Keeps (events_of seat.new.me.0.seen) req alarm.old alarm.new result }
+    ensures arms { Arms board.now place.req (pass_of seat.old) (pass_of seat.new) result }
+    ensures keeps { Keeps (events_of seat.new.me.0.seen) place.req alarm.old alarm.new result }
     ensures steps { Paid seat.old.me.0 seat.new.me.0 0 4 }
 {
     let _ = row;
-    match held_timer(board, seat, spot, req) {
+    match held_timer(board, seat, place.spot, place.req) {
         Err(arming) => arming,
-        Ok(timer) => set_alarm(board, seat, clock, alarm, spot, req, timer),
+        Ok(timer) => set_alarm(board, seat, clock, alarm, place, timer),
     }
 }
 
@@ -210,24 +212,24 @@ pub(crate) fn arm(
     row: &mut Row,
     clock: u32,
     alarm: &mut Alarm,
-    spot: Spot,
-    req: Req,
+    place: Place,
 ) -> Arming
     requires ours { IsOurs board.now seat.old }
-    requires at { IsAt board.now.layout.cells spot.cell spot.generation req }
-    requires knows { KnowsRow board.now.layout.cells seat.old.me.0.seen req.ring row.old }
+    requires at { IsAt board.now.layout.cells place.spot.cell place.spot.generation place.req }
+    requires knows { KnowsRow board.now.layout.cells seat.old.me.0.seen place.req.ring row.old }
     requires clock { (clock ≡ clock_of (events_of seat.old.me.0.seen)) × (clock ≤ 2147483647) }
     ensures seat { IsPollerSeat seat.new }
-    ensures arms { Arms board.now req (pass_of seat.old) (pass_of seat.new) result }
-    ensures keeps { Keeps (events_of seat.new.me.0.seen) req alarm.old alarm.new result }
-    ensures knows { KnowsRow board.now.layout.cells seat.new.me.0.seen req.ring row.new }
-    ensures steps { Paid seat.old.me.0 seat.new.me.0 0 (4 * submits (events_of seat.new.me.0.seen) req.ring + 5) }
+    ensures arms { Arms board.now place.req (pass_of seat.old) (pass_of seat.new) result }
+    ensures keeps { Keeps (events_of seat.new.me.0.seen) place.req alarm.old alarm.new result }
+    ensures knows { KnowsRow board.now.layout.cells seat.new.me.0.seen place.req.ring row.new }
+    ensures steps { Paid seat.old.me.0 seat.new.me.0 0 (4 * submits (events_of seat.new.me.0.seen) place.req.ring + 5) }
 {
+    let Place { spot, req } = place;
     if req.k < row.plain() {
-        return arm_plain(board, seat, row, clock, alarm, spot, req);
+        return arm_plain(board, seat, row, clock, alarm, place);
     }
     if take_up(board, seat, row, spot, req) {
-        arm_known(board, seat, row, clock, alarm, spot, req)
+        arm_known(board, seat, row, clock, alarm, place)
     } else {
         Arming::NotHeld
     }

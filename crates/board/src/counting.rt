@@ -1,17 +1,12 @@
 //! How the poller answers a TIMEOUT that counts completions: it looks which later requests of its ring have replied.
 ghost use Rattle.std.specs.Prelude.{◌≡◌, ◌≢◌, ℕ, ◌+◌, ◌-◌, ◌<◌, ◌≤◌, true, false, Some, length};
 ghost use Rattle.entry.specs.Entry.{Entry};
-ghost use Rattle.history.specs.Chains.{IsPlaced};
-ghost use Rattle.history.specs.History.{armed, later_replies, phase, submits};
-ghost use Rattle.history.specs.Legal.{count_of};
-ghost use Rattle.steps.specs.Cells.{cells_in};
-ghost use Rattle.steps.specs.Journal.{events_of};
+ghost use Rattle.history.specs.{IsPlaced, armed, later_replies, phase, submits, count_of};
+ghost use Rattle.steps.specs.{cells_in, events_of};
 ghost use Rattle.work.specs.Passes.{pass_of};
 ghost use Rattle.board.specs.declared.poller.Counting.TheVariants.{Counted, NotCounted};
 ghost use Rattle.board.specs.PollerRows.{IsAt, IsNumbered, IsOurs, Paid, Spends, StepsTo, Watched};
-ghost use Rattle.board.specs.PollerTimers.{KnowsAlarm};
-ghost use Rattle.board.specs.Seats.{IsPollerSeat};
-ghost use Rattle.board.specs.TimerCalls.{Counts, IsArmedAt, IsCounting, TellsReply};
+ghost use Rattle.board.specs.{KnowsAlarm, IsPollerSeat, Counts, IsArmedAt, IsCounting, TellsReply};
 
 use crate::alarm::{Alarm, deadline_of};
 use crate::board::Board;

@@ -7,14 +7,13 @@ ghost use Rattle.steps.specs.declared.view.View.{View};
 ghost use Rattle.steps.specs.Cells.{total};
 ghost use Rattle.work.specs.Board.{Facts, IsOf};
 ghost use Rattle.board.specs.declared.error.FinishError.TheVariants.{Missing};
-ghost use Rattle.board.specs.Remains.{hearing_all, Closing};
-ghost use Rattle.board.specs.Reports.{AreOf, IsReport};
+ghost use Rattle.board.specs.{hearing_all, Closing, AreOf, IsReport};
 
 use crate::board::Board;
 use crate::completion::{Completion, Report};
 use crate::error::FinishError;
+use crate::last_cells::{LastCells, last_cells_of};
 use crate::poller::Poller;
-use crate::remains::{Remains, remains_of};
 use crate::report::add_rings;
 use crate::submitter::Submitter;
 use atomic_table::Closed;
@@ -36,7 +35,7 @@ pub struct Unfinished {
 /// The room that a report needs.
 #[derive(Drop)]
 struct Room {
-    remains: Remains,
+    last_cells: LastCells,
     lines: Vec<(Completion, bool)>,
 }
 
@@ -54,19 +53,19 @@ impl Model for ReportRoom {
 
     ghost view = { λ r. r.cells };
 
-    ghost invariant = { λ r. ((r.room.remains.claims.items ≡ []) × (r.cells ≤ vec_capacity r.room.remains.claims)) × ((r.room.remains.slots.items ≡ []) × (r.cells ≤ vec_capacity r.room.remains.slots)) × ((r.room.lines.items ≡ []) × (r.cells ≤ vec_capacity r.room.lines)) };
+    ghost invariant = { λ r. ((r.room.last_cells.claims.items ≡ []) × (r.cells ≤ vec_capacity r.room.last_cells.claims)) × ((r.room.last_cells.slots.items ≡ []) × (r.cells ≤ vec_capacity r.room.last_cells.slots)) × ((r.room.lines.items ≡ []) × (r.cells ≤ vec_capacity r.room.lines)) };
 }
 
 impl Room {
     /// Room for so many cells.
     fn new(alloc: Global, cells: usize) -> Result<Room, AllocError>
-        ensures claims { IfOk result (λ r. (r.remains.claims.items ≡ []) × (cells ≤ vec_capacity r.remains.claims)) }
-        ensures slots { IfOk result (λ r. (r.remains.slots.items ≡ []) × (cells ≤ vec_capacity r.remains.slots)) }
+        ensures claims { IfOk result (λ r. (r.last_cells.claims.items ≡ []) × (cells ≤ vec_capacity r.last_cells.claims)) }
+        ensures slots { IfOk result (λ r. (r.last_cells.slots.items ≡ []) × (cells ≤ vec_capacity r.last_cells.slots)) }
         ensures lines { IfOk result (λ r. (r.lines.items ≡ []) × (cells ≤ vec_capacity r.lines)) }
     {
-        let remains = Remains::with_room(alloc, cells)?;
+        let last_cells = LastCells::with_room(alloc, cells)?;
         let lines = Vec::with_capacity(alloc, cells)?;
-        Ok(Room { remains, lines })
+        Ok(Room { last_cells, lines })
     }
 }
 
@@ -172,15 +171,18 @@ impl Board {
         requires poller { IsOf self poller }
         requires submitters { AreOf self submitters.items × (length submitters.items ≡ length self.layout.cells) }
         requires workers { AreOf self workers.items × (length workers.items ≡ self.workers) }
-        requires claims { (room.remains.claims.items ≡ []) × (total self.layout.cells ≤ vec_capacity room.remains.claims) }
-        requires slots { (room.remains.slots.items ≡ []) × (total self.layout.cells ≤ vec_capacity room.remains.slots) }
+        requires claims { (room.last_cells.claims.items ≡ []) × (total self.layout.cells ≤ vec_capacity room.last_cells.claims) }
+        requires slots { (room.last_cells.slots.items ≡ []) × (total self.layout.cells ≤ vec_capacity room.last_cells.slots) }
         requires lines { (room.lines.items ≡ []) × (total self.layout.cells ≤ vec_capacity room.lines) }
         ensures { IsReport self (poller ∷ (submitters.items ++ workers.items)) result }
     {
         let (grid, closed) = self.close(poller, submitters, workers);
-        let Room { remains, mut lines } = room;
-        let mut remains = remains_of(closed, remains, grid.total());
-        add_rings(&grid, &mut remains, &mut lines);
+        let Room {
+            last_cells,
+            mut lines,
+        } = room;
+        let mut last_cells = last_cells_of(closed, last_cells, grid.total());
+        add_rings(&grid, &mut last_cells, &mut lines);
         Report::new(lines)
     }
 

@@ -1,10 +1,8 @@
 //! How the poller finds out whether a request may start, by the row of its ring and by looks.
 ghost use Rattle.std.specs.Prelude.{◌<◌, List};
-ghost use Rattle.gates.specs.EntryRows.{Stands, Waits};
-ghost use Rattle.gates.specs.Slots.{Slot};
+ghost use Rattle.gates.specs.{Stands, Waits, Slot, nth};
 ghost use Rattle.history.specs.History.{waits};
 ghost use Rattle.board.specs.PollerRows.{IsSubmitted, Watches, Passes, IsNextLook, Advances, Gates};
-ghost use Rattle.gates.specs.Shows.{nth};
 
 use crate::board::Board;
 use crate::looks::{Outcome, is_held, look_for_reply};

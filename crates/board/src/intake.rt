@@ -4,9 +4,8 @@ ghost use Rattle.entry.specs.Entry.{Entry};
 ghost use Rattle.gates.specs.EntryRows.{added, waiting, way_in};
 ghost use Rattle.history.specs.History.{submits};
 ghost use Rattle.history.specs.declared.event.Event.{Event};
-ghost use Rattle.steps.specs.Journal.{events_of};
+ghost use Rattle.steps.specs.{events_of, AreFacts, TellsFacts};
 ghost use Rattle.board.specs.PollerRows.{KnowsRow, IsNumbered, IsOurs, Watched, Paid, owed, Notes, is_plain as plain_entry};
-ghost use Rattle.steps.specs.FactsTold.{AreFacts, TellsFacts};
 
 use crate::board::Board;
 use crate::looks::{facts_in, traits_in};

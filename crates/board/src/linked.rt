@@ -2,17 +2,13 @@
 ghost use Rattle.std.specs.Prelude.{◌≡◌, ◌≤◌, ◌<◌, ℕ, List, true, false, Some};
 ghost use Rattle.history.specs.declared.event.Event.{Event};
 ghost use Rattle.history.specs.declared.req.Req.{Req as Request};
-ghost use Rattle.history.specs.Chains.{IsLinkTimeout, IsTarget, previous};
-ghost use Rattle.history.specs.History.{IsReplied, armed, clock_of, fired, phase, submits};
+ghost use Rattle.history.specs.{IsLinkTimeout, IsTarget, previous, IsReplied, armed, clock_of, fired, phase, submits};
 ghost use Rattle.history.specs.Legal.{Legal};
-ghost use Rattle.steps.specs.Cells.{setup_of};
-ghost use Rattle.steps.specs.Journal.{events_of};
+ghost use Rattle.steps.specs.{setup_of, events_of};
 ghost use Rattle.work.specs.Passes.{pass_of};
 ghost use Rattle.board.specs.declared.linked.Struck.TheVariants.{Over};
 ghost use Rattle.board.specs.PollerRows.{IsAt, IsOurs, Paid, Watched};
-ghost use Rattle.board.specs.PollerTimers.{KnowsAlarm};
-ghost use Rattle.board.specs.Seats.{IsPollerSeat};
-ghost use Rattle.board.specs.TimerCalls.{DidStrike, EndsFired, Fires, FiresDue, IsArmedAt, IsDueLinked, IsTargetOpen, IsUnfired, Settles};
+ghost use Rattle.board.specs.{KnowsAlarm, IsPollerSeat, DidStrike, EndsFired, Fires, FiresDue, IsArmedAt, IsDueLinked, IsTargetOpen, IsUnfired, Settles};
 
 use crate::alarm::{Alarm, deadline_of};
 use crate::board::Board;

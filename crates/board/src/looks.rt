@@ -4,11 +4,10 @@ ghost use Rattle.entry.specs.Entry.{Entry};
 ghost use Rattle.board.specs.declared.poller.Released.TheVariants.{NotHeld};
 ghost use Rattle.gates.specs.Slots.{traits_of};
 ghost use Rattle.history.specs.History.{submits, phase, waits};
-ghost use Rattle.steps.specs.Journal.{events_of, freed};
+ghost use Rattle.steps.specs.{events_of, freed, AreFacts};
 ghost use Rattle.work.specs.Passes.{pass_of};
 ghost use Rattle.board.specs.Calls.{Stepped};
 ghost use Rattle.board.specs.PollerRows.{IsNumbered, IsAt, IsOurs, Watched, Paid, ToldFacts, TellsOutcome, looks_for, Decides};
-ghost use Rattle.steps.specs.FactsTold.{AreFacts};
 
 use crate::board::Board;
 use crate::phase::{Phase, has_failed, told};

@@ -4,8 +4,7 @@ ghost use Rattle.claim.specs.declared.tag.Tag.TheVariants.{Done};
 ghost use Rattle.claim.specs.Claim.{fits, packed};
 ghost use Rattle.steps.specs.declared.line.Line.{Line};
 ghost use Rattle.history.specs.History.{Cause};
-ghost use Rattle.steps.specs.Cells.{request_at, word_of, cause_bits};
-ghost use Rattle.steps.specs.Rule.{Shown};
+ghost use Rattle.steps.specs.{request_at, word_of, cause_bits, Shown};
 ghost use Rattle.board.specs.Calls.{Stands, IsWord, IsPresent};
 
 use claim::{ClaimWord, Tag, unpack};

@@ -3,20 +3,13 @@ ghost use Rattle.std.specs.Prelude.{◌≡◌, ◌+◌, ◌-◌, ◌*◌, List, 
 ghost use Rattle.history.specs.declared.event.Event.TheVariants.{Tick};
 ghost use Rattle.history.specs.declared.req.Req.{Req as Request};
 ghost use Rattle.history.specs.History.{clock_of, submits};
-ghost use Rattle.steps.specs.Journal.{freed};
-ghost use Rattle.steps.specs.Cells.{cells_in, claim_at, total};
-ghost use Rattle.steps.specs.Rule.{Looks, Shown, IsStep};
+ghost use Rattle.steps.specs.{freed, cells_in, claim_at, total, Looks, Shown, IsStep};
 ghost use Rattle.steps.specs.declared.view.Role.{Role};
-ghost use Rattle.work.specs.Board.{IsOf};
-ghost use Rattle.work.specs.Passes.{pass_of, seen_of, CanReach, Took};
-ghost use Rattle.board.specs.Calls.{Goes};
-ghost use Rattle.board.specs.PollerTimers.{IsPast};
-ghost use Rattle.board.specs.TimerCalls.{Arms, Counts, Expires, Fires, Settles};
+ghost use Rattle.work.specs.{IsOf, pass_of, seen_of, CanReach, Took};
+ghost use Rattle.board.specs.{Goes, IsPast, Arms, Counts, Expires, Fires, Settles, Decides, IsAt, KnowsRows, Paid, Spends, IsPollerSeat};
 ghost use Rattle.board.specs.Polls.{Polls};
-ghost use Rattle.board.specs.PollerRows.{Decides, IsAt, KnowsRows, Paid, Spends};
-ghost use Rattle.board.specs.Seats.{IsPollerSeat};
 
-use crate::alarm::{self, Alarm};
+use crate::alarm::{self, Alarm, Place};
 use crate::board::Board;
 use crate::error::ClockEnd;
 use crate::polling::{self, Polling};
@@ -42,9 +35,7 @@ pub struct Poller {
 impl Model for Poller {
     ghost use Rattle.work.specs.Passes.{Pass, pass_of};
     ghost use Rattle.steps.specs.Journal.{events_of};
-    ghost use Rattle.board.specs.PollerRows.{KnowsRows};
-    ghost use Rattle.board.specs.PollerTimers.{KnowsTimers};
-    ghost use Rattle.board.specs.Seats.{IsPollerSeat};
+    ghost use Rattle.board.specs.{KnowsRows, KnowsTimers, IsPollerSeat};
 
     ghost Value = { Pass };
 
@@ -223,7 +214,8 @@ impl Poller {
     {
         let row = &mut self.rows[usize::from(req.ring)];
         let alarm = &mut self.alarms[spot.cell];
-        alarm::arm(board, &mut self.seat, row, self.clock, alarm, spot, req)
+        let place = Place { spot, req };
+        alarm::arm(board, &mut self.seat, row, self.clock, alarm, place)
     }
 
     /// Lets the timer in this cell run out.

@@ -1,14 +1,10 @@
 //! What the poller does with a timer: it looks whether that is armed, and by what it keeps of it ends it, or finds why it isn't to end.
 ghost use Rattle.std.specs.Prelude.{◌≡◌, ◌+◌, ◌<◌, ◌≤◌, Bool, true, Some};
 ghost use Rattle.history.specs.History.{clock_of};
-ghost use Rattle.steps.specs.Cells.{cells_in};
-ghost use Rattle.steps.specs.Journal.{events_of};
+ghost use Rattle.steps.specs.{cells_in, events_of};
 ghost use Rattle.work.specs.Passes.{pass_of};
-ghost use Rattle.board.specs.PollerRows.{IsAt, IsOurs, Paid};
-ghost use Rattle.board.specs.PollerTimers.{KnowsAlarm};
+ghost use Rattle.board.specs.{IsAt, IsOurs, Paid, KnowsAlarm, IsPollerSeat, FailsAs, IsArmedAt, IsCounting, IsDueLinked, IsUnfired};
 ghost use Rattle.board.specs.Polls.{Polls};
-ghost use Rattle.board.specs.Seats.{IsPollerSeat};
-ghost use Rattle.board.specs.TimerCalls.{FailsAs, IsArmedAt, IsCounting, IsDueLinked, IsUnfired};
 
 use crate::alarm::{Alarm, deadline_of, run_out};
 use crate::board::Board;

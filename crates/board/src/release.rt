@@ -1,17 +1,13 @@
 //! What the poller does for a request that waits.
 ghost use Rattle.std.specs.Prelude.{◌≡◌, ◌≢◌, ◌⊎◌, ◌+◌, ◌*◌, ◌≤◌, false, true, length, ◌<◌, IfSome, IfNone};
 ghost use Rattle.history.specs.declared.req.Req.{Req};
-ghost use Rattle.history.specs.History.{same, submits, phase, IsReplied};
+ghost use Rattle.history.specs.{same, submits, phase, IsReplied, IsLinkTimeout, Open, Severed as IsSevered, is_timeout, IsOf as IsOfKind};
 ghost use Rattle.steps.specs.Journal.{freed, events_of};
-ghost use Rattle.work.specs.Board.{IsOf};
-ghost use Rattle.work.specs.Passes.{seen_of, pass_of};
+ghost use Rattle.work.specs.{IsOf, seen_of, pass_of};
 ghost use Rattle.board.specs.declared.poller.Released.TheVariants.{Severed, Freed, Shut, Timer, NotHeld};
-ghost use Rattle.board.specs.Calls.{Goes, FoundHeld, IsUnheld, MayStart, Stepped};
+ghost use Rattle.board.specs.{Goes, FoundHeld, IsUnheld, MayStart, Stepped, IsPollerSeat};
 ghost use Rattle.board.specs.PollerRows.{IsSubmitted, IsCanceled, IsShutOut, MayArm, Paid, severed_by, KnowsRow, Watches, IsAt, IsOurs, Watched, owed, Decides};
 ghost use Rattle.gates.specs.EntryRows.{added, waiting};
-ghost use Rattle.history.specs.Chains.{IsLinkTimeout, Open, Severed as IsSevered, is_timeout};
-ghost use Rattle.history.specs.Legal.{IsOf as IsOfKind};
-ghost use Rattle.board.specs.Seats.{IsPollerSeat};
 
 use crate::board::Board;
 use crate::gating::{Gating, gate};

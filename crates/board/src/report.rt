@@ -6,14 +6,13 @@ ghost use Rattle.history.specs.Legal.{Setup};
 ghost use Rattle.steps.specs.declared.line.Line.{Line};
 ghost use Rattle.steps.specs.declared.parcel.Parcel.{Parcel};
 ghost use Rattle.steps.specs.declared.parcel.Thing.TheVariants.{Full};
-ghost use Rattle.steps.specs.Cells.{Ages};
-ghost use Rattle.steps.specs.Rule.{Shown};
+ghost use Rattle.steps.specs.{Ages, Shown};
 ghost use Rattle.board.specs.Calls.{IsWord, IsPresent};
-ghost use Rattle.board.specs.Remains.{Reports, IsReplyOf};
+ghost use Rattle.board.specs.LastCells.{Reports, IsReplyOf};
 
 use crate::completion::Completion;
+use crate::last_cells::LastCells;
 use crate::phase::{Phase, told};
-use crate::remains::Remains;
 use claim::unpack;
 use entry::Cqe;
 use history::Req;
@@ -85,47 +84,51 @@ fn age_of(word: u64) -> u64
 }
 
 /// Adds the request's line, where it was submitted and not reaped.
-fn add_line(grid: &Grid, remains: &mut Remains, lines: &mut Vec<(Completion, bool)>, req: Req)
+fn add_line(grid: &Grid, last_cells: &mut LastCells, lines: &mut Vec<(Completion, bool)>, req: Req)
     requires there { req.ring < length grid.now }
-    requires so_far { (s : Setup) × (j : List Line) × Reports s grid.now j remains.old.claims.items remains.old.slots.items lines.old.items (vec_capacity lines.old) req }
-    ensures { (s : Setup) (j : List Line) → Reports s grid.now j remains.old.claims.items remains.old.slots.items lines.old.items (vec_capacity lines.old) req → Reports s grid.now j remains.new.claims.items remains.new.slots.items lines.new.items (vec_capacity lines.new) (record { ring = req.ring; k = req.k + 1 }) }
+    requires so_far { (s : Setup) × (j : List Line) × Reports s grid.now j last_cells.old.claims.items last_cells.old.slots.items lines.old.items (vec_capacity lines.old) req }
+    ensures { (s : Setup) (j : List Line) → Reports s grid.now j last_cells.old.claims.items last_cells.old.slots.items lines.old.items (vec_capacity lines.old) req → Reports s grid.now j last_cells.new.claims.items last_cells.new.slots.items lines.new.items (vec_capacity lines.new) (record { ring = req.ring; k = req.k + 1 }) }
 {
     let Some(spot) = grid.locate(req) else {
         unreachable!()
     };
-    let phase = told(remains.claims[spot.cell], spot.generation);
+    let phase = told(last_cells.claims[spot.cell], spot.generation);
     if !is_present(phase) {
         return;
     }
-    let parcel = take_parcel(&mut remains.slots, spot.cell);
+    let parcel = take_parcel(&mut last_cells.slots, spot.cell);
     let Ok(()) = lines.push(line_of(req, phase, parcel)) else {
         unreachable!()
     };
 }
 
 /// Adds the lines of the ring. Those that were not reaped are of the generation of its first cell, or a neighbour.
-fn add_ring(grid: &Grid, remains: &mut Remains, lines: &mut Vec<(Completion, bool)>, ring: u16)
+fn add_ring(grid: &Grid, last_cells: &mut LastCells, lines: &mut Vec<(Completion, bool)>, ring: u16)
     requires there { ring < length grid.now }
-    requires so_far { (s : Setup) × (j : List Line) × Reports s grid.now j remains.old.claims.items remains.old.slots.items lines.old.items (vec_capacity lines.old) (record { ring = ring; k = 0 }) }
-    ensures { (s : Setup) (j : List Line) → Reports s grid.now j remains.old.claims.items remains.old.slots.items lines.old.items (vec_capacity lines.old) (record { ring = ring; k = 0 }) → Reports s grid.now j remains.new.claims.items remains.new.slots.items lines.new.items (vec_capacity lines.new) (record { ring = ring + 1; k = 0 }) }
+    requires so_far { (s : Setup) × (j : List Line) × Reports s grid.now j last_cells.old.claims.items last_cells.old.slots.items lines.old.items (vec_capacity lines.old) (record { ring = ring; k = 0 }) }
+    ensures { (s : Setup) (j : List Line) → Reports s grid.now j last_cells.old.claims.items last_cells.old.slots.items lines.old.items (vec_capacity lines.old) (record { ring = ring; k = 0 }) → Reports s grid.now j last_cells.new.claims.items last_cells.new.slots.items lines.new.items (vec_capacity lines.new) (record { ring = ring + 1; k = 0 }) }
 {
     let Some(spot) = grid.locate(Req { ring, k: 0 }) else {
         unreachable!()
     };
-    let age = age_of(remains.claims[spot.cell]);
+    let age = age_of(last_cells.claims[spot.cell]);
     let cells = grid.cells_in(usize::from(ring));
     for k in age.saturating_sub(2) * cells..(age + 1) * cells {
-        add_line(grid, remains, lines, Req { ring, k });
+        add_line(grid, last_cells, lines, Req { ring, k });
     }
 }
 
 /// Adds the lines of all rings.
-pub(crate) fn add_rings(grid: &Grid, remains: &mut Remains, lines: &mut Vec<(Completion, bool)>)
+pub(crate) fn add_rings(
+    grid: &Grid,
+    last_cells: &mut LastCells,
+    lines: &mut Vec<(Completion, bool)>,
+)
     requires few { length grid.now ≤ 16 }
-    requires so_far { (s : Setup) × (j : List Line) × Reports s grid.now j remains.old.claims.items remains.old.slots.items lines.old.items (vec_capacity lines.old) (record { ring = 0; k = 0 }) }
-    ensures { (s : Setup) (j : List Line) → Reports s grid.now j remains.old.claims.items remains.old.slots.items lines.old.items (vec_capacity lines.old) (record { ring = 0; k = 0 }) → Reports s grid.now j remains.new.claims.items remains.new.slots.items lines.new.items (vec_capacity lines.new) (record { ring = length grid.now; k = 0 }) }
+    requires so_far { (s : Setup) × (j : List Line) × Reports s grid.now j last_cells.old.claims.items last_cells.old.slots.items lines.old.items (vec_capacity lines.old) (record { ring = 0; k = 0 }) }
+    ensures { (s : Setup) (j : List Line) → Reports s grid.now j last_cells.old.claims.items last_cells.old.slots.items lines.old.items (vec_capacity lines.old) (record { ring = 0; k = 0 }) → Reports s grid.now j last_cells.new.claims.items last_cells.new.slots.items lines.new.items (vec_capacity lines.new) (record { ring = length grid.now; k = 0 }) }
 {
     for ring in 0..grid.rings() as u16 {
-        add_ring(grid, remains, lines, ring);
+        add_ring(grid, last_cells, lines, ring);
     }
 }

@@ -1,18 +1,11 @@
 //! The submission of an entry, and of a batch.
 ghost use Rattle.std.specs.Prelude.{◌≡◌, ℕ, ◌+◌, ◌/◌, ◌<◌, ◌≤◌, true, [], ◌∷◌, Some, length, IfOk, IfErr};
 ghost use Rattle.history.specs.declared.event.Event.TheVariants.{Submit};
-ghost use Rattle.history.specs.History.{submits};
-ghost use Rattle.history.specs.Chains.{before_in};
-ghost use Rattle.history.specs.Legal.{Fits};
-ghost use Rattle.steps.specs.Cells.{cells_in};
-ghost use Rattle.steps.specs.Fairness.{IsFree};
+ghost use Rattle.history.specs.{submits, before_in, Fits};
+ghost use Rattle.steps.specs.{cells_in, IsFree};
 ghost use Rattle.steps.specs.declared.view.Role.{Role};
-ghost use Rattle.work.specs.Board.{IsOf};
-ghost use Rattle.work.specs.Passes.{seen_of, Took};
-ghost use Rattle.board.specs.Calls.{Goes, next_of};
-ghost use Rattle.board.specs.Batches.{IsReady, steps_for, steps_in, submits_of};
-ghost use Rattle.board.specs.Lanes.{nth, LinkedAreReaped};
-ghost use Rattle.board.specs.Refusals.{RefusesBatch, RefusesEntry};
+ghost use Rattle.work.specs.{IsOf, seen_of, Took};
+ghost use Rattle.board.specs.{Goes, next_of, IsReady, steps_for, steps_in, submits_of, nth, LinkedAreReaped, RefusesBatch, RefusesEntry};
 
 use crate::batch::{are_fit, fits_length};
 use crate::board::Board;

@@ -3,23 +3,18 @@ ghost use Rattle.std.specs.Prelude.{◌≡◌, ℕ, ◌+◌, ◌*◌, ◌/◌, �
 ghost use Rattle.claim.specs.declared.tag.Tag.TheVariants.{Done};
 ghost use Rattle.history.specs.declared.req.Req.{Req};
 ghost use Rattle.history.specs.declared.event.Event.TheVariants.{Submit, Reap};
-ghost use Rattle.history.specs.History.{Cause, data_of, submits};
-ghost use Rattle.history.specs.Legal.{Fits as FitsEntry};
+ghost use Rattle.history.specs.{Cause, data_of, submits, Fits as FitsEntry};
 ghost use Rattle.steps.specs.declared.line.Line.TheVariants.{Did, Lent};
 ghost use Rattle.steps.specs.declared.parcel.Parcel.{Parcel};
 ghost use Rattle.steps.specs.declared.view.Role.{Role};
 ghost use Rattle.steps.specs.declared.view.Role.TheVariants.{Lending};
-ghost use Rattle.steps.specs.Fairness.{IsFree};
-ghost use Rattle.steps.specs.Cells.{claim_at, ring_of, place_of, request_at, cells_in, total, facts_at, word_of, cause_bits, IsParcel, words_of};
-ghost use Rattle.steps.specs.Notes.{notes_of, words_in};
-ghost use Rattle.steps.specs.Rule.{Looks, Shown, IsStep, IsTwoSteps, AreSteps, ExtendsTwice, ExtendsNoted, IsDone};
+ghost use Rattle.steps.specs.{IsFree, claim_at, ring_of, place_of, request_at, cells_in, total, facts_at, word_of, cause_bits, IsParcel, words_of, notes_of, words_in, Looks, Shown, IsStep, IsTwoSteps, AreSteps, ExtendsTwice, ExtendsNoted, IsDone};
 ghost use Rattle.work.specs.Passes.{pass_of, seen_of, CanReach};
-ghost use Rattle.board.specs.Calls.{next_of};
-ghost use Rattle.board.specs.Lanes.{AreFree, LinkedAreReaped, RefusesRoom, Watched};
-ghost use Rattle.board.specs.Seats.{IsSubmitterSeat, IsNextCell};
+ghost use Rattle.board.specs.{next_of, IsSubmitterSeat, IsNextCell};
+ghost use Rattle.board.specs.Queues.{AreFree, LinkedAreReaped, RefusesRoom, Watched};
 
 use crate::error::SubmitError;
-use crate::lane::{self, Lane};
+use crate::queue::{self, Queue};
 use claim::with_outcome;
 use history::Req;
 use std::marker::Model;
@@ -30,18 +25,18 @@ use work::{Grid, Messenger, Pass, Spot};
 #[derive(Drop)]
 pub struct Submitter {
     seat: TableSeat,
-    lane: Lane,
+    queue: Queue,
 }
 
 impl Model for Submitter {
     ghost use Rattle.work.specs.Passes.{Pass, pass_of};
-    ghost use Rattle.board.specs.Lanes.{IsLane};
+    ghost use Rattle.board.specs.Queues.{IsQueue};
 
     ghost Value = { Pass };
 
     ghost view = { λ s. pass_of s.seat };
 
-    ghost invariant = { λ s. IsLane s.seat s.lane };
+    ghost invariant = { λ s. IsQueue s.seat s.queue };
 }
 
 impl Submitter {
@@ -52,7 +47,7 @@ impl Submitter {
         requires fresh { seat.me.0.seen ≡ [] }
         ensures { result ≡ pass_of seat }
     {
-        let lane = Lane {
+        let queue = Queue {
             ring,
             next: 0,
             ages,
@@ -60,7 +55,7 @@ impl Submitter {
             done: 0,
             hosted: false,
         };
-        Submitter { seat, lane }
+        Submitter { seat, queue }
     }
 
     /// Its ring.
@@ -68,7 +63,7 @@ impl Submitter {
         ensures role { self.now.view.role ≡ Role.Submitter result }
         ensures there { result < length self.now.view.layout.cells }
     {
-        self.lane.ring
+        self.queue.ring
     }
 
     /// The request that it submits next.
@@ -79,8 +74,8 @@ impl Submitter {
         ensures few { result.k ≤ 16777215 * cells_in self.now.view.layout.cells result.ring }
     {
         Req {
-            ring: self.lane.ring,
-            k: self.lane.next,
+            ring: self.queue.ring,
+            k: self.queue.next,
         }
     }
 
@@ -115,7 +110,7 @@ impl Submitter {
         ensures fresh { IfOk result (λ _. (ring : ℕ) → self.old.view.role ≡ Role.Submitter ring → (i : ℕ) → i < count → (submits (seen_of self.old) ring + i) / cells_in grid.now ring < 16777215) }
         ensures refused { IfErr result (λ e. (ring : ℕ) → self.old.view.role ≡ Role.Submitter ring → RefusesRoom grid.now ring (submits (seen_of self.old) ring) count self.old self.new e) }
     {
-        lane::room(words, &mut self.seat, &mut self.lane, grid, count)
+        queue::room(words, &mut self.seat, &mut self.queue, grid, count)
     }
 
     /// Submits its next request, whose cell is free.
@@ -131,16 +126,16 @@ impl Submitter {
         ensures submits { let r : Req = request_at self.old.view.layout.cells spot.cell spot.generation in (facts : ℕ) × ExtendsNoted self.old.view r (facts_at spot.cell, facts) (notes_of spot.cell parcel.sqe) (Did (Submit r parcel.sqe parcel.buffer.items parcel.last)) (Role.Submitter r.ring) self.new.view }
         ensures steps { AreSteps (facts_at spot.cell ∷ words_in (notes_of spot.cell parcel.sqe)) (claim_at spot.cell) self.old.view self.new.view }
     {
-        let hosted = lane::hosts(&parcel.sqe, parcel.last);
+        let hosted = queue::hosts(&parcel.sqe, parcel.last);
         let facts = submitter::submit(
             words,
             &mut self.seat,
             spot.cell,
             spot.generation as u32,
             parcel,
-            self.lane.hosted,
+            self.queue.hosted,
         );
-        self.lane.go_on(spot.number, facts, hosted);
+        self.queue.go_on(spot.number, facts, hosted);
     }
 
     /// Takes the user_data and the buffer, with the data, of the request whose claim word was seen to be `done`, and ends the request.
@@ -165,11 +160,11 @@ impl Submitter {
         ensures steps { IsTwoSteps (facts_at spot.cell) (claim_at spot.cell) self.old.view self.new.view }
         ensures parcel { (p : Parcel) × IsParcel self.new.view.seen (request_at self.old.view.layout.cells spot.cell spot.generation) (data_of (seen_of self.old) (request_at self.old.view.layout.cells spot.cell spot.generation)) p × (result.0 ≡ p.sqe.user_data) × (result.1 ≡ p.buffer) }
     {
-        let outcome = with_outcome(self.lane.facts[spot.number], failed);
+        let outcome = with_outcome(self.queue.facts[spot.number], failed);
         let generation = spot.generation as u32;
         let returned = submitter::reap(words, &mut self.seat, spot.cell, generation, done, outcome);
-        self.lane.facts[spot.number] = outcome;
-        self.lane.ages[spot.number] += 1;
+        self.queue.facts[spot.number] = outcome;
+        self.queue.ages[spot.number] += 1;
         returned
     }
 }

@@ -2,23 +2,15 @@
 ghost use Rattle.std.specs.Prelude.{◌≡◌, ◌⊎◌, ◌+◌, ◌-◌, ◌*◌, ◌≤◌, ℕ, true, false, [], ◌∷◌, length, IfOk, IfErr};
 ghost use Rattle.history.specs.declared.event.Event.TheVariants.{Tick};
 ghost use Rattle.history.specs.declared.req.Req.{Req as Request};
-ghost use Rattle.history.specs.Chains.{IsLinkTimeout, IsTarget, is_timeout, previous};
-ghost use Rattle.history.specs.History.{submits};
-ghost use Rattle.history.specs.Legal.{IsOf as IsOfKind};
-ghost use Rattle.steps.specs.Cells.{cells_in};
-ghost use Rattle.steps.specs.Journal.{freed};
-ghost use Rattle.work.specs.Board.{IsOf};
-ghost use Rattle.work.specs.Passes.{seen_of, Took};
+ghost use Rattle.history.specs.{IsLinkTimeout, IsTarget, is_timeout, previous, submits, IsOf as IsOfKind};
+ghost use Rattle.steps.specs.{cells_in, freed};
+ghost use Rattle.work.specs.{IsOf, seen_of, Took};
 ghost use Rattle.board.specs.declared.poller.Arming.TheVariants.{Armed, NotHeld, NotTimer, Shut};
 ghost use Rattle.board.specs.declared.poller.Counting.TheVariants.{Counted, Fewer, NotCounted};
 ghost use Rattle.board.specs.declared.poller.Expiry.TheVariants.{Early, Expired, NotArmed};
 ghost use Rattle.board.specs.declared.poller.Firing.TheVariants.{Missed, TargetDone};
 ghost use Rattle.board.specs.declared.poller.Settling.TheVariants.{Settled, TargetOpen};
-ghost use Rattle.board.specs.Calls.{FoundHeld, Goes, IsUnheld, Stepped};
-ghost use Rattle.board.specs.PollerRows.{Paid, Spends};
-ghost use Rattle.board.specs.PollerTimers.{IsPast};
-ghost use Rattle.board.specs.Polls.{HasRung, polled_by};
-ghost use Rattle.board.specs.TimerCalls.{HasCounted, HasExpired, HasFewer, HasFired, HasSettled, IsArmed, IsArmedFor, IsDueLinked, IsEarly, IsNoneToExpire, IsNoneToSettle, IsNoTimer, IsShutTimer, IsTargetDone, IsTargetOpen, IsUnarmed, IsUncounted, WasClear, armed_by, counted_by, expired_by, fired_by, settled_by};
+ghost use Rattle.board.specs.{FoundHeld, Goes, IsUnheld, Stepped, Paid, Spends, IsPast, HasRung, polled_by, HasCounted, HasExpired, HasFewer, HasFired, HasSettled, IsArmed, IsArmedFor, IsDueLinked, IsEarly, IsNoneToExpire, IsNoneToSettle, IsNoTimer, IsShutTimer, IsTargetDone, IsTargetOpen, IsUnarmed, IsUncounted, WasClear, armed_by, counted_by, expired_by, fired_by, settled_by};
 
 use crate::board::Board;
 use crate::error::ClockEnd;

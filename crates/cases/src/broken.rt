@@ -1,10 +1,10 @@
 //! Commands over streams that move a few bytes at a call, or break.
 ghost use Rattle.std.specs.Prelude.{◌≤◌, IfOk};
 
-use crate::runs::{Machine, folded, unfolded};
+use crate::runs::{HISTORY, Machine, folded, list, unfolded};
 use crate::told::{Slip, Told};
 use crate::words::Words;
-use commands::{Job, perform};
+use commands::{Console, perform};
 use std::alloc::{AllocError, Global};
 use std::io;
 use std::io::{ErrorKind, Read, Write};
@@ -140,19 +140,23 @@ pub fn told<R: Machine>(rt: &R, kind: &str, text: &str, how: &str) -> Told {
         _ => (WHOLE, WHOLE, manner),
     };
     let (job, script, table) = if kind == "finds" {
-        (Job::History, SCRIPT, text)
+        (HISTORY, SCRIPT, text)
     } else {
-        (Job::Outcomes { stats: false }, text, "")
+        (list(false), text, "")
     };
     let mut script = Source::of(alloc, script, reads)?;
     let mut table = Source::of(alloc, table, finds)?;
-    let mut out = Sink {
+    let out = Sink {
         manner: writes,
         calls: 0,
         taken: Vec::new(alloc),
     };
-    let mut err = Vec::new(alloc);
-    let status = perform(rt, alloc, &job, &mut script, &mut table, &mut out, &mut err);
+    let err = Vec::new(alloc);
+    let mut console = Console { out, err };
+    let mut tables = Vec::new(alloc);
+    tables.push(("table", &mut table))?;
+    let status = perform(rt, alloc, &job, &mut script, tables, &mut console);
+    let Console { mut out, mut err } = console;
     let calls = match kind {
         "writes" => out.calls,
         "reads" => script.calls,

@@ -325,6 +325,27 @@ fn serve<'a>(board: &'a Board, cast: &mut Cast<'a>, words: &mut Words<'_>) -> To
     Ok(format!(in words.alloc; "{count} replied")?)
 }
 
+/// The call of a worker: `begin`, `park`, `run` or `serve`.
+fn of_worker<'a>(board: &'a Board, cast: &mut Cast<'a>, kind: &str, words: &mut Words<'_>) -> Told
+    requires { IsCast board.now cast.old }
+    ensures { IsCast board.now cast.new }
+{
+    if kind == "serve" {
+        return serve(board, cast, words);
+    }
+    let number = words.number();
+    if kind == "begin" {
+        let req = words.req();
+        words.end()?;
+        return said(words.alloc, begin(board, cast, number, req));
+    }
+    words.end()?;
+    match kind {
+        "park" => said(words.alloc, park(board, cast, number)),
+        _ => run(words.alloc, board, cast, number),
+    }
+}
+
 /// Makes the call of a line.
 pub fn told<'a>(board: &'a Board, cast: &mut Cast<'a>, words: &mut Words<'_>) -> Told
     requires { IsCast board.now cast.old }
@@ -341,22 +362,7 @@ pub fn told<'a>(board: &'a Board, cast: &mut Cast<'a>, words: &mut Words<'_>) ->
         "tick" | "release" | "arm" | "expire" | "count" | "fire" | "settle" => {
             of_poller(board, &mut cast.poller, kind, words)
         }
-        "begin" => {
-            let (number, req) = (words.number(), words.req());
-            words.end()?;
-            said(words.alloc, begin(board, cast, number, req))
-        }
-        "park" => {
-            let number = words.number();
-            words.end()?;
-            said(words.alloc, park(board, cast, number))
-        }
-        "run" => {
-            let number = words.number();
-            words.end()?;
-            run(words.alloc, board, cast, number)
-        }
-        "serve" => serve(board, cast, words),
+        "begin" | "park" | "run" | "serve" => of_worker(board, cast, kind, words),
         "look" => {
             let (name, req) = (words.name(), words.req());
             words.end()?;

@@ -1,9 +1,9 @@
 //! Commands over texts and over files.
 use crate::told::{Slip, Told, said, yes};
 use crate::words::Words;
-use commands::{Invocation, Job, Problem, perform, serve};
+use commands::{Console, Invocation, Job, Look, Problem, invocation_of, perform, serve};
 use explore::ExploreError;
-use queries::{invocation_of, plain_of};
+use limits::STATES;
 use script_run::RunFault;
 use script_text::{Fault, ScriptFault};
 use std::alloc::{AllocError, Global};
@@ -54,13 +54,31 @@ pub fn folded(alloc: Global, bytes: &mut [u8]) -> Result<String, AllocError> {
     String::from_utf8_lossy(alloc, bytes)
 }
 
+/// A history is looked for.
+pub const HISTORY: Job = Job::History {
+    look: Look::Lines,
+    limit: STATES,
+    progress: false,
+};
+
+/// All outcomes are listed.
+pub fn list(stats: bool) -> Job {
+    Job::Outcomes {
+        stats,
+        explain: false,
+        limit: STATES,
+        progress: false,
+        json: false,
+    }
+}
+
 /// The job of a kind of case. A run has two workers, or one, or eight, or the most that there may be. It tries each waiting line
 /// sixty thousand times, or once, or thirty thousand times, or without end to speak of.
 fn job_of(kind: &str) -> Result<Job, Slip> {
     let (workers, turns) = match kind {
-        "outcomes" => return Ok(Job::Outcomes { stats: false }),
-        "stats" => return Ok(Job::Outcomes { stats: true }),
-        "history" => return Ok(Job::History),
+        "outcomes" => return Ok(list(false)),
+        "stats" => return Ok(list(true)),
+        "history" => return Ok(HISTORY),
         "stuck" => (2, 60_000),
         "once" => (2, 1),
         "drawn" => (2, 30_000),
@@ -70,7 +88,18 @@ fn job_of(kind: &str) -> Result<Job, Slip> {
         "run-64" => (64, TURNS),
         _ => return Err(Slip::BadLine),
     };
-    Ok(Job::Run { workers, turns })
+    Ok(Job::Run {
+        workers,
+        turns,
+        times: None,
+        json: false,
+    })
+}
+
+/// A console that keeps what is written.
+fn kept(alloc: Global) -> Console<Vec<u8>, Vec<u8>> {
+    let (out, err) = (Vec::new(alloc), Vec::new(alloc));
+    Console { out, err }
 }
 
 /// The status of a job, and what it writes on standard output and then on standard error.
@@ -79,21 +108,23 @@ type Answer = Result<(u8, String), Slip>;
 /// What a job of this kind answers.
 pub fn answered<R: Machine>(rt: &R, kind: &str, script: &str, table: &str) -> Answer {
     let (alloc, job) = (rt.alloc(), job_of(kind)?);
-    let (mut out, mut err) = (Vec::new(alloc), Vec::new(alloc));
+    let mut console = kept(alloc);
     let (script, table) = (unfolded(alloc, script)?, unfolded(alloc, table)?);
-    let (mut script, mut table) = (script.as_slice(), table.as_slice());
-    let status = perform(rt, alloc, &job, &mut script, &mut table, &mut out, &mut err);
-    out.append(&mut err)?;
-    Ok((status, folded(alloc, &mut out)?))
+    let (mut script, mut tables) = (script.as_slice(), Vec::new(alloc));
+    tables.push(("table", table.as_slice()))?;
+    let status = perform(rt, alloc, &job, &mut script, tables, &mut console);
+    console.out.append(&mut console.err)?;
+    Ok((status, folded(alloc, &mut console.out)?))
 }
 
 /// The same of a job over files.
-fn served<R: Machine>(rt: &R, kind: &str, file: &str, table: Option<&str>) -> Answer {
+fn served<R: Machine>(rt: &R, kind: &str, file: &str, names: &[&str]) -> Answer {
     let (alloc, job) = (rt.alloc(), job_of(kind)?);
-    let (mut out, mut err) = (Vec::new(alloc), Vec::new(alloc));
-    let status = serve(rt, rt, &Invocation { job, file, table }, &mut out, &mut err);
-    out.append(&mut err)?;
-    Ok((status, folded(alloc, &mut out)?))
+    let mut console = kept(alloc);
+    let tables = Vec::from_slice(alloc, names)?;
+    let status = serve(rt, rt, &Invocation { job, file, tables }, &mut console);
+    console.out.append(&mut console.err)?;
+    Ok((status, folded(alloc, &mut console.out)?))
 }
 
 /// The status and what was written.
@@ -122,7 +153,7 @@ pub fn told<R: Machine>(rt: &R, kind: &str, script: &str, table: &str) -> Told {
 
 /// What `history` answers over files.
 pub fn of_files<R: Machine>(rt: &R, script: &str, table: &str) -> Told {
-    both(rt.alloc(), &served(rt, "history", script, Some(table))?)
+    both(rt.alloc(), &served(rt, "history", script, &[table])?)
 }
 
 /// Whether `outcomes` lists the table that a run prints.
@@ -192,7 +223,7 @@ pub fn of_example<R: Machine>(rt: &R, kind: &str, name: &str) -> Told {
         return Err(Slip::BadLine);
     };
     let listed = folded(alloc, &mut listed)?;
-    let (status, text) = served(rt, kind, script.as_str(), None)?;
+    let (status, text) = served(rt, kind, script.as_str(), &[])?;
     let is_right = if kind == "run" {
         has_table(alloc, listed.as_str(), text.as_str())?
     } else {
@@ -205,7 +236,7 @@ pub fn of_example<R: Machine>(rt: &R, kind: &str, name: &str) -> Told {
 fn replied<R: Threads + Wait + Copy + Send + Sync + Clock + 'static>(
     rt: &R,
     alloc: Global,
-    invocation: &queries::Invocation<'_>,
+    invocation: &Invocation<'_>,
     script: &[u8],
     tables: &[Vec<u8>],
 ) -> Told {
@@ -213,11 +244,11 @@ fn replied<R: Threads + Wait + Copy + Send + Sync + Clock + 'static>(
     for (name, table) in invocation.tables.iter().zip(tables) {
         readers.push((*name, table.as_slice()))?;
     }
-    let (mut out, mut err) = (Vec::new(alloc), Vec::new(alloc));
+    let mut console = kept(alloc);
     let (job, mut script) = (&invocation.job, script);
-    let status = queries::perform(rt, alloc, job, &mut script, readers, &mut out, &mut err);
-    err.append(&mut out)?;
-    both(alloc, &(status, folded(alloc, &mut err)?))
+    let status = perform(rt, alloc, job, &mut script, readers, &mut console);
+    console.err.append(&mut console.out)?;
+    both(alloc, &(status, folded(alloc, &mut console.err)?))
 }
 
 /// What a query of these words answers to texts.
@@ -247,13 +278,10 @@ pub fn commanded<R: Machine>(rt: &R, line: &str) -> Told {
     let Ok(invocation) = invocation_of(alloc, &words) else {
         return said(alloc, "refused");
     };
-    let (mut out, mut err) = (Vec::new(alloc), Vec::new(alloc));
-    let status = match plain_of(&invocation) {
-        Some(plain) => serve(rt, rt, &plain, &mut out, &mut err),
-        None => queries::serve(rt, rt, &invocation, &mut out, &mut err),
-    };
-    out.append(&mut err)?;
-    both(alloc, &(status, folded(alloc, &mut out)?))
+    let mut console = kept(alloc);
+    let status = serve(rt, rt, &invocation, &mut console);
+    console.out.append(&mut console.err)?;
+    both(alloc, &(status, folded(alloc, &mut console.out)?))
 }
 
 /// The names of the tables of a command line, `none` where it has none.
@@ -278,13 +306,7 @@ pub fn asked(alloc: Global, line: &str, part: &str) -> Told {
         Ok(invocation) => {
             let (job, file) = (invocation.job, invocation.file);
             let names = names_of(alloc, &invocation.tables)?;
-            match plain_of(&invocation) {
-                Some(plain) => {
-                    let job = plain.job;
-                    Ok(format!(in alloc; "{job:?} of {file}, table {names}")?)
-                }
-                None => Ok(format!(in alloc; "{job:?} of {file}, table {names}")?),
-            }
+            Ok(format!(in alloc; "{job:?} of {file}, table {names}")?)
         }
         Err(error) if error.use_stderr() => said(alloc, "refused"),
         Err(error) => {

@@ -2,9 +2,8 @@
 ghost use Rattle.std.specs.Prelude.{◌≡◌, map, Err, IfOk};
 ghost use Rattle.std.specs.List.{AllByRecursion};
 ghost use Rattle.script.specs.Rows.{rows_of};
-ghost use Rattle.explore.specs.EventLogs.{IsHistoryOf};
+ghost use Rattle.explore.specs.{IsHistoryOf, HasMore, HasStates};
 ghost use Rattle.explore.specs.Noted.{Noted};
-ghost use Rattle.explore.specs.Search.{HasMore, HasStates};
 ghost use Rattle.explore.specs.declared.error.ExploreError.{ExploreError};
 ghost use Rattle.pictures.specs.Shown.{explained_of};
 ghost use Rattle.checks.specs.Verdicts.{AreTablesOf};

@@ -2,8 +2,7 @@
 ghost use Rattle.std.specs.Prelude.{◌≡◌, ◌↔◌, IsTrue, map};
 ghost use Rattle.script.specs.Rows.{rows_of};
 ghost use Rattle.explore.specs.Courses.{Among};
-ghost use Rattle.checks.specs.Tallies.{is_same};
-ghost use Rattle.checks.specs.Verdicts.{AreAmong};
+ghost use Rattle.checks.specs.{is_same, AreAmong};
 
 use script::Table;
 use std::cmp::Ordering;

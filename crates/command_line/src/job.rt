@@ -1,8 +1,7 @@
 //! What the words of the command line ask for.
 ghost use Rattle.std.specs.Prelude.{◌≡◌, ◌≤◌, IfOk, IfSome, OnOk, map};
 ghost use Rattle.clap.specs.Words.{fault_of, found_of, rows_of, FailsBy};
-ghost use Rattle.command_line.specs.CommandLine.{ringrun, AreTables, Asks, IsAsked, IsCheckFor, IsHistoryFor, IsJobFor, IsNumber, IsOutcomesFor, IsRunFor, IsTimes};
-ghost use Rattle.command_line.specs.Jobs.{look_by, IsWithin};
+ghost use Rattle.command_line.specs.{ringrun, AreTables, Asks, IsAsked, IsCheckFor, IsHistoryFor, IsJobFor, IsNumber, IsOutcomesFor, IsRunFor, IsTimes, look_by, IsWithin};
 
 use crate::command::command;
 use clap::{ArgMatches, Error};

@@ -1,13 +1,9 @@
 -- The words of other modules that the proofs of this crate use.
-pub use Rattle.commands.specs.Printed.{AppendsSome, AreAll, HasBegun, HasPrinted, IsHistoryFor, IsHistoryOfText, IsOutcomesText, IsQuiet, IsRunText, Prints, PrintsOf, Reads, counted_text, tables_text}
-pub use Rattle.commands.specs.Status.{Ends, Explains, IsFaultOf, IsOfHistory, IsOfRun, IsOfSearch, IsStuckOf, of_run, of_script}
-pub use Rattle.commands.specs.Told.{CountsFor, CountsIf, CountsOf, HasCounted, HasCounts, HasTold, IsPlain, PutsCounts, number_line, text_of}
-pub use Rattle.commands.specs.declared.job.Job.{Job}
-pub use Rattle.commands.specs.declared.job.Job.TheVariants.{History, Outcomes, Run}
-pub use Rattle.commands.specs.declared.problem.Problem.TheVariants.{Input, Line, Output, Stuck, TooManyStates}
-pub use Rattle.script.specs.Rows.{AreInOrder, rows_of}
+pub use Rattle.commands.specs.{AppendsSome, AreAll, PutsCounts, Reads, number_line, tables_text, text_of, AreRuns, AreVerdicts, IsLookText, IsRunsText, PrintsOf, none_text, runs_text, verdicts_status, AreRead, Known, given_of}
+pub use Rattle.script.specs.Rows.{rows_of}
 pub use Rattle.script.specs.declared.script.Script.{Script}
-pub use Rattle.std.proofs.Common.{Bool, List, None, Some, [], ap, append_assoc, arith, codes, drop, false, get_or, inl, inr, length, length-append, map, refl, rules, subst, sym, take, true, true≢false, ℕ, ℤ, ◌++◌, ◌+◌, ◌<◌, ◌↔◌, ◌∙◌, ◌∷◌, ◌≡◌}
-pub use Rattle.std.proofs.lemmas.Result.{IfErr-weaker, err_from_is_err_and}
+pub use Rattle.std.proofs.Common.{Bool, List, [], add-one, ap, append_assoc, arith, codes, drop, false, get_or, inl, inr, length, length-append, map, refl, reverse, subst, suc, sym, take, true, true≢false, vec_len, zero, ℕ, ℤ, ◌++◌, ◌+◌, ◌<◌, ◌↔◌, ◌∙◌, ◌∷◌, ◌≡◌, ◌≤◌, ◌⊎◌}
+pub use Rattle.std.proofs.KnownBytes.{Keeps-refl}
+pub use Rattle.std.proofs.lemmas.Result.{IfErr-weaker, IfOk-weaker, err_from_is_err_and}
 pub use Rattle.std.specs.Io.KnownBytes.{Appends, Keeps}
-pub use Rattle.std.specs.Prelude.{Err, IfErr, IfOk, Ok, OnErr, OnOk, Option, Result, ◌⊎◌}
+pub use Rattle.std.specs.Prelude.{Err, IfErr, IfOk, IsTrue, None, Ok, OnErr, OnOk, Option, Result, Some, if◌then◌else◌, unwrap_or, ◌&&◌}

@@ -1,5 +1,7 @@
 mod Common
+mod Gone
+mod Lines
 mod Listings
-pub mod Printing
+mod Printing
 mod Problems
 mod Telling

@@ -1,79 +1,97 @@
--- What a problem says of what was read, kind by kind.
-use Rattle.script_text.specs.Scripts.{IsToldOfText}
-use Rattle.script_text.specs.declared.fault.ScriptFault.{ScriptFault}
+-- Which problems there are, kind by kind, and what a history is told as.
+use Rattle.std.specs.Borrow.{Bor}
+use Rattle.std.specs.Global.{Vec}
+use Rattle.script.specs.Tables.{IsTableOf}
+use Rattle.script_text.specs.{IsTableText, IsToldOfText, SaysScript}
+use Rattle.explore.specs.Courses.{Among}
+use Rattle.checks.specs.{IsTablesText, AreAmong, IsVerdict}
+use Rattle.command_line.specs.declared.job.Look.{Look}
 use Rattle.commands.specs.declared.problem.Problem.{Problem}
-use Rattle.commands.proofs.Common.{AreAll, Bool, Ends, Explains, HasCounted, HasTold, History, IfErr, IfErr-weaker, Input, IsFaultOf, IsOfHistory, IsOfRun, IsOfSearch, IsStuckOf, Job, Line, List, None, Option, Outcomes, Output, Reads, Result, Run, Script, Stuck, TooManyStates, inl, inr, of_run, of_script, subst, sym, true, ℕ, ◌≡◌}
-use Rattle.commands.proofs.Printing.{forget_begun, forget_reads}
-use Rattle.script_run.specs.declared.fault.RunFault.{RunFault}
-use Rattle.script_run.specs.Faults.{IfStuckOn}
-use Rattle.script_run.specs.Stuck.{IsStuck}
-use Rattle.std.specs.String.{string_bytes}
+use Rattle.commands.specs.declared.problem.Problem.TheVariants.{Input, Output, Line, Memory}
+use Rattle.command_line.specs.declared.job.Job.{Job}
+use Rattle.command_line.specs.declared.job.Job.TheVariants.{Run, Outcomes, History, Check}
+use Rattle.commands.specs.Status.{of_script}
+use Rattle.commands.proofs.Printing.{reads_of}
+use Rattle.script.specs.declared.table.Table.{Table}
+use Rattle.script_text.specs.declared.fault.ScriptFault.{ScriptFault}
+use Rattle.commands.specs.declared.answer.Reply.{Reply}
+use Rattle.commands.specs.{CountsFor, EndsBy, IsAnswer, Explains, IsOfBytes, IsOfFile, IsOfFiles, IsOfLimit, IsOfJob, IsOfTable}
+use Rattle.commands.proofs.Common.{AreAll, AreRead, AreRuns, Bool, Err, IfErr, IfErr-weaker, IfOk, IfOk-weaker, IsLookText, IsRunsText, IsTrue, Keeps, Known, List, Ok, Option, PrintsOf, Result, Script, Some, [], ap, arith, drop, get_or, given_of, inl, inr, length, map, none_text, refl, rows_of, runs_text, subst, sym, unwrap_or, ℕ, ℤ, ◌↔◌, ◌∙◌, ◌∷◌, ◌≡◌, ◌≤◌, ◌⊎◌}
 
-pub script_explains : (job : Job) (s t : Option (List ℕ)) (bytes : List ℕ) (e : ScriptFault) (p : Problem) → AreAll s bytes
-    → IsToldOfText bytes e → p ≡ of_script e → Explains job s t p
-script_explains job s t bytes ScriptFault.Memory p all told is = rw is tt
-script_explains (Run workers turns) s t bytes (ScriptFault.Line line fault) p all told is = rw is (record { bytes = bytes; all = all; is_first = told })
-script_explains (Outcomes stats) s t bytes (ScriptFault.Line line fault) p all told is = rw is (record { bytes = bytes; all = all; is_first = told })
-script_explains History s t bytes (ScriptFault.Line line fault) p all told is = rw is (inl (record { bytes = bytes; all = all; is_first = told }))
+pub of_files : (c : Script) (given : List (List ℕ × List ℕ)) (x : List ℕ × List ℕ) (p : Problem) → Among x given → IsOfFile c x.1 p → IsOfFiles c given p
+of_files c given x (Line fault) there is = (x, there, is)
+of_files c given x Memory there is = tt
+of_files c given x _ there is = absurd is
 
-pub search_explains : (stats : Bool) (s t : Option (List ℕ)) (c : Script) (p : Problem) → Reads s c → IsOfSearch c p → Explains (Outcomes stats) s t p
-search_explains stats s t c TooManyStates reads more = record { says = c; reads = reads; more = more; is_search = tt }
-search_explains stats s t c Problem.Memory reads h = tt
-search_explains stats s t c Input reads h = tt
-search_explains stats s t c _ reads h = absurd h
+of_table : (c : Script) (given : List (List ℕ × List ℕ)) (x : List ℕ × List ℕ) (p : Problem) → Among x given → IsOfBytes c x.1 p → IsOfTable c given p
+of_table c given x (Line fault) there is = (x, there, is)
+of_table c given x Memory there is = tt
+of_table c given x Input there is = tt
+of_table c given x _ there is = absurd is
 
-pub history_explains : (s t : Option (List ℕ)) (c : Script) (bytes : List ℕ) (p : Problem) → Reads s c → AreAll t bytes → IsOfHistory c bytes p → Explains History s t p
-history_explains s t c bytes TooManyStates reads all more = record { says = c; reads = reads; more = more; is_search = tt }
-history_explains s t c bytes Problem.Memory reads all h = tt
-history_explains s t c bytes Input reads all h = tt
-history_explains s t c bytes (Line (ScriptFault.Line line fault)) reads all h =
-    inr (record { says = c; reads = reads; bytes = bytes; all = all; is_bad = h.1; fault_is = h.0 })
-history_explains s t c bytes _ reads all h = absurd h
+-- the first that is given
+pub first_given : (given : List (Bor (List ℕ) × Vec ℕ)) (x : Bor (List ℕ) × Vec ℕ) → 1 ≤ length given → x ≡ get_or given 0 x → map given_of given ≡ given_of x ∷ map given_of (drop 1 given)
+first_given [] x le is = absurd (omega arith)
+first_given (y ∷ ys) x le is = rw is refl
 
-pub run_explains : (workers turns : ℕ) (s t : Option (List ℕ)) (c : Script) (p : Problem) → Reads s c → IsOfRun c workers turns p → Explains (Run workers turns) s t p
-run_explains workers turns s t c (Stuck label) reads h = record { says = c; reads = reads; stuck = h }
-run_explains workers turns s t c Output reads h = h
-run_explains workers turns s t c TooManyStates reads h = absurd h
-run_explains workers turns s t c (Line fault) reads h = absurd h
-run_explains workers turns s t c _ reads h = tt
+pub of_first : {A : Type 0} (r : Result A Problem) (c : Script) (limit : ℕ) (given : List (Bor (List ℕ) × Vec ℕ)) (x : Bor (List ℕ) × Vec ℕ) → 1 ≤ length given → x ≡ get_or given 0 x
+    → IfErr r (λ p. IsOfBytes c x.1.items p ⊎ IsOfLimit c limit p) → IfErr r (λ p. IsOfTable c (map given_of given) p ⊎ IsOfLimit c limit p)
+of_first r c limit given x le is why = IfErr-weaker r _ _ (λ p q. lifted p q) why where
+  there : Among (given_of x) (map given_of given)
+  there = rw (first_given given x le is) (inl refl)
 
--- what a run without a table means
-pub of_run_explains : (c : Script) (workers turns : ℕ) (f : RunFault) (p : Problem) → IfStuckOn (IsStuck c workers turns) f → p ≡ of_run f → IsOfRun c workers turns p
-of_run_explains c workers turns (RunFault.Stuck label) p k is = subst (IsOfRun c workers turns) (sym is) k
-of_run_explains c workers turns _ p k is = subst (IsOfRun c workers turns) (sym is) tt
+  lifted : (p : Problem) → IsOfBytes c x.1.items p ⊎ IsOfLimit c limit p → IsOfTable c (map given_of given) p ⊎ IsOfLimit c limit p
+  lifted p (inl q) = inl (of_table c (map given_of given) (given_of x) p there q)
+  lifted p (inr q) = inr q
 
--- ---- nothing known of the readers
+pub look_none : {E : Type 0} (r : Result (Vec ℕ) E) (look : Look) (c : Script) (bytes : List ℕ) (rows : List (ℤ × List ℕ)) → IsTableText c.entries.items rows bytes → ¬ IsTableOf c rows
+    → IfOk r (λ t. t.items ≡ none_text look) → IfOk r (λ t. IsLookText look c bytes t.items)
+look_none r look c bytes rows is none told = IfOk-weaker r _ _ (λ t e. record { rows = rows; is_table = is; shown = inr (none, e) }) told
 
-forget_fault : (job : Job) (s t : Option (List ℕ)) (f : ScriptFault) → IsFaultOf job s t f → IsFaultOf job None None f
-forget_fault job s t ScriptFault.Memory h = forget_none job s t h where
-  forget_none : (j : Job) (a b : Option (List ℕ)) → IsFaultOf j a b ScriptFault.Memory → IsFaultOf j None None ScriptFault.Memory
-  forget_none (Run workers turns) a b h = h
-  forget_none (Outcomes stats) a b h = h
-  forget_none History a b h = h
-forget_fault (Run workers turns) s t (ScriptFault.Line line fault) h = record { bytes = h.bytes; all = tt; is_first = h.is_first }
-forget_fault (Outcomes stats) s t (ScriptFault.Line line fault) h = record { bytes = h.bytes; all = tt; is_first = h.is_first }
-forget_fault History s t (ScriptFault.Line line fault) (inl h) = inl (record { bytes = h.bytes; all = tt; is_first = h.is_first })
-forget_fault History s t (ScriptFault.Line line fault) (inr h) = inr (record { says = h.says; reads = forget_reads s h.says h.reads; bytes = h.bytes; all = tt; is_bad = h.is_bad; fault_is = h.fault_is })
+pub verdict_holds : (c : Script) (bytes : List ℕ) (given listed : List (List (ℤ × List ℕ))) (b : Bool) → IsTablesText c given bytes → (IsTrue b ↔ AreAmong given listed)
+    → ((rows : List (ℤ × List ℕ)) → IsTableOf c rows ↔ Among rows listed) → IsVerdict c bytes b
+verdict_holds c bytes given listed b text are all = record {
+  tables = given;
+  text = text;
+  holds = ((λ t rows m. (all rows).1 (are.0 t rows m)), (λ every. are.1 (λ rows m. (all rows).0 (every rows m))));
+}
 
-forget_stuck : (job : Job) (s : Option (List ℕ)) (label : List ℕ) → IsStuckOf job s label → IsStuckOf job None label
-forget_stuck (Run workers turns) s label h = record { says = h.says; reads = forget_reads s h.says h.reads; stuck = h.stuck }
-forget_stuck _ s label h = absurd h
+pub many_runs : {E : Type 0} (r : Result (Vec ℕ) E) (c : Script) (workers : ℕ) (times : Option ℕ) (n : ℕ) (json : Bool) (tables : List Table) → times ≡ Some n → AreRuns c workers tables → length tables ≡ unwrap_or times 1
+    → IfOk r (λ text. (k : ℕ) → text.items ≡ runs_text (Some k) json c (map rows_of tables)) → IfOk r (λ text. IsRunsText c workers times json text.items)
+many_runs r c workers times n json tables is are many told =
+    IfOk-weaker r _ _ (λ t e. record { runs = tables; are = are; many = many; text_is = e n ∙ ap (λ (o : Option ℕ). runs_text o json c (map rows_of tables)) (sym is) }) told
 
-pub forget_ends : (job : Job) (s t a b : Option (List ℕ)) (p : Problem) → Ends job s t a b p → Ends job None None a b p
-forget_ends job s t a b Output h = forget_begun job s t a b h
-forget_ends job s t a b (Line fault) h = (forget_fault job s t fault h.0, h.1)
-forget_ends job s t a b TooManyStates h = (record { says = h.0.says; reads = forget_reads s h.0.says h.0.reads; more = h.0.more; is_search = h.0.is_search }, h.1)
-forget_ends job s t a b (Stuck label) h = (forget_stuck job s (string_bytes label) h.0, h.1)
-forget_ends job s t a b _ h = h
+-- ---- what is told of what was read
 
-pub forget_told : (job : Job) (s t a b c d : Option (List ℕ)) (status : ℕ) → HasTold job s t a b c d status → HasTold job None None a b c d status
-forget_told job s t a b c d status h = record { problem = h.problem; status_is = h.status_is; ends = forget_ends job s t a b h.problem h.ends; line = h.line }
+pub of_script_fault : (job : Job) (s : Option (List ℕ)) (ts : List Known) (bytes now : List ℕ) (e : ScriptFault) (p : Problem) → AreAll s bytes → now ≡ bytes → IsToldOfText now e → p ≡ of_script e → Explains job s ts p
+of_script_fault job s ts bytes now ScriptFault.Memory p all is told same = rw same (inl tt)
+of_script_fault job s ts bytes now (ScriptFault.Line line fault) p all is told same = rw same (inl (record { bytes = now; all = subst (AreAll s) (sym is) all; is_first = told }))
 
-pub forget_counted : (job : Job) (s a b : Option (List ℕ)) → HasCounted job s a b → HasCounted job None a b
-forget_counted (Outcomes true) s a b h = record { says = h.says; reads = forget_reads s h.says h.reads; states = h.states; met = h.met; nanos = h.nanos; went = h.went }
-forget_counted _ s a b h = h
+pub answered : (r : Result Reply Problem) (job : Job) (s : Option (List ℕ)) (ts : List Known) (bytes now : List ℕ) (c : Script) (given : List (List ℕ × List ℕ))
+    → AreAll s bytes → now ≡ bytes → SaysScript now c → AreRead ts given → IfOk r (λ a. PrintsOf job c given a.status a.text.items) → IfOk r (λ a. CountsFor job c a.stats)
+    → IfOk r (λ a. IsAnswer job s ts a.status a.text.items a.stats)
+answered (Ok a) job s ts bytes now c given all is says are prints counts = record { says = c; reads = reads_of s bytes now c all is says; given = given; are_read = are; prints = prints; counts = counts }
+answered (Err p) job s ts bytes now c given all is says are prints counts = tt
 
--- of what is returned as it is
-pub explains_as : {A : Type 0} (job other : Job) (s t : Option (List ℕ)) (r : Result A Problem) (P : Problem → Type 0) → job ≡ other
-    → ((p : Problem) → P p → Explains other s t p) → IfErr r P → IfErr r (Explains job s t)
-explains_as job other s t r P is each h = subst (λ (j : Job). IfErr r (Explains j s t)) (sym is) (IfErr-weaker r P (Explains other s t) each h)
+pub explained : (r : Result Reply Problem) (job : Job) (s : Option (List ℕ)) (ts : List Known) (bytes now : List ℕ) (c : Script) (given : List (List ℕ × List ℕ))
+    → AreAll s bytes → now ≡ bytes → SaysScript now c → AreRead ts given → IfErr r (IsOfJob job c given) → IfErr r (Explains job s ts)
+explained (Ok a) job s ts bytes now c given all is says are why = tt
+explained (Err p) job s ts bytes now c given all is says are why = inr (record { says = c; reads = reads_of s bytes now c all is says; given = given; are_read = are; why = why })
+
+no_output : (job : Job) (c : Script) (given : List (List ℕ × List ℕ)) → IsOfJob job c given Output → ⊥
+no_output (Run workers turns times json) c given h = h
+no_output (Outcomes stats explain limit progress json) c given h = h
+no_output (History look limit progress) c given (inl h) = h
+no_output (History look limit progress) c given (inr h) = h
+no_output (Check limit progress json) c given (inl h) = h
+no_output (Check limit progress json) c given (inr h) = h
+
+pub ends_by : (job : Job) (s : Option (List ℕ)) (ts : List Known) (old new : Option (List ℕ)) (p : Problem) → Explains job s ts p → Keeps old new → EndsBy job s ts old new p
+ends_by job s ts old new Output (inl h) kept = absurd h
+ends_by job s ts old new Output (inr h) kept = absurd (no_output job h.says h.given h.why)
+ends_by job s ts old new _ h kept = (h, kept)
+
+-- the second of two cases, as another
+pub right_as : {A B C : Type 0} → A ⊎ B → (B → C) → A ⊎ C
+right_as (inl a) f = inl a
+right_as (inr b) f = inr (f b)

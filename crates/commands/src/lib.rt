@@ -2,15 +2,21 @@
 #![tactic(auto)]
 
 mod answer;
+mod checking;
 mod files;
+mod given;
 mod inputs;
-mod job;
+mod listing;
+mod looking;
 mod problem;
+mod progress;
+mod runs;
 mod told;
 
-pub use answer::{nanos_since, perform, put_out, tables_text};
+pub use answer::perform;
+pub use command_line::{Invocation, Job, Look, invocation_of};
 pub use files::serve;
 pub use inputs::Inputs;
-pub use job::{Invocation, Job};
 pub use problem::Problem;
-pub use told::{Stats, put_states, put_stats, tell};
+pub use progress::Progress;
+pub use told::Console;

@@ -1,14 +1,19 @@
-//! What goes to standard error, part by part through `write_out`, which needs no memory. Whether it went out is reported to no one.
+//! Standard output and standard error; and what goes to standard error, part by part through `write_out`, which needs no memory. Whether it went out is reported to no one.
 ghost use Rattle.std.specs.Prelude.{◌≡◌, ◌*◌, ◌/◌, [], min, max, OnOk, OnErr};
 ghost use Rattle.std.specs.Io.KnownBytes.{Appends};
-ghost use Rattle.commands.specs.Printed.{AppendsSome};
-ghost use Rattle.commands.specs.Status.{status_of};
-ghost use Rattle.commands.specs.Told.{line_of, number_line, states_line, stats_text, text_of, PutsCounts};
+ghost use Rattle.commands.specs.{AppendsSome, status_of, line_of, number_line, states_line, stats_text, text_of, PutsCounts};
 
 use crate::problem::Problem;
 use itoa::Buffer;
 use std::io::Write;
 use streams::{OutputFault, write_out};
+
+/// Standard output and standard error, or what stands for them.
+#[derive(Drop)]
+pub struct Console<W, E> {
+    pub out: W,
+    pub err: E,
+}
 
 /// How many states a search met, and in how many nanoseconds.
 #[derive(Clone, Copy)]

@@ -3,9 +3,8 @@ use Rattle.std.specs.Prelude.{◌≡◌, ℕ, ◌<◌, ◌⊎◌, List, ◌∷�
 use Rattle.history.specs.declared.req.Req.{Req}
 use Rattle.history.specs.declared.event.Event.{Event}
 use Rattle.history.specs.declared.event.Event.TheVariants.{Tick}
-use Rattle.history.specs.History.{clock_of}
+use Rattle.history.specs.{clock_of, ticked}
 use Rattle.history.specs.Legal.{Allowed, Legal, Setup}
-use Rattle.history.specs.Ticked.{ticked}
 use Rattle.steps.specs.declared.line.Line.{Line}
 use Rattle.steps.specs.Journal.{events_of}
 use Rattle.board.specs.declared.phase.Phase.{Phase as Standing}

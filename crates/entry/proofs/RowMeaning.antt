@@ -6,8 +6,7 @@ use Rattle.entry.specs.declared.op.Op.{Op}
 use Rattle.entry.specs.declared.op.Op.TheVariants.{Nop, PollAdd, Timeout, TimeoutRemove, AsyncCancel, LinkTimeout, Close, Read, Write, Splice, Invalid}
 use Rattle.entry.specs.declared.op.Offset.{Offset}
 use Rattle.entry.specs.declared.op.Offset.TheVariants.{Zero, Current}
-use Rattle.entry.specs.Table.{all_word, allowed_flags, etime_word, fits, fits_op, is_i32, is_u64, is_valid, no_fd, place, row}
-use Rattle.entry.specs.Text.{layout, number_at}
+use Rattle.entry.specs.{all_word, allowed_flags, etime_word, fits, fits_op, is_i32, is_u64, is_valid, no_fd, place, row, layout, number_at}
 use Rattle.entry.proofs.Common.{Bool, Entry, FitsSigned, IsTrue, List, Row, Says, ap, arith, bit_and, eq-eqb, eqb-true, false, inl, inr, invalid_of, is_plain, length, lit<, lit≤, lt-ltb, nat_lt, negsuc, pos, refl, row_at, slice_index, subst, sym, text, true, w32, ℕ, ℤ, ◌&&◌, ◌<◌, ◌==◌, ◌^◌, ◌↔◌, ◌∙◌, ◌≡◌, ◌≤◌}
 use Rattle.entry.proofs.NumberBytes.{IsBytes}
 use Rattle.entry.proofs.EntryBytes.{InTypes, Reads, Reads-layout, layout-injective, layout-row_at}

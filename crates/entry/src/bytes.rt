@@ -1,8 +1,7 @@
 //! The 64 bytes of an entry.
 ghost use Rattle.std.specs.Prelude.{◌≡◌, IsTrue};
 ghost use Rattle.entry.specs.Entry.{Entry};
-ghost use Rattle.entry.specs.Table.{fits, is_valid};
-ghost use Rattle.entry.specs.Text.{Says, is_plain, layout, row_at, text};
+ghost use Rattle.entry.specs.{fits, is_valid, Says, is_plain, layout, row_at, text};
 
 use crate::field::{i32_at, put_i32, put_u32, put_u64, u16_at, u32_at, u64_at};
 use crate::row::Row;

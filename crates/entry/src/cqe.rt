@@ -2,8 +2,7 @@
 ghost use Rattle.std.specs.Prelude.{Some, codes, decimal, ◌++◌, ◌≡◌, ◌==◌, ◌↔◌, ◌≢◌, IfSome, IsNone, IsTrue, ◌&&◌};
 ghost use Rattle.std.specs.Fmt.{signed_decimal};
 ghost use Rattle.entry.specs.declared.cqe.Cqe.{Cqe};
-ghost use Rattle.entry.specs.Table.{is_i32, is_u64};
-ghost use Rattle.entry.specs.Text.{cqe_text, number_at};
+ghost use Rattle.entry.specs.{is_i32, is_u64, cqe_text, number_at};
 
 use crate::field::{i32_at, put_i32, put_u64, u32_at, u64_at};
 use std::fmt;

@@ -1,9 +1,7 @@
 //! A submission queue entry.
 ghost use Rattle.std.specs.Prelude.{◌≡◌, IsTrue, bit_and};
 ghost use Rattle.entry.specs.Entry.{Entry, fails as is_failure};
-ghost use Rattle.entry.specs.Flags.{bits_of};
-ghost use Rattle.entry.specs.Table.{fits, is_valid, row as table_row};
-ghost use Rattle.entry.specs.Text.{Says, layout};
+ghost use Rattle.entry.specs.{bits_of, fits, is_valid, row as table_row, Says, layout};
 
 use crate::by_opcode;
 use crate::flags::SqeFlags;

@@ -1,8 +1,6 @@
 -- The words of other modules that the proofs of this crate use.
 pub use Rattle.atomic_table.proofs.Lists.{at_last, at_longer, at_set, one_turn, set_again, set_else}
-pub use Rattle.event_count.specs.Journal.{AllOwed, Finds, Hears, IsQuiet, IsSound, MayFollow, NoQuiet, NoneOf, Saw, Stayed, count_of, counted, inside, is_inside, number_of, owes, owner}
-pub use Rattle.event_count.specs.Passes.{AreNewNotifiers, AreNewWaiters, IsNotifierOf, IsNotifierSeat, IsWaiterOf, IsWaiterSeat, Notifying, Waiting, is_in, is_owing, new_notifying, new_waiting}
-pub use Rattle.event_count.specs.Rule.{AllMade, IsMade, Ruled, new_notifier, new_waiter, opening_view, with_notifier, with_waiter}
+pub use Rattle.event_count.specs.{AllOwed, Finds, Hears, IsQuiet, IsSound, MayFollow, NoQuiet, NoneOf, Saw, Stayed, count_of, counted, inside, is_inside, number_of, owes, owner, AreNewNotifiers, AreNewWaiters, IsNotifierOf, IsNotifierSeat, IsWaiterOf, IsWaiterSeat, Notifying, Waiting, is_in, is_owing, new_notifying, new_waiting, AllMade, IsMade, Ruled, new_notifier, new_waiter, opening_view, with_notifier, with_waiter}
 pub use Rattle.event_count.specs.declared.view.Line.{Line}
 pub use Rattle.event_count.specs.declared.view.Role.{Role}
 pub use Rattle.event_count.specs.declared.view.Role.TheVariants.{Maker, Notifier, Waiter}

@@ -1,7 +1,6 @@
 //! The one who gives notice.
 ghost use Rattle.std.specs.Prelude.{◌≡◌, true, false};
-ghost use Rattle.event_count.specs.Journal.{number_of, IsQuiet, Finds, Counts};
-ghost use Rattle.event_count.specs.Passes.{is_owing, IsNotifierAt, IsNotifierSeat, IsSameSeat};
+ghost use Rattle.event_count.specs.{number_of, IsQuiet, Finds, Counts, is_owing, IsNotifierAt, IsNotifierSeat, IsSameSeat};
 
 use crate::plays::{CountOne, LookInside};
 use crate::view::View;
@@ -16,8 +15,7 @@ pub struct Notifier {
 }
 
 impl Model for Notifier {
-    ghost use Rattle.event_count.specs.Journal.{number_of};
-    ghost use Rattle.event_count.specs.Passes.{Notifying, IsNotifierSeat};
+    ghost use Rattle.event_count.specs.{number_of, Notifying, IsNotifierSeat};
 
     ghost Value = { Notifying };
 

@@ -1,6 +1,5 @@
 //! What each kind of step tells its seat.
-ghost use Rattle.event_count.specs.Plays.{entered, read, asked, left, looked, counted_one};
-ghost use Rattle.event_count.specs.Rule.{with_waiter, new_waiter, with_notifier, new_notifier};
+ghost use Rattle.event_count.specs.{entered, read, asked, left, looked, counted_one, with_waiter, new_waiter, with_notifier, new_notifier};
 
 use crate::view::View;
 use atomic_table::{Play, Split};

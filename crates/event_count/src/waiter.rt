@@ -1,7 +1,6 @@
 //! The one who enters before it may sleep, and leaves again.
 ghost use Rattle.std.specs.Prelude.{◌≡◌, true, false};
-ghost use Rattle.event_count.specs.Journal.{number_of, count_of, Enters, Stayed, Hears, Leaves};
-ghost use Rattle.event_count.specs.Passes.{is_in, IsSameSeat, IsWaiterAt, IsWaiterSeat};
+ghost use Rattle.event_count.specs.{number_of, count_of, Enters, Stayed, Hears, Leaves, is_in, IsSameSeat, IsWaiterAt, IsWaiterSeat};
 
 use crate::law::Law;
 use crate::plays::{AskCount, Enter, Leave, ReadCount};
@@ -30,8 +29,7 @@ pub struct Waiter {
 }
 
 impl Model for Waiter {
-    ghost use Rattle.event_count.specs.Journal.{number_of};
-    ghost use Rattle.event_count.specs.Passes.{Waiting, IsWaiterSeat};
+    ghost use Rattle.event_count.specs.{number_of, Waiting, IsWaiterSeat};
 
     ghost Value = { Waiting };
 

@@ -3,8 +3,7 @@ use Rattle.std.specs.Prelude.{IsTrue, ◌≡◌, ◌⊎◌, ℕ, suc, ◌-◌, �
 use Rattle.entry.specs.Entry.{Entry, drains, fails}
 use Rattle.history.specs.declared.req.Req.{Req}
 use Rattle.history.specs.declared.event.Event.{Event}
-use Rattle.history.specs.History.{Submission, submission, phase, reply, IsReplied}
-use Rattle.history.specs.Chains.{joins, is_link_timeout, IsPlaced, IsChainBefore, IsChained, IsChainDone, IsTarget, Severed, Open, severs}
+use Rattle.history.specs.{Submission, submission, phase, reply, IsReplied, joins, is_link_timeout, IsPlaced, IsChainBefore, IsChained, IsChainDone, IsTarget, Severed, Open, severs}
 use Rattle.gates.specs.declared.gate.Gate.{Gate}
 use Rattle.gates.specs.declared.gate.Asked.{Asked}
 use Rattle.gates.specs.Slots.{Slot, traits_of, IsPlain, is_pending, passes}

@@ -2,8 +2,7 @@
 ghost use Rattle.std.specs.Prelude.{◌≡◌, ◌≢◌, ◌⊎◌, ℕ, ◌+◌, ◌^◌, ◌<◌, ◌≤◌, length, map, slice_get, slice_set, IfSome, Some, false, true};
 ghost use Rattle.std.specs.VecDeque.{deque_capacity};
 ghost use Rattle.gates.specs.declared.cell.Cell.{Cell};
-ghost use Rattle.gates.specs.Slots.{slot_of, joins_of, passes, is_pending, is_draining};
-ghost use Rattle.gates.specs.EntryRows.{LinkedAt, Linked, IsFirst, held_at, nearest_in, IsTurn};
+ghost use Rattle.gates.specs.{slot_of, joins_of, passes, is_pending, is_draining, LinkedAt, Linked, IsFirst, held_at, nearest_in, IsTurn};
 
 use crate::cell::{Behind, Cell};
 use std::collections::VecDeque;

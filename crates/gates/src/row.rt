@@ -1,8 +1,7 @@
 //! The requests of one ring, with the replies so far.
 ghost use Rattle.std.specs.Prelude.{◌≡◌, ◌↔◌, ◌⊎◌, IsTrue, ℕ, ◌+◌, ◌-◌, ◌^◌, ◌<◌, ◌≤◌, ◌++◌, ◌∷◌, [], List, Option, length, IsOk, IfOk, OnOk, OnErr, IfSome, Some, None};
 ghost use Rattle.history.specs.declared.event.Event.{Event};
-ghost use Rattle.gates.specs.Slots.{Slot, starting, passes, is_pending};
-ghost use Rattle.gates.specs.EntryRows.{Kept, HasCell, Stands, added, new_slot, slot_with, stand_in, stand_ins, with_reply, Waits, waiting, way_in, asked_by, IsAnswer, IsBar, place_by, target_by, without_first, IsToldBy, free_by, link_in};
+ghost use Rattle.gates.specs.{Slot, starting, passes, is_pending, Kept, HasCell, Stands, added, new_slot, slot_with, stand_in, stand_ins, with_reply, Waits, waiting, way_in, asked_by, IsAnswer, IsBar, place_by, target_by, without_first, IsToldBy, free_by, link_in};
 ghost use Rattle.history.specs.History.{IsReplied, phase};
 ghost use Rattle.gates.specs.Shows.{nth, Shows, Mirrors, Trails, IsGate, IsAsked, IsTargetOf, IsFree, IsOfChain, named_in, linked_in};
 

@@ -2,8 +2,7 @@
 -- comes with data to a READ alone.
 use Rattle.std.proofs.lemmas.List.{length-take-le}
 use Rattle.level.proofs.Moved.{read_few}
-use Rattle.history.specs.Users.{is_at, uses_at}
-use Rattle.history.specs.Answers.{answer_at}
+use Rattle.history.specs.{is_at, uses_at, answer_at}
 use Rattle.level.specs.declared.ends.End.{End as Side}
 use Rattle.level.specs.declared.ends.End.TheVariants.{Read as ReadSide, Write as WriteSide}
 use Rattle.level.specs.declared.level.Level.{Level}

@@ -1,5 +1,5 @@
 //! The level of a pipe, and the replies that follow from it.
-ghost use Rattle.std.specs.Prelude.{◌≡◌, ◌<◌, ◌≤◌, min, cond, nat_lt};
+ghost use Rattle.std.specs.Prelude.{◌≡◌, ◌<◌, ◌≤◌, min, cond};
 ghost use Rattle.level.specs.Replies.{close_reply, events_at, free_in, is_shut, moved, poll_reply, read_reply, splice_reply, write_reply};
 
 use crate::ends::End;
@@ -81,14 +81,14 @@ impl Level {
 
     /// A close of an end (close(2)). An end is closed once.
     pub fn close(self, end: End) -> Option<i32>
-        ensures { result ≡ close_reply self end }
+        ensures reply { result ≡ close_reply self end }
     {
         Some(if self.is_shut(end) { -EBADF } else { 0 })
     }
 
     /// The events of an end that are in `mask`, and `POLLERR` and `POLLHUP` in any case (poll(2)).
     pub fn poll(self, end: End, mask: u32) -> Option<i32>
-        ensures { result ≡ poll_reply self end mask }
+        ensures reply { result ≡ poll_reply self end mask }
     {
         let events = self.events(end) & (mask | ALWAYS);
         if self.is_shut(end) {

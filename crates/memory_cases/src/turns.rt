@@ -13,7 +13,7 @@ use history::Req;
 use outbox::Outbox;
 use prep::{nop, read, timeout, with_flags, write};
 use ready::{ReadyPass, ReadyQueue};
-use runtime::{PollDesk, WorkDesk, poll_turn, work_turn};
+use runtime::{PollDesk, Route, WorkDesk, poll_turn, work_turn};
 use std::alloc::Global;
 use std::marker::Model;
 use std::sync::Wait;
@@ -261,15 +261,12 @@ impl Stage {
             drop(outbox);
             return true;
         }
-        let turn = poll_turn(
+        let route = Route {
             rt,
-            &self.board,
-            &self.bell,
-            &self.queue,
-            &mut self.desk,
-            clock,
-            &mut outbox,
-        );
+            board: &self.board,
+            queue: &self.queue,
+        };
+        let turn = poll_turn(route, &self.bell, &mut self.desk, clock, &mut outbox);
         tell_answers(&outbox, gave);
         drop(outbox);
         gave.got(turn).is_some()
@@ -288,15 +285,12 @@ impl Stage {
             drop(outbox);
             return;
         };
-        let (worker, _turn) = work_turn(
+        let route = Route {
             rt,
-            &self.board,
-            &self.queue,
-            &mut self.work,
-            worker,
-            &Open,
-            &mut outbox,
-        );
+            board: &self.board,
+            queue: &self.queue,
+        };
+        let (worker, _turn) = work_turn(route, &mut self.work, worker, &Open, &mut outbox);
         self.worker = Some(worker);
         tell_answers(&outbox, gave);
         drop(outbox);

@@ -2,8 +2,7 @@
 use Rattle.std.specs.Prelude.{◌≡◌, ℕ, ◌≤◌, Bool, true, false, List, [], ◌∷◌, length, Some, slice_get, get_or}
 use Rattle.history.specs.declared.req.Req.{Req}
 use Rattle.history.specs.declared.event.Event.{Event}
-use Rattle.history.specs.History.{submits, clock_of, was_shut}
-use Rattle.history.specs.Pipes.{Flow, content, flow}
+use Rattle.history.specs.{submits, clock_of, was_shut, Flow, content, flow}
 use Rattle.history.specs.Legal.{MayCome, Allowed, Legal}
 use Rattle.model.specs.Content.{Content}
 use Rattle.model.specs.Machine.{Machine, setup_of}

@@ -4,8 +4,7 @@ use Rattle.std.specs.List.{list_any}
 use Rattle.entry.specs.Entry.{Entry}
 use Rattle.entry.specs.declared.op.Op.{Op}
 use Rattle.model.specs.declared.request.Request.{Request}
-use Rattle.history.specs.State.{Catch}
-use Rattle.history.specs.Answers.{Answer, now, later, is_all}
+use Rattle.history.specs.{Catch, Answer, now, later, is_all}
 use Rattle.model.specs.Seen.{stage_at, found_in, placed_in}
 use Rattle.model.specs.Decides.{any_below, wanted}
 use Rattle.model.specs.Moves.{is_running, is_idle}

@@ -3,8 +3,7 @@ use Rattle.std.specs.Prelude.{◌≡◌, ◌∷◌, ℕ, zero, suc, ◌==◌, �
 use Rattle.entry.specs.Entry.{Entry, drains}
 use Rattle.entry.specs.declared.op.Op.{Op}
 use Rattle.model.specs.declared.request.Request.{Request}
-use Rattle.history.specs.Chains.{joins, severs}
-use Rattle.history.specs.Answers.{asks_for}
+use Rattle.history.specs.{joins, severs, asks_for}
 use Rattle.model.specs.Seen.{is_pending, reply_at, handed_in, placed_in}
 
 abbrev pub reply_in_of : Option Request → Option ℤ

@@ -6,9 +6,7 @@ use Rattle.entry.specs.declared.op.Op.{Op}
 use Rattle.model.specs.declared.request.Request.{Request}
 use Rattle.model.specs.declared.request.Stage.{Stage}
 use Rattle.model.specs.declared.request.Stage.TheVariants.{Waits, Runs, Armed, Replied, Reaped}
-use Rattle.history.specs.Chains.{is_timer, is_timeout, is_link_timeout, is_link_timeout_in}
-use Rattle.history.specs.Legal.{ticks_of, count_of}
-use Rattle.history.specs.State.{Catch, none_yet}
+use Rattle.history.specs.{is_timer, is_timeout, is_link_timeout, is_link_timeout_in, ticks_of, count_of, Catch, none_yet}
 use Rattle.model.specs.Seen.{is_pending, stage_at, fired_of, placed_in}
 use Rattle.model.specs.Decides.{pending_of, severed_in, clear_in, any_below}
 

@@ -1,7 +1,6 @@
 -- What an operation comes to, as an answer.
 use Rattle.std.specs.Prelude.{ℕ, take, ℤ, List, [], Option, Some, None}
-use Rattle.history.specs.Pipes.{size}
-use Rattle.history.specs.Answers.{Answer, now, later}
+use Rattle.history.specs.{size, Answer, now, later}
 use Rattle.model.specs.declared.ready.Ready.{Ready}
 use Rattle.model.specs.declared.ready.Ready.TheVariants.{Now, Front, Wait}
 use Rattle.model.specs.Content.{Content, bytes_at}

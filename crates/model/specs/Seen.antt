@@ -7,9 +7,7 @@ use Rattle.history.specs.declared.event.Event.{Event}
 use Rattle.model.specs.declared.request.Stage.{Stage}
 use Rattle.model.specs.declared.request.Stage.TheVariants.{Waits, Runs, Armed, Replied, Reaped}
 use Rattle.model.specs.declared.request.Request.{Request}
-use Rattle.history.specs.History.{Phase, unborn, waits, runs, armed, replied, reaped, Submission, submission, phase, hit, fired, data_of}
-use Rattle.history.specs.Chains.{placed_from}
-use Rattle.history.specs.State.{Catch, none_yet, catch_in}
+use Rattle.history.specs.{Phase, unborn, waits, runs, armed, replied, reaped, Submission, submission, phase, hit, fired, data_of, placed_from, Catch, none_yet, catch_in}
 
 abbrev pub is_pending : Stage → Bool
 is_pending (Replied res) = false

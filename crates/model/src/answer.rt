@@ -4,10 +4,7 @@ ghost use Rattle.entry.specs.Table.{fits_op};
 ghost use Rattle.history.specs.Answers.{read_from, write_to, close_of, poll_of, at_end, bad_end, bare};
 ghost use Rattle.level.specs.declared.level.Level.{Level};
 ghost use Rattle.level.specs.declared.ends.End.{End};
-ghost use Rattle.model.specs.Content.{caps_of, flow_in};
-ghost use Rattle.model.specs.Ends.{end_as};
-ghost use Rattle.model.specs.Ready.{answer_as};
-ghost use Rattle.model.specs.Answers.{op_answer, answer_in};
+ghost use Rattle.model.specs.{caps_of, flow_in, end_as, answer_as, op_answer, answer_in};
 
 use crate::ends::{NamedEnd, named_end};
 use crate::errno::INVALID;

@@ -1,10 +1,8 @@
 //! What a cancel's events make of the requests of a ring, and what it comes to.
 ghost use Rattle.std.specs.Prelude.{◌≡◌, ◌<◌, true, cond, length, List, Some, slice_get, IfOk, OnErr};
 ghost use Rattle.history.specs.State.{with_took, with_missed};
-ghost use Rattle.model.specs.Moves.{put_stage, put_found, cancelled};
+ghost use Rattle.model.specs.{put_stage, put_found, cancelled, answer_as, comes_upon, may_take, may_miss, cancel_answer};
 ghost use Rattle.model.specs.Content.{Content};
-ghost use Rattle.model.specs.Ready.{answer_as};
-ghost use Rattle.model.specs.Cancels.{comes_upon, may_take, may_miss, cancel_answer};
 
 use crate::errno::{ALREADY, CANCELLED, NOT_FOUND};
 use crate::kind::is_all;

@@ -1,8 +1,7 @@
 //! The chains of a ring, read off its requests in the order of submission.
 ghost use Rattle.std.specs.Prelude.{◌≡◌, ◌<◌, ◌≤◌, ◌⊎◌, length};
 ghost use Rattle.entry.specs.Entry.{fails_op};
-ghost use Rattle.model.specs.Seen.{placed_in, handed_in, with_op};
-ghost use Rattle.model.specs.Decides.{severs_at, severed_in, chain_done};
+ghost use Rattle.model.specs.{placed_in, handed_in, with_op, severs_at, severed_in, chain_done};
 
 use crate::request::Request;
 use entry::{Op, Sqe, fails};

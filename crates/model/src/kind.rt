@@ -1,8 +1,6 @@
 //! What kind of work an operation asks for.
 ghost use Rattle.std.specs.Prelude.{◌≡◌};
-ghost use Rattle.history.specs.Chains.{is_timeout};
-ghost use Rattle.history.specs.Answers.{is_all};
-ghost use Rattle.history.specs.Legal.{ticks_of, count_of};
+ghost use Rattle.history.specs.{is_timeout, is_all, ticks_of, count_of};
 
 use entry::{Op, by_opcode};
 

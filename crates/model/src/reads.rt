@@ -1,7 +1,6 @@
 //! What is kept of a request, and a state in which nothing has happened yet.
 ghost use Rattle.std.specs.Prelude.{◌≡◌, None, Some, IfOk, MatchOption, replicate, map, []};
-ghost use Rattle.model.specs.Seen.{find};
-ghost use Rattle.model.specs.Fresh.{fresh, empty_pipe};
+ghost use Rattle.model.specs.{find, fresh, empty_pipe};
 
 use crate::pipe::Pipe;
 use crate::request::Request;

@@ -1,7 +1,6 @@
 //! What an operation comes to, and the reply that follows.
 ghost use Rattle.std.specs.Prelude.{◌≡◌, ◌↔◌, take, List, IsTrue, IfOk, OnErr, MatchOption};
-ghost use Rattle.history.specs.Pipes.{size};
-ghost use Rattle.history.specs.Answers.{now, later, bare, with_front};
+ghost use Rattle.history.specs.{size, now, later, bare, with_front};
 ghost use Rattle.model.specs.Content.{Content, bytes_at};
 ghost use Rattle.model.specs.Ready.{answer_as, answer_of, IsNow};
 

@@ -2,14 +2,8 @@
 ghost use Rattle.std.specs.Prelude.{◌≡◌, ◌<◌, false, length, Some, None, slice_get, IfOk, OnOk, OnErr};
 ghost use Rattle.entry.specs.declared.op.Op.{Op};
 ghost use Rattle.history.specs.declared.event.Event.TheVariants.{Reply};
-ghost use Rattle.history.specs.Pipes.{given_at};
-ghost use Rattle.history.specs.Answers.{now};
-ghost use Rattle.model.specs.Agrees.{Decided, MayFollow};
-ghost use Rattle.model.specs.Content.{bytes_at};
-ghost use Rattle.model.specs.Ends.{end_as};
-ghost use Rattle.model.specs.Seen.{placed_in, handed_in, with_op};
-ghost use Rattle.model.specs.Answers.{answer_in};
-ghost use Rattle.model.specs.Replies.{put_reply, bytes_in, taken_from, put_into, shut_at, moved_over, moved};
+ghost use Rattle.history.specs.{given_at, now};
+ghost use Rattle.model.specs.{Decided, MayFollow, bytes_at, end_as, placed_in, handed_in, with_op, answer_in, put_reply, bytes_in, taken_from, put_into, shut_at, moved_over, moved};
 
 use crate::ends::{NamedEnd, named_end};
 use crate::pipe::{Pipe, bytes_at};

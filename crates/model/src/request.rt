@@ -1,8 +1,7 @@
 //! What is kept of one request.
 ghost use Rattle.std.specs.Prelude.{◌≡◌, Some};
 ghost use Rattle.history.specs.Chains.{joins, hosts};
-ghost use Rattle.model.specs.Seen.{handed_of, is_pending, reply_at};
-ghost use Rattle.model.specs.Moves.{is_idle, is_due};
+ghost use Rattle.model.specs.{handed_of, is_pending, reply_at, is_idle, is_due};
 
 use crate::found::Found;
 use crate::shared::Shared;

@@ -1,10 +1,7 @@
 //! What a SPLICE comes to: from one pipe, and from another.
 ghost use Rattle.std.specs.Prelude.{◌≡◌, ◌<◌, Some, slice_get};
-ghost use Rattle.history.specs.Pipes.{read_end};
-ghost use Rattle.history.specs.Answers.{splice_of};
-ghost use Rattle.model.specs.Content.{caps_of, flow_in};
-ghost use Rattle.model.specs.Ends.{end_as};
-ghost use Rattle.model.specs.Ready.{answer_as};
+ghost use Rattle.history.specs.{read_end, splice_of};
+ghost use Rattle.model.specs.{caps_of, flow_in, end_as, answer_as};
 
 use crate::ends::NamedEnd;
 use crate::errno::INVALID;

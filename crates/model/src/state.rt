@@ -1,8 +1,7 @@
 //! What is kept of a run, and the events of its requests.
 ghost use Rattle.std.specs.Prelude.{◌≡◌, true, IfOk, OnErr};
 ghost use Rattle.history.specs.Legal.{shut_for};
-ghost use Rattle.model.specs.Agrees.{Decided, MayFollow};
-ghost use Rattle.model.specs.Steps.{is_step};
+ghost use Rattle.model.specs.{Decided, MayFollow, is_step};
 
 use crate::pipe::Pipe;
 use crate::ring::Ring;

@@ -1,8 +1,7 @@
 //! Every event, carried out or refused.
 ghost use Rattle.std.specs.Prelude.{◌≡◌, true, cond, IfOk, OnErr};
 ghost use Rattle.history.specs.Legal.{shut_for};
-ghost use Rattle.model.specs.Agrees.{Decision, IsNext};
-ghost use Rattle.model.specs.Steps.{ring_of, may_step, put_step};
+ghost use Rattle.model.specs.{Decision, IsNext, ring_of, may_step, put_step};
 
 use crate::ring::Ring;
 use crate::state::State;

@@ -2,8 +2,7 @@
 ghost use Rattle.std.specs.Prelude.{◌≡◌, ◌<◌, true, cond, length, slice_get};
 ghost use Rattle.std.specs.List.{filter};
 ghost use Rattle.model.specs.declared.request.Stage.TheVariants.{Armed};
-ghost use Rattle.model.specs.Moves.{put_stage, put_fired, put_settled, may_arm, may_expire, is_done, later_answered, may_count, runs_out, may_fire, may_fire_miss, may_settle, cancelled, timed_out, counted, is_answered};
-ghost use Rattle.model.specs.Seen.{stage_at};
+ghost use Rattle.model.specs.{put_stage, put_fired, put_settled, may_arm, may_expire, is_done, later_answered, may_count, runs_out, may_fire, may_fire_miss, may_settle, cancelled, timed_out, counted, is_answered, stage_at};
 
 use crate::errno::{CANCELLED, TIMED_OUT};
 use crate::kind::{count_of, is_timeout, ticks_of};

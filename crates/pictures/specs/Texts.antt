@@ -2,8 +2,7 @@
 use Rattle.std.specs.Prelude.{ℕ, ℤ, Bool, true, false, List, [], ◌∷◌, ◌++◌, length, codes, decimal}
 use Rattle.history.specs.declared.event.Event.{Event}
 use Rattle.script.specs.declared.script.Script.{Script}
-use Rattle.script_text.specs.HistoryText.{history_text}
-use Rattle.script_text.specs.TableText.{table_text}
+use Rattle.script_text.specs.{history_text, table_text}
 
 -- a table and a history that leads to it, each followed by an empty line
 abbrev pub explained_lines : Script → List (List (ℤ × List ℕ) × List Event) → List ℕ

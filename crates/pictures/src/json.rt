@@ -4,8 +4,7 @@ ghost use Rattle.script.specs.Rows.{rows_of};
 ghost use Rattle.serde_json.specs.Data.{null};
 ghost use Rattle.serde_json.specs.View.{view};
 ghost use Rattle.serde_json.specs.Written.{has_float};
-ghost use Rattle.pictures.specs.Json.{explained_data, history_data, json_text, listed, table_data, tables_data, tallied_data, verdict_data};
-ghost use Rattle.pictures.specs.Shown.{explained_of, tallied_of, verdict_of};
+ghost use Rattle.pictures.specs.{explained_data, history_data, json_text, listed, table_data, tables_data, tallied_data, verdict_data, explained_of, tallied_of, verdict_of};
 
 use crate::values::{history_value, table_value};
 use history::Event;

@@ -1,8 +1,7 @@
 //! A history as a table in text.
 ghost use Rattle.std.specs.Prelude.{◌≡◌, ◌+◌, ◌<◌, ◌≤◌, ◌++◌, length, map, replicate, IfOk, OnOk};
 ghost use Rattle.std.specs.String.{string_bytes};
-ghost use Rattle.pictures.specs.Marks.{shown};
-ghost use Rattle.pictures.specs.Pictures.{cell, column_of, head_cells, lanes_text, longest, name_of, picture, row_cells, rows, rule_cells, short, width_of, widths};
+ghost use Rattle.pictures.specs.{shown, cell, column_of, head_cells, lanes_text, longest, name_of, picture, row_cells, rows, rule_cells, short, width_of, widths};
 
 use crate::marks::{Lane, Mark, marks_of};
 use history::Event;

@@ -1,8 +1,7 @@
 //! A history as a sequence diagram.
 ghost use Rattle.std.specs.Prelude.{◌≡◌, ◌+◌, ◌++◌, map, IfOk, OnOk};
 ghost use Rattle.std.specs.String.{string_bytes};
-ghost use Rattle.pictures.specs.Marks.{shown};
-ghost use Rattle.pictures.specs.Diagrams.{diagram, mermaid_text, participants, step_text, steps};
+ghost use Rattle.pictures.specs.{shown, diagram, mermaid_text, participants, step_text, steps};
 
 use crate::lanes::Columns;
 use crate::marks::{Lane, Mark, marks_of};

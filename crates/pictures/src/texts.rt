@@ -1,10 +1,8 @@
 //! Plain texts of explained outcomes, of many runs, and of verdicts.
 ghost use Rattle.std.specs.Prelude.{◌≡◌, ◌++◌, codes, decimal, map, IfOk, OnOk};
 ghost use Rattle.script.specs.Rows.{rows_of};
-ghost use Rattle.script_text.specs.HistoryText.{history_text};
-ghost use Rattle.script_text.specs.TableText.{table_text};
-ghost use Rattle.pictures.specs.Shown.{explained_of, tallied_of, verdict_of};
-ghost use Rattle.pictures.specs.Texts.{explained_lines, explained_text, tally_lines, tally_text, verdict_lines, verdict_word};
+ghost use Rattle.script_text.specs.{history_text, table_text};
+ghost use Rattle.pictures.specs.{explained_of, tallied_of, verdict_of, explained_lines, explained_text, tally_lines, tally_text, verdict_lines, verdict_word};
 
 use history::Event;
 use script::{Script, Table};

@@ -2,8 +2,7 @@
 ghost use Rattle.std.specs.Prelude.{◌≡◌, ◌<◌, ◌≤◌, ◌+◌, ◌↔◌, ◌⊎◌, ◌++◌, length, take, drop, IfOk, IsErrOf};
 ghost use Rattle.circular_buffer.specs.Buffer.{buffer};
 ghost use Rattle.level.specs.Replies.{close_reply, is_shut, moved, poll_reply, read_reply, size, splice_reply, write_reply};
-ghost use Rattle.pipe.specs.Pipe.{IsConduit, level_of};
-ghost use Rattle.pipe.specs.Moves.{new_conduit, OnIdle, after_read, after_write, after_close};
+ghost use Rattle.pipe.specs.{IsConduit, level_of, new_conduit, OnIdle, after_read, after_write, after_close};
 
 use crate::error::PipeError;
 use circular_buffer::HeapCircularBuffer;

@@ -5,9 +5,8 @@ use Rattle.entry.specs.declared.op.Op.TheVariants.{PollAdd, Timeout, LinkTimeout
 use Rattle.entry.specs.declared.op.Offset.{Offset}
 use Rattle.entry.specs.declared.op.Offset.TheVariants.{Zero, Current}
 use Rattle.entry.specs.Entry.{Entry}
-use Rattle.entry.specs.Table.{allowed_flags, fits, is_valid, row}
+use Rattle.entry.specs.{allowed_flags, fits, is_valid, row, Says, layout}
 use Rattle.entry.specs.declared.row.Row.{Row}
-use Rattle.entry.specs.Text.{Says, layout}
 
 -- an entry without flags and user_data
 abbrev pub plain : Op → Entry

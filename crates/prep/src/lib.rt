@@ -3,8 +3,7 @@
 #![tactic(auto)]
 
 ghost use Rattle.std.specs.Prelude.{◌≡◌, pos, negsuc, true, false};
-ghost use Rattle.entry.specs.Table.{no_fd, row as table_row};
-ghost use Rattle.entry.specs.Text.{Says, layout};
+ghost use Rattle.entry.specs.{no_fd, row as table_row, Says, layout};
 ghost use Rattle.prep.specs.Built.{IsOfRow, flagged, link_timeout_op, plain, poll_op, read_op, splice_op, timeout_count_op, timeout_op, write_op};
 
 use bitflags::Flags;

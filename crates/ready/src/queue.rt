@@ -3,10 +3,7 @@ ghost use Rattle.std.specs.Prelude.{◌≡◌, ◌↔◌, ◌≤◌, ◌<◌, �
 ghost use Rattle.history.specs.declared.req.Req.{Req};
 ghost use Rattle.crossbeam_queue.specs.Passes.{view, IsPassOf, IsSamePass, ruled_capacity};
 ghost use Rattle.ready.specs.declared.span.Span.{Span};
-ghost use Rattle.ready.specs.Rule.{all_shares};
-ghost use Rattle.ready.specs.Spans.{most};
-ghost use Rattle.ready.specs.Ready.{IsOf, IsNew, AreAll, putting, putting_all, taking, all_put, all_taken, times, numbers_of, room_of};
-ghost use Rattle.ready.specs.QueueParts.{HasDrawn, IsRoom, listed};
+ghost use Rattle.ready.specs.{all_shares, most, IsOf, IsNew, AreAll, putting, putting_all, taking, all_put, all_taken, times, numbers_of, room_of, HasDrawn, IsRoom, listed};
 ghost use Rattle.ready.specs.declared.error.GatherError.TheVariants.{Missing};
 
 use crate::error::{GatherError, Memory, Ungathered};

@@ -3,13 +3,10 @@ use Rattle.std.proofs.Common.{drop, lit<}
 use Rattle.std.proofs.lemmas.List.Concat.{flat_map-append}
 use Rattle.entry.specs.Entry.{Entry}
 use Rattle.entry.specs.Text.{Says}
-use Rattle.steps.specs.Cells.{cells_in}
-use Rattle.steps.specs.Fairness.{IsFree}
+use Rattle.steps.specs.{cells_in, IsFree}
 use Rattle.board.specs.declared.error.SubmitError.{SubmitError}
 use Rattle.board.specs.declared.error.SubmitError.TheVariants.{Full, BufferLength, Spent}
-use Rattle.board.specs.Batches.{Entries, AreFit, submits_of}
-use Rattle.board.specs.Lanes.{nth}
-use Rattle.board.specs.Refusals.{RefusesBatch, RefusesEntry}
+use Rattle.board.specs.{Entries, AreFit, submits_of, nth, RefusesBatch, RefusesEntry}
 use Rattle.ring_c.proofs.Common.{AreRead, AreSaid, Facts, Fits, Goes, List, None, Pass, Req, Some, Submit, Vec, [], add-zero, ap, append-nil, arith, buffers_of, inl, inr, length, next_of, refl, seen_of, slice_get, subst, suc, sym, take, true, zero, ℕ, ⊎_elim, ◌*◌, ◌++◌, ◌+◌, ◌/◌, ◌<◌, ◌∙◌, ◌∷◌, ◌≡◌, ◌⊎◌}
 
 -- where an element of a list lies to which one was added

@@ -1,13 +1,11 @@
 -- The words of other modules that the proofs of this crate use.
-pub use Rattle.board.specs.Calls.{Finds, Goes, next_of}
-pub use Rattle.board.specs.ShapeLimits.{counts}
+pub use Rattle.board.specs.PassEvents.{AreNew, GoesOn, answered_by, answered_one, is_among}
+pub use Rattle.board.specs.{Finds, Goes, next_of, counts}
 pub use Rattle.board.specs.declared.completion.Completion.{Completion}
 pub use Rattle.history.specs.Legal.{Fits, FitsOp}
 pub use Rattle.history.specs.declared.event.Event.TheVariants.{Arm, Fire, Settle, Sever, Submit}
 pub use Rattle.history.specs.declared.req.Req.{Req}
-pub use Rattle.ring_c.specs.ClientCalls.{AreRead, AreSaid, ReapsAt, Shows, Submits, buffers_of}
-pub use Rattle.ring_c.specs.Sides.{ClientFacts, DeskFacts}
-pub use Rattle.ring_c.specs.Turns.{AreNew, GoesOn, IsTurn, Told, Turned, answered_by, answered_one, is_among}
+pub use Rattle.ring_c.specs.{AreRead, AreSaid, ReapsAt, Shows, Submits, buffers_of, ClientFacts, DeskFacts, IsTurn, Told, Turned}
 pub use Rattle.ring_c.specs.declared.code.Code.{Code}
 pub use Rattle.ring_c.specs.declared.code.Code.TheVariants.{Closed, Foreign, InUse}
 pub use Rattle.ring_c.specs.declared.inside.Inside.{Inside}
@@ -20,8 +18,7 @@ pub use Rattle.std.proofs.lemmas.List.{append-nil, append_assoc, length-drop, le
 pub use Rattle.std.proofs.raw_atomic.Walks.{proved_at}
 pub use Rattle.std.specs.Global.{Global, Vec}
 pub use Rattle.std.specs.Prelude.{IfOk, option_to_list, slice_get}
-pub use Rattle.work.specs.Board.{Facts, IsOf}
-pub use Rattle.work.specs.Passes.{Pass, own_of, seen_of}
+pub use Rattle.work.specs.{Facts, IsOf, Pass, own_of, seen_of}
 pub use base.Fml.{flft, fsep, ftrue}
 pub use base.Logic.{emp, ent, fst∗, id⊢, never}
 pub use contract.Monad.{fact}

@@ -1,7 +1,6 @@
 -- The passes at a desk.
 use Rattle.board.specs.declared.shape.RingShape.{RingShape}
-use Rattle.board.specs.New.{AreSubmitters, AreWorkers}
-use Rattle.board.specs.Reports.{AreOf}
+use Rattle.board.specs.{AreSubmitters, AreWorkers, AreOf}
 use Rattle.board.proofs.HeardPasses.{are_of_last}
 use Rattle.ring_c.proofs.Common.{Facts, IsOf, List, None, Option, Pass, Some, [], ap, append-nil, counts, length, option_to_list, refl, subst, suc, sym, ℕ, ◌++◌, ◌∷◌, ◌≡◌}
 

@@ -10,15 +10,11 @@ use Rattle.history.specs.History.{submits, phase}
 use Rattle.std.specs.Global.{Vec}
 use Rattle.steps.specs.declared.view.Role.TheVariants.{Submitter}
 use Rattle.steps.specs.Fairness.{IsReaped}
-use Rattle.work.specs.Board.{Facts}
-use Rattle.work.specs.Passes.{Pass, seen_of}
+use Rattle.work.specs.{Facts, Pass, seen_of}
 use Rattle.board.specs.declared.completion.Completion.{Completion}
 use Rattle.board.specs.declared.error.SubmitError.{SubmitError}
 use Rattle.board.specs.declared.error.ReapError.{ReapError}
-use Rattle.board.specs.Batches.{Entries, AreFit, submits_of}
-use Rattle.board.specs.Calls.{Goes, next_of}
-use Rattle.board.specs.Headline.{IsCompletion, HasOnce}
-use Rattle.board.specs.Refusals.{RefusesBatch, RefusesReap}
+use Rattle.board.specs.{Entries, AreFit, submits_of, Goes, next_of, IsCompletion, HasOnce, RefusesBatch, RefusesReap}
 use Rattle.ring_c.specs.declared.code.Code.{Code}
 use Rattle.ring_c.specs.declared.code.Code.TheVariants.{Memory, Length, BufferLength}
 use Rattle.ring_c.specs.Codes.{code_for, reap_code_for}

@@ -1,10 +1,8 @@
 -- What a poller's calls do.
 use Rattle.std.specs.Prelude.{◌≡◌, ℕ, [], ◌∷◌, length, Result, Ok, Err}
 use Rattle.history.specs.declared.event.Event.TheVariants.{Tick}
-use Rattle.work.specs.Board.{Facts}
-use Rattle.work.specs.Passes.{Pass, seen_of}
-use Rattle.board.specs.Calls.{Goes}
-use Rattle.board.specs.PollerTimers.{IsPast}
+use Rattle.work.specs.{Facts, Pass, seen_of}
+use Rattle.board.specs.{Goes, IsPast}
 use Rattle.ring_c.specs.declared.code.Code.{Code}
 use Rattle.ring_c.specs.declared.code.Code.TheVariants.{ClockEnd}
 use Rattle.ring_c.specs.Sides.{DeskFacts}

@@ -9,9 +9,7 @@ use Rattle.steps.specs.Rule.{Extends, Looks}
 use Rattle.work.specs.declared.run.Ran.{Ran}
 use Rattle.work.specs.declared.run.Ran.TheVariants.{Replied}
 use Rattle.work.specs.declared.run.Parked.{Parked}
-use Rattle.work.specs.Board.{Facts, IsOf}
-use Rattle.work.specs.Passes.{Pass, Running, FoundNotReady}
-use Rattle.work.specs.WorkerRuns.{IsRun}
+use Rattle.work.specs.{Facts, IsOf, Pass, Running, FoundNotReady, IsRun}
 use Rattle.ring_c.specs.declared.code.Code.{Code}
 use Rattle.ring_c.specs.declared.code.Code.TheVariants.{NotReady, PipeBusy}
 

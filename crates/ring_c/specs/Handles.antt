@@ -2,12 +2,10 @@
 use Rattle.std.specs.Prelude.{◌≡◌, ◌⊎◌, ◌++◌, ℕ, Bool, [], ◌∷◌, List, length, map, Option, Some, None, Result, Ok, Err}
 use Rattle.entry.specs.declared.cqe.Cqe.{Cqe}
 use Rattle.history.specs.declared.req.Req.{Req}
-use Rattle.work.specs.Board.{Facts}
-use Rattle.work.specs.Passes.{Pass}
+use Rattle.work.specs.{Facts, Pass}
 use Rattle.board.specs.declared.completion.Completion.{Completion}
 use Rattle.board.specs.declared.phase.Phase.{Phase}
-use Rattle.board.specs.Calls.{Goes, Finds}
-use Rattle.board.specs.Reports.{IsReport}
+use Rattle.board.specs.{Goes, Finds, IsReport}
 use Rattle.ring_c.specs.declared.code.Code.{Code}
 use Rattle.ring_c.specs.declared.code.Code.TheVariants.{Closed, WrongKind, Memory, Missing}
 use Rattle.ring_c.specs.declared.inside.Inside.{Inside}

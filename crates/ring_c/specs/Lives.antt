@@ -1,8 +1,7 @@
 -- How a board is opened, how its passes leave its poller's desk and come back.
 use Rattle.std.specs.Prelude.{◌≡◌, ◌⊎◌, ℕ, ◌++◌, [], ◌∷◌, List, Bool, true, false, Option, Some, None, Result, Ok, Err}
 use Rattle.board.specs.declared.shape.Shape.{Shape}
-use Rattle.board.specs.New.{IsNew}
-use Rattle.board.specs.ShapeLimits.{counts, is_shape}
+use Rattle.board.specs.{IsNew, counts, is_shape}
 use Rattle.ring_c.specs.declared.code.Code.{Code}
 use Rattle.ring_c.specs.declared.code.Code.TheVariants.{BadShape, InUse, Memory}
 use Rattle.ring_c.specs.declared.inside.Inside.{Inside}

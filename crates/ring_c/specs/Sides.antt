@@ -2,8 +2,7 @@
 use Rattle.std.specs.Prelude.{ℕ, List, [], Option, Some, None}
 use Rattle.history.specs.declared.req.Req.{Req}
 use Rattle.steps.specs.Rule.{opening_view}
-use Rattle.work.specs.Board.{Facts, IsOf}
-use Rattle.work.specs.Passes.{Pass}
+use Rattle.work.specs.{Facts, IsOf, Pass}
 
 -- a client: its board, its pass, and the buffer of the completion that it reaped last
 pub record ClientFacts : Type 0 where

@@ -4,9 +4,7 @@ ghost use Rattle.entry.specs.declared.cqe.Cqe.{Cqe};
 ghost use Rattle.board.specs.declared.phase.Phase.{Phase};
 ghost use Rattle.ring_c.specs.declared.code.Code.{Code};
 ghost use Rattle.ring_c.specs.declared.results.Turn.{Turn};
-ghost use Rattle.ring_c.specs.Codes.{answer_of};
-ghost use Rattle.ring_c.specs.Handles.{GivesBytes, GivesTook, LooksIn, OfClient, OfDesk, OfHand, PollsThe, ReapsThe, SubmitsThe, Through, TicksAt, WorksAt};
-ghost use Rattle.ring_c.specs.Results.{counted_as, looked_as, polled_as, reaped_as};
+ghost use Rattle.ring_c.specs.{answer_of, GivesBytes, GivesTook, LooksIn, OfClient, OfDesk, OfHand, PollsThe, ReapsThe, SubmitsThe, Through, TicksAt, WorksAt, counted_as, looked_as, polled_as, reaped_as};
 
 use crate::code::{Code, answer_number};
 use crate::handle::Handle;

@@ -2,13 +2,9 @@
 ghost use Rattle.std.specs.Prelude.{◌≡◌, ◌⊎◌, ◌++◌, ◌∷◌, [], length, map, Ok, IfOk, IfErr};
 ghost use Rattle.std.specs.Arc.{arc_value};
 ghost use Rattle.work.specs.Board.{IsOf};
-ghost use Rattle.board.specs.Calls.{Goes, Finds};
-ghost use Rattle.board.specs.Reports.{AreOf, IsReport};
+ghost use Rattle.board.specs.{Goes, Finds, AreOf, IsReport};
 ghost use Rattle.ring_c.specs.declared.code.Code.TheVariants.{Memory, Missing};
-ghost use Rattle.ring_c.specs.ClientCalls.{Shows};
-ghost use Rattle.ring_c.specs.DeskCalls.{IsFull, IsStill, Ticks};
-ghost use Rattle.ring_c.specs.Numbers.{number_for};
-ghost use Rattle.ring_c.specs.Turns.{IsTurn};
+ghost use Rattle.ring_c.specs.{Shows, IsFull, IsStill, Ticks, number_for, IsTurn};
 
 use crate::client::Client;
 use crate::code::Code;

@@ -3,8 +3,7 @@ ghost use Rattle.std.specs.Prelude.{◌≡◌, []};
 ghost use Rattle.std.specs.Arc.{arc_value};
 ghost use Rattle.work.specs.Board.{IsOf};
 ghost use Rattle.board.specs.Calls.{Goes, Finds};
-ghost use Rattle.ring_c.specs.HandCalls.{RunsAt};
-ghost use Rattle.ring_c.specs.Sides.{IsIn, pass_in};
+ghost use Rattle.ring_c.specs.{RunsAt, IsIn, pass_in};
 
 use crate::code::Code;
 use board::{Board, Parked, Phase, Ran, Worker};

@@ -1,8 +1,7 @@
 //! The passes of a board leave its poller's desk, and come back.
 ghost use Rattle.std.specs.Prelude.{◌≡◌, IfOk, IfErr};
-ghost use Rattle.ring_c.specs.Sides.{DeskFacts};
+ghost use Rattle.ring_c.specs.{DeskFacts, AreOfTwo, GivesPass, IsMade, IsShapeOf, IsUnmade, TakesIn};
 ghost use Rattle.ring_c.specs.declared.code.Code.TheVariants.{Memory, BadShape};
-ghost use Rattle.ring_c.specs.Lives.{AreOfTwo, GivesPass, IsMade, IsShapeOf, IsUnmade, TakesIn};
 
 use crate::code::Code;
 use crate::desk::Desk;

@@ -1,12 +1,8 @@
 //! How C opens a board, gets its passes, gives them back and ends it.
 ghost use Rattle.std.specs.Prelude.{◌≡◌, ◌≢◌, ℕ, Result, None};
 ghost use Rattle.ring_c.specs.declared.results.Line.{Line};
-ghost use Rattle.ring_c.specs.Reports.{GivesLineBytes, TellsLine};
-ghost use Rattle.ring_c.specs.Results.{counted_as, line_as};
+ghost use Rattle.ring_c.specs.{GivesLineBytes, TellsLine, counted_as, line_as, answer_of, EndsIn, Through, AreOfOne, GivesOut, GivesPass, Opens, TakesBack};
 ghost use Rattle.ring_c.specs.declared.code.Code.{Code};
-ghost use Rattle.ring_c.specs.Codes.{answer_of};
-ghost use Rattle.ring_c.specs.Handles.{EndsIn, Through};
-ghost use Rattle.ring_c.specs.Lives.{AreOfOne, GivesOut, GivesPass, Opens, TakesBack};
 
 use crate::code::Code;
 use crate::handle::Handle;

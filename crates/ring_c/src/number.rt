@@ -1,7 +1,6 @@
 //! The number of a request, as C has it.
 ghost use Rattle.std.specs.Prelude.{◌≡◌, ◌<◌, ◌+◌, ◌++◌, ◌∷◌, [], drop, map, take, length};
-ghost use Rattle.ring_c.specs.Numbers.{number_for};
-ghost use Rattle.ring_c.specs.ClientCalls.{Shows};
+ghost use Rattle.ring_c.specs.{number_for, Shows};
 
 use crate::code::Code;
 use history::Req;

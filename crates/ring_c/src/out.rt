@@ -1,8 +1,6 @@
 //! What a turn of the poller tells: the requests that are to be run, and those that it answered.
 ghost use Rattle.std.specs.Prelude.{◌≡◌, ◌++◌, ◌∷◌, [], ◌≤◌, ◌<◌, ◌+◌, true, length, map, Ok, IfOk};
-ghost use Rattle.ring_c.specs.Turns.{HasRoom};
-ghost use Rattle.ring_c.specs.ClientCalls.{Shows};
-ghost use Rattle.ring_c.specs.Numbers.{number_for};
+ghost use Rattle.ring_c.specs.{HasRoom, Shows, number_for};
 
 use crate::number::{Number, copy_numbers};
 use crate::results::Turn;

@@ -3,7 +3,7 @@
 
 use clap::Error;
 use clap::error::ErrorKind;
-use queries::{Invocation, invocation_of, plain_of};
+use commands::{Console, invocation_of, serve};
 use std::alloc::AllocError;
 use std::io;
 use std::process::ExitCode;
@@ -37,19 +37,6 @@ fn report(rt: &HostRuntime, error: Error) -> io::Result<u8> {
     Ok(if error.use_stderr() { 1 } else { 0 })
 }
 
-/// Carries an invocation out: `commands` does where it has no word of `queries`.
-fn carry_out<T: Threads + Wait + Copy + Send + Sync + 'static + Clock>(
-    threads: &T,
-    rt: &HostRuntime,
-    invocation: &Invocation,
-) -> u8 {
-    let (mut out, mut err) = (rt.stdout(), rt.stderr());
-    match plain_of(invocation) {
-        Some(plain) => commands::serve(threads, rt, &plain, &mut out, &mut err),
-        None => queries::serve(threads, rt, invocation, &mut out, &mut err),
-    }
-}
-
 /// Reads the command line and carries it out. The answer is the program's status.
 fn run<T: Threads + Wait + Copy + Send + Sync + 'static + Clock>(
     threads: &T,
@@ -58,7 +45,11 @@ fn run<T: Threads + Wait + Copy + Send + Sync + 'static + Clock>(
     let words = words_of(rt)?;
     let texts = texts_of(rt, &words)?;
     match invocation_of(rt.alloc(), &texts) {
-        Ok(invocation) => Ok(carry_out(threads, rt, &invocation)),
+        Ok(invocation) => {
+            let (out, err) = (rt.stdout(), rt.stderr());
+            let mut console = Console { out, err };
+            Ok(serve(threads, rt, &invocation, &mut console))
+        }
         Err(error) => report(rt, error),
     }
 }

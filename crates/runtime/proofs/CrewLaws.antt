@@ -1,6 +1,5 @@
 -- The passes of the workers that came back, as lists.
-use Rattle.ready.specs.Ready.{IsOf as IsOfQueue}
-use Rattle.ready.specs.Rule.{all_shares}
+use Rattle.ready.specs.{IsOf as IsOfQueue, all_shares}
 use Rattle.runtime.proofs.Common.{All, All-push, AreAll, AreOf, Desk, IsWorkSide, List, Moves, Shared, WorkSide, [], all_passes, ap, arith, length, length-append, length-map, map, ready_of, refl, shares_in, suc, sum_by, sum_by-cons, sum_by_push, sym, worker_of, zero, ℕ, ◌+◌, ◌∙◌, ◌∷◌, ◌≡◌}
 
 pub workers_own : (s : Shared) (ws : List WorkSide) → All (λ w. IsWorkSide s w) ws → AreOf s.board (map worker_of ws)
@@ -21,6 +20,3 @@ shares_are (w ∷ ws) = sum_by-cons (λ (p : Moves). p.share) (ready_of w) (map 
 
 pub passes_all : (d : Desk) (ws : List WorkSide) → d.ready.share + shares_in ws ≡ all_shares → AreAll (all_passes d ws)
 passes_all d ws all = omega (arith, all, shares_are ws, sum_by_push (λ (p : Moves). p.share) (map ready_of ws) d.ready)
-
-pub passes_long : (d : Desk) (ws : List WorkSide) → length (all_passes d ws) ≡ length ws + 1
-passes_long d ws = omega (arith, length-append (map ready_of ws) (d.ready ∷ []), length-map ws ready_of)

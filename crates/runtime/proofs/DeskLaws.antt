@@ -3,7 +3,7 @@ use Rattle.history.proofs.Requests.{bool_cases, same_true}
 use Rattle.wheel.specs.Deadlines.{armed as armed_at, dropped}
 use Rattle.runtime.specs.declared.hands.Hands.{Hands}
 use Rattle.runtime.proofs.Common.{AllRung, Bool, Cares, Desk, HasRung, IsDone, IsLinkedDue, IsNoted, IsPlain, IsSet, IsStopped, IsStuck, IsUnarmed, Line, List, LooksAfter, None, NoneIsDue, Once, Option, Pass, Req, Some, Waiting, [], ap, arith, armed, cares_in, cond, events_of, false, inl, inr, is_among, length, phase, same, seen_of, subst, sym, true, true≢false, with_waiting, with_watched, ℕ, ⊎_elim, ◌++◌, ◌+◌, ◌<◌, ◌∙◌, ◌∷◌, ◌≡◌, ◌≢◌, ◌≤◌, ◌⊎◌}
-use Rattle.runtime.proofs.TurnLaws.{among_append}
+use Rattle.board.proofs.EventsTogether.{among_append}
 use Rattle.runtime.proofs.PassLaws.{or_true}
 
 -- ---- members of lists

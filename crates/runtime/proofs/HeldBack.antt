@@ -1,8 +1,7 @@
 -- Requests that could not go on, and the loops over those that wait and over those that are watched.
 use Rattle.std.proofs.Common.{not, IfOk}
 use Rattle.entry.specs.Entry.{Entry}
-use Rattle.history.specs.Chains.{is_timer}
-use Rattle.history.specs.Legal.{IsOf as IsOfKind}
+use Rattle.history.specs.{is_timer, IsOf as IsOfKind}
 use Rattle.steps.proofs.JournalGrowth.{kind_lasts}
 use Rattle.board.specs.PollerRows.{MayArm}
 use Rattle.runtime.specs.declared.error.Memory.{Memory}

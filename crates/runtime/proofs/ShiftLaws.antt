@@ -15,14 +15,6 @@ shifts_then d e f g1 o1 g2 o2 x y = record {
       omega (arith, a, b, sum_by-append h x.puts y.puts, sum_by-append h x.takes y.takes, sum_by-append h g1 g2, sum_by-append h o1 o2);
 }
 
-pub shifts_still : (d : Desk) → Shifts d [] [] d
-shifts_still d = record {
-  puts = [];
-  takes = [];
-  ready = λ i. record d.ready { put = sym (append-nil d.ready.put) i; taken = sym (append-nil d.ready.taken) i };
-  numbers = λ h. omega arith;
-}
-
 -- a number was taken from the queue, or from those that are kept
 pub shifts_taken : (d e : Desk) (r : Req) → e.ready ≡ record d.ready { taken = d.ready.taken ++ r ∷ [] } → e.kept ≡ d.kept → Shifts d [] (r ∷ []) e
 shifts_taken d e r is kept = record {

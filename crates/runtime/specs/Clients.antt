@@ -4,14 +4,11 @@ use Rattle.history.specs.declared.req.Req.{Req}
 use Rattle.history.specs.History.{submits}
 use Rattle.steps.specs.declared.view.Role.TheVariants.{Submitter}
 use Rattle.steps.specs.Rule.{Begins}
-use Rattle.work.specs.Board.{Facts}
-use Rattle.work.specs.Passes.{Pass, seen_of}
+use Rattle.work.specs.{Facts, Pass, seen_of}
 use Rattle.board.specs.declared.completion.Completion.{Completion}
 use Rattle.board.specs.declared.error.ReapError.{ReapError}
 use Rattle.board.specs.declared.shape.Shape.{Shape}
-use Rattle.board.specs.New.{IsFresh}
-use Rattle.board.specs.Refusals.{RefusesReap}
-use Rattle.board.specs.ShapeLimits.{counts}
+use Rattle.board.specs.{IsFresh, RefusesReap, counts}
 use Rattle.runtime.specs.Turns.{kept_in}
 
 -- its board, its submitter's pass, its ring, the tail that it published last, how often it published one, and the posts that it took from its completion ring and whose completions it did not take yet, the oldest first

@@ -3,11 +3,8 @@ use Rattle.std.specs.Prelude.{◌≡◌, ℕ, ◌+◌, ◌==◌, ◌<◌, ◌≤
 use Rattle.history.specs.declared.event.Event.{Event}
 use Rattle.history.specs.declared.req.Req.{Req}
 use Rattle.std.specs.Arc.{arc_value}
-use Rattle.work.specs.Board.{Facts}
-use Rattle.work.specs.Passes.{Pass}
-use Rattle.ready.specs.Ready.{Moves, all_put, all_taken, times}
-use Rattle.ready.specs.Rule.{all_shares}
-use Rattle.ready.specs.QueueParts.{IsRoom}
+use Rattle.work.specs.{Facts, Pass}
+use Rattle.ready.specs.{Moves, all_put, all_taken, times, all_shares, IsRoom}
 use Rattle.runtime.specs.declared.shared.Shared.{Shared}
 use Rattle.runtime.specs.declared.started.EndRoom.{EndRoom}
 use Rattle.runtime.specs.declared.promised.PollThread.{PollThread}

@@ -4,22 +4,15 @@ use Rattle.std.specs.List.{slice_index_or}
 use Rattle.entry.specs.Entry.{Entry}
 use Rattle.history.specs.declared.req.Req.{Req}
 use Rattle.history.specs.declared.event.Event.{Event}
-use Rattle.history.specs.History.{same, phase, waits, armed, clock_of, IsReplied}
-use Rattle.history.specs.Chains.{IsLinkTimeout, IsPlaced, IsTarget, Open, Severed, is_timeout}
-use Rattle.history.specs.Legal.{count_of, IsOf as IsOfKind}
+use Rattle.history.specs.{phase, waits, armed, clock_of, IsReplied, IsLinkTimeout, IsPlaced, IsTarget, Open, Severed, is_timeout, count_of, IsOf as IsOfKind}
 use Rattle.steps.specs.declared.line.Line.{Line}
-use Rattle.steps.specs.Journal.{events_of, freed}
-use Rattle.steps.specs.Rule.{Begins}
+use Rattle.steps.specs.{events_of, freed, Begins}
 use Rattle.work.specs.Passes.{Pass}
+use Rattle.board.specs.PassEvents.{is_among}
 use Rattle.board.specs.TimerCalls.{HasFewer}
 use Rattle.wheel.specs.Wheel.{deadline_at}
 use Rattle.runtime.specs.declared.lists.Intake.{Intake}
 use Rattle.runtime.specs.declared.lists.Lists.{Lists}
-
--- the request is one of these
-abbrev pub is_among : List Req → Req → Bool
-is_among [] q = false
-is_among (r ∷ rs) q = cond (same r q) true (is_among rs q)
 
 -- how many requests of each ring were taken up, those that wait for another, those timers that are watched since a reply may end them, and the deadline of each timer
 pub record Cares : Type 0 where

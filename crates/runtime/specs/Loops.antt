@@ -1,7 +1,6 @@
 -- Desks that belong to what their threads share.
 use Rattle.std.specs.Prelude.{◌≡◌, ◌<◌, ◌≤◌, List, [], Option, Some, None}
-use Rattle.work.specs.Board.{IsOf}
-use Rattle.work.specs.Passes.{Pass, seen_of}
+use Rattle.work.specs.{IsOf, Pass, seen_of}
 use Rattle.bell.specs.BellPasses.{IsSleeperOf}
 use Rattle.ready.specs.Ready.{IsOf as IsOfQueue}
 use Rattle.board.specs.ShapeLimits.{widest}

@@ -1,20 +1,20 @@
 -- What parts of a poll turn make of the requests that wait, and why they stop.
 use Rattle.std.specs.Prelude.{◌≡◌, ◌⊎◌, ◌≤◌, ℕ, Bool, true, false, List, ◌∷◌, length, Some}
 use Rattle.history.specs.declared.req.Req.{Req}
-use Rattle.work.specs.Passes.{Pass, seen_of}
+use Rattle.work.specs.{Pass, seen_of, Facts}
 use Rattle.board.specs.declared.phase.Phase.{Phase as Standing}
 use Rattle.board.specs.declared.phase.Phase.TheVariants.{Armed}
 use Rattle.board.specs.declared.poller.Polled.{Polled}
 use Rattle.board.specs.TimerCalls.{IsEarly, IsUnarmed}
 use Rattle.outbox.specs.Outbox.{Waiting}
-use Rattle.work.specs.Board.{Facts}
 use Rattle.wheel.specs.Wheel.{deadline_at}
 use Rattle.history.specs.declared.event.Event.{Event}
 use Rattle.history.specs.History.{clock_of}
 use Rattle.runtime.specs.declared.lists.Lists.{Lists}
 use Rattle.runtime.specs.PollTurns.{Rang}
 use Rattle.runtime.specs.declared.hands.Hands.{Hands}
-use Rattle.runtime.specs.Desks.{Cares, IsHeldBack, IsLinkedDue, IsPendingTimer, IsNoted, IsPlain, LooksAfter, NoneIsDue, Once, cares_of, is_among}
+use Rattle.board.specs.PassEvents.{is_among}
+use Rattle.runtime.specs.Desks.{Cares, IsHeldBack, IsLinkedDue, IsPendingTimer, IsNoted, IsPlain, LooksAfter, NoneIsDue, Once, cares_of}
 use Rattle.runtime.specs.Shelves.{Places, with_request}
 
 -- the numbers found no place in the ready queue, or the outbox has none for one answer more

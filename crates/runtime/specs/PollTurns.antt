@@ -3,20 +3,19 @@ use Rattle.std.specs.Prelude.{◌≡◌, ◌≢◌, ◌⊎◌, ℕ, ◌+◌, ◌
 use Rattle.history.specs.declared.req.Req.{Req}
 use Rattle.history.specs.declared.event.Event.{Event}
 use Rattle.history.specs.Ticked.{ticked}
+use Rattle.board.specs.PassEvents.{GoesOn, answered_by, is_among, AreNew}
 use Rattle.board.specs.declared.shape.RingShape.{RingShape}
 use Rattle.steps.specs.declared.view.Role.TheVariants.{Poller}
 use Rattle.steps.specs.declared.line.Line.{Line}
 use Rattle.steps.specs.Journal.{freed}
-use Rattle.work.specs.Board.{Facts, IsOf}
-use Rattle.work.specs.Passes.{Pass, seen_of}
+use Rattle.work.specs.{Facts, IsOf, Pass, seen_of}
 use Rattle.ready.specs.Ready.{Facts as QueueFacts, Moves, IsOf as IsOfQueue}
 use Rattle.bell.specs.BellPasses.{Sleeping}
 use Rattle.outbox.specs.Outbox.{Waiting}
 use Rattle.runtime.specs.declared.hands.Hands.{Hands}
-use Rattle.runtime.specs.Turns.{GoesOn, answered_by}
 use Rattle.wheel.specs.Wheel.{deadline_at}
 use Rattle.runtime.specs.declared.lists.Intake.{Intake}
-use Rattle.runtime.specs.Desks.{Cares, AreHeldBack, ArePending, IsDone, IsLinkedDue, LooksAfter, NoneIsDue, Once, is_among, taken_in}
+use Rattle.runtime.specs.Desks.{Cares, AreHeldBack, ArePending, IsDone, IsLinkedDue, LooksAfter, NoneIsDue, Once, taken_in}
 
 -- the poller's desk: its passes, the numbers that found no place in the ready queue, and how many cells and rings its board has. It looks after the requests of each ring that were taken up, those that wait for another, those timers that are watched since a reply may end them, and the deadlines
 pub record Desk : Type 0 where
@@ -33,11 +32,6 @@ pub record Desk : Type 0 where
 
 abbrev pub cares_in : Desk → Cares
 cares_in d = record { taken = taken_in d.intakes; waiting = d.waiting; watched = d.watched; deadline = deadline_at d.deadlines }
-
--- none of these requests was moved to Ready before, and each stands here once
-abbrev pub AreNew : List Line → List Req → Type 0
-AreNew j [] = Unit {0}
-AreNew j (r ∷ rs) = (freed j r ≡ false) × (is_among rs r ≡ false) × AreNew j rs
 
 -- the pass is a poller's, which alone sets the clock
 abbrev pub IsPollers : Pass → Type 0

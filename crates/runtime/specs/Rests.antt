@@ -1,7 +1,6 @@
 -- A runtime at rest.
 use Rattle.std.specs.Prelude.{◌≡◌, ◌≤◌, List, [], All, length, map, vec_capacity}
-use Rattle.work.specs.Board.{Facts}
-use Rattle.work.specs.Passes.{Pass}
+use Rattle.work.specs.{Facts, Pass}
 use Rattle.steps.specs.Cells.{total}
 use Rattle.ready.specs.Ready.{Facts as QueueFacts}
 use Rattle.runtime.specs.declared.threads.WorkSide.{WorkSide}

@@ -3,8 +3,7 @@ use Rattle.std.specs.Prelude.{◌≡◌, ℕ, suc, ◌+◌, ◌<◌, List, [], �
 use Rattle.bell.specs.BellPasses.{Facts as Bell, Ringing, IsRingerOf, IsSleeperOf}
 use Rattle.board.specs.declared.shape.Shape.{Shape}
 use Rattle.board.specs.New.{IsNew}
-use Rattle.ready.specs.Ready.{IsOf as IsOfQueue}
-use Rattle.ready.specs.Rule.{all_shares}
+use Rattle.ready.specs.{IsOf as IsOfQueue, all_shares}
 use Rattle.runtime.specs.declared.parts.Parts.{Parts}
 use Rattle.runtime.specs.declared.crew.WorkerParts.{WorkerParts}
 

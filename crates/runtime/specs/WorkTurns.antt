@@ -6,15 +6,11 @@ use Rattle.history.specs.declared.event.Event.TheVariants.{Begin}
 use Rattle.history.specs.Chains.{IsPlaced}
 use Rattle.steps.specs.declared.line.Line.TheVariants.{Did}
 use Rattle.steps.specs.declared.view.Role.TheVariants.{Busy}
-use Rattle.steps.specs.Cells.{total}
-use Rattle.steps.specs.Rule.{Looks, Extends}
-use Rattle.steps.specs.Sleepers.{NoneSleeps}
-use Rattle.work.specs.Board.{Facts, IsOf}
-use Rattle.work.specs.Passes.{Pass, Running, FoundNotReady, seen_of}
+use Rattle.steps.specs.{total, Looks, Extends, NoneSleeps}
+use Rattle.work.specs.{Facts, IsOf, Pass, Running, FoundNotReady, seen_of, HasWoken, IsRun}
 use Rattle.work.specs.declared.run.Parked.TheVariants.{NotReady, PipeBusy}
 use Rattle.work.specs.declared.run.Ran.{Ran}
 use Rattle.work.specs.declared.run.Ran.TheVariants.{Replied, Parked}
-use Rattle.work.specs.WorkerRuns.{HasWoken, IsRun}
 use Rattle.board.specs.Calls.{Finds, Goes}
 use Rattle.board.specs.declared.phase.Phase.{Phase as Standing}
 use Rattle.board.specs.declared.phase.Phase.TheVariants.{Unborn, Done, Gone}

@@ -1,20 +1,22 @@
 //! The numbers of requests that the poller has moved to Ready, on their way into the ready queue.
 ghost use Rattle.std.specs.Prelude.{◌≡◌, ◌≢◌, [], ◌∷◌, ◌++◌, true, false};
 ghost use Rattle.ready.specs.Ready.{IsOf as IsOfQueue};
-ghost use Rattle.runtime.specs.Turns.{HandedOver};
-ghost use Rattle.runtime.specs.Backlogs.{no_numbers};
+ghost use Rattle.runtime.specs.{HandedOver, no_numbers};
 
 use history::Req;
+use ready::span::MOST;
 use ready::{ReadyPass, ReadyQueue, Span};
 use std::marker::Model;
 use std::sync::Wait;
 
 /// Numbers that are to be put into the ready queue, in order: a span that may still grow, and where that found no place there, the number
-/// that came next. And how many spans found their places, and how many numbers were added, modulo 2^32.
+/// that came next. And how many numbers a span gets at most; and, modulo 2^32, how many spans found their places, and how many numbers
+/// were added.
 #[derive(Drop)]
 pub(crate) struct Backlog {
     span: Option<Span>,
     next: Option<Span>,
+    limit: u8,
     puts: u32,
     added: u32,
 }
@@ -41,9 +43,17 @@ impl Backlog {
         Backlog {
             span: None,
             next: None,
+            limit: MOST,
             puts: 0,
             added: 0,
         }
+    }
+
+    /// From here on a span gets so many numbers at most.
+    pub fn limit_to(&mut self, limit: u8)
+        ensures { self.new ≡ self.old }
+    {
+        self.limit = limit;
     }
 
     /// How many spans were put into the ready queue, modulo 2^32.
@@ -71,16 +81,9 @@ impl Backlog {
         self.next.is_some()
     }
 
-    /// Adds a number. It joins the span where it is the next of the same ring and the span has fewer than `limit`; else the span goes into
+    /// Adds a number. It joins the span where it is the next of the same ring and the span has room for it; else the span goes into
     /// the ready queue first.
-    pub fn add<R: Wait>(
-        &mut self,
-        rt: &R,
-        queue: &ReadyQueue,
-        ready: &mut ReadyPass,
-        req: Req,
-        limit: u8,
-    )
+    pub fn add<R: Wait>(&mut self, rt: &R, queue: &ReadyQueue, ready: &mut ReadyPass, req: Req)
         requires own { IsOfQueue queue.now ready.old }
         requires free { self.old.is_full ≡ false }
         ensures { HandedOver ready.old (self.old.numbers ++ req ∷ []) ready.new self.new.numbers }
@@ -90,7 +93,7 @@ impl Backlog {
             self.span = Some(Span::of(req));
             return;
         };
-        if span.extend(req, limit) {
+        if span.extend(req, self.limit) {
             self.span = Some(span);
             return;
         }

@@ -3,18 +3,11 @@ ghost use Rattle.std.specs.Prelude.{◌≡◌, ◌≢◌, ◌+◌, ◌<◌, ◌�
 ghost use Rattle.std.specs.Arc.{arc_value};
 ghost use Rattle.history.specs.declared.event.Event.TheVariants.{Reap};
 ghost use Rattle.history.specs.History.{phase, submits};
-ghost use Rattle.steps.specs.Cells.{cells_in};
-ghost use Rattle.steps.specs.Fairness.{IsFree, IsReaped};
+ghost use Rattle.steps.specs.{cells_in, IsFree, IsReaped};
 ghost use Rattle.steps.specs.declared.view.Role.{Role};
-ghost use Rattle.work.specs.Board.{IsOf};
-ghost use Rattle.work.specs.Passes.{seen_of, Took};
+ghost use Rattle.work.specs.{IsOf, seen_of, Took};
 ghost use Rattle.bell.specs.BellPasses.{IsRingerOf};
-ghost use Rattle.board.specs.Batches.{steps_in, submits_of};
-ghost use Rattle.board.specs.Calls.{Goes, Finds, next_of};
-ghost use Rattle.board.specs.Headline.{IsCompletion, HasOnce};
-ghost use Rattle.board.specs.Lanes.{nth, LinkedAreReaped};
-ghost use Rattle.board.specs.Refusals.{RefusesBatch};
-ghost use Rattle.board.specs.ShapeLimits.{widest};
+ghost use Rattle.board.specs.{steps_in, submits_of, Goes, Finds, next_of, IsCompletion, HasOnce, nth, LinkedAreReaped, RefusesBatch, widest};
 ghost use Rattle.runtime.specs.Clients.{HasAwaited, HasTaken, HasTold, without_tail};
 
 use crate::held::Held;

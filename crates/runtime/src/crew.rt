@@ -5,9 +5,7 @@ ghost use Rattle.std.specs.Arc.{arc_value};
 ghost use Rattle.work.specs.Board.{IsOf};
 ghost use Rattle.ready.specs.Ready.{IsOf as IsOfQueue};
 ghost use Rattle.board.specs.ShapeLimits.{widest};
-ghost use Rattle.runtime.specs.Crews.{AreWorking, own_in, own_share, shares_of, threads_for};
-ghost use Rattle.runtime.specs.Loops.{IsServing, IsWorkSide, MayOwn};
-ghost use Rattle.runtime.specs.StartParts.{HavePairs};
+ghost use Rattle.runtime.specs.{AreWorking, own_in, own_share, shares_of, threads_for, IsServing, IsWorkSide, MayOwn, HavePairs};
 ghost use Rattle.runtime.specs.declared.error.StartError.TheVariants.{BadShape};
 
 use crate::error::{Memory, StartError};

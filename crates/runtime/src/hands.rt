@@ -2,12 +2,11 @@
 ghost use Rattle.std.specs.Prelude.{◌≡◌, ◌≢◌, ◌<◌, ◌+◌, ◌++◌, ◌∷◌, [], true, false};
 ghost use Rattle.outbox.specs.Outbox.{with_answered};
 ghost use Rattle.ready.specs.Ready.{IsOf as IsOfQueue};
-ghost use Rattle.runtime.specs.PollTurns.{HasRoom};
-ghost use Rattle.runtime.specs.Parts.{IsStuck};
-ghost use Rattle.runtime.specs.Turns.{HandedOver};
+ghost use Rattle.runtime.specs.{HasRoom, IsStuck, HandedOver};
 
 use crate::backlog::Backlog;
-use board::{Board, Poller};
+use crate::turn::Route;
+use board::Poller;
 use history::Req;
 use outbox::Outbox;
 use ready::span::MOST;
@@ -24,25 +23,6 @@ pub(crate) struct Hands {
     pub workers: u32,
     pub room: usize,
     pub moved: bool,
-}
-
-/// The way that requests take from the board into the ready queue, and how many of them go to a worker together at most.
-#[derive_where(Clone, Copy)]
-pub(crate) struct Route<'a, R> {
-    pub rt: &'a R,
-    pub board: &'a Board,
-    pub queue: &'a ReadyQueue,
-    pub limit: u8,
-}
-
-/// How many of so many requests go to a worker together. Each worker gets its part, and two parts where there are enough.
-/// So a few requests are shared out one by one. With one worker all that a span holds go together: nobody else could run them.
-pub(crate) fn limit_of(requests: u64, workers: u32) -> u8 {
-    if workers < 2 {
-        return MOST;
-    }
-    let parts = u64::from(workers) * 2;
-    (requests / parts).clamp(1, u64::from(MOST)) as u8
 }
 
 impl Hands {
@@ -69,6 +49,20 @@ impl Hands {
         self.moved = true;
     }
 
+    /// Limits how many of so many requests go to a worker together. Each worker gets its part, and two parts where there are enough.
+    /// So a few requests are shared out one by one. With one worker all that a span holds go together: nobody else could run them.
+    pub fn limit_for(&mut self, requests: u64)
+        ensures { self.new ≡ self.old }
+    {
+        let limit = if self.workers < 2 {
+            MOST
+        } else {
+            let parts = u64::from(self.workers) * 2;
+            (requests / parts).clamp(1, u64::from(MOST)) as u8
+        };
+        self.kept.limit_to(limit);
+    }
+
     /// Hands a request over to the ready queue: with the next ones, up to the limit, or at the end of the turn at the latest.
     pub fn hand_over<R: Wait>(&mut self, route: Route<'_, R>, req: Req)
         requires own { IsOfQueue route.queue.now self.old.ready }
@@ -77,14 +71,8 @@ impl Hands {
         ensures same { (self.new.poller ≡ self.old.poller) × (self.new.room ≡ self.old.room) }
         ensures moved { self.new.moved ≡ true }
     {
-        let Route {
-            rt,
-            queue,
-            limit,
-            ..
-        } = route;
         self.moved = true;
-        self.kept.add(rt, queue, &mut self.ready, req, limit);
+        self.kept.add(route.rt, route.queue, &mut self.ready, req);
     }
 
     /// Puts the numbers that are kept into the ready queue, where it has places.

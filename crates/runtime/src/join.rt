@@ -4,9 +4,7 @@ ghost use Rattle.std.specs.Arc.{arc_value};
 ghost use Rattle.steps.specs.declared.view.Role.{Role};
 ghost use Rattle.work.specs.Passes.{Pass, seen_of};
 ghost use Rattle.board.specs.Reports.{AreOf, IsReport};
-ghost use Rattle.runtime.specs.Clients.{AreClients, submitter_of, without_tail};
-ghost use Rattle.runtime.specs.Crews.{IsDrained, worker_of};
-ghost use Rattle.runtime.specs.Rests.{CameToRest, HasRested, IsHalted};
+ghost use Rattle.runtime.specs.{AreClients, submitter_of, without_tail, IsDrained, worker_of, CameToRest, HasRested, IsHalted};
 ghost use Rattle.runtime.specs.declared.error.JoinError.TheVariants.{Missing};
 
 use crate::client::Client;

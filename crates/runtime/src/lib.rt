@@ -34,4 +34,4 @@ pub use poll::{PollDesk, poll_turn};
 pub use serving::{WorkDesk, work_turn};
 pub use started::Runtime;
 pub use startup::start;
-pub use turn::Turn;
+pub use turn::{Route, Turn};

@@ -3,8 +3,7 @@ ghost use Rattle.std.specs.Prelude.{◌≡◌, ◌<◌, ◌+◌, ◌++◌, ◌�
 ghost use Rattle.history.specs.History.{armed, phase};
 ghost use Rattle.steps.specs.declared.line.Line.{Line};
 ghost use Rattle.steps.specs.Journal.{events_of};
-ghost use Rattle.runtime.specs.Desks.{LooksAfter, cares_of, taken_in, with_waiting};
-ghost use Rattle.runtime.specs.Parts.{WaitsOn};
+ghost use Rattle.runtime.specs.{LooksAfter, cares_of, taken_in, with_waiting, WaitsOn};
 
 use crate::error::Memory;
 use crate::shelf::Shelf;

@@ -3,14 +3,11 @@
 //! nobody wrote.
 ghost use Rattle.std.specs.Prelude.{◌≡◌, ◌+◌, ◌<◌, ◌≤◌, All, false, length, sum_by, Err, IfOk};
 ghost use Rattle.std.specs.Arc.{arc_value};
-ghost use Rattle.ready.specs.Ready.{IsOf as IsOfQueue};
-ghost use Rattle.ready.specs.Rule.{all_shares};
+ghost use Rattle.ready.specs.{IsOf as IsOfQueue, all_shares};
 ghost use Rattle.bell.specs.BellPasses.{IsSleeperOf};
 ghost use Rattle.event_count.specs.Passes.{IsNotifierOf, IsWaiterOf};
-ghost use Rattle.board.specs.New.{AreSubmitters};
-ghost use Rattle.board.specs.ShapeLimits.{is_shape};
-ghost use Rattle.runtime.specs.Clients.{AreNewClients};
-ghost use Rattle.runtime.specs.StartParts.{AreRingers, HavePairs, IsParts};
+ghost use Rattle.board.specs.{AreSubmitters, is_shape};
+ghost use Rattle.runtime.specs.{AreNewClients, AreRingers, HavePairs, IsParts};
 ghost use Rattle.runtime.specs.declared.error.StartError.TheVariants.{BadShape};
 
 use crate::client::Client;

@@ -5,29 +5,26 @@ ghost use Rattle.steps.specs.declared.line.Line.{Line};
 ghost use Rattle.steps.specs.Journal.{freed};
 ghost use Rattle.wheel.specs.Wheel.{deadline_at};
 ghost use Rattle.bell.specs.BellPasses.{HasLoaded, HaveRisen, IsSleeperOf};
-ghost use Rattle.work.specs.Board.{IsOf};
-ghost use Rattle.work.specs.Passes.{seen_of};
+ghost use Rattle.work.specs.{IsOf, seen_of};
 ghost use Rattle.ready.specs.Ready.{IsOf as IsOfQueue};
 ghost use Rattle.board.specs.Calls.{Goes};
 ghost use Rattle.controls.specs.Clocks.{Asked};
-ghost use Rattle.runtime.specs.Desks.{AreHeldBack, ArePending, LooksAfter, cares_of, taken_in};
-ghost use Rattle.runtime.specs.PollTurns.{AllCounted, AllDone, AllRung, AllTaken, AllTried, Did, HasTicked, IsAt, IsPollTurn, IsStill, IsPollers, IsNewDesk, IsTaken, cares_in, cells_in_all, MayRelease};
+ghost use Rattle.runtime.specs.{AreHeldBack, ArePending, LooksAfter, cares_of, taken_in, AllCounted, AllDone, AllRung, AllTaken, AllTried, Did, HasTicked, IsAt, IsPollTurn, IsStill, IsPollers, IsNewDesk, IsTaken, cares_in, cells_in_all, MayRelease};
 ghost use Rattle.runtime.specs.Parts.{HasFewerTimers, HasRung, HasStopped, IsStuck, WentOn};
 
 use crate::backlog::Backlog;
 use crate::error::Memory;
-use crate::hands::{Hands, Route};
+use crate::hands::Hands;
 use crate::lists::{Intake, Lists};
 use crate::releasing::{END, release_waiting, take_new};
 use crate::ringing::{has_timers, ring_due, watch_replies};
-use crate::turn::Turn;
+use crate::turn::{Route, Turn};
 use bell::{Bell, Nap, Sleeper};
 use board::{Board, Phase, Poller, RingShape, Shape};
 use controls::Clock;
 use history::Req;
 use outbox::Outbox;
-use ready::span::MOST;
-use ready::{ReadyPass, ReadyQueue};
+use ready::ReadyPass;
 use std::alloc::{AllocError, Global};
 use std::marker::Model;
 use std::sync::Wait;
@@ -269,19 +266,17 @@ fn came_to(board: &Board, hands: &mut Hands, lists: &mut Lists) -> Turn
 /// only where it did nothing and keeps no number, and `Idle` only where no request that it has taken up waits or is armed. After `Memory` what was done
 /// stands, and the next turn goes on. Nothing but what the clock tells sets the board's clock.
 pub fn poll_turn<R: Wait, C: Clock>(
-    rt: &R,
-    board: &Board,
+    route: Route<'_, R>,
     bell: &Bell,
-    queue: &ReadyQueue,
     desk: &mut PollDesk,
     clock: &mut C,
     outbox: &mut Outbox,
 ) -> Result<Turn, Memory>
-    requires poller { IsOf board.now desk.old.poller }
+    requires poller { IsOf route.board.now desk.old.poller }
     requires sleeper { IsSleeperOf bell.now desk.old.sleeper × (desk.old.rings ≡ bell.now.rings) }
-    requires ready { IsOfQueue queue.now desk.old.ready }
+    requires ready { IsOfQueue route.queue.now desk.old.ready }
     requires outbox { (outbox.old.answered ≡ []) × (desk.old.places ≤ outbox.old.places) }
-    ensures turned { IsPollTurn board.now queue.now desk.old desk.new outbox.new }
+    ensures turned { IsPollTurn route.entry.board.now route.entry.queue.now desk.old desk.new outbox.new }
     ensures looks_after { LooksAfter (cares_in desk.new) desk.new.poller.view.seen }
     ensures taken_up { IfOk result (λ _. AllTaken desk.new outbox.new) }
     ensures tried { IfOk result (λ _. AllTried desk.old desk.new outbox.new) }
@@ -291,23 +286,17 @@ pub fn poll_turn<R: Wait, C: Clock>(
     ensures read { HasLoaded desk.old.sleeper desk.new.sleeper }
     ensures risen { HaveRisen desk.old.sleeper.tails desk.new.sleeper.tails }
     ensures places { outbox.new.places ≡ outbox.old.places }
-    ensures still { IfOk result (λ turn. turn ≢ Turn.Moved → IsStill board.now desk.old desk.new outbox.new) }
+    ensures still { IfOk result (λ turn. turn ≢ Turn.Moved → IsStill route.entry.board.now desk.old desk.new outbox.new) }
     ensures idle { IfOk result (λ turn. turn ≡ Turn.Idle → AllDone desk.new) }
     ensures follows { IsPollers desk.old.poller → C.follows clock.old (seen_of desk.old.poller) → C.follows clock.new (seen_of desk.new.poller) }
 {
     bell.collect(&mut desk.sleeper);
     desk.hands.room = desk.places;
     desk.hands.moved = false;
-    ask_clock(board, &mut desk.hands, clock);
-    let route = Route {
-        rt,
-        board,
-        queue,
-        limit: MOST,
-    };
+    ask_clock(route.board, &mut desk.hands, clock);
     let sleeper = &desk.sleeper;
     look_after(route, sleeper, &mut desk.hands, &mut desk.lists, outbox)?;
-    desk.hands.retry_rest(rt, queue);
-    let turn = came_to(board, &mut desk.hands, &mut desk.lists);
+    desk.hands.retry_rest(route.rt, route.queue);
+    let turn = came_to(route.board, &mut desk.hands, &mut desk.lists);
     Ok(turn)
 }

@@ -1,8 +1,7 @@
 //! The threads of a runtime: what each promises to bring back, and the wait for it.
 ghost use Rattle.std.specs.Prelude.{◌≡◌, ◌+◌, ◌≤◌, [], None, All, length, vec_capacity};
 ghost use Rattle.std.specs.Arc.{arc_value};
-ghost use Rattle.runtime.specs.Crews.{AreWorking, IsPollThread, own_in, own_share, owns_of, share_of, shares_in, shares_of};
-ghost use Rattle.runtime.specs.Loops.{IsPollSide, IsWorkSide};
+ghost use Rattle.runtime.specs.{AreWorking, IsPollThread, own_in, own_share, owns_of, share_of, shares_in, shares_of, IsPollSide, IsWorkSide};
 
 use crate::shared::Shared;
 use crate::threads::{PollSide, WorkSide};
@@ -27,8 +26,7 @@ pub(crate) struct Polls(
 
 impl<C: Clock> Promise<PollSide<C>> for Polls {
     ghost use Rattle.std.specs.Arc.{arc_value};
-    ghost use Rattle.runtime.specs.Crews.{HasShares};
-    ghost use Rattle.runtime.specs.Loops.{IsPollSide};
+    ghost use Rattle.runtime.specs.{HasShares, IsPollSide};
 
     ghost kept_by = { λ p r. IsPollSide C.follows (arc_value p.0.value) r × HasShares p.1.value.share p.2.value r };
 }

@@ -1,17 +1,16 @@
 //! The poller releases requests: those that wait for another, and those that are new.
 ghost use Rattle.std.specs.Prelude.{◌≡◌, ◌≢◌, ◌⊎◌, ◌+◌, ◌<◌, ◌≤◌, ℕ, false, true, length, slice_index, IfOk};
 ghost use Rattle.std.specs.Result.{is_ok};
-ghost use Rattle.board.specs.Calls.{IsUnheld};
-ghost use Rattle.board.specs.PollerRows.{MayArm};
+ghost use Rattle.board.specs.{IsUnheld, MayArm};
 ghost use Rattle.work.specs.Passes.{seen_of};
-ghost use Rattle.runtime.specs.Desks.{AreHeldBack, LooksAfter, cares_of, taken_in, with_waiting};
-ghost use Rattle.runtime.specs.PollTurns.{IsAt, Did, IsTaken, ReachesTo, MayRelease};
+ghost use Rattle.runtime.specs.{AreHeldBack, LooksAfter, cares_of, taken_in, with_waiting, IsAt, Did, IsTaken, ReachesTo, MayRelease};
 ghost use Rattle.runtime.specs.Parts.{IsStuck, HasStopped, WaitsOn, WasTried, WentOn, HaveWaited};
 
 use crate::error::Memory;
-use crate::hands::{Hands, Route, limit_of};
+use crate::hands::Hands;
 use crate::lists::Lists;
 use crate::ringing::forget;
+use crate::turn::Route;
 use bell::Sleeper;
 use bell::bell::MAX_RINGS;
 use board::{Arming, Board, Phase, Released};
@@ -138,14 +137,13 @@ pub(crate) fn release_waiting<R: Wait>(
     ensures places { lists.new.waiting.places ≡ lists.old.waiting.places }
     ensures tried { IfOk result (λ _. AreHeldBack hands.old.poller hands.new.poller lists.new.waiting.items ⊎ IsStuck hands.new) }
 {
-    let limit = limit_of(lists.waiting.len() as u64, hands.workers);
-    let limited = Route { limit, ..route };
+    hands.limit_for(lists.waiting.len() as u64);
     let mut outcome = Ok(());
     for _n in 0..lists.waiting.len() {
         let Some(req) = lists.waiting.take() else {
             unreachable!();
         };
-        outcome = release_next(limited, hands, lists, outbox, req, outcome);
+        outcome = release_next(route, hands, lists, outbox, req, outcome);
     }
     outcome
 }
@@ -221,14 +219,13 @@ fn take_ring<R: Wait>(
 {
     let tail = submitted_by(tail);
     let taken = lists.taken(ring);
-    let limit = limit_of(tail.saturating_sub(taken), hands.workers);
-    let limited = Route { limit, ..route };
+    hands.limit_for(tail.saturating_sub(taken));
     for k in taken..tail {
         if !hands.is_free() || lists.waiting.is_full() {
             break;
         }
         let req = take_up(route.board, hands, lists, ring, k);
-        release(limited, hands, lists, outbox, req)?;
+        release(route, hands, lists, outbox, req)?;
     }
     Ok(())
 }

@@ -1,14 +1,11 @@
 //! The poller looks after armed timers: those that are due, and those whose targets may have replied.
 ghost use Rattle.std.specs.Prelude.{◌≡◌, ◌≢◌, ◌⊎◌, ◌<◌, ◌≤◌, ℕ, true, false, length, Some};
 ghost use Rattle.history.specs.declared.req.Req.{Req as Request};
-ghost use Rattle.history.specs.History.{armed, phase};
-ghost use Rattle.history.specs.Chains.{previous};
+ghost use Rattle.history.specs.{armed, phase, previous};
 ghost use Rattle.wheel.specs.Wheel.{deadline_at};
 ghost use Rattle.work.specs.Passes.{seen_of};
 ghost use Rattle.board.specs.TimerCalls.{IsUnarmed};
-ghost use Rattle.runtime.specs.Desks.{ArePending, LooksAfter, cares_of};
-ghost use Rattle.runtime.specs.Parts.{HasFewerTimers, HasRung, StandsPolled, WatchesOn, WentOn, stands_armed, with_watched, RangOn};
-ghost use Rattle.runtime.specs.PollTurns.{HasRoom, IsAt, Rang, MayRing};
+ghost use Rattle.runtime.specs.{ArePending, LooksAfter, cares_of, HasFewerTimers, HasRung, StandsPolled, WatchesOn, WentOn, stands_armed, with_watched, RangOn, HasRoom, IsAt, Rang, MayRing};
 
 use crate::hands::Hands;
 use crate::lists::Lists;

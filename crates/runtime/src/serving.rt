@@ -11,7 +11,7 @@ use crate::error::Memory;
 use crate::shared::{Shared, Tally};
 use crate::shelf::Shelf;
 use crate::sleeping::Caller;
-use crate::turn::Turn;
+use crate::turn::{Route, Turn};
 use board::{Board, Parked, Phase, Ran, Worker};
 use controls::{Point, Turnstile};
 use history::Req;
@@ -293,22 +293,21 @@ fn serve<G: Turnstile>(
 /// runs, or whose pipe another worker has, goes back into the queue in the next turn, so that what the worker does until then leaves the
 /// request to a cancel. The turn is `Idle` only where it found no number, and keeps none.
 pub fn work_turn<R: Wait, G: Turnstile>(
-    rt: &R,
-    board: &Board,
-    queue: &ReadyQueue,
+    route: Route<'_, R>,
     desk: &mut WorkDesk,
     worker: Worker,
     turnstile: &G,
     outbox: &mut Outbox,
 ) -> (Worker, Turn)
-    requires worker { IsOf board.now worker }
-    requires ready { IsOfQueue queue.now desk.old.ready }
-    requires outbox { length outbox.old.answered + widest board.now.layout.cells ≤ outbox.old.places }
-    ensures turned { IsWorkTurn board.now desk.old desk.new worker result.0 outbox.old outbox.new }
-    ensures ready { IsOfQueue queue.now desk.new.ready }
+    requires worker { IsOf route.board.now worker }
+    requires ready { IsOfQueue route.queue.now desk.old.ready }
+    requires outbox { length outbox.old.answered + widest route.board.now.layout.cells ≤ outbox.old.places }
+    ensures turned { IsWorkTurn route.entry.board.now desk.old desk.new worker result.0 outbox.old outbox.new }
+    ensures ready { IsOfQueue route.entry.queue.now desk.new.ready }
     ensures idle { result.1 ≡ Turn.Idle → (desk.new.kept ≡ []) × (outbox.new ≡ outbox.old) × (result.0 ≡ worker) }
     ensures none { result.1 ≡ Turn.Idle → FoundNone desk.old desk.new }
 {
+    let Route { rt, board, queue } = route;
     desk.put_kept(rt, queue);
     if !desk.make_room(board) {
         return (worker, Turn::Moved);

@@ -1,8 +1,6 @@
 //! The last turns of a runtime that is to come to rest, all by one thread once its own have ended.
 ghost use Rattle.std.specs.Prelude.{◌≡◌, ◌≤◌, [], All, length, IsTrue, vec_capacity};
-ghost use Rattle.runtime.specs.Crews.{shares_in};
-ghost use Rattle.runtime.specs.Loops.{IsPollSide, IsWorkSide};
-ghost use Rattle.runtime.specs.Rests.{HasRested};
+ghost use Rattle.runtime.specs.{shares_in, IsPollSide, IsWorkSide, HasRested};
 
 use crate::shared::{Context, Shared};
 use crate::threads::{PollSide, WorkSide, both, poll_round};

@@ -4,6 +4,7 @@ ghost use Rattle.std.specs.Arc.{arc_value};
 
 use crate::error::Memory;
 use crate::locks::PostLocks;
+use crate::turn::Route;
 use bell::Bell;
 use board::Board;
 use crossbeam_utils::CachePadded;
@@ -53,6 +54,20 @@ pub(crate) struct Context<'a, R, G> {
     pub rt: &'a R,
     pub shared: &'a Shared,
     pub turnstile: &'a G,
+}
+
+impl<'a, R, G> Context<'a, R, G> {
+    /// Where its turns are made.
+    pub fn route(self) -> Route<'a, R>
+        ensures { (result.board.now ≡ self.entry.shared.now.board) × (result.queue.now ≡ self.entry.shared.now.queue) }
+    {
+        let Context { rt, shared, .. } = self;
+        Route {
+            rt,
+            board: &shared.board,
+            queue: &shared.queue,
+        }
+    }
 }
 
 /// What each thread of a runtime is started with: the permissions, what all threads share, and the turnstile.

@@ -5,8 +5,7 @@ ghost use Rattle.board.specs.ShapeLimits.{widest};
 ghost use Rattle.event_count.specs.Passes.{HasEntered, HasLeft, HasNoticed, HasWoken, IsNotifierOf, IsWaiterOf};
 ghost use Rattle.std.specs.Arc.{arc_value};
 ghost use Rattle.history.specs.declared.req.Req.{Req};
-ghost use Rattle.runtime.specs.Loops.{IsServing};
-ghost use Rattle.runtime.specs.WorkTurns.{FoundNone, IsWorkTurn};
+ghost use Rattle.runtime.specs.{IsServing, FoundNone, IsWorkTurn};
 
 use crate::held::Held;
 use crate::locks::PostLocks;
@@ -176,20 +175,7 @@ fn look_again<R: Wait, G: Turnstile>(
     ensures places { outbox.new.places ≡ outbox.old.places }
     ensures share { desk.new.ready.share ≡ desk.old.ready.share }
 {
-    let Context {
-        rt,
-        shared,
-        turnstile,
-    } = context;
-    let (worker, turn) = work_turn(
-        rt,
-        &shared.board,
-        &shared.queue,
-        desk,
-        worker,
-        turnstile,
-        outbox,
-    );
+    let (worker, turn) = work_turn(context.route(), desk, worker, context.turnstile, outbox);
     match turn {
         Turn::Idle => (worker, Ok(Drowsy { entered })),
         Turn::Still | Turn::Moved => (worker, Err(entered.leave())),

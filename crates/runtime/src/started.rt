@@ -2,15 +2,10 @@
 ghost use Rattle.std.specs.Prelude.{◌≡◌, ◌+◌, ◌<◌, ◌≤◌, [], All, length, map, IfOk, IsTrue, vec_capacity};
 ghost use Rattle.std.specs.Arc.{arc_value};
 ghost use Rattle.steps.specs.Cells.{total};
-ghost use Rattle.work.specs.Board.{IsOf};
-ghost use Rattle.work.specs.Passes.{seen_of};
+ghost use Rattle.work.specs.{IsOf, seen_of};
 ghost use Rattle.board.specs.Reports.{AreOf};
-ghost use Rattle.runtime.specs.Clients.{without_tail};
-ghost use Rattle.ready.specs.Ready.{AreAll, IsOf as IsOfQueue};
-ghost use Rattle.ready.specs.QueueParts.{IsRoom};
-ghost use Rattle.ready.specs.Rule.{all_shares};
-ghost use Rattle.runtime.specs.Crews.{AreWorking, IsEndRoom, all_passes, own_in, own_share, ready_of, shares_of, worker_of};
-ghost use Rattle.runtime.specs.Rests.{HasRested};
+ghost use Rattle.runtime.specs.{without_tail, AreWorking, IsEndRoom, all_passes, own_in, own_share, ready_of, shares_of, worker_of, HasRested};
+ghost use Rattle.ready.specs.{AreAll, IsOf as IsOfQueue, IsRoom, all_shares};
 
 use crate::client::Client;
 use crate::promised::{PollThread, Polls, WorkThread, join_poller, join_workers};

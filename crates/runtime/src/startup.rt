@@ -3,17 +3,11 @@
 //! nobody wrote.
 ghost use Rattle.std.specs.Prelude.{◌≡◌, ◌≢◌, ◌+◌, ◌<◌, ◌≤◌, [], All, false, length, sum_by, vec_capacity, Err, IfOk, IfErr};
 ghost use Rattle.std.specs.Arc.{arc_value};
-ghost use Rattle.work.specs.Board.{IsOf};
-ghost use Rattle.work.specs.Passes.{seen_of};
-ghost use Rattle.ready.specs.Ready.{IsOf as IsOfQueue};
-ghost use Rattle.ready.specs.Rule.{all_shares};
+ghost use Rattle.work.specs.{IsOf, seen_of};
+ghost use Rattle.ready.specs.{IsOf as IsOfQueue, all_shares};
 ghost use Rattle.bell.specs.BellPasses.{IsSleeperOf};
 ghost use Rattle.board.specs.ShapeLimits.{is_shape};
-ghost use Rattle.runtime.specs.Clients.{AreClients, IsStarted};
-ghost use Rattle.runtime.specs.Crews.{HasShares, IsEndRoom, own_in, own_share, threads_for};
-ghost use Rattle.runtime.specs.Loops.{IsPollSide, MayOwn};
-ghost use Rattle.runtime.specs.PollTurns.{IsNewDesk, IsPollers};
-ghost use Rattle.runtime.specs.StartParts.{HavePairs, IsParts};
+ghost use Rattle.runtime.specs.{AreClients, IsStarted, HasShares, IsEndRoom, own_in, own_share, threads_for, IsPollSide, MayOwn, IsNewDesk, IsPollers, HavePairs, IsParts};
 ghost use Rattle.runtime.specs.declared.error.StartError.TheVariants.{BadShape};
 
 use crate::client::Client;

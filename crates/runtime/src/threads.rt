@@ -3,10 +3,7 @@ ghost use Rattle.std.specs.Prelude.{◌≡◌, ◌≢◌, ◌↔◌, ◌⊎◌, 
 ghost use Rattle.bell.specs.BellPasses.{HasLoaded};
 ghost use Rattle.board.specs.ShapeLimits.{widest};
 ghost use Rattle.outbox.specs.Outbox.{Waiting};
-ghost use Rattle.runtime.specs.Crews.{HasShares, own_in, own_share};
-ghost use Rattle.runtime.specs.Loops.{IsPollSide, IsServing, IsWorkSide, MayOwn};
-ghost use Rattle.runtime.specs.PollTurns.{IsAtRest, IsPollTurn};
-ghost use Rattle.runtime.specs.WorkTurns.{IsWorkTurn};
+ghost use Rattle.runtime.specs.{HasShares, own_in, own_share, IsPollSide, IsServing, IsWorkSide, MayOwn, IsAtRest, IsPollTurn, IsWorkTurn};
 
 use crate::poll::{PollDesk, poll_turn, rest};
 use crate::posting::post_all;
@@ -94,12 +91,9 @@ pub(crate) fn poll_round<R: Wait, G: Turnstile, C: Clock>(
     ensures read { HasLoaded side.old.desk.sleeper side.new.desk.sleeper }
     ensures rest { IfSome result (λ turn. turn ≢ Turn.Moved → IsAtRest context.entry.shared.now.board context.entry.shared.now.queue side.old.desk side.new.desk) }
 {
-    let Context { rt, shared, .. } = context;
     let turn = poll_turn(
-        rt,
-        &shared.board,
-        &shared.bell,
-        &shared.queue,
+        context.route(),
+        &context.shared.bell,
         &mut side.desk,
         &mut side.clock,
         &mut side.outbox,
@@ -131,24 +125,12 @@ fn work_round<R: Wait, G: Turnstile>(
     ensures places { outbox.new.places ≡ outbox.old.places }
     ensures share { desk.new.ready.share ≡ desk.old.ready.share }
 {
-    let Context {
-        rt,
-        shared,
-        turnstile,
-    } = context;
+    let shared = context.shared;
     if outbox.room() < shared.board.widest() as usize {
         post_all(context, outbox);
     }
     let before = outbox.len();
-    let (worker, turn) = work_turn(
-        rt,
-        &shared.board,
-        &shared.queue,
-        desk,
-        worker,
-        turnstile,
-        outbox,
-    );
+    let (worker, turn) = work_turn(context.route(), desk, worker, context.turnstile, outbox);
     let is_silent = outbox.len() == before;
     (worker, turn, is_silent)
 }

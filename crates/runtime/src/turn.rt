@@ -1,4 +1,14 @@
-//! What a turn came to.
+//! Where turns are made, and what they come to.
+use board::Board;
+use ready::ReadyQueue;
+
+/// Where a turn is made: the board, and the ready queue by which its requests come to the workers; with the permission to wait.
+#[derive_where(Clone, Copy)]
+pub struct Route<'a, R> {
+    pub rt: &'a R,
+    pub board: &'a Board,
+    pub queue: &'a ReadyQueue,
+}
 
 /// What a turn came to.
 #[derive(Clone, Copy, PartialEq, Eq, Debug)]

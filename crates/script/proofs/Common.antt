@@ -4,10 +4,7 @@ pub use Rattle.history.specs.History.{Phase, Submission, adds_to, armed, becomes
 pub use Rattle.history.specs.Legal.{Legal, MayCome, Setup}
 pub use Rattle.history.specs.declared.event.Event.{Event}
 pub use Rattle.history.specs.declared.req.Req.{Req}
-pub use Rattle.script.specs.Homes.{AreHomes, home, home_at, home_from}
-pub use Rattle.script.specs.Rules.{are_lines, each_once, is_clock_line, is_ring_line, keeps_acts, keeps_clock, keeps_limits, keeps_parts, places_in, places_of, rises}
-pub use Rattle.script.specs.Steps.{passes, step_at}
-pub use Rattle.script.specs.Tables.{IsAtEnd, Keeps, MayFollow, MayStep, holds_for, is_armed, is_done, is_replied}
+pub use Rattle.script.specs.{AreHomes, home, home_at, home_from, are_lines, each_once, is_clock_line, is_ring_line, keeps_acts, keeps_clock, keeps_limits, keeps_parts, places_in, places_of, rises, passes, step_at, IsAtEnd, Keeps, MayFollow, MayStep, holds_for, is_armed, is_done, is_replied}
 pub use Rattle.script.specs.declared.act.Act.{Act}
 pub use Rattle.script.specs.declared.act.Act.TheVariants.{Armed, Submit, Tick, Wait}
 pub use Rattle.script.specs.declared.named.Named.{Named}

@@ -5,8 +5,7 @@ use Rattle.entry.specs.declared.op.Op.{Op}
 use Rattle.entry.specs.declared.op.Op.TheVariants.{Timeout, TimeoutRemove, AsyncCancel, LinkTimeout, Read, Invalid}
 use Rattle.entry.specs.Entry.{Entry}
 use Rattle.history.specs.declared.event.Event.TheVariants as event
-use Rattle.history.specs.Chains.{is_link_timeout, hosts, placed_behind, placed_from, before_in}
-use Rattle.history.specs.Pipes.{flow, size, end_of}
+use Rattle.history.specs.{is_link_timeout, hosts, placed_behind, placed_from, before_in, flow, size, end_of}
 use Rattle.history.specs.Answers.{OpAnswers, Answers}
 use Rattle.history.proofs.Growth.{MayChange, may_change, changed, unchanged}
 use Rattle.history.proofs.PipeAnswers.{answer_bare, read_long}

@@ -2,8 +2,7 @@
 use Rattle.std.specs.Prelude.{◌≡◌, ℕ, ◌+◌, length, true, List, [], ◌∷◌}
 use Rattle.history.specs.declared.event.Event.{Event}
 use Rattle.history.specs.declared.event.Event.TheVariants as event
-use Rattle.history.specs.History.{submits, clock_of}
-use Rattle.history.specs.Ticked.{ticked}
+use Rattle.history.specs.{submits, clock_of, ticked}
 use Rattle.script.specs.declared.act.Act.{Act}
 use Rattle.script.specs.declared.act.Act.TheVariants.{Submit, Wait, Armed, Tick}
 use Rattle.script.specs.declared.script.Script.{Script}

@@ -7,8 +7,7 @@ use Rattle.history.proofs.Requests.{bool_cases}
 use Rattle.history.proofs.Growth.{MayChange, may_change, counted, replied_of_reply, reply_stays, submission_stays}
 use Rattle.steps.specs.declared.line.Line.TheVariants.{Did, Freed, Lent, Noted, Hold, Free}
 use Rattle.steps.specs.Rule.{owns, NoneOf}
-use Rattle.board.specs.Batches.{Entries, is_empty, submits_of}
-use Rattle.board.specs.Lanes.{nth}
+use Rattle.board.specs.{Entries, is_empty, submits_of, nth}
 use Rattle.script_run.proofs.Common.{Act, AreEntries, AreTaken, Bool, Completion, Event, HasCarried, IsCompletion, IsEntryAt, IsReplied, Legal, Line, List, Req, Role, Script, Setup, Some, Submit, Submitter, Vec, [], adds_to, answers, ap, arith, carried_on, concerns, cond, data_in, data_of, drop, drop-cons, event_of, events_of, false, get_or, get_or-append_seam, hands_next, length, length-append, none-some, own_of, phase, reaped, refl, replied, slice_get, slice_index, submits, subst, suc, sym, true, true≢false, unborn, zero, ℕ, ⊎_elim, ◌++◌, ◌+◌, ◌<◌, ◌==◌, ◌∙◌, ◌∷◌, ◌≡◌, ◌≤◌}
 
 -- ---- a completion stays one

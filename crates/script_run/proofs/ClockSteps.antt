@@ -119,9 +119,6 @@ ends c lines next h le k =
 
 -- ---- whatever script has these lines
 
-pub along_begins : (lines : List ClockLine) → IsAlong lines 0 []
-along_begins lines = λ c are. begins c lines are
-
 pub along_waited : (lines : List ClockLine) (next : ℕ) (r : Req) (p : ℕ) (h : List Event) → slice_get lines next ≡ Some (Wait r p) → is_replied (phase h r) ≡ true → IsAlong lines next h → IsAlong lines (next + 1) h
 along_waited lines next r p h at w k = λ c are. waited c lines next r p h at w (k c are)
 

@@ -1,6 +1,5 @@
 -- The words of other modules that the proofs of this crate use.
-pub use Rattle.board.specs.Headline.{IsCompletion}
-pub use Rattle.board.specs.Reports.{AllTell, IsReport, SawOwnLines, ended}
+pub use Rattle.board.specs.{IsCompletion, AllTell, IsReport, SawOwnLines, ended}
 pub use Rattle.board.specs.declared.completion.Completion.{Completion}
 pub use Rattle.history.specs.History.{IsReplied, adds_to, answers, clock_of, concerns, data_in, data_of, phase, reaped, replied, submits, unborn, was_shut}
 pub use Rattle.history.specs.Legal.{Allowed, Legal, Setup}
@@ -9,18 +8,11 @@ pub use Rattle.history.specs.declared.req.Req.{Req}
 pub use Rattle.runtime.specs.Clients.{AreClients, AreNewClients, ClientFacts, IsNewClient, IsStarted, submitter_of}
 pub use Rattle.script.proofs.CarriedLines.{all_keep, carried_on, clock_at_end, clock_waited, hands_next, line_done, line_handed, none_keeps, ring_at_end, sets_next, timed_on}
 pub use Rattle.script.proofs.Items.{front_at, rest_at}
-pub use Rattle.script.specs.Carried.{HasCarried, HasTimed, KeepsRing, steps_in}
-pub use Rattle.script.specs.Tables.{IsTableOf, Keeps, holds_for, is_armed, is_done, is_replied, row_of, setup_of}
+pub use Rattle.script.specs.{HasCarried, HasTimed, KeepsRing, steps_in, IsTableOf, Keeps, holds_for, is_armed, is_done, is_replied, row_of, setup_of}
 pub use Rattle.script.specs.declared.act.Act.{Act}
 pub use Rattle.script.specs.declared.act.Act.TheVariants.{Submit}
 pub use Rattle.script.specs.declared.script.Script.{Script}
-pub use Rattle.script_run.specs.ClockLines.{AreClockLines, IsAlong, IsClockLine, IsTimed, asked_at, asked_of, has_reply, is_ready, line_at}
-pub use Rattle.script_run.specs.ClockTries.{EndsAs, IsAtLine, IsOfPlace, IsUndone, WasTried}
-pub use Rattle.script_run.specs.Hands.{AreEntries, AreNew, AreTaken, Carries, HandAt, HandedIn, IsCarried, IsEntryAt, IsNewHand, IsThrough, Stayed, Went, client_of, seen_by, taken_by}
-pub use Rattle.script_run.specs.Played.{AreInOrder, AreStarting, IsPlayed, IsStartedFor}
-pub use Rattle.script_run.specs.RunRows.{AreRows, HasRun, IsFound, IsRow, IsRowOf}
-pub use Rattle.script_run.specs.Stuck.{HasLabel, IsStuck, IsStuckClock, IsStuckOn, IsStuckRing, WasUndone}
-pub use Rattle.script_run.specs.Tries.{AllCarriedOut, CarriedOut, IfStuck, IsFor, IsInVain, IsLowest, IsStuckLine, RanOut, TriedInVain}
+pub use Rattle.script_run.specs.{AreClockLines, IsAlong, IsClockLine, IsTimed, asked_at, asked_of, has_reply, is_ready, line_at, EndsAs, IsAtLine, IsOfPlace, IsUndone, WasTried, AreEntries, AreNew, AreTaken, Carries, HandAt, HandedIn, IsCarried, IsEntryAt, IsNewHand, IsThrough, Stayed, Went, client_of, seen_by, taken_by, AreInOrder, AreStarting, IsPlayed, IsStartedFor, AreRows, HasRun, IsFound, IsRow, IsRowOf, HasLabel, IsStuck, IsStuckClock, IsStuckOn, IsStuckRing, WasUndone, AllCarriedOut, CarriedOut, IfStuck, IsFor, IsInVain, IsLowest, IsStuckLine, RanOut, TriedInVain}
 pub use Rattle.script_run.specs.declared.clock.ClockLine.{ClockLine}
 pub use Rattle.script_run.specs.declared.clock.ClockLine.TheVariants.{Armed, Tick, Wait}
 pub use Rattle.script_run.specs.declared.hand.Hand.{Hand}
@@ -36,5 +28,4 @@ pub use Rattle.steps.specs.Journal.{event_of, events_of}
 pub use Rattle.steps.specs.declared.line.Line.{Line}
 pub use Rattle.steps.specs.declared.view.Role.{Role}
 pub use Rattle.steps.specs.declared.view.Role.TheVariants.{Poller, Submitter}
-pub use Rattle.work.specs.Board.{Facts}
-pub use Rattle.work.specs.Passes.{Pass, own_of, seen_of}
+pub use Rattle.work.specs.{Facts, Pass, own_of, seen_of}

@@ -25,13 +25,6 @@ next_hand hands h left old c is at =
     ∙ (append_assoc (map client_of hands) (client_of h ∷ []) (reverse left)
     ∙ (ap (λ (z : ClientFacts). map client_of hands ++ z ∷ reverse left) is ∙ ap (λ (z : List ClientFacts). map client_of hands ++ z) (sym (last_first left c) ∙ ap reverse (sym at))))
 
--- a hand that is taken apart
-pub next_client : (clients : List ClientFacts) (left old : List Hand) (h : Hand) → old ≡ left ++ h ∷ [] → (clients ++ client_of h ∷ []) ++ map client_of (reverse left) ≡ clients ++ map client_of (reverse old)
-next_client clients left old h at = append_assoc clients (client_of h ∷ []) (map client_of (reverse left)) ∙ ap (λ (z : List Hand). clients ++ map client_of z) (sym (last_first left h) ∙ ap reverse (sym at))
-
-pub next_taken : (all : List Completion) (left old : List Hand) (h : Hand) → old ≡ left ++ h ∷ [] → (all ++ h.taken.items) ++ taken_by (reverse left) ≡ all ++ taken_by (reverse old)
-next_taken all left old h at = append_assoc all h.taken.items (taken_by (reverse left)) ∙ ap (λ (z : List Hand). all ++ taken_by z) (sym (last_first left h) ∙ ap reverse (sym at))
-
 -- one hand more whose lines were carried out
 carried_at : (c : Script) (turns : ℕ) (xs ys : List Hand) (x y : Hand) → AllCarriedOut c turns xs ys → CarriedOut c turns x y → (k : ℕ) (d e : Hand) → k < length (xs ++ x ∷ []) → CarriedOut c turns (slice_index_or (xs ++ x ∷ []) k d) (slice_index_or (ys ++ y ∷ []) k e)
 carried_at c turns [] [] x y all one zero d e lt = one

@@ -5,8 +5,7 @@ use native.Mathlib.Decide.{ℕ_discrete}
 use Rattle.steps.specs.Cells.{setup_of}
 use Rattle.board.specs.declared.phase.Phase.{Phase}
 use Rattle.board.specs.declared.phase.Phase.TheVariants.{Done, Gone}
-use Rattle.board.specs.Batches.{Entries, submits_of}
-use Rattle.board.specs.Calls.{Goes, Stands, next_of}
+use Rattle.board.specs.{Entries, submits_of, Goes, Stands, next_of}
 use Rattle.script.specs.Homes.{home}
 use Rattle.script_run.specs.declared.lines.Halt.{Halt}
 use Rattle.script_run.proofs.Common.{Act, AreEntries, AreTaken, Carries, Completion, Event, Facts, Hand, HandAt, HandedIn, HasCarried, IfStuck, IsCarried, IsCompletion, IsFor, IsInVain, IsLowest, IsReplied, IsStuckLine, IsThrough, Legal, Line, List, None, Option, Pass, RanOut, Req, Role, Script, Some, Stayed, Submitter, TriedInVain, Vec, Went, [], add-one, ap, arith, drop, events_of, front_at, get_or, has_reply, holds_for, is_done, is_replied, length, line_done, line_handed, nat_lt, own_of, phase, reaped, refl, replied, rest_at, seen_by, seen_of, slice_get, slice_get_read, submits, subst, suc, sym, take, take-append-drop, take-length, true, true≢false, zero, ℕ, ⊎_elim, ◌++◌, ◌+◌, ◌<◌, ◌∙◌, ◌∷◌, ◌≡◌, ◌≤◌, ◌⊎◌}
@@ -54,20 +53,6 @@ went_took b old new x board ring taken halt g is = record {
     ring = ring;
     role = g.role_is;
     taken = λ k. subst (AreTaken (seen_by new)) (sym taken) (taken_more (seen_by new) old.taken.items x (taken_on b old.client.submitter new.client.submitter (Event.Reap x.req ∷ []) old.taken.items g k) is);
-  };
-  at = at_on b old new (Event.Reap x.req ∷ []) ring g refl;
-  halt = halt;
-}
-
--- it took one for which there was no place
-pub went_lost : (b : Facts) (old new : Hand) (x : Completion) → new.client.board ≡ old.client.board → new.client.ring ≡ old.client.ring → new.taken.items ≡ old.taken.items → new.halt ≡ old.halt
-    → Goes b old.client.submitter (Event.Reap x.req ∷ []) new.client.submitter → Went old new
-went_lost b old new x board ring taken halt g = record {
-  stayed = record {
-    board = board;
-    ring = ring;
-    role = g.role_is;
-    taken = λ k. subst (AreTaken (seen_by new)) (sym taken) (taken_on b old.client.submitter new.client.submitter (Event.Reap x.req ∷ []) old.taken.items g k);
   };
   at = at_on b old new (Event.Reap x.req ∷ []) ring g refl;
   halt = halt;

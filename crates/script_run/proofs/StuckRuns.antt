@@ -15,9 +15,6 @@ if_stuck_on P Q _ f k = tt
 pub unstuck : (P : List ℕ → Type 0) (f : RunFault) → IsUnstuck f → IfStuckOn P f
 unstuck P f k = if_stuck_on (λ _. ⊥) P f (λ label none. absurd none) k
 
-pub memory_unstuck : (P : List ℕ → Type 0) (f : RunFault) → f ≡ RunFault.Memory → IfStuckOn P f
-memory_unstuck P f is = subst (IfStuckOn P) (sym is) tt
-
 -- ---- a ring's line
 
 pub stuck_ring : (c : Script) (turns : ℕ) (b : Facts) (xs ys : List Hand) (p : ℕ) (label : List ℕ) → AreStarting c b xs → AllCarriedOut c turns xs ys → IsLowest ys (length ys) p → HasLabel c p label → IsStuckRing c turns b label

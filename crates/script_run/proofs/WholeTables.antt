@@ -5,8 +5,7 @@ use Rattle.steps.specs.declared.line.Line.TheVariants.{Did}
 use Rattle.steps.specs.Cells
 use Rattle.steps.specs.Rule.{owns, NoneOf, Saw}
 use Rattle.entry.specs.Entry.{Entry}
-use Rattle.script.specs.Homes.{home, AreHomes}
-use Rattle.script.specs.Rows.{data_count}
+use Rattle.script.specs.{home, AreHomes, data_count}
 use Rattle.script.proofs.CountedLines.{acts_long}
 use Rattle.script.proofs.HomeEntries.{handed_home}
 use Rattle.script.proofs.HomesRead.{home_is}

@@ -6,8 +6,7 @@ use Rattle.board.specs.declared.phase.Phase.{Phase}
 use Rattle.board.specs.declared.phase.Phase.TheVariants.{Done, Gone}
 use Rattle.script.specs.declared.act.Act.{Act}
 use Rattle.script.specs.declared.script.Script.{Script}
-use Rattle.script.specs.Carried.{HasTimed}
-use Rattle.script.specs.Homes.{home}
+use Rattle.script.specs.{HasTimed, home}
 use Rattle.script_run.specs.declared.clock.ClockLine.{ClockLine}
 use Rattle.script_run.specs.declared.clock.ClockLine.TheVariants.{Wait, Armed, Tick}
 

@@ -4,13 +4,10 @@ use Rattle.std.specs.Global.{Vec}
 use Rattle.entry.specs.Entry.{Entry}
 use Rattle.history.specs.declared.event.Event.{Event}
 use Rattle.history.specs.History.{submits}
-use Rattle.work.specs.Board.{Facts}
-use Rattle.work.specs.Passes.{seen_of}
+use Rattle.work.specs.{Facts, seen_of}
 use Rattle.steps.specs.declared.view.Role.TheVariants.{Submitter}
 use Rattle.board.specs.declared.completion.Completion.{Completion}
-use Rattle.board.specs.Batches.{Entries, submits_of}
-use Rattle.board.specs.Calls.{Goes}
-use Rattle.board.specs.Headline.{IsCompletion}
+use Rattle.board.specs.{Entries, submits_of, Goes, IsCompletion}
 use Rattle.runtime.specs.Clients.{ClientFacts}
 use Rattle.script.specs.declared.act.Act.{Act}
 use Rattle.script.specs.declared.named.Named.{Named}

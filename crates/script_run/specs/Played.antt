@@ -1,13 +1,11 @@
 -- A run before its first line, and once all lines are carried out and its runtime was ended.
 use Rattle.std.specs.Prelude.{◌≡◌, ℕ, ◌<◌, ◌++◌, length, map, slice_index_or, Bool, None, List, ◌∷◌, All}
 use Rattle.steps.specs.declared.view.Role.TheVariants.{Poller}
-use Rattle.work.specs.Board.{Facts}
-use Rattle.work.specs.Passes.{Pass, seen_of}
+use Rattle.work.specs.{Facts, Pass, seen_of}
 use Rattle.board.specs.declared.completion.Completion.{Completion}
 use Rattle.board.specs.Reports.{IsReport}
 use Rattle.board.specs.declared.shape.Shape.{Shape}
-use Rattle.runtime.specs.Clients.{ClientFacts, IsStarted, submitter_of}
-use Rattle.runtime.specs.Rests.{CameToRest}
+use Rattle.runtime.specs.{ClientFacts, IsStarted, submitter_of, CameToRest}
 use Rattle.script.specs.declared.act.Act.{Act}
 use Rattle.script.specs.declared.script.Script.{Script}
 use Rattle.script.specs.Carried.{HasTimed}

@@ -7,8 +7,7 @@ use Rattle.script.specs.declared.named.Named.{Named}
 use Rattle.script.specs.declared.script.Script.{Script}
 use Rattle.work.specs.Board.{Facts}
 use Rattle.runtime.specs.Clients.{ClientFacts}
-use Rattle.script.specs.Homes.{AreHomes}
-use Rattle.script.specs.Rows.{data_count}
+use Rattle.script.specs.{AreHomes, data_count}
 use Rattle.script_run.specs.Played.{IsPlayed, IsStartedFor}
 
 -- the request's completion, among those that were taken and those of the end

@@ -3,15 +3,12 @@ use Rattle.std.specs.Prelude.{◌≡◌, ◌⊎◌, ℕ, zero, suc, ◌<◌, ◌
 use Rattle.std.specs.String.{string_bytes}
 use Rattle.history.specs.declared.event.Event.{Event}
 use Rattle.steps.specs.declared.view.Role.TheVariants.{Poller}
-use Rattle.work.specs.Board.{Facts}
-use Rattle.work.specs.Passes.{Pass, seen_of}
-use Rattle.runtime.specs.Clients.{ClientFacts}
-use Rattle.runtime.specs.Rests.{CameToRest}
+use Rattle.work.specs.{Facts, Pass, seen_of}
+use Rattle.runtime.specs.{ClientFacts, CameToRest}
 use Rattle.script.specs.declared.act.Act.{Act}
 use Rattle.script.specs.declared.named.Named.{Named}
 use Rattle.script.specs.declared.script.Script.{Script}
-use Rattle.script.specs.Carried.{HasTimed}
-use Rattle.script.specs.Tables.{is_done}
+use Rattle.script.specs.{HasTimed, is_done}
 use Rattle.script_run.specs.declared.hand.Hand.{Hand}
 use Rattle.script_run.specs.Hands.{IsCarried}
 use Rattle.script_run.specs.Played.{AreInOrder, IsStartedFor}

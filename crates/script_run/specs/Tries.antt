@@ -4,9 +4,7 @@ use Rattle.std.specs.Global.{Vec}
 use Rattle.history.specs.declared.req.Req.{Req}
 use Rattle.board.specs.declared.phase.Phase.{Phase}
 use Rattle.board.specs.declared.error.SubmitError.TheVariants.{Full}
-use Rattle.board.specs.Batches.{Entries}
-use Rattle.board.specs.Calls.{Finds, next_of}
-use Rattle.board.specs.Refusals.{RefusesBatch}
+use Rattle.board.specs.{Entries, Finds, next_of, RefusesBatch}
 use Rattle.script.specs.declared.act.Act.{Act}
 use Rattle.script.specs.declared.act.Act.TheVariants.{Submit, Wait, Armed, Tick}
 use Rattle.script.specs.declared.script.Script.{Script}

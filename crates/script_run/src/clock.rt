@@ -1,9 +1,7 @@
 //! The clock's lines, carried out by the poller's thread: one try a turn.
 ghost use Rattle.std.specs.Prelude.{◌≡◌, ◌+◌, ◌<◌, ◌≤◌, ◌^◌, ◌||◌, [], min, nat_le, IfOk, IfErr, IfSome, IsTrue, length, true, false};
 ghost use Rattle.script.specs.Homes.{AreHomes};
-ghost use Rattle.script_run.specs.ClockLines.{IsClockLine, AreClockLines, has_reply, is_ready, line_at};
-ghost use Rattle.script_run.specs.ClockTries.{EndsAs, IsAtLine, IsOfPlace};
-ghost use Rattle.script_run.specs.Faults.{IsUnstuck};
+ghost use Rattle.script_run.specs.{IsClockLine, AreClockLines, has_reply, is_ready, line_at, EndsAs, IsAtLine, IsOfPlace, IsUnstuck};
 
 use crate::fault::RunFault;
 use crate::stage::home_of;
@@ -246,9 +244,7 @@ fn is_ready(phase: Option<Phase>) -> bool
 }
 
 impl Clock for LineClock {
-    ghost use Rattle.script_run.specs.ClockLines.{line_at, asked_of};
-    ghost use Rattle.script_run.specs.ClockStays.{at_line_stays};
-    ghost use Rattle.script_run.specs.ClockTries.{IsAtLine};
+    ghost use Rattle.script_run.specs.{line_at, asked_of, at_line_stays, IsAtLine};
 
     ghost asked = { λ c. asked_of (line_at c.is_stuck c.lines.items c.next) };
 

@@ -1,8 +1,7 @@
 //! The client of a ring with what it has taken of its completions.
 ghost use Rattle.std.specs.Prelude.{◌≡◌, [], None, IsTrue, false};
 ghost use Rattle.history.specs.History.{phase, IsReplied};
-ghost use Rattle.script_run.specs.Hands.{Went, seen_by};
-ghost use Rattle.script_run.specs.Tries.{CameTo, LooksInVain};
+ghost use Rattle.script_run.specs.{Went, seen_by, CameTo, LooksInVain};
 
 use crate::clock::has_reply;
 use crate::lines::Halt;

@@ -2,8 +2,7 @@
 ghost use Rattle.std.specs.Prelude.{◌≡◌, IfOk, IfErr, OnOk, None};
 ghost use Rattle.script.specs.declared.act.Act.TheVariants.{Submit, Wait};
 ghost use Rattle.script.specs.Homes.{AreHomes};
-ghost use Rattle.script_run.specs.Hands.{AreEntries, Carries, IsNewHand, IsCarried};
-ghost use Rattle.script_run.specs.Tries.{CarriedOut, IfStuck, IsStuckLine, RanOut};
+ghost use Rattle.script_run.specs.{AreEntries, Carries, IsNewHand, IsCarried, CarriedOut, IfStuck, IsStuckLine, RanOut};
 ghost use Rattle.script_run.specs.declared.lines.Halt.{Halt};
 
 use crate::hand::{Batch, Hand, Tried};

@@ -1,8 +1,7 @@
 //! The table of a run, from its completions.
 ghost use Rattle.std.specs.Prelude.{◌≡◌, length, IfOk, IfErr, IfSome, OnSome};
-ghost use Rattle.script_run.specs.Faults.{IsUnstuck};
+ghost use Rattle.script_run.specs.{IsUnstuck, AreRows, IsFound, IsRow, IsRowOf};
 ghost use Rattle.script.specs.Rows.{data_count};
-ghost use Rattle.script_run.specs.RunRows.{AreRows, IsFound, IsRow, IsRowOf};
 
 use crate::fault::RunFault;
 use board::Completion;

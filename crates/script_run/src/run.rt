@@ -4,19 +4,9 @@ ghost use Rattle.std.specs.String.{string_bytes};
 ghost use Rattle.steps.specs.declared.view.Role.TheVariants.{Poller};
 ghost use Rattle.work.specs.Passes.{Pass, seen_of};
 ghost use Rattle.board.specs.Reports.{IsReport};
-ghost use Rattle.runtime.specs.Clients.{AreClients, submitter_of};
-ghost use Rattle.runtime.specs.Rests.{CameToRest};
-ghost use Rattle.script.specs.Homes.{AreHomes};
-ghost use Rattle.script.specs.Rows.{rows_of};
-ghost use Rattle.script.specs.Tables.{IsTableOf};
-ghost use Rattle.script_run.specs.Hands.{AreNew, client_of, taken_by};
-ghost use Rattle.script_run.specs.ClockLines.{AreClockLines};
-ghost use Rattle.script_run.specs.ClockTries.{IsAtLine};
-ghost use Rattle.script_run.specs.Played.{AreStarting, IsPlayed, IsStartedFor};
-ghost use Rattle.script_run.specs.RunRows.{HasRun};
-ghost use Rattle.script_run.specs.Stuck.{HasLabel, IsStuck, IsStuckOn};
-ghost use Rattle.script_run.specs.Faults.{IfStuckOn, IsUnstuck};
-ghost use Rattle.script_run.specs.Tries.{IsLowest};
+ghost use Rattle.runtime.specs.{AreClients, submitter_of, CameToRest};
+ghost use Rattle.script.specs.{AreHomes, rows_of, IsTableOf};
+ghost use Rattle.script_run.specs.{AreNew, client_of, taken_by, AreClockLines, IsAtLine, AreStarting, IsPlayed, IsStartedFor, HasRun, HasLabel, IsStuck, IsStuckOn, IfStuckOn, IsUnstuck, IsLowest};
 ghost use Rattle.script_run.specs.declared.lines.Halt.TheVariants.{Stuck};
 
 use crate::barrier::Barrier;
@@ -73,15 +63,7 @@ pub fn run_script<
         turns,
         barrier: &barrier,
     };
-    run_lines(
-        rt,
-        &stage,
-        workers,
-        runtime,
-        clients,
-        room,
-        lines.as_slice(),
-    )
+    run_lines(rt, &stage, runtime, clients, room, lines.as_slice())
 }
 
 /// The clock of a run, and how far it has come.
@@ -118,27 +100,24 @@ fn room_of(alloc: Global, rings: usize) -> Result<Room, AllocError>
     Ok(Room { hands, clients })
 }
 
-/// Carries all lines out on a runtime that was started for the script, with so many workers, and gives the table. There is room for its
-/// hands and clients.
+/// Carries all lines out on a runtime that was started for the script, and gives the table. There is room for its hands and clients.
 fn run_lines<R: Threads + Wait + Sync>(
     rt: &R,
     stage: &Stage<'_>,
-    workers: u32,
     runtime: Runtime<LineClock>,
     clients: Vec<Client>,
     room: Room,
     lines: &[ClockLine],
 ) -> Result<Table, RunFault>
     requires homes { AreHomes stage.now.script.now stage.now.homes.now }
-    requires started { IsStartedFor stage.now.script.now workers runtime.board clients.items }
+    requires started { (w : ℕ) × IsStartedFor stage.now.script.now w runtime.board clients.items }
     requires hands { (room.hands.items ≡ []) × (length clients.items ≤ vec_capacity room.hands) }
     requires clients { (room.clients.items ≡ []) × (length clients.items ≤ vec_capacity room.clients) }
     requires lines { AreClockLines stage.now.script.now stage.now.script.now.clock.items lines.now }
     ensures table { IfOk result (λ table. IsTableOf stage.now.script.now (rows_of table)) }
-    ensures run { IfOk result (λ table. HasRun stage.now.script.now workers table.lines.items) }
-    ensures stuck { IfErr result (IfStuckOn (IsStuck stage.now.script.now workers stage.now.turns)) }
+    ensures run { (w : ℕ) → IsStartedFor stage.now.script.now w runtime.board clients.items → IfOk result (λ table. HasRun stage.now.script.now w table.lines.items) }
+    ensures stuck { (w : ℕ) → IsStartedFor stage.now.script.now w runtime.board clients.items → IfErr result (IfStuckOn (IsStuck stage.now.script.now w stage.now.turns)) }
 {
-    let _ = workers;
     let Room {
         hands,
         clients: back,

@@ -3,13 +3,10 @@ ghost use Rattle.std.specs.Prelude.{◌≡◌, ◌≤◌, length, vec_capacity, 
 ghost use Rattle.script.specs.Homes.{AreHomes};
 ghost use Rattle.script_run.specs.Tries.{AllCarriedOut, CarriedOut};
 
-use crate::barrier::Barrier;
 use crate::hand::Hand;
 use crate::lines::carry_out;
 use crate::stage::Stage;
-use history::Req;
 use script::Script;
-use std::alloc::Global;
 use std::snapshot::Snapshot;
 use std::sync::Wait;
 use std::thread;
@@ -25,33 +22,8 @@ impl Promise<Hand> for Carried {
     ghost kept_by = { λ p r. CarriedOut p.0.value p.1.value p.2.value r };
 }
 
-/// `carry_out`, of the stage's parts: what a thread is given names no struct of references. Then the thread is at its end.
-fn carry_by<R: Wait>(
-    rt: &R,
-    alloc: Global,
-    script: &Script,
-    homes: &[Option<Req>],
-    turns: u32,
-    barrier: &Barrier,
-    hand: Hand,
-) -> Hand
-    requires { AreHomes script.now homes.now }
-    ensures { CarriedOut script.now turns hand result }
-{
-    let stage = Stage {
-        alloc,
-        script,
-        homes,
-        turns,
-        barrier,
-    };
-    let hand = carry_out(rt, &stage, hand);
-    barrier.pulse.end();
-    hand
-}
-
-/// Carries the lines of a client out in a thread of its own. Where that is refused all rings are told to stop, and the hand comes back,
-/// stopped.
+/// Carries the lines of a client out in a thread of its own, which is given the stage's parts: it takes no struct of references. Where
+/// that is refused all rings are told to stop, and the hand comes back, stopped.
 fn start<'s, E, R: Threads + Wait + Sync>(
     scope: &'s Scope<'s, E>,
     rt: &'s R,
@@ -79,7 +51,18 @@ fn start<'s, E, R: Threads + Wait + Sync>(
         move || -> Hand
             requires { AreHomes script.now homes.now }
             ensures { CarriedOut script.entry.now turns hand result }
-        { carry_by(rt, alloc, script, homes, turns, barrier, hand) },
+        {
+            let stage = Stage {
+                alloc,
+                script,
+                homes,
+                turns,
+                barrier,
+            };
+            let hand = carry_out(rt, &stage, hand);
+            barrier.pulse.end();
+            hand
+        },
     ) {
         Ok(thread) => Ok(thread),
         Err(refused) => {

@@ -6,19 +6,7 @@ pub use Rattle.prep.specs.Built.{flagged, link_timeout_op, offset_of, plain, pol
 pub use Rattle.script.specs.Rules.{are_lines, each_once, fits_buffer, has_own_label, is_clock_line, is_entry, is_label, is_label_byte, is_letter, is_ring_line, is_timed_at, is_timed_op, keeps_acts, keeps_clock, keeps_limits, keeps_parts, keeps_rules, labels_differ, places_in, places_of, rises}
 pub use Rattle.script.specs.declared.act.Act.{Act}
 pub use Rattle.script.specs.declared.named.Named.{Named}
-pub use Rattle.script_text.specs.Above.{Deed, Entered, actor_in, actor_with, batch_in, batch_with, deeds_and, deeds_in, deeds_with, entered_in, entered_line, entered_with, has_ring_in, has_ring_with, is_of, is_same_actor, last_submit_in, last_submit_with, pipes_in, pipes_with, place_in, rings_in, rings_with, sets, stated_in, stated_line, stated_with, submits, time_in, time_with, waits, waits_armed}
-pub use Rattle.script_text.specs.Actors.{IsKnown, is_clock, is_ring, named_actor, ring_named}
-pub use Rattle.script_text.specs.Acts.{deed, deeds, deeds_at, items_or_none, pending_at}
-pub use Rattle.script_text.specs.EntryLines.{IsRawEntry, Stated, all_stated, argument_faults, count_of, declares, etime_bit, fd_in, found_stated, label_faults, len_in, len_of, line_of, mask_in, op_of, options_of, place_of, splice_len_in, stated, target_in, text_bytes, text_faults, text_len, ticks_in, unknown_faults}
-pub use Rattle.script_text.specs.LineEntries.{line_buffer, line_entry, posts_in}
-pub use Rattle.script_text.specs.LineFaults.{Standing, declare_faults, first_faults, in_place, is_long_batch, is_longer, is_short, keyword_faults, kind_faults, line_faults, may_be_timer, own_faults, pending_of, word_faults}
-pub use Rattle.script_text.specs.Noted.{Has, IsFirst, fault_if, long_or, noted, number_faults, number_or, range_faults, rank, with_faults}
-pub use Rattle.script_text.specs.Options.{bit_if, count_in, flags_in, has_all, has_etime, has_option, is_bad_number, is_count, is_option, is_user_data, number_of_word, option_faults, user_data_in}
-pub use Rattle.script_text.specs.Parts.{Fits, Stands, Takes, all_entered, entered, has_label, standing}
-pub use Rattle.script_text.specs.Scripts.{IsFaultless, IsScriptOf, IsToldHere, IsToldOf, faults_at, faults_of, is_headless, is_left, standing_in}
-pub use Rattle.script_text.specs.Sentences.{AreSentences, IsSentence, Sentence, above_of, first_of, line_at, no_line, sentence, sentences}
-pub use Rattle.script_text.specs.TableText.{AreLines, Differs, IsBadLine, IsTableFault, IsTableText, NoLine, is_read, shown_lines, table_text}
-pub use Rattle.script_text.specs.TextWords.{IsPlain, is_plain, is_same, now_of, texts, without_end, word_at}
+pub use Rattle.script_text.specs.{Deed, Entered, actor_in, actor_with, batch_in, batch_with, deeds_and, deeds_in, deeds_with, entered_in, entered_line, entered_with, has_ring_in, has_ring_with, is_of, is_same_actor, last_submit_in, last_submit_with, pipes_in, pipes_with, place_in, rings_in, rings_with, sets, stated_in, stated_line, stated_with, submits, time_in, time_with, waits, waits_armed, IsKnown, is_clock, is_ring, named_actor, ring_named, deed, deeds, deeds_at, items_or_none, pending_at, IsRawEntry, Stated, all_stated, argument_faults, count_of, declares, etime_bit, fd_in, found_stated, label_faults, len_in, len_of, line_of, mask_in, op_of, options_of, place_of, splice_len_in, stated, target_in, text_bytes, text_faults, text_len, ticks_in, unknown_faults, line_buffer, line_entry, posts_in, Standing, declare_faults, first_faults, in_place, is_long_batch, is_longer, is_short, keyword_faults, kind_faults, line_faults, may_be_timer, own_faults, pending_of, word_faults, Has, IsFirst, fault_if, long_or, noted, number_faults, number_or, range_faults, rank, with_faults, bit_if, count_in, flags_in, has_all, has_etime, has_option, is_bad_number, is_count, is_option, is_user_data, number_of_word, option_faults, user_data_in, Fits, Stands, Takes, all_entered, entered, has_label, standing, IsFaultless, IsScriptOf, IsToldHere, IsToldOf, faults_at, faults_of, is_headless, is_left, standing_in, AreSentences, IsSentence, Sentence, above_of, first_of, line_at, no_line, sentence, sentences, AreLines, Differs, IsBadLine, IsTableFault, IsTableText, NoLine, is_read, shown_lines, table_text, IsPlain, is_plain, is_same, now_of, texts, without_end, word_at}
 pub use Rattle.script_text.specs.declared.actor.Actor.{Actor}
 pub use Rattle.script_text.specs.declared.fault.Fault.TheVariants.{BadBytes, BadTable, OutOfRange}
 pub use Rattle.script_text.specs.declared.fault.ScriptFault.{ScriptFault}

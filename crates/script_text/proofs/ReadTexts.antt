@@ -1,7 +1,7 @@
 -- What is read of a text, by what is read of its lines.
 use Rattle.std.proofs.lemmas.List.Splits.{length-slice_split}
 use Rattle.script.specs.declared.script.Script.{Script}
-use Rattle.script_text.specs.Kept.{IsFaultAmong}
+use Rattle.script_text.specs.{IsFaultAmong}
 use Rattle.script_text.specs.TextWords.{text_lines}
 use Rattle.script_text.proofs.Common.{All, AreSentences, Entered, IsFaultless, IsPlain, IsScriptOf, IsToldOf, Line, List, Memory, ScriptFault, Sentence, [], above_of, actor_in, ap, arith, entered, first_of, get_or, is_headless, is_left, length, length-map, length-reverse, line_at, reverse, standing_in, stated_in, subst, suc, without_end, zero, ℕ, ◌+◌, ◌<◌, ◌==◌, ◌∷◌, ◌≡◌, ◌≤◌}
 use Rattle.script_text.proofs.LinesAbove.{sentences_all}

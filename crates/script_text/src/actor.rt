@@ -1,9 +1,7 @@
 //! Whose lines are read.
 ghost use Rattle.std.specs.Prelude.{◌≡◌, Some};
-ghost use Rattle.script_text.specs.Above.{actor_with};
-ghost use Rattle.script_text.specs.Actors.{is_clock, is_ring, is_start, is_stranger, named_actor};
+ghost use Rattle.script_text.specs.{actor_with, is_clock, is_ring, is_start, is_stranger, named_actor, texts};
 ghost use Rattle.script_text.specs.declared.keyword.Keyword.TheVariants.{On};
-ghost use Rattle.script_text.specs.TextWords.{texts};
 
 use crate::words::{is_same, word_at};
 use text::number_of;

@@ -1,8 +1,6 @@
 //! The lines of the actors of a script.
 ghost use Rattle.std.specs.Prelude.{◌≡◌, ◌==◌, ℕ, ◌+◌, ◌++◌, [], ◌∷◌, length, if◌then◌else◌, OnOk};
-ghost use Rattle.script_text.specs.Above.{deeds_and, is_same_actor, submits};
-ghost use Rattle.script_text.specs.Actors.{IsKnown};
-ghost use Rattle.script_text.specs.Acts.{deed, deeds, deeds_at, pending_at};
+ghost use Rattle.script_text.specs.{deeds_and, is_same_actor, submits, IsKnown, deed, deeds, deeds_at, pending_at};
 
 use crate::actor::Actor;
 use script::Act;

@@ -1,9 +1,7 @@
 //! Entry lines by the labels that they declare.
 ghost use Rattle.std.specs.Prelude.{◌≡◌};
 ghost use Rattle.script.specs.Rules.{is_label};
-ghost use Rattle.script_text.specs.EntryLines.{all_stated, label_faults, target_faults, target_in};
-ghost use Rattle.script_text.specs.Kept.{KeepsFault};
-ghost use Rattle.script_text.specs.Noted.{with_faults};
+ghost use Rattle.script_text.specs.{all_stated, label_faults, target_faults, target_in, KeepsFault, with_faults};
 
 use crate::fault::Fault;
 use crate::faults::Faults;

@@ -3,11 +3,7 @@ ghost use Rattle.std.specs.Prelude.{◌≡◌, pos, IfOk};
 ghost use Rattle.entry.specs.declared.op.Op.TheVariants.{AsyncCancel};
 ghost use Rattle.prep.specs.Built.{plain};
 ghost use Rattle.text.specs.Number.{number_in};
-ghost use Rattle.script_text.specs.EntryLines.{all_stated, argument_faults, buffer_in, count_of, entry_faults, entry_of, etime_bit, fd_in, op_of, options_of, text_bytes, text_len};
-ghost use Rattle.script_text.specs.Options.{has_all, has_etime};
-ghost use Rattle.script_text.specs.Kept.{KeepsFault};
-ghost use Rattle.script_text.specs.Noted.{long_or, number_or, with_faults};
-ghost use Rattle.script_text.specs.TextWords.{texts};
+ghost use Rattle.script_text.specs.{all_stated, argument_faults, buffer_in, count_of, entry_faults, entry_of, etime_bit, fd_in, op_of, options_of, text_bytes, text_len, has_all, has_etime, KeepsFault, long_or, number_or, with_faults, texts};
 
 use crate::declared_line::{note_target, target_in};
 use crate::fault::Fault;

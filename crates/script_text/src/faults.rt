@@ -1,8 +1,7 @@
 //! The faults of one line.
 ghost use Rattle.std.specs.Prelude.{◌≡◌, IsSome, IsTrue, None};
 ghost use Rattle.text.specs.Number.{number_in};
-ghost use Rattle.script_text.specs.Kept.{IsOfScript, KeepsFault};
-ghost use Rattle.script_text.specs.Noted.{fault_if, long_faults, noted, number_faults, rank, with_faults};
+ghost use Rattle.script_text.specs.{IsOfScript, KeepsFault, fault_if, long_faults, noted, number_faults, rank, with_faults};
 
 use crate::fault::Fault;
 use text::number_of;

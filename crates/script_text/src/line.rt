@@ -1,10 +1,7 @@
 //! The lines of a script as they are read.
 ghost use Rattle.std.specs.Prelude.{◌≡◌, List, Option, IfOk};
 ghost use Rattle.entry.specs.Entry.{Entry};
-ghost use Rattle.script_text.specs.Keywords.{keyword_of};
-ghost use Rattle.script_text.specs.LineEntries.{IsGiven, is_raw_line};
-ghost use Rattle.script_text.specs.Sentences.{AreSentences, IsSentence, Sentence, sentence, sentences};
-ghost use Rattle.script_text.specs.TextWords.{texts, word_at};
+ghost use Rattle.script_text.specs.{keyword_of, IsGiven, is_raw_line, AreSentences, IsSentence, Sentence, sentence, sentences, texts, word_at};
 
 use crate::keyword::Keyword;
 use crate::raw::raw_entry;

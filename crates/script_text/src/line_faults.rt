@@ -1,16 +1,7 @@
 //! The faults of a line, by what stands above it and by what the file declares.
 ghost use Rattle.std.specs.Prelude.{◌≡◌, [], length, IfSome, MatchOption};
 ghost use Rattle.std.specs.List.{list_any};
-ghost use Rattle.script_text.specs.EntryLines.{all_stated, line_of};
-ghost use Rattle.script_text.specs.Kept.{IsOfScript, KeepsFault};
-ghost use Rattle.script_text.specs.LineFaults.{declare_faults, in_place, is_long_batch, is_over, is_short, keyword_faults, kind_faults, may_be_timer, own_faults, pending_of, posts_faults, word_faults};
-ghost use Rattle.script_text.specs.Outlined.{faults_here};
-ghost use Rattle.script_text.specs.Acts.{pending_at};
-ghost use Rattle.script_text.specs.Parts.{has_label, standing};
-ghost use Rattle.script_text.specs.Sentences.{sentence};
-ghost use Rattle.script_text.specs.Keywords.{most_words};
-ghost use Rattle.script_text.specs.Noted.{IsFirst, with_faults};
-ghost use Rattle.script_text.specs.TextWords.{texts};
+ghost use Rattle.script_text.specs.{all_stated, line_of, IsOfScript, KeepsFault, declare_faults, in_place, is_long_batch, is_over, is_short, keyword_faults, kind_faults, may_be_timer, own_faults, pending_of, posts_faults, word_faults, faults_here, pending_at, has_label, standing, sentence, most_words, IsFirst, with_faults, texts};
 
 use crate::actor::Actor;
 use crate::declared_line::note_label;

@@ -1,13 +1,7 @@
 //! The options of an entry line.
 ghost use Rattle.std.specs.Prelude.{◌≡◌, ◌+◌, drop, not};
 ghost use Rattle.std.specs.List.{list_any};
-ghost use Rattle.script_text.specs.Above.{user_data_of};
-ghost use Rattle.script_text.specs.Kept.{KeepsFault};
-ghost use Rattle.script_text.specs.Keywords.{arguments_of};
-ghost use Rattle.script_text.specs.Noted.{with_faults};
-ghost use Rattle.script_text.specs.EntryLines.{count_of};
-ghost use Rattle.script_text.specs.Options.{bit_if, count_in, flags_in, given_count, given_user_data, has_all, has_count_twice, has_etime, has_option, has_twice, has_user_data_twice, is_bad_number, is_cancel, is_count, is_option, is_own, is_timeout, is_user_data, option_faults, repeats, repeats_own, user_data_in};
-ghost use Rattle.script_text.specs.TextWords.{texts};
+ghost use Rattle.script_text.specs.{user_data_of, KeepsFault, arguments_of, with_faults, count_of, bit_if, count_in, flags_in, given_count, given_user_data, has_all, has_count_twice, has_etime, has_option, has_twice, has_user_data_twice, is_bad_number, is_cancel, is_count, is_option, is_own, is_timeout, is_user_data, option_faults, repeats, repeats_own, user_data_in, texts};
 
 use crate::fault::Fault;
 use crate::faults::Faults;

@@ -1,10 +1,6 @@
 //! What the lines of a script declare, whatever is wrong with them.
 ghost use Rattle.std.specs.Prelude.{◌≡◌, ◌<◌, ℕ, [], Some, reverse, slice_get, IfOk, OnOk};
-ghost use Rattle.script_text.specs.Above.{is_same_actor, last_submit_with, stated_with};
-ghost use Rattle.script_text.specs.EntryLines.{all_stated};
-ghost use Rattle.script_text.specs.Outlined.{Notes, Outlines, is_unsubmitted, last_of};
-ghost use Rattle.script_text.specs.Sentences.{sentence, sentences};
-ghost use Rattle.script_text.specs.TextWords.{texts};
+ghost use Rattle.script_text.specs.{is_same_actor, last_submit_with, stated_with, all_stated, Notes, Outlines, is_unsubmitted, last_of, sentence, sentences, texts};
 
 use crate::actor::Actor;
 use crate::declared_line::Declared;

@@ -1,12 +1,7 @@
 //! The parts of a script, as its lines give them.
 ghost use Rattle.std.specs.Prelude.{◌≡◌, ◌↔◌, List, [], IsSome, IsTrue, Some, IfOk, IfSome, OnOk};
 ghost use Rattle.script.specs.Rules.{is_label, keeps_rules};
-ghost use Rattle.script_text.specs.Above.{entered_line, place_in};
-ghost use Rattle.script_text.specs.EntryLines.{Stated, all_stated};
-ghost use Rattle.script_text.specs.LineEntries.{line_buffer, line_entry, posts_in};
-ghost use Rattle.script_text.specs.Parts.{Fits, IsEven, Stands, Takes, entered};
-ghost use Rattle.script_text.specs.Sentences.{first_of, sentence};
-ghost use Rattle.script_text.specs.TextWords.{texts, word_at};
+ghost use Rattle.script_text.specs.{entered_line, place_in, Stated, all_stated, line_buffer, line_entry, posts_in, Fits, IsEven, Stands, Takes, entered, first_of, sentence, texts, word_at};
 
 use crate::actor::Actor;
 use crate::acts::Acts;

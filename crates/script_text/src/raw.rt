@@ -1,9 +1,7 @@
 //! Entries that a script gives as bytes.
 ghost use Rattle.std.specs.Prelude.{◌≡◌, IfOk, Option};
 ghost use Rattle.entry.specs.Entry.{Entry};
-ghost use Rattle.script_text.specs.EntryLines.{IsRawEntry, len_of, raw_buffer, raw_faults};
-ghost use Rattle.script_text.specs.Kept.{KeepsFault};
-ghost use Rattle.script_text.specs.Noted.{with_faults};
+ghost use Rattle.script_text.specs.{IsRawEntry, len_of, raw_buffer, raw_faults, KeepsFault, with_faults};
 
 use crate::fault::Fault;
 use crate::faults::Faults;

@@ -1,13 +1,6 @@
 //! Scripts read from their text.
 ghost use Rattle.std.specs.Prelude.{◌≡◌, ◌≤◌, [], length, reverse, IfOk, IfErr, OnOk, All};
-ghost use Rattle.script_text.specs.EntryLines.{all_stated};
-ghost use Rattle.script_text.specs.Kept.{IsFaultOf};
-ghost use Rattle.script_text.specs.Outlined.{Outlines, faults_here};
-ghost use Rattle.script_text.specs.Parts.{IsEven, Stands, Takes};
-ghost use Rattle.script_text.specs.Scripts.{HasNoFault, IsFaultless, IsScriptOf, IsToldHere, IsToldOf, IsToldOfText, SaysScript};
-ghost use Rattle.script_text.specs.Above.{stated_in};
-ghost use Rattle.script_text.specs.Sentences.{first_of, sentence, sentences};
-ghost use Rattle.script_text.specs.TextWords.{IsPlain, text_lines};
+ghost use Rattle.script_text.specs.{all_stated, IsFaultOf, Outlines, faults_here, IsEven, Stands, Takes, HasNoFault, IsFaultless, IsScriptOf, IsToldHere, IsToldOf, IsToldOfText, SaysScript, stated_in, first_of, sentence, sentences, IsPlain, text_lines};
 
 use crate::fault::{Fault, ScriptFault};
 use crate::line::{Line, read_lines};

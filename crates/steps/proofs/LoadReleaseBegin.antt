@@ -1,5 +1,5 @@
 -- Loads, and the kinds of step that let a request start: release and begin.
-use Rattle.steps.proofs.Common.{Allows, Begin, Busy, Did, Extends, Fair, Freed, Full, Hands, Held, Idle, IsCell, IsOf, IsReplied, Keeps, Layout, Legal, Line, List, MayBegin, Open, Ready, Req, Role, Ruled, Running, Seated, Setup, Some, Spent, View, [], ap, arith, began, claim_at, clock_of, cond, dite, either, eqb, events_of, false, flow, freed, get_elem?, get_or, holder, holders, inl, inr, is_timer, looked, none, note_at, noticed, phase, pollers, refl, released, request_at, ring_of, runs, same_false, same_itself, setup_of, slot_at, some, stands_for, step, submits, subst, sym, tried, true, true≢false, waits, was_shut, word_of, workers, ℕ, ℕ_discrete, ◌<◌, ◌∙◌, ◌∷◌, ◌≡◌, ◌≢◌}
+use Rattle.steps.proofs.Common.{Allows, Begin, Busy, Did, Extends, Fair, Freed, Full, Hands, Held, Idle, IsCell, IsOf, IsReplied, Keeps, Layout, Legal, Line, List, MayBegin, Open, Ready, Req, Role, Ruled, Running, Seated, Some, Spent, View, [], ap, arith, began, claim_at, clock_of, cond, dite, either, eqb, events_of, false, flow, freed, get_elem?, get_or, holder, holders, inl, inr, is_timer, looked, none, note_at, noticed, phase, pollers, refl, released, request_at, ring_of, runs, same_false, same_itself, setup_of, slot_at, some, stands_for, step, submits, subst, sym, tried, true, true≢false, waits, was_shut, word_of, workers, ℕ, ℕ_discrete, ◌<◌, ◌∙◌, ◌∷◌, ◌≡◌, ◌≢◌}
 use Rattle.steps.proofs.Roles.{unowned, busy_apart, works_for}
 use Rattle.steps.proofs.JournalGrowth.{counted_in, open_lasts, kind_lasts, phase_stays}
 use Rattle.steps.proofs.Frames.{may_stays}
@@ -25,9 +25,6 @@ module _ (slots id : ℕ) (me : Seated) where
   abbrev K : List ℕ
   K = L.cells
 
-  abbrev S : Setup
-  S = setup_of L
-
   -- LOAD
   pub look_allows : (M : Layout) (x : ℕ) → v.role ≢ Spent → Allows (Ruled M) slots id me (claim_at x) (λ n. n) (looked (step slots (claim_at x) 0 0 none) me)
   look_allows M x live = shaped slots id me M (claim_at x) (λ n. n) (looked (step slots (claim_at x) 0 0 none) me) live (looks_on slots id me x 0 0 none)
@@ -41,7 +38,7 @@ module _ (slots id : ℕ) (me : Seated) where
       → (s : St) (r : Ruled L s) → There slots id me s → get_or s.words (claim_at x) 0 ≡ word_of Held 0 g 0 → Does slots id me s (claim_at x) new (released (step slots (claim_at x) old new none) me x (request_at K x g))
   release_does x g old new mine has lazy inside f is_new born may s r at is =
       let q : Req = request_at K x g in let l : Line = Freed q in
-      let may' : MayBegin r.past q = (lasts_now slots id me s r at (λ h. Open h q) q (open_lasts S q) born may.0, lasts_now slots id me s r at (λ h. IsOf h q is_timer false) q (kind_lasts S q is_timer false) born may.1) in
+      let may' : MayBegin r.past q = (lasts_now slots id me s r at (λ h. Open h q) q (open_lasts (setup_of L) q) born may.0, lasts_now slots id me s r at (λ h. IsOf h q is_timer false) q (kind_lasts (setup_of L) q is_timer false) born may.1) in
       let here = says_of K r.past x _ _ Held 0 g 0 (r.cells x inside) is (omega arith) f (omega arith) in
       hand_stays slots id me s r at x g new inside l v.role (λ c. refl) (λ w. refl) (quiet_line L r.past l (here.0.2, may'.0, may'.1, here.0.3) r.live refl (λ p. (refl, refl))) (same_turns slots id me s r at l mine refl r.legal has (λ _. refl) (λ q is. absurd (lazy q is))) r.legal (owned L s r id v l at mine)
       Ready 0 0 (omega arith, f, omega arith) is_new here.1 (refl, refl, here.0.2, ap (λ b. cond b true (freed r.past q)) (same_itself q), here.0.4, here.0.5, may')
@@ -56,7 +53,7 @@ module _ (slots id : ℕ) (me : Seated) where
   begin_does x g old new idle has inside f is_new s r at is =
       let q : Req = request_at K x g in let l : Line = Did (Begin q) in let here = says_of K r.past x _ _ Ready 0 g 0 (r.cells x inside) is (omega arith) f (omega arith) in
       let waiting : phase (events_of r.past) q ≡ waits = here.0.2 in let parcel : Keeps r.past q (get_elem? s.homes (slot_at x)) [] = here.0.5 in
-      let legal : Legal S (events_of (l ∷ r.past)) = ((r.live, (waiting, here.0.6.0, here.0.6.1)), r.legal) in
+      let legal : Legal (setup_of L) (events_of (l ∷ r.past)) = ((r.live, (waiting, here.0.6.0, here.0.6.1)), r.legal) in
       let running : phase (events_of (l ∷ r.past)) q ≡ runs = now_is _ runs _ (same_itself q) in
       let free : (i : ℕ) (u : View) → get_elem? s.views i ≡ some u → stands_for u.role (workers q) ≡ true → ⊥ = no_worker slots id me s r q (λ e. (let y = waiting in let z = sym y ∙ e in cc)) (λ d. subst IsReplied waiting d) in
       told_as slots id me s (claim_at x) new (λ m. (m.0 ≡ with_line slots id me (claim_at x) s r.past l (Busy q)) × (m.1 ≡ (slot_at x, Some (Full parcel.0)) ∷ me.1)) (began (step slots (claim_at x) old new none) me x q)
@@ -71,7 +68,7 @@ module _ (slots id : ℕ) (me : Seated) where
         leaving = (λ c is. absurd (cc));
         running = (λ c is. dec_req q c (λ same'. inl (ap Busy same')) (λ ne. inr (sym (phase_stays l r.past c (same_false q c ne)) ∙ is, λ z. absurd (let y = sym idle ∙ z in cc))));
       } legal (λ i u other there. (unowned u.role, busy_apart q u.role (λ c own. same_false q c (λ e. free i u there (subst (λ (z : Req). stands_for u.role (workers z) ≡ true) (sym e) own)))))
-      Running 0 0 (omega arith, f, omega arith) is_new here.1 (Some (Full parcel.0)) parcel.1 (λ _. (refl, refl, running, here.0.3, here.0.4, may_stays S l r.past legal q (counted_in S r.past q waits r.legal waiting (λ e. cc)) here.0.6)))
+      Running 0 0 (omega arith, f, omega arith) is_new here.1 (Some (Full parcel.0)) parcel.1 (λ _. (refl, refl, running, here.0.3, here.0.4, may_stays (setup_of L) l r.past legal q (counted_in (setup_of L) r.past q waits r.legal waiting (λ e. cc)) here.0.6)))
 
   pub begin_allows : (M : Layout) (x g old new : ℕ) → v.role ≡ Idle → 0 < v.parts → IsCell K x → g < 16777216 → old ≡ word_of Ready 0 g 0 → new ≡ word_of Running 0 g 0
       → Allows (Ruled M) slots id me (claim_at x) (λ n. either (eqb n old) new n) (tried Ready began (step slots (claim_at x) old new none) me)

@@ -1,6 +1,5 @@
 -- The slots of a new table, as far as they are made.
-use Rattle.pipe.specs.Pipe.{Conduit}
-use Rattle.pipe.specs.Moves.{new_conduit}
+use Rattle.pipe.specs.{Conduit, new_conduit}
 use Rattle.steps.specs.declared.parcel.WaitedPipe.{WaitedPipe}
 use Rattle.steps.proofs.Common.{List, None, Option, PipeIn, Piped, Some, Thing, [], ap, arith, at_longer, dite, get_elem?, get_or, length, length-append, refl, slot_at, slots_of, some, subst, sym, untouched, vec_capacity, ℕ, ℕ_discrete, ◌++◌, ◌+◌, ◌<◌, ◌∙◌, ◌∷◌, ◌≡◌}
 

@@ -1,6 +1,6 @@
 -- The notes that a submitter stores before its Submit and before its Reap. With the facts it takes the slot of its cell.
 use mathlib.Core.Option as maybe
-use Rattle.steps.proofs.Common.{Allows, Bool, Busy, Cause, CellOk, Done, Empty, Entry, Extends, Fair, Full, Hands, IsCell, IsFactsNote, IsParcel, IsPlaced, Layout, Legal, Lending, Lent, Line, List, None, Noted, Option, Req, Role, Ruled, Seated, Setup, Some, Submitter, Thing, Vacant, View, ap, apart, arith, cause_bits, claim_at, cond, data_of, dite, emptied, eq-eqb, events_of, facts_at, fails, false, fits, get_elem?, get_or, get_or-set_other, get_or-set_same, inl, inr, is_leaving, keeps, length-set, lent, ne_eqb, none, note_at, noted, noted_more, opened, outcome_of, phase, refl, replied, request_at, ring_of, rings, same_false, same_itself, set, set_else, setup_of, slot_at, some, stands_for, step, stepped, subst, sym, takes, true, true≢false, unborn_yet, workers, ℕ, ℕ_discrete, ℤ, ◌*◌, ◌+◌, ◌<◌, ◌==◌, ◌∙◌, ◌∷◌, ◌≡◌, ◌≢◌, ◌⊎◌}
+use Rattle.steps.proofs.Common.{Allows, Bool, Busy, Cause, CellOk, Done, Empty, Entry, Extends, Fair, Full, Hands, IsCell, IsFactsNote, IsParcel, IsPlaced, Layout, Legal, Lending, Lent, Line, List, None, Noted, Option, Req, Role, Ruled, Seated, Some, Submitter, Thing, Vacant, View, ap, apart, arith, cause_bits, claim_at, cond, data_of, dite, emptied, eq-eqb, events_of, facts_at, fails, false, fits, get_elem?, get_or, get_or-set_other, get_or-set_same, inl, inr, is_leaving, keeps, length-set, lent, ne_eqb, none, note_at, noted, noted_more, opened, outcome_of, phase, refl, replied, request_at, ring_of, rings, same_false, same_itself, set, set_else, setup_of, slot_at, some, stands_for, step, stepped, subst, sym, takes, true, true≢false, unborn_yet, workers, ℕ, ℕ_discrete, ℤ, ◌*◌, ◌+◌, ◌<◌, ◌==◌, ◌∙◌, ◌∷◌, ◌≡◌, ◌≢◌, ◌⊎◌}
 use Rattle.steps.proofs.CellNumbers.{other_cell, other_age, one_word}
 use Rattle.steps.proofs.Roles.{as_lending, idle_hands}
 use Rattle.steps.proofs.JournalGrowth.{begins, ran, lent_stays, counted_in, placed_lasts}
@@ -20,9 +20,6 @@ module _ (slots id : ℕ) (me : Seated) where
   abbrev K : List ℕ
   K = L.cells
 
-  abbrev S : Setup
-  S = setup_of L
-
   -- the words after a store in a note word
   note_set : (s : St) (r : Ruled L s) (x k n : ℕ) (l : Line) → IsCell K x → k < 7 → ((w : ℕ) → noted (l ∷ r.past) w ≡ cond (note_at x k == w) n (noted r.past w)) → (y i : ℕ) → IsCell K y → i < 7 → get_or (set s.words (note_at x k) n) (note_at y i) 0 ≡ noted (l ∷ r.past) (note_at y i)
   note_set s r x k n l inside small stored y i h fits = let a : ℕ = note_at x k in let b : ℕ = note_at y i in dite (ℕ_discrete a b)
@@ -30,7 +27,7 @@ module _ (slots id : ℕ) (me : Seated) where
       (λ ne. get_or-set_other s.words a b n 0 (λ e. ne (sym e)) ∙ (r.notes y i h fits ∙ sym (stored b ∙ ap (λ (t : Bool). cond t n (noted r.past b)) (ne_eqb a b ne))))
 
   -- a seat that changes from the role of a submitter to another, or back, without a worker's part
-  pub turns_by : (s : St) (r : Ruled L s) (l : Line) (role : Role) → LeavesGone v.role l role → begins l ≡ false → Legal S (events_of (l ∷ r.past)) → 0 < v.parts → ((c : Req) → stands_for v.role (workers c) ≡ false) → ((c : Req) → role ≢ Busy c) → ((c : Req) → is_leaving role c ≡ false)
+  pub turns_by : (s : St) (r : Ruled L s) (l : Line) (role : Role) → LeavesGone v.role l role → begins l ≡ false → Legal (setup_of L) (events_of (l ∷ r.past)) → 0 < v.parts → ((c : Req) → stands_for v.role (workers c) ≡ false) → ((c : Req) → role ≢ Busy c) → ((c : Req) → is_leaving role c ≡ false)
       → ((q : Req) → lent (l ∷ r.past) q ≡ true → (role ≡ Lending q) ⊎ ((lent r.past q ≡ true) × (v.role ≡ Lending q → role ≡ Lending q))) → Turns r.past l v role
   turns_by s r l role gone calm legal has aside lazy' stays lends' = record {
     gone = gone;
@@ -39,7 +36,7 @@ module _ (slots id : ℕ) (me : Seated) where
     busy = λ c is. absurd (lazy' c is);
     leaving = λ c is. absurd (true≢false (sym is ∙ stays c));
     lends = lends';
-    running = λ c is. inr (ran S l r.past c legal calm is, λ z. absurd (true≢false (sym (subst (λ (k : Role). stands_for k (workers c) ≡ true) (sym z) (same_itself c)) ∙ aside c)));
+    running = λ c is. inr (ran (setup_of L) l r.past c legal calm is, λ z. absurd (true≢false (sym (subst (λ (k : Role). stands_for k (workers c) ≡ true) (sym z) (same_itself c)) ∙ aside c)));
   }
 
   -- the seat takes the slot of its cell x, which has y, by a store in the cell's note word k
@@ -68,8 +65,8 @@ module _ (slots id : ℕ) (me : Seated) where
     is_lent j w n A l = absurd (true≢false (sym (ap (λ (b : Bool). cond b true (lent j q)) (same_itself q)) ∙ l))
 
     -- the generation that a vacant cell waits for
-    one_vacant : (g h : ℕ) → Legal S (events_of v.seen) → Vacant K v.seen x g → Vacant K v.seen x h → ¬ (g < h)
-    one_vacant g h legal a b lt = let z = b.gone_by g lt in let u = unborn_yet S (events_of v.seen) (request_at K x g) legal a.next in let y = z.2 in absurd (cc)
+    one_vacant : (g h : ℕ) → Legal (setup_of L) (events_of v.seen) → Vacant K v.seen x g → Vacant K v.seen x h → ¬ (g < h)
+    one_vacant g h legal a b lt = let z = b.gone_by g lt in let u = unborn_yet (setup_of L) (events_of v.seen) (request_at K x g) legal a.next in let y = z.2 in absurd (cc)
 
     -- NOTE before the Submit: the empty slot is taken
     open_does : (n m : ℕ) → n ≡ g + 16777216 * m → Vacant K v.seen x g → lent v.seen q ≡ false → (s : St) (r : Ruled L s) → There slots id me s → Does slots id me s (facts_at x) n (opened (step slots (facts_at x) n 0 none) me n)
@@ -88,7 +85,7 @@ module _ (slots id : ℕ) (me : Seated) where
             fits = (omega arith, f, omega arith);
             word_is = now.0;
             says = (refl, refl, now.1, now.4, is_lent r.past (facts_at x) n _);
-            ages = ages_stay S l r.past r.legal K x g (λ n other. other_age K x g n inside other) now.3;
+            ages = ages_stay (setup_of L) l r.past r.legal K x g (λ n other. other_age K x g n inside other) now.3;
           },
           (λ y h word inside' free'. let same' : x ≡ y = omega arith in
               let free'' : Vacant K v.seen x h = subst (λ (z : ℕ). Vacant K v.seen z h) (sym same') free' in
@@ -108,7 +105,7 @@ module _ (slots id : ℕ) (me : Seated) where
     empty_does n c res e done is_e value home s r at =
         let l : Line = Lent q (facts_at x) n in let ok = r.cells x inside in let done' = replied_now slots id me s r at q c res submits_here done in
         let word = done_word K r.past x _ _ ok g c res done' in let parcel = word.keeps (lent_now slots id me s r at q false submits_here home) in
-        let e_now : IsPlaced (events_of r.past) q e = lasts_now slots id me s r at (λ h. IsPlaced h q e) q (placed_lasts S q e) (counted_in S v.seen q (replied c res) (seen_legal slots id me s r at) done (λ e. cc)) is_e in
+        let e_now : IsPlaced (events_of r.past) q e = lasts_now slots id me s r at (λ h. IsPlaced h q e) q (placed_lasts (setup_of L) q e) (counted_in (setup_of L) v.seen q (replied c res) (seen_legal slots id me s r at) done (λ e. cc)) is_e in
         let fair : Fair L r.past l = subst (IsFactsNote K r.past q (facts_at x) n) (sym done') (x, g, e, (inside, refl), f, refl, e_now, value ∙ ap (λ z. outcome_of z (fails e res)) (sym (noted_now slots id me s r at x 0 (omega arith) inside submits_here))) in (
           with_line slots id me (facts_at x) s r.past l (Lending q),
           takes (slot_at x) (Some (Full parcel.0)),
@@ -121,7 +118,7 @@ module _ (slots id : ℕ) (me : Seated) where
             fits = word.fits;
             word_is = word.word_is;
             says = (c, res, word.entry, done', word.bits, word.placed_is, refl, is_lent r.past (facts_at x) n _);
-            ages = ages_stay S l r.past r.legal K x g (λ n other. other_age K x g n inside other) word.ages;
+            ages = ages_stay (setup_of L) l r.past r.legal K x g (λ n other. other_age K x g n inside other) word.ages;
           },
           (λ y h c' res' at_word inside' done''. let same' : x ≡ y = omega arith in
               let other : phase (events_of r.past) (request_at K x h) ≡ replied c' res' = replied_now slots id me s r at (request_at K x h) c' res' submits_here (subst (λ (z : ℕ). phase (events_of v.seen) (request_at K z h) ≡ replied c' res') (sym same') done'') in
@@ -157,7 +154,7 @@ module _ (slots id : ℕ) (me : Seated) where
               (same_turns slots id me s u at l lends_it refl u.legal has (λ _. refl) (λ c is. absurd (let y = sym mine ∙ is in cc))) u.legal at (owned L s u id v l at lends_it)
               (λ y h other k. refl) (length-set s.words (note_at x i) n) (λ y other. get_or-set_other s.words (note_at x i) (claim_at y) n 0 (omega arith)) (λ y h. get_or-set_other s.words (note_at x i) y n 0 (omega arith))
               (note_set s u x i n l inside (omega arith) (λ w. refl)) refl (λ y other. refl)
-              (subst (λ (z : ℕ). CellOk K (l ∷ u.past) x z (get_elem? s.homes (slot_at x))) (sym (get_or-set_other s.words (note_at x i) (claim_at x) n 0 (omega arith))) (cell_stays S l u.past u.legal K x _ _ (λ _. refl) (u.cells x inside))),
+              (subst (λ (z : ℕ). CellOk K (l ∷ u.past) x z (get_elem? s.homes (slot_at x))) (sym (get_or-set_other s.words (note_at x i) (claim_at x) n 0 (omega arith))) (cell_stays (setup_of L) l u.past u.legal K x _ _ (λ _. refl) (u.cells x inside))),
           (λ c role'. let same' : r ≡ c = (let z = sym mine ∙ role' in cc) in (
             (subst (λ (z : Req). Extends v (Noted z (note_at x i) n) v.role view) same' (extends slots id me s u at (note_at x i) l v.role u.legal u.live fair), refl),
             (get_or s.words (note_at x i) 0, refl),

@@ -3,7 +3,7 @@ use mathlib.Core.Option as maybe
 use Rattle.history.proofs.Contents.{flows_as_by}
 use Rattle.steps.specs.declared.line.Laid.TheVariants.{NoRequest}
 use Rattle.steps.specs.declared.parcel.WaitedPipe.{WaitedPipe}
-use Rattle.steps.proofs.Common.{Allows, At, Busy, Did, Entry, Event, Extends, Fair, Flow, Free, Full, HasAlone, HasBoth, HasPipe, HasPipeAfter, HasWaited, Heard, Hold, Home, Idle, IsHeard, IsHeldBy, IsPlaced, IsSamePipe, IsStep, Knows, Laid, Layout, Leaving, Legal, Lending, Line, List, Looks, MayLay, None, OpAnswers, Option, Orderly, Owner, Parting, PipeIs, PipeOk, PipeSays, Piped, Reply, Req, Role, Ruled, Saw, SeatOk, Seated, Setup, Some, State, Step, Submission, Thing, View, [], and_from, and_parts, and_right, answers, ap, apart, arith, claim_at, clock_of, cond, content, contents, dite, either, eq-eqb, eqb, eqb-true, events_of, exchanged, false, flow, flows_as, get_elem?, get_or, get_or-set_other, get_or-set_same, gives, holder, holders, inl, inr, is_holder, is_leaving, is_pipe, lays, leaves_one, length, length-set, lent, lying, ne_eqb, none, note_at, noted, owns, phase, pipe_at, pipe_left, pipe_left_first, pipe_left_last, pipe_returned, pipe_taken, refl, request_at, rest, same, same_itself, same_true, seeing, set, set_else, set_here, setup_of, slot_at, some, stands, stands_for, step, stepped, submission, submits, subst, suc, sym, takes, true, true≢false, uses_at, was_shut, ℕ, ℕ_discrete, ℤ, ⊎_elim, ◌++◌, ◌<◌, ◌==◌, ◌∙◌, ◌∷◌, ◌≡◌, ◌≢◌, ◌⊎◌}
+use Rattle.steps.proofs.Common.{Allows, At, Busy, Did, Entry, Event, Extends, Fair, Flow, Free, Full, HasAlone, HasBoth, HasPipe, HasPipeAfter, HasWaited, Heard, Hold, Home, Idle, IsHeard, IsHeldBy, IsPlaced, IsSamePipe, IsStep, Knows, Laid, Layout, Leaving, Legal, Lending, Line, List, Looks, MayLay, None, OpAnswers, Option, Orderly, Owner, Parting, PipeIs, PipeOk, PipeSays, Piped, Reply, Req, Role, Ruled, Saw, SeatOk, Seated, Some, State, Step, Submission, Thing, View, [], and_from, and_parts, and_right, answers, ap, apart, arith, claim_at, clock_of, cond, content, contents, dite, either, eq-eqb, eqb, eqb-true, events_of, exchanged, false, flow, flows_as, get_elem?, get_or, get_or-set_other, get_or-set_same, gives, holder, holders, inl, inr, is_holder, is_leaving, is_pipe, lays, leaves_one, length, length-set, lent, lying, ne_eqb, none, note_at, noted, owns, phase, pipe_at, pipe_left, pipe_left_first, pipe_left_last, pipe_returned, pipe_taken, refl, request_at, rest, same, same_itself, same_true, seeing, set, set_else, set_here, setup_of, slot_at, some, stands, stands_for, step, stepped, submission, submits, subst, suc, sym, takes, true, true≢false, uses_at, was_shut, ℕ, ℕ_discrete, ℤ, ⊎_elim, ◌++◌, ◌<◌, ◌==◌, ◌∙◌, ◌∷◌, ◌≡◌, ◌≢◌, ◌⊎◌}
 use Rattle.steps.proofs.Roles.{same_sym, idle_hands, idle_apart, idle_owns, none_of, parting_apart, parting_owns}
 use Rattle.steps.proofs.JournalGrowth.{about, lasts, legal_before, submitted_in, submission_lasts, placed_lasts}
 use Rattle.steps.proofs.Frames.{pipe_stays, still_lacks}
@@ -360,9 +360,6 @@ module _ (v w : View) (q : Req) (p : ℕ) (busy : v.role ≡ Busy q) where
 
   -- who replies has its pipes still, and each is what the reply makes of it
   module _ (role : Role) (res : Rattle.std.proofs.Common.ℤ) (data' : List ℕ) (there : is_pipe v.layout.caps p ≡ true) (x : Extends v (Did (Reply q res data')) role w) where
-    abbrev S : Setup
-    S = setup_of v.layout
-
     abbrev e : Event
     e = Reply q res data'
 
@@ -382,10 +379,10 @@ module _ (v w : View) (q : Req) (p : ℕ) (busy : v.role ≡ Busy q) where
         → ((n : ℕ) → is_pipe v.layout.caps n ≡ true → uses_at d.op n ≡ true → holder v.seen n ≡ Some q)
         → flow (events_of w.seen) p ≡ flows_as (Some d) (submission (events_of v.seen) q) (contents (events_of v.seen)) res p (flow (events_of v.seen) p)
     flow_replied has d y is given answers held =
-        let legal : Legal S (events_of (x.saw.later ++ v.seen)) = subst (λ (j : List Line). Legal S (events_of j)) x.saw.is x.legal.1 in
-        let born : q.k < submits (events_of v.seen) q.ring = submitted_in S v.seen q y (legal_before S x.saw.later v.seen legal) given in
-        let is' : IsPlaced (events_of x.mid) q d = subst (λ (j : List Line). IsPlaced (events_of j) q d) (sym x.saw.is) (lasts S (λ h. IsPlaced h q d) q (placed_lasts S q d) x.saw.later v.seen legal born is) in
-        let given' : submission (events_of x.mid) q ≡ Some y = subst (λ (j : List Line). submission (events_of j) q ≡ Some y) (sym x.saw.is) (lasts S (λ h. submission h q ≡ Some y) q (submission_lasts S q y) x.saw.later v.seen legal born given) in
+        let legal : Legal (setup_of v.layout) (events_of (x.saw.later ++ v.seen)) = subst (λ (j : List Line). Legal (setup_of v.layout) (events_of j)) x.saw.is x.legal.1 in
+        let born : q.k < submits (events_of v.seen) q.ring = submitted_in (setup_of v.layout) v.seen q y (legal_before (setup_of v.layout) x.saw.later v.seen legal) given in
+        let is' : IsPlaced (events_of x.mid) q d = subst (λ (j : List Line). IsPlaced (events_of j) q d) (sym x.saw.is) (lasts (setup_of v.layout) (λ h. IsPlaced h q d) q (placed_lasts (setup_of v.layout) q d) x.saw.later v.seen legal born is) in
+        let given' : submission (events_of x.mid) q ≡ Some y = subst (λ (j : List Line). submission (events_of j) q ≡ Some y) (sym x.saw.is) (lasts (setup_of v.layout) (λ h. submission h q ≡ Some y) q (submission_lasts (setup_of v.layout) q y) x.saw.later v.seen legal born given) in
         ap (λ (j : List Line). flow (events_of j) p) seen_is ∙ (λ i. flows_as (is' i) ((given' ∙ sym given) i) (contents (events_of x.mid)) res p ((kept has).1 i).0)
         ∙ flows_as_by v.layout.caps (events_of v.seen) q (contents (events_of x.mid)) (contents (events_of v.seen)) res data' d (submission (events_of v.seen) q) p (flow (events_of v.seen) p) answers
         (λ n there' u. ap (λ (z : Flow × List Req). content z.0) (keeps_on n x.mid x.saw x.orderly.1 there' (held n there' u)).1)

@@ -1,9 +1,8 @@
 -- A pipe that a worker has stays with it, and nobody else changes what is in it. A reply depends on the pipe that its entry names, and changes no other.
-use Rattle.history.specs.Answers.{answer_at}
-use Rattle.history.specs.State.{held_in}
+use Rattle.history.specs.{answer_at, held_in}
 use Rattle.history.proofs.PipeAnswers.{answer_off, answer_same}
 use Rattle.history.proofs.PipesLeft.{all_flows, bad_flows, untouched, unused}
-use Rattle.steps.proofs.Common.{Answer, AsyncCancel, Bool, CancelBy, Did, Entry, Event, Fair, Flow, Free, HasWaited, Hold, IsPlaced, Layout, Line, LinkTimeout, List, None, NoneOf, Op, OpAnswers, Option, Orderly, Reply, Req, Role, Some, Timeout, TimeoutRemove, [], ap, bad_end, bool_cases, cond, contents, events_of, false, flow, flows, flows_as, hit, holder, holders, inr, is_holder, is_pipe, is_steady, lays, lying, ne_eqb, negsuc, now, owns, placed, refl, same_false, stands, stands_for, submission, subst, sym, true, true≢false, uses_at, uses_at_in, ℕ, ℤ, ⊎_elim, ◌++◌, ◌+◌, ◌==◌, ◌∙◌, ◌∷◌, ◌≡◌, ◌≢◌}
+use Rattle.steps.proofs.Common.{Answer, AsyncCancel, Bool, CancelBy, Did, Entry, Event, Fair, Flow, Free, HasWaited, Hold, IsPlaced, Layout, Line, LinkTimeout, List, None, NoneOf, Op, OpAnswers, Option, Orderly, Reply, Req, Role, Some, Timeout, TimeoutRemove, [], ap, bad_end, bool_cases, cond, contents, events_of, false, flow, flows, flows_as, hit, holder, holders, inr, is_holder, is_pipe, is_steady, lays, lying, ne_eqb, negsuc, now, owns, placed, refl, same_false, stands, stands_for, submission, subst, sym, true, true≢false, uses_at, uses_at_in, ℕ, ℤ, ⊎_elim, ◌++◌, ◌==◌, ◌∙◌, ◌∷◌, ◌≡◌, ◌≢◌}
 use Rattle.steps.proofs.Roles.{idle_hands}
 
 -- a reply leaves the pipes that its request doesn't name

@@ -1,5 +1,5 @@
 -- Submit and Reap: the submitter gives the slot of its cell back.
-use Rattle.steps.proofs.Common.{Allows, Bool, Cause, Did, Done, Empty, Entry, Extends, Fair, Fits, Full, Held, IsCell, IsCountNoted, IsPlaced, Layout, Legal, Lending, Line, List, None, Option, Parcel, Reap, Req, Role, Ruled, Seated, Setup, Some, Submission, Submit, Submitter, Vacant, View, after_reap, ap, apart, arith, before_in, cause_bits, claim_at, cond, count_of, dite, either, eq-eqb, eqb, events_of, facts_at, facts_of, fails, false, fits, get_elem?, get_or, inr, is_timeout, lent, none, noted, owns, phase, placed_behind, placed_from, reaped, reaps, refl, replied, reply_bits, request_at, rest, ring_of, rings, same, same_false, same_itself, setup_of, some, stands_for, step, submission, submits, submitted, subst, suc, sure, sym, taken, true, true≢false, user_at, word_of, workers, ℕ, ℕ_discrete, ℤ, ◌<◌, ◌∙◌, ◌∷◌, ◌≡◌}
+use Rattle.steps.proofs.Common.{Allows, Bool, Cause, Did, Done, Empty, Entry, Extends, Fair, Fits, Full, Held, IsCell, IsCountNoted, IsPlaced, Layout, Legal, Lending, Line, List, None, Option, Parcel, Reap, Req, Role, Ruled, Seated, Some, Submission, Submit, Submitter, Vacant, View, after_reap, ap, apart, arith, before_in, cause_bits, claim_at, cond, count_of, dite, either, eq-eqb, eqb, events_of, facts_at, facts_of, fails, false, fits, get_elem?, get_or, inr, is_timeout, lent, none, noted, owns, phase, placed_behind, placed_from, reaped, reaps, refl, replied, reply_bits, request_at, rest, ring_of, rings, same, same_false, same_itself, setup_of, some, stands_for, step, submission, submits, submitted, subst, suc, sure, sym, taken, true, true≢false, user_at, word_of, workers, ℕ, ℕ_discrete, ℤ, ◌<◌, ◌∙◌, ◌∷◌, ◌≡◌}
 use Rattle.steps.proofs.CellNumbers.{other_age, same_bits, ring_in}
 use Rattle.steps.proofs.Roles.{as_lending}
 use Rattle.steps.proofs.JournalGrowth.{about, begins, lent_stays, counted_in, placed_lasts, phase_stays}
@@ -20,9 +20,6 @@ module _ (slots id : ℕ) (me : Seated) where
   abbrev K : List ℕ
   K = L.cells
 
-  abbrev S : Setup
-  S = setup_of L
-
   -- the seat gives the slot of its cell back
   module _ (x g : ℕ) (mine : v.role ≡ Lending (request_at K x g)) (has : 0 < v.parts) (inside : IsCell K x) where
     abbrev q : Req
@@ -34,7 +31,7 @@ module _ (slots id : ℕ) (me : Seated) where
     lends_here : stands_for v.role (rings (ring_of K x)) ≡ true
     lends_here = ap (λ (z : Role). stands_for z (rings (ring_of K x))) mine ∙ eq-eqb (ring_of K x) (ring_of K x) refl
 
-    back_turns : (s : St) (r : Ruled L s) (l : Line) → owns (Lending q) l ≡ true → begins l ≡ false → Legal S (events_of (l ∷ r.past)) → ((c : Req) → lent (l ∷ r.past) c ≡ cond (same q c) false (lent r.past c)) → Turns r.past l v back
+    back_turns : (s : St) (r : Ruled L s) (l : Line) → owns (Lending q) l ≡ true → begins l ≡ false → Legal (setup_of L) (events_of (l ∷ r.past)) → ((c : Req) → lent (l ∷ r.past) c ≡ cond (same q c) false (lent r.past c)) → Turns r.past l v back
     back_turns s r l own calm legal gives' = turns_by slots id me s r l back (gone_own v.role back l (subst (λ (z : Role). owns z l ≡ true) (sym mine) own) (λ a g. as_lending q a ∙ subst (λ (z : Role). apart z a ≡ true) mine g)) calm legal has (λ c. ap (λ (z : Role). stands_for z (workers c)) mine) (λ c e. cc) (λ c. refl)
         (λ c is. dec_req q c (λ same'. absurd (true≢false (sym is ∙ (gives' c ∙ ap (λ (b : Bool). cond b false (lent r.past c)) (subst (λ (z : Req). same q z ≡ true) same' (same_itself q))))))
         (λ ne. inr (sym (gives' c ∙ ap (λ (b : Bool). cond b false (lent r.past c)) (same_false q c ne)) ∙ is, λ z. absurd (ne (let y = sym mine ∙ z in cc)))))
@@ -47,7 +44,7 @@ module _ (slots id : ℕ) (me : Seated) where
         → (s : St) (r : Ruled L s) → There slots id me s → (get_or s.words (claim_at x) 0 ≡ word_of Empty 0 g 0) × Does slots id me s (claim_at x) new (submitted (step slots (claim_at x) old new none) me x q)
     submit_does old new p f is_new free next fits facts user count out s r at =
         let l : Line = Did (Submit q p.sqe p.buffer.items p.last) in let now = vacant_now slots id me s r at x g inside f lends_here free in
-        let legal : Legal S (events_of (l ∷ r.past)) = ((r.live, (ring_in K x inside, next ∙ sym (submits_now slots id me s r at (ring_of K x) lends_here), fits)), r.legal) in
+        let legal : Legal (setup_of L) (events_of (l ∷ r.past)) = ((r.live, (ring_in K x inside, next ∙ sym (submits_now slots id me s r at (ring_of K x) lends_here), fits)), r.legal) in
         let given : submission (events_of (l ∷ r.past)) q ≡ Some (record { entry = p.sqe; bytes = p.buffer.items; last = p.last }) = ap (λ b. cond b (Some (record { entry = p.sqe; bytes = p.buffer.items; last = p.last })) (submission (events_of r.past) q)) (same_itself q) in
         let before = before_now slots id me s r at q lends_here in let d : Entry = placed_behind (before_in (events_of v.seen) q) p.sqe in
         let placed_is : IsPlaced (events_of (l ∷ r.past)) q d = ap (placed_from (before_in (events_of (l ∷ r.past)) q)) given ∙ ap (λ (b : Option Submission). Some (placed_behind b p.sqe)) (before_own (events_of r.past) q p.sqe p.buffer.items p.last ∙ before) in
@@ -72,10 +69,10 @@ module _ (slots id : ℕ) (me : Seated) where
     reap_does b old new c res e f is_e is_new done taken bits out s r at =
         let l : Line = Did (Reap q) in let fair : lent r.past q ≡ true = lent_now slots id me s r at q true lends_here taken in let ok = r.cells x inside in let done' = replied_now slots id me s r at q c res lends_here done in
         let word = done_word K r.past x _ _ ok g c res done' in let same' : word.payload ≡ b = same_bits res word.payload b word.bits bits in
-        let e_now : IsPlaced (events_of r.past) q e = lasts_now slots id me s r at (λ h. IsPlaced h q e) q (placed_lasts S q e) (counted_in S v.seen q (replied c res) (seen_legal slots id me s r at) done (λ e. cc)) is_e in
+        let e_now : IsPlaced (events_of r.past) q e = lasts_now slots id me s r at (λ h. IsPlaced h q e) q (placed_lasts (setup_of L) q e) (counted_in (setup_of L) v.seen q (replied c res) (seen_legal slots id me s r at) done (λ e. cc)) is_e in
         let entry : word.entry ≡ e = (let z = sym word.placed_is ∙ e_now in cc) in
         let found : get_or s.words (claim_at x) 0 ≡ word_of Done (cause_bits c (fails e res)) g b = word.word_is ∙ (λ i. word_of Done (cause_bits c (fails (entry i) res)) g (same' i)) in
-        let legal : Legal S (events_of (l ∷ r.past)) = ((r.live, (c, res, done')), r.legal) in
+        let legal : Legal (setup_of L) (events_of (l ∷ r.past)) = ((r.live, (c, res, done')), r.legal) in
         let other : (n : ℕ) → ¬ (n ≡ g) → about l (request_at K x n) ≡ false = λ n ne. other_age K x g n inside ne in
         let ages = word.ages in (
           found,

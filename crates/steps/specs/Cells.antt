@@ -9,10 +9,7 @@ use Rattle.claim.specs.declared.tag.Tag.TheVariants.{Empty, Held, Ready, Running
 use Rattle.claim.specs.Claim.{packed}
 use Rattle.entry.specs.Entry.{Entry, fails}
 use Rattle.history.specs.declared.req.Req.{Req}
-use Rattle.history.specs.History.{Cause, by_reply, by_take, by_expire, by_count, by_fire, by_settle, by_sever, by_cut, submission, unborn, waits, runs, armed, replied, reaped, phase, data_of}
-use Rattle.history.specs.Chains.{is_timer, IsPlaced, Open}
-use Rattle.history.specs.Pipes.{Flow, flow, content, untouched}
-use Rattle.history.specs.Legal.{Setup, IsOf}
+use Rattle.history.specs.{Cause, by_reply, by_take, by_expire, by_count, by_fire, by_settle, by_sever, by_cut, submission, unborn, waits, runs, armed, replied, reaped, phase, data_of, is_timer, IsPlaced, Open, Flow, flow, content, untouched, Setup, IsOf}
 use Rattle.steps.specs.declared.line.Line.{Line}
 use Rattle.steps.specs.declared.parcel.Parcel.{Parcel}
 use Rattle.steps.specs.declared.parcel.Thing.{Thing}

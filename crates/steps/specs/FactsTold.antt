@@ -4,8 +4,7 @@ use Rattle.claim.specs.Facts.{Facts as FactsParts, bit}
 use Rattle.entry.specs.Entry.{Entry, fails, drains, links_soft, links_hard}
 use Rattle.history.specs.declared.req.Req.{Req}
 use Rattle.history.specs.declared.event.Event.{Event}
-use Rattle.history.specs.History.{Submission, submission, phase, reply}
-use Rattle.history.specs.Chains.{IsPlaced}
+use Rattle.history.specs.{Submission, submission, phase, reply, IsPlaced}
 use Rattle.steps.specs.Fairness.{IsReaped}
 use Rattle.steps.specs.Notes.{row_number}
 

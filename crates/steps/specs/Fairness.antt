@@ -4,12 +4,7 @@ use Rattle.entry.specs.Entry.{Entry, fails}
 use Rattle.history.specs.declared.req.Req.{Req}
 use Rattle.history.specs.declared.event.Event.{Event}
 use Rattle.history.specs.declared.event.Event.TheVariants.{Submit, Park, Reply, Reap}
-use Rattle.history.specs.History.{Cause, Phase, unborn, waits, replied, reaped, Submission, submission, phase, reply, hit, nothing}
-use Rattle.history.specs.Chains.{placed, Open, is_timer, is_timeout, IsPlaced, IsChainDone}
-use Rattle.history.specs.Answers.{OpAnswers, is_pipe}
-use Rattle.history.specs.Users.{uses_at, uses_at_in}
-use Rattle.history.specs.Pipes.{flow}
-use Rattle.history.specs.Legal.{IsOf, count_of}
+use Rattle.history.specs.{Cause, Phase, unborn, waits, replied, reaped, Submission, submission, phase, reply, hit, nothing, placed, Open, is_timer, is_timeout, IsPlaced, IsChainDone, OpAnswers, is_pipe, uses_at, uses_at_in, flow, IsOf, count_of}
 use Rattle.steps.specs.declared.line.Laid.{Laid}
 use Rattle.steps.specs.declared.line.Laid.TheVariants.{NoRequest}
 use Rattle.steps.specs.declared.line.Line.{Line}

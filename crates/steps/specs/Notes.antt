@@ -4,8 +4,7 @@ use Rattle.entry.specs.declared.op.Op.{Op}
 use Rattle.entry.specs.declared.op.Op.TheVariants.{Nop, PollAdd, Timeout, TimeoutRemove, AsyncCancel, LinkTimeout, Close, Read, Write, Splice, Invalid}
 use Rattle.entry.specs.Entry.{Entry, drains, links_soft, links_hard}
 use Rattle.claim.specs.Facts.{bit, packed_facts}
-use Rattle.history.specs.Chains.{is_timeout}
-use Rattle.history.specs.Legal.{count_of}
+use Rattle.history.specs.{is_timeout, count_of}
 use Rattle.steps.specs.Cells.{user_at, count_at}
 
 -- the rows of the table of opcodes in their order, and Invalid after them

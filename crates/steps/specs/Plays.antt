@@ -8,11 +8,7 @@ use Rattle.claim.specs.declared.tag.Tag.TheVariants.{Held, Ready, Running, Armed
 use Rattle.entry.specs.Entry.{Entry}
 use Rattle.history.specs.declared.req.Req.{Req}
 use Rattle.history.specs.declared.event.Event.TheVariants.{Submit, Begin, Park, Reply, Take, Miss, Tick, Arm, Expire, Count, Fire, FireMiss, Settle, Sever, Reap}
-use Rattle.history.specs.History.{Cause, phase, replied, data_of, submission}
-use Rattle.history.specs.Chains.{IsPlaced}
-use Rattle.history.specs.Pipes.{Flow, contents, flow, flows_as}
-use Rattle.history.specs.Answers.{OpAnswers, is_pipe}
-use Rattle.history.specs.Users.{uses_at}
+use Rattle.history.specs.{Cause, phase, replied, data_of, submission, IsPlaced, Flow, contents, flow, flows_as, OpAnswers, is_pipe, uses_at}
 use Rattle.steps.specs.declared.line.Laid.{Laid}
 use Rattle.steps.specs.declared.line.Line.{Line}
 use Rattle.steps.specs.declared.line.Line.TheVariants.{Did, Freed, Lent, Noted, Hold, Free}

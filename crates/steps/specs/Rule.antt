@@ -8,10 +8,9 @@ use Rattle.atomic_table.specs.declared.shared.Seat.{Seat}
 use Rattle.history.specs.declared.req.Req.{Req}
 use Rattle.history.specs.declared.event.Event.{Event}
 use Rattle.history.specs.declared.event.Event.TheVariants.{Submit, Begin, Park, Reply, Take, Miss, Reap}
-use Rattle.history.specs.History.{Cause, same, phase, runs, replied, reaped, submits, clock_of, was_shut, IsReplied}
+use Rattle.history.specs.{Cause, same, phase, runs, replied, reaped, submits, clock_of, was_shut, IsReplied, IsPlaced}
 use Rattle.claim.specs.declared.tag.Tag.TheVariants.{Done}
 use Rattle.entry.specs.Entry.{Entry, fails}
-use Rattle.history.specs.Chains.{IsPlaced}
 use Rattle.history.specs.Legal.{Legal}
 use Rattle.steps.specs.declared.line.Line.{Line}
 use Rattle.steps.specs.declared.line.Line.TheVariants.{Did, Freed, Lent, Noted, Hold, Free}

@@ -2,9 +2,7 @@
 use Rattle.std.specs.Prelude.{◌≡◌, ◌⊎◌, ℕ, true, ℤ, List, [], ◌∷◌}
 use Rattle.entry.specs.Entry.{Entry}
 use Rattle.history.specs.declared.req.Req.{Req}
-use Rattle.history.specs.Chains.{IsPlaced}
-use Rattle.history.specs.Answers.{OpAnswers, is_pipe}
-use Rattle.history.specs.Users.{uses_at}
+use Rattle.history.specs.{IsPlaced, OpAnswers, is_pipe, uses_at}
 use Rattle.steps.specs.declared.line.Line.{Line}
 use Rattle.steps.specs.declared.view.Layout.{Layout}
 use Rattle.steps.specs.Journal.{events_of, lying}

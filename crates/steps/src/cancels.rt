@@ -4,15 +4,10 @@ ghost use Rattle.claim.specs.declared.tag.Tag.TheVariants.{Running};
 ghost use Rattle.entry.specs.Entry.{Entry, fails as fails_with};
 ghost use Rattle.history.specs.declared.event.Event.TheVariants.{Take, Miss};
 ghost use Rattle.history.specs.declared.req.Req.{Req};
-ghost use Rattle.history.specs.Answers.{MayHit};
-ghost use Rattle.history.specs.Chains.{IsPlaced};
-ghost use Rattle.history.specs.History.{submits};
+ghost use Rattle.history.specs.{MayHit, IsPlaced, submits};
 ghost use Rattle.steps.specs.declared.line.Line.TheVariants.{Did};
 ghost use Rattle.steps.specs.declared.view.Role.TheVariants.{Busy};
-ghost use Rattle.steps.specs.Journal.{events_of};
-ghost use Rattle.steps.specs.Cells.{ring_of, request_at, claim_at, word_of};
-ghost use Rattle.steps.specs.Rule.{Looks, Extends, Shown, IsStep, Fits, IsSameSeat};
-ghost use Rattle.steps.specs.Plays.{IsIdleWord};
+ghost use Rattle.steps.specs.{events_of, ring_of, request_at, claim_at, word_of, Looks, Extends, Shown, IsStep, Fits, IsSameSeat, IsIdleWord};
 
 use crate::layout::claim_word;
 use crate::table::{TableSeat, Words};

@@ -4,10 +4,7 @@ ghost use Rattle.claim.specs.declared.tag.Tag.TheVariants.{Empty, Held, Ready, A
 ghost use Rattle.history.specs.History.{by_reply, by_take, by_expire, by_count, by_fire, by_settle, by_sever, phase, unborn, IsReplied};
 ghost use Rattle.steps.specs.declared.claims.Standing.TheVariants.{Idle, Running, Over};
 ghost use Rattle.steps.specs.declared.line.Line.{Line};
-ghost use Rattle.steps.specs.Cells.{request_at, word_of, reply_bits, cause_bits};
-ghost use Rattle.steps.specs.Journal.{events_of};
-ghost use Rattle.steps.specs.Plays.{IsIdleWord};
-ghost use Rattle.steps.specs.Rule.{Shown};
+ghost use Rattle.steps.specs.{request_at, word_of, reply_bits, cause_bits, events_of, IsIdleWord, Shown};
 
 use claim::{Cause, ClaimWord, Tag, pack, unpack};
 

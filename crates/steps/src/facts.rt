@@ -1,7 +1,6 @@
 //! What a submitter notes of its request: the word of facts, and the count of a TIMEOUT.
 ghost use Rattle.std.specs.Prelude.{◌≡◌, ℕ, ◌+◌, ◌*◌, ◌<◌, Option};
-ghost use Rattle.history.specs.History.{Submission};
-ghost use Rattle.history.specs.Chains.{hosts, placed_behind};
+ghost use Rattle.history.specs.{Submission, hosts, placed_behind};
 ghost use Rattle.steps.specs.Notes.{count_in, etime_in, facts_of, row_number, ticks_in};
 
 use claim::{FactsWord, pack_facts};

@@ -9,14 +9,11 @@ ghost use Rattle.history.specs.declared.req.Req.{Req};
 ghost use Rattle.steps.specs.declared.line.Line.TheVariants.{Did, Hold, Free};
 ghost use Rattle.steps.specs.declared.view.Role.TheVariants.{Idle, Busy, Leaving, Parting};
 ghost use Rattle.steps.specs.declared.view.View.{View};
-ghost use Rattle.steps.specs.Fairness.{HasWaited, MayLay};
-ghost use Rattle.steps.specs.Journal.{events_of, holder};
-ghost use Rattle.steps.specs.Cells.{request_at, claim_at, pipe_at, word_of};
-ghost use Rattle.steps.specs.Rule.{Looks, Extends, IsStep, IsTwoSteps, IsThreeSteps, Fits, IsSameSeat, leaves, leaves_one};
-ghost use Rattle.steps.specs.Plays.{HasAlone, HasBoth, HasPipe, HasPipeLaid, HasPipeAfter, HasPipesAfter, IsSamePipe, MayReply, FitsPipe};
+ghost use Rattle.steps.specs.{HasWaited, MayLay, events_of, holder, request_at, claim_at, pipe_at, word_of, Looks, Extends, IsStep, IsTwoSteps, IsThreeSteps, Fits, IsSameSeat, leaves, leaves_one, HasAlone, HasBoth, HasPipe, HasPipeLaid, HasPipeAfter, HasPipesAfter, IsSamePipe, MayReply, FitsPipe};
 
 use crate::layout::{claim_word, pipe_word};
 use crate::line::Laid;
+use crate::seat::Response;
 use crate::table::{TableSeat, Words};
 use crate::{claims, plays};
 
@@ -111,25 +108,19 @@ pub fn free_one(words: &Words, seat: &mut TableSeat, one: usize, laid: Laid)
 }
 
 /// Replies to the request that this seat runs, whose pipe it has, or whose two pipes.
-fn reply_holding(
-    words: &Words,
-    seat: &mut TableSeat,
-    cell: usize,
-    generation: u32,
-    fails: bool,
-    res: i32,
-)
-    requires fits { Fits words.now.table_id seat.old cell }
-    requires small { generation < 16777216 }
-    requires busy { seat.old.me.0.role ≡ Busy (request_at seat.old.me.0.layout.cells cell generation) }
-    requires answer { (e : Entry) × (data' : List ℕ) × MayReply seat.old.me cell (request_at seat.old.me.0.layout.cells cell generation) e res data' × (fails ≡ fails_with e res) }
+#[inline(always)]
+fn reply_holding(words: &Words, seat: &mut TableSeat, response: Response)
+    requires fits { Fits words.now.table_id seat.old response.cell }
+    requires small { response.generation < 16777216 }
+    requires busy { seat.old.me.0.role ≡ Busy (request_at seat.old.me.0.layout.cells response.cell response.generation) }
+    requires answer { (e : Entry) × (data' : List ℕ) × MayReply seat.old.me response.cell (request_at seat.old.me.0.layout.cells response.cell response.generation) e response.res data' × (response.fails ≡ fails_with e response.res) }
     ensures seat { IsSameSeat seat.old seat.new × (seat.new.me.1 ≡ rest seat.old.me.1) }
-    ensures replies { (e : Entry) (data' : List ℕ) → MayReply seat.old.me cell (request_at seat.old.me.0.layout.cells cell generation) e res data' → Extends seat.old.me.0 (Did (Reply (request_at seat.old.me.0.layout.cells cell generation) res data')) (Leaving (request_at seat.old.me.0.layout.cells cell generation)) seat.new.me.0 }
-    ensures step { IsStep (claim_at cell) (word_of Running 0 generation 0) seat.old.me.0 seat.new.me.0 }
+    ensures replies { (e : Entry) (data' : List ℕ) → MayReply seat.old.me response.cell (request_at seat.old.me.0.layout.cells response.cell response.generation) e response.res data' → Extends seat.old.me.0 (Did (Reply (request_at seat.old.me.0.layout.cells response.cell response.generation) response.res data')) (Leaving (request_at seat.old.me.0.layout.cells response.cell response.generation)) seat.new.me.0 }
+    ensures step { IsStep (claim_at response.cell) (word_of Running 0 response.generation 0) seat.old.me.0 seat.new.me.0 }
 {
-    let running = claims::running(generation);
-    let done = claims::done(generation, fails, res);
-    words.compare_exchange::<plays::ReplyWithPipe>(seat, claim_word(cell), running, done);
+    let running = claims::running(response.generation);
+    let done = claims::done(response.generation, response.fails, response.res);
+    words.compare_exchange::<plays::ReplyWithPipe>(seat, claim_word(response.cell), running, done);
 }
 
 /// Gives the pipe back, by a worker that has replied.
@@ -144,27 +135,20 @@ fn leave(words: &Words, seat: &mut TableSeat, pipe: usize)
 }
 
 /// Replies to the request that this seat runs, and gives back its pipe, which is already what the reply makes of it.
-pub fn reply(
-    words: &Words,
-    seat: &mut TableSeat,
-    cell: usize,
-    generation: u32,
-    fails: bool,
-    res: i32,
-    pipe: usize,
-)
-    requires fits { Fits words.now.table_id seat.old cell }
+#[inline(always)]
+pub fn reply(words: &Words, seat: &mut TableSeat, response: Response, pipe: usize)
+    requires fits { Fits words.now.table_id seat.old response.cell }
     requires pipe_fits { FitsPipe words.now.table_id seat.old pipe }
-    requires small { generation < 16777216 }
-    requires busy { seat.old.me.0.role ≡ Busy (request_at seat.old.me.0.layout.cells cell generation) }
-    requires alone { HasAlone seat.old.me.0.seen pipe (request_at seat.old.me.0.layout.cells cell generation) }
-    requires answer { (e : Entry) × (data' : List ℕ) × MayReply seat.old.me cell (request_at seat.old.me.0.layout.cells cell generation) e res data' × (fails ≡ fails_with e res) × HasPipeAfter seat.old.me pipe (request_at seat.old.me.0.layout.cells cell generation) e res }
+    requires small { response.generation < 16777216 }
+    requires busy { seat.old.me.0.role ≡ Busy (request_at seat.old.me.0.layout.cells response.cell response.generation) }
+    requires alone { HasAlone seat.old.me.0.seen pipe (request_at seat.old.me.0.layout.cells response.cell response.generation) }
+    requires answer { (e : Entry) × (data' : List ℕ) × MayReply seat.old.me response.cell (request_at seat.old.me.0.layout.cells response.cell response.generation) e response.res data' × (response.fails ≡ fails_with e response.res) × HasPipeAfter seat.old.me pipe (request_at seat.old.me.0.layout.cells response.cell response.generation) e response.res }
     ensures seat { IsSameSeat seat.old seat.new × (seat.new.me.1 ≡ rest (rest seat.old.me.1)) }
     ensures ended { (seat.new.me.0.role ≡ Idle) × (seat.new.me.0.parts ≡ seat.old.me.0.parts) × (seat.new.me.0.layout ≡ seat.old.me.0.layout) }
-    ensures replies { (e : Entry) (data' : List ℕ) → MayReply seat.old.me cell (request_at seat.old.me.0.layout.cells cell generation) e res data' → (mid : View) × Extends seat.old.me.0 (Did (Reply (request_at seat.old.me.0.layout.cells cell generation) res data')) (Leaving (request_at seat.old.me.0.layout.cells cell generation)) mid × (found : ℕ) × (seat.new.me.0 ≡ leaves (pipe_at pipe) found mid) }
-    ensures steps { IsTwoSteps (claim_at cell) (pipe_at pipe) seat.old.me.0 seat.new.me.0 }
+    ensures replies { (e : Entry) (data' : List ℕ) → MayReply seat.old.me response.cell (request_at seat.old.me.0.layout.cells response.cell response.generation) e response.res data' → (mid : View) × Extends seat.old.me.0 (Did (Reply (request_at seat.old.me.0.layout.cells response.cell response.generation) response.res data')) (Leaving (request_at seat.old.me.0.layout.cells response.cell response.generation)) mid × (found : ℕ) × (seat.new.me.0 ≡ leaves (pipe_at pipe) found mid) }
+    ensures steps { IsTwoSteps (claim_at response.cell) (pipe_at pipe) seat.old.me.0 seat.new.me.0 }
 {
-    reply_holding(words, seat, cell, generation, fails, res);
+    reply_holding(words, seat, response);
     leave(words, seat, pipe);
 }
 
@@ -204,27 +188,25 @@ fn leave_both(words: &Words, seat: &mut TableSeat, first: usize, second: usize)
 
 /// Replies to the request that this seat runs, and gives back its two pipes, which are already what the reply makes of them:
 /// `first`, which lies right below the parcel, and then `second`, which lies below that.
+#[inline(always)]
 pub fn reply_both(
     words: &Words,
     seat: &mut TableSeat,
-    cell: usize,
-    generation: u32,
-    fails: bool,
-    res: i32,
+    response: Response,
     first: usize,
     second: usize,
 )
-    requires fits { Fits words.now.table_id seat.old cell }
+    requires fits { Fits words.now.table_id seat.old response.cell }
     requires pipes_fit { FitsPipe words.now.table_id seat.old first × FitsPipe words.now.table_id seat.old second }
-    requires small { generation < 16777216 }
-    requires busy { seat.old.me.0.role ≡ Busy (request_at seat.old.me.0.layout.cells cell generation) }
-    requires both { HasBoth seat.old.me.0.seen first second (request_at seat.old.me.0.layout.cells cell generation) }
-    requires answer { (e : Entry) × (data' : List ℕ) × MayReply seat.old.me cell (request_at seat.old.me.0.layout.cells cell generation) e res data' × (fails ≡ fails_with e res) × HasPipesAfter seat.old.me first second (request_at seat.old.me.0.layout.cells cell generation) e res }
+    requires small { response.generation < 16777216 }
+    requires busy { seat.old.me.0.role ≡ Busy (request_at seat.old.me.0.layout.cells response.cell response.generation) }
+    requires both { HasBoth seat.old.me.0.seen first second (request_at seat.old.me.0.layout.cells response.cell response.generation) }
+    requires answer { (e : Entry) × (data' : List ℕ) × MayReply seat.old.me response.cell (request_at seat.old.me.0.layout.cells response.cell response.generation) e response.res data' × (response.fails ≡ fails_with e response.res) × HasPipesAfter seat.old.me first second (request_at seat.old.me.0.layout.cells response.cell response.generation) e response.res }
     ensures seat { IsSameSeat seat.old seat.new × (seat.new.me.1 ≡ rest (rest (rest seat.old.me.1))) }
     ensures ended { (seat.new.me.0.role ≡ Idle) × (seat.new.me.0.parts ≡ seat.old.me.0.parts) × (seat.new.me.0.layout ≡ seat.old.me.0.layout) }
-    ensures replies { (e : Entry) (data' : List ℕ) → MayReply seat.old.me cell (request_at seat.old.me.0.layout.cells cell generation) e res data' → (mid : View) × Extends seat.old.me.0 (Did (Reply (request_at seat.old.me.0.layout.cells cell generation) res data')) (Leaving (request_at seat.old.me.0.layout.cells cell generation)) mid × (found : ℕ) × (n : ℕ) × (seat.new.me.0 ≡ leaves (pipe_at second) n (leaves_one (request_at seat.old.me.0.layout.cells cell generation) second (pipe_at first) found mid)) }
-    ensures steps { IsThreeSteps (claim_at cell) (pipe_at first) (pipe_at second) seat.old.me.0 seat.new.me.0 }
+    ensures replies { (e : Entry) (data' : List ℕ) → MayReply seat.old.me response.cell (request_at seat.old.me.0.layout.cells response.cell response.generation) e response.res data' → (mid : View) × Extends seat.old.me.0 (Did (Reply (request_at seat.old.me.0.layout.cells response.cell response.generation) response.res data')) (Leaving (request_at seat.old.me.0.layout.cells response.cell response.generation)) mid × (found : ℕ) × (n : ℕ) × (seat.new.me.0 ≡ leaves (pipe_at second) n (leaves_one (request_at seat.old.me.0.layout.cells response.cell response.generation) second (pipe_at first) found mid)) }
+    ensures steps { IsThreeSteps (claim_at response.cell) (pipe_at first) (pipe_at second) seat.old.me.0 seat.new.me.0 }
 {
-    reply_holding(words, seat, cell, generation, fails, res);
+    reply_holding(words, seat, response);
     leave_both(words, seat, first, second);
 }

@@ -4,19 +4,23 @@ ghost use Rattle.atomic_table.specs.Table.{rest};
 ghost use Rattle.claim.specs.declared.tag.Tag.TheVariants.{Held, Ready, Running};
 ghost use Rattle.entry.specs.Entry.{Entry, fails as fails_with};
 ghost use Rattle.history.specs.declared.event.Event.TheVariants.{Begin, Park, Reply, Sever};
-ghost use Rattle.history.specs.Chains.{IsPlaced, Severed};
-ghost use Rattle.history.specs.History.{hit, nothing, submits};
+ghost use Rattle.history.specs.{IsPlaced, Severed, hit, nothing, submits};
 ghost use Rattle.steps.specs.declared.line.Line.TheVariants.{Did, Freed};
 ghost use Rattle.steps.specs.declared.view.Role.TheVariants.{Poller, Idle, Busy, Spent};
-ghost use Rattle.steps.specs.Journal.{events_of, noted, holder};
-ghost use Rattle.steps.specs.Fairness.{FactsTell, NotesTell};
-ghost use Rattle.steps.specs.Cells.{ring_of, request_at, claim_at, note_at, word_of, MayBegin};
-ghost use Rattle.steps.specs.Rule.{Looks, Extends, Shown, IsStep, Fits, IsSameSeat};
-ghost use Rattle.steps.specs.Plays.{Hands, MayReply};
+ghost use Rattle.steps.specs.{events_of, noted, holder, FactsTell, NotesTell, ring_of, request_at, claim_at, note_at, word_of, MayBegin, Looks, Extends, Shown, IsStep, Fits, IsSameSeat, Hands, MayReply};
 
 use crate::layout::{claim_word, note_word};
 use crate::table::{TableSeat, Words};
 use crate::{claims, plays};
+
+/// The reply to the request that runs in this cell. `fails` says whether that is a failure of it.
+#[derive(Clone, Copy)]
+pub struct Response {
+    pub cell: usize,
+    pub generation: u32,
+    pub fails: bool,
+    pub res: i32,
+}
 
 /// Loads the claim word of the cell.
 pub fn look(words: &Words, seat: &mut TableSeat, cell: usize) -> u64
@@ -102,29 +106,22 @@ pub fn begin(words: &Words, seat: &mut TableSeat, cell: usize, generation: u32) 
     words.compare_exchange::<plays::Begin>(seat, claim_word(cell), ready, running) == ready
 }
 
-/// Replies to the request that this seat runs, which needs no pipe of the board. `fails` says whether the reply is a
-/// failure.
-pub fn reply(
-    words: &Words,
-    seat: &mut TableSeat,
-    cell: usize,
-    generation: u32,
-    fails: bool,
-    res: i32,
-)
-    requires fits { Fits words.now.table_id seat.old cell }
-    requires small { generation < 16777216 }
-    requires busy { seat.old.me.0.role ≡ Busy (request_at seat.old.me.0.layout.cells cell generation) }
-    requires bare { (p : ℕ) → holder seat.old.me.0.seen p ≢ Some (request_at seat.old.me.0.layout.cells cell generation) }
-    requires answer { (e : Entry) × (data' : List ℕ) × MayReply seat.old.me cell (request_at seat.old.me.0.layout.cells cell generation) e res data' × (fails ≡ fails_with e res) }
+/// Replies to the request that this seat runs, which needs no pipe of the board.
+#[inline(always)]
+pub fn reply(words: &Words, seat: &mut TableSeat, response: Response)
+    requires fits { Fits words.now.table_id seat.old response.cell }
+    requires small { response.generation < 16777216 }
+    requires busy { seat.old.me.0.role ≡ Busy (request_at seat.old.me.0.layout.cells response.cell response.generation) }
+    requires bare { (p : ℕ) → holder seat.old.me.0.seen p ≢ Some (request_at seat.old.me.0.layout.cells response.cell response.generation) }
+    requires answer { (e : Entry) × (data' : List ℕ) × MayReply seat.old.me response.cell (request_at seat.old.me.0.layout.cells response.cell response.generation) e response.res data' × (response.fails ≡ fails_with e response.res) }
     ensures seat { IsSameSeat seat.old seat.new × (seat.new.me.1 ≡ rest seat.old.me.1) }
     ensures ended { (seat.new.me.0.role ≡ Idle) × (seat.new.me.0.parts ≡ seat.old.me.0.parts) × (seat.new.me.0.layout ≡ seat.old.me.0.layout) }
-    ensures replies { (e : Entry) (data' : List ℕ) → MayReply seat.old.me cell (request_at seat.old.me.0.layout.cells cell generation) e res data' → Extends seat.old.me.0 (Did (Reply (request_at seat.old.me.0.layout.cells cell generation) res data')) Idle seat.new.me.0 }
-    ensures step { IsStep (claim_at cell) (word_of Running 0 generation 0) seat.old.me.0 seat.new.me.0 }
+    ensures replies { (e : Entry) (data' : List ℕ) → MayReply seat.old.me response.cell (request_at seat.old.me.0.layout.cells response.cell response.generation) e response.res data' → Extends seat.old.me.0 (Did (Reply (request_at seat.old.me.0.layout.cells response.cell response.generation) response.res data')) Idle seat.new.me.0 }
+    ensures step { IsStep (claim_at response.cell) (word_of Running 0 response.generation 0) seat.old.me.0 seat.new.me.0 }
 {
-    let running = claims::running(generation);
-    let done = claims::done(generation, fails, res);
-    words.compare_exchange::<plays::Reply>(seat, claim_word(cell), running, done);
+    let running = claims::running(response.generation);
+    let done = claims::done(response.generation, response.fails, response.res);
+    words.compare_exchange::<plays::Reply>(seat, claim_word(response.cell), running, done);
 }
 
 /// Puts the request that this seat runs back to Ready. It is no cancel that took a request, or found one running.

@@ -3,18 +3,12 @@ ghost use Rattle.std.specs.Prelude.{◌≡◌, ℕ, ◌+◌, ◌<◌, true, fals
 ghost use Rattle.atomic_table.specs.Table.{rest};
 ghost use Rattle.claim.specs.declared.tag.Tag.TheVariants.{Empty};
 ghost use Rattle.history.specs.declared.event.Event.TheVariants.{Submit, Reap};
-ghost use Rattle.history.specs.History.{Submission, data_of, submits};
-ghost use Rattle.history.specs.Chains.{before_in, hosts, placed_behind};
-ghost use Rattle.history.specs.Legal.{Fits as FitsEntry};
+ghost use Rattle.history.specs.{Submission, data_of, submits, before_in, hosts, placed_behind, Fits as FitsEntry};
 ghost use Rattle.steps.specs.declared.line.Line.TheVariants.{Did, Lent, Noted};
 ghost use Rattle.steps.specs.declared.parcel.Parcel.{Parcel};
 ghost use Rattle.steps.specs.declared.parcel.Thing.TheVariants.{Full};
 ghost use Rattle.steps.specs.declared.view.Role.TheVariants.{Submitter, Lending};
-ghost use Rattle.steps.specs.Journal.{events_of, lent, noted};
-ghost use Rattle.steps.specs.Cells.{ring_of, request_at, claim_at, note_at, facts_at, user_at, slot_at, word_of, IsParcel};
-ghost use Rattle.steps.specs.Fairness.{IsCountNoted};
-ghost use Rattle.steps.specs.Notes.{count_in, count_notes, facts_of, notes_of, words_in};
-ghost use Rattle.steps.specs.Rule.{Extends, ExtendsAfter, ExtendsNoted, ExtendsTwice, IsStep, AreSteps, IsTwoSteps, Vacant, Fits, IsSameSeat, IsDone, IsOutcome};
+ghost use Rattle.steps.specs.{events_of, lent, noted, ring_of, request_at, claim_at, note_at, facts_at, user_at, slot_at, word_of, IsParcel, IsCountNoted, count_in, count_notes, facts_of, notes_of, words_in, Extends, ExtendsAfter, ExtendsNoted, ExtendsTwice, IsStep, AreSteps, IsTwoSteps, Vacant, Fits, IsSameSeat, IsDone, IsOutcome};
 
 use crate::facts::{count_in, facts};
 use crate::layout::{COUNT, FACTS, USER_DATA, claim_word, note_word, slot};

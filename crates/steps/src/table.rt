@@ -4,8 +4,7 @@ ghost use Rattle.std.specs.Mem.Slots.{slots_items, slots_len, IsFull};
 ghost use Rattle.history.specs.declared.req.Req.{Req};
 ghost use Rattle.steps.specs.declared.view.Role.TheVariants.{Poller, Lending, Spent};
 ghost use Rattle.pipe.specs.Moves.{new_conduit};
-ghost use Rattle.steps.specs.Cells.{total, IsCapacity, AreNewSlots, words_of};
-ghost use Rattle.steps.specs.Rule.{stands_for, workers, IsSameSeat, Ended, opening_view, without_next, without_one, next_submitter, idle_one, hearing, messenger};
+ghost use Rattle.steps.specs.{total, IsCapacity, AreNewSlots, words_of, stands_for, workers, IsSameSeat, Ended, opening_view, without_next, without_one, next_submitter, idle_one, hearing, messenger};
 
 use crate::law::{About, Law};
 use crate::layout::{PIPES, words_of};

@@ -4,15 +4,10 @@ ghost use Rattle.claim.specs.declared.tag.Tag.TheVariants.{Held, Running, Armed}
 ghost use Rattle.entry.specs.Entry.{Entry, fails as fails_with};
 ghost use Rattle.history.specs.declared.event.Event.TheVariants.{Tick, Arm, Expire, Count, Fire, FireMiss, Settle};
 ghost use Rattle.history.specs.declared.req.Req.{Req};
-ghost use Rattle.history.specs.Chains.{IsPlaced, IsLinkTimeout, IsTarget, Open, is_timeout};
-ghost use Rattle.history.specs.History.{IsReplied, armed, clock_of, fired, later_replies, phase, submits};
-ghost use Rattle.history.specs.Legal.{count_of, ticks_of};
+ghost use Rattle.history.specs.{IsPlaced, IsLinkTimeout, IsTarget, Open, is_timeout, IsReplied, armed, clock_of, fired, later_replies, phase, submits, count_of, ticks_of};
 ghost use Rattle.steps.specs.declared.line.Line.TheVariants.{Did};
 ghost use Rattle.steps.specs.declared.view.Role.TheVariants.{Poller};
-ghost use Rattle.steps.specs.Journal.{events_of};
-ghost use Rattle.steps.specs.Cells.{ring_of, request_at, claim_at, word_of};
-ghost use Rattle.steps.specs.Rule.{Looks, Extends, Shown, IsStep, Fits, IsSameSeat};
-ghost use Rattle.steps.specs.Plays.{FitsClock, IsIdleWord, next_of};
+ghost use Rattle.steps.specs.{events_of, ring_of, request_at, claim_at, word_of, Looks, Extends, Shown, IsStep, Fits, IsSameSeat, FitsClock, IsIdleWord, next_of};
 
 use crate::layout::{CLOCK_WORD, claim_word};
 use crate::table::{TableSeat, Words};

@@ -2,8 +2,7 @@
 ghost use Rattle.std.specs.Prelude.{◌≡◌, ◌<◌, take, length, Ok, IfOk, OnOk, IfSome, IfErr, OnErr};
 ghost use Rattle.std.specs.Io.{ReadsAtMost};
 ghost use Rattle.std.specs.Io.KnownBytes.{Consumes, Keeps, IsAtEnd};
-ghost use Rattle.streams.specs.Calls.{FailedToRead, IsOfRead, ReadGave, TookAll};
-ghost use Rattle.streams.specs.Streams.{ConsumesBeginning, IsNotInterruptedRead};
+ghost use Rattle.streams.specs.{FailedToRead, IsOfRead, ReadGave, TookAll, ConsumesBeginning, IsNotInterruptedRead};
 
 use crate::fault::InputFault;
 use crate::stream::Source;

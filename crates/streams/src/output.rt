@@ -1,8 +1,7 @@
 //! Bytes written out.
 ghost use Rattle.std.specs.Prelude.{◌<◌, ◌≤◌, take, length, Ok, IfOk, OnOk, IfErr, OnErr};
 ghost use Rattle.std.specs.Io.KnownBytes.{Appends, Keeps};
-ghost use Rattle.streams.specs.Calls.{FailedToWrite, IsOfWrite, WriteGave, WroteAll};
-ghost use Rattle.streams.specs.Streams.{AppendsBeginning, IsNotInterruptedWrite};
+ghost use Rattle.streams.specs.{FailedToWrite, IsOfWrite, WriteGave, WroteAll, AppendsBeginning, IsNotInterruptedWrite};
 
 use crate::fault::OutputFault;
 use crate::stream::Sink;

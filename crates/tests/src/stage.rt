@@ -16,7 +16,7 @@ use controls::{Clock, NoClock, Open};
 use history::Req;
 use outbox::{Outbox, deliver};
 use ready::ReadyQueue;
-use runtime::{PollDesk, Turn, WorkDesk, poll_turn, work_turn};
+use runtime::{PollDesk, Route, Turn, WorkDesk, poll_turn, work_turn};
 use std::alloc::Global;
 use std::marker::Model;
 use std::sync::Wait;
@@ -226,15 +226,12 @@ impl Stage {
     fn poll<R: Wait, C: Clock>(&mut self, rt: &R, clock: &mut C) -> Result<(Turn, Vec<Req>), Fail> {
         let places = u32::try_from(self.desk.places())?;
         let mut outbox = Outbox::new(self.alloc, places)?;
-        let turn = poll_turn(
+        let route = Route {
             rt,
-            &self.board,
-            &self.bell,
-            &self.queue,
-            &mut self.desk,
-            clock,
-            &mut outbox,
-        )?;
+            board: &self.board,
+            queue: &self.queue,
+        };
+        let turn = poll_turn(route, &self.bell, &mut self.desk, clock, &mut outbox)?;
         Ok((turn, posts_of(self.alloc, outbox)?))
     }
 
@@ -244,15 +241,12 @@ impl Stage {
         let Some(worker) = self.worker.take() else {
             return Err(Fail::new("there is no worker"));
         };
-        let (worker, turn) = work_turn(
+        let route = Route {
             rt,
-            &self.board,
-            &self.queue,
-            &mut self.work,
-            worker,
-            &Open,
-            &mut outbox,
-        );
+            board: &self.board,
+            queue: &self.queue,
+        };
+        let (worker, turn) = work_turn(route, &mut self.work, worker, &Open, &mut outbox);
         self.worker = Some(worker);
         Ok((turn, posts_of(self.alloc, outbox)?))
     }
@@ -311,15 +305,14 @@ impl Stage {
     fn go<R: Wait>(
         &mut self,
         rt: &R,
-        first: &[Entry],
-        second: &[Entry],
+        batches: (&[Entry], &[Entry]),
         word: &str,
     ) -> Result<String, Fail> {
         let (letter, number) = letter_of(word);
         match letter {
-            b'f' => Ok(named(self.alloc, self.submit(first)?)?),
-            b's' => Ok(named(self.alloc, self.submit(second)?)?),
-            b'o' => Ok(named(self.alloc, self.submit_to_one(second)?)?),
+            b'f' => Ok(named(self.alloc, self.submit(batches.0)?)?),
+            b's' => Ok(named(self.alloc, self.submit(batches.1)?)?),
+            b'o' => Ok(named(self.alloc, self.submit_to_one(batches.1)?)?),
             b'l' => {
                 let phase = self.look(u64::from(number));
                 shown(self.alloc, phase)
@@ -333,13 +326,12 @@ impl Stage {
     fn traced<R: Wait>(
         &mut self,
         rt: &R,
-        first: &[Entry],
-        second: &[Entry],
+        batches: (&[Entry], &[Entry]),
         words: &str,
     ) -> Result<String, Fail> {
         let mut trace = String::new(self.alloc);
         for word in words.split(' ') {
-            let text = self.go(rt, first, second, word)?;
+            let text = self.go(rt, batches, word)?;
             trace.push_str(text.as_str())?;
             trace.push_str(" ")?;
         }
@@ -361,20 +353,18 @@ impl Stage {
 /// that doesn't go on, `t5` one at a clock that goes on to tick 5, `a1` one at a clock that asks for request 1 of ring 0 and goes on
 /// to its deadline where that is armed, `w` a work turn. `l1` looks where request 1 of ring 0 stands, and `r1` takes its completion.
 /// At the end the poller sets the clock on to the tick `last`, by its pass as the turns left it.
-pub(crate) fn play<R: Wait>(
+pub(crate) fn play<R: Wait + AllocGlobal>(
     rt: &R,
-    alloc: Global,
     cells: &[u32],
     places: u32,
-    first: &[Entry],
-    second: &[Entry],
+    batches: (&[Entry], &[Entry]),
     words: &str,
     last: u32,
 ) -> Result<String, Fail>
     requires { 0 < places }
 {
-    let mut stage = Stage::new(alloc, cells, places)?;
-    let traced = stage.traced(rt, first, second, words);
+    let mut stage = Stage::new(rt.alloc(), cells, places)?;
+    let traced = stage.traced(rt, batches, words);
     let is_on = stage.tick_at_the_end(last);
     let mut trace = traced?;
     trace.push_str(if is_on { "on" } else { "past" })?;

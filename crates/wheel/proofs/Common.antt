@@ -7,8 +7,6 @@ pub use Rattle.std.proofs.lemmas.Bool.{cases_eq, cases_lt, eq-eqb, eqb-true, le-
 pub use Rattle.std.proofs.lemmas.Option.{none-some, slice_get-get_or, slice_get_cases, slice_get_within}
 pub use Rattle.std.specs.List.{remove, slice_get}
 pub use Rattle.std.specs.Prelude.{IsOk, IsSome, IsTrue, insert, nat_le, nat_lt, ◌%◌, ◌==◌, ◌↔◌}
-pub use Rattle.wheel.specs.CallRuns.{Answers, Runs}
-pub use Rattle.wheel.specs.Deadlines.{IsFirstDue, armed, dropped}
-pub use Rattle.wheel.specs.TimerLists.{AllFrom, InOrder, IsOnce, deadline_in, with_timer, without}
+pub use Rattle.wheel.specs.{Answers, Runs, IsFirstDue, armed, dropped, AllFrom, InOrder, IsOnce, deadline_in, with_timer, without}
 pub use Rattle.wheel.specs.Wheel.{AreFrom, Deadlines, IsLeast, IsWheel, StandFrom, bound_of, deadline_at, earlier_of, front_of, has_deadline, in_slot, no_timers, slot_list}
 pub use Rattle.wheel.specs.declared.sorted.Timer.{Timer}

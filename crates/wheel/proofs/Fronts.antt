@@ -60,10 +60,6 @@ at_bound xs d i (Some x) bound o is w = let e : x.1 ≡ d = eqb-true x.1 d w in
     ((i, (subst (IsFront (slot_list xs i)) (sym is) (front_is (slot_list xs i) o)).0), λ s lt q c u. (let le : d ≤ c = bound s q c u in omega arith))
 
 module _ (xs : List (List Timer)) (es : Deadlines) (wheel : IsWheel xs es) where
-  -- the bound of the map is one of the slots
-  pub stand_from : (d : ℕ) → AreFrom d es → StandFrom d xs
-  stand_from d bound s q e u = bound q e (from_slot s (deadline_at es q) e (sym (wheel s q) ∙ u))
-
   -- the least deadline is a bound
   pub least_bounds : (y : Option (Req × ℕ)) → IsLeast xs 256 y → AreFrom (bound_of y) es
   least_bounds None l q e u = absurd (l (e % 256) (mod_below e 256 (omega arith)) q e (among xs es wheel q e u))

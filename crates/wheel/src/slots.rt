@@ -1,8 +1,6 @@
 //! The slots of a wheel.
 ghost use Rattle.std.specs.Prelude.{◌≡◌, ℕ, ◌+◌, ◌≢◌, [], true, None, Some, OnOk, OnErr};
-ghost use Rattle.wheel.specs.Deadlines.{armed, dropped};
-ghost use Rattle.wheel.specs.TimerLists.{InOrder, deadline_in};
-ghost use Rattle.wheel.specs.Wheel.{front_of, no_timers, slot_list};
+ghost use Rattle.wheel.specs.{armed, dropped, InOrder, deadline_in, front_of, no_timers, slot_list};
 
 use crate::error::Memory;
 use crate::looks::Looks;

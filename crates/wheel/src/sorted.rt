@@ -2,8 +2,7 @@
 ghost use Rattle.std.specs.Prelude.{◌≡◌, ◌<◌, ◌≤◌, ℕ, ◌∷◌, [], true, false, length, vec_len, vec_capacity, IsTrue, IsSome, OnOk, OnErr, ◌↔◌, MatchOption, None, Some, slice_get};
 ghost use Rattle.history.specs.History.{same};
 ghost use Rattle.wheel.specs.declared.sorted.Timer.{Timer};
-ghost use Rattle.wheel.specs.Deadlines.{armed, dropped};
-ghost use Rattle.wheel.specs.TimerLists.{IsOnce, InOrder, deadline_in, with_timer, without};
+ghost use Rattle.wheel.specs.{armed, dropped, IsOnce, InOrder, deadline_in, with_timer, without};
 
 use crate::error::Memory;
 use crate::set::TimerSet;

@@ -2,9 +2,7 @@
 ghost use Rattle.std.specs.Prelude.{◌≡◌, ℕ, ◌+◌, ◌%◌, ◌<◌, ◌≤◌, IsTrue, IsSome, is_some, true, false, None, Some, OnOk, OnErr, ◌↔◌, length};
 ghost use Rattle.std.specs.HashMap.{spare};
 ghost use Rattle.history.specs.declared.req.Req.{Req};
-ghost use Rattle.wheel.specs.Deadlines.{armed, dropped, IsFirstDue};
-ghost use Rattle.wheel.specs.TimerLists.{InOrder};
-ghost use Rattle.wheel.specs.Wheel.{AreFrom, IsLeast, StandFrom, bound_of, deadline_at, earlier_of, front_of, has_deadline, in_slot, slot_list};
+ghost use Rattle.wheel.specs.{armed, dropped, IsFirstDue, InOrder, AreFrom, IsLeast, StandFrom, bound_of, deadline_at, earlier_of, front_of, has_deadline, in_slot, slot_list};
 
 use crate::error::Memory;
 use crate::looks::Looks;

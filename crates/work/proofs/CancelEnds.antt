@@ -2,7 +2,7 @@
 use Rattle.steps.proofs.Frames.{still_lacks}
 use Rattle.work.specs.declared.cancel.Searched.{Searched}
 use Rattle.work.specs.declared.cancel.Searched.TheVariants.{NoneLeft, Ended, Found}
-use Rattle.work.proofs.Common.{AreHits, AsyncCancel, Bool, Busy, CancelAnswers, CancelBy, Cancels, Did, DidHunt, DidSearch, DidSweep, Event, Extends, Facts, FewSteps, FewerSteps, Full, Hit, IsCell, IsOf, IsStep, Line, List, Looks, MayReply, Miss, Op, OpAnswers, Option, Parcel, Pass, Req, Role, RunsIt, Some, Step, TableId, Take, Thing, TimeoutRemove, Told, UsesNone, View, Wanted, WentBy, WentOn, WorkerSeat, [], ap, arith, cells_in, claim_at, cond, eqb-true, events_of, false, hit, hits, holder, holders, inl, lacks_after, layout_after, length, located, missed, nothing, op_run, pos, refl, request_at, role_after, run_as, same, same_itself, setup_of, slot_at, stands_for, steps_at, submitted_in, subst, sym, tally, took, true, true≢false, wanted_in, ℕ, ℤ, ⊎_elim, ◌+◌, ◌<◌, ◌==◌, ◌∙◌, ◌∷◌, ◌≡◌, ◌≢◌, ◌≤◌}
+use Rattle.work.proofs.Common.{AreHits, AsyncCancel, Bool, Busy, CancelAnswers, CancelBy, Cancels, Did, DidCancel, DidSearch, DidCancelAll, Event, Extends, Facts, FewSteps, FewerSteps, Full, Hit, IsCell, IsOf, IsStep, Line, List, Looks, MayReply, Miss, Op, OpAnswers, Option, Parcel, Pass, Req, Role, RunsIt, Some, Step, TableId, Take, Thing, TimeoutRemove, Told, UsesNone, View, Wanted, WentBy, WentOn, WorkerSeat, [], ap, arith, cells_in, claim_at, cond, eqb-true, events_of, false, hit, hits, holder, holders, inl, lacks_after, layout_after, length, located, missed, nothing, op_run, pos, refl, request_at, role_after, run_as, same, same_itself, setup_of, slot_at, stands_for, steps_at, submitted_in, subst, sym, tally, took, true, true≢false, wanted_in, ℕ, ℤ, ⊎_elim, ◌+◌, ◌<◌, ◌==◌, ◌∙◌, ◌∷◌, ◌≡◌, ◌≢◌, ◌≤◌}
 use Rattle.work.proofs.CancelGrowth.{by_hit, by_later, by_role, did_hit, went_hit, went_role}
 use Rattle.work.proofs.CancelHits.{tally_taken}
 use Rattle.work.proofs.CancelSearch.{all_wanted}
@@ -95,9 +95,9 @@ module _ (r : Req) where
 -- ---- the reply is the one of the history
 
 module _ (v w : View) (r : Req) (u : Wanted) (busy : v.role ≡ Busy r) (unhit : hit (events_of v.seen) r ≡ nothing) where
-  -- after a sweep: how many it took
-  pub hunt_swept : (list : List Req) → u.all ≡ true → DidSweep v w r list → DidHunt v w r u list (pos (length list))
-  hunt_swept list all d = record {
+  -- after a cancel_all: how many it took
+  pub cancel_swept : (list : List Req) → u.all ≡ true → DidCancelAll v w r list → DidCancel v w r u list (pos (length list))
+  cancel_swept list all d = record {
     own = d.own;
     went = d.went;
     hits = d.hits;
@@ -114,8 +114,8 @@ module _ (v w : View) (r : Req) (u : Wanted) (busy : v.role ≡ Busy r) (unhit :
   hit_after m e d x = did_hit m w r e (went_role v m r busy d) x ∙ ap (hits e r) (went_hit v m r busy d ∙ unhit)
 
   -- after a search
-  pub hunt_searched : (q : Searched) (res : ℤ) (list : List Req) → u.all ≡ false → DidSearch v w r q → Told q res list → DidHunt v w r u list res
-  hunt_searched NoneLeft res list one d t = record {
+  pub cancel_searched : (q : Searched) (res : ℤ) (list : List Req) → u.all ≡ false → DidSearch v w r q → Told q res list → DidCancel v w r u list res
+  cancel_searched NoneLeft res list one d t = record {
     own = [];
     went = d.0;
     hits = tt;
@@ -123,7 +123,7 @@ module _ (v w : View) (r : Req) (u : Wanted) (busy : v.role ≡ Busy r) (unhit :
     few = λ _. omega arith;
     answers = one_by nothing res one (went_hit v w r busy d.0 ∙ unhit) (t.0, d.1);
   }
-  hunt_searched (Ended o) res list one d t = record {
+  cancel_searched (Ended o) res list one d t = record {
     own = Take r o ∷ [];
     went = (d.2, w, d.3, d.4, inl refl);
     hits = (refl, d.0, tt);
@@ -131,7 +131,7 @@ module _ (v w : View) (r : Req) (u : Wanted) (busy : v.role ≡ Busy r) (unhit :
     few = λ _. omega arith;
     answers = one_by (took o nothing) res one (hit_after d.2 (Take r o) d.3 d.4 ∙ ap (λ (b : Bool). cond b (took o nothing) nothing) (same_itself r)) t.0;
   }
-  hunt_searched Found res list one d t = record {
+  cancel_searched Found res list one d t = record {
     own = Miss r d.0 ∷ [];
     went = (d.2, w, d.3, d.4, inl refl);
     hits = (refl, d.1, tt);
@@ -141,8 +141,8 @@ module _ (v w : View) (r : Req) (u : Wanted) (busy : v.role ≡ Busy r) (unhit :
   }
 
 -- where it had looked before
-pub hunt_later : (u v w : View) (r : Req) (x : Wanted) (list : List Req) (res : ℤ) → WentOn u v → DidHunt v w r x list res → DidHunt u w r x list res
-hunt_later u v w r x list res d h = record { own = h.own; went = by_later r u v w h.own d h.went; hits = h.hits; took_is = h.took_is; few = h.few; answers = h.answers }
+pub cancel_later : (u v w : View) (r : Req) (x : Wanted) (list : List Req) (res : ℤ) → WentOn u v → DidCancel v w r x list res → DidCancel u w r x list res
+cancel_later u v w r x list res d h = record { own = h.own; went = by_later r u v w h.own d h.went; hits = h.hits; took_is = h.took_is; few = h.few; answers = h.answers }
 
 -- those that it took are fewer than the cells
 pub told_few : (v w : View) (r : Req) (q : Searched) (res : ℤ) (list : List Req) → 0 < cells_in v.layout.cells r.ring → DidSearch v w r q → Told q res list → length list < cells_in v.layout.cells r.ring
@@ -151,9 +151,9 @@ told_few v w r (Ended o) res list some d t = subst (λ (l : List Req). length l 
 told_few v w r Found res list some d t = subst (λ (l : List Req). length l < cells_in v.layout.cells r.ring) (sym t.1) some
 
 -- it may reply so
-pub may_hunt : (table : TableId) (v w : View) (hand : List (ℕ × Option Thing)) (x g : ℕ) (r : Req) (p : Parcel) (pipes : ℕ) (u : Wanted) (list : List Req) (res : ℤ) → RunsIt table v x g r p pipes → wanted_in (run_as p.sqe).op ≡ Some u → DidHunt v w r u list res
+pub may_cancel : (table : TableId) (v w : View) (hand : List (ℕ × Option Thing)) (x g : ℕ) (r : Req) (p : Parcel) (pipes : ℕ) (u : Wanted) (list : List Req) (res : ℤ) → RunsIt table v x g r p pipes → wanted_in (run_as p.sqe).op ≡ Some u → DidCancel v w r u list res
     → MayReply (w, (slot_at x, Some (Full p)) ∷ hand) x (request_at w.layout.cells x g) (run_as p.sqe) res []
-may_hunt table v w hand x g r p pipes u list res k wants h =
+may_cancel table v w hand x g r p pipes u list res k wants h =
     plain_may table (w, (slot_at x, Some (Full p)) ∷ hand) x g r p pipes (by_runs r table v w h.own x g p pipes k h.went) res refl (cancel_past (op_run p.sqe.op) u (length w.layout.caps) wants)
     (cancel_answers w.layout.caps (events_of w.seen) r (op_run p.sqe.op) u res wants h.answers)
 

@@ -57,9 +57,6 @@ module _ (v m : View) (x g : ℕ) (a : Looks v m) (born : (request_at v.layout.c
   pub legal_then : Legal S (events_of m.seen)
   legal_then = subst (λ (j : List Line). Legal S (events_of j)) (sym (ap (λ (z : View). z.seen) a.is)) a.legal
 
-  pub orderly_then : Orderly v.layout m.seen
-  orderly_then = subst (Orderly v.layout) (sym (ap (λ (z : View). z.seen) a.is)) a.orderly
-
   pub born_then : the_request.k < submits (events_of m.seen) the_request.ring
   born_then = subst (λ (j : List Line). the_request.k < submits (events_of j) the_request.ring) (sym (ap (λ (z : View). z.seen) a.is ∙ a.saw.is)) (let z = submits_grow S a.saw.later v.seen the_request.ring in let b = born in omega arith)
 

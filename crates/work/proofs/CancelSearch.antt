@@ -7,7 +7,7 @@ use Rattle.steps.proofs.IdleWords.{ready_again, same_again}
 use Rattle.work.specs.declared.cancel.Target.{Target}
 use Rattle.work.specs.declared.cancel.Tried.{Tried}
 use Rattle.work.specs.declared.cancel.Tried.TheVariants.{Took}
-use Rattle.work.proofs.Common.{AimsAt, AreAt, AsyncCancel, Bool, Busy, Cancels, DidTake, DidTry, Event, IsBefore, IsCell, IsEarlier, IsIdle, IsIdleWord, IsMeant, IsReplied, IsStep, Layout, Legal, Line, LinkTimeout, List, Looks, Matches, MayAim, MayHit, Missed, Op, Passed, Phase, Req, Setup, Shown, Some, Step, StepsIn, TableId, Tag, Timeout, TimeoutRemove, View, Wanted, WorkerSeat, [], ap, append_assoc, arith, bool_cases, born_once, claim_at, cond, dite, eqb-true, events_of, fails, fails_op, false, inl, inr, is_all, is_idle, is_link_timeout, length, length-append, negsuc, never_asked, not, note_at, phase, refl, request_at, runs, setup_of, steps_at, submits, subst, sym, target_in, true, true≢false, unborn, wanted_in, word_of, ℕ, ℕ_discrete, ⊎_elim, ◌++◌, ◌+◌, ◌<◌, ◌==◌, ◌∙◌, ◌∷◌, ◌≡◌, ◌≢◌, ◌≤◌, ◌⊎◌}
+use Rattle.work.proofs.Common.{AimsAt, AreAt, AsyncCancel, Bool, Busy, Cancels, DidTake, DidTry, Event, IsBefore, IsCell, IsEarlier, IsIdle, IsIdleWord, IsMeant, IsReplied, IsStep, Layout, Legal, Line, LinkTimeout, List, Looks, Matches, MayAim, MayHit, Missed, Op, Passed, Phase, Req, Setup, Shown, Some, Step, StepsIn, TableId, Tag, Timeout, TimeoutRemove, View, Wanted, WorkerSeat, [], ap, append_assoc, arith, bool_cases, born_once, claim_at, cond, dite, eqb-true, events_of, fails, fails_op, false, inl, inr, is_all, is_idle, is_link_timeout, length, length-append, negsuc, never_asked, not, note_at, phase, refl, request_at, setup_of, steps_at, submits, subst, sym, target_in, true, true≢false, unborn, wanted_in, word_of, ℕ, ℕ_discrete, ⊎_elim, ◌++◌, ◌+◌, ◌<◌, ◌==◌, ◌∙◌, ◌∷◌, ◌≡◌, ◌≢◌, ◌≤◌, ◌⊎◌}
 use Rattle.work.proofs.CancelGrowth.{aim_on, cancels_grown, grown_look, meant_on, went_later}
 use Rattle.work.proofs.RunsKept.{same_hit_looked}
 

@@ -11,11 +11,8 @@ pub use Rattle.entry.specs.declared.op.Op.{Op}
 pub use Rattle.entry.specs.declared.op.Op.TheVariants.{AsyncCancel, Close, Invalid, LinkTimeout, Nop, PollAdd, Read, Splice, Timeout, TimeoutRemove, Write}
 pub use Rattle.history.proofs.Growth.{born_once, submission_some}
 pub use Rattle.history.proofs.Requests.{and_left, and_right, bool_cases, same_itself, same_true}
-pub use Rattle.history.specs.Answers.{AimsAt, CancelAnswers, CancelBy, Matches, MayHit, OpAnswers, asks_for, is_all, is_pipe}
-pub use Rattle.history.specs.Chains.{IsBefore, IsPlaced, before_in, hosts, is_link_timeout, is_timer, placed_behind, placed_from}
-pub use Rattle.history.specs.History.{Cause, Hit, IsIdle, IsReplied, Phase, Submission, by_take, has_missed, hit, hits, missed, nothing, phase, reaped, replied, runs, same, submission, submits, tally, took, unborn, was_shut}
+pub use Rattle.history.specs.{AimsAt, CancelAnswers, CancelBy, Matches, MayHit, OpAnswers, asks_for, is_all, is_pipe, IsBefore, IsPlaced, before_in, hosts, is_link_timeout, is_timer, placed_behind, placed_from, Cause, Hit, IsIdle, IsReplied, Phase, Submission, by_take, has_missed, hit, hits, missed, nothing, phase, reaped, replied, runs, same, submission, submits, tally, took, unborn, was_shut, Flow, contents, flow, flows, flows_as, offered}
 pub use Rattle.history.specs.Legal.{FitsOp, Legal, Setup}
-pub use Rattle.history.specs.Pipes.{Flow, contents, flow, flows, flows_as, offered}
 pub use Rattle.history.specs.declared.event.Event.{Event}
 pub use Rattle.history.specs.declared.event.Event.TheVariants.{Begin, Miss, Park, Reply, Take}
 pub use Rattle.history.specs.declared.req.Req.{Req}
@@ -31,12 +28,7 @@ pub use Rattle.steps.proofs.OwnFacts.{never_asked, same_hit}
 pub use Rattle.steps.proofs.PipeSteps.{lacks_after, one_worker}
 pub use Rattle.steps.proofs.StepKinds.{in_hand}
 pub use Rattle.steps.proofs.ViewsKept.{layout_after, parcel_after, parts_after, role_after}
-pub use Rattle.steps.specs.Cells.{IsCell, IsParcel, PipeIs, cells_in, claim_at, facts_at, note_at, over, pipe_at, place_of, request_at, ring_of, setup_of, slot_at, stands, total, user_at, word_of, words_of}
-pub use Rattle.steps.specs.Fairness.{FactsTell, HasNone, HasWaited, IsReaped, MayLay, NotesSay, NotesTell, Orderly}
-pub use Rattle.steps.specs.Journal.{event_of, events_of, goes_out, holder, lays, lent, lying, noted}
-pub use Rattle.steps.specs.Plays.{HasAlone, HasBoth, HasPipeAfter, HasPipeLaid, HasPipesAfter, IsIdleWord, IsSamePipe, MayReply, Seated, is_idle}
-pub use Rattle.steps.specs.Rule.{AllBegin, AreMade, Begins, Extends, IsSameSeat, IsStep, IsThreeSteps, IsTwoSteps, Looks, NoneOf, Saw, Shown, holders, leaves, leaves_one, owns, seeing, stands_for}
-pub use Rattle.steps.specs.Sleepers.{LiesIn, NoneSleeps}
+pub use Rattle.steps.specs.{IsCell, IsParcel, PipeIs, cells_in, claim_at, facts_at, note_at, over, pipe_at, place_of, request_at, ring_of, setup_of, slot_at, stands, total, user_at, word_of, words_of, FactsTell, HasNone, HasWaited, IsReaped, MayLay, NotesSay, NotesTell, Orderly, event_of, events_of, goes_out, holder, lays, lent, lying, noted, HasAlone, HasBoth, HasPipeAfter, HasPipeLaid, HasPipesAfter, IsIdleWord, IsSamePipe, MayReply, Seated, is_idle, AllBegin, AreMade, Begins, Extends, IsSameSeat, IsStep, IsThreeSteps, IsTwoSteps, Looks, NoneOf, Saw, Shown, holders, leaves, leaves_one, owns, seeing, stands_for, LiesIn, NoneSleeps}
 pub use Rattle.steps.specs.declared.line.Laid.{Laid}
 pub use Rattle.steps.specs.declared.line.Laid.TheVariants.{NoRequest}
 pub use Rattle.steps.specs.declared.line.Line.{Line}
@@ -50,11 +42,7 @@ pub use Rattle.steps.specs.declared.view.Role.{Role}
 pub use Rattle.steps.specs.declared.view.Role.TheVariants.{Busy, Idle, Leaving}
 pub use Rattle.steps.specs.declared.view.Step.{Step}
 pub use Rattle.steps.specs.declared.view.View.{View}
-pub use Rattle.work.specs.Board.{Facts, IsOf, share_of}
-pub use Rattle.work.specs.Grid.{AreCellCounts, RowsFrom, cells_of}
-pub use Rattle.work.specs.Passes.{AreMarked, ArePast, HasRooms, Holding, IsBusySeat, IsGridOf, IsHoldingSeat, IsIdleSeat, IsJoiningSeat, IsLaidOnce, IsTask, IsUnderway, Joining, LiesAs, Pass, Running, RunsIt, Settled, Took, mark_of, notes_read, own_of, seen_of, with_asked, woken_of}
-pub use Rattle.work.specs.Searches.{AreAt, ArePassed, Cancels, DidSearch, DidTake, DidTry, FewSteps, FewerSteps, IsEarlier, IsMeant, MayAim, ReadNotes, StepsIn, WentBy, WentOn, WorkerSeat, is_kind, steps_at, target_in, wanted_in}
-pub use Rattle.work.specs.WorkerRuns.{AreFew, AreHits, DidHunt, DidReply, DidSweep, EndsBy, FoundOut, HasStepped, HasWoken, IsReason, IsRun, LaidAtBoth, LaidDown, MissedPipe, NoAnswer, StepsAt, StepsBy, Told, TookAlong, Unanswered, WakesAt, op_run, run_as, taken_in}
+pub use Rattle.work.specs.{Facts, IsOf, share_of, AreCellCounts, RowsFrom, cells_of, AreMarked, ArePast, HasRooms, Holding, IsBusySeat, IsGridOf, IsHoldingSeat, IsIdleSeat, IsJoiningSeat, IsLaidOnce, IsTask, IsUnderway, Joining, LiesAs, Pass, Running, RunsIt, Settled, Took, mark_of, notes_read, own_of, seen_of, with_asked, woken_of, AreAt, ArePassed, Cancels, DidSearch, DidTake, DidTry, FewSteps, FewerSteps, IsEarlier, IsMeant, MayAim, ReadNotes, StepsIn, WentBy, WentOn, WorkerSeat, is_kind, steps_at, target_in, wanted_in, AreFew, AreHits, DidCancel, DidReply, DidCancelAll, EndsBy, FoundOut, HasStepped, HasWoken, IsReason, IsRun, LaidAtBoth, LaidDown, MissedPipe, NoAnswer, StepsAt, StepsBy, Told, TookAlong, Unanswered, WakesAt, op_run, run_as, taken_in}
 pub use Rattle.work.specs.declared.cancel.Tried.TheVariants.{Missed, Passed}
 pub use Rattle.work.specs.declared.cancel.Wanted.{Wanted}
 pub use Rattle.work.specs.declared.grid.Row.{Row}

@@ -82,9 +82,6 @@ read_two v m w x found then' a b = let s : Step = record { word = facts_at x; fo
   count_is = refl;
 }
 
-pub read_none : (v w : View) (n m : ℕ) → n ≡ m → ReadNotes v w n → ReadNotes v w m
-read_none v w n m e k = subst (ReadNotes v w) e k
-
 -- ---- a run that began with looks
 
 none_own : (role : Role) (l : List Line) → NoneOf role l → own_of role l ≡ []

@@ -1,8 +1,7 @@
 -- What the single steps of a run come to: which events the pass went on by, how many steps it took, and whose pass it stays.
 use Rattle.std.proofs.Common.{vec_capacity}
 use Rattle.answers.specs.declared.named.NamedPipes.{NamedPipes}
-use Rattle.history.specs.Legal.{IsOf as IsOfKind}
-use Rattle.history.specs.Users.{uses_at}
+use Rattle.history.specs.{IsOf as IsOfKind, uses_at}
 use Rattle.steps.proofs.CancelOnce.{IsEarly, unhit as not_hit}
 use Rattle.steps.proofs.Submissions.{fits_is}
 use Rattle.work.specs.declared.run.Ran.{Ran}
@@ -290,12 +289,6 @@ plain_run (LinkTimeout ticks) t w = absurd (true≢false t)
 plain_run (AsyncCancel u all) t w = absurd (let z = w in cc)
 plain_run (TimeoutRemove u) t w = absurd (let z = w in cc)
 plain_run op t w = refl
-
--- a cancel names none
-pub wanted_bare : (op : Op) (u : Wanted) (n : ℕ) → wanted_in op ≡ Some u → UsesNone op n
-wanted_bare (AsyncCancel u all) w n is = λ q lt. refl
-wanted_bare (TimeoutRemove u) w n is = λ q lt. refl
-wanted_bare op w n is = absurd (let z = is in cc)
 
 -- what is placed is a cancel where what was handed in is one, and names no pipe then
 pub wanted_run : (op : Op) → wanted_in (op_run op) ≡ wanted_in op

@@ -6,9 +6,7 @@ use Rattle.history.specs.Legal.{Legal}
 use Rattle.steps.specs.declared.view.Layout.{Layout}
 use Rattle.steps.specs.declared.view.Role.{Role}
 use Rattle.steps.specs.declared.view.Role.TheVariants.{Poller}
-use Rattle.steps.specs.Fairness.{Orderly}
-use Rattle.steps.specs.Cells.{setup_of, total, words_of}
-use Rattle.steps.specs.Rule.{AreMade}
+use Rattle.steps.specs.{Orderly, setup_of, total, words_of, AreMade}
 use Rattle.work.specs.Grid.{AreCells}
 use Rattle.work.specs.Passes.{Pass, seen_of}
 

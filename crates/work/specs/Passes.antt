@@ -7,12 +7,8 @@ use Rattle.entry.specs.declared.op.Op.{Op}
 use Rattle.entry.specs.declared.op.Op.TheVariants.{Nop}
 use Rattle.history.specs.declared.req.Req.{Req}
 use Rattle.history.specs.declared.event.Event.{Event}
-use Rattle.history.specs.Chains.{is_timer}
-use Rattle.history.specs.History.{hit, nothing, phase, runs, IsReplied}
-use Rattle.history.specs.Pipes.{flow}
-use Rattle.history.specs.Users.{uses_at}
-use Rattle.answers.specs.Answered.{IsPipe}
-use Rattle.answers.specs.NamedEnds.{UsesBoth}
+use Rattle.history.specs.{is_timer, hit, nothing, phase, runs, IsReplied, flow, uses_at}
+use Rattle.answers.specs.{IsPipe, UsesBoth}
 use Rattle.steps.specs.declared.line.Laid.{Laid}
 use Rattle.steps.specs.declared.line.Laid.TheVariants.{NoRequest}
 use Rattle.steps.specs.declared.line.Line.{Line}
@@ -24,12 +20,7 @@ use Rattle.steps.specs.declared.view.Role.{Role}
 use Rattle.steps.specs.declared.view.Role.TheVariants.{Idle, Busy}
 use Rattle.steps.specs.declared.view.Step.{Step}
 use Rattle.steps.specs.declared.view.View.{View}
-use Rattle.steps.specs.Fairness.{Orderly}
-use Rattle.steps.specs.Journal.{event_of, events_of, goes_out, holder, lays, lying}
-use Rattle.steps.specs.Cells.{setup_of, IsCell, cells_in, request_at, total, claim_at, slot_at, word_of, IsParcel, words_of}
-use Rattle.steps.specs.Plays.{HasAlone, HasBoth}
-use Rattle.steps.specs.Rule.{owns, IsStep}
-use Rattle.steps.specs.Sleepers.{LiesIn}
+use Rattle.steps.specs.{Orderly, event_of, events_of, goes_out, holder, lays, lying, setup_of, IsCell, cells_in, request_at, total, claim_at, slot_at, word_of, IsParcel, words_of, HasAlone, HasBoth, owns, IsStep, LiesIn}
 use Rattle.history.specs.Legal.{Legal, IsOf}
 use Rattle.claim.specs.declared.tag.Tag.TheVariants.{Ready}
 use Rattle.work.specs.declared.lists.Lists.{Lists}

@@ -7,20 +7,15 @@ use Rattle.entry.specs.declared.op.Op.TheVariants.{AsyncCancel, TimeoutRemove}
 use Rattle.entry.specs.Entry.{Entry}
 use Rattle.history.specs.declared.req.Req.{Req}
 use Rattle.history.specs.declared.event.Event.TheVariants.{Take, Miss}
-use Rattle.history.specs.Answers.{Matches, NoneLeft as NoMatchLeft}
-use Rattle.history.specs.Chains.{IsBefore, IsPlaced, is_link_timeout, is_timeout}
+use Rattle.history.specs.{Matches, NoneLeft as NoMatchLeft, IsBefore, IsPlaced, is_link_timeout, is_timeout, hit, nothing, has_missed, phase, submits, IsReplied}
 use Rattle.history.specs.declared.event.Event.{Event}
-use Rattle.history.specs.History.{hit, nothing, has_missed, phase, submits, IsReplied}
 use Rattle.history.specs.Legal.{Legal}
 use Rattle.steps.specs.declared.line.Line.TheVariants.{Did}
 use Rattle.steps.specs.declared.parcel.Thing.{Thing}
 use Rattle.steps.specs.declared.view.Role.TheVariants.{Busy}
 use Rattle.steps.specs.declared.view.Step.{Step}
 use Rattle.steps.specs.declared.view.View.{View}
-use Rattle.steps.specs.Cells.{setup_of, cells_in, claim_at, facts_at, user_at, request_at}
-use Rattle.steps.specs.Fairness.{Orderly}
-use Rattle.steps.specs.Journal.{events_of}
-use Rattle.steps.specs.Rule.{Extends, Fits, Looks}
+use Rattle.steps.specs.{setup_of, cells_in, claim_at, facts_at, user_at, request_at, Orderly, events_of, Extends, Fits, Looks}
 use Rattle.work.specs.Passes.{ArePast}
 use Rattle.work.specs.declared.cancel.Wanted.{Wanted}
 use Rattle.work.specs.declared.cancel.Target.{Target}

@@ -6,10 +6,7 @@ use Rattle.entry.specs.Entry.{Entry}
 use Rattle.history.specs.declared.req.Req.{Req}
 use Rattle.history.specs.declared.event.Event.{Event}
 use Rattle.history.specs.declared.event.Event.TheVariants.{Park, Reply, Take, Miss}
-use Rattle.history.specs.Answers.{AllTried, CancelBy, OpAnswers}
-use Rattle.history.specs.Chains.{IsPlaced}
-use Rattle.history.specs.History.{hit}
-use Rattle.history.specs.Users.{uses_at}
+use Rattle.history.specs.{AllTried, CancelBy, OpAnswers, IsPlaced, hit, uses_at}
 use Rattle.history.specs.Legal.{Legal}
 use Rattle.answers.specs.declared.named.NamedPipes.{NamedPipes}
 use Rattle.answers.specs.declared.named.NamedPipes.TheVariants.{Nothing, One, Both}
@@ -20,10 +17,7 @@ use Rattle.steps.specs.declared.line.Line.TheVariants.{Did, Free}
 use Rattle.steps.specs.declared.view.Role.TheVariants.{Idle, Busy}
 use Rattle.steps.specs.declared.view.Step.{Step}
 use Rattle.steps.specs.declared.view.View.{View}
-use Rattle.steps.specs.Journal.{events_of, goes_out, holder, lays, lying}
-use Rattle.steps.specs.Cells.{cells_in, setup_of, pipe_at}
-use Rattle.steps.specs.Rule.{Begins, IsStep}
-use Rattle.steps.specs.Sleepers.{LiesIn}
+use Rattle.steps.specs.{events_of, goes_out, holder, lays, lying, cells_in, setup_of, pipe_at, Begins, IsStep, LiesIn}
 use Rattle.work.specs.declared.run.Parked.{Parked as Reason}
 use Rattle.work.specs.declared.run.Parked.TheVariants.{NotReady, PipeBusy}
 use Rattle.work.specs.declared.run.Ran.{Ran}
@@ -74,7 +68,7 @@ Told (Ended t) res took = (res ≡ pos 0) × (took ≡ t ∷ [])
 Told Found res took = (res ≡ negsuc 113) × (took ≡ [])
 
 -- the cancel c, of all its matches, took these: each match has replied, or was found running
-pub record DidSweep (v w : View) (c : Req) (took : List Req) : Type 0 where
+pub record DidCancelAll (v w : View) (c : Req) (took : List Req) : Type 0 where
   pub own : List Event
   pub went : WentBy v w c own
   pub hits : AreHits c c.k own
@@ -82,7 +76,7 @@ pub record DidSweep (v w : View) (c : Req) (took : List Req) : Type 0 where
   pub tried : AllTried (events_of w.seen) c (hit (events_of w.seen) c)
 
 -- the cancel c, which asks for u, took these, and may reply so
-pub record DidHunt (v w : View) (c : Req) (u : Wanted) (took : List Req) (res : ℤ) : Type 0 where
+pub record DidCancel (v w : View) (c : Req) (u : Wanted) (took : List Req) (res : ℤ) : Type 0 where
   pub own : List Event
   pub went : WentBy v w c own
   pub hits : AreHits c c.k own

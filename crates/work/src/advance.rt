@@ -2,12 +2,9 @@
 ghost use Rattle.std.specs.Prelude.{◌≡◌, ℕ, ◌+◌, ◌-◌, ◌<◌, false};
 ghost use Rattle.history.specs.declared.req.Req.{Req as Request};
 ghost use Rattle.history.specs.History.{IsReplied, phase};
-ghost use Rattle.steps.specs.Cells.{IsCell, cells_in, request_at};
-ghost use Rattle.steps.specs.Journal.{events_of};
-ghost use Rattle.steps.specs.Rule.{IsSameSeat, Looks};
+ghost use Rattle.steps.specs.{IsCell, cells_in, request_at, events_of, IsSameSeat, Looks};
 ghost use Rattle.work.specs.declared.cancel.Wanted.{Wanted as WantedOf};
-ghost use Rattle.work.specs.Passes.{AreMarked, ArePast, IsGridOf};
-ghost use Rattle.work.specs.Searches.{Cancels, FewerSteps, IsEarlier, IsFirst, StepsIn, WentOn, target_in};
+ghost use Rattle.work.specs.{AreMarked, ArePast, IsGridOf, Cancels, FewerSteps, IsEarlier, IsFirst, StepsIn, WentOn, target_in};
 
 use crate::cancel::{Target, earlier, oldest};
 use crate::grid::Grid;

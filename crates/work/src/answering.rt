@@ -3,21 +3,18 @@ ghost use Rattle.std.specs.Prelude.{◌≡◌, ℕ, ◌<◌, ◌*◌, true, [], 
 ghost use Rattle.entry.specs.Entry.{Entry};
 ghost use Rattle.history.specs.declared.event.Event.{Event};
 ghost use Rattle.history.specs.declared.event.Event.TheVariants.{Park, Reply};
-ghost use Rattle.history.specs.Chains.{IsPlaced};
-ghost use Rattle.history.specs.Users.{uses_at};
+ghost use Rattle.history.specs.{IsPlaced, uses_at};
 ghost use Rattle.answers.specs.declared.named.NamedPipes.TheVariants.{One};
 ghost use Rattle.answers.specs.NamedEnds.{UsesNone, UsesOne};
 ghost use Rattle.steps.specs.declared.line.Line.TheVariants.{Did, Hold};
 ghost use Rattle.steps.specs.declared.view.Role.{Role};
 ghost use Rattle.steps.specs.declared.view.Role.TheVariants.{Idle};
-ghost use Rattle.steps.specs.Cells.{cells_in, pipe_at};
-ghost use Rattle.steps.specs.Rule.{Looks, Extends, IsStep};
-ghost use Rattle.steps.specs.Sleepers.{NoneSleeps};
+ghost use Rattle.steps.specs.{cells_in, pipe_at, Looks, Extends, IsStep, NoneSleeps};
 ghost use Rattle.work.specs.Board.{Facts, IsOf};
 
 use crate::cancel::{Wanted, wanted_of};
+use crate::cancel_matches::cancel_matches;
 use crate::holding::Holding;
-use crate::hunt::hunt;
 use crate::lists::Lists;
 use crate::placed::{fails_placed, op_placed};
 use crate::run::{Parked, Ran};
@@ -26,14 +23,21 @@ use crate::worker::Worker;
 use answers::{NamedPipes, answer_without, pipes_of};
 use entry::{Cqe, Sqe};
 use std::marker::Model;
+use steps::seat::Response;
 use steps::{TableSeat, parcel, pipes, seat};
 
-/// A worker that runs a request, and has looked what that asks for: an entry with its operation and its user_data.
+/// A request that a worker runs, and what that asks for: an entry with its operation and its user_data.
+#[derive(Drop)]
+pub(crate) struct Underway<'a> {
+    pub task: Task<'a>,
+    pub asked: Sqe,
+    pub seat: TableSeat,
+}
+
+/// A worker that runs a request, and has no pipe of the board.
 pub(crate) struct Answering<'a> {
-    pub(crate) task: Task<'a>,
-    pub(crate) asked: Sqe,
-    pub(crate) seat: TableSeat,
-    pub(crate) lists: Box<Lists>,
+    pub run: Underway<'a>,
+    pub lists: Box<Lists>,
 }
 
 impl<'a> Model for Answering<'a> {
@@ -42,15 +46,13 @@ impl<'a> Model for Answering<'a> {
 
     ghost Value = { Running };
 
-    ghost view = { λ b. record { pass = pass_of b.seat; req = b.task.req; took = b.lists.value.took.items; woken = woken_of b.lists.value } };
+    ghost view = { λ b. record { pass = pass_of b.run.seat; req = b.run.task.req; took = b.lists.value.took.items; woken = woken_of b.lists.value } };
 
-    ghost invariant = { λ b. (z : Parcel) × IsBusySeat b.task.words.now.table_id b.task.grid.now b.seat b.task.cell b.task.generation b.task.req (with_asked z b.asked) b.task.pipes b.lists.value };
+    ghost invariant = { λ b. (z : Parcel) × IsBusySeat b.run.task.words.now.table_id b.run.task.grid.now b.run.seat b.run.task.cell b.run.task.generation b.run.task.req (with_asked z b.run.asked) b.run.task.pipes b.lists.value };
 }
 
 impl<'a> Answering<'a> {
-    ghost use Rattle.work.specs.Passes.{Took, seen_of};
-    ghost use Rattle.work.specs.Searches.{FewSteps, wanted_in};
-    ghost use Rattle.work.specs.WorkerRuns.{AreFew, AreHits, EndsBy, HasWoken, StepsAt, StepsBy, IsRun, MissedPipe, WakesAt, taken_in};
+    ghost use Rattle.work.specs.{Took, seen_of, FewSteps, wanted_in, AreFew, AreHits, EndsBy, HasWoken, StepsAt, StepsBy, IsRun, MissedPipe, WakesAt, taken_in};
 
     /// Puts the request back to Ready, after a run that took nothing.
     pub(crate) fn give_up(self) -> Worker
@@ -60,20 +62,11 @@ impl<'a> Answering<'a> {
         ensures steps { Took self.entry.pass.view result.view 1 }
         ensures parked { (result.table ≡ self.entry.pass.table) × Extends self.entry.pass.view (Did (Park self.entry.req)) Idle result.view }
     {
-        let Answering {
-            task,
-            asked: _,
-            mut seat,
-            mut lists,
-        } = self;
-        let Task {
-            words,
-            cell,
-            generation,
-            ..
-        } = task;
+        let Answering { mut run, mut lists } = self;
+        let task = run.task;
         lists.took.clear();
-        seat::park(words, &mut seat, cell, generation);
+        seat::park(task.words, &mut run.seat, task.cell, task.generation);
+        let Underway { seat, .. } = run;
         Worker::after(seat, lists)
     }
 
@@ -87,27 +80,22 @@ impl<'a> Answering<'a> {
         ensures replied { Extends self.entry.pass.view (Did (Reply self.entry.req result.1.res [])) Idle result.0.view }
         ensures user_data { (e : Entry) → IsPlaced (seen_of self.entry.pass) self.entry.req e → result.1.user_data ≡ e.user_data }
     {
-        let Answering {
-            task,
-            asked,
-            mut seat,
-            mut lists,
-        } = self;
-        let Task {
-            words,
-            cell,
-            generation,
-            pipes,
-            ..
-        } = task;
-        let res = answer_without(op_placed(&asked), pipes as u64);
-        let fails = fails_placed(&asked, res);
-        let cqe = Cqe {
-            user_data: asked.user_data(),
+        let Answering { mut run, mut lists } = self;
+        let task = run.task;
+        let res = answer_without(op_placed(&run.asked), task.pipes as u64);
+        let response = Response {
+            cell: task.cell,
+            generation: task.generation,
+            fails: fails_placed(&run.asked, res),
             res,
         };
-        seat::reply(words, &mut seat, cell, generation, fails, res);
+        let cqe = Cqe {
+            user_data: run.asked.user_data(),
+            res,
+        };
+        seat::reply(task.words, &mut run.seat, response);
         lists.clear();
+        let Underway { seat, .. } = run;
         (Worker::after(seat, lists), cqe)
     }
 
@@ -118,27 +106,15 @@ impl<'a> Answering<'a> {
         ensures busy { IfErr result (λ b. (b.req ≡ self.entry.req) × (b.pass.table ≡ self.entry.pass.table) × Looks self.entry.pass.view b.pass.view × MissedPipe self.entry.pass.view b.pass.view pipe self.entry.req) }
         ensures woken { IfErr result (λ b. b.woken ≡ []) }
     {
-        let Answering {
-            task,
-            asked,
-            mut seat,
-            mut lists,
-        } = self;
-        let words = task.words;
+        let Answering { mut run, mut lists } = self;
+        let words = run.task.words;
         lists.rest();
-        if !pipes::hold(words, &mut seat, pipe) {
-            return Err(Answering {
-                task,
-                asked,
-                seat,
-                lists,
-            });
+        if !pipes::hold(words, &mut run.seat, pipe) {
+            return Err(Answering { run, lists });
         }
-        let thing = words.exchange(&mut seat, pipe, None);
+        let thing = words.exchange(&mut run.seat, pipe, None);
         Ok(Holding {
-            task,
-            asked,
-            seat,
+            run,
             lists,
             pipe,
             waited: parcel::pipe_of(thing),
@@ -157,29 +133,23 @@ impl<'a> Answering<'a> {
         ensures user_data { (e : Entry) → IsPlaced (seen_of self.entry.pass) self.entry.req e → result.1.user_data ≡ e.user_data }
         ensures steps { FewSteps self.entry.pass.view result.0.view 4 (5 * cells_in self.entry.pass.view.layout.cells self.entry.req.ring) }
     {
-        let Answering {
-            task,
-            asked,
-            mut seat,
-            mut lists,
-        } = self;
-        let Task {
-            words,
-            grid,
-            cell,
-            generation,
-            req,
-            ..
-        } = task;
+        let Answering { mut run, mut lists } = self;
+        let task = run.task;
         let found = &mut *lists;
         found.clear();
-        let res = hunt(words, &mut seat, grid, req, wanted, found);
-        let fails = fails_placed(&asked, res);
-        let cqe = Cqe {
-            user_data: asked.user_data(),
+        let res = cancel_matches(&task, &mut run.seat, wanted, found);
+        let response = Response {
+            cell: task.cell,
+            generation: task.generation,
+            fails: fails_placed(&run.asked, res),
             res,
         };
-        seat::reply(words, &mut seat, cell, generation, fails, res);
+        let cqe = Cqe {
+            user_data: run.asked.user_data(),
+            res,
+        };
+        seat::reply(task.words, &mut run.seat, response);
+        let Underway { seat, .. } = run;
         (Worker::after(seat, lists), cqe)
     }
 
@@ -193,7 +163,7 @@ impl<'a> Answering<'a> {
         ensures steps { StepsAt 0 (One pipe) self.entry.pass.view result.0.view self.entry.req result.1 }
         ensures ran { IsRun self.entry result.0 result.1 }
     {
-        prove!(pipe < self.task.pipes);
+        prove!(pipe < self.run.task.pipes);
         let holding = match self.hold(pipe) {
             Ok(holding) => holding,
             Err(busy) => return (busy.give_up(), Ran::Parked(Parked::PipeBusy)),
@@ -214,11 +184,11 @@ impl<'a> Answering<'a> {
         ensures steps { (e : Entry) → IsPlaced (seen_of self.entry.pass) self.entry.req e → StepsBy 0 (wanted_in e.op) self.entry result.0.view e result.1 }
         ensures ran { IsRun self.entry result.0 result.1 }
     {
-        if let Some(wanted) = wanted_of(self.asked.op()) {
+        if let Some(wanted) = wanted_of(self.run.asked.op()) {
             let (worker, cqe) = self.cancel(wanted);
             return (worker, Ran::Replied { cqe });
         }
-        match pipes_of(self.asked.op(), self.task.pipes as u64) {
+        match pipes_of(self.run.asked.op(), self.run.task.pipes as u64) {
             NamedPipes::Nothing => {
                 let (worker, cqe) = self.answer();
                 (worker, Ran::Replied { cqe })

@@ -6,12 +6,10 @@ ghost use Rattle.history.specs.Chains.{IsPlaced};
 ghost use Rattle.steps.specs.declared.line.Line.TheVariants.{Did};
 ghost use Rattle.steps.specs.declared.view.Role.{Role};
 ghost use Rattle.steps.specs.declared.view.Role.TheVariants.{Idle};
-ghost use Rattle.steps.specs.Cells.{cells_in};
-ghost use Rattle.steps.specs.Rule.{Looks, Extends};
-ghost use Rattle.steps.specs.Sleepers.{NoneSleeps};
+ghost use Rattle.steps.specs.{cells_in, Looks, Extends, NoneSleeps};
 ghost use Rattle.work.specs.Board.{Facts, IsOf};
 
-use crate::answering::Answering;
+use crate::answering::{Answering, Underway};
 use crate::lists::Lists;
 use crate::run::Ran;
 use crate::task::{Task, asked_of};
@@ -38,9 +36,7 @@ impl<'a> Model for Busy<'a> {
 }
 
 impl<'a> Busy<'a> {
-    ghost use Rattle.work.specs.Passes.{Took, notes_read, seen_of};
-    ghost use Rattle.work.specs.Searches.{ReadNotes};
-    ghost use Rattle.work.specs.WorkerRuns.{HasStepped, HasWoken, IsRun};
+    ghost use Rattle.work.specs.{Took, notes_read, seen_of, ReadNotes, HasStepped, HasWoken, IsRun};
 
     /// Puts the request back to Ready. The lists of what its last run took, and took along, stay.
     pub fn park(self) -> Worker
@@ -79,12 +75,8 @@ impl<'a> Busy<'a> {
             lists,
         } = self;
         let asked = asked_of(task.words, &mut seat, task.cell);
-        Answering {
-            task,
-            asked,
-            seat,
-            lists,
-        }
+        let run = Underway { task, asked, seat };
+        Answering { run, lists }
     }
 
     /// Answers the request. Where there is no answer now, or another worker has a pipe of it, it puts the request back to

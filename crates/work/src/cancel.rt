@@ -3,19 +3,14 @@ ghost use Rattle.std.specs.Prelude.{◌≡◌, ◌≢◌, ◌⊎◌, ℕ, ◌<�
 ghost use Rattle.claim.specs.declared.tag.Tag.TheVariants.{Held, Ready, Running};
 ghost use Rattle.entry.specs.declared.op.Op.{Op as OpOf};
 ghost use Rattle.history.specs.declared.req.Req.{Req as Request};
-ghost use Rattle.history.specs.Answers.{Matches};
-ghost use Rattle.history.specs.History.{IsReplied, hit, nothing, phase, unborn};
-ghost use Rattle.steps.specs.Cells.{IsCell, cells_in, request_at, word_of};
-ghost use Rattle.steps.specs.Journal.{events_of};
-ghost use Rattle.steps.specs.Notes.{row_number};
+ghost use Rattle.history.specs.{Matches, IsReplied, hit, nothing, phase, unborn};
+ghost use Rattle.steps.specs.{IsCell, cells_in, request_at, word_of, events_of, row_number, IsIdleWord, IsSameSeat, Looks, Shown};
 ghost use Rattle.steps.specs.declared.line.Line.{Line};
-ghost use Rattle.steps.specs.Plays.{IsIdleWord};
-ghost use Rattle.steps.specs.Rule.{IsSameSeat, Looks, Shown};
 ghost use Rattle.work.specs.declared.cancel.Wanted.{Wanted as WantedOf};
-ghost use Rattle.work.specs.Passes.{IsGridOf};
-ghost use Rattle.work.specs.Searches.{Cancels, DidSearch, DidTake, DidTry, FewSteps, IsEarlier, IsFirst, IsMeant, MayAim, StepsIn, is_kind, target_in, wanted_in};
+ghost use Rattle.work.specs.{IsGridOf, Cancels, DidSearch, DidTake, DidTry, FewSteps, IsEarlier, IsFirst, IsMeant, MayAim, StepsIn, is_kind, target_in, wanted_in};
 
 use crate::grid::Grid;
+use crate::task::Task;
 use claim::unpack_facts;
 use entry::{Op, by_opcode};
 use history::Req;
@@ -190,25 +185,19 @@ pub(crate) fn earlier(grid: &Grid, req: Req, k: u64) -> Target
 }
 
 /// Goes over the earlier requests of the ring from this one on, in their order, until one of them was ended or found running.
-pub(crate) fn search(
-    words: &Words,
-    seat: &mut TableSeat,
-    grid: &Grid,
-    req: Req,
-    first: u64,
-    wanted: Wanted,
-) -> Searched
-    requires cancels { Cancels words.now.table_id seat.old req wanted × (wanted.all ≡ false) × (hit (events_of seat.old.me.0.seen) req ≡ nothing) }
-    requires grid { IsGridOf words.now.table_id grid.now seat.old.me.0 }
-    requires cell { (x : ℕ) × (g : ℕ) × (g < 16777216) × IsCell grid.now x × (request_at grid.now x g ≡ req) }
-    requires first { IsFirst grid.now seat.old.me.0 req first }
+pub(crate) fn search(task: &Task<'_>, seat: &mut TableSeat, first: u64, wanted: Wanted) -> Searched
+    requires cancels { Cancels task.now.words.now.table_id seat.old task.now.req wanted × (wanted.all ≡ false) × (hit (events_of seat.old.me.0.seen) task.now.req ≡ nothing) }
+    requires grid { IsGridOf task.now.words.now.table_id task.now.grid.now seat.old.me.0 }
+    requires cell { (x : ℕ) × (g : ℕ) × (g < 16777216) × IsCell task.now.grid.now x × (request_at task.now.grid.now x g ≡ task.now.req) }
+    requires first { IsFirst task.now.grid.now seat.old.me.0 task.now.req first }
     ensures seat { IsSameSeat seat.old seat.new × (seat.new.me.1 ≡ seat.old.me.1) }
-    ensures searched { DidSearch seat.old.me.0 seat.new.me.0 req result }
-    ensures steps { FewSteps seat.old.me.0 seat.new.me.0 3 (5 * (req.k - first)) }
+    ensures searched { DidSearch seat.old.me.0 seat.new.me.0 task.now.req result }
+    ensures steps { FewSteps seat.old.me.0 seat.new.me.0 3 (5 * (task.now.req.k - first)) }
 {
+    let req = task.req;
     for k in first..req.k {
-        let target = earlier(grid, req, k);
-        match try_one(words, seat, target, wanted) {
+        let target = earlier(task.grid, req, k);
+        match try_one(task.words, seat, target, wanted) {
             Tried::Passed => {}
             Tried::Took => return Searched::Ended(Req { ring: req.ring, k }),
             Tried::Missed => return Searched::Found,

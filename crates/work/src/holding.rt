@@ -9,25 +9,23 @@ ghost use Rattle.steps.specs.declared.line.Line.TheVariants.{Did, Free};
 ghost use Rattle.steps.specs.declared.view.Role.{Role};
 ghost use Rattle.steps.specs.declared.view.Role.TheVariants.{Leaving};
 ghost use Rattle.steps.specs.declared.view.View.{View};
-ghost use Rattle.steps.specs.Cells.{claim_at, pipe_at};
-ghost use Rattle.steps.specs.Rule.{Extends, IsStep, IsTwoSteps, leaves};
+ghost use Rattle.steps.specs.{claim_at, pipe_at, Extends, IsStep, IsTwoSteps, leaves};
 
-use crate::answering::Answering;
+use crate::answering::{Answering, Underway};
 use crate::lists::{Lists, settle};
-use crate::task::{Task, answer_in};
+use crate::task::{Task, answer_in, put_back};
 use crate::worker::Worker;
-use entry::{Cqe, Sqe, fails};
+use entry::{Cqe, fails};
 use std::marker::Model;
-use steps::{TableSeat, Thing, WaitedPipe, pipes};
+use steps::seat::Response;
+use steps::{Thing, WaitedPipe, pipes};
 
 /// A worker that runs a request, and has taken a pipe that its entry is answered from.
 pub(crate) struct Holding<'a> {
-    pub(crate) task: Task<'a>,
-    pub(crate) asked: Sqe,
-    pub(crate) seat: TableSeat,
-    pub(crate) lists: Box<Lists>,
-    pub(crate) pipe: usize,
-    pub(crate) waited: WaitedPipe,
+    pub run: Underway<'a>,
+    pub lists: Box<Lists>,
+    pub pipe: usize,
+    pub waited: WaitedPipe,
 }
 
 impl<'a> Model for Holding<'a> {
@@ -36,14 +34,13 @@ impl<'a> Model for Holding<'a> {
 
     ghost Value = { Held };
 
-    ghost view = { λ h. record { pass = pass_of h.seat; req = h.task.req; pipe = h.pipe } };
+    ghost view = { λ h. record { pass = pass_of h.run.seat; req = h.run.task.req; pipe = h.pipe } };
 
-    ghost invariant = { λ h. (z : Parcel) × IsHoldingSeat h.task.words.now.table_id h.task.grid.now h.seat h.task.cell h.task.generation h.task.req (with_asked z h.asked) h.task.pipes h.pipe h.waited h.lists.value };
+    ghost invariant = { λ h. (z : Parcel) × IsHoldingSeat h.run.task.words.now.table_id h.run.task.grid.now h.run.seat h.run.task.cell h.run.task.generation h.run.task.req (with_asked z h.run.asked) h.run.task.pipes h.pipe h.waited h.lists.value };
 }
 
 impl<'a> Holding<'a> {
-    ghost use Rattle.work.specs.Passes.{seen_of};
-    ghost use Rattle.work.specs.WorkerRuns.{LaidDown, TookAlong, Unanswered};
+    ghost use Rattle.work.specs.{seen_of, LaidDown, TookAlong, Unanswered};
 
     /// Answers the request by its pipe, and gives the pipe back, from which it takes along all that lie there; or gives it back as it
     /// was and lays the request down there, where there is no answer now.
@@ -58,9 +55,7 @@ impl<'a> Holding<'a> {
         ensures unanswered { IfErr result (λ b. (e : Entry) → IsPlaced (seen_of self.entry.pass) self.entry.req e → Unanswered self.entry.pass.view self.entry.req e) }
     {
         let Holding {
-            task,
-            asked,
-            mut seat,
+            mut run,
             mut lists,
             pipe,
             mut waited,
@@ -71,32 +66,32 @@ impl<'a> Holding<'a> {
             generation,
             req,
             ..
-        } = task;
+        } = run.task;
         let found = &mut *lists;
-        seat.turn();
-        let answer = answer_in(words, &mut seat, cell, asked.op(), &mut waited.pipe);
-        seat.turn();
+        let op = run.asked.op();
+        run.seat.turn();
+        let answer = answer_in(words, &mut run.seat, cell, op, &mut waited.pipe);
+        run.seat.turn();
         let laid = settle(&mut waited.lying, &mut found.woken, req, answer.is_some());
-        let None = words.exchange(&mut seat, pipe, Some(Thing::Piped(waited))) else {
-            unreachable!()
-        };
+        put_back(words, &mut run.seat, pipe, Thing::Piped(waited));
         let Some(res) = answer else {
-            pipes::free(words, &mut seat, pipe, laid);
-            return Err(Answering {
-                task,
-                asked,
-                seat,
-                lists,
-            });
+            pipes::free(words, &mut run.seat, pipe, laid);
+            return Err(Answering { run, lists });
         };
-        seat.turn();
-        let fails = fails(&asked, res);
-        let cqe = Cqe {
-            user_data: asked.user_data(),
+        run.seat.turn();
+        let response = Response {
+            cell,
+            generation,
+            fails: fails(&run.asked, res),
             res,
         };
-        pipes::reply(words, &mut seat, cell, generation, fails, res, pipe);
+        let cqe = Cqe {
+            user_data: run.asked.user_data(),
+            res,
+        };
+        pipes::reply(words, &mut run.seat, response, pipe);
         found.took.clear();
+        let Underway { seat, .. } = run;
         Ok((Worker::after(seat, lists), cqe))
     }
 }

@@ -12,33 +12,29 @@ ghost use Rattle.steps.specs.declared.line.Line.TheVariants.{Did, Hold, Free};
 ghost use Rattle.steps.specs.declared.view.Role.{Role};
 ghost use Rattle.steps.specs.declared.view.Role.TheVariants.{Leaving};
 ghost use Rattle.steps.specs.declared.view.View.{View};
-ghost use Rattle.steps.specs.Cells.{pipe_at};
-ghost use Rattle.steps.specs.Journal.{lying};
-ghost use Rattle.steps.specs.Rule.{Looks, Extends, IsStep, IsThreeSteps, leaves, leaves_one};
-ghost use Rattle.steps.specs.Plays.{HasBoth};
+ghost use Rattle.steps.specs.{pipe_at, lying, Looks, Extends, IsStep, IsThreeSteps, leaves, leaves_one, HasBoth};
 ghost use Rattle.work.specs.Board.{Facts, IsOf};
 
-use crate::answering::Answering;
+use crate::answering::{Answering, Underway};
 use crate::holding::Holding;
 use crate::lists::{Lists, settle_once};
 use crate::run::{Parked, Ran};
-use crate::task::Task;
+use crate::task::put_back;
 use crate::worker::Worker;
 use answers::answer_both;
-use entry::{Cqe, Sqe, fails};
+use entry::{Cqe, fails};
 use std::marker::Model;
-use steps::{Laid, TableSeat, Thing, WaitedPipe, parcel, pipes};
+use steps::seat::Response;
+use steps::{Laid, Thing, WaitedPipe, parcel, pipes};
 
 /// A worker that runs a SPLICE, and has taken both pipes that its entry joins.
 pub(crate) struct Joining<'a> {
-    pub(crate) task: Task<'a>,
-    pub(crate) asked: Sqe,
-    pub(crate) seat: TableSeat,
-    pub(crate) lists: Box<Lists>,
-    pub(crate) source: usize,
-    pub(crate) target: usize,
-    pub(crate) from: WaitedPipe,
-    pub(crate) into: WaitedPipe,
+    pub run: Underway<'a>,
+    pub lists: Box<Lists>,
+    pub source: usize,
+    pub target: usize,
+    pub from: WaitedPipe,
+    pub into: WaitedPipe,
 }
 
 impl<'a> Model for Joining<'a> {
@@ -47,14 +43,13 @@ impl<'a> Model for Joining<'a> {
 
     ghost Value = { Joined };
 
-    ghost view = { λ k. record { pass = pass_of k.seat; req = k.task.req; source = k.source; target = k.target } };
+    ghost view = { λ k. record { pass = pass_of k.run.seat; req = k.run.task.req; source = k.source; target = k.target } };
 
-    ghost invariant = { λ k. (z : Parcel) × IsJoiningSeat k.task.words.now.table_id k.task.grid.now k.seat k.task.cell k.task.generation k.task.req (with_asked z k.asked) k.task.pipes k.source k.target k.from k.into k.lists.value };
+    ghost invariant = { λ k. (z : Parcel) × IsJoiningSeat k.run.task.words.now.table_id k.run.task.grid.now k.run.seat k.run.task.cell k.run.task.generation k.run.task.req (with_asked z k.run.asked) k.run.task.pipes k.source k.target k.from k.into k.lists.value };
 }
 
 impl<'a> Holding<'a> {
-    ghost use Rattle.work.specs.Passes.{seen_of};
-    ghost use Rattle.work.specs.WorkerRuns.{MissedPipe};
+    ghost use Rattle.work.specs.{seen_of, MissedPipe};
 
     /// Takes the target of a SPLICE, whose source it has; or gives the source back, where another worker has the target.
     fn hold(self, target: usize) -> Result<Joining<'a>, Answering<'a>>
@@ -64,31 +59,20 @@ impl<'a> Holding<'a> {
         ensures woken { IfErr result (λ b. b.woken ≡ []) }
     {
         let Holding {
-            task,
-            asked,
-            mut seat,
-            mut lists,
+            mut run,
+            lists,
             pipe,
             waited,
         } = self;
-        let words = task.words;
-        if !pipes::hold_second(words, &mut seat, target) {
-            let None = words.exchange(&mut seat, pipe, Some(Thing::Piped(waited))) else {
-                unreachable!()
-            };
-            pipes::free(words, &mut seat, pipe, Laid::NoRequest);
-            return Err(Answering {
-                task,
-                asked,
-                seat,
-                lists,
-            });
+        let words = run.task.words;
+        if !pipes::hold_second(words, &mut run.seat, target) {
+            put_back(words, &mut run.seat, pipe, Thing::Piped(waited));
+            pipes::free(words, &mut run.seat, pipe, Laid::NoRequest);
+            return Err(Answering { run, lists });
         }
-        let thing = words.exchange(&mut seat, target, None);
+        let thing = words.exchange(&mut run.seat, target, None);
         Ok(Joining {
-            task,
-            asked,
-            seat,
+            run,
             lists,
             source: pipe,
             target,
@@ -99,8 +83,7 @@ impl<'a> Holding<'a> {
 }
 
 impl<'a> Joining<'a> {
-    ghost use Rattle.work.specs.Passes.{IsLaidOnce, seen_of};
-    ghost use Rattle.work.specs.WorkerRuns.{LaidAtBoth, TookAlong, Unanswered};
+    ghost use Rattle.work.specs.{IsLaidOnce, seen_of, LaidAtBoth, TookAlong, Unanswered};
 
     /// Answers the request by its pipes, and gives them back, from which it takes along all that lie there; or gives them back as
     /// they were and lays the request down at each where it does not lie already, where there is no answer now.
@@ -115,64 +98,49 @@ impl<'a> Joining<'a> {
         ensures unanswered { IfErr result (λ b. (e : Entry) → IsPlaced (seen_of self.entry.pass) self.entry.req e → Unanswered self.entry.pass.view self.entry.req e) }
     {
         let Joining {
-            task,
-            asked,
-            mut seat,
+            mut run,
             mut lists,
             source,
             target,
             mut from,
             mut into,
         } = self;
-        let Task {
-            words,
-            cell,
-            generation,
-            req,
-            ..
-        } = task;
+        let task = run.task;
+        let words = task.words;
         let found = &mut *lists;
-        let answer = answer_both(asked.op(), &mut from.pipe, &mut into.pipe);
+        let answer = answer_both(run.asked.op(), &mut from.pipe, &mut into.pipe);
         let answered = answer.is_some();
-        let under = settle_once(&mut from.lying, &mut found.source, req, answered);
-        let laid = settle_once(&mut into.lying, &mut found.woken, req, answered);
-        let None = words.exchange(&mut seat, target, Some(Thing::Piped(into))) else {
-            unreachable!()
-        };
+        let under = settle_once(&mut from.lying, &mut found.source, task.req, answered);
+        let laid = settle_once(&mut into.lying, &mut found.woken, task.req, answered);
+        put_back(words, &mut run.seat, target, Thing::Piped(into));
         let Some(res) = answer else {
-            pipes::free_one(words, &mut seat, target, laid);
-            let None = words.exchange(&mut seat, source, Some(Thing::Piped(from))) else {
-                unreachable!()
-            };
-            pipes::free(words, &mut seat, source, under);
-            return Err(Answering {
-                task,
-                asked,
-                seat,
-                lists,
-            });
+            pipes::free_one(words, &mut run.seat, target, laid);
+            put_back(words, &mut run.seat, source, Thing::Piped(from));
+            pipes::free(words, &mut run.seat, source, under);
+            return Err(Answering { run, lists });
         };
-        seat.turn();
-        let None = words.exchange(&mut seat, source, Some(Thing::Piped(from))) else {
-            unreachable!()
-        };
-        seat.turn();
-        let fails = fails(&asked, res);
-        let cqe = Cqe {
-            user_data: asked.user_data(),
+        run.seat.turn();
+        put_back(words, &mut run.seat, source, Thing::Piped(from));
+        run.seat.turn();
+        let response = Response {
+            cell: task.cell,
+            generation: task.generation,
+            fails: fails(&run.asked, res),
             res,
         };
-        pipes::reply_both(
-            words, &mut seat, cell, generation, fails, res, target, source,
-        );
+        let cqe = Cqe {
+            user_data: run.asked.user_data(),
+            res,
+        };
+        pipes::reply_both(words, &mut run.seat, response, target, source);
         found.took.clear();
+        let Underway { seat, .. } = run;
         Ok((Worker::after(seat, lists), cqe))
     }
 }
 
 impl<'a> Answering<'a> {
-    ghost use Rattle.work.specs.Passes.{seen_of};
-    ghost use Rattle.work.specs.WorkerRuns.{StepsAt, IsRun, WakesAt};
+    ghost use Rattle.work.specs.{seen_of, StepsAt, IsRun, WakesAt};
 
     /// Answers the request, which is answered from two pipes of the board, or puts it back to Ready.
     pub(crate) fn run_between(self, source: usize, target: usize) -> (Worker, Ran)
@@ -184,7 +152,7 @@ impl<'a> Answering<'a> {
         ensures steps { StepsAt 0 (Both source target) self.entry.pass.view result.0.view self.entry.req result.1 }
         ensures ran { IsRun self.entry result.0 result.1 }
     {
-        prove!(source < self.task.pipes);
+        prove!(source < self.run.task.pipes);
         let holding = match self.hold(source) {
             Ok(holding) => holding,
             Err(busy) => return (busy.give_up(), Ran::Parked(Parked::PipeBusy)),

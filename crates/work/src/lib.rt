@@ -5,16 +5,16 @@ mod advance;
 mod answering;
 pub mod busy;
 mod cancel;
+mod cancel_all;
+mod cancel_matches;
 pub mod grid;
 mod holding;
-mod hunt;
 mod joining;
 pub mod lists;
 mod marks;
 pub mod pass;
 mod placed;
 pub mod run;
-mod sweep;
 mod task;
 pub mod worker;
 

@@ -1,7 +1,6 @@
 //! What a worker lists of its last run.
 ghost use Rattle.std.specs.Prelude.{◌≡◌, ◌↔◌, ℕ, ◌<◌, ◌≤◌, suc, true, false, [], IfOk, List, vec_capacity};
-ghost use Rattle.steps.specs.Cells.{cells_in, total};
-ghost use Rattle.steps.specs.Sleepers.{LiesIn};
+ghost use Rattle.steps.specs.{cells_in, total, LiesIn};
 ghost use Rattle.work.specs.Passes.{HasRooms, IsLaidOnce, Settled, woken_of};
 
 use crate::marks::Marks;

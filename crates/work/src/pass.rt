@@ -1,8 +1,7 @@
 //! What every pass can do: it looks, tells what it has seen, and hears what another one has seen.
 ghost use Rattle.std.specs.Prelude.{◌≡◌, []};
 ghost use Rattle.work.specs.Passes.{Pass as Knowledge, CanReach};
-ghost use Rattle.steps.specs.Cells.{claim_at};
-ghost use Rattle.steps.specs.Rule.{Looks, Shown, IsStep, messenger, hearing};
+ghost use Rattle.steps.specs.{claim_at, Looks, Shown, IsStep, messenger, hearing};
 
 use std::marker::Model;
 use steps::{TableSeat, Words};

@@ -1,5 +1,5 @@
 //! The request that a worker runs.
-ghost use Rattle.std.specs.Prelude.{◌≡◌, ℕ, ◌<◌, ◌∷◌, Some, length};
+ghost use Rattle.std.specs.Prelude.{◌≡◌, ℕ, ◌<◌, ◌∷◌, Some, None, length};
 ghost use Rattle.atomic_table.specs.Table.{rest};
 ghost use Rattle.answers.specs.Answered.{Answered};
 ghost use Rattle.answers.specs.NamedEnds.{UsesSome};
@@ -7,10 +7,8 @@ ghost use Rattle.history.specs.declared.req.Req.{Req as Request};
 ghost use Rattle.history.specs.Legal.{FitsOp};
 ghost use Rattle.steps.specs.declared.parcel.Parcel.{Parcel};
 ghost use Rattle.steps.specs.declared.parcel.Thing.TheVariants.{Full};
-ghost use Rattle.steps.specs.Cells.{slot_at};
-ghost use Rattle.steps.specs.Rule.{IsSameSeat, Looks};
-ghost use Rattle.work.specs.Passes.{IsUnderway, RunsIt, notes_read};
-ghost use Rattle.work.specs.Searches.{ReadNotes};
+ghost use Rattle.steps.specs.{slot_at, IsSameSeat, Looks};
+ghost use Rattle.work.specs.{IsUnderway, RunsIt, notes_read, ReadNotes};
 
 use crate::grid::Grid;
 use answers::answer_with;
@@ -33,6 +31,19 @@ pub(crate) struct Task<'a> {
     pub(crate) generation: u32,
     pub(crate) req: Req,
     pub(crate) pipes: usize,
+}
+
+/// Puts a thing into the slot that the seat took last, and that is empty.
+#[inline(always)]
+pub(crate) fn put_back(words: &Words, seat: &mut TableSeat, slot: usize, thing: Thing)
+    requires table { seat.old.table_id ≡ words.now.table_id }
+    requires empty { seat.old.me.1 ≡ (slot, None) ∷ rest seat.old.me.1 }
+    ensures seat { IsSameSeat seat.old seat.new }
+    ensures put { seat.new.me ≡ (seat.old.me.0, (slot, Some thing) ∷ rest seat.old.me.1) }
+{
+    let None = words.exchange(seat, slot, Some(thing)) else {
+        unreachable!()
+    };
 }
 
 /// The entry of the parcel in the slot that the seat took last.
@@ -84,8 +95,6 @@ pub(crate) fn answer_in(
     let slot = slot(cell);
     let mut parcel = parcel_of(words.exchange(seat, slot, None));
     let answer = answer_with(op, pipe, parcel.buffer.as_mut_slice());
-    let None = words.exchange(seat, slot, Some(Thing::Full(parcel))) else {
-        unreachable!()
-    };
+    put_back(words, seat, slot, Thing::Full(parcel));
     answer
 }

@@ -2,8 +2,7 @@
 ghost use Rattle.std.specs.Prelude.{◌≡◌, ◌≤◌, ◌⊎◌, ◌++◌, ◌*◌, length, IfOk, IfErr};
 ghost use Rattle.history.specs.declared.event.Event.TheVariants.{Begin};
 ghost use Rattle.steps.specs.declared.line.Line.TheVariants.{Did};
-ghost use Rattle.steps.specs.Cells.{total};
-ghost use Rattle.steps.specs.Rule.{Looks, Extends};
+ghost use Rattle.steps.specs.{total, Looks, Extends};
 ghost use Rattle.steps.specs.declared.view.Role.{Role};
 ghost use Rattle.work.specs.Board.{Facts, IsOf};
 

@@ -1,5 +1,4 @@
-use Rattle.gates.specs.EntryRows.{Stands}
-use Rattle.gates.specs.Shows.{nth}
+use Rattle.gates.specs.{Stands, nth}
 use Rattle.board.specs.declared.gating.Round.{Round}
 use Rattle.board.specs.declared.looks.Outcome.TheVariants.{Pending}
 use Rattle.board.proofs.Common.{Advances, Bool, Found, FoundPending, Gated, Gating, HaveGoneOn, IsBlocked, IsChainBefore, IsLink, IsNextLook, IsReplied, IsUnended, Kept, List, None, Option, Park, Req, Slot, Some, TellsOutcome, Waits, Watched, Watches, ap, events_of, false, inl, inr, linked_in, named_in, pass_of, phase, refl, subst, suc, sym, true, ℕ, ⊎_elim, ◌<◌, ◌∙◌, ◌∷◌, ◌≡◌}

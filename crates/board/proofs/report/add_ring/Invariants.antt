@@ -4,4 +4,4 @@ use Rattle.board.proofs.report.add_ring.Given as goal
 
 -- the report goes up to the ring's k-th request
 abbrev pub invariant-loop-k : goal.invariant-loop-k
-invariant-loop-k l = (s : Setup) (j : List Line) → Reports s l.grid j l.fn.remains.claims.items l.fn.remains.slots.items l.fn.lines.items (vec_capacity l.fn.lines) (record { ring = l.ring; k = 0 }) → Reports s l.grid j l.remains.claims.items l.remains.slots.items l.lines.items (vec_capacity l.lines) (record { ring = l.ring; k = l.k })
+invariant-loop-k l = (s : Setup) (j : List Line) → Reports s l.grid j l.fn.last_cells.claims.items l.fn.last_cells.slots.items l.fn.lines.items (vec_capacity l.fn.lines) (record { ring = l.ring; k = 0 }) → Reports s l.grid j l.last_cells.claims.items l.last_cells.slots.items l.lines.items (vec_capacity l.lines) (record { ring = l.ring; k = l.k })

@@ -11,4 +11,4 @@ loop-ring-preserved c = λ s j so. c.add_ring.ensures s j (c.loop-ring.invariant
 pub returns : goal.returns
 returns c = λ s j so.
     (let a = c.loop-ring-test.false in let b = c.loop-ring.auto.ring-end in let l = c.rings-ring-end.ensures in let e : c.loop-ring.ring ≡ length c.args.grid.now = omega arith in
-    subst (λ (z : ℕ). Reports s c.args.grid.now j c.loop-ring.remains.claims.items c.loop-ring.remains.slots.items c.loop-ring.lines.items (vec_capacity c.loop-ring.lines) (record { ring = z; k = 0 })) e (c.loop-ring.invariant s j so))
+    subst (λ (z : ℕ). Reports s c.args.grid.now j c.loop-ring.last_cells.claims.items c.loop-ring.last_cells.slots.items c.loop-ring.lines.items (vec_capacity c.loop-ring.lines) (record { ring = z; k = 0 })) e (c.loop-ring.invariant s j so))

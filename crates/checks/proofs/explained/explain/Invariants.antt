@@ -1,7 +1,6 @@
 use Rattle.std.specs.List.{AllByRecursion}
-use Rattle.explore.specs.EventLogs.{IsHistoryOf}
+use Rattle.explore.specs.{IsHistoryOf, HasStates}
 use Rattle.explore.specs.Noted.{Noted}
-use Rattle.explore.specs.Search.{HasStates}
 use Rattle.pictures.specs.Shown.{explained_of}
 use Rattle.checks.proofs.Common.{drop, map, rows_of, ◌++◌, ◌≡◌}
 use Rattle.checks.proofs.explained.explain.Given as goal

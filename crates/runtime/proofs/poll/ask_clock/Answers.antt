@@ -1,6 +1,6 @@
 use Rattle.runtime.proofs.Common.{GoesOn, IsPollers, Pass, Tick, [], ap, arith, freed, refl, subst, sym, true≢false, ◌∙◌, ◌∷◌}
 use Rattle.runtime.proofs.ClockLaws.{clock_kept, goes_along, heard, stops_along}
-use Rattle.runtime.proofs.TurnLaws.{goes_on, goes_on_then}
+use Rattle.board.proofs.EventsTogether.{goes_on, goes_on_then}
 use Rattle.runtime.proofs.poll.ask_clock.Goals as goal
 
 pub phase_of-phase-requires-clause-role : goal.phase_of-phase-requires-clause-role

@@ -20,9 +20,9 @@ look_after-requires-clause-may g c = record { own = search rules; room = search 
 
 pub returns-in_err-look_after-clause-turned : goal.returns-in_err-look_after-clause-turned
 returns-in_err-look_after-clause-turned g c =
-    let own : IsOfQueue c.args.queue.now c.desk.inside.hands.ready = subst (λ (d : Desk). IsOfQueue c.args.queue.now d.ready) (sym c.desk.view_is) c.requires.ready in
+    let own : IsOfQueue c.args.route.queue.now c.desk.inside.hands.ready = subst (λ (d : Desk). IsOfQueue c.args.route.queue.now d.ready) (sym c.desk.view_is) c.requires.ready in
     let l = c.look_after.new.lists in
-    subst (λ (d : Desk). IsPollTurn c.args.board.now c.args.queue.now d (record { poller = c.look_after.new.hands.poller; sleeper = c.collect.new.sleeper; ready = c.look_after.new.hands.ready; kept = c.look_after.new.hands.kept.numbers; places = c.desk.inside.places; rings = length l.rings.items; intakes = l.rings.items; waiting = l.waiting.items; watched = l.watchers.items; deadlines = l.timers }) c.look_after.new.outbox) c.desk.view_is
+    subst (λ (d : Desk). IsPollTurn c.args.route.board.now c.args.route.queue.now d (record { poller = c.look_after.new.hands.poller; sleeper = c.collect.new.sleeper; ready = c.look_after.new.hands.ready; kept = c.look_after.new.hands.kept.numbers; places = c.desk.inside.places; rings = length l.rings.items; intakes = l.rings.items; waiting = l.waiting.items; watched = l.watchers.items; deadlines = l.timers }) c.look_after.new.outbox) c.desk.view_is
     (turned _ _ _ _ _ c.desk.inside.sleeper _ _ _ _ _ _ _ _ _ _ _ _ c.args.outbox.now _ own c.ask_clock.ensures.ticked c.look_after.ensures.did c.requires.outbox.0 c.look_after.ensures.rings)
 
 pub returns-in_err-look_after-clause-follows : goal.returns-in_err-look_after-clause-follows
@@ -33,13 +33,13 @@ returns-in_err-look_after-clause-follows g c role f =
 
 pub returns-clause-turned : goal.returns-clause-turned
 returns-clause-turned g c =
-    let own : IsOfQueue c.args.queue.now c.desk.inside.hands.ready = subst (λ (d : Desk). IsOfQueue c.args.queue.now d.ready) (sym c.desk.view_is) c.requires.ready in
+    let own : IsOfQueue c.args.route.queue.now c.desk.inside.hands.ready = subst (λ (d : Desk). IsOfQueue c.args.route.queue.now d.ready) (sym c.desk.view_is) c.requires.ready in
     let w = c.came_to-turn in let h = c.look_after.new.hands in let k = w.new.hands in let l = w.new.lists in
     let went = w.ensures.went_on no_answers in
     let d : Desk = record { poller = k.poller; sleeper = c.collect.new.sleeper; ready = k.ready; kept = k.kept.numbers; places = c.desk.inside.places; rings = length l.rings.items; intakes = l.rings.items; waiting = l.waiting.items; watched = l.watchers.items; deadlines = l.timers } in
-    let first = did_then _ _ _ _ _ _ c.look_after.new.outbox _ c.look_after.ensures.did (did_retry c.args.board.now c.args.queue.now h c.retry_rest.new.self c.look_after.new.outbox c.look_after.ensures.did.goes.kept c.retry_rest.ensures.handed c.retry_rest.ensures.same.0 c.retry_rest.ensures.same.1 c.retry_rest.ensures.quiet) in
+    let first = did_then _ _ _ _ _ _ c.look_after.new.outbox _ c.look_after.ensures.did (did_retry c.args.route.board.now c.args.route.queue.now h c.retry_rest.new.self c.look_after.new.outbox c.look_after.ensures.did.goes.kept c.retry_rest.ensures.handed c.retry_rest.ensures.same.0 c.retry_rest.ensures.same.1 c.retry_rest.ensures.quiet) in
     let all = did_then _ _ _ _ _ _ c.look_after.new.outbox _ first (did_ring _ _ _ _ _ _ (w.ensures.went_on c.look_after.new.outbox)) in
-    subst (λ (e : Desk). IsPollTurn c.args.board.now c.args.queue.now e d c.look_after.new.outbox) c.desk.view_is
+    subst (λ (e : Desk). IsPollTurn c.args.route.board.now c.args.route.queue.now e d c.look_after.new.outbox) c.desk.view_is
     (turned _ _ _ _ _ c.desk.inside.sleeper _ _ _ _ _ _ _ _ _ _ _ _ c.args.outbox.now _ own c.ask_clock.ensures.ticked all c.requires.outbox.0 (ap (λ v. length v.items) w.ensures.same.0 ∙ c.look_after.ensures.rings))
 
 pub returns-clause-taken_up : goal.returns-clause-taken_up
@@ -115,11 +115,11 @@ returns-clause-counted g c =
 pub returns-clause-still : goal.returns-clause-still
 returns-clause-still g c e =
     let w = c.came_to-turn in let h = c.look_after.new.hands in let k = w.new.hands in let l = w.new.lists in
-    let first = did_then _ _ _ _ _ _ c.look_after.new.outbox _ c.look_after.ensures.did (did_retry c.args.board.now c.args.queue.now h c.retry_rest.new.self c.look_after.new.outbox c.look_after.ensures.did.goes.kept c.retry_rest.ensures.handed c.retry_rest.ensures.same.0 c.retry_rest.ensures.same.1 c.retry_rest.ensures.quiet) in
+    let first = did_then _ _ _ _ _ _ c.look_after.new.outbox _ c.look_after.ensures.did (did_retry c.args.route.board.now c.args.route.queue.now h c.retry_rest.new.self c.look_after.new.outbox c.look_after.ensures.did.goes.kept c.retry_rest.ensures.handed c.retry_rest.ensures.same.0 c.retry_rest.ensures.same.1 c.retry_rest.ensures.quiet) in
     let all = did_then _ _ _ _ _ _ c.look_after.new.outbox _ first (did_ring _ _ _ _ _ _ (w.ensures.went_on c.look_after.new.outbox)) in
     let rest = w.ensures.still e in
     let done = nothing_done _ _ _ _ _ _ _ c.ask_clock.ensures.ticked all c.requires.outbox.0 rest.0 in
-    subst (λ (o : Desk). IsStill c.args.board.now o (record { poller = k.poller; sleeper = c.collect.new.sleeper; ready = k.ready; kept = k.kept.numbers; places = c.desk.inside.places; rings = length l.rings.items; intakes = l.rings.items; waiting = l.waiting.items; watched = l.watchers.items; deadlines = l.timers }) c.look_after.new.outbox) c.desk.view_is
+    subst (λ (o : Desk). IsStill c.args.route.board.now o (record { poller = k.poller; sleeper = c.collect.new.sleeper; ready = k.ready; kept = k.kept.numbers; places = c.desk.inside.places; rings = length l.rings.items; intakes = l.rings.items; waiting = l.waiting.items; watched = l.watchers.items; deadlines = l.timers }) c.look_after.new.outbox) c.desk.view_is
     (record { kept = rest.1; goes = done.0; alone = done.1; ready = done.2; answered = done.3 })
 
 pub returns-clause-idle : goal.returns-clause-idle
@@ -131,7 +131,7 @@ pub returns-clause-follows : goal.returns-clause-follows
 returns-clause-follows g c role f =
     let w = c.came_to-turn in let h = c.look_after.new.hands in let k = w.new.hands in let l = w.new.lists in
     let went = w.ensures.went_on no_answers in
-    let first = did_then _ _ _ _ _ _ c.look_after.new.outbox _ c.look_after.ensures.did (did_retry c.args.board.now c.args.queue.now h c.retry_rest.new.self c.look_after.new.outbox c.look_after.ensures.did.goes.kept c.retry_rest.ensures.handed c.retry_rest.ensures.same.0 c.retry_rest.ensures.same.1 c.retry_rest.ensures.quiet) in
+    let first = did_then _ _ _ _ _ _ c.look_after.new.outbox _ c.look_after.ensures.did (did_retry c.args.route.board.now c.args.route.queue.now h c.retry_rest.new.self c.look_after.new.outbox c.look_after.ensures.did.goes.kept c.retry_rest.ensures.handed c.retry_rest.ensures.same.0 c.retry_rest.ensures.same.1 c.retry_rest.ensures.quiet) in
     let all = did_then _ _ _ _ _ _ c.look_after.new.outbox _ first (did_ring _ _ _ _ _ _ (w.ensures.went_on c.look_after.new.outbox)) in
     let same : c.desk.inside.hands.poller ≡ c.args.desk.now.poller = ap (λ (d : Desk). d.poller) c.desk.view_is in
     let asked = c.ask_clock.ensures.follows (subst (λ (p : Pass). g.C.Clock.follows c.args.clock.now (seen_of p)) (sym same) f) in

@@ -1,7 +1,8 @@
 use Rattle.board.specs.declared.poller.Arming.{Arming}
 use Rattle.board.specs.declared.poller.Arming.TheVariants.{NotTimer, Shut}
 use Rattle.runtime.proofs.Common.{Arm, Event, Goes, IsHeldBack, List, LooksAfter, Places, Req, [], ap, armed_by, cares_of, inl, inr, refl, subst, sym, ⊎_elim, ◌∷◌, ◌≡◌, ◌⊎◌}
-use Rattle.runtime.proofs.TurnLaws.{goes_on, rang_looked, rang_silent, rang_then}
+use Rattle.board.proofs.EventsTogether.{goes_on}
+use Rattle.runtime.proofs.TurnLaws.{rang_looked, rang_silent, rang_then}
 use Rattle.runtime.proofs.PassLaws.{after_on, once_now}
 use Rattle.runtime.proofs.DeskLaws.{waits_on}
 use Rattle.runtime.proofs.HeldBack.{timer_stays, tried_later}

@@ -1,7 +1,8 @@
 use Rattle.board.specs.declared.phase.Phase.{Phase as Standing}
 use Rattle.board.specs.declared.phase.Phase.TheVariants.{Unborn, Held, Ready, Running, Done, Gone}
 use Rattle.runtime.proofs.Common.{IsDone, IsHeldBack, LooksAfter, Places, Stands, cares_of, inl, inr, refl, runs, seen_of, subst, sym, unborn, ⊎_elim, ◌≡◌}
-use Rattle.runtime.proofs.TurnLaws.{goes_on, rang_looked}
+use Rattle.board.proofs.EventsTogether.{goes_on}
+use Rattle.runtime.proofs.TurnLaws.{rang_looked}
 use Rattle.runtime.proofs.PassLaws.{after_on, once_before, once_now}
 use Rattle.runtime.proofs.DeskLaws.{done_waiting, waits_on}
 use Rattle.runtime.proofs.HeldBack.{waits_not, was_unborn}

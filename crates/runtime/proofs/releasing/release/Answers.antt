@@ -1,6 +1,7 @@
 use Rattle.board.specs.declared.poller.Released.TheVariants.{Severed, Shut, Timer, NotHeld}
 use Rattle.runtime.proofs.Common.{IsHeldBack, IsReplied, LooksAfter, Pass, Places, Sever, [], cares_of, inl, inr, refl, subst, sym, ◌∷◌}
-use Rattle.runtime.proofs.TurnLaws.{did_freed, did_ring, goes_on, others_alone, rang_answered, rang_looked, rang_then}
+use Rattle.board.proofs.EventsTogether.{goes_on}
+use Rattle.runtime.proofs.TurnLaws.{did_freed, did_ring, others_alone, rang_answered, rang_looked, rang_then}
 use Rattle.runtime.proofs.PassLaws.{after_on, once_now}
 use Rattle.runtime.proofs.DeskLaws.{done_waiting, waits_on}
 use Rattle.runtime.proofs.HeldBack.{tried_later}

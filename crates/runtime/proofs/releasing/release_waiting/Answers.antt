@@ -4,13 +4,13 @@ use Rattle.runtime.proofs.HeldBack.{next_held, none_held, passed_all, passed_som
 use Rattle.runtime.proofs.releasing.release_waiting.Goals as goal
 
 pub loop-n-init : goal.loop-n-init
-loop-n-init g c = record {
+loop-n-init g c = rw c.limit_for.ensures (record {
   did = did_still _ _ _ _ c.requires.may.own.0.0;
   may = c.requires.may;
   rings = refl;
   places = refl;
   passed = record { todo = c.args.lists.now.waiting.items; done = []; items_are = sym (Rattle.std.proofs.lemmas.List.append-nil c.args.lists.now.waiting.items); left = let e = c.len-n-end.ensures in omega (arith, e); true_of = inl (none_held c.args.hands.now.poller c.args.hands.now.poller) };
-}
+})
 
 pub release_next-outcome-requires-clause-may : goal.release_next-outcome-requires-clause-may
 release_next-outcome-requires-clause-may g c = let i = c.loop-n.invariant.may in record { own = i.own; room = i.room; cared = subst (λ (ws : List Req). LooksAfter (record (cares_of c.loop-n.lists) { waiting = ws }) c.loop-n.hands.poller.view.seen) c.in-Some.ensures.taken i.cared }

@@ -5,7 +5,7 @@ use Rattle.runtime.proofs.TurnParts.{free_goes_on, no_answers, waited_more, went
 use Rattle.runtime.proofs.releasing.take_ring.Goals as goal
 
 pub loop-k-init : goal.loop-k-init
-loop-k-init g c = record {
+loop-k-init g c = rw c.limit_for.ensures (record {
   did = did_still _ _ _ _ c.requires.may.own.0.0;
   may = c.requires.may;
   rings = refl;
@@ -16,7 +16,7 @@ loop-k-init g c = record {
   others = λ i n. refl;
   stuck = λ s. s;
   stopped = λ s. s;
-}
+})
 
 pub release-requires-clause-may : goal.release-requires-clause-may
 release-requires-clause-may g c = may_release _ c.args.route.queue.now _ _ c.loop-k.outbox c.loop-k.outbox _ _ c.loop-k.invariant.may (did_ring _ _ _ _ _ _ (c.take_up-req.ensures.went_on c.loop-k.outbox)) c.take_up-req.ensures.cared

@@ -8,7 +8,7 @@ use Rattle.script_run.proofs.StuckRuns.{stuck_of_run, unstuck}
 use Rattle.script_run.proofs.run.run_lines.Goals as goal
 
 pub play-requires-clause-hands : goal.play-requires-clause-hands
-play-requires-clause-hands g c κs inside = let s = c.requires.started in starts c.args.stage.now.script.now s.shape c.args.runtime.board c.hands_of-hands.result.items c.args.clients.items s.started c.hands_of-hands.ensures.clients c.hands_of-hands.ensures.new
+play-requires-clause-hands g c κs inside = let s = c.requires.started.1 in starts c.args.stage.now.script.now s.shape c.args.runtime.board c.hands_of-hands.result.items c.args.clients.items s.started c.hands_of-hands.ensures.clients c.hands_of-hands.ensures.new
 
 -- the same, of lists that are these
 played_as : (script : Script) (b : Facts) (taken told : List Completion) (lines left : List (Completion × Bool)) → told ≡ taken → left ≡ lines → IsPlayed script b taken lines → IsPlayed script b told left
@@ -16,7 +16,7 @@ played_as script b taken told lines left first second played = rw (first, second
 
 pub returns-clause-table : goal.returns-clause-table
 returns-clause-table g c =
-    let script = c.args.stage.now.script.now in let b = c.args.runtime.board in let homes = c.args.stage.now.homes.now in let s = c.requires.started in
+    let script = c.args.stage.now.script.now in let b = c.args.runtime.board in let homes = c.args.stage.now.homes.now in let s = c.requires.started.1 in
     let taken : List Completion = c.as_slice.result.now in
     let left : List (Completion × Bool) = c.lines.result.now in
     let all = played_as script b _ taken _ left c.as_slice.ensures.value c.lines.ensures c.in_ok-taken.ensures.played in
@@ -25,18 +25,18 @@ returns-clause-table g c =
     (λ t count each. is_table script b taken left all same' homes t.lines.items c.requires.homes count each) c.table_of.ensures.lines c.table_of.ensures.rows
 
 pub returns-clause-run : goal.returns-clause-run
-returns-clause-run g c =
+returns-clause-run g c w started =
     let script = c.args.stage.now.script.now in let b = c.args.runtime.board in let homes = c.args.stage.now.homes.now in
     let taken : List Completion = c.as_slice.result.now in
     let left : List (Completion × Bool) = c.lines.result.now in
     let all = played_as script b _ taken _ left c.as_slice.ensures.value c.lines.ensures c.in_ok-taken.ensures.played in
-    IfOk-weaker c.table_of.result (λ (t : Table). AreRows script homes taken left t.lines.items) (λ (t : Table). HasRun script c.args.workers t.lines.items)
-    (λ t each. record { board = b; clients = c.args.clients.items; started = c.requires.started; taken = taken; left = left; played = all; homes = homes; are_homes = c.requires.homes; rows_are = each }) c.table_of.ensures.rows
+    IfOk-weaker c.table_of.result (λ (t : Table). AreRows script homes taken left t.lines.items) (λ (t : Table). HasRun script w t.lines.items)
+    (λ t each. record { board = b; clients = c.args.clients.items; started = started; taken = taken; left = left; played = all; homes = homes; are_homes = c.requires.homes; rows_are = each }) c.table_of.ensures.rows
 
 pub returns-clause-stuck : goal.returns-clause-stuck
-returns-clause-stuck g c = IfErr-weaker c.table_of.result IsUnstuck (IfStuckOn (IsStuck c.args.stage.now.script.now c.args.workers c.args.stage.now.turns)) (λ f none. unstuck (IsStuck c.args.stage.now.script.now c.args.workers c.args.stage.now.turns) f none) c.table_of.ensures.unstuck
+returns-clause-stuck g c w started = IfErr-weaker c.table_of.result IsUnstuck (IfStuckOn (IsStuck c.args.stage.now.script.now w c.args.stage.now.turns)) (λ f none. unstuck (IsStuck c.args.stage.now.script.now w c.args.stage.now.turns) f none) c.table_of.ensures.unstuck
 
 pub returns-in_err-taken-clause-stuck : goal.returns-in_err-taken-clause-stuck
-returns-in_err-taken-clause-stuck g c =
+returns-in_err-taken-clause-stuck g c w started =
     let p = err_from_is_err_and c.from_residual.result c.from_residual.ensures.1 in
-    rw (p.1, p.2) (stuck_of_run c.args.stage.now.script.now c.args.workers c.args.stage.now.turns c.args.runtime.board c.args.clients.items _ c.requires.started c.in_err-taken.ensures.stuck)
+    rw (p.1, p.2) (stuck_of_run c.args.stage.now.script.now w c.args.stage.now.turns c.args.runtime.board c.args.clients.items _ started c.in_err-taken.ensures.stuck)

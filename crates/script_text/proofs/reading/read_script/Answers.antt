@@ -1,6 +1,5 @@
 use Rattle.std.proofs.lemmas.Result.{IfErr-weaker, IfOk-weaker, on_ok_weaker}
-use Rattle.script_text.specs.Kept.{IsFaultOf}
-use Rattle.script_text.specs.TextWords.{text_lines}
+use Rattle.script_text.specs.{IsFaultOf, text_lines}
 use Rattle.script_text.proofs.Common.{IsScriptOf, IsToldOf, length, sentences, ◌≤◌}
 use Rattle.script_text.proofs.ReadTexts.{all_plain, entries_few, some_sentence, told_among}
 use Rattle.script_text.proofs.reading.read_script.Goals as goal

@@ -14,4 +14,4 @@ returns-clause-answered c = λ p e. let old : Parcel = c.parcel_of-parcel.result
     let same : old ≡ p = same_parcel old p (sym c.parcel_of-parcel.ensures.is ∙ ap in_hand (sym c.exchange.ensures.2 ∙ e)) in
     let answered = subst (λ (z : List ℕ × List ℕ). Answered c.args.op c.answer_with-answer.result c.args.pipe.now c.answer_with-answer.new.pipe z.0 z.1) (λ i. ((c.as_mut_slice.ensures.value ∙ ap (λ (q : Parcel). q.buffer.items) same) i, sym (with_items_is old.buffer items (search (rules, places))) i)) c.answer_with-answer.ensures in
     let first = c.exchange.ensures.3 in
-    (new, c.exchange-2.ensures.3 ∙ (λ i. ((first i).0, (c.slot-slot.ensures i, Some (Full new)) ∷ rest (first i).1)), ap (λ (q : Parcel). q.sqe) same, ap (λ (q : Parcel). q.last) same, answered)
+    (new, c.put_back.ensures.put ∙ (λ i. ((first i).0, (c.slot-slot.ensures i, Some (Full new)) ∷ rest (first i).1)), ap (λ (q : Parcel). q.sqe) same, ap (λ (q : Parcel). q.last) same, answered)

@@ -1,6 +1,6 @@
 use Rattle.board.proofs.Common.{Facts, Fits, FitsOp, Goes, IsBoard, IsFree, Layout, List, Pass, RefusesRoom, Req, Submit, Submitter, Took, [], ap, arith, cells_in, counts_at, length, next_of, nth, refl, seen_of, steps_for, submits, subst, sym, took_both, true, ℕ, ◌+◌, ◌/◌, ◌<◌, ◌∙◌, ◌∷◌, ◌≡◌, ◌≤◌}
 use Rattle.board.proofs.GoesLaws.{goes_then}
-use Rattle.board.proofs.LaneWalks.{watched_took, watched_submits}
+use Rattle.board.proofs.QueueWalks.{watched_took, watched_submits}
 use Rattle.board.proofs.SubmitterLooks.{goes_watched, free_then, entry_reason}
 use Rattle.board.proofs.board.Board.submit.Goals as goal
 

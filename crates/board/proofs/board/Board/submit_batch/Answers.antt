@@ -1,6 +1,6 @@
 use Rattle.board.proofs.Common.{AreFit, Entries, Facts, Goes, IsFree, IsReady, List, Pass, RefusesRoom, Req, Submitter, Took, [], ap, arith, cells_in, length, nth, refl, seen_of, steps_in, submits, submits_of, subst, sym, took_both, ℕ, ◌+◌, ◌/◌, ◌<◌, ◌∙◌, ◌≡◌, ◌≤◌}
 use Rattle.board.proofs.GoesLaws.{goes_then}
-use Rattle.board.proofs.LaneWalks.{watched_took, watched_submits}
+use Rattle.board.proofs.QueueWalks.{watched_took, watched_submits}
 use Rattle.board.proofs.SubmitterLooks.{goes_watched, free_then}
 use Rattle.board.proofs.BatchesKept.{batch_reason}
 use Rattle.board.proofs.board.Board.submit_batch.Goals as goal

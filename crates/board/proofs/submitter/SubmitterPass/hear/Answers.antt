@@ -1,5 +1,5 @@
-use Rattle.board.proofs.LaneSeats.{lane_hears}
+use Rattle.board.proofs.QueueSeats.{queue_hears}
 use Rattle.board.proofs.submitter.SubmitterPass.hear.Goals as goal
 
 pub invariant_of-self : goal.invariant_of-self
-invariant_of-self c = lane_hears c.self.inside.seat c.hear.new.seat c.self.inside.lane c.self.invariant _ _ c.hear.ensures.seat.1
+invariant_of-self c = queue_hears c.self.inside.seat c.hear.new.seat c.self.inside.queue c.self.invariant _ _ c.hear.ensures.seat.1

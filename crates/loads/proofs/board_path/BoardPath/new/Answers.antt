@@ -1,7 +1,6 @@
 use Rattle.std.proofs.Common.{All, Some}
 use Rattle.std.proofs.lemmas.List.Elements.{All-pop}
-use Rattle.work.specs.Board.{IsOf}
-use Rattle.work.specs.Passes.{Pass}
+use Rattle.work.specs.{IsOf, Pass}
 use Rattle.loads.proofs.board_path.BoardPath.new.Goals as goal
 
 pub invariant_of-result : goal.invariant_of-result

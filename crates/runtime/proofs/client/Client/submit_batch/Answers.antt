@@ -1,5 +1,5 @@
 use Rattle.steps.specs.Fairness.{IsFree}
-use Rattle.board.specs.Lanes.{nth}
+use Rattle.board.specs.Queues.{nth}
 use Rattle.runtime.proofs.Common.{ClientFacts, Facts, Pass, RefusesBatch, Shared, ap, next_of, seen_of, subst, sym, ℕ, ◌+◌, ◌∙◌}
 use Rattle.runtime.proofs.client.Client.submit_batch.Goals as goal
 

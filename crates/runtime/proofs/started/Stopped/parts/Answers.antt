@@ -1,5 +1,4 @@
-use Rattle.ready.specs.Ready.{IsOf as IsOfQueue}
-use Rattle.ready.specs.QueueParts.{IsRoom}
+use Rattle.ready.specs.{IsOf as IsOfQueue, IsRoom}
 use Rattle.runtime.proofs.Common.{All, AreAll, AreOf, Crew, List, Moves, Pass, [], all_passes, ap, arc_value, arith, length, length-map, map, ready_of, subst, sym, worker_of, ℕ, ◌++◌, ◌+◌, ◌∙◌, ◌∷◌, ◌≡◌}
 use Rattle.runtime.proofs.CrewLaws.{passes_all, passes_own, workers_own}
 use Rattle.runtime.proofs.started.Stopped.parts.Goals as goal

@@ -1,6 +1,0 @@
-use Rattle.board.proofs.Common.{IsSpot, Spot, get_or, ℕ, ◌+◌, ◌<◌, ◌≡◌}
-use Rattle.board.proofs.lane.first_unreaped.Given as goal
-
--- the reaping has come to the requests before the i-th
-abbrev pub invariant-loop-i : goal.invariant-loop-i
-invariant-loop-i l = (m : ℕ) → m < l.i → (o : Spot) × IsSpot l.grid l.lane.ring (l.lane.next + m) o × (get_or l.lane.ages.items o.number 0 ≡ o.generation)

@@ -1,4 +1,0 @@
-mod Common
-mod Gone
-mod Lines
-mod Problems

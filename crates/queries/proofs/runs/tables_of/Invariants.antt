@@ -1,9 +1,0 @@
-use Rattle.queries.proofs.Common.{length, ◌≡◌}
-use Rattle.queries.proofs.Gone.{RunsOn}
-use Rattle.queries.proofs.runs.tables_of.Given as goal
-
-abbrev pub invariant-loop-done : goal.invariant-loop-done
-invariant-loop-done g l = record {
-  runs : RunsOn l.script l.runs.workers l.made.items;
-  many : length l.made.items ≡ l.done;
-}

@@ -1,8 +1,0 @@
-use Rattle.std.specs.Prelude.{◌≡◌, ◌≤◌}
-use Rattle.work.proofs.Common.{IsSameSeat, vec_capacity}
-use Rattle.work.proofs.CancelSweep.{Sweeping}
-use Rattle.work.proofs.sweep.sweep.Given as goal
-
--- each match before k has replied, or was found running
-abbrev pub invariant-loop-k : goal.invariant-loop-k
-invariant-loop-k l = IsSameSeat l.fn.seat l.seat × (l.seat.me.1 ≡ l.fn.seat.me.1) × (vec_capacity l.fn.took ≤ vec_capacity l.took) × Sweeping l.fn.seat.me.0 l.seat.me.0 l.req l.first l.k l.took.items
