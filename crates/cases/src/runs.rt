@@ -118,7 +118,7 @@ pub fn answered<R: Machine>(rt: &R, kind: &str, script: &str, table: &str) -> An
 }
 
 /// The same of a job over files.
-fn served<R: Machine>(rt: &R, kind: &str, file: &str, names: &[&str]) -> Answer {
+fn served<'a, R: Machine>(rt: &R, kind: &str, file: &'a str, names: &[&'a str]) -> Answer {
     let (alloc, job) = (rt.alloc(), job_of(kind)?);
     let mut console = kept(alloc);
     let tables = Vec::from_slice(alloc, names)?;
@@ -152,7 +152,7 @@ pub fn told<R: Machine>(rt: &R, kind: &str, script: &str, table: &str) -> Told {
 }
 
 /// What `history` answers over files.
-pub fn of_files<R: Machine>(rt: &R, script: &str, table: &str) -> Told {
+pub fn of_files<'a, R: Machine>(rt: &R, script: &'a str, table: &'a str) -> Told {
     both(rt.alloc(), &served(rt, "history", script, &[table])?)
 }
 
