@@ -33,10 +33,10 @@ pub(crate) struct Reply {
     pub stats: Option<Stats>,
 }
 
-/// Carries a job out: reads the script, and the tables that it is given, each with its name, and writes the answer to standard output, and to
-/// standard error how far a search is, if that is asked for, and then the statistics, if they are. The status is 0, or of a check 3 where a table isn't the
-/// script's. Where there is no answer, one line there says why: status 1, or 2 for a fault of the script or a table, or 3 for a line
-/// that ran out of turns. Standard output gets nothing then, unless the writing itself failed.
+/// Carries a job out: reads the script, and the tables that it is given, each with its name, and writes the answer to standard
+/// output. Standard error gets how far a search is, if that is asked for, and then the statistics, if they are. The status is 0, or of
+/// a check 3 where a table isn't the script's. Where there is no answer, one line on standard error says why: status 1, or 2 for a
+/// fault of the script or a table, or 3 for a line that ran out of turns. Standard output gets nothing then, unless the writing failed.
 pub fn perform<
     'a,
     R: Threads + Wait + Copy + Send + Sync + 'static + Clock,
